@@ -1,0 +1,152 @@
+-- What each transform of the one worker leaves, while a task is under way.
+use Rattle.std.proofs.Common.{◌≡◌, ℕ, zero, suc, ◌+◌, ◌<◌, Bool, true, false, List, [], ◌∷◌, ◌++◌, length, get_or, set, Option, None, refl, sym, ◌∙◌, ap, subst, arith, ◌⊎◌, inl, inr}
+use Rattle.std.specs.Prelude.{if◌then◌else◌}
+use Rattle.std.specs.List.{list_all, range_with_len}
+use Rattle.std.proofs.lemmas.Bool.{cases_eq}
+use Rattle.std.proofs.lemmas.List.{get_or-set_same, get_or-set_other, length-set}
+use Rattle.resource_lock.specs.Standing.{Standing, Holding, empty_holding, holding_of, mark_of, runs_by}
+use Rattle.resource_lock.specs.Outline.{Outline, task_of, action_of}
+use Rattle.resource_lock.specs.Ranges.{IsIn, IsItemOf, first_item, items_of, actions_of}
+use Rattle.resource_lock.specs.Change.{make, make_all}
+use Rattle.resource_lock.specs.declared.ids.LockId.{LockId}
+use Rattle.resource_lock.specs.declared.ids.WorkerId.{WorkerId}
+use Rattle.resource_lock.specs.declared.marks.Mark.{Mark}
+use Rattle.resource_lock.specs.declared.marks.Mark.TheVariants.{Waiting, Queued, Running, Passed, Failed}
+use Rattle.resource_lock.specs.declared.marks.MarkId.{MarkId}
+use Rattle.resource_lock.specs.declared.marks.MarkId.TheVariants.{Task as TaskOf, Action as ActionOf, Unit as UnitOf}
+use Rattle.resource_lock.specs.declared.changes.Change.TheVariants.{Unlock, Give, Move}
+use Rattle.lock_journal.specs.Table.{list_of, moved_units, mark_from, units_passed, skipped_waiting}
+use Rattle.lock_journal.specs.declared.entries.Kind.TheVariants.{Submit, Close, End}
+use Rattle.lock_journal.specs.declared.entries.Closed.{Closed}
+use Rattle.run_laws.specs.Marks.{IsEnded}
+use Rattle.build_runner.specs.Phases.{first_worker, working, only_action, IsPlain, IsResting, IsUnderway, AreItems, IsItemRunning, HasRun}
+use Rattle.build_runner.proofs.Enabled.{ended_still, no_unit_runs}
+use Rattle.build_runner.proofs.Within.{IsWithin}
+use Rattle.item_actions.specs.declared.outcomes.Outcome.{Outcome}
+use Rattle.item_actions.specs.declared.outcomes.Outcome.TheVariants.{Number, Digest, NotThere, TooLong, Fault, NoMemory, Skipped as NotRun}
+
+holding_written : (hs : List Holding) (h : Holding) → 0 < length hs → get_or (set hs 0 h) 0 empty_holding ≡ h
+holding_written hs h lt = get_or-set_same hs 0 h empty_holding lt
+
+-- Units moved from Waiting to Queued, and nothing else.
+record IsQueued (s s' : Standing) (first n : ℕ) : Type 0 where
+  owners : s'.owners ≡ s.owners
+  holdings : s'.holdings ≡ s.holdings
+  tasks : s'.tasks ≡ s.tasks
+  actions : s'.actions ≡ s.actions
+  inside : (u : ℕ) → IsIn first n u → mark_of s' (UnitOf u) ≡ Queued
+  outside : (u : ℕ) → (IsIn first n u → ⊥) → mark_of s' (UnitOf u) ≡ mark_of s (UnitOf u)
+
+queue_more : (s s' : Standing) (first n : ℕ) → ((u : ℕ) → IsIn first (suc n) u → u < length s.units) → IsQueued (record s { units = set s.units first Queued }) s' (first + 1) n → IsQueued s s' first (suc n)
+queue_more s s' first n within rest = record {
+  owners = rest.owners;
+  holdings = rest.holdings;
+  tasks = rest.tasks;
+  actions = rest.actions;
+  inside = λ u i. at u i (cases_eq u first);
+  outside = λ u none. rest.outside u (λ i. let a = i.0 in let b = i.1 in none (omega arith, omega arith)) ∙ get_or-set_other s.units first u Queued Waiting (λ e. none (omega arith, omega arith));
+}
+  where
+    at : (u : ℕ) → IsIn first (suc n) u → (u ≡ first) ⊎ (u ≡ first → ⊥) → mark_of s' (UnitOf u) ≡ Queued
+    at u i (inl e) = rest.outside u (λ k. let a = k.0 in absurd (omega arith)) ∙ ap (λ m. get_or (set s.units first Queued) m Waiting) e ∙ get_or-set_same s.units first Queued Waiting (within first (omega arith, omega arith))
+    at u i (inr ne) = let a = i.0 in let b = i.1 in rest.inside u (omega arith, omega arith)
+
+queue_leads : (s : Standing) (w : WorkerId) (first n : ℕ) → ((u : ℕ) → IsIn first n u → u < length s.units) → IsQueued s (make_all s w (moved_units (range_with_len first n) Waiting Queued)) first n
+queue_leads s w first zero within = record { owners = refl; holdings = refl; tasks = refl; actions = refl; inside = λ u i. let a = i.0 in let b = i.1 in absurd (omega arith); outside = λ u no_one. refl }
+queue_leads s w first (suc n) within = queue_more s _ first n within (queue_leads (make s w (Move (UnitOf first) Waiting Queued)) w (first + 1) n (λ u i. let a = i.0 in let b = i.1 in let c = within u (omega arith, omega arith) in omega (arith, length-set s.units first Queued)))
+
+pub submit_leads : (g : Outline) (r s : Standing) (t : ℕ) → IsWithin g s t → IsPlain g t → IsUnderway g r t s (Running first_worker) Waiting working → IsUnderway g r t (make_all s first_worker (list_of g s first_worker (Submit (only_action g t)))) (Running first_worker) Queued working × AreItems g t (make_all s first_worker (list_of g s first_worker (Submit (only_action g t)))) (first_item (action_of g (only_action g t))) Queued
+submit_leads g r s t within plain u = (
+  record {
+    holding = ap (λ (hs : List Holding). get_or hs 0 empty_holding) q.holdings ∙ u.holding;
+    lock = ap (λ (os : List (Option WorkerId)). get_or os (task_of g t).lock.0 None) q.owners ∙ u.lock;
+    free = λ l ne. ap (λ (os : List (Option WorkerId)). get_or os l.0 None) q.owners ∙ u.free l ne;
+    task = ap (λ (ms : List Mark). get_or ms t Waiting) q.tasks ∙ u.task;
+    tasks = λ k ne. ap (λ (ms : List Mark). get_or ms k Waiting) q.tasks ∙ u.tasks k ne;
+    action = ap (λ (ms : List Mark). get_or ms (only_action g t) Waiting) q.actions ∙ get_or-set_same s.actions (only_action g t) Queued Waiting within.action;
+    actions = λ k ne. ap (λ (ms : List Mark). get_or ms k Waiting) q.actions ∙ get_or-set_other s.actions (only_action g t) k Queued Waiting ne ∙ u.actions k ne;
+    units = λ k ne. q.outside k ne ∙ u.units k ne;
+  },
+  record { ended = λ k i lt. let a = i.0 in absurd (omega arith); others = λ k i le. q.inside k i },
+)
+  where
+    s1 : Standing
+    s1 = make s first_worker (Move (ActionOf (only_action g t)) Waiting Queued)
+
+    q : IsQueued s1 (make_all s1 first_worker (moved_units (items_of g (only_action g t)) Waiting Queued)) (first_item (action_of g (only_action g t))) (action_of g (only_action g t)).items
+    q = queue_leads s1 first_worker _ _ within.units
+
+-- a unit that is closed has ended
+marked : (o : Outcome) → IsEnded (mark_from o)
+marked (Number n) = tt
+marked (Digest n) = tt
+marked NotThere = tt
+marked TooLong = tt
+marked Fault = tt
+marked NoMemory = tt
+marked NotRun = tt
+
+pub close_leads : (g : Outline) (r s : Standing) (t : ℕ) (d : Closed) → IsWithin g s t → IsItemOf g (only_action g t) d.unit → IsUnderway g r t s (Running first_worker) (Running first_worker) working → IsItemRunning g t s d.unit → IsUnderway g r t (make_all s first_worker (list_of g s first_worker (Close d))) (Running first_worker) (Running first_worker) empty_holding × AreItems g t (make_all s first_worker (list_of g s first_worker (Close d))) (d.unit + 1) Queued
+close_leads g r s t d within i u items = (
+  record {
+    holding = holding_written s.holdings _ within.worker ∙ ap (λ (h : Holding). record h { lease = false }) u.holding;
+    lock = u.lock;
+    free = u.free;
+    task = u.task;
+    tasks = u.tasks;
+    action = u.action;
+    actions = u.actions;
+    units = λ k ne. get_or-set_other s.units d.unit k (mark_from d.outcome) Waiting (λ e. ne (subst (λ m. IsItemOf g (only_action g t) m) (sym e) i)) ∙ u.units k ne;
+  },
+  record {
+    ended = λ k ik lt. at k ik lt (cases_eq k d.unit);
+    others = λ k ik le. get_or-set_other s.units d.unit k (mark_from d.outcome) Waiting (λ e. absurd (omega arith)) ∙ items.others k ik (omega arith);
+  },
+)
+  where
+    at : (k : ℕ) → IsItemOf g (only_action g t) k → k < d.unit + 1 → (k ≡ d.unit) ⊎ (k ≡ d.unit → ⊥) → IsEnded (get_or (set s.units d.unit (mark_from d.outcome)) k Waiting)
+    at k ik lt (inl e) = subst (λ n. IsEnded (get_or (set s.units d.unit (mark_from d.outcome)) n Waiting)) (sym e) (subst IsEnded (sym (get_or-set_same s.units d.unit (mark_from d.outcome) Waiting (within.units d.unit i))) (marked d.outcome))
+    at k ik lt (inr ne) = subst IsEnded (sym (get_or-set_other s.units d.unit k (mark_from d.outcome) Waiting ne)) (items.ended k ik (omega arith))
+
+-- the state that the end of a task leaves, where its mark becomes m
+ended_state : Outline → Standing → ℕ → Mark → Standing
+ended_state g s t m = make_all s first_worker (Move (TaskOf t) (Running first_worker) m ∷ Unlock (task_of g t).lock ∷ Give ∷ [])
+
+ended_leads : (g : Outline) (r s : Standing) (t n : ℕ) (m : Mark) → IsWithin g s t → IsResting r → IsUnderway g r t s (Running first_worker) Passed working → AreItems g t s n Queued → IsEnded m → HasRun g r t (ended_state g s t m)
+unfolding ended_state
+ended_leads g r s t n m within rest u items e = record {
+  resting = record {
+    holding = holding_written s.holdings _ within.worker ∙ ap (λ (h : Holding). record h { lease = false }) u.holding;
+    free = λ l. owner_at l (cases_eq l.0 (task_of g t).lock.0);
+    still = still;
+  };
+  task = subst IsEnded (sym (get_or-set_same s.tasks t m Waiting within.task)) e;
+  tasks = λ k ne. get_or-set_other s.tasks t k m Waiting ne ∙ u.tasks k ne;
+  actions = u.actions;
+  units = u.units;
+}
+  where
+    owner_at : (l : LockId) → (l.0 ≡ (task_of g t).lock.0) ⊎ (l.0 ≡ (task_of g t).lock.0 → ⊥) → get_or (set s.owners (task_of g t).lock.0 None) l.0 None ≡ None
+    owner_at l (inl same) = ap (λ n. get_or (set s.owners (task_of g t).lock.0 None) n None) same ∙ get_or-set_same s.owners (task_of g t).lock.0 None None within.lock
+    owner_at l (inr ne) = get_or-set_other s.owners (task_of g t).lock.0 l.0 None None ne ∙ u.free l ne
+
+    task_at : (k : ℕ) → (k ≡ t) ⊎ (k ≡ t → ⊥) → runs_by first_worker (get_or (set s.tasks t m) k Waiting) ≡ false
+    task_at k (inl same) = ap (λ n. runs_by first_worker (get_or (set s.tasks t m) n Waiting)) same ∙ ap (runs_by first_worker) (get_or-set_same s.tasks t m Waiting within.task) ∙ ended_still first_worker m e
+    task_at k (inr ne) = ap (runs_by first_worker) (get_or-set_other s.tasks t k m Waiting ne ∙ u.tasks k ne) ∙ rest.still (TaskOf k)
+
+    action_at : (k : ℕ) → (k ≡ only_action g t) ⊎ (k ≡ only_action g t → ⊥) → runs_by first_worker (get_or s.actions k Waiting) ≡ false
+    action_at k (inl same) = ap (λ n. runs_by first_worker (get_or s.actions n Waiting)) same ∙ ap (runs_by first_worker) u.action
+    action_at k (inr ne) = ap (runs_by first_worker) (u.actions k ne) ∙ rest.still (ActionOf k)
+
+    still : (k : MarkId) → runs_by first_worker (mark_of (ended_state g s t m) k) ≡ false
+    still (TaskOf k) = task_at k (cases_eq k t)
+    still (ActionOf k) = action_at k (cases_eq k (only_action g t))
+    still (UnitOf k) = no_unit_runs g r s t n _ _ _ _ rest u items refl k
+
+pub end_leads : (g : Outline) (r s : Standing) (t n : ℕ) → IsWithin g s t → IsPlain g t → IsResting r → IsUnderway g r t s (Running first_worker) Passed working → AreItems g t s n Queued → HasRun g r t (make_all s first_worker (list_of g s first_worker (End t)))
+unfolding ended_state
+end_leads g r s t n within plain rest u items = at (list_all (units_passed g s) (actions_of g t))
+  where
+    at : (b : Bool) → HasRun g r t (make_all s first_worker (skipped_waiting g s (actions_of g t) ++ Move (TaskOf t) (Running first_worker) (if b then Passed else Failed) ∷ (if (holding_of s first_worker).lease then Unlock (task_of g t).lock ∷ Give ∷ [] else [])))
+    at true = rw (plain.one, u.action, u.holding) (ended_leads g r s t n Passed within rest u items tt)
+    at false = rw (plain.one, u.action, u.holding) (ended_leads g r s t n Failed within rest u items tt)

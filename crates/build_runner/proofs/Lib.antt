@@ -1,0 +1,10 @@
+pub mod Searches
+pub mod Enabled
+pub mod Leading
+pub mod Keeping
+pub mod Plans
+pub mod FirstForm
+pub mod Within
+pub mod Progress
+pub mod Stepping
+pub mod Ends

@@ -1,0 +1,100 @@
+-- The graph of a plan in which each task has one action, without a fetch, that retains the project lock.
+use Rattle.std.proofs.Common.{◌≡◌, ℕ, zero, suc, ◌+◌, ◌<◌, Bool, false, List, [], ◌∷◌, ◌++◌, length, get_or, take, map, None, refl, sym, ◌∙◌, ap, arith}
+use Rattle.std.specs.Prelude.{slice_get}
+use Rattle.std.specs.List.{flat_map, All, AllByRecursion}
+use Rattle.std.proofs.lemmas.List.Elements.{recursion_from_All}
+use Rattle.plan_reader.specs.IsPlan.{IsPlan}
+use Rattle.std.proofs.lemmas.List.{append-nil, length-append, length-map, get_or-map}
+use Rattle.resource_lock.specs.Outline.{no_task, no_action}
+use Rattle.resource_lock.specs.declared.graphs.GraphAction.{GraphAction}
+use Rattle.resource_lock.specs.declared.graphs.Retention.TheVariants.{Retain}
+use Rattle.plan_reader.specs.declared.plans.PlanTask.{PlanTask}
+use Rattle.plan_reader.specs.Plan.{ActionShape, TaskShape, PlanShape, task_shape, action_shape}
+use Rattle.plan_reader.specs.Units.{item_unit, action_units, task_units}
+use Rattle.plan_reader.specs.Graph.{lock_of, tasks_from, actions_from, all_actions_from, units_in_all}
+use Rattle.build_runner.specs.Planned.{no_task_shape, no_action_shape, single}
+
+-- each task has one action, without a fetch, that retains the lock, and comes after none
+pub record IsSingle (t : TaskShape) : Type 0 where
+  pub after : t.after ≡ []
+  pub one : t.actions ≡ single t ∷ []
+  pub no_fetch : (single t).fetch ≡ None
+  pub retains : (single t).retention ≡ Retain
+
+abbrev pub AreSingle : List TaskShape → Type 0
+AreSingle [] = Unit {0}
+AreSingle (t ∷ ts) = IsSingle t × AreSingle ts
+
+pub single_at : (ts : List TaskShape) → AreSingle ts → (k : ℕ) → k < length ts → IsSingle (get_or ts k no_task_shape)
+single_at [] a k lt = absurd (omega arith)
+single_at (t ∷ ts) a zero lt = a.0
+single_at (t ∷ ts) a (suc k) lt = single_at ts a.1 k (omega arith)
+
+-- a task's outline in the graph
+pub task_outline : (parallel : Bool) (n : ℕ) (ts : List TaskShape) → AreSingle ts → (k : ℕ) → k < length ts → get_or (tasks_from parallel n ts) k no_task ≡ record { lock = lock_of parallel (get_or ts k no_task_shape).project; after = []; first_action = n + k; actions = 1 }
+task_outline parallel n [] a k lt = absurd (omega arith)
+task_outline parallel n (t ∷ ts) a zero lt = rw (a.0.after, a.0.one) (ap (λ m. record { lock = lock_of parallel t.project; after = []; first_action = m; actions = 1 }) (omega arith))
+task_outline parallel n (t ∷ ts) a (suc k) lt = rw a.0.one (task_outline parallel (n + 1) ts a.1 k (omega arith) ∙ ap (λ m. record { lock = lock_of parallel (get_or ts k no_task_shape).project; after = []; first_action = m; actions = 1 }) (omega arith))
+
+pub units_of_single : (t : TaskShape) → IsSingle t → task_units t ≡ map item_unit (single t).items
+units_of_single t s = rw (s.one, s.no_fetch) (append-nil (map item_unit (single t).items))
+
+-- an action in the graph
+single_action : ℕ → ℕ → ℕ → GraphAction
+single_action task first items = record { task = task; retention = Retain; fetch = false; first_unit = first; items = items }
+
+same_action : (t u m n items : ℕ) → t ≡ u → m ≡ n → single_action t m items ≡ single_action u n items
+same_action t u m n items e f = rw (e, f) refl
+
+pub action_outline : (task first : ℕ) (ts : List TaskShape) → AreSingle ts → (k : ℕ) → k < length ts → get_or (all_actions_from task first ts) k no_action ≡ record { task = task + k; retention = Retain; fetch = false; first_unit = first + length (flat_map task_units (take k ts)); items = length (single (get_or ts k no_task_shape)).items }
+unfolding single_action
+action_outline task first [] a k lt = absurd (omega arith)
+action_outline task first (t ∷ ts) a zero lt = rw (a.0.one, a.0.no_fetch, a.0.retains) (same_action task (task + 0) first (first + 0) (length (single t).items) (omega arith) (omega arith))
+action_outline task first (t ∷ ts) a (suc k) lt =
+    let rest = action_outline (task + 1) (first + length (task_units t)) ts a.1 k (omega arith) in
+    let units : units_in_all t.actions ≡ length (task_units t) = rw a.0.one (omega (arith, ap length (append-nil (action_units (single t))))) in
+    let behind : get_or (all_actions_from (task + 1) (first + length (task_units t)) ts) k no_action ≡ single_action (task + suc k) (first + length (task_units t ++ flat_map task_units (take k ts))) (length (single (get_or ts k no_task_shape)).items) = rest ∙ same_action (task + 1 + k) (task + suc k) (first + length (task_units t) + length (flat_map task_units (take k ts))) (first + length (task_units t ++ flat_map task_units (take k ts))) (length (single (get_or ts k no_task_shape)).items) (omega arith) (omega (arith, length-append (task_units t) (flat_map task_units (take k ts)))) in
+    let head : actions_from task first t.actions ≡ actions_from task first (single t ∷ []) = ap (actions_from task first) a.0.one in
+    rw units (ap (λ (xs : List GraphAction). get_or (xs ++ all_actions_from (task + 1) (first + length (task_units t)) ts) (suc k) no_action) head ∙ behind)
+
+get_left : {X : Type 0} (xs ys : List X) (i : ℕ) → i < length xs → slice_get (xs ++ ys) i ≡ slice_get xs i
+get_left [] ys i lt = absurd (omega arith)
+get_left (x ∷ xs) ys zero lt = refl
+get_left (x ∷ xs) ys (suc i) lt = get_left xs ys i (omega arith)
+
+get_right : {X : Type 0} (xs ys : List X) (i : ℕ) → slice_get (xs ++ ys) (length xs + i) ≡ slice_get ys i
+get_right [] ys i = ap (slice_get ys) (omega arith)
+get_right (x ∷ xs) ys i = ap (slice_get (x ∷ (xs ++ ys))) (more (length xs) i) ∙ get_right xs ys i
+  where
+    more : (a b : ℕ) → suc a + b ≡ suc (a + b)
+    more a b = omega arith
+
+-- a unit of the plan, by its task
+pub unit_at : (ts : List TaskShape) (k i : ℕ) → k < length ts → i < length (task_units (get_or ts k no_task_shape)) → slice_get (flat_map task_units ts) (length (flat_map task_units (take k ts)) + i) ≡ slice_get (task_units (get_or ts k no_task_shape)) i
+unit_at [] k i lt within = absurd (omega arith)
+unit_at (t ∷ ts) zero i lt within = ap (slice_get (task_units t ++ flat_map task_units ts)) (omega arith) ∙ get_left (task_units t) (flat_map task_units ts) i within
+unit_at (t ∷ ts) (suc k) i lt within =
+    ap (slice_get (task_units t ++ flat_map task_units ts)) (omega (arith, length-append (task_units t) (flat_map task_units (take k ts))))
+    ∙ get_right (task_units t) (flat_map task_units ts) (length (flat_map task_units (take k ts)) + i)
+    ∙ unit_at ts k i (omega arith) within
+
+-- what was read is such a plan
+pub single_of : (p : PlanShape) → IsPlan p → AreSingle p.tasks
+single_of p h = by_parts p.tasks (recursion_from_All _ p.tasks h.no_after) (recursion_from_All _ p.tasks h.one_action) (recursion_from_All _ p.tasks h.no_fetch) (recursion_from_All _ p.tasks h.retains)
+  where
+    only : (as' : List ActionShape) → length as' ≡ 1 → as' ≡ get_or as' 0 no_action_shape ∷ []
+    only [] e = absurd (omega arith)
+    only (a ∷ []) e = refl
+    only (a ∷ b ∷ as') e = absurd (omega arith)
+
+    by_parts : (ts : List TaskShape) → AllByRecursion (λ (t : TaskShape). t.after ≡ []) ts → AllByRecursion (λ (t : TaskShape). length t.actions ≡ 1) ts → AllByRecursion (λ (t : TaskShape). All (λ (a : ActionShape). a.fetch ≡ None) t.actions) ts → AllByRecursion (λ (t : TaskShape). All (λ (a : ActionShape). a.retention ≡ Retain) t.actions) ts → AreSingle ts
+    by_parts [] a b c d = tt
+    by_parts (t ∷ ts) a b c d = (record { after = a.0; one = only t.actions b.0; no_fetch = c.0 0 no_action_shape (omega (arith, b.0)); retains = d.0 0 no_action_shape (omega (arith, b.0)) }, by_parts ts a.1 b.1 c.1 d.1)
+
+-- a task that was read has one action
+pub one_action_read : (p : PlanShape) (tasks : List PlanTask) → map task_shape tasks ≡ p.tasks → IsPlan p → (t : ℕ) (d : PlanTask) → t < length tasks → length (get_or tasks t d).actions.items ≡ 1
+one_action_read p tasks e h t d lt =
+    let read : get_or p.tasks t (task_shape d) ≡ task_shape (get_or tasks t d) = ap (λ (ts : List TaskShape). get_or ts t (task_shape d)) (sym e) ∙ get_or-map task_shape tasks t d (task_shape d) lt in
+    sym (length-map (get_or tasks t d).actions.items action_shape)
+    ∙ ap (λ (s : TaskShape). length s.actions) (sym read)
+    ∙ h.one_action t (task_shape d) (omega (arith, ap length e, length-map tasks task_shape))

@@ -1,0 +1,28 @@
+use Rattle.std.proofs.Common.{◌≡◌, subst, sym, refl, arith, true}
+use Rattle.std.proofs.lemmas.Result.{on_ok_weaker}
+use Rattle.resource_lock.specs.Change.{make_all}
+use Rattle.lock_journal.specs.Table.{is_enabled, list_of}
+use Rattle.lock_journal.specs.declared.entries.Kind.TheVariants as kinds
+use Rattle.build_runner.specs.Phases.{first_worker, IsSubmitted}
+use Rattle.build_runner.proofs.Enabled.{submit_enabled}
+use Rattle.build_runner.proofs.Leading.{submit_leads}
+use Rattle.build_runner.proofs.Stepping.{step_to, step_closes_none, not_both}
+use Rattle.build_runner.proofs.Within.{within_of}
+use Rattle.build_runner.proofs.steps.submit.Goals as goal
+
+pub finish-requires-clause-never_retries : goal.finish-requires-clause-never_retries
+finish-requires-clause-never_retries c = λ fits belongs retries.
+    let within = within_of c.args.book.now.graph c.args.book.now.state c.args.task fits belongs c.requires.form c.requires.task in
+    let p = c.requires.started.1 in
+    let enabled : is_enabled c.args.book.now.graph c.args.book.now.state first_worker (kinds.Submit c.args.action) ≡ true = subst (λ a. is_enabled c.args.book.now.graph c.args.book.now.state first_worker (kinds.Submit a) ≡ true) (sym c.requires.action) (submit_enabled c.args.book.now.graph c.requires.started.0 c.args.book.now.state c.args.task (c.requires.form.plain c.args.task c.requires.task) p.rest p.under p.items) in
+    let action = within.action in
+    not_both enabled (retries (omega (arith, belongs.actions, c.requires.action)))
+
+pub returns-clause-submitted : goal.returns-clause-submitted
+returns-clause-submitted c = λ r p. on_ok_weaker c.finish.result (λ h.
+    let left = submit_leads c.args.book.now.graph r c.args.book.now.state c.args.task (within_of c.args.book.now.graph c.args.book.now.state c.args.task c.finish.ensures.fits c.finish.ensures.belongs c.requires.form c.requires.task) (c.requires.form.plain c.args.task c.requires.task) p.under in
+    step_to (λ s. IsSubmitted c.args.book.now.graph r c.args.task s) c.args.book.now c.finish.new.book (kinds.Submit c.args.action) h.0 h.1 h.1.allowed.finished.list
+    (subst (λ a. IsSubmitted c.args.book.now.graph r c.args.task (make_all c.args.book.now.state first_worker (list_of c.args.book.now.graph c.args.book.now.state first_worker (kinds.Submit a)))) (sym c.requires.action) (record { rest = p.rest; under = left.0; items = left.1 }))) c.finish.ensures.finished
+
+pub returns-clause-closed : goal.returns-clause-closed
+returns-clause-closed c = on_ok_weaker c.finish.result (λ h. step_closes_none c.args.book.now c.finish.new.book (kinds.Submit c.args.action) h.0 h.1 refl) c.finish.ensures.finished

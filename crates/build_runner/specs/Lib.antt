@@ -1,0 +1,4 @@
+pub mod Phases
+pub mod Kept
+pub mod Planned
+pub mod Run

@@ -1,0 +1,121 @@
+-- The states that a run on one thread comes through, task by task. A task waits, starts, submits its items, parks while
+-- they are claimed and closed one after another, resumes, and ends.
+use Rattle.std.specs.Prelude.{ℕ, ◌≡◌, ◌≢◌, ◌+◌, ◌<◌, ◌≤◌, length, true, false, [], None, Some}
+use Rattle.resource_lock.specs.Standing.{Standing, Holding, empty_holding, holding_of, owner_of, mark_of, runs_by}
+use Rattle.resource_lock.specs.Outline.{Outline, task_of, action_of}
+use Rattle.resource_lock.specs.Ranges.{IsItemOf, first_item}
+use Rattle.run_laws.specs.Marks.{IsEnded}
+use Rattle.resource_lock.specs.declared.graphs.Retention.TheVariants.{Retain}
+use Rattle.resource_lock.specs.declared.ids.LockId.{LockId}
+use Rattle.resource_lock.specs.declared.ids.WorkerId.{WorkerId}
+use Rattle.resource_lock.specs.declared.marks.Mark.{Mark}
+use Rattle.resource_lock.specs.declared.marks.Mark.TheVariants.{Waiting, Queued, Running, Passed}
+use Rattle.resource_lock.specs.declared.marks.MarkId.{MarkId}
+use Rattle.resource_lock.specs.declared.marks.MarkId.TheVariants.{Task as TaskOf, Action as ActionOf, Unit as UnitOf}
+
+-- the only worker of a run on one thread
+abbrev pub first_worker : WorkerId
+first_worker = record { 0 = 0 }
+
+-- What it has while it works: a lease, no parked lock, and it is not blocked.
+abbrev pub working : Holding
+working = record { lease = true; parked = []; blocked = false }
+
+-- the one action of a task
+abbrev pub only_action : Outline → ℕ → ℕ
+only_action g t = (task_of g t).first_action
+
+-- the task comes after none and has one action, without a fetch, that retains the project lock
+pub record IsPlain (g : Outline) (t : ℕ) : Type 0 where
+  pub after : (task_of g t).after ≡ []
+  pub one : (task_of g t).actions ≡ 1
+  pub own : (action_of g (only_action g t)).task ≡ t
+  pub no_fetch : (action_of g (only_action g t)).fetch ≡ false
+  pub retains : (action_of g (only_action g t)).retention ≡ Retain
+
+-- one worker, one lease, and only plain tasks
+pub record IsFirstForm (g : Outline) : Type 0 where
+  pub workers : g.workers ≡ 1
+  pub max : g.max ≡ 1
+  pub plain : (t : ℕ) → t < length g.tasks → IsPlain g t
+
+-- The worker has nothing, no lock has an owner, and the worker runs nothing.
+pub record IsResting (s : Standing) : Type 0 where
+  pub holding : holding_of s first_worker ≡ empty_holding
+  pub free : (l : LockId) → owner_of s l ≡ None
+  pub still : (m : MarkId) → runs_by first_worker (mark_of s m) ≡ false
+
+-- The task, its action and its items wait.
+pub record IsUntouched (g : Outline) (s : Standing) (t : ℕ) : Type 0 where
+  pub task : mark_of s (TaskOf t) ≡ Waiting
+  pub action : mark_of s (ActionOf (only_action g t)) ≡ Waiting
+  pub units : (u : ℕ) → IsItemOf g (only_action g t) u → mark_of s (UnitOf u) ≡ Waiting
+
+-- the tasks from number n on, below the stop, haven't begun
+pub record AreUntouched (g : Outline) (s : Standing) (n stop : ℕ) : Type 0 where
+  pub each : (k : ℕ) → n ≤ k → k < stop → IsUntouched g s k
+
+-- the tasks below number n have ended
+pub record HaveEnded (s : Standing) (n : ℕ) : Type 0 where
+  pub each : (k : ℕ) → k < n → IsEnded (mark_of s (TaskOf k))
+
+-- Task t started in the state r, and its worker, which owns the lock of the task and no other, has `held`.
+-- The task and its action have these marks, and each mark that isn't of the task is as it was in r.
+pub record IsUnderway (g : Outline) (r : Standing) (t : ℕ) (s : Standing) (of_task of_action : Mark) (held : Holding) : Type 0 where
+  pub holding : holding_of s first_worker ≡ held
+  pub lock : owner_of s (task_of g t).lock ≡ Some first_worker
+  pub free : (l : LockId) → l.0 ≢ (task_of g t).lock.0 → owner_of s l ≡ None
+  pub task : mark_of s (TaskOf t) ≡ of_task
+  pub tasks : (k : ℕ) → k ≢ t → mark_of s (TaskOf k) ≡ mark_of r (TaskOf k)
+  pub action : mark_of s (ActionOf (only_action g t)) ≡ of_action
+  pub actions : (k : ℕ) → k ≢ only_action g t → mark_of s (ActionOf k) ≡ mark_of r (ActionOf k)
+  pub units : (u : ℕ) → (IsItemOf g (only_action g t) u → ⊥) → mark_of s (UnitOf u) ≡ mark_of r (UnitOf u)
+
+-- the items before number n have ended, and the others have this mark
+pub record AreItems (g : Outline) (t : ℕ) (s : Standing) (n : ℕ) (mark : Mark) : Type 0 where
+  pub ended : (u : ℕ) → IsItemOf g (only_action g t) u → u < n → IsEnded (mark_of s (UnitOf u))
+  pub others : (u : ℕ) → IsItemOf g (only_action g t) u → n ≤ u → mark_of s (UnitOf u) ≡ mark
+
+-- item n runs, those before it have ended, and those behind it are queued
+pub record IsItemRunning (g : Outline) (t : ℕ) (s : Standing) (n : ℕ) : Type 0 where
+  pub ended : (u : ℕ) → IsItemOf g (only_action g t) u → u < n → IsEnded (mark_of s (UnitOf u))
+  pub running : mark_of s (UnitOf n) ≡ Running first_worker
+  pub others : (u : ℕ) → IsItemOf g (only_action g t) u → n < u → mark_of s (UnitOf u) ≡ Queued
+
+-- The worker runs the task, whose action and items wait.
+pub record IsStarted (g : Outline) (r : Standing) (t : ℕ) (s : Standing) : Type 0 where
+  pub rest : IsResting r
+  pub under : IsUnderway g r t s (Running first_worker) Waiting working
+  pub items : AreItems g t s (first_item (action_of g (only_action g t))) Waiting
+
+-- The action and its items are queued.
+pub record IsSubmitted (g : Outline) (r : Standing) (t : ℕ) (s : Standing) : Type 0 where
+  pub rest : IsResting r
+  pub under : IsUnderway g r t s (Running first_worker) Queued working
+  pub items : AreItems g t s (first_item (action_of g (only_action g t))) Queued
+
+-- The worker gave its lease back and runs the action; the items before number n have ended, and the others are queued.
+pub record HasParked (g : Outline) (r : Standing) (t n : ℕ) (s : Standing) : Type 0 where
+  pub rest : IsResting r
+  pub under : IsUnderway g r t s (Running first_worker) (Running first_worker) empty_holding
+  pub items : AreItems g t s n Queued
+
+-- The worker took a lease again and runs item n.
+pub record HasClaimed (g : Outline) (r : Standing) (t n : ℕ) (s : Standing) : Type 0 where
+  pub rest : IsResting r
+  pub under : IsUnderway g r t s (Running first_worker) (Running first_worker) working
+  pub item : IsItemRunning g t s n
+
+-- All items have ended, the action has passed, and the worker runs the task with its lease.
+pub record HasResumed (g : Outline) (r : Standing) (t : ℕ) (s : Standing) : Type 0 where
+  pub rest : IsResting r
+  pub under : IsUnderway g r t s (Running first_worker) Passed working
+  pub items : AreItems g t s (first_item (action_of g (only_action g t)) + (action_of g (only_action g t)).items) Queued
+
+-- Task t, which started in the state r, has ended: the worker has nothing, and each mark that isn't of the task is as it was in r.
+pub record HasRun (g : Outline) (r : Standing) (t : ℕ) (s : Standing) : Type 0 where
+  pub resting : IsResting s
+  pub task : IsEnded (mark_of s (TaskOf t))
+  pub tasks : (k : ℕ) → k ≢ t → mark_of s (TaskOf k) ≡ mark_of r (TaskOf k)
+  pub actions : (k : ℕ) → k ≢ only_action g t → mark_of s (ActionOf k) ≡ mark_of r (ActionOf k)
+  pub units : (u : ℕ) → (IsItemOf g (only_action g t) u → ⊥) → mark_of s (UnitOf u) ≡ mark_of r (UnitOf u)

@@ -1,0 +1,28 @@
+-- The plan behind a graph, where each task has one action.
+use Rattle.std.specs.Prelude.{ℕ, ◌≡◌, ◌+◌, ◌<◌, List, [], length, take, get_or, Some, None, slice_get, slice_index_or}
+use Rattle.std.specs.List.{flat_map}
+use Rattle.resource_lock.specs.declared.graphs.Retention.TheVariants.{Retain}
+use Rattle.plan_reader.specs.Plan.{ActionShape, TaskShape, PlanShape, work_shape}
+use Rattle.plan_reader.specs.declared.plans.Work.{Work}
+use Rattle.plan_reader.specs.Units.{task_units, plan_units, item_unit}
+
+abbrev pub no_action_shape : ActionShape
+no_action_shape = record { fetch = None; retention = Retain; items = [] }
+
+abbrev pub no_task_shape : TaskShape
+no_task_shape = record { name = []; project = 0; after = []; actions = [] }
+
+abbrev pub task_in : PlanShape → ℕ → TaskShape
+task_in p t = slice_index_or p.tasks t no_task_shape
+
+-- the one action of a task
+abbrev pub single : TaskShape → ActionShape
+single t = slice_index_or t.actions 0 no_action_shape
+
+-- how many units stand before a task's
+abbrev pub units_before : PlanShape → ℕ → ℕ
+units_before p t = length (flat_map task_units (take t p.tasks))
+
+-- these items are units of the plan, the first of which has this number
+abbrev pub ArePlanned : PlanShape → ℕ → List Work → Type 0
+ArePlanned p first works = (i : ℕ) (d : Work) → i < length works → slice_get (plan_units p) (first + i) ≡ Some (item_unit (work_shape (get_or works i d)))

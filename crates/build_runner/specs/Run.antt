@@ -1,0 +1,52 @@
+-- What a run of a plan leaves.
+use Rattle.std.specs.Prelude.{ℕ, ◌≡◌, ◌+◌, ◌-◌, ◌^◌, ◌<◌, ◌≤◌, false, List, Option, None, Some}
+use Rattle.item_actions.specs.Files.{Folder}
+use Rattle.item_actions.specs.declared.outcomes.Outcome.{Outcome}
+use Rattle.resource_lock.specs.Good.{Good}
+use Rattle.resource_lock.specs.Standing.{Standing, empty_holding, holding_of, owner_of}
+use Rattle.resource_lock.specs.declared.ids.LockId.{LockId}
+use Rattle.resource_lock.specs.declared.ids.WorkerId.{WorkerId}
+use Rattle.lock_journal.specs.Allowed.{Lawful}
+use Rattle.lock_journal.specs.Closings.{outcome_in}
+use Rattle.lock_journal.specs.Entry.{Entry, replay}
+use Rattle.lock_journal.specs.Journal.{Journal}
+use Rattle.plan_reader.specs.Plan.{PlanShape}
+use Rattle.plan_reader.specs.Units.{unit_value}
+use Rattle.plan_reader.specs.Graph.{graph_of}
+use Rattle.run_laws.specs.Answers.{answers}
+use Rattle.run_laws.specs.ClosedBy.{faults_by}
+use Rattle.run_laws.specs.Marks.{HasEnded}
+use Rattle.run_laws.specs.Runs.{ComesTo, IsOrderly}
+use Rattle.build_runner.specs.Phases.{first_worker}
+
+-- no lock has an owner, and no worker has a lease, has parked a lock or is blocked
+pub record IsFree (s : Standing) : Type 0 where
+  pub owners : (l : LockId) → owner_of s l ≡ None
+  pub holdings : (w : WorkerId) → holding_of s w ≡ empty_holding
+
+-- What each unit gives: by its file, where the files are told, but for the units that met a fault or want of memory.
+-- Where they aren't, what its closing entry says.
+abbrev pub values_of : PlanShape → Option Folder → List Entry → ℕ → Outcome
+values_of plan None h = outcome_in h
+values_of plan (Some files) h = answers (unit_value plan files) h
+
+-- how deep one follows `after`: no task of this form comes after another
+abbrev pub depth : ℕ
+depth = 1
+
+-- A whole run of a plan, while the desk's count of faults went from before to after.
+pub record IsRunOf (plan : PlanShape) (told : Option Folder) (before after : ℕ) (b : Journal) : Type 0 where
+  -- the state is the replay of the stored entries, each allowed where it stands; at most max leases are out, and no worker owns what it has parked
+  pub graph : b.graph ≡ graph_of plan 1 1 false
+  pub replays : b.state ≡ replay b.graph b.history
+  pub lawful : Lawful b.graph b.history
+  pub good : Good b.state
+  -- at its end nothing is owned, and each mark has ended
+  pub free : IsFree b.state
+  pub ended : HasEnded b.state
+  -- each task was started or skipped once, each closed item claimed once and closed once
+  pub order : IsOrderly b.graph b.history
+  -- marks and outcomes are those of the plan alone
+  pub results : ComesTo b.graph b.history (values_of plan told b.history) depth
+  -- units closed with Fault number at most the rise of the desk's count, where that isn't at its end
+  pub faults : after < 2 ^ 64 - 1 → faults_by first_worker b.history + before ≤ after

@@ -1,0 +1,4 @@
+pub mod Numbering
+pub mod Parts
+pub mod Counting
+pub mod Agreeing

@@ -1,0 +1,23 @@
+//! The texts of a run: its results, and its history. Printing takes no memory.
+//!
+//! A `tell` call adds a text to a page, which can take several texts one after another. A `print` call
+//! prints one text whole.
+#![tactic(auto)]
+
+mod changes;
+mod counts;
+mod endings;
+mod entries;
+mod histories;
+mod laws;
+mod outcomes;
+mod results;
+mod summaries;
+mod units;
+
+pub use histories::{print_history, tell_history};
+pub use laws::results_go_by_number;
+pub use results::{print_results, tell_results};
+
+#[cfg(test)]
+mod tests;

@@ -1,0 +1,66 @@
+ghost use Rattle.std.specs.Prelude.{◌≡◌, ◌<◌, ◌++◌, decimal, false};
+ghost use Rattle.std.specs.List.{flat_map};
+ghost use Rattle.std.specs.Fmt.{digit_glyph};
+ghost use Rattle.worker_desk.specs.Paper.{Adds};
+ghost use Rattle.history_text.specs.Text.{hex_text, outcome_text};
+ghost use Rattle.history_text.specs.Results.{value_text};
+
+use item_actions::Outcome;
+use worker_desk::{Page, Sink};
+
+/// Tells an outcome as the history text spells it.
+pub(crate) fn tell_outcome<K: Sink>(outcome: &Outcome, page: &mut Page, sink: &mut K)
+    ensures { Adds (K.seen sink.old) page.old (K.seen sink.new) page.new (outcome_text outcome.now) }
+{
+    match outcome {
+        Outcome::Number(number) => {
+            page.text(sink, b"number ");
+            page.number(sink, *number);
+        }
+        Outcome::Digest(digest) => {
+            page.text(sink, b"digest ");
+            tell_digest(digest, page, sink);
+        }
+        Outcome::NotThere => page.text(sink, b"missing"),
+        Outcome::TooLong => page.text(sink, b"too-long"),
+        Outcome::Fault => page.text(sink, b"fault"),
+        Outcome::NoMemory => page.text(sink, b"no-memory"),
+        Outcome::Skipped => page.text(sink, b"skipped"),
+    }
+}
+
+/// Tells an outcome as the results text spells it.
+pub(crate) fn tell_value<K: Sink>(outcome: &Outcome, page: &mut Page, sink: &mut K)
+    ensures { Adds (K.seen sink.old) page.old (K.seen sink.new) page.new (value_text outcome.now) }
+{
+    match outcome {
+        Outcome::Number(number) => page.number(sink, *number),
+        Outcome::Digest(digest) => tell_digest(digest, page, sink),
+        Outcome::NotThere => page.text(sink, b"not there"),
+        Outcome::TooLong => page.text(sink, b"too long"),
+        Outcome::Fault => page.text(sink, b"fault"),
+        Outcome::NoMemory => page.text(sink, b"no memory"),
+        Outcome::Skipped => page.text(sink, b"skipped"),
+    }
+}
+
+fn tell_digest<K: Sink>(digest: &[u8; 32], page: &mut Page, sink: &mut K)
+    ensures { Adds (K.seen sink.old) page.old (K.seen sink.new) page.new (flat_map hex_text digest.now) }
+{
+    for byte in digest {
+        let digits = [hex_digit(byte / 16), hex_digit(byte % 16)];
+        page.text(sink, &digits);
+    }
+}
+
+/// The lower-case hexadecimal digit of a number below 16.
+fn hex_digit(digit: u8) -> u8
+    requires { digit < 16 }
+    ensures { result ≡ digit_glyph false digit }
+{
+    if digit < 10 {
+        b'0' + digit
+    } else {
+        b'a' + (digit - 10)
+    }
+}

@@ -1,0 +1,104 @@
+ghost use Rattle.std.specs.Prelude.{◌≡◌, ◌++◌, length, codes, decimal};
+ghost use Rattle.std.specs.List.{sum_by};
+ghost use Rattle.worker_desk.specs.Paper.{Adds};
+ghost use Rattle.lock_journal.specs.Closings.{outcome_in};
+ghost use Rattle.run_laws.specs.Marks.{HasEnded};
+ghost use Rattle.history_text.specs.Results.{task_marks, number_in, task_counts, unit_counts, counts_text, summary_of, below};
+
+use crate::counts::Counts;
+use crate::endings::{mark_of, outcome_of};
+use item_actions::Outcome;
+use lock_journal::Book;
+use worker_desk::{Page, Sink};
+
+fn count_tasks(book: &Book) -> Counts
+    ensures { result ≡ task_counts (below (length book.now.graph.tasks) (task_marks book.now.state)) }
+{
+    let mut counts = Counts::NONE;
+    for task in 0..book.graph().tasks().len() as u32 {
+        counts.add_task(mark_of(book, task));
+    }
+    counts
+}
+
+fn count_units(book: &Book) -> Counts
+    requires { HasEnded book.now.state }
+    ensures { result ≡ unit_counts (below book.now.graph.units (outcome_in book.now.history)) }
+{
+    let mut counts = Counts::NONE;
+    for unit in 0..book.graph().units() {
+        counts.add_unit(&outcome_of(book, unit));
+    }
+    counts
+}
+
+// The sum of the Number outcomes, which can pass 64 bits.
+fn total_of(book: &Book) -> u128
+    requires { HasEnded book.now.state }
+    ensures { result ≡ sum_by number_in (below book.now.graph.units (outcome_in book.now.history)) }
+{
+    let mut total = 0;
+    for unit in 0..book.graph().units() {
+        total += u128::from(number_in(&outcome_of(book, unit)));
+    }
+    total
+}
+
+fn number_in(outcome: &Outcome) -> u64
+    ensures { result ≡ number_in outcome.now }
+{
+    match outcome {
+        Outcome::Number(number) => *number,
+        _ => 0,
+    }
+}
+
+/// Tells what `tasks: ` or `units: ` stands before.
+pub(crate) fn tell_counts<K: Sink>(counts: Counts, page: &mut Page, sink: &mut K)
+    ensures { Adds (K.seen sink.old) page.old (K.seen sink.new) page.new (counts_text counts) }
+{
+    page.number(sink, counts.passed);
+    page.text(sink, b" passed, ");
+    page.number(sink, counts.failed);
+    page.text(sink, b" failed, ");
+    page.number(sink, counts.skipped);
+    page.text(sink, b" skipped\n");
+}
+
+fn tell_tasks_line<K: Sink>(book: &Book, page: &mut Page, sink: &mut K)
+    ensures { Adds (K.seen sink.old) page.old (K.seen sink.new) page.new
+        (codes "tasks: " ++ counts_text (task_counts (below (length book.now.graph.tasks) (task_marks book.now.state)))) }
+{
+    page.text(sink, b"tasks: ");
+    tell_counts(count_tasks(book), page, sink);
+}
+
+fn tell_units_line<K: Sink>(book: &Book, page: &mut Page, sink: &mut K)
+    requires { HasEnded book.now.state }
+    ensures { Adds (K.seen sink.old) page.old (K.seen sink.new) page.new
+        (codes "units: " ++ counts_text (unit_counts (below book.now.graph.units (outcome_in book.now.history)))) }
+{
+    page.text(sink, b"units: ");
+    tell_counts(count_units(book), page, sink);
+}
+
+fn tell_total_line<K: Sink>(book: &Book, page: &mut Page, sink: &mut K)
+    requires { HasEnded book.now.state }
+    ensures { Adds (K.seen sink.old) page.old (K.seen sink.new) page.new
+        (codes "total: " ++ decimal (sum_by number_in (below book.now.graph.units (outcome_in book.now.history))) ++ codes "\n") }
+{
+    page.text(sink, b"total: ");
+    page.number128(sink, total_of(book));
+    page.text(sink, b"\n");
+}
+
+/// Tells the three lines of summary of a book whose marks have ended.
+pub(crate) fn tell_summary<K: Sink>(book: &Book, page: &mut Page, sink: &mut K)
+    requires { HasEnded book.now.state }
+    ensures { Adds (K.seen sink.old) page.old (K.seen sink.new) page.new
+        (summary_of (below (length book.now.graph.tasks) (task_marks book.now.state)) (below book.now.graph.units (outcome_in book.now.history))) }
+{
+    tell_tasks_line(book, page, sink);
+    tell_units_line(book, page, sink);
+    tell_total_line(book, page, sink);
+}

@@ -1,0 +1,69 @@
+//! The program: the words, the real files and standard output, and the one call that does the rest.
+#![tactic(auto)]
+
+use item_actions::Text;
+use leases_cli::{Status, leases};
+use std::alloc::{AllocError, AllocFailed, Global};
+use std::io::ErrorKind;
+use std::process::ExitCode;
+use std::{env, io};
+use worker_desk::{FolderDesk, StdSink};
+
+/// As many desks as a run may have threads.
+const DESKS: usize = 32;
+
+/// Why nothing could be begun.
+#[derive(Clone, Copy)]
+enum Hindrance {
+    /// The words can't be read.
+    Words,
+    /// There is no memory.
+    Memory,
+}
+
+impl From<AllocError> for Hindrance {
+    fn from(_error: AllocError) -> Hindrance {
+        Hindrance::Memory
+    }
+}
+
+impl<T: Drop> From<AllocFailed<T>> for Hindrance {
+    fn from(_failed: AllocFailed<T>) -> Hindrance {
+        Hindrance::Memory
+    }
+}
+
+/// The words after the program's name.
+fn words(rt: &HostRuntime, alloc: Global) -> Result<Vec<Text>, Hindrance> {
+    let args = match env::args(rt) {
+        Ok(args) => args,
+        Err(error) if error.kind() == ErrorKind::OutOfMemory => return Err(Hindrance::Memory),
+        Err(_) => return Err(Hindrance::Words),
+    };
+    let mut words = Vec::new(alloc);
+    for arg in args.skip(1) {
+        words.push(Text::from_str(alloc, arg.as_str())?)?;
+    }
+    Ok(words)
+}
+
+/// Does what the words ask for.
+fn run(rt: &HostRuntime) -> Result<Status, Hindrance> {
+    let alloc = rt.alloc();
+    let words = words(rt, alloc)?;
+    let mut desks = Vec::with_capacity(alloc, DESKS)?;
+    for _ in 0..DESKS {
+        desks.push(FolderDesk::new(rt))?;
+    }
+    let mut out = StdSink::new(io::writer(rt));
+    Ok(leases(alloc, &words, &mut desks, &mut out).status)
+}
+
+fn main(rt: HostRuntime) -> ExitCode {
+    let status = match run(&rt) {
+        Ok(status) => status,
+        Err(Hindrance::Words) => Status::BadWords,
+        Err(Hindrance::Memory) => Status::NoMemory,
+    };
+    ExitCode::from(status.number())
+}

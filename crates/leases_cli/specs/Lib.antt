@@ -1,0 +1,6 @@
+pub mod Command
+pub mod Lines
+pub mod Causes
+pub mod Reported
+pub mod Answered
+pub mod Complete

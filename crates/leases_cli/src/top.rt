@@ -1,0 +1,190 @@
+ghost use Rattle.std.specs.Prelude.{◌≡◌, ◌≤◌, ℕ, List, Option, Some, None, IfOk, IfErr, length, drop, get_or};
+ghost use Rattle.std.specs.List.{list_all, range_with_len};
+ghost use Rattle.resource_lock.specs.Standing.{mark_of};
+ghost use Rattle.resource_lock.specs.declared.marks.MarkId.TheVariants as ids;
+ghost use Rattle.lock_journal.specs.Table.{has_passed};
+ghost use Rattle.worker_desk.specs.Sunk.{Prints};
+ghost use Rattle.plan_reader.specs.Units.{plan_units};
+ghost use Rattle.run_laws.specs.Marks.{HasEnded};
+ghost use Rattle.item_actions.specs.Files.{Folder};
+ghost use Rattle.build_runner.specs.Run.{IsRunOf, values_of};
+ghost use Rattle.leases_cli.specs.Answered.{Answered, IsToldAs, all_pass, have_all_passed, run_text, text_by_book};
+ghost use Rattle.leases_cli.specs.Command.{command_of};
+ghost use Rattle.leases_cli.specs.Complete.{IsComplete};
+ghost use Rattle.leases_cli.specs.Reported.{IsReported};
+ghost use Rattle.leases_cli.specs.Causes.{IsPlanAt, IsReadCause, OrNoMemory};
+ghost use Rattle.leases_cli.specs.declared.status.Status.TheVariants as statuses;
+
+use crate::status::Status;
+use crate::words::plan_name;
+use build_runner::run_plan;
+use history_text::{results_go_by_number, tell_history, tell_results};
+use item_actions::Text;
+use lock_journal::Book;
+use plan_reader::{Plan, PlanFail, PlanRefusal, read_plan};
+use resource_lock::{Mark, MarkId, State};
+use run_laws::outcomes_go_by_number;
+use std::alloc::Global;
+use worker_desk::{DeskFail, Failed, Files, Page, Read, Sink, put_all};
+
+/// The most bytes of a plan.
+const MOST_BYTES: u64 = 4_194_304;
+
+/// How a call ended, and the book of the run, if a run ended.
+#[derive(Drop)]
+pub struct Ended {
+    pub status: Status,
+    pub book: Option<Book>,
+}
+
+/// The plan of this name, or the refusal.
+fn read<D: Files>(alloc: Global, name: &Text, desk: &mut D) -> Result<Plan, Status>
+    ensures files { D.files desk.new ≡ D.files desk.old }
+    ensures count { D.faults desk.old ≤ D.faults desk.new }
+    ensures plan { IfOk result (λ plan. IsPlanAt (D.files desk.old) name.now plan) }
+    ensures refused { IfErr result (λ status. OrNoMemory (IsReadCause (D.files desk.old) (D.faults desk.old) (D.faults desk.new) name.now status) status) }
+{
+    match desk.read(alloc, name, MOST_BYTES) {
+        Ok(Read::Bytes(bytes)) => match read_plan(alloc, bytes.as_slice()) {
+            Ok(plan) => Ok(plan),
+            Err(PlanFail::Refused(refusal)) => Err(Status::BadPlan(refusal)),
+            Err(PlanFail::NoMemory) => Err(Status::NoMemory),
+        },
+        Ok(Read::TooLong) => Err(Status::BadPlan(PlanRefusal::NotYet)),
+        Ok(Read::NotThere) => Err(Status::NoPlan),
+        Err(DeskFail::Failed) => Err(Status::PlanFault),
+        Err(DeskFail::NoMemory) => Err(Status::NoMemory),
+    }
+}
+
+/// Prints the results and the history of a run.
+fn print_run<O: Sink>(plan: &Plan, book: &Book, out: &mut O) -> Result<(), Failed>
+    requires tasks { length book.now.graph.tasks ≡ length plan.now.tasks }
+    requires units { book.now.graph.units ≡ length (plan_units plan.now) }
+    requires ended { HasEnded book.now.state }
+    ensures { Prints (O.seen out.old) (O.seen out.new) (text_by_book plan.now book.now) result }
+{
+    let mut page = Page::new();
+    tell_results(plan, book, false, &mut page, out);
+    tell_history(book, false, &mut page, out);
+    page.end(out)
+}
+
+/// Whether each of the first so many tasks has passed.
+fn have_passed(state: &State, tasks: u32) -> bool
+    requires { tasks ≤ length state.now.tasks }
+    ensures { result ≡ list_all (λ t. has_passed (mark_of state.now (ids.Task t))) (range_with_len 0 tasks) }
+{
+    (0..tasks).all(|task| state.mark(MarkId::Task(task)) == Mark::Passed)
+}
+
+/// Whether every task has passed.
+fn all_passed(book: &Book) -> bool
+    ensures { result ≡ have_all_passed book.now }
+{
+    have_passed(book.state(), book.graph().tasks().len() as u32)
+}
+
+/// Prints a run, and says how it went.
+fn report<O: Sink>(plan: &Plan, book: Book, out: &mut O) -> Ended
+    requires tasks { length book.graph.tasks ≡ length plan.now.tasks }
+    requires units { book.graph.units ≡ length (plan_units plan.now) }
+    requires ended { HasEnded book.state }
+    ensures book { result.book ≡ Some book }
+    ensures status { IsReported (have_all_passed book) (O.seen out.old) (O.seen out.new) (text_by_book plan.now book) result.status }
+{
+    let passed = all_passed(&book);
+    let status = match print_run(plan, &book, out) {
+        Ok(()) if passed => Status::Passed,
+        Ok(()) => Status::TaskFailed,
+        Err(Failed) => Status::SinkFault,
+    };
+    Ended {
+        status,
+        book: Some(book),
+    }
+}
+
+/// Writes the line of a refusal.
+fn refuse<O: Sink>(refusal: Status, out: &mut O) -> Ended
+    ensures book { result.book ≡ None }
+    ensures status { IsToldAs refusal (O.seen out.old) (O.seen out.new) result.status }
+{
+    let status = match put_all(out, refusal.line()) {
+        Ok(()) => refusal,
+        Err(Failed) => Status::SinkFault,
+    };
+    Ended { status, book: None }
+}
+
+/// Nothing could be done for want of memory.
+fn without_memory() -> Ended
+    ensures book { result.book ≡ None }
+    ensures status { result.status ≡ statuses.NoMemory }
+{
+    Ended {
+        status: Status::NoMemory,
+        book: None,
+    }
+}
+
+/// Prints a run of the plan, and says how it went by the plan.
+fn report_run<O: Sink>(plan: &Plan, book: Book, out: &mut O) -> Ended
+    requires { (told : Option Folder) × (before : ℕ) × (after : ℕ) × IsRunOf plan.now told before after book }
+    ensures book { result.book ≡ Some book }
+    ensures status { (told : Option Folder) (before after : ℕ) → IsRunOf plan.now told before after book
+        → IsReported (all_pass book.graph (values_of plan.now told book.history)) (O.seen out.old) (O.seen out.new) (run_text plan.now told book) result.status }
+{
+    let _ = book.graph();
+    outcomes_go_by_number();
+    results_go_by_number();
+    report(plan, book, out)
+}
+
+/// Reads a plan through the desk, runs it and prints.
+fn run<D: Files, O: Sink>(alloc: Global, name: &Text, desk: &mut D, out: &mut O) -> Ended
+    ensures files { D.files desk.new ≡ D.files desk.old }
+    ensures count { D.faults desk.old ≤ D.faults desk.new }
+    ensures answer { (words : List (List ℕ)) → command_of words ≡ Some name.now
+        → Answered words (D.files desk.old) (D.faults desk.old) (D.faults desk.new) (O.seen out.old) (O.seen out.new) result.status result.book }
+{
+    let plan = match read(alloc, name, desk) {
+        Ok(plan) => plan,
+        Err(Status::NoMemory) => return without_memory(),
+        Err(refusal) => return refuse(refusal, out),
+    };
+    match run_plan(alloc, &plan, desk) {
+        Ok(book) => report_run(&plan, book, out),
+        Err(_) => without_memory(),
+    }
+}
+
+/// Does what the words after the program's name ask for.
+///
+/// The one command is `run PLAN --max-workers 1 --threads 1 --history`. The plan and its files are
+/// read through the first of the desks, of which there are 32, and the results and the history are
+/// written to `out`. The answer and its cause are those of the contract; at `NoMemory` nothing was
+/// written, and at `SinkFault` the beginning of the text.
+pub fn leases<D: Files, O: Sink>(
+    alloc: Global,
+    words: &[Text],
+    desks: &mut Vec<D>,
+    out: &mut O,
+) -> Ended
+    requires desks { length desks.old.items ≡ 32 }
+    ensures desks { length desks.new.items ≡ 32 }
+    ensures others { drop 1 desks.new.items ≡ drop 1 desks.old.items }
+    ensures files { (d : D) → D.files (get_or desks.new.items 0 d) ≡ D.files (get_or desks.old.items 0 d) }
+    ensures count { (d : D) → D.faults (get_or desks.old.items 0 d) ≤ D.faults (get_or desks.new.items 0 d) }
+    ensures answer { (d : D) → Answered words.now (D.files (get_or desks.old.items 0 d))
+        (D.faults (get_or desks.old.items 0 d)) (D.faults (get_or desks.new.items 0 d))
+        (O.seen out.old) (O.seen out.new) result.status result.book }
+    ensures complete { (d : D) → IsComplete words.now (D.files (get_or desks.old.items 0 d))
+        (D.faults (get_or desks.old.items 0 d)) (D.faults (get_or desks.new.items 0 d))
+        (O.seen out.old) (O.seen out.new) result.status result.book }
+{
+    match plan_name(words) {
+        Some(name) => run(alloc, name, &mut desks[0], out),
+        None => refuse(Status::BadWords, out),
+    }
+}

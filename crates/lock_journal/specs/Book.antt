@@ -1,0 +1,22 @@
+-- What the fields of a `Book` stand for, and what holds of them.
+use Rattle.std.specs.Prelude.{◌≡◌, [], min}
+use Rattle.lock_journal.specs.Entry.{replay}
+use Rattle.lock_journal.specs.Allowed.{Lawful}
+use Rattle.lock_journal.specs.Journal.{Journal}
+use Rattle.lock_journal.specs.declared.books.Book.TheInside.{Inside}
+
+abbrev pub journal_of : Inside → Journal
+journal_of b = record {
+  graph = b.tentative.graph;
+  state = b.tentative.state;
+  history = b.history.entries;
+  spare_entries = b.history.spare_entries;
+  spare_changes = min b.history.spare_changes b.tentative.room;
+}
+
+-- No change is under way, the history is a lawful one of the graph, and the state is what it leads to.
+pub record IsSound (b : Inside) : Type 0 where
+  pub fresh : b.tentative.made ≡ []
+  pub units : b.history.units ≡ b.tentative.graph.units
+  pub lawful : Lawful b.tentative.graph b.history.entries
+  pub replays : b.tentative.state ≡ replay b.tentative.graph b.history.entries

@@ -1,0 +1,14 @@
+pub mod Entry
+pub mod Table
+pub mod Allowed
+pub mod Closings
+pub mod Attempt
+pub mod Tentative
+pub mod Shown
+pub mod StoredEntry
+pub mod Past
+pub mod History
+pub mod Journal
+pub mod Book
+pub mod Ran
+pub mod Making

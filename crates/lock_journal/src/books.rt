@@ -1,0 +1,174 @@
+ghost use Rattle.std.specs.Prelude.{◌≡◌, ◌<◌, ◌≤◌, ◌+◌, ◌⊎◌, [], List, length, IsTrue, Some, OnOk, OnErr, IfOk, slice_get};
+ghost use Rattle.resource_lock.specs.Fits.{Fits};
+ghost use Rattle.resource_lock.specs.Good.{Good};
+ghost use Rattle.resource_lock.specs.Opening.{opening_of};
+ghost use Rattle.resource_lock.specs.Shape.{BelongsTo};
+ghost use Rattle.lock_journal.specs.Entry.{replay};
+ghost use Rattle.lock_journal.specs.Shown.{entry_shown};
+ghost use Rattle.lock_journal.specs.Closings.{outcome_of};
+ghost use Rattle.lock_journal.specs.Allowed.{Lawful};
+ghost use Rattle.lock_journal.specs.Ran.{HasFinished, HasFailed, IsToRetry};
+
+use crate::entries::Shown;
+use crate::histories::History;
+use crate::tentatives::Tentative;
+use crate::transforms::{Disposition, Transform};
+use item_actions::Outcome;
+use resource_lock::{Change, Graph, Mark, MarkId, State, WorkerId};
+use std::alloc::{AllocError, Global};
+use std::marker::Model;
+
+/// A graph, the state, and the history that led to it. Of every book the history is lawful, and
+/// the state is what it leads to.
+#[derive(Debug, Drop)]
+pub struct Book {
+    tentative: Tentative,
+    history: History,
+}
+
+impl Model for Book {
+    ghost use Rattle.lock_journal.specs.Journal.{Journal};
+
+    ghost Value = { Journal };
+
+    ghost use Rattle.lock_journal.specs.Book.{journal_of, IsSound};
+
+    ghost view = { journal_of };
+
+    ghost invariant = { IsSound };
+}
+
+impl Book {
+    ghost use Rattle.lock_journal.specs.Journal.{SameBook};
+
+    /// A book of the graph without entries, with room for at least so many entries and changes.
+    pub fn opening(
+        alloc: Global,
+        graph: Graph,
+        entries: u64,
+        changes: u64,
+    ) -> Result<Book, AllocError>
+        ensures graph { IfOk result (λ book. book.graph ≡ graph) }
+        ensures state { IfOk result (λ book. book.state ≡ opening_of graph) }
+        ensures history { IfOk result (λ book. book.history ≡ []) }
+        ensures entries { IfOk result (λ book. entries ≤ book.spare_entries) }
+        ensures changes { IfOk result (λ book. changes ≤ book.spare_changes) }
+    {
+        let history = History::opening(alloc, graph.units(), entries as usize, changes as usize)?;
+        let tentative = Tentative::opening(alloc, graph, changes as usize)?;
+        Ok(Book { tentative, history })
+    }
+
+    /// The graph of the state.
+    pub fn graph(&self) -> &Graph
+        ensures value { result.now ≡ self.now.graph }
+        ensures fits { Fits self.now.graph }
+        ensures belongs { BelongsTo self.now.graph self.now.state }
+    {
+        self.tentative.graph()
+    }
+
+    /// The state, which the history leads to.
+    pub fn state(&self) -> &State
+        ensures value { result.now ≡ self.now.state }
+        ensures belongs { BelongsTo self.now.graph self.now.state }
+        ensures replays { self.now.state ≡ replay self.now.graph self.now.history }
+        ensures lawful { Lawful self.now.graph self.now.history }
+        ensures good { Good self.now.state }
+    {
+        self.tentative.state()
+    }
+
+    /// How many entries the history has.
+    pub fn len(&self) -> u64
+        ensures { result ≡ length self.now.history }
+    {
+        self.history.len()
+    }
+
+    /// The entry at a place of the history, counted from 0.
+    pub fn entry(&self, place: u64) -> Shown<'_>
+        requires { place < length self.now.history }
+        ensures shown { slice_get self.now.history place ≡ Some (entry_shown result) }
+        ensures no_changes { IsTrue result.failed → result.changes.now ≡ [] }
+    {
+        self.history.entry(place)
+    }
+
+    /// A unit's outcome: that of its closing entry, or Skipped where it was skipped. None where it
+    /// hasn't ended.
+    pub fn outcome(&self, unit: u32) -> Option<Outcome>
+        requires { unit < self.now.graph.units }
+        ensures { result ≡ outcome_of self.now.state self.now.history unit }
+    {
+        match self.state().mark(MarkId::Unit(unit)) {
+            Mark::Passed | Mark::Failed => Some(self.history.outcome(unit)),
+            Mark::Skipped => Some(Outcome::Skipped),
+            Mark::Waiting | Mark::Queued | Mark::Running(_) => None,
+        }
+    }
+
+    /// How many more entries there is room for.
+    pub fn spare_entries(&self) -> u64
+        ensures { result ≡ self.now.spare_entries }
+    {
+        self.history.spare_entries()
+    }
+
+    /// How many more changes there is room for.
+    pub fn spare_changes(&self) -> u64
+        ensures { result ≡ self.now.spare_changes }
+    {
+        self.history.spare_changes().min(self.tentative.room())
+    }
+
+    /// Makes room for at least so many more entries and changes. It fails for want of memory, and
+    /// only where there isn't room for them yet. The graph, the state and the history stay, also
+    /// then.
+    pub fn reserve(&mut self, entries: u64, changes: u64) -> Result<(), AllocError>
+        ensures same { SameBook self.old self.new }
+        ensures entries { OnOk result (entries ≤ self.new.spare_entries) }
+        ensures changes { OnOk result (changes ≤ self.new.spare_changes) }
+        ensures full { OnErr result ((self.old.spare_entries < entries) ⊎ (self.old.spare_changes < changes)) }
+    {
+        self.history.reserve(entries as usize, changes as usize)?;
+        self.tentative.reserve(changes as usize)
+    }
+
+    /// Runs a transform for a worker. It happens whole, or leaves the state as it was.
+    ///
+    /// Where it finishes or fails, the history has one more entry. Memory is taken first: the call
+    /// fails for want of it, and only where there isn't room for one entry and for the most changes
+    /// that the transform makes. Then it wasn't run, and the state and the history are as before.
+    pub fn run<T: Transform>(
+        &mut self,
+        worker: WorkerId,
+        transform: &T,
+    ) -> Result<Disposition, AllocError>
+        requires { worker.0 < self.old.graph.workers }
+        ensures graph { self.new.graph ≡ self.old.graph }
+        ensures finished { result ≡ Ok Disposition.Finished
+            → (changes : List Change) × HasFinished self.old self.new worker (T.kind_of transform.now) changes }
+        ensures failed { result ≡ Ok Disposition.Failed
+            → HasFailed (T.fails_on transform.now) self.old self.new worker (T.kind_of transform.now) }
+        ensures retry { result ≡ Ok Disposition.Retry
+            → IsToRetry (T.retries_on transform.now) self.old self.new worker }
+        ensures no_memory { OnErr result (SameBook self.old self.new) }
+        ensures full { OnErr result ((self.old.spare_entries < 1) ⊎ (self.old.spare_changes < T.most transform.now)) }
+        ensures spare_entries { self.old.spare_entries ≤ self.new.spare_entries + 1 }
+        ensures spare_changes { self.old.spare_changes ≤ self.new.spare_changes + T.most transform.now }
+    {
+        self.reserve(1, transform.most_changes())?;
+        let disposition = self.tentative.attempt(worker, transform);
+        match disposition {
+            Disposition::Finished => {
+                self.history
+                    .push_finished(worker, transform.kind(), self.tentative.made());
+                self.tentative.settle();
+            }
+            Disposition::Failed => self.history.push_failed(worker, transform.kind()),
+            Disposition::Retry => {}
+        }
+        Ok(disposition)
+    }
+}

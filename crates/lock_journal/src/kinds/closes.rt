@@ -1,0 +1,80 @@
+ghost use Rattle.std.specs.Prelude.{◌≡◌, false};
+ghost use Rattle.lock_journal.specs.Allowed.{IsKindOf};
+ghost use Rattle.lock_journal.specs.Table.{is_enabled, mark_from};
+ghost use Rattle.lock_journal.specs.declared.entries.Kind.TheVariants as kinds;
+
+use crate::entries::{Closed, Kind};
+use crate::kinds::fixed::{FixedKind, Progress, run_fixed};
+use crate::kinds::making::try_changes;
+use crate::tentatives::Tentative;
+use crate::transforms::{Disposition, Transform};
+use item_actions::Outcome;
+use resource_lock::{Change, Graph, Mark, MarkId, State, WorkerId};
+
+/// Ends an item that the worker runs: its mark becomes Passed or Failed by its outcome, and the
+/// worker gives its lease back.
+///
+/// It never fails. It asks to be run again where the unit isn't an item that the worker runs, where
+/// the worker has no lease, and where the graph has no such unit or the outcome is Skipped.
+#[derive(Clone, Copy, Debug)]
+pub struct Close {
+    /// The item, and what it gave.
+    pub closed: Closed,
+}
+
+impl Transform for Close {
+    ghost kind_of = { λ t. kinds.Close t.closed };
+
+    ghost most = { λ _. 2 };
+
+    ghost fails_on = { λ t g w s. ⊥ };
+
+    ghost retries_on = { λ t g w s. IsKindOf g (kinds.Close t.closed) → is_enabled g s w (kinds.Close t.closed) ≡ false };
+
+    fn kind(&self) -> Kind {
+        Kind::Close(self.closed)
+    }
+
+    fn most_changes(&self) -> u64 {
+        2
+    }
+
+    fn apply(&self, work: &mut Tentative) -> Disposition {
+        match run_fixed(self, work) {
+            Progress::Made => Disposition::Finished,
+            Progress::NotEnabled | Progress::OutOfRange => Disposition::Retry,
+        }
+    }
+}
+
+impl FixedKind for Close {
+    ghost kind_of = { λ t. kinds.Close t.closed };
+
+    ghost most = { λ _. 2 };
+
+    fn is_in_range(&self, graph: &Graph) -> bool {
+        self.closed.unit < graph.units() && !matches!(self.closed.outcome, Outcome::Skipped)
+    }
+
+    fn condition_holds(&self, graph: &Graph, state: &State, worker: WorkerId) -> bool {
+        graph.is_item(self.closed.unit)
+            && state.mark(MarkId::Unit(self.closed.unit)) == Mark::Running(worker)
+    }
+
+    fn make(&self, work: &mut Tentative) -> bool {
+        let unit = MarkId::Unit(self.closed.unit);
+        let running = Mark::Running(work.worker());
+        let moved = Change::Move(unit, running, mark_from(self.closed.outcome));
+        try_changes(work, &[moved, Change::Give])
+    }
+}
+
+/// The mark of a unit that ended with an outcome.
+fn mark_from(outcome: Outcome) -> Mark
+    ensures { result ≡ mark_from outcome }
+{
+    match outcome {
+        Outcome::Number(_) | Outcome::Digest(_) => Mark::Passed,
+        _ => Mark::Failed,
+    }
+}

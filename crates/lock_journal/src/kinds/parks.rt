@@ -1,0 +1,84 @@
+ghost use Rattle.std.specs.Prelude.{◌≡◌, false};
+ghost use Rattle.lock_journal.specs.Allowed.{IsKindOf};
+ghost use Rattle.lock_journal.specs.Table.{is_enabled};
+ghost use Rattle.lock_journal.specs.declared.entries.Kind.TheVariants as kinds;
+
+use crate::entries::Kind;
+use crate::kinds::fixed::{FixedKind, Progress, run_fixed};
+use crate::kinds::making::try_changes;
+use crate::kinds::marks::works_on;
+use crate::kinds::ranges::{action_of, lock_of};
+use crate::tentatives::Tentative;
+use crate::transforms::{Disposition, Transform};
+use resource_lock::{Change, Graph, Mark, MarkId, Retention, State, WorkerId};
+
+/// Begins to wait for the items of a queued action: the worker gives back its lease, and parks the
+/// task's lock unless the action retains it. The action's mark becomes Running.
+///
+/// It never fails. It asks to be run again where the worker doesn't work on the action's task, where
+/// the action isn't Queued, where the worker doesn't own a lock that it is to park, and where the
+/// graph has no such action.
+#[derive(Clone, Copy, Debug)]
+pub struct Park {
+    /// The action's number.
+    pub action: u32,
+}
+
+impl Transform for Park {
+    ghost kind_of = { λ t. kinds.Park t.action };
+
+    ghost most = { λ _. 4 };
+
+    ghost fails_on = { λ t g w s. ⊥ };
+
+    ghost retries_on = { λ t g w s. IsKindOf g (kinds.Park t.action) → is_enabled g s w (kinds.Park t.action) ≡ false };
+
+    fn kind(&self) -> Kind {
+        Kind::Park(self.action)
+    }
+
+    fn most_changes(&self) -> u64 {
+        4
+    }
+
+    fn apply(&self, work: &mut Tentative) -> Disposition {
+        match run_fixed(self, work) {
+            Progress::Made => Disposition::Finished,
+            Progress::NotEnabled | Progress::OutOfRange => Disposition::Retry,
+        }
+    }
+}
+
+impl FixedKind for Park {
+    ghost kind_of = { λ t. kinds.Park t.action };
+
+    ghost most = { λ _. 4 };
+
+    fn is_in_range(&self, graph: &Graph) -> bool {
+        (self.action as usize) < graph.actions().len()
+    }
+
+    fn condition_holds(&self, graph: &Graph, state: &State, worker: WorkerId) -> bool {
+        works_on(state, worker, action_of(graph, self.action).task)
+            && state.mark(MarkId::Action(self.action)) == Mark::Queued
+    }
+
+    fn make(&self, work: &mut Tentative) -> bool {
+        let action = action_of(work.graph(), self.action);
+        let lock = lock_of(work.graph(), action.task);
+        let running = Mark::Running(work.worker());
+        let moved = Change::Move(MarkId::Action(self.action), Mark::Queued, running);
+        match action.retention {
+            Retention::Retain => try_changes(work, &[Change::Give, moved]),
+            Retention::Release | Retention::ReleaseAndReacquire => try_changes(
+                work,
+                &[
+                    Change::Give,
+                    Change::Unlock(lock),
+                    Change::Park(lock),
+                    moved,
+                ],
+            ),
+        }
+    }
+}

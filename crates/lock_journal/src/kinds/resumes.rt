@@ -1,0 +1,105 @@
+ghost use Rattle.std.specs.Prelude.{◌≡◌, ◌≤◌, ◌+◌, false, length};
+ghost use Rattle.std.specs.List.{list_all, range_with_len};
+ghost use Rattle.resource_lock.specs.Standing.{mark_of};
+ghost use Rattle.lock_journal.specs.Allowed.{IsKindOf};
+ghost use Rattle.lock_journal.specs.Table.{has_ended, is_enabled};
+ghost use Rattle.lock_journal.specs.declared.entries.Kind.TheVariants as kinds;
+ghost use Rattle.resource_lock.specs.declared.marks.MarkId.TheVariants as ids;
+
+use crate::entries::Kind;
+use crate::kinds::fixed::{FixedKind, Progress, run_fixed};
+use crate::kinds::making::try_changes;
+use crate::kinds::ranges::{Span, action_of, items_of, lock_of};
+use crate::tentatives::Tentative;
+use crate::transforms::{Disposition, Transform};
+use resource_lock::{Change, Graph, Mark, MarkId, Retention, State, WorkerId};
+
+/// Goes on after the items of an action have ended: the worker takes back what it gave back when it
+/// parked, or under Release only takes the lock off its parked list. The action's mark becomes
+/// Passed.
+///
+/// It never fails. It asks to be run again where the worker isn't parked on the action, has a lease
+/// or runs a unit, where an item hasn't ended, where the lock is owned or no lease is free, and
+/// where the graph has no such action.
+#[derive(Clone, Copy, Debug)]
+pub struct Resume {
+    /// The action's number.
+    pub action: u32,
+}
+
+impl Transform for Resume {
+    ghost kind_of = { λ t. kinds.Resume t.action };
+
+    ghost most = { λ _. 4 };
+
+    ghost fails_on = { λ t g w s. ⊥ };
+
+    ghost retries_on = { λ t g w s. IsKindOf g (kinds.Resume t.action) → is_enabled g s w (kinds.Resume t.action) ≡ false };
+
+    fn kind(&self) -> Kind {
+        Kind::Resume(self.action)
+    }
+
+    fn most_changes(&self) -> u64 {
+        4
+    }
+
+    fn apply(&self, work: &mut Tentative) -> Disposition {
+        match run_fixed(self, work) {
+            Progress::Made => Disposition::Finished,
+            Progress::NotEnabled | Progress::OutOfRange => Disposition::Retry,
+        }
+    }
+}
+
+impl FixedKind for Resume {
+    ghost kind_of = { λ t. kinds.Resume t.action };
+
+    ghost most = { λ _. 4 };
+
+    fn is_in_range(&self, graph: &Graph) -> bool {
+        (self.action as usize) < graph.actions().len()
+    }
+
+    fn condition_holds(&self, graph: &Graph, state: &State, worker: WorkerId) -> bool {
+        state.mark(MarkId::Action(self.action)) == Mark::Running(worker)
+            && !state.has_lease(worker)
+            && !state.runs_unit(worker)
+            && all_ended(state, items_of(graph, self.action))
+    }
+
+    fn make(&self, work: &mut Tentative) -> bool {
+        let action = action_of(work.graph(), self.action);
+        let lock = lock_of(work.graph(), action.task);
+        let running = Mark::Running(work.worker());
+        let moved = Change::Move(MarkId::Action(self.action), running, Mark::Passed);
+        match action.retention {
+            Retention::Retain => try_changes(work, &[Change::Take, moved]),
+            Retention::Release => try_changes(work, &[Change::Unpark(lock), moved]),
+            Retention::ReleaseAndReacquire => try_changes(
+                work,
+                &[
+                    Change::Unpark(lock),
+                    Change::Lock(lock),
+                    Change::Take,
+                    moved,
+                ],
+            ),
+        }
+    }
+}
+
+/// Whether each of these units has ended.
+fn all_ended(state: &State, units: Span) -> bool
+    requires { units.first + units.count ≤ length state.now.units }
+    ensures { result ≡ list_all (λ u. has_ended (mark_of state.now (ids.Unit u))) (range_with_len units.first units.count) }
+{
+    (units.first..units.first + units.count).all(|unit| has_ended(state.mark(MarkId::Unit(unit))))
+}
+
+/// Whether a mark has ended.
+fn has_ended(mark: Mark) -> bool
+    ensures { result ≡ has_ended mark }
+{
+    matches!(mark, Mark::Passed | Mark::Failed | Mark::Skipped)
+}

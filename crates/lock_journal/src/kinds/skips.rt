@@ -1,0 +1,94 @@
+ghost use Rattle.std.specs.Prelude.{◌≡◌, ◌≤◌, ◌<◌, All, false, length};
+ghost use Rattle.std.specs.List.{list_any};
+ghost use Rattle.resource_lock.specs.Standing.{mark_of};
+ghost use Rattle.lock_journal.specs.Table.{has_fallen, is_enabled};
+ghost use Rattle.lock_journal.specs.declared.entries.Kind.TheVariants as kinds;
+ghost use Rattle.resource_lock.specs.declared.marks.MarkId.TheVariants as ids;
+
+use crate::entries::Kind;
+use crate::kinds::fixed::{FixedKind, Progress, run_fixed};
+use crate::kinds::making::try_change;
+use crate::kinds::ranges::{MAX_ACTIONS, MAX_UNITS, actions_of, after_of};
+use crate::kinds::skipping::skip_actions;
+use crate::tentatives::Tentative;
+use crate::transforms::{Disposition, Transform};
+use resource_lock::{Change, Graph, Mark, MarkId, State, WorkerId};
+
+/// Skips a task that is Waiting and comes after one that failed or was skipped: its mark and those
+/// of its actions and units become Skipped.
+///
+/// It fails where the task isn't such a one, where the worker isn't idle, and where one of the marks
+/// isn't Waiting. It asks to be run again only where the graph has no such task.
+#[derive(Clone, Copy, Debug)]
+pub struct Skip {
+    /// The task's number.
+    pub task: u32,
+}
+
+impl Transform for Skip {
+    ghost kind_of = { λ t. kinds.Skip t.task };
+
+    ghost most = { λ _. 8201 };
+
+    ghost fails_on = { λ t g w s. is_enabled g s w (kinds.Skip t.task) ≡ false };
+
+    ghost retries_on = { λ t g w s. length g.tasks ≤ t.task };
+
+    fn kind(&self) -> Kind {
+        Kind::Skip(self.task)
+    }
+
+    fn most_changes(&self) -> u64 {
+        1 + MAX_ACTIONS + MAX_UNITS
+    }
+
+    fn apply(&self, work: &mut Tentative) -> Disposition {
+        match run_fixed(self, work) {
+            Progress::Made => Disposition::Finished,
+            Progress::NotEnabled => Disposition::Failed,
+            Progress::OutOfRange => Disposition::Retry,
+        }
+    }
+}
+
+impl FixedKind for Skip {
+    ghost kind_of = { λ t. kinds.Skip t.task };
+
+    ghost most = { λ _. 8201 };
+
+    fn is_in_range(&self, graph: &Graph) -> bool {
+        (self.task as usize) < graph.tasks().len()
+    }
+
+    fn condition_holds(&self, graph: &Graph, state: &State, worker: WorkerId) -> bool {
+        state.mark(MarkId::Task(self.task)) == Mark::Waiting
+            && some_fallen(state, after_of(graph, self.task))
+            && state.is_idle(worker)
+    }
+
+    fn make(&self, work: &mut Tentative) -> bool {
+        let actions = actions_of(work.graph(), self.task);
+        let skipped = Change::Move(MarkId::Task(self.task), Mark::Waiting, Mark::Skipped);
+        if !try_change(work, skipped) {
+            return false;
+        }
+        skip_actions(work, actions)
+    }
+}
+
+/// Whether one of these tasks has failed or was skipped.
+fn some_fallen(state: &State, tasks: &[u32]) -> bool
+    requires { All (λ k. k < length state.now.tasks) tasks.now }
+    ensures { result ≡ list_any (λ k. has_fallen (mark_of state.now (ids.Task k))) tasks.now }
+{
+    tasks
+        .iter()
+        .any(|task| has_fallen(state.mark(MarkId::Task(*task))))
+}
+
+/// Whether a mark is Failed or Skipped.
+fn has_fallen(mark: Mark) -> bool
+    ensures { result ≡ has_fallen mark }
+{
+    matches!(mark, Mark::Failed | Mark::Skipped)
+}

@@ -1,0 +1,59 @@
+ghost use Rattle.std.specs.Prelude.{◌≡◌, ◌≤◌, ℕ, [], length, Some};
+ghost use Rattle.resource_lock.specs.Standing.{Standing};
+ghost use Rattle.resource_lock.specs.Outline.{Outline};
+ghost use Rattle.resource_lock.specs.declared.ids.WorkerId.{WorkerId};
+ghost use Rattle.lock_journal.specs.declared.entries.Kind.{Kind};
+ghost use Rattle.lock_journal.specs.Attempt.{Worked};
+ghost use Rattle.lock_journal.specs.Entry.{entry};
+ghost use Rattle.lock_journal.specs.Allowed.{Allowed, IsKindOf};
+
+use crate::entries::Kind;
+use crate::tentatives::Tentative;
+
+/// How a transform ended.
+#[derive(Clone, Copy, Debug, PartialEq, Eq)]
+pub enum Disposition {
+    /// Its changes stand, and its entry has them.
+    Finished,
+    /// Its changes were taken back, and its entry says that it failed.
+    Failed,
+    /// Its changes were taken back without an entry. It can be run again once the state has changed.
+    Retry,
+}
+
+/// Changes of one worker that are made together or not at all.
+pub trait Transform {
+    /// What its entries are for.
+    ghost kind_of: { Self → Kind };
+
+    /// At most how many changes it makes.
+    ghost most: { Self → ℕ };
+
+    /// Where it may fail: a fact of the graph, the worker and the state before.
+    ghost fails_on: { Self → Outline → WorkerId → Standing → Type 0 };
+
+    /// Where it may ask to be run again: a fact of the graph, the worker and the state before.
+    ghost retries_on: { Self → Outline → WorkerId → Standing → Type 0 };
+
+    /// What its entries are for.
+    fn kind(&self) -> Kind
+        ensures { result ≡ kind_of self.now };
+
+    /// At most how many changes it makes.
+    fn most_changes(&self) -> u64
+        ensures { result ≡ most self.now };
+
+    /// Makes its changes. Those of a transform that doesn't finish are taken back by its caller.
+    fn apply(&self, work: &mut Tentative) -> Disposition
+        requires fresh { work.old.made ≡ [] }
+        requires room { most self.now ≤ work.old.room }
+        ensures worked { Worked work.old work.new }
+        ensures few { length work.new.made ≤ most self.now }
+        // Where it finishes, the entry of its kind and its changes is allowed in the state before.
+        ensures finished { result ≡ Disposition.Finished
+            → Allowed work.old.graph work.old.state (entry work.old.worker (kind_of self.now) (Some work.new.made)) }
+        // It fails only where it says so, and where its failed entry is allowed.
+        ensures failed { result ≡ Disposition.Failed
+            → fails_on self.now work.old.graph work.old.worker work.old.state × IsKindOf work.old.graph (kind_of self.now) }
+        ensures retry { result ≡ Disposition.Retry → retries_on self.now work.old.graph work.old.worker work.old.state };
+}

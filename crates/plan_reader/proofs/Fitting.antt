@@ -1,0 +1,224 @@
+-- The graph of a plan fits.
+use Rattle.std.proofs.Common.{◌≡◌, ◌⊎◌, ◌+◌, ◌-◌, ◌<◌, ◌≤◌, ℕ, zero, suc, min, Bool, true, false, if◌then◌else◌, List, [], ◌∷◌, ◌++◌, map, length, get_or, Option, None, Some, is_some, refl, ap, sym, subst, ◌∙◌, inl, inr, arith, length-append}
+use Rattle.std.specs.List.{All, flat_map, sum_by}
+use Rattle.std.proofs.lemmas.Bool.{cases_lt}
+use Rattle.std.proofs.lemmas.List.{length-map, get_or_append_left, get_or-append_right}
+use Rattle.std.proofs.lemmas.List.Elements.{All-nil, All-cons, All-append}
+use Rattle.std.proofs.lemmas.List.Sums.{sum_by-cons, sum_by-append}
+use Rattle.resource_lock.specs.declared.graphs.GraphTask.{GraphTask}
+use Rattle.resource_lock.specs.declared.graphs.GraphAction.{GraphAction}
+use Rattle.resource_lock.specs.Outline.{TaskOutline, outline_of, no_task, no_action}
+use Rattle.resource_lock.specs.Made.{made_of}
+use Rattle.resource_lock.specs.Ranges.{fetches, units_in, IsIn}
+use Rattle.resource_lock.specs.Fits.{Follow, Fits}
+use Rattle.plan_reader.specs.Plan.{ActionShape, TaskShape, PlanShape}
+use Rattle.plan_reader.specs.Units.{fetch_units, item_unit, action_units, task_units, plan_units}
+use Rattle.plan_reader.specs.IsPlan.{IsPlan}
+use Rattle.plan_reader.specs.Graph.{lock_of, locks_of, tasks_from, actions_from, units_in_all, all_actions_from, graph_of}
+
+-- what the graph of a plan rests on
+record Suits (p : PlanShape) : Type 0 where
+  few_projects : length p.projects ≤ 4096
+  few_tasks : length p.tasks ≤ 2048
+  few_units : length (plan_units p) ≤ 8192
+  few_actions : All (λ t. length t.actions ≤ 8) p.tasks
+  few_after : All (λ t. length t.after ≤ 64) p.tasks
+  project_within : All (λ t. t.project < length p.projects) p.tasks
+  after_within : All (λ t. All (λ n. n < length p.tasks) t.after) p.tasks
+  some_item : All (λ t. All (λ a. 0 < length a.items) t.actions) p.tasks
+
+-- ---- tasks
+
+abbrev pub task_outline : Bool → ℕ → TaskShape → TaskOutline
+task_outline parallel first t = record { lock = lock_of parallel t.project; after = t.after; first_action = first; actions = length t.actions }
+
+each_task : (P : TaskOutline → Type 0) (parallel : Bool) (first : ℕ) (ts : List TaskShape)
+    → ((k : ℕ) (d : TaskShape) → k < length ts → (n : ℕ) → P (task_outline parallel n (get_or ts k d))) → All P (tasks_from parallel first ts)
+each_task P parallel first [] each = All-nil P
+each_task P parallel first (t ∷ ts) each =
+    All-cons P (task_outline parallel first t) (tasks_from parallel (first + length t.actions) ts) (each 0 t (omega arith) first)
+    (each_task P parallel (first + length t.actions) ts (λ k d within. each (suc k) d (omega arith)))
+
+length-tasks_from : (parallel : Bool) (first : ℕ) (ts : List TaskShape) → length (tasks_from parallel first ts) ≡ length ts
+length-tasks_from parallel first [] = refl
+length-tasks_from parallel first (t ∷ ts) = ap suc (length-tasks_from parallel (first + length t.actions) ts)
+
+lock_within : (parallel : Bool) (project projects : ℕ) → project < projects → (lock_of parallel project).0 < (if parallel then projects else min 1 projects)
+lock_within true project projects within = within
+lock_within false project projects within = omega arith
+
+few_locks : (parallel : Bool) (projects : ℕ) → projects ≤ 4096 → (if parallel then projects else min 1 projects) ≤ 4096
+few_locks true projects few = few
+few_locks false projects few = omega arith
+
+-- ---- actions
+
+length-actions_from : (task first : ℕ) (as' : List ActionShape) → length (actions_from task first as') ≡ length as'
+length-actions_from task first [] = refl
+length-actions_from task first (a ∷ as') = ap suc (length-actions_from task (first + length (action_units a)) as')
+
+some_items : (task first : ℕ) (as' : List ActionShape) → All (λ a. 0 < length a.items) as' → All (λ a. 0 < a.items) (actions_from task first as')
+some_items task first [] some = All-nil (λ a. 0 < a.items)
+some_items task first (a ∷ as') some =
+    All-cons (λ a. 0 < a.items) _ (actions_from task (first + length (action_units a)) as') (some 0 a (omega arith))
+    (some_items task (first + length (action_units a)) as' (λ k d within. some (suc k) d (omega arith)))
+
+all_some_items : (task first : ℕ) (ts : List TaskShape) → All (λ t. All (λ a. 0 < length a.items) t.actions) ts → All (λ a. 0 < a.items) (all_actions_from task first ts)
+all_some_items task first [] some = All-nil (λ a. 0 < a.items)
+all_some_items task first (t ∷ ts) some =
+    All-append (λ a. 0 < a.items) (actions_from task first t.actions) (all_actions_from (task + 1) (first + units_in_all t.actions) ts)
+    (some_items task first t.actions (some 0 t (omega arith)))
+    (all_some_items (task + 1) (first + units_in_all t.actions) ts (λ k d within. some (suc k) d (omega arith)))
+
+actions_follow : (parallel : Bool) (n task first : ℕ) (ts : List TaskShape) (stop : ℕ) → n + length (all_actions_from task first ts) ≡ stop
+    → Follow (λ t. t.first_action) (λ t. t.actions) n (tasks_from parallel n ts) stop
+actions_follow parallel n task first [] stop e = omega arith
+actions_follow parallel n task first (t ∷ ts) stop e =
+    let both = length-append (actions_from task first t.actions) (all_actions_from (task + 1) (first + units_in_all t.actions) ts) in
+    let here = length-actions_from task first t.actions in
+    (refl, actions_follow parallel (n + length t.actions) (task + 1) (first + units_in_all t.actions) ts stop (omega arith))
+
+-- ---- units
+
+units_of_fetch : (fetch : Option (List ℕ)) → length (fetch_units fetch) ≡ fetches (is_some fetch)
+units_of_fetch None = refl
+units_of_fetch (Some file) = refl
+
+units_of_action : (a : ActionShape) → length (action_units a) ≡ length a.items + fetches (is_some a.fetch)
+units_of_action a = omega (arith, length-append (fetch_units a.fetch) (map item_unit a.items), length-map a.items item_unit, units_of_fetch a.fetch)
+
+pub units_in_all-task_units : (as' : List ActionShape) → units_in_all as' ≡ length (flat_map action_units as')
+units_in_all-task_units [] = refl
+units_in_all-task_units (a ∷ as') = omega (arith, length-append (action_units a) (flat_map action_units as'), units_in_all-task_units as')
+
+follow_append : {X : Type 0} (first count : X → ℕ) (n mid stop : ℕ) (xs ys : List X) → Follow first count n xs mid → Follow first count mid ys stop → Follow first count n (xs ++ ys) stop
+follow_append first count n mid stop [] ys a b = subst (λ m. Follow first count m ys stop) (sym a) b
+follow_append first count n mid stop (x ∷ xs) ys a b = (a.0, follow_append first count (n + count x) mid stop xs ys a.1 b)
+
+units_follow : (task n : ℕ) (as' : List ActionShape) (stop : ℕ) → n + units_in_all as' ≡ stop → Follow (λ a. a.first_unit) units_in n (actions_from task n as') stop
+units_follow task n [] stop e = omega arith
+units_follow task n (a ∷ as') stop e =
+    let rest = units_follow task (n + length (action_units a)) as' stop (omega arith) in
+    (refl, subst (λ m. Follow (λ b. b.first_unit) units_in (n + m) (actions_from task (n + length (action_units a)) as') stop) (units_of_action a) rest)
+
+all_units_follow : (task n : ℕ) (ts : List TaskShape) (stop : ℕ) → n + length (flat_map task_units ts) ≡ stop → Follow (λ a. a.first_unit) units_in n (all_actions_from task n ts) stop
+all_units_follow task n [] stop e = omega arith
+all_units_follow task n (t ∷ ts) stop e =
+    let both = length-append (task_units t) (flat_map task_units ts) in
+    let here = units_in_all-task_units t.actions in
+    follow_append (λ a. a.first_unit) units_in n (n + units_in_all t.actions) stop (actions_from task n t.actions) (all_actions_from (task + 1) (n + units_in_all t.actions) ts)
+    (units_follow task n t.actions (n + units_in_all t.actions) refl)
+    (all_units_follow (task + 1) (n + units_in_all t.actions) ts stop (omega arith))
+
+-- ---- the task of an action
+
+task_of_action : (task first : ℕ) (as' : List ActionShape) (a : ℕ) → a < length as' → (get_or (actions_from task first as') a no_action).task ≡ task
+task_of_action task first [] a within = absurd (omega arith)
+task_of_action task first (x ∷ as') zero within = refl
+task_of_action task first (x ∷ as') (suc a) within = task_of_action task (first + length (action_units x)) as' a (omega arith)
+
+-- the action is one of the first task's, or one of a later one's
+own_or_later : (parallel : Bool) (n task : ℕ) (x : TaskShape) (ts : List TaskShape) (front back : List GraphAction) (a m t : ℕ) → length front ≡ length x.actions
+    → a < length (front ++ back) → m ≡ n + a → (get_or (front ++ back) a no_action).task ≡ t
+    → (a < length x.actions → (get_or front a no_action).task ≡ task)
+    → ((b : ℕ) → b < length back → m ≡ n + length x.actions + b → (u : ℕ) → (get_or back b no_action).task ≡ u
+    → (task + 1 ≤ u) × ((i : ℕ) → task + 1 + i ≡ u → IsIn (get_or (tasks_from parallel (n + length x.actions) ts) i no_task).first_action (get_or (tasks_from parallel (n + length x.actions) ts) i no_task).actions m))
+    → (task ≤ t) × ((i : ℕ) → task + i ≡ t → IsIn (get_or (tasks_from parallel n (x ∷ ts)) i no_task).first_action (get_or (tasks_from parallel n (x ∷ ts)) i no_task).actions m)
+own_or_later parallel n task x ts front back a m t long within e is own later = at (cases_lt a (length x.actions))
+  where
+    mine : a < length x.actions → (i : ℕ) → task + i ≡ t → t ≡ task → IsIn (get_or (tasks_from parallel n (x ∷ ts)) i no_task).first_action (get_or (tasks_from parallel n (x ∷ ts)) i no_task).actions m
+    mine lt zero f g = (omega arith, omega arith)
+    mine lt (suc i) f g = absurd (omega arith)
+
+    others : ((i : ℕ) → task + 1 + i ≡ t → IsIn (get_or (tasks_from parallel (n + length x.actions) ts) i no_task).first_action (get_or (tasks_from parallel (n + length x.actions) ts) i no_task).actions m) → task + 1 ≤ t
+        → (i : ℕ) → task + i ≡ t → IsIn (get_or (tasks_from parallel n (x ∷ ts)) i no_task).first_action (get_or (tasks_from parallel n (x ∷ ts)) i no_task).actions m
+    others h above zero f = absurd (omega arith)
+    others h above (suc i) f = h i (omega arith)
+
+    at : (a < length x.actions) ⊎ (length x.actions ≤ a) → (task ≤ t) × ((i : ℕ) → task + i ≡ t → IsIn (get_or (tasks_from parallel n (x ∷ ts)) i no_task).first_action (get_or (tasks_from parallel n (x ∷ ts)) i no_task).actions m)
+    at (inl lt) =
+        let same : t ≡ task = sym is ∙ ap (λ g. g.task) (get_or_append_left front back no_action a (omega arith)) ∙ own lt in
+        (omega arith, λ i f. mine lt i f same)
+    at (inr past) =
+        let both = length-append front back in
+        let r = later (a - length x.actions) (omega arith) (omega arith) t (sym (ap (λ g. g.task) (get_or-append_right front back (length x.actions) a no_action long past)) ∙ is) in
+        (omega (arith, r.0), others r.1 r.0)
+
+-- the task of the a-th action from this task on, and its range from n on
+own_task : (parallel : Bool) (n task first : ℕ) (ts : List TaskShape) (a m : ℕ) → a < length (all_actions_from task first ts) → m ≡ n + a
+    → (t : ℕ) → (get_or (all_actions_from task first ts) a no_action).task ≡ t
+    → (task ≤ t) × ((i : ℕ) → task + i ≡ t → IsIn (get_or (tasks_from parallel n ts) i no_task).first_action (get_or (tasks_from parallel n ts) i no_task).actions m)
+own_task parallel n task first [] a m within e t is = absurd (omega arith)
+own_task parallel n task first (x ∷ ts) a m within e t is =
+    own_or_later parallel n task x ts (actions_from task first x.actions) (all_actions_from (task + 1) (first + units_in_all x.actions) ts) a m t (length-actions_from task first x.actions) within e is
+    (task_of_action task first x.actions a)
+    (λ b lt. own_task parallel (n + length x.actions) (task + 1) (first + units_in_all x.actions) ts b m lt)
+
+fits : (p : PlanShape) (workers max : ℕ) (parallel : Bool) → Suits p → 1 ≤ workers → workers ≤ 32 → 1 ≤ max → max ≤ 32 → Fits (graph_of p workers max parallel)
+fits p workers max parallel s some_worker few_workers some_lease few_leases =
+    let tasks : length (tasks_from parallel 0 p.tasks) ≡ length p.tasks = length-tasks_from parallel 0 p.tasks in
+    record {
+      some_worker = some_worker;
+      few_workers = few_workers;
+      some_lease = some_lease;
+      few_leases = few_leases;
+      few_locks = few_locks parallel (length p.projects) s.few_projects;
+      few_tasks = rw tasks s.few_tasks;
+      few_units = s.few_units;
+      few_actions = each_task (λ t. t.actions ≤ 8) parallel 0 p.tasks (λ k d within n. s.few_actions k d within);
+      few_after = each_task (λ t. length t.after ≤ 64) parallel 0 p.tasks (λ k d within n. s.few_after k d within);
+      locks_within = each_task (λ t. t.lock.0 < locks_of parallel p) parallel 0 p.tasks (λ k d within n. lock_within parallel _ (length p.projects) (s.project_within k d within));
+      after_within = subst (λ n. All (λ t. All (λ m. m < n) t.after) (tasks_from parallel 0 p.tasks)) (sym tasks) (each_task (λ t. All (λ m. m < length p.tasks) t.after) parallel 0 p.tasks (λ k d within n. s.after_within k d within));
+      actions_follow = actions_follow parallel 0 0 0 p.tasks (length (all_actions_from 0 0 p.tasks)) (omega arith);
+      units_follow = all_units_follow 0 0 p.tasks (length (plan_units p)) (omega arith);
+      own_task = λ a within. (own_task parallel 0 0 0 p.tasks a a within (omega arith) _ refl).1 _ (omega arith);
+      some_item = all_some_items 0 0 p.tasks s.some_item;
+    }
+
+-- ---- the graph of a plan that was read
+
+few_or_none : (ns : List ℕ) → ns ≡ [] → length ns ≤ 64
+few_or_none ns none = rw none (omega arith)
+
+all_of_none : (n : ℕ) (ns : List ℕ) → ns ≡ [] → All (λ m. m < n) ns
+all_of_none n ns none = subst (λ ms. All (λ m. m < n) ms) (sym none) (All-nil (λ m. m < n))
+
+suits : (p : PlanShape) → IsPlan p → Suits p
+suits p h = record {
+  few_projects = omega (arith, h.few_projects);
+  few_tasks = h.few_tasks;
+  few_units = h.few_units;
+  few_actions = λ k d within. omega (arith, h.one_action k d within);
+  few_after = λ k d within. few_or_none _ (h.no_after k d within);
+  project_within = h.project_within;
+  after_within = λ k d within. all_of_none (length p.tasks) _ (h.no_after k d within);
+  some_item = h.some_item;
+}
+
+pub graph_fits : (p : PlanShape) (workers max : ℕ) (parallel : Bool) → IsPlan p → 1 ≤ workers → workers ≤ 32 → 1 ≤ max → max ≤ 32 → Fits (graph_of p workers max parallel)
+graph_fits p workers max parallel h = fits p workers max parallel (suits p h)
+
+units_made : (task first : ℕ) (as' : List ActionShape) → sum_by units_in (actions_from task first as') ≡ units_in_all as'
+units_made task first [] = refl
+units_made task first (a ∷ as') =
+    let more = actions_from task (first + length (action_units a)) as' in
+    sum_by-cons units_in (record { task = task; retention = a.retention; fetch = is_some a.fetch; first_unit = first; items = length a.items }) more
+    ∙ ap (λ n. n + sum_by units_in more) (sym (units_of_action a))
+    ∙ ap (λ n. length (action_units a) + n) (units_made task (first + length (action_units a)) as')
+
+all_units_made : (task first : ℕ) (ts : List TaskShape) → sum_by units_in (all_actions_from task first ts) ≡ length (flat_map task_units ts)
+all_units_made task first [] = refl
+all_units_made task first (t ∷ ts) =
+    let more = all_actions_from (task + 1) (first + units_in_all t.actions) ts in
+    sum_by-append units_in (actions_from task first t.actions) more
+    ∙ ap (λ n. n + sum_by units_in more) (units_made task first t.actions ∙ units_in_all-task_units t.actions)
+    ∙ ap (λ n. length (task_units t) + n) (all_units_made (task + 1) (first + units_in_all t.actions) ts)
+    ∙ sym (length-append (task_units t) (flat_map task_units ts))
+
+-- the parts make the graph
+pub same_graph : (p : PlanShape) (workers max locks : ℕ) (parallel : Bool) (tasks : List GraphTask) (actions : List GraphAction)
+    → locks ≡ locks_of parallel p → map outline_of tasks ≡ tasks_from parallel 0 p.tasks → actions ≡ all_actions_from 0 0 p.tasks
+    → made_of locks workers max tasks actions ≡ graph_of p workers max parallel
+same_graph p workers max locks parallel tasks actions a b c =
+    let units : sum_by units_in actions ≡ length (plan_units p) = ap (sum_by units_in) c ∙ all_units_made 0 0 p.tasks in
+    λ i. record { locks = a i; workers = workers; max = max; units = units i; tasks = b i; actions = c i }

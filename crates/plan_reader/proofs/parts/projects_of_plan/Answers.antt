@@ -1,0 +1,7 @@
+use Rattle.std.proofs.Common.{◌∙◌, sym}
+use Rattle.plan_reader.specs.FirstForm.{name_of}
+use Rattle.plan_reader.proofs.Lists.{map_of_elements}
+use Rattle.plan_reader.proofs.parts.projects_of_plan.Goals as goal
+
+pub returns : goal.returns
+returns c = c.in_ok-projects.ensures ∙ sym (map_of_elements name_of _ _ c.projects_of.ensures)

@@ -1,0 +1,9 @@
+pub mod Forms
+pub mod Values
+pub mod Plan
+pub mod Units
+pub mod IsPlan
+pub mod FirstForm
+pub mod Rooms
+pub mod Reading
+pub mod Graph

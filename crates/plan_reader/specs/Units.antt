@@ -1,0 +1,44 @@
+-- The units of a plan, in order, and what each gives.
+use Rattle.std.specs.Prelude.{ℕ, List, [], ◌∷◌, ◌++◌, map, length, Option, None, Some, slice_get}
+use Rattle.std.specs.List.{flat_map}
+use Rattle.item_actions.specs.Files.{Folder, file_of}
+use Rattle.item_actions.specs.Value.{act_on, value_of}
+use Rattle.item_actions.specs.declared.actions.Action.{Action}
+use Rattle.item_actions.specs.declared.outcomes.Outcome.{Outcome}
+use Rattle.item_actions.specs.declared.outcomes.Outcome.TheVariants.{Number, Skipped}
+use Rattle.plan_reader.specs.Plan.{WorkShape, ActionShape, TaskShape, PlanShape}
+
+-- a unit: a file, and an action on it, or none where the file is fetched
+pub record PlannedUnit : Type 0 where
+  pub action : Option Action
+  pub file : List ℕ
+
+abbrev pub fetch_units : Option (List ℕ) → List PlannedUnit
+fetch_units None = []
+fetch_units (Some file) = record { action = None; file = file } ∷ []
+
+abbrev pub item_unit : WorkShape → PlannedUnit
+item_unit w = record { action = Some w.action; file = w.file }
+
+-- an action's: the fetch before the items
+abbrev pub action_units : ActionShape → List PlannedUnit
+action_units a = fetch_units a.fetch ++ map item_unit a.items
+
+abbrev pub task_units : TaskShape → List PlannedUnit
+task_units t = flat_map action_units t.actions
+
+abbrev pub plan_units : PlanShape → List PlannedUnit
+plan_units p = flat_map task_units p.tasks
+
+-- a fetch gives the number of bytes
+abbrev pub act_of : Option Action → List ℕ → Outcome
+act_of None bytes = Number (length bytes)
+act_of (Some action) bytes = act_on action bytes
+
+abbrev pub value_in : Folder → Option PlannedUnit → Outcome
+value_in files None = Skipped
+value_in files (Some u) = value_of (act_of u.action) (file_of files u.file)
+
+-- the value of a unit, by its number
+abbrev pub unit_value : PlanShape → Folder → ℕ → Outcome
+unit_value p files u = value_in files (slice_get (plan_units p) u)

@@ -1,0 +1,78 @@
+//! The forms of names and of files.
+ghost use Rattle.std.specs.Prelude.{◌≡◌, not};
+ghost use Rattle.std.specs.List.{list_any, list_all};
+ghost use Rattle.plan_reader.specs.Forms.{is_letter_or_digit, is_joining, is_name_byte, is_file_byte, is_name, is_no_part, parts, is_file_name};
+
+/// The most bytes of a name.
+const LONGEST_NAME: usize = 64;
+
+/// The most bytes of a file's name.
+const LONGEST_FILE_NAME: usize = 255;
+
+fn is_letter_or_digit(b: u8) -> bool
+    ensures { result ≡ is_letter_or_digit b }
+{
+    matches!(b, b'a'..=b'z' | b'A'..=b'Z' | b'0'..=b'9')
+}
+
+fn is_joining(b: u8) -> bool
+    ensures { result ≡ is_joining b }
+{
+    matches!(b, b'_' | b'-' | b'.')
+}
+
+fn is_name_byte(b: u8) -> bool
+    ensures { result ≡ is_name_byte b }
+{
+    is_letter_or_digit(b) || is_joining(b) || b == b':'
+}
+
+fn is_file_byte(b: u8) -> bool
+    ensures { result ≡ is_file_byte b }
+{
+    is_letter_or_digit(b) || is_joining(b) || b == b'/'
+}
+
+fn are_name_bytes(bytes: &[u8]) -> bool
+    ensures { result ≡ list_all is_name_byte bytes.now }
+{
+    bytes.iter().all(|b| is_name_byte(*b))
+}
+
+fn are_file_bytes(bytes: &[u8]) -> bool
+    ensures { result ≡ list_all is_file_byte bytes.now }
+{
+    bytes.iter().all(|b| is_file_byte(*b))
+}
+
+/// Whether a part of a file's name names nothing of its own.
+fn is_no_part(part: &[u8]) -> bool
+    ensures { result ≡ is_no_part part.now }
+{
+    matches!(part, b"" | b"." | b"..")
+}
+
+fn has_no_part(bytes: &[u8]) -> bool
+    ensures { result ≡ list_any is_no_part (parts bytes.now) }
+{
+    bytes.split(|b| *b == b'/').any(|part| is_no_part(part))
+}
+
+/// Whether the bytes have the form of a name: 1 to 64 bytes, each an ASCII letter, a digit, `_`, `-`,
+/// `.` or `:`.
+pub fn is_name(bytes: &[u8]) -> bool
+    ensures { result ≡ is_name bytes.now }
+{
+    1 <= bytes.len() && bytes.len() <= LONGEST_NAME && are_name_bytes(bytes)
+}
+
+/// Whether the bytes have the form of a file's name: 1 to 255 bytes, each an ASCII letter, a digit, `_`,
+/// `-`, `.` or `/`. Split at `/`, no part is empty, `.` or `..`.
+pub fn is_file_name(bytes: &[u8]) -> bool
+    ensures { result ≡ is_file_name bytes.now }
+{
+    1 <= bytes.len()
+        && bytes.len() <= LONGEST_FILE_NAME
+        && are_file_bytes(bytes)
+        && !has_no_part(bytes)
+}

@@ -1,0 +1,115 @@
+//! The graph of a plan.
+ghost use Rattle.std.specs.Prelude.{◌≡◌, ◌+◌, ◌<◌, ◌≤◌, ◌++◌, map, length, IfOk, All};
+ghost use Rattle.std.specs.List.{flat_map};
+ghost use Rattle.resource_lock.specs.Outline.{outline_of};
+ghost use Rattle.plan_reader.specs.Plan.{action_shape, task_shape};
+ghost use Rattle.plan_reader.specs.Units.{task_units};
+ghost use Rattle.plan_reader.specs.Graph.{lock_of, locks_of, tasks_from, actions_from, units_in_all, all_actions_from, graph_of};
+
+use crate::plans::{Plan, PlanAction, PlanTask};
+use resource_lock::{Graph, GraphAction, GraphTask, LockId};
+use std::alloc::{AllocError, Global};
+
+impl Plan {
+    /// The graph of the plan, for so many workers and leases. With `parallel` each project has a lock of
+    /// its own, without it all share one. An error is want of memory.
+    pub fn graph(
+        &self,
+        alloc: Global,
+        workers: u32,
+        max: u32,
+        parallel: bool,
+    ) -> Result<Graph, AllocError>
+        requires some_worker { 1 ≤ workers }
+        requires few_workers { workers ≤ 32 }
+        requires some_lease { 1 ≤ max }
+        requires few_leases { max ≤ 32 }
+        ensures { IfOk result (λ g. g ≡ graph_of self.now workers max parallel) }
+    {
+        let tasks = graph_tasks(alloc, self.tasks(), parallel)?;
+        let actions = graph_actions(alloc, self.tasks())?;
+        let locks = self.locks(parallel);
+        Ok(Graph::new(locks, workers, max, tasks, actions))
+    }
+
+    /// How many locks there are.
+    fn locks(&self, parallel: bool) -> u32
+        ensures { result ≡ locks_of parallel self.now }
+    {
+        let projects = self.projects().len() as u32;
+        if parallel { projects } else { projects.min(1) }
+    }
+}
+
+/// The lock of a project.
+fn lock_of(parallel: bool, project: u32) -> LockId
+    ensures { result ≡ lock_of parallel project }
+{
+    LockId(if parallel { project } else { 0 })
+}
+
+/// The tasks of the graph.
+fn graph_tasks(
+    alloc: Global,
+    tasks: &[PlanTask],
+    parallel: bool,
+) -> Result<Vec<GraphTask>, AllocError>
+    requires few_tasks { length tasks.now ≤ 2048 }
+    requires few_actions { All (λ t. length t.actions ≤ 8) (map task_shape tasks.now) }
+    ensures { IfOk result (λ made. map outline_of made.items ≡ tasks_from parallel 0 (map task_shape tasks.now)) }
+{
+    let mut made = Vec::with_capacity(alloc, tasks.len())?;
+    let mut first_action = 0;
+    for task in tasks {
+        let actions = task.actions.len() as u32;
+        made.push(GraphTask {
+            lock: lock_of(parallel, task.project),
+            after: task.after.clone()?,
+            first_action,
+            actions,
+        })?;
+        first_action += actions;
+    }
+    Ok(made)
+}
+
+/// Pushes the actions of a task, and answers the number behind their last unit.
+fn push_actions(
+    made: &mut Vec<GraphAction>,
+    task: u32,
+    first_unit: u32,
+    actions: &[PlanAction],
+) -> Result<u32, AllocError>
+    requires { first_unit + units_in_all (map action_shape actions.now) ≤ 8192 }
+    ensures made { IfOk result (λ _. made.new.items ≡ made.old.items ++ actions_from task first_unit (map action_shape actions.now)) }
+    ensures next { IfOk result (λ next. next ≡ first_unit + units_in_all (map action_shape actions.now)) }
+{
+    let mut next = first_unit;
+    for action in actions {
+        let fetch = action.fetch.is_some();
+        let items = action.items.len() as u32;
+        made.push(GraphAction {
+            task,
+            retention: action.retention,
+            fetch,
+            first_unit: next,
+            items,
+        })?;
+        next += items + u32::from(fetch);
+    }
+    Ok(next)
+}
+
+/// The actions of the graph.
+fn graph_actions(alloc: Global, tasks: &[PlanTask]) -> Result<Vec<GraphAction>, AllocError>
+    requires few_tasks { length tasks.now ≤ 2048 }
+    requires few_units { length (flat_map task_units (map task_shape tasks.now)) ≤ 8192 }
+    ensures { IfOk result (λ made. made.items ≡ all_actions_from 0 0 (map task_shape tasks.now)) }
+{
+    let mut made = Vec::with_capacity(alloc, tasks.len())?;
+    let mut next = 0;
+    for (number, task) in tasks.iter().enumerate() {
+        next = push_actions(&mut made, number as u32, next, &task.actions)?;
+    }
+    Ok(made)
+}

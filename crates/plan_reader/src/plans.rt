@@ -1,0 +1,76 @@
+ghost use Rattle.std.specs.Prelude.{◌≡◌, map};
+ghost use Rattle.plan_reader.specs.Plan.{task_shape, plan_shape};
+ghost use Rattle.plan_reader.specs.IsPlan.{IsPlan};
+
+use item_actions::{Action, Text};
+use resource_lock::Retention;
+use std::marker::Model;
+
+/// An item: an action on a file.
+#[derive(Debug, Drop)]
+pub struct Work {
+    pub action: Action,
+    pub file: Text,
+}
+
+/// An action of a task: a file that is fetched first, what the worker does with its project lock while
+/// the items run, and the items.
+#[derive(Debug, Drop)]
+pub struct PlanAction {
+    pub fetch: Option<Text>,
+    pub retention: Retention,
+    pub items: Vec<Work>,
+}
+
+/// A task of a project, after other tasks.
+#[derive(Debug, Drop)]
+pub struct PlanTask {
+    pub name: Text,
+    pub project: u32,
+    pub after: Vec<u32>,
+    pub actions: Vec<PlanAction>,
+}
+
+/// The projects and tasks of a build, in the order in which they stand in the plan file. A plan is made by
+/// `read_plan` alone.
+#[derive(Debug, Drop)]
+pub struct Plan {
+    projects: Vec<Text>,
+    tasks: Vec<PlanTask>,
+}
+
+impl Model for Plan {
+    ghost use Rattle.plan_reader.specs.Plan.{PlanShape, plan_shape};
+    ghost use Rattle.plan_reader.specs.IsPlan.{IsPlan};
+
+    ghost Value = { PlanShape };
+
+    ghost view = { λ p. plan_shape p.projects.items p.tasks.items };
+
+    ghost invariant = { λ p. IsPlan (plan_shape p.projects.items p.tasks.items) };
+}
+
+impl Plan {
+    pub(crate) fn new(projects: Vec<Text>, tasks: Vec<PlanTask>) -> Plan
+        requires { IsPlan (plan_shape projects.items tasks.items) }
+        ensures { result ≡ plan_shape projects.items tasks.items }
+    {
+        Plan { projects, tasks }
+    }
+
+    /// The projects' names, by number.
+    pub fn projects(&self) -> &[Text]
+        ensures value { result.now ≡ self.now.projects }
+        ensures plan { IsPlan self.now }
+    {
+        &self.projects
+    }
+
+    /// The tasks, by number.
+    pub fn tasks(&self) -> &[PlanTask]
+        ensures value { map task_shape result.now ≡ self.now.tasks }
+        ensures plan { IsPlan self.now }
+    {
+        &self.tasks
+    }
+}

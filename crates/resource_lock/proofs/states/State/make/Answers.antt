@@ -1,0 +1,77 @@
+use Rattle.std.proofs.Common.{◌+◌, map, set, refl, sym, ◌∙◌, ap, arith}
+use Rattle.std.proofs.lemmas.List.{length-set}
+use Rattle.resource_lock.proofs.Lists.{one_if}
+use Rattle.resource_lock.proofs.Holding.{has_room, view_made, sound_left, lease_free, some_out, quiet}
+use Rattle.resource_lock.specs.Standing.{Standing, holding_of, leases_out}
+use Rattle.resource_lock.specs.Change.{can}
+use Rattle.resource_lock.specs.Holdings.{holding_from}
+use Rattle.resource_lock.specs.State.{standing_of}
+use Rattle.resource_lock.specs.declared.changes.Change.TheVariants.{Lock, Unlock, Take, Give, Move}
+use Rattle.resource_lock.specs.declared.marks.MarkId.TheVariants.{Task as TaskOf, Action as ActionOf, Unit as UnitOf}
+use Rattle.resource_lock.proofs.states.State.make.Goals as goal
+
+pub note-requires : goal.note-requires
+note-requires c = has_room {a = c.self.inside} c.args.change (record { view_is = c.self.view_is; worker = c.requires.worker_in_range; named = c.requires.change_in_range; possible = c.requires.possible; read = c.index_mut.ensures.value }) c.self.invariant
+
+pub returns-in-Lock : goal.returns-in-Lock
+returns-in-Lock c = view_made {a = c.self.inside} (Lock c.in-Lock.lock) (record { reads = record { view_is = c.self.view_is; worker = c.requires.worker_in_range; named = c.requires.change_in_range; possible = c.requires.possible; read = c.index_mut.ensures.value }; after = c.note.ensures; sound = c.self.invariant }) (c.in-Lock.is)
+
+pub invariant_of-self : goal.invariant_of-self
+invariant_of-self c = sound_left {a = c.self.inside} {k = Lock c.in-Lock.lock} (record { reads = record { view_is = c.self.view_is; worker = c.requires.worker_in_range; named = c.requires.change_in_range; possible = c.requires.possible; read = c.index_mut.ensures.value }; after = c.note.ensures; sound = c.self.invariant })
+    (record { is = c.in-Lock.is; held = refl; owners = length-set _ _ _; view = refl; out = refl })
+
+pub returns-in-Unlock : goal.returns-in-Unlock
+returns-in-Unlock c = view_made {a = c.self.inside} (Unlock c.in-Unlock.lock) (record { reads = record { view_is = c.self.view_is; worker = c.requires.worker_in_range; named = c.requires.change_in_range; possible = c.requires.possible; read = c.index_mut.ensures.value }; after = c.note.ensures; sound = c.self.invariant }) (c.in-Unlock.is)
+
+pub invariant_of-self-in-Unlock : goal.invariant_of-self-in-Unlock
+invariant_of-self-in-Unlock c = sound_left {a = c.self.inside} {k = Unlock c.in-Unlock.lock} (record { reads = record { view_is = c.self.view_is; worker = c.requires.worker_in_range; named = c.requires.change_in_range; possible = c.requires.possible; read = c.index_mut.ensures.value }; after = c.note.ensures; sound = c.self.invariant })
+    (record { is = c.in-Unlock.is; held = refl; owners = length-set _ _ _; view = refl; out = refl })
+
+pub returns-in-Take : goal.returns-in-Take
+returns-in-Take c = view_made {a = c.self.inside} (Take) (record { reads = record { view_is = c.self.view_is; worker = c.requires.worker_in_range; named = c.requires.change_in_range; possible = c.requires.possible; read = c.index_mut.ensures.value }; after = c.note.ensures; sound = c.self.invariant }) (c.in-Take.is)
+
+pub invariant_of-self-in-Take : goal.invariant_of-self-in-Take
+invariant_of-self-in-Take c = sound_left {a = c.self.inside} {k = Take} (record { reads = record { view_is = c.self.view_is; worker = c.requires.worker_in_range; named = c.requires.change_in_range; possible = c.requires.possible; read = c.index_mut.ensures.value }; after = c.note.ensures; sound = c.self.invariant })
+    (record { is = c.in-Take.is; held = refl; owners = refl; view = refl; out = omega (arith, ap one_if (lease_free c.args.self.now c.args.worker (ap (can c.args.self.now c.args.worker) (sym c.in-Take.is) ∙ c.requires.possible))) })
+
+pub returns-in-Give : goal.returns-in-Give
+returns-in-Give c = view_made {a = c.self.inside} (Give) (record { reads = record { view_is = c.self.view_is; worker = c.requires.worker_in_range; named = c.requires.change_in_range; possible = c.requires.possible; read = c.index_mut.ensures.value }; after = c.note.ensures; sound = c.self.invariant }) (c.in-Give.is)
+
+pub invariant_of-self-in-Give : goal.invariant_of-self-in-Give
+invariant_of-self-in-Give c = sound_left {a = c.self.inside} {k = Give} (record { reads = record { view_is = c.self.view_is; worker = c.requires.worker_in_range; named = c.requires.change_in_range; possible = c.requires.possible; read = c.index_mut.ensures.value }; after = c.note.ensures; sound = c.self.invariant })
+    (record { is = c.in-Give.is; held = refl; owners = refl; view = refl; out = omega (arith, ap one_if (ap (can c.args.self.now c.args.worker) (sym c.in-Give.is) ∙ c.requires.possible), some_out c.args.self.now c.args.worker c.requires.worker_in_range (ap (can c.args.self.now c.args.worker) (sym c.in-Give.is) ∙ c.requires.possible), c.self.invariant.leases, ap leases_out c.self.view_is) })
+
+pub returns-in-Task : goal.returns-in-Task
+returns-in-Task c = view_made {a = c.self.inside} (Move (TaskOf c.in-Task.task) c.in-Move.field-1 c.in-Move.to) (record { reads = record { view_is = c.self.view_is; worker = c.requires.worker_in_range; named = c.requires.change_in_range; possible = c.requires.possible; read = c.index_mut.ensures.value }; after = c.note.ensures; sound = c.self.invariant }) (c.in-Move.is ∙ ap (λ m. Move m c.in-Move.field-1 c.in-Move.to) c.in-Task.is)
+
+pub invariant_of-self-in-Task : goal.invariant_of-self-in-Task
+invariant_of-self-in-Task c = sound_left {a = c.self.inside} {k = Move (TaskOf c.in-Task.task) c.in-Move.field-1 c.in-Move.to} (record { reads = record { view_is = c.self.view_is; worker = c.requires.worker_in_range; named = c.requires.change_in_range; possible = c.requires.possible; read = c.index_mut.ensures.value }; after = c.note.ensures; sound = c.self.invariant })
+    (record { is = c.in-Move.is ∙ ap (λ m. Move m c.in-Move.field-1 c.in-Move.to) c.in-Task.is; held = refl; owners = refl; view = refl; out = refl })
+
+pub returns-in-Action : goal.returns-in-Action
+returns-in-Action c = view_made {a = c.self.inside} (Move (ActionOf c.in-Action.action) c.in-Move.field-1 c.in-Move.to) (record { reads = record { view_is = c.self.view_is; worker = c.requires.worker_in_range; named = c.requires.change_in_range; possible = c.requires.possible; read = c.index_mut.ensures.value }; after = c.note.ensures; sound = c.self.invariant }) (c.in-Move.is ∙ ap (λ m. Move m c.in-Move.field-1 c.in-Move.to) c.in-Action.is)
+
+pub invariant_of-self-in-Action : goal.invariant_of-self-in-Action
+invariant_of-self-in-Action c = sound_left {a = c.self.inside} {k = Move (ActionOf c.in-Action.action) c.in-Move.field-1 c.in-Move.to} (record { reads = record { view_is = c.self.view_is; worker = c.requires.worker_in_range; named = c.requires.change_in_range; possible = c.requires.possible; read = c.index_mut.ensures.value }; after = c.note.ensures; sound = c.self.invariant })
+    (record { is = c.in-Move.is ∙ ap (λ m. Move m c.in-Move.field-1 c.in-Move.to) c.in-Action.is; held = refl; owners = refl; view = refl; out = refl })
+
+pub returns-in-Unit : goal.returns-in-Unit
+returns-in-Unit c = view_made {a = c.self.inside} (Move (UnitOf c.in-Unit.unit) c.in-Move.field-1 c.in-Move.to) (record { reads = record { view_is = c.self.view_is; worker = c.requires.worker_in_range; named = c.requires.change_in_range; possible = c.requires.possible; read = c.index_mut.ensures.value }; after = c.note.ensures; sound = c.self.invariant }) (c.in-Move.is ∙ ap (λ m. Move m c.in-Move.field-1 c.in-Move.to) c.in-Unit.is)
+
+pub invariant_of-self-in-Unit : goal.invariant_of-self-in-Unit
+invariant_of-self-in-Unit c = sound_left {a = c.self.inside} {k = Move (UnitOf c.in-Unit.unit) c.in-Move.field-1 c.in-Move.to} (record { reads = record { view_is = c.self.view_is; worker = c.requires.worker_in_range; named = c.requires.change_in_range; possible = c.requires.possible; read = c.index_mut.ensures.value }; after = c.note.ensures; sound = c.self.invariant })
+    (record { is = c.in-Move.is ∙ ap (λ m. Move m c.in-Move.field-1 c.in-Move.to) c.in-Unit.is; held = refl; owners = refl; view = refl; out = refl })
+
+pub returns-in-Park : goal.returns-in-Park
+returns-in-Park c = ap (λ (s : Standing). record s { holdings = map holding_from (set c.self.inside.held.items c.args.worker.0 c.note.new.self) }) ((quiet c.args.change c.in-Park.is).rest (standing_of c.self.inside) c.args.worker)
+    ∙ view_made {a = c.self.inside} c.args.change (record { reads = record { view_is = c.self.view_is; worker = c.requires.worker_in_range; named = c.requires.change_in_range; possible = c.requires.possible; read = c.index_mut.ensures.value }; after = c.note.ensures; sound = c.self.invariant }) refl
+
+pub invariant_of-self-in-Park : goal.invariant_of-self-in-Park
+invariant_of-self-in-Park c = sound_left {a = c.self.inside} {k = c.args.change} (record { reads = record { view_is = c.self.view_is; worker = c.requires.worker_in_range; named = c.requires.change_in_range; possible = c.requires.possible; read = c.index_mut.ensures.value }; after = c.note.ensures; sound = c.self.invariant })
+    (record {
+      is = refl;
+      held = refl;
+      owners = refl;
+      view = ap (λ (s : Standing). record s { holdings = map holding_from (set c.self.inside.held.items c.args.worker.0 c.note.new.self) }) ((quiet c.args.change c.in-Park.is).rest (standing_of c.self.inside) c.args.worker);
+      out = ap (λ b. c.self.inside.out + one_if b) ((quiet c.args.change c.in-Park.is).lease (holding_of c.args.self.now c.args.worker));
+    })

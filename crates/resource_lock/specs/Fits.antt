@@ -1,0 +1,27 @@
+-- Which graphs fit: all numbers are in range and within the limits, and the tasks' actions and the actions' units are ranges one behind the other.
+use Rattle.std.specs.Prelude.{ℕ, ◌≡◌, ◌+◌, ◌<◌, ◌≤◌, List, [], ◌∷◌, length}
+use Rattle.std.specs.List.{All}
+use Rattle.resource_lock.specs.Outline.{Outline, action_of}
+use Rattle.resource_lock.specs.Ranges.{units_in, IsActionOf}
+
+-- ranges one behind the other, from n on, the last of which ends before the stop
+abbrev pub Follow : {X : Type 0} → (X → ℕ) → (X → ℕ) → ℕ → List X → ℕ → Type 0
+Follow first count n [] stop = n ≡ stop
+Follow first count n (x ∷ xs) stop = (first x ≡ n) × Follow first count (n + count x) xs stop
+
+pub record Fits (g : Outline) : Type 0 where
+  pub some_worker : 1 ≤ g.workers
+  pub few_workers : g.workers ≤ 32
+  pub some_lease : 1 ≤ g.max
+  pub few_leases : g.max ≤ 32
+  pub few_locks : g.locks ≤ 4096
+  pub few_tasks : length g.tasks ≤ 2048
+  pub few_units : g.units ≤ 8192
+  pub few_actions : All (λ t. t.actions ≤ 8) g.tasks
+  pub few_after : All (λ t. length t.after ≤ 64) g.tasks
+  pub locks_within : All (λ t. t.lock.0 < g.locks) g.tasks
+  pub after_within : All (λ t. All (λ p. p < length g.tasks) t.after) g.tasks
+  pub actions_follow : Follow (λ t. t.first_action) (λ t. t.actions) 0 g.tasks (length g.actions)
+  pub units_follow : Follow (λ a. a.first_unit) units_in 0 g.actions g.units
+  pub own_task : (a : ℕ) → a < length g.actions → IsActionOf g (action_of g a).task a
+  pub some_item : All (λ a. 0 < a.items) g.actions

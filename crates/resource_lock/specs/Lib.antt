@@ -1,0 +1,15 @@
+pub mod Standing
+pub mod Change
+pub mod Good
+pub mod State
+pub mod Trying
+pub mod Outline
+pub mod Ranges
+pub mod Fits
+pub mod Made
+pub mod Parts
+pub mod Opening
+pub mod Holdings
+pub mod Counting
+pub mod Shape
+pub mod Leading

@@ -1,0 +1,151 @@
+//! Which numbers, tasks and actions a graph can be made of.
+ghost use Rattle.std.specs.Prelude.{◌≡◌, ◌≤◌, ◌<◌, ◌↔◌, ℕ, IsTrue, length, map, sum_by, All, slice_index_or};
+ghost use Rattle.resource_lock.specs.Outline.{outline_of, no_action};
+ghost use Rattle.resource_lock.specs.Ranges.{IsIn, units_in};
+ghost use Rattle.resource_lock.specs.Parts.{IsFitTask, IsFitAction};
+ghost use Rattle.resource_lock.specs.Fits.{Fits, Follow};
+ghost use Rattle.resource_lock.specs.Made.{made_of};
+
+use crate::graphs::{Graph, GraphAction, GraphTask};
+
+const MAX_WORKERS: u32 = 32;
+
+const MAX_LEASES: u32 = 32;
+
+const MAX_LOCKS: u32 = 4_096;
+
+const MAX_TASKS: usize = 2_048;
+
+const MAX_ACTIONS_PER_TASK: u32 = 8;
+
+const MAX_AFTER: usize = 64;
+
+const MAX_UNITS: u64 = 8_192;
+
+impl Graph {
+    /// Whether a graph can be made of these, in time linear in them and without memory.
+    ///
+    /// It can where there are 1 to 32 workers, leases from 1 to 32, at most 4,096 locks, 2,048 tasks,
+    /// 8 actions a task, 64 tasks in one `after` and 8,192 units; where each lock and each task in an
+    /// `after` is there; where the tasks' actions are ranges that follow one another over all actions,
+    /// and each action's `task` is the one whose range has it; and where the actions' units are ranges
+    /// that follow one another from 0, each with at least one item.
+    pub fn fits(
+        locks: u32,
+        workers: u32,
+        max: u32,
+        tasks: &[GraphTask],
+        actions: &[GraphAction],
+    ) -> bool
+        ensures { IsTrue result ↔ Fits (made_of locks workers max tasks.now actions.now) }
+    {
+        numbers_fit(locks, workers, max, tasks.len())
+            && tasks_fit(locks, tasks)
+            && ranges_fit(tasks, actions)
+    }
+}
+
+/// Whether the counts are within the limits.
+fn numbers_fit(locks: u32, workers: u32, max: u32, tasks: usize) -> bool
+    ensures { IsTrue result ↔ ((1 ≤ workers) × (workers ≤ 32) × (1 ≤ max) × (max ≤ 32) × (locks ≤ 4096) × (tasks ≤ 2048)) }
+{
+    (1..=MAX_WORKERS).contains(&workers)
+        && (1..=MAX_LEASES).contains(&max)
+        && locks <= MAX_LOCKS
+        && tasks <= MAX_TASKS
+}
+
+/// Whether each task's lock and the tasks that it comes after are in range, and within the limits.
+fn tasks_fit(locks: u32, tasks: &[GraphTask]) -> bool
+    ensures { IsTrue result ↔ All (λ t. IsFitTask locks (length tasks.now) (outline_of t)) tasks.now }
+{
+    tasks.iter().all(|task| task_fits(locks, tasks.len(), task))
+}
+
+fn task_fits(locks: u32, tasks: usize, task: &GraphTask) -> bool
+    ensures { IsTrue result ↔ IsFitTask locks tasks (outline_of task.now) }
+{
+    task.actions <= MAX_ACTIONS_PER_TASK
+        && task.after.len() <= MAX_AFTER
+        && task.lock.0 < locks
+        && task.after.iter().all(|&before| (before as usize) < tasks)
+}
+
+/// Whether the tasks' actions and the actions' units are ranges, and within the limits.
+fn ranges_fit(tasks: &[GraphTask], actions: &[GraphAction]) -> bool
+    ensures { IsTrue result ↔ ((Follow (λ t. t.first_action) (λ t. t.actions) 0 tasks.now (length actions.now))
+        × ((a : ℕ) → a < length actions.now → IsFitAction (map outline_of tasks.now) a (slice_index_or actions.now a no_action))
+        × (Follow (λ a. a.first_unit) units_in 0 actions.now (sum_by units_in actions.now))
+        × (sum_by units_in actions.now ≤ 8192)) }
+{
+    actions_follow(tasks, actions.len())
+        && actions_fit(tasks, actions)
+        && units_follow(actions)
+        && unit_count(actions) <= MAX_UNITS
+}
+
+/// Whether the tasks' actions are ranges one behind the other, up to this number.
+fn actions_follow(tasks: &[GraphTask], stop: usize) -> bool
+    ensures { IsTrue result ↔ Follow (λ t. t.first_action) (λ t. t.actions) 0 tasks.now stop }
+{
+    let mut next = 0;
+    for task in tasks {
+        if u64::from(task.first_action) != next {
+            return false;
+        }
+        next += u64::from(task.actions);
+    }
+    next == stop as u64
+}
+
+/// Whether each action has an item, and is in the range of its task.
+fn actions_fit(tasks: &[GraphTask], actions: &[GraphAction]) -> bool
+    ensures { IsTrue result ↔ ((a : ℕ) → a < length actions.now → IsFitAction (map outline_of tasks.now) a (slice_index_or actions.now a no_action)) }
+{
+    for (number, action) in actions.iter().enumerate() {
+        if !action_fits(tasks, number as u64, action) {
+            return false;
+        }
+    }
+    true
+}
+
+fn action_fits(tasks: &[GraphTask], number: u64, action: &GraphAction) -> bool
+    ensures { IsTrue result ↔ IsFitAction (map outline_of tasks.now) number action.now }
+{
+    let task = tasks.get(action.task as usize);
+    action.items > 0 && task.is_some_and(|task| has_action(task, number))
+}
+
+/// Whether an action is in a task's range.
+fn has_action(task: &GraphTask, action: u64) -> bool
+    ensures { IsTrue result ↔ IsIn task.now.first_action task.now.actions action }
+{
+    let first = u64::from(task.first_action);
+    (first..first + u64::from(task.actions)).contains(&action)
+}
+
+/// Whether the actions' units are ranges one behind the other.
+fn units_follow(actions: &[GraphAction]) -> bool
+    ensures { IsTrue result ↔ Follow (λ a. a.first_unit) units_in 0 actions.now (sum_by units_in actions.now) }
+{
+    let mut next = 0;
+    for action in actions {
+        if u64::from(action.first_unit) != next {
+            return false;
+        }
+        next = action.units_end();
+    }
+    true
+}
+
+/// How many units there are, where their ranges are one behind the other.
+pub(crate) fn unit_count(actions: &[GraphAction]) -> u64
+    requires { Follow (λ a. a.first_unit) units_in 0 actions.now (sum_by units_in actions.now) }
+    ensures { result ≡ sum_by units_in actions.now }
+{
+    match actions.last() {
+        Some(action) => action.units_end(),
+        None => 0,
+    }
+}

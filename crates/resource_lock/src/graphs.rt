@@ -1,0 +1,164 @@
+ghost use Rattle.std.specs.Prelude.{◌≡◌, map};
+ghost use Rattle.resource_lock.specs.Outline.{outline_of};
+ghost use Rattle.resource_lock.specs.Fits.{Fits};
+ghost use Rattle.resource_lock.specs.Made.{made_of};
+
+use crate::fitting::unit_count;
+use crate::ids::LockId;
+use std::marker::Model;
+
+/// What a worker does with its project lock while it waits for an action's items.
+#[derive(Clone, Copy, Debug, PartialEq, Eq)]
+pub enum Retention {
+    /// It keeps the lock.
+    Retain,
+    /// It gives the lock back for good.
+    Release,
+    /// It gives the lock back, and takes it again after the wait.
+    ReleaseAndReacquire,
+}
+
+/// A task: its project lock, the tasks that it comes after, and its range of actions.
+#[derive(Debug, Drop)]
+pub struct GraphTask {
+    pub lock: LockId,
+    pub after: Vec<u32>,
+    pub first_action: u32,
+    pub actions: u32,
+}
+
+/// An action: its task, the retention of the lock, and its range of units. Where it has a fetch,
+/// that is the first of them; the others are its items.
+#[derive(Clone, Copy, Debug)]
+pub struct GraphAction {
+    pub task: u32,
+    pub retention: Retention,
+    pub fetch: bool,
+    pub first_unit: u32,
+    pub items: u32,
+}
+
+impl GraphAction {
+    ghost use Rattle.std.specs.Prelude.{◌≡◌, ◌+◌};
+    ghost use Rattle.resource_lock.specs.Ranges.{first_item, units_in};
+
+    /// The first of the items, which stand behind the fetch.
+    pub(crate) fn first_item(&self) -> u64
+        ensures { result ≡ first_item self.now }
+    {
+        u64::from(self.first_unit) + u64::from(self.fetch)
+    }
+
+    /// The number behind the last unit.
+    pub(crate) fn units_end(&self) -> u64
+        ensures { result ≡ self.now.first_unit + units_in self.now }
+    {
+        u64::from(self.first_unit) + u64::from(self.fetch) + u64::from(self.items)
+    }
+}
+
+/// The locks, workers, leases, tasks, actions and units that a state belongs to. A graph always fits:
+/// its numbers are in range and within the limits, and its ranges follow one another.
+#[derive(Debug, Drop)]
+pub struct Graph {
+    locks: u32,
+    workers: u32,
+    max: u32,
+    units: u32,
+    tasks: Vec<GraphTask>,
+    actions: Vec<GraphAction>,
+}
+
+impl Model for Graph {
+    ghost use Rattle.std.specs.Prelude.{map};
+    ghost use Rattle.resource_lock.specs.Outline.{Outline, outline_of};
+    ghost use Rattle.resource_lock.specs.Fits.{Fits};
+
+    ghost Value = { Outline };
+
+    ghost view = { λ g. record {
+      locks = g.locks;
+      workers = g.workers;
+      max = g.max;
+      units = g.units;
+      tasks = map outline_of g.tasks.items;
+      actions = g.actions.items;
+    } };
+
+    ghost invariant = { λ g. Fits (record {
+      locks = g.locks;
+      workers = g.workers;
+      max = g.max;
+      units = g.units;
+      tasks = map outline_of g.tasks.items;
+      actions = g.actions.items;
+    }) };
+}
+
+impl Graph {
+    /// The graph that is made of these; `Graph::fits` tests whether one can be. It takes no memory.
+    pub fn new(
+        locks: u32,
+        workers: u32,
+        max: u32,
+        tasks: Vec<GraphTask>,
+        actions: Vec<GraphAction>,
+    ) -> Graph
+        requires { Fits (made_of locks workers max tasks.items actions.items) }
+        ensures { result ≡ made_of locks workers max tasks.items actions.items }
+    {
+        let units = unit_count(&actions) as u32;
+        Graph {
+            locks,
+            workers,
+            max,
+            units,
+            tasks,
+            actions,
+        }
+    }
+
+    /// How many locks there are, at most 4,096.
+    pub fn locks(&self) -> u32
+        ensures { result ≡ self.now.locks }
+    {
+        self.locks
+    }
+
+    /// How many workers there are, from 1 to 32.
+    pub fn workers(&self) -> u32
+        ensures { result ≡ self.now.workers }
+    {
+        self.workers
+    }
+
+    /// How many leases may be out at once, from 1 to 32.
+    pub fn max(&self) -> u32
+        ensures { result ≡ self.now.max }
+    {
+        self.max
+    }
+
+    /// How many units there are, at most 8,192.
+    pub fn units(&self) -> u32
+        ensures { result ≡ self.now.units }
+    {
+        self.units
+    }
+
+    /// The tasks by number, at most 2,048.
+    pub fn tasks(&self) -> &[GraphTask]
+        ensures value { map outline_of result.now ≡ self.now.tasks }
+        ensures fits { Fits self.now }
+    {
+        &self.tasks
+    }
+
+    /// The actions by number, at most 8 a task.
+    pub fn actions(&self) -> &[GraphAction]
+        ensures value { result.now ≡ self.now.actions }
+        ensures fits { Fits self.now }
+    {
+        &self.actions
+    }
+}

@@ -1,0 +1,20 @@
+//! The graph of a plan's tasks, and the state of a run of it: who owns which project lock, who has a
+//! lease, and how far each task, action and unit has come.
+#![tactic(auto)]
+
+mod changes;
+mod fitting;
+mod graphs;
+mod ids;
+mod marks;
+mod states;
+mod unit_ranges;
+
+pub use changes::Change;
+pub use graphs::{Graph, GraphAction, GraphTask, Retention};
+pub use ids::{LockId, WorkerId};
+pub use marks::{Mark, MarkId};
+pub use states::State;
+
+#[cfg(test)]
+mod tests;

@@ -1,0 +1,41 @@
+use crate::ids::WorkerId;
+
+/// What has a mark: a task, an action or a unit, by its number from 0.
+#[derive(Clone, Copy, Debug, PartialEq, Eq)]
+pub enum MarkId {
+    Task(u32),
+    Action(u32),
+    Unit(u32),
+}
+
+/// How far a task, an action or a unit has come.
+#[derive(Clone, Copy, Debug, PartialEq, Eq)]
+pub enum Mark {
+    /// Not begun.
+    Waiting,
+    /// Of a unit, ready to be claimed; of an action, its items are.
+    Queued,
+    /// Under way by the worker; of an action, that worker waits for its items.
+    Running(WorkerId),
+    /// Ended with success; of an action, the wait has ended, whatever became of its items.
+    Passed,
+    /// Ended without success.
+    Failed,
+    /// Ended without having run.
+    Skipped,
+}
+
+impl Mark {
+    ghost use Rattle.std.specs.Prelude.{◌≡◌};
+    ghost use Rattle.resource_lock.specs.Standing.{runs_by};
+
+    /// Whether the mark is Running by the worker.
+    pub fn runs_by(self, worker: WorkerId) -> bool
+        ensures { result ≡ runs_by worker self }
+    {
+        match self {
+            Mark::Running(runner) => runner.0 == worker.0,
+            _ => false,
+        }
+    }
+}

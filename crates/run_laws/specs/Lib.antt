@@ -1,0 +1,10 @@
+pub mod Marks
+pub mod Outcomes
+pub mod InOrder
+pub mod Runs
+pub mod Closing
+pub mod ClosedBy
+pub mod Answers
+pub mod Own
+pub mod WorkedRows
+pub mod ByNumber

@@ -1,0 +1,3 @@
+mod Gathering
+pub mod Printing
+pub mod Telling

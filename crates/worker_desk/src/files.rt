@@ -1,0 +1,55 @@
+ghost use Rattle.std.specs.Prelude.{◌≡◌, ℕ, ◌≤◌, Option, IfOk};
+ghost use Rattle.std.specs.Result.{IsErrOf};
+ghost use Rattle.item_actions.specs.Files.{Folder};
+ghost use Rattle.worker_desk.specs.Sunk.{Rises};
+ghost use Rattle.worker_desk.specs.Reading.{IsWithin, ReadsFrom, reading_of};
+
+use item_actions::Text;
+use std::alloc::{AllocError, Global};
+
+/// What there is under a file's name.
+#[derive(Debug, Drop)]
+pub enum Read {
+    /// The file's bytes.
+    Bytes(Vec<u8>),
+    /// There is no file of that name.
+    NotThere,
+    /// The file has more bytes than the limit.
+    TooLong,
+}
+
+/// Why a call on the outside gave no answer.
+#[derive(Clone, Copy, Debug, PartialEq, Eq)]
+pub enum DeskFail {
+    /// The outside failed, and the count of its faults rose.
+    Failed,
+    /// There was no memory.
+    NoMemory,
+}
+
+impl From<AllocError> for DeskFail {
+    ghost use Rattle.worker_desk.specs.declared.files.DeskFail.TheVariants.{NoMemory};
+
+    ghost from_gives = { λ _ fail. fail ≡ NoMemory };
+
+    fn from(_error: AllocError) -> DeskFail {
+        DeskFail::NoMemory
+    }
+}
+
+/// Files that are read whole, by their names.
+pub trait Files {
+    /// The files by name, where told. No call changes them.
+    ghost files: { Self → Option Folder };
+
+    /// How often the outside failed; it stands still at 2^64 - 1.
+    ghost faults: { Self → ℕ };
+
+    /// Reads the file of this name, if it has at most `limit` bytes.
+    fn read(&mut self, alloc: Global, name: &Text, limit: u64) -> Result<Read, DeskFail>
+        ensures files { files self.new ≡ files self.old }
+        ensures kept { faults self.old ≤ faults self.new }
+        ensures failed { IsErrOf result DeskFail.Failed → Rises (faults self.old) (faults self.new) }
+        ensures within { IfOk result (λ read. IsWithin limit (reading_of read)) }
+        ensures told { ReadsFrom (files self.old) name.now limit result };
+}

@@ -1,0 +1,113 @@
+ghost use Rattle.std.specs.Prelude.{◌≡◌, Some, IfOk, IfSome};
+ghost use Rattle.worker_desk.specs.Reading.{IsWithin, reading, reading_of};
+
+use crate::files::{DeskFail, Files, Read};
+use crate::read_buffers::ReadBuffer;
+use crate::retries::Retries;
+use item_actions::Text;
+use std::alloc::Global;
+use std::fs::{File, OpenFile};
+use std::io::ErrorKind;
+use std::marker::Model;
+use std::{io, rt};
+
+/// A desk that reads the files of the current folder. It doesn't tell them.
+#[derive(Drop)]
+pub struct FolderDesk<R: Drop> {
+    rt: R,
+    faults: u64,
+}
+
+impl<R: Drop> Model for FolderDesk<R> {
+    ghost use Rattle.std.specs.Prelude.{ℕ};
+
+    ghost Value = { ℕ };
+
+    ghost view = { λ d. d.faults };
+}
+
+impl<R: Drop> FolderDesk<R> {
+    /// A desk that reads by this runtime. Contracts see its count of faults, which starts at 0.
+    pub fn new(rt: R) -> FolderDesk<R>
+        ensures { result ≡ 0 }
+    {
+        FolderDesk { rt, faults: 0 }
+    }
+
+    /// How many calls failed.
+    pub fn count(&self) -> u64
+        ensures { result ≡ self.now }
+    {
+        self.faults
+    }
+}
+
+impl<R: rt::Files + Drop> Files for FolderDesk<R> {
+    ghost use Rattle.std.specs.Prelude.{None};
+
+    ghost files = { λ _. None };
+
+    ghost faults = { λ d. d };
+
+    fn read(&mut self, alloc: Global, name: &Text, limit: u64) -> Result<Read, DeskFail> {
+        let read = read_named(&self.rt, alloc, name.as_str(), limit);
+        if matches!(read, Err(DeskFail::Failed)) {
+            self.faults = self.faults.saturating_add(1);
+        }
+        read
+    }
+}
+
+fn read_named<R: rt::Files>(rt: &R, alloc: Global, name: &str, limit: u64) -> Result<Read, DeskFail>
+    ensures { IfOk result (λ read. IsWithin limit (reading_of read)) }
+{
+    let mut retries = Retries::new();
+    match open(rt, name, &mut retries) {
+        Ok(mut file) => {
+            let size = file.metadata().map_or(0, |data| data.len());
+            read_open(&mut file, alloc, size, limit, &mut retries)
+        }
+        Err(error) if error.kind() == ErrorKind::NotFound => Ok(Read::NotThere),
+        Err(error) => Err(fail_of(&error)),
+    }
+}
+
+fn open<R: rt::Files>(rt: &R, name: &str, retries: &mut Retries) -> io::Result<R::File> {
+    loop {
+        match File::open(rt, name) {
+            Err(error) if retries.allow(&error) => {}
+            opened => return opened,
+        }
+    }
+}
+
+// Reads an open file to its end, if it has at most `limit` bytes. Its size is only a guess.
+fn read_open<F: io::Read>(
+    file: &mut F,
+    alloc: Global,
+    size: u64,
+    limit: u64,
+    retries: &mut Retries,
+) -> Result<Read, DeskFail>
+    ensures within { IfOk result (λ read. IsWithin limit (reading_of read)) }
+    ensures told { IfSome (F.remaining file.old) (λ bytes.
+        IfOk result (λ read. reading_of read ≡ reading (Some bytes) limit)) }
+{
+    let mut buffer = ReadBuffer::new(alloc, limit);
+    while !buffer.is_over() {
+        match buffer.read_more(file, size) {
+            Ok(0) => return Ok(Read::Bytes(buffer.into_bytes())),
+            Ok(_) => {}
+            Err(error) if retries.allow(&error) => {}
+            Err(error) => return Err(fail_of(&error)),
+        }
+    }
+    Ok(Read::TooLong)
+}
+
+fn fail_of(error: &io::Error) -> DeskFail {
+    match error.kind() {
+        ErrorKind::OutOfMemory => DeskFail::NoMemory,
+        _ => DeskFail::Failed,
+    }
+}

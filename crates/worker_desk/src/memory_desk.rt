@@ -1,0 +1,71 @@
+ghost use Rattle.std.specs.Prelude.{◌≡◌, ◌↔◌, Some, IfOk, IsTrue};
+ghost use Rattle.std.specs.Result.{IsErrOf};
+ghost use Rattle.worker_desk.specs.Calls.{no_calls, next_fails};
+ghost use Rattle.worker_desk.specs.Memory.{after_read};
+ghost use Rattle.worker_desk.specs.Reading.{ReadsFrom};
+
+use crate::calls::Calls;
+use crate::file_map::FileMap;
+use crate::files::{DeskFail, Files, Read};
+use item_actions::Text;
+use std::alloc::{AllocError, Global};
+use std::marker::Model;
+
+/// A desk whose files are in memory, and told.
+#[derive(Debug, Drop)]
+pub struct MemoryDesk {
+    files: FileMap,
+    calls: Calls,
+}
+
+impl Model for MemoryDesk {
+    ghost use Rattle.worker_desk.specs.Memory.{DeskStore};
+
+    ghost Value = { DeskStore };
+
+    ghost view = { λ d. record { files = d.files; log = d.calls } };
+}
+
+impl MemoryDesk {
+    /// A desk of these files. Its calls are numbered from 0, and those of the numbers in
+    /// `failing` fail.
+    pub fn new(_alloc: Global, files: FileMap, failing: Vec<u64>) -> Result<MemoryDesk, AllocError>
+        ensures { IfOk result (λ desk.
+            desk ≡ record { files = files; log = no_calls failing.items }) }
+    {
+        let calls = Calls::new(failing);
+        Ok(MemoryDesk { files, calls })
+    }
+
+    /// How many calls failed.
+    pub fn count(&self) -> u64
+        ensures { result ≡ self.now.log.faults }
+    {
+        self.calls.faults()
+    }
+}
+
+impl Files for MemoryDesk {
+    ghost use Rattle.std.specs.Prelude.{Some};
+
+    ghost files = { λ d. Some d.files };
+
+    ghost faults = { λ d. d.log.faults };
+
+    fn read(&mut self, alloc: Global, name: &Text, limit: u64) -> Result<Read, DeskFail>
+        ensures failed { IsErrOf result DeskFail.Failed ↔ IsTrue (next_fails self.old.log) }
+        ensures after { self.new ≡ after_read self.old }
+        ensures told { ReadsFrom (Some self.old.files) name.now limit result }
+    {
+        let fails = self.calls.next_fails();
+        self.calls.add(fails);
+        if fails {
+            return Err(DeskFail::Failed);
+        }
+        match self.files.find(name) {
+            None => Ok(Read::NotThere),
+            Some(bytes) if bytes.len() as u64 > limit => Ok(Read::TooLong),
+            Some(bytes) => Ok(Read::Bytes(Vec::from_slice(alloc, bytes)?)),
+        }
+    }
+}

@@ -1,0 +1,128 @@
+ghost use Rattle.std.specs.Prelude.{◌≡◌, ◌⊎◌, ℕ, ◌+◌, ◌≤◌, List, [], ◌++◌, length, decimal};
+ghost use Rattle.worker_desk.specs.Sunk.{Sunk, Prints};
+ghost use Rattle.worker_desk.specs.Paper.{blank, Adds, Told};
+
+use crate::sinks::{Failed, Sink, put_all};
+use itoa::Buffer;
+use std::marker::Model;
+
+const SIZE: usize = 4096;
+
+/// Text that is gathered before it goes to a sink, so that many short texts cost few calls of it.
+///
+/// A page takes no memory. Once the sink failed, what is told after that goes nowhere.
+#[derive(Drop)]
+pub struct Page {
+    bytes: [u8; SIZE],
+    len: usize,
+    failed: bool,
+}
+
+impl Model for Page {
+    ghost use Rattle.std.specs.Prelude.{◌≤◌, take};
+    ghost use Rattle.worker_desk.specs.Paper.{Paper};
+
+    ghost Value = { Paper };
+
+    ghost view = { λ p. record { waiting = take p.len p.bytes; failed = p.failed } };
+
+    ghost invariant = { λ p. p.len ≤ 4096 };
+}
+
+impl Page {
+    /// A page with nothing on it.
+    pub fn new() -> Page
+        ensures { result ≡ blank }
+    {
+        Page {
+            bytes: [0; SIZE],
+            len: 0,
+            failed: false,
+        }
+    }
+
+    fn room(&self) -> usize
+        ensures { result + length self.now.waiting ≡ 4096 }
+    {
+        SIZE - self.len
+    }
+
+    // Puts a piece that fits behind what waits.
+    fn copy(&mut self, piece: &[u8])
+        requires { length self.old.waiting + length piece.now ≤ 4096 }
+        ensures { self.new ≡ record self.old { waiting = self.old.waiting ++ piece.now } }
+    {
+        let end = self.len + piece.len();
+        self.bytes[self.len..end].copy_from_slice(piece);
+        self.len = end;
+    }
+
+    // Sends what waits.
+    fn flush<K: Sink>(&mut self, sink: &mut K)
+        ensures adds { Adds (K.seen sink.old) self.old (K.seen sink.new) self.new [] }
+        ensures empty { self.new.waiting ≡ [] }
+    {
+        if !self.failed {
+            self.failed = put_all(sink, &self.bytes[..self.len]).is_err();
+        }
+        self.len = 0;
+    }
+
+    // Sends a piece past the page, where nothing waits.
+    fn through<K: Sink>(&mut self, sink: &mut K, piece: &[u8])
+        requires { self.old.waiting ≡ [] }
+        ensures { Adds (K.seen sink.old) self.old (K.seen sink.new) self.new piece.now }
+    {
+        if !self.failed {
+            self.failed = put_all(sink, piece).is_err();
+        }
+    }
+
+    // Sends what waits where a piece of this length doesn't fit behind it.
+    fn make_room<K: Sink>(&mut self, sink: &mut K, len: usize)
+        ensures adds { Adds (K.seen sink.old) self.old (K.seen sink.new) self.new [] }
+        ensures room { (len + length self.new.waiting ≤ 4096) ⊎ (self.new.waiting ≡ []) }
+    {
+        if self.room() < len {
+            self.flush(sink);
+        }
+    }
+
+    /// Tells a text to the sink.
+    pub fn text<K: Sink>(&mut self, sink: &mut K, piece: &[u8])
+        ensures { Adds (K.seen sink.old) self.old (K.seen sink.new) self.new piece.now }
+    {
+        self.make_room(sink, piece.len());
+        if piece.len() <= self.room() {
+            self.copy(piece);
+        } else {
+            self.through(sink, piece);
+        }
+    }
+
+    /// Tells a number in decimal digits.
+    pub fn number<K: Sink>(&mut self, sink: &mut K, n: u64)
+        ensures { Adds (K.seen sink.old) self.old (K.seen sink.new) self.new (decimal n) }
+    {
+        let mut digits = Buffer::new();
+        self.text(sink, digits.format(n).as_bytes());
+    }
+
+    /// Tells a number of up to 128 bits in decimal digits.
+    pub fn number128<K: Sink>(&mut self, sink: &mut K, n: u128)
+        ensures { Adds (K.seen sink.old) self.old (K.seen sink.new) self.new (decimal n) }
+    {
+        let mut digits = Buffer::new();
+        self.text(sink, digits.format(n).as_bytes());
+    }
+
+    /// Sends the rest. It is Failed where the sink failed at any of the texts, of which it then took
+    /// a front.
+    pub fn end<K: Sink>(mut self, sink: &mut K) -> Result<(), Failed>
+        ensures { (start : Sunk) (text : List ℕ) →
+            Told start (K.seen sink.old) self text → Prints start (K.seen sink.new) text result }
+    {
+        self.flush(sink);
+        if self.failed { Err(Failed) } else { Ok(()) }
+    }
+}

@@ -1,0 +1,107 @@
+ghost use Rattle.std.specs.Prelude.{◌≡◌, ◌≤◌, ◌<◌, ◌+◌, [], length, take, drop, vec_len, IfOk, OnOk, OnErr, IsTrue, ◌↔◌};
+ghost use Rattle.std.specs.Io.KnownBytes.{Consumes, IsAtEnd, Keeps};
+ghost use Rattle.worker_desk.specs.Gathered.{ReadGathers};
+
+use std::alloc::{AllocError, Global};
+use std::io;
+use std::marker::Model;
+
+/// The least room that is made for a read.
+const LEAST_ROOM: u64 = 4096;
+
+/// What was read of a file so far, in one buffer that grows as it fills. It never has room for more
+/// than a byte over the limit.
+#[derive(Drop)]
+pub(crate) struct ReadBuffer {
+    room: Vec<u8>,
+    filled: usize,
+    limit: u64,
+}
+
+impl Model for ReadBuffer {
+    ghost use Rattle.std.specs.Prelude.{◌≤◌, ◌+◌, vec_len, take};
+    ghost use Rattle.worker_desk.specs.Gathered.{Gathered};
+
+    ghost Value = { Gathered };
+
+    ghost view = { λ b. record { bytes = take b.filled b.room.items; limit = b.limit } };
+
+    ghost invariant = { λ b. (b.filled ≤ vec_len b.room) × (vec_len b.room ≤ b.limit + 1) };
+}
+
+impl ReadBuffer {
+    /// A buffer with nothing in it.
+    pub fn new(alloc: Global, limit: u64) -> ReadBuffer
+        ensures { result ≡ record { bytes = []; limit = limit } }
+    {
+        ReadBuffer {
+            room: Vec::new(alloc),
+            filled: 0,
+            limit,
+        }
+    }
+
+    /// Whether more bytes are in it than the limit.
+    pub fn is_over(&self) -> bool
+        ensures { IsTrue result ↔ (self.now.limit < length self.now.bytes) }
+    {
+        self.filled as u64 > self.limit
+    }
+
+    /// The bytes in it.
+    pub fn into_bytes(self) -> Vec<u8>
+        ensures { result.items ≡ self.bytes }
+    {
+        let ReadBuffer {
+            mut room,
+            filled,
+            limit: _,
+        } = self;
+        room.truncate(filled);
+        room
+    }
+
+    /// Reads once. A buffer that is full grows first, to `expected` bytes and one if that is more.
+    pub fn read_more<F: io::Read>(&mut self, file: &mut F, expected: u64) -> io::Result<usize>
+        requires { length self.old.bytes ≤ self.old.limit }
+        ensures { ReadGathers (F.remaining file.old) (F.remaining file.new) self.old self.new result }
+    {
+        grow(&mut self.room, self.filled, expected, self.limit)?;
+        let read = read_at(file, &mut self.room, self.filled)?;
+        self.filled += read;
+        Ok(read)
+    }
+}
+
+// Makes the buffer longer than what is filled.
+fn grow(room: &mut Vec<u8>, filled: usize, expected: u64, limit: u64) -> Result<(), AllocError>
+    requires filled { filled ≤ vec_len room.old }
+    requires within { filled ≤ limit }
+    requires most { vec_len room.old ≤ limit + 1 }
+    ensures front { take filled room.new.items ≡ take filled room.old.items }
+    ensures filled { filled ≤ vec_len room.new }
+    ensures longer { OnOk result (filled < vec_len room.new) }
+    ensures most { vec_len room.new ≤ limit + 1 }
+{
+    if filled < room.len() {
+        return Ok(());
+    }
+    let least = expected
+        .saturating_add(1)
+        .max(LEAST_ROOM)
+        .max(2 * filled as u64);
+    room.resize(least.min(limit.saturating_add(1)) as usize, 0)
+}
+
+fn read_at<F: io::Read>(file: &mut F, room: &mut Vec<u8>, filled: usize) -> io::Result<usize>
+    requires { filled < vec_len room.old }
+    ensures len { vec_len room.new ≡ vec_len room.old }
+    ensures front { take filled room.new.items ≡ take filled room.old.items }
+    ensures fits { IfOk result (λ n. filled + n ≤ vec_len room.new) }
+    ensures ok { IfOk result (λ n.
+        Consumes (F.remaining file.old) (F.remaining file.new) (take n (drop filled room.new.items))) }
+    ensures end { IfOk result (λ n. n ≡ 0 → IsAtEnd (F.remaining file.new)) }
+    ensures err { OnErr result (Keeps (F.remaining file.old) (F.remaining file.new)) }
+{
+    file.read(&mut room[filled..])
+}

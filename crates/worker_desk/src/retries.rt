@@ -1,0 +1,33 @@
+ghost use Rattle.std.specs.Prelude.{◌≡◌, ◌↔◌, ◌-◌, ◌<◌, IsTrue, if◌then◌else◌};
+ghost use Rattle.std.specs.IoError.{error_kind};
+
+use std::io::{Error, ErrorKind};
+
+// How often an interrupted call is made again, within one call of a sink or a desk.
+const MOST_RETRIES: u32 = 1000;
+
+/// The retries that are left.
+#[derive(Clone, Copy, Debug)]
+pub(crate) struct Retries {
+    left: u32,
+}
+
+impl Retries {
+    pub fn new() -> Retries
+        ensures { result.left ≡ 1000 }
+    {
+        Retries { left: MOST_RETRIES }
+    }
+
+    /// Uses up one retry where the error is an interrupted call and a retry is left.
+    pub fn allow(&mut self, error: &Error) -> bool
+        ensures allowed { IsTrue result ↔ ((error_kind error.now ≡ ErrorKind.Interrupted) × (0 < self.old.left)) }
+        ensures left { self.new.left ≡ (if result then self.old.left - 1 else self.old.left) }
+    {
+        let allowed = error.kind() == ErrorKind::Interrupted && self.left > 0;
+        if allowed {
+            self.left -= 1;
+        }
+        allowed
+    }
+}
