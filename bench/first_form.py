@@ -19,8 +19,10 @@ ITEMS = [1024, 2048, 4096, 8192]
 TASKS = 2048
 WORDS = ["--max-workers", "1", "--threads", "1", "--history"]
 
-# The goals: instructions a unit with the plan's reading, growth from 2,048 to 8,192 items, peak memory.
+# The goals: instructions a unit with the plan's reading, those of a transform of the run without the reading
+# of files, growth from 2,048 to 8,192 items, and peak memory.
 MOST_A_UNIT = 15_000
+MOST_A_TRANSFORM = 1_500
 MOST_GROWTH = 4.3
 MOST_KILOBYTES = 40 * 1024
 
@@ -42,15 +44,37 @@ def make_folder(folder: pathlib.Path, items: int) -> None:
     (folder / "plan.toml").write_text(plan_text(items))
 
 
-def instructions(program: str, folder: pathlib.Path) -> int:
-    call = ["valgrind", "--tool=callgrind", "--callgrind-out-file=/dev/null", program, "run", "plan.toml", *WORDS]
-    run = subprocess.run(call, cwd=folder, stdout=subprocess.DEVNULL, stderr=subprocess.PIPE, text=True)
-    if run.returncode != 0:
-        sys.exit(f"the program ended with {run.returncode}:\n{run.stderr}")
-    found = re.search(r"Collected\s*:\s*(\d+)", run.stderr)
-    if found is None:
-        sys.exit(f"callgrind printed no count:\n{run.stderr}")
-    return int(found.group(1))
+class Counts:
+    """What callgrind counted of one run: all instructions, and those of the transforms, with their number."""
+
+    def __init__(self, program: str, folder: pathlib.Path) -> None:
+        profile = folder / "callgrind.out"
+        call = ["valgrind", "--tool=callgrind", f"--callgrind-out-file={profile}", program, "run", "plan.toml", *WORDS]
+        run = subprocess.run(call, cwd=folder, capture_output=True, text=True)
+        if run.returncode != 0:
+            sys.exit(f"the program ended with {run.returncode}:\n{run.stderr}")
+        found = re.search(r"Collected\s*:\s*(\d+)", run.stderr)
+        if found is None:
+            sys.exit(f"callgrind printed no count:\n{run.stderr}")
+        self.all = int(found.group(1))
+        self.entries = int(run.stdout.split()[-1])
+        parts = inclusive(profile)
+        # A run without the reading of its files; the plan is read by another function.
+        files = parts.get("FolderDeskFiles::read", 0)
+        self.transforms = parts.get("build_runner::runs::run_plan", 0) - files
+
+
+def inclusive(profile: pathlib.Path) -> dict[str, int]:
+    """The instructions of the functions that the count of transforms needs, with all that they call."""
+    call = ["callgrind_annotate", "--inclusive=yes", str(profile)]
+    lines = subprocess.run(call, capture_output=True, text=True).stdout.splitlines()
+    parts = {}
+    for line in lines:
+        for name in ("FolderDeskFiles::read", "build_runner::runs::run_plan"):
+            found = re.match(r"\s*([\d,]+) .*" + re.escape(name), line)
+            if found is not None and name not in parts:
+                parts[name] = int(found.group(1).replace(",", ""))
+    return parts
 
 
 def peak_kilobytes(program: str, folder: pathlib.Path) -> int:
@@ -66,11 +90,11 @@ def peak_kilobytes(program: str, folder: pathlib.Path) -> int:
     return usage.ru_maxrss
 
 
-def measure(program: str, items: int) -> tuple[int, int]:
+def measure(program: str, items: int) -> tuple[Counts, int]:
     with tempfile.TemporaryDirectory() as name:
         folder = pathlib.Path(name)
         make_folder(folder, items)
-        return instructions(program, folder), peak_kilobytes(program, folder)
+        return Counts(program, folder), peak_kilobytes(program, folder)
 
 
 def main() -> None:
@@ -83,11 +107,13 @@ def main() -> None:
         sys.exit("the program isn't built: run ./leases once")
     totals = {}
     for items in ITEMS:
-        count, kilobytes = measure(program, items)
-        totals[items] = count
+        counts, kilobytes = measure(program, items)
+        totals[items] = counts.all
         print(
-            f"{items:5} items in {min(items, TASKS):4} tasks: {count:12} instructions, {count // items:6} a unit"
-            f" (goal {MOST_A_UNIT}), peak {kilobytes} KB (goal {MOST_KILOBYTES})"
+            f"{items:5} items in {min(items, TASKS):4} tasks: {counts.all:12} instructions,"
+            f" {counts.all // items:6} a unit (goal {MOST_A_UNIT}),"
+            f" {counts.transforms // counts.entries:5} a transform (goal {MOST_A_TRANSFORM}),"
+            f" peak {kilobytes} KB (goal {MOST_KILOBYTES})"
         )
     growth = totals[8192] / totals[2048]
     print(f"growth from 2048 to 8192 items: {growth:.2f} (goal {MOST_GROWTH})")
