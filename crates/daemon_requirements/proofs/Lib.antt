@@ -1,0 +1,3 @@
+mod Coverings
+mod Membership
+mod Twice

@@ -1,0 +1,4 @@
+pub mod Covers
+pub mod Profile
+pub mod Refusals
+pub mod Rules

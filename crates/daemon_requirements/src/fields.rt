@@ -1,0 +1,29 @@
+use item_actions::Text;
+
+/// A system property or an environment variable.
+#[derive(Debug, Drop)]
+pub struct Pair {
+    pub name: Text,
+    pub value: Text,
+}
+
+/// What a daemon is started with, not yet tested.
+#[derive(Debug, Drop)]
+pub struct RequirementFields {
+    /// The program that is started.
+    pub executable: Text,
+    /// The greatest size of the heap, in MB; `Requirements::of` wants 1 to 65,536.
+    pub heap_mb: u32,
+    /// The arguments of the program, in order.
+    pub args: Vec<Text>,
+    /// The system properties; `Requirements::of` wants distinct names.
+    pub properties: Vec<Pair>,
+    /// The environment variables; `Requirements::of` wants distinct names.
+    pub variables: Vec<Pair>,
+    /// Whether a debugger may attach.
+    pub debug: bool,
+    /// Whether assertions are tested.
+    pub assertions: bool,
+    /// The name of the default encoding of characters.
+    pub encoding: Text,
+}

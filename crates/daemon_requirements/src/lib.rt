@@ -1,0 +1,17 @@
+//! What a worker daemon must be started with, and which daemon serves for what is asked.
+#![tactic(auto)]
+
+mod copies;
+mod fields;
+mod links;
+mod names;
+mod requirement;
+mod rules;
+
+pub use fields::{Pair, RequirementFields};
+pub use links::Linked;
+pub use requirement::{PairList, RequirementRefusal, Requirements};
+pub use rules::{FieldRule, FieldTable, REQUIREMENT_TABLE};
+
+#[cfg(test)]
+mod tests;

@@ -1,0 +1,109 @@
+ghost use Rattle.std.specs.Prelude.{◌≡◌, ◌↔◌, IsTrue, IfOk, IfErr};
+ghost use Rattle.std.specs.Result.{OkIff};
+ghost use Rattle.daemon_requirements.specs.Profile.{profile_of, IsProfile};
+ghost use Rattle.daemon_requirements.specs.Covers.{Covers};
+ghost use Rattle.daemon_requirements.specs.Refusals.{IsCauseOf};
+
+use crate::copies::copy_fields;
+use crate::fields::RequirementFields;
+use crate::names::first_twice;
+use crate::rules::{Field, REQUIREMENT_TABLE};
+use std::alloc::{AllocError, Global};
+use std::marker::Model;
+
+const MOST_HEAP_MB: u32 = 65536;
+
+/// A list of pairs in `RequirementFields`.
+#[derive(Clone, Copy, Debug, PartialEq, Eq)]
+pub enum PairList {
+    /// The system properties.
+    Properties,
+    /// The environment variables.
+    Variables,
+}
+
+/// Why fields are no requirements.
+#[derive(Clone, Copy, Debug, PartialEq, Eq)]
+pub enum RequirementRefusal {
+    /// The heap is outside 1 to 65,536 MB.
+    HeapRange,
+    /// In this list the pair at this position, counted from 0, is the first that has the name of an earlier
+    /// one.
+    TwiceNamed(PairList, usize),
+}
+
+/// What a worker daemon is started with, or what an item asks of it: a heap of 1 to 65,536 MB, and
+/// properties and variables of distinct names.
+#[derive(Debug, Drop)]
+pub struct Requirements {
+    fields: RequirementFields,
+}
+
+impl Model for Requirements {
+    ghost use Rattle.daemon_requirements.specs.Profile.{Profile, profile_of, IsProfile};
+
+    ghost Value = { Profile };
+
+    ghost view = { λ r. profile_of r.fields };
+
+    ghost invariant = { λ r. IsProfile (profile_of r.fields) };
+}
+
+impl Requirements {
+    /// The requirements with these fields; it takes no memory. HeapRange comes first, exactly where the heap is
+    /// outside 1 to 65,536 MB; then TwiceNamed for the properties, and then for the variables. Refused fields
+    /// are dropped.
+    pub fn of(fields: RequirementFields) -> Result<Requirements, RequirementRefusal>
+        ensures made { OkIff result (IsProfile (profile_of fields)) (profile_of fields) }
+        ensures refused { IfErr result (λ refusal. IsCauseOf refusal (profile_of fields)) }
+    {
+        if fields.heap_mb < 1 || fields.heap_mb > MOST_HEAP_MB {
+            return Err(RequirementRefusal::HeapRange);
+        }
+        if let Some(place) = first_twice(&fields.properties) {
+            return Err(RequirementRefusal::TwiceNamed(PairList::Properties, place));
+        }
+        if let Some(place) = first_twice(&fields.variables) {
+            return Err(RequirementRefusal::TwiceNamed(PairList::Variables, place));
+        }
+        Ok(Requirements { fields })
+    }
+
+    /// Whether a daemon that was started with these requirements serves for `asked`: field by field, by the
+    /// table of rules. It takes no memory.
+    pub fn covers(&self, asked: &Requirements) -> bool
+        ensures { IsTrue result ↔ Covers self.now asked.now }
+    {
+        let daemon = &self.fields;
+        let asked = &asked.fields;
+        // Each field by the rule at its position in the table.
+        macro_rules! compare_each {
+            ($($field:ident),*) => {
+                let [$($field),*] = REQUIREMENT_TABLE.rules;
+                $(if !daemon.$field.serves($field, &asked.$field) {
+                    return false;
+                })*
+            };
+        }
+        compare_each!(
+            executable, heap_mb, args, properties, variables, debug, assertions, encoding
+        );
+        true
+    }
+
+    /// The fields.
+    pub fn fields(&self) -> &RequirementFields
+        ensures value { profile_of result.now ≡ self.now }
+        ensures profile { IsProfile self.now }
+    {
+        &self.fields
+    }
+
+    /// Equal requirements. The error is want of memory alone.
+    pub fn copy(&self, alloc: Global) -> Result<Requirements, AllocError>
+        ensures { IfOk result (λ copy. copy ≡ self.now) }
+    {
+        let fields = copy_fields(alloc, &self.fields)?;
+        Ok(Requirements { fields })
+    }
+}
