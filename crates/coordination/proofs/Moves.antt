@@ -1,0 +1,275 @@
+-- Each step keeps the rule.
+use Rattle.std.proofs.Common.{◌≡◌, ◌≢◌, ℕ, zero, suc, eqb, ◌+◌, ◌-◌, ◌<◌, ◌^◌, List, [], ◌∷◌, ◌++◌, length, get_or, set, Option, Some, None, refl, sym, ap, ◌∙◌, subst, ⊎_elim, arith, length-set, get_or-set_same, eq-eqb, ne_eqb}
+use Rattle.std.specs.List.{All}
+use Rattle.std.proofs.lemmas.List.{get_or-set_other}
+use Rattle.std.proofs.lemmas.List.Elements.{All-nil, All-cons, All-head, All-weaker}
+use mathlib.Core.Logic.{dite}
+use mathlib.Core.Option.{some, none, some-injective, some-ne-none}
+use native.Mathlib.Decide.{ℕ_discrete}
+use prog.Atomic.{either}
+use lib.ListN.{get_elem?}
+use Rattle.atomic_table.specs.Table.{State, Act, Valid, carried_after, step, keeps, takes, gives, stepped, Allows}
+use Rattle.atomic_table.proofs.Lists.{at_set, set_here, set_again}
+use Rattle.resource_lock.specs.Outline.{Outline}
+use Rattle.resource_lock.specs.declared.ids.WorkerId.{WorkerId}
+use Rattle.lock_journal.specs.Journal.{Journal}
+use Rattle.coordination.specs.declared.rule.Sight.{Sight}
+use Rattle.coordination.specs.declared.rule.SeatView.{SeatView}
+use Rattle.coordination.specs.Sights.{seeing, stopping, hearing, one, holding}
+use Rattle.coordination.specs.Agrees.{Agrees, IsSound}
+use Rattle.coordination.specs.Rule.{AddsOwn, FitsSight, OutFits, busy_of, home_of, Orderly, taken, put_back, stopped_at, heard, marked}
+use Rattle.coordination.proofs.Growing.{goes_on, agrees_self, agrees_then}
+
+abbrev pub S : Type 0
+S = State Journal SeatView
+
+-- a fact of each seat, after the view of one has changed
+pub set_views : (P : ℕ → SeatView → Type 0) (views : List SeatView) (id : ℕ) (w : SeatView) → ((j : ℕ) (u : SeatView) → j ≢ id → get_elem? views j ≡ some u → P j u) → P id w
+    → (j : ℕ) (u : SeatView) → get_elem? (set views id w) j ≡ some u → P j u
+set_views P views id w others mine j u e =
+    ⊎_elim
+    (λ (x : (j ≡ id) × (w ≡ u)). subst (λ (y : ℕ × SeatView). P y.0 y.1) (λ i. (sym x.0 i, x.1 i)) mine)
+    (λ (x : (j ≢ id) × (get_elem? views j ≡ some u)). others j u x.0 x.1)
+    (at_set views id j w u e)
+
+-- the same after a view has come behind the others
+pub more_views : (P : ℕ → SeatView → Type 0) (views : List SeatView) (w : SeatView) → ((j : ℕ) (u : SeatView) → get_elem? views j ≡ some u → P j u) → P (length views) w
+    → (j : ℕ) (u : SeatView) → get_elem? (views ++ w ∷ []) j ≡ some u → P j u
+more_views P [] w others mine zero u e = subst (P 0) (some-injective w u e) mine
+more_views P [] w others mine (suc j) u e = absurd (some-ne-none u (sym e))
+more_views P (x ∷ xs) w others mine zero u e = others 0 u e
+more_views P (x ∷ xs) w others mine (suc j) u e = more_views (λ k. P (suc k)) xs w (λ k v at. others (suc k) v at) mine j u e
+
+pub there : (views : List SeatView) (k : ℕ) (v : SeatView) → get_elem? views k ≡ some v → k < length views
+there [] k v e = absurd (some-ne-none v (sym e))
+there (x ∷ xs) zero v e = omega arith
+there (x ∷ xs) (suc k) v e = let h = there xs k v e in omega arith
+
+inside_of : (l : List SeatView) (id : ℕ) (w : SeatView) → id < length l → (k : ℕ) → Some id ≡ Some k → k < length (set l id w)
+inside_of l id w h k e = let same : id ≡ k = cc in let long = length-set l id w in omega arith
+
+alone : (n mark : ℕ) (book : Journal) (owner : ℕ → ℕ) (id : ℕ) (h : Sight) → FitsSight n mark book owner id h → All (FitsSight n mark book owner id) (h ∷ [])
+alone n mark book owner id h fit = All-cons (FitsSight n mark book owner id) h [] fit (All-nil (FitsSight n mark book owner id))
+
+-- nothing but a word that keeps its value was written
+same_views : (g : Outline) (s : S) (o : Orderly g s) (ws : List ℕ) (id : ℕ) (v : SeatView) → get_elem? s.views id ≡ some v → length ws ≡ 2 → get_or ws 0 0 ≡ get_or s.words 0 0 → get_or ws 1 0 ≡ get_or s.words 1 0
+    → Orderly g (record { words = ws; homes = s.homes; views = set s.views id v })
+same_views g s o ws id v at wide first second = record {
+  book = o.book;
+  mark = o.mark;
+  owner = o.owner;
+  holder = o.holder;
+  graph = o.graph;
+  sound = o.sound;
+  wide = wide;
+  deep = o.deep;
+  busy = first ∙ o.busy;
+  mark_is = second ∙ o.mark_is;
+  low = o.low;
+  small = o.small;
+  home = o.home;
+  inside = λ j e. let p = o.inside j e in let long = length-set s.views id v in omega arith;
+  fits = λ j u e. o.fits j u (subst (λ l. get_elem? l j ≡ some u) (set_again s.views id v at) e);
+}
+
+takes_at : (g : Outline) (slots id : ℕ) (h : Sight) (s : S) (o : Orderly g s) (holder : Option ℕ) → o.holder ≡ holder → get_elem? s.views id ≡ some (one h)
+    → (w : SeatView) × (a : Act Journal) × Valid s.homes [] a × Orderly g (stepped s 0 1 id [] w a) × taken (step slots 0 1 0 none) (one h, []) (get_or s.words 0 0) (w, carried_after [] a)
+takes_at g slots id h s o None is at =
+    let mine = o.fits id (one h) at in
+    let fit : FitsSight g.workers o.mark o.book o.owner id h = All-head (FitsSight g.workers o.mark o.book o.owner id) h [] mine.0 in
+    let free : get_or s.words 0 0 ≡ 0 = o.busy ∙ ap busy_of is in
+    let home : get_elem? s.homes 0 ≡ some (some o.book) = o.home ∙ ap (λ (k : Option ℕ). some (home_of k o.book)) is in
+    let new : Sight = seeing h o.book in (
+      holding new,
+      takes 0 o.book,
+      home,
+      record {
+        book = o.book;
+        mark = o.mark;
+        owner = o.owner;
+        holder = Some id;
+        graph = o.graph;
+        sound = o.sound;
+        wide = length-set s.words 0 1 ∙ o.wide;
+        deep = length-set s.homes 0 none ∙ o.deep;
+        busy = get_or-set_same s.words 0 1 0 (let p = o.wide in omega arith);
+        mark_is = get_or-set_other s.words 0 1 1 0 (λ (e : 1 ≡ 0). absurd (omega arith)) ∙ o.mark_is;
+        low = o.low;
+        small = o.small;
+        home = set_here s.homes 0 none (let p = o.deep in omega arith);
+        inside = inside_of s.views id (holding new) (there s.views id (one h) at);
+        fits = set_views (λ j u. All (FitsSight g.workers o.mark o.book o.owner j) u.sights × OutFits (Some id) o.book j u) s.views id (holding new)
+            (λ j u apart e. ((o.fits j u e).0, ((λ same. absurd (apart same)), (λ _. subst (λ (k : Option ℕ). OutFits k o.book j u) is (o.fits j u e).1)))) (
+              alone g.workers o.mark o.book o.owner id new (record { known = fit.known; agrees = agrees_self h.worker o.book; seated = fit.seated; stopped = fit.stopped; stops = fit.stops; told = fit.told }),
+              ((λ _. (refl, omega arith)), (λ ne. absurd (ne refl))),
+            );
+      },
+      ((λ _. record { book = o.book; agrees = fit.agrees; sound = o.sound; known = subst (λ (x : Outline). h.worker.0 < x.workers) (sym o.graph) fit.known; is = refl }), (λ ne. absurd (ne free))),
+    )
+takes_at g slots id h s o (Some k) is at =
+    let out : get_or s.words 0 0 ≡ 1 = o.busy ∙ ap busy_of is in (
+      one h,
+      keeps,
+      tt,
+      same_views g s o (set s.words 0 1) id (one h) at (length-set s.words 0 1 ∙ o.wide) (get_or-set_same s.words 0 1 0 (let p = o.wide in omega arith) ∙ sym out)
+          (get_or-set_other s.words 0 1 1 0 (λ (e : 1 ≡ 0). absurd (omega arith))),
+      ((λ free. absurd (omega arith)), (λ _. refl)),
+    )
+
+pub takes_it : (g : Outline) (slots id : ℕ) (h : Sight) → Allows (Orderly g) slots id (one h, []) 0 (λ _. 1) (taken (step slots 0 1 0 none) (one h, []))
+takes_it g slots id h s o deep at small = takes_at g slots id h s o o.holder refl at
+
+-- what the seat that holds the journal knows of the rule
+pub record Held (g : Outline) (id : ℕ) (h : Sight) (s : S) (o : Orderly g s) : Type 0 where
+  pub is : o.holder ≡ Some id
+  pub book_is : o.book ≡ h.seen
+  pub fit : FitsSight g.workers o.mark o.book o.owner id h
+
+held_at : (g : Outline) (id : ℕ) (h : Sight) (s : S) (o : Orderly g s) (holder : Option ℕ) → o.holder ≡ holder → get_elem? s.views id ≡ some (holding h) → Held g id h s o
+held_at g id h s o None is at = let out : OutFits None o.book id (holding h) = subst (λ (k : Option ℕ). OutFits k o.book id (holding h)) is (o.fits id (holding h) at).1 in absurd (cc)
+held_at g id h s o (Some k) is at =
+    let f = o.fits id (holding h) at in
+    let out : OutFits (Some k) o.book id (holding h) = subst (λ (k : Option ℕ). OutFits k o.book id (holding h)) is f.1 in
+    dite (ℕ_discrete id k)
+    (λ same. let found : Some h.seen ≡ Some o.book = (out.0 same).0 in record { is = is ∙ ap Some (sym same); book_is = cc; fit = All-head (FitsSight g.workers o.mark o.book o.owner id) h [] f.0 })
+    (λ apart. let not : Some h.seen ≡ None = out.1 apart in absurd (cc))
+
+pub holds_it : (g : Outline) (id : ℕ) (h : Sight) (s : S) (o : Orderly g s) → get_elem? s.views id ≡ some (holding h) → Held g id h s o
+holds_it g id h s o at = held_at g id h s o o.holder refl at
+
+pub puts_it : (g : Outline) (slots id : ℕ) (h : Sight) (book : Journal) → AddsOwn h book
+    → Allows (Orderly g) slots id (holding h, (0, book) ∷ []) 0 (λ _. 0) (λ _. put_back (step slots 0 0 0 none) (holding h, (0, book) ∷ []) 0)
+puts_it g slots id h book adds s o deep at small =
+    let q = holds_it g id h s o at in
+    let new : Sight = seeing h book in
+    let sound : IsSound book = adds.sound (subst IsSound q.book_is o.sound) in
+    let graph : book.graph ≡ o.book.graph = adds.graph ∙ sym (ap (λ (b : Journal). b.graph) q.book_is) in
+    let history : book.history ≡ o.book.history ++ adds.more = adds.history ∙ sym (ap (λ (b : Journal). b.history ++ adds.more) q.book_is) in
+    let other : (k : Sight) → k.worker.0 ≢ h.worker.0 → Agrees k.worker k.seen o.book → Agrees k.worker k.seen book =
+    λ k ne a. agrees_then k.worker k.seen o.book book a (goes_on k.worker o.book book adds.more o.sound sound graph history (adds.own k.worker ne)) in (
+      one new,
+      gives,
+      tt,
+      record {
+        book = book;
+        mark = o.mark;
+        owner = o.owner;
+        holder = None;
+        graph = graph ∙ o.graph;
+        sound = sound;
+        wide = length-set s.words 0 0 ∙ o.wide;
+        deep = length-set s.homes 0 (some book) ∙ o.deep;
+        busy = get_or-set_same s.words 0 0 0 (let p = o.wide in omega arith);
+        mark_is = get_or-set_other s.words 0 1 0 0 (λ (e : 1 ≡ 0). absurd (omega arith)) ∙ o.mark_is;
+        low = o.low;
+        small = o.small;
+        home = set_here s.homes 0 (some book) (let p = o.deep in omega arith);
+        inside = λ k e. absurd (cc);
+        fits = set_views (λ j u. All (FitsSight g.workers o.mark book o.owner j) u.sights × OutFits None book j u) s.views id (one new)
+            (λ j u apart e. let f = o.fits j u e in (
+              All-weaker (FitsSight g.workers o.mark o.book o.owner j) (FitsSight g.workers o.mark book o.owner j)
+                  (λ k fit. record {
+                    known = fit.known;
+                    agrees = other k (λ same. apart (sym fit.seated ∙ (ap o.owner same ∙ q.fit.seated))) fit.agrees;
+                    seated = fit.seated;
+                    stopped = fit.stopped;
+                    stops = fit.stops;
+                    told = fit.told;
+                  })
+                  u.sights f.0,
+              (subst (λ (k : Option ℕ). OutFits k o.book j u) q.is f.1).1 apart,
+            ))
+            (alone g.workers o.mark book o.owner id new (record { known = q.fit.known; agrees = agrees_self h.worker book; seated = q.fit.seated; stopped = q.fit.stopped; stops = q.fit.stops; told = q.fit.told }), refl);
+      },
+      refl,
+    )
+
+-- a worker that holds nothing changes its own word on the stop, and the mark
+marks : (g : Outline) (s : S) (o : Orderly g s) (mark id : ℕ) (h h' : Sight) → get_elem? s.views id ≡ some (one h) → mark < 2 ^ 32 → FitsSight g.workers mark o.book o.owner id h'
+    → ((j : ℕ) (k : Sight) → j ≢ id → FitsSight g.workers o.mark o.book o.owner j k → FitsSight g.workers mark o.book o.owner j k) → Orderly g (stepped s 1 mark id [] (one h') keeps)
+marks g s o mark id h h' at low mine others = record {
+  book = o.book;
+  mark = mark;
+  owner = o.owner;
+  holder = o.holder;
+  graph = o.graph;
+  sound = o.sound;
+  wide = length-set s.words 1 mark ∙ o.wide;
+  deep = o.deep;
+  busy = get_or-set_other s.words 1 0 mark 0 (λ (e : 0 ≡ 1). absurd (omega arith)) ∙ o.busy;
+  mark_is = get_or-set_same s.words 1 mark 0 (let p = o.wide in omega arith);
+  low = low;
+  small = o.small;
+  home = o.home;
+  inside = λ j e. let p = o.inside j e in let long = length-set s.views id (one h') in omega arith;
+  fits = set_views (λ j u. All (FitsSight g.workers mark o.book o.owner j) u.sights × OutFits o.holder o.book j u) s.views id (one h')
+      (λ j u apart e. let f = o.fits j u e in (All-weaker (FitsSight g.workers o.mark o.book o.owner j) (FitsSight g.workers mark o.book o.owner j) (λ k fit. others j k apart fit) u.sights f.0, f.1))
+      (alone g.workers mark o.book o.owner id h' mine, still o.holder (o.fits id (one h) at).1);
+}
+  where
+    still : (k : Option ℕ) → OutFits k o.book id (one h) → OutFits k o.book id (one h')
+    still None f = f
+    still (Some k) f = ((λ e. ((f.0 e).0, omega arith)), f.1)
+
+fits_at : (g : Outline) (s : S) (o : Orderly g s) (id : ℕ) (h : Sight) → get_elem? s.views id ≡ some (one h) → FitsSight g.workers o.mark o.book o.owner id h
+fits_at g s o id h at = All-head (FitsSight g.workers o.mark o.book o.owner id) h [] (o.fits id (one h) at).0
+
+hears : (n mark : ℕ) (book : Journal) (owner : ℕ → ℕ) (id : ℕ) (h : Sight) (w : WorkerId) → mark ≡ suc w.0 → FitsSight n mark book owner id h → FitsSight n mark book owner id (hearing h w)
+hears n mark book owner id h w is fit = record { known = fit.known; agrees = fit.agrees; seated = fit.seated; stopped = fit.stopped; stops = fit.stops; told = λ x (e : Some w ≡ Some x). let same : w ≡ x = cc in is ∙ ap (λ (v : WorkerId). suc v.0) same }
+
+-- somebody has stopped the service before
+hears_it : (g : Outline) (s : S) (o : Orderly g s) (id : ℕ) (h : Sight) → get_elem? s.views id ≡ some (one h) → get_or s.words 1 0 ≢ 0
+    → Orderly g (stepped s 1 (get_or s.words 1 0) id [] (one (hearing h (marked (get_or s.words 1 0)))) keeps)
+hears_it g s o id h at was =
+    let x : ℕ = get_or s.words 1 0 in
+    let is : o.mark ≡ x = sym o.mark_is in
+    let next : o.mark ≡ suc (x - 1) = omega arith in
+    subst (λ m. Orderly g (stepped s 1 m id [] (one (hearing h (marked x))) keeps)) is
+    (marks g s o o.mark id h (hearing h (marked x)) at o.low (hears g.workers o.mark o.book o.owner id h (marked x) next (fits_at g s o id h at)) (λ j k _ fit. fit))
+
+pub stops_it : (g : Outline) (slots id : ℕ) (h : Sight) → Allows (Orderly g) slots id (one h, []) 1 (λ x. either (eqb x 0) (h.worker.0 + 1) x) (stopped_at (step slots 1 0 (h.worker.0 + 1) none) (one h, []))
+stops_it g slots id h s o deep at small =
+    let x : ℕ = get_or s.words 1 0 in
+    let fit = fits_at g s o id h at in
+    let little : x < 2 ^ 32 = subst (λ m. m < 2 ^ 32) (sym o.mark_is) o.low in
+    dite (ℕ_discrete x 0)
+    (λ none_yet.
+    let free : o.mark ≡ 0 = sym o.mark_is ∙ none_yet in (
+      one (stopping h),
+      keeps,
+      tt,
+      subst (λ b. Orderly g (stepped s 1 (either b (h.worker.0 + 1) x) id [] (one (stopping h)) keeps)) (sym (eq-eqb x 0 none_yet))
+          (marks g s o (h.worker.0 + 1) id h (stopping h) at (let p = fit.known in let q = o.small in omega arith)
+          (record { known = fit.known; agrees = fit.agrees; seated = fit.seated; stopped = λ _. omega arith; stops = λ _. refl; told = λ w e. let f = fit.told w e in absurd (omega arith) })
+          (λ j k apart f. record {
+            known = f.known;
+            agrees = f.agrees;
+            seated = f.seated;
+            stopped = λ e. let g = f.stopped e in absurd (omega arith);
+            stops = λ e. let same : k.worker.0 ≡ h.worker.0 = omega arith in absurd (apart (sym f.seated ∙ (ap o.owner same ∙ fit.seated)));
+            told = λ w e. let g = f.told w e in absurd (omega arith);
+          })),
+      (little, (λ _. refl), (λ ne. absurd (ne none_yet))),
+    ))
+    (λ was. (
+      one (hearing h (marked x)),
+      keeps,
+      tt,
+      subst (λ b. Orderly g (stepped s 1 (either b (h.worker.0 + 1) x) id [] (one (hearing h (marked x))) keeps)) (sym (ne_eqb x 0 was)) (hears_it g s o id h at was),
+      (little, (λ e. absurd (was e)), (λ _. refl)),
+    ))
+
+pub looks_it : (g : Outline) (slots id : ℕ) (h : Sight) → Allows (Orderly g) slots id (one h, []) 1 (λ x. x) (heard (step slots 1 0 0 none) (one h, []))
+looks_it g slots id h s o deep at small =
+    let x : ℕ = get_or s.words 1 0 in
+    let little : x < 2 ^ 32 = subst (λ m. m < 2 ^ 32) (sym o.mark_is) o.low in
+    dite (ℕ_discrete x 0)
+    (λ none_yet. (
+      one h,
+      keeps,
+      tt,
+      same_views g s o (set s.words 1 x) id (one h) at (length-set s.words 1 x ∙ o.wide) (get_or-set_other s.words 1 0 x 0 (λ (e : 0 ≡ 1). absurd (omega arith)))
+          (get_or-set_same s.words 1 x 0 (let p = o.wide in omega arith)),
+      (little, (λ _. refl), (λ ne. absurd (ne none_yet))),
+    ))
+    (λ was. (one (hearing h (marked x)), keeps, tt, hears_it g s o id h at was, (little, (λ e. absurd (was e)), (λ _. refl))))

@@ -1,0 +1,131 @@
+-- One try under the lock, as the worker sees it.
+use Rattle.std.proofs.Common.{◌≡◌, ℕ, ◌<◌, List, [], ◌∷◌, ◌++◌, length, Result, Ok, Err, Option, Some, None, refl, sym, ap, ◌∙◌, subst, append-nil}
+use Rattle.resource_lock.specs.declared.ids.WorkerId.{WorkerId}
+use Rattle.resource_lock.specs.declared.changes.Change.{Change}
+use Rattle.resource_lock.specs.Outline.{Outline}
+use Rattle.resource_lock.specs.Standing.{Standing}
+use Rattle.lock_journal.specs.Allowed.{Allowed, Lawful}
+use Rattle.lock_journal.specs.Entry.{Entry, effect, entry, replay}
+use Rattle.lock_journal.specs.Journal.{Journal, SameBook}
+use Rattle.lock_journal.specs.Ran.{HasFinished, HasFailed, IsToRetry}
+use Rattle.lock_journal.specs.declared.entries.Kind.{Kind}
+use Rattle.lock_journal.specs.declared.transforms.Disposition.{Disposition}
+use Rattle.lock_journal.specs.declared.transforms.Disposition.TheVariants.{Finished, Failed, Retry}
+use Rattle.run_laws.proofs.Growing.{lawful-push, replay-push}
+use Rattle.coordination.specs.declared.rule.Sight.{Sight}
+use Rattle.coordination.specs.Agrees.{Agrees, IsSound}
+use Rattle.coordination.specs.Attempts.{Answers, Asked, Attempted, Cause, Ran, last_after}
+use Rattle.coordination.specs.Lasts.{last_of}
+use Rattle.coordination.specs.Rule.{AddsOwn, M, Taken, carried_book}
+use Rattle.coordination.specs.Sights.{one, seeing, sight_of}
+use Rattle.coordination.proofs.Growing.{last_of-own}
+
+-- the four clauses of the call together
+pub ran_of : {E : Type 0} (kind : Kind) (fails retries : Cause) (w : WorkerId) (old new : Journal) (r : Result Disposition E)
+    → (r ≡ Ok Finished → (changes : List Change) × HasFinished old new w kind changes) → (r ≡ Ok Failed → HasFailed fails old new w kind) → (r ≡ Ok Retry → IsToRetry retries old new w)
+    → ((e : E) → r ≡ Err e → SameBook old new) → Ran kind fails retries w old new r
+ran_of kind fails retries w old new (Ok Finished) a b c d = a refl
+ran_of kind fails retries w old new (Ok Failed) a b c d = b refl
+ran_of kind fails retries w old new (Ok Retry) a b c d = c refl
+ran_of kind fails retries w old new (Err e) a b c d = d e refl
+
+-- a sound book with one allowed entry more is sound
+sound-push : (old new : Journal) (e : Entry) → IsSound old → new.graph ≡ old.graph → Allowed old.graph old.state e → new.history ≡ old.history ++ e ∷ [] → new.state ≡ effect old.state e → IsSound new
+sound-push old new e sound graph allowed history state =
+    let ok : Allowed old.graph (replay old.graph old.history) e = subst (λ (s : Standing). Allowed old.graph s e) sound.replays allowed in
+    record {
+      lawful = subst (λ (p : Outline × List Entry). Lawful p.0 p.1) (λ i. (sym graph i, sym history i)) (lawful-push old.graph old.history e sound.lawful ok);
+      replays = state ∙ (ap (λ (s : Standing). effect s e) sound.replays ∙ (sym (replay-push old.graph old.history e) ∙ (λ i. replay (sym graph i) (sym history i))));
+    }
+
+sound-same : (old new : Journal) → IsSound old → new.graph ≡ old.graph → new.state ≡ old.state → new.history ≡ old.history → IsSound new
+sound-same old new sound graph state history = record {
+  lawful = subst (λ (p : Outline × List Entry). Lawful p.0 p.1) (λ i. (sym graph i, sym history i)) sound.lawful;
+  replays = state ∙ (sound.replays ∙ (λ i. replay (sym graph i) (sym history i)));
+}
+
+-- what a transform added is its worker's
+adds_own : {E : Type 0} (kind : Kind) (fails retries : Cause) (r : Result Disposition E) (s : Sight) (new : Journal) → new.graph ≡ s.seen.graph → Ran kind fails retries s.worker s.seen new r → AddsOwn s new
+adds_own kind fails retries (Ok Finished) s new graph ran = record {
+  more = entry s.worker kind (Some ran.0) ∷ [];
+  graph = graph;
+  history = ran.1.history;
+  own = λ w ne. ((λ same. ne (sym same)), tt);
+  sound = λ sound. sound-push s.seen new (entry s.worker kind (Some ran.0)) sound graph ran.1.allowed ran.1.history ran.1.state;
+}
+adds_own kind fails retries (Ok Failed) s new graph ran = record {
+  more = entry s.worker kind None ∷ [];
+  graph = graph;
+  history = ran.history;
+  own = λ w ne. ((λ same. ne (sym same)), tt);
+  sound = λ sound. sound-push s.seen new (entry s.worker kind None) sound graph ran.allowed ran.history ran.state;
+}
+adds_own kind fails retries (Ok Retry) s new graph ran = record { more = []; graph = graph; history = ran.history ∙ sym (append-nil s.seen.history); own = λ w ne. tt; sound = λ sound. sound-same s.seen new sound graph ran.state ran.history }
+adds_own kind fails retries (Err e) s new graph ran = record { more = []; graph = graph; history = ran.history ∙ sym (append-nil s.seen.history); own = λ w ne. tt; sound = λ sound. sound-same s.seen new sound graph ran.state ran.history }
+
+-- the number that a pass keeps
+last_of-ran : {E : Type 0} (kind : Kind) (fails retries : Cause) (r : Result Disposition E) (w : WorkerId) (seen old new : Journal) → Agrees w seen old → Ran kind fails retries w old new r
+    → last_after r (length new.history) (last_of w seen.history) ≡ last_of w new.history
+last_of-ran kind fails retries (Ok Finished) w seen old new a ran =
+    let e : Entry = entry w kind (Some ran.0) in
+    ap (λ (l : List Entry). length l) ran.1.history ∙ sym (ap (λ (l : List Entry). last_of w l) ran.1.history ∙ last_of-own w old.history e refl)
+last_of-ran kind fails retries (Ok Failed) w seen old new a ran =
+    let e : Entry = entry w kind None in
+    ap (λ (l : List Entry). length l) ran.history ∙ sym (ap (λ (l : List Entry). last_of w l) ran.history ∙ last_of-own w old.history e refl)
+last_of-ran kind fails retries (Ok Retry) w seen old new a ran = sym (ap (λ (l : List Entry). last_of w l) ran.history ∙ a.last)
+last_of-ran kind fails retries (Err e) w seen old new a ran = sym (ap (λ (l : List Entry). last_of w l) ran.history ∙ a.last)
+
+-- m took the book and became m', whose view stayed in m''
+pub taken_sight : (m m' m'' : M) (t : Taken m m') → m''.0 ≡ m'.0 → sight_of m''.0 ≡ seeing (sight_of m.0) t.book
+taken_sight m m' m'' t same = ap sight_of (same ∙ ap (λ (x : M). x.0) t.is)
+
+pub taken_book : (m m' : M) (t : Taken m m') → carried_book m'.1 ≡ t.book
+taken_book m m' t = ap (λ (x : M). carried_book x.1) t.is
+
+pub known_in : (m m' : M) (t : Taken m m') (worker : WorkerId) → worker ≡ (sight_of m.0).worker → worker.0 < (carried_book m'.1).graph.workers
+known_in m m' t worker is = subst (λ (p : WorkerId × Journal). p.0.0 < p.1.graph.workers) (λ i. (sym is i, sym (taken_book m m' t) i)) t.known
+
+module _ {E : Type 0} (kind : Kind) (fails retries : Cause) (r : Result Disposition E) (m m' m'' : M) (t : Taken m m') (same : m''.0 ≡ m'.0) (worker : WorkerId) (is : worker ≡ (sight_of m.0).worker)
+    (graph : (carried_book m''.1).graph ≡ (carried_book m'.1).graph) (ran : Ran kind fails retries worker (carried_book m'.1) (carried_book m''.1) r) where
+  found : Ran kind fails retries (sight_of m.0).worker t.book (carried_book m''.1) r
+  found = subst (λ (p : WorkerId × Journal). Ran kind fails retries p.0 p.1 (carried_book m''.1) r) (λ i. (is i, taken_book m m' t i)) ran
+
+  same_graph : (carried_book m''.1).graph ≡ t.book.graph
+  same_graph = graph ∙ ap (λ (b : Journal). b.graph) (taken_book m m' t)
+
+  pub owns : AddsOwn (sight_of m''.0) (carried_book m''.1)
+  owns = subst (λ (k : Sight). AddsOwn k (carried_book m''.1)) (sym (taken_sight m m' m'' t same)) (adds_own kind fails retries r (seeing (sight_of m.0) t.book) (carried_book m''.1) same_graph found)
+
+  -- the view afterwards
+  pub after : (n : M) → n ≡ (one (seeing (sight_of m''.0) (carried_book m''.1)), []) → sight_of n.0 ≡ seeing (sight_of m.0) (carried_book m''.1)
+  after n back = ap (λ (x : M). sight_of x.0) back ∙ ap (λ (k : Sight). seeing k (carried_book m''.1)) (taken_sight m m' m'' t same)
+
+  pub attempted : (n : M) → n ≡ (one (seeing (sight_of m''.0) (carried_book m''.1)), []) → Attempted kind fails retries (sight_of m.0) (sight_of n.0) r
+  attempted n back = record { before = t.book; after = carried_book m''.1; agrees = t.agrees; graph = same_graph; ran = found; is = after n back }
+
+  pub last_is : (last entries : ℕ) (n : M) → entries ≡ length (carried_book m''.1).history → last ≡ last_of (sight_of m.0).worker (sight_of m.0).seen.history
+      → n ≡ (one (seeing (sight_of m''.0) (carried_book m''.1)), []) → last_after r entries last ≡ last_of (sight_of n.0).worker (sight_of n.0).seen.history
+  last_is last entries n long was back =
+      (λ i. last_after r (long i) (was i))
+      ∙ (last_of-ran kind fails retries r (sight_of m.0).worker (sight_of m.0).seen t.book (carried_book m''.1) t.agrees found
+      ∙ sym (ap (λ (k : Sight). last_of k.worker k.seen.history) (after n back)))
+
+-- the same of a question
+module _ {A : Type 0} (answers : WorkerId → Journal → A → Type 0) (waits : WorkerId → Journal → Type 0) (r : Option A) (m m' m'' : M) (t : Taken m m') (same : m'' ≡ m') (worker : WorkerId)
+    (is : worker ≡ (sight_of m.0).worker) where
+  book_is : carried_book m''.1 ≡ t.book
+  book_is = ap (λ (x : M). carried_book x.1) same ∙ taken_book m m' t
+
+  pub keeps : AddsOwn (sight_of m''.0) (carried_book m''.1)
+  keeps = subst (λ (p : Sight × Journal). AddsOwn p.0 p.1) (λ i. (sym (taken_sight m m' m'' t (ap (λ (x : M). x.0) same)) i, sym book_is i))
+      (record { more = []; graph = refl; history = sym (append-nil t.book.history); own = λ w ne. tt; sound = λ s. s })
+
+  pub after_ask : (n : M) → n ≡ (one (seeing (sight_of m''.0) (carried_book m''.1)), []) → sight_of n.0 ≡ seeing (sight_of m.0) t.book
+  after_ask n back = ap (λ (x : M). sight_of x.0) back ∙ (λ i. seeing (taken_sight m m' m'' t (ap (λ (x : M). x.0) same) i) (book_is i))
+
+  pub asked : Answers answers waits worker (carried_book m'.1) r → (n : M) → n ≡ (one (seeing (sight_of m''.0) (carried_book m''.1)), []) → Asked answers waits (sight_of m.0) (sight_of n.0) r
+  asked a n back = record { book = t.book; agrees = t.agrees; answer = subst (λ (p : WorkerId × Journal). Answers answers waits p.0 p.1 r) (λ i. (is i, taken_book m m' t i)) a; is = after_ask n back }
+
+  pub last_stays : (last : ℕ) (n : M) → last ≡ last_of (sight_of m.0).worker (sight_of m.0).seen.history → n ≡ (one (seeing (sight_of m''.0) (carried_book m''.1)), [])
+      → last ≡ last_of (sight_of n.0).worker (sight_of n.0).seen.history
+  last_stays last n was back = was ∙ (sym t.agrees.last ∙ sym (ap (λ (k : Sight). last_of k.worker k.seen.history) (after_ask n back)))

@@ -1,0 +1,25 @@
+-- What a worker saw agrees with a book.
+use Rattle.std.specs.Prelude.{◌≡◌, List, ◌++◌}
+use Rattle.resource_lock.specs.declared.ids.WorkerId.{WorkerId}
+use Rattle.lock_journal.specs.Entry.{Entry, replay}
+use Rattle.lock_journal.specs.Allowed.{Lawful}
+use Rattle.lock_journal.specs.Journal.{Journal}
+use Rattle.run_laws.specs.ClosedBy.{closed_by}
+use Rattle.run_laws.specs.Own.{NoneOf, SameFor}
+use Rattle.coordination.specs.Lasts.{last_of, count_of}
+
+-- The history goes on from what the worker saw by entries of others alone, and what the worker has, owns, runs, closed and listed is the same in both.
+pub record Agrees (w : WorkerId) (seen book : Journal) : Type 0 where
+  pub graph : book.graph ≡ seen.graph
+  pub between : List Entry
+  pub history : book.history ≡ seen.history ++ between
+  pub others : NoneOf w between
+  pub state : SameFor w seen.state book.state
+  pub closings : closed_by w book.history ≡ closed_by w seen.history
+  pub count : count_of w book.history ≡ count_of w seen.history
+  pub last : last_of w book.history ≡ last_of w seen.history
+
+-- the history is lawful, and the state is what it leads to
+pub record IsSound (book : Journal) : Type 0 where
+  pub lawful : Lawful book.graph book.history
+  pub replays : book.state ≡ replay book.graph book.history

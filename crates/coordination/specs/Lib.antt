@@ -1,0 +1,9 @@
+pub mod Lasts
+pub mod Agrees
+pub mod AtRest
+pub mod Sights
+pub mod Rule
+pub mod Attempts
+pub mod Calls
+pub mod Parts
+pub mod Passes

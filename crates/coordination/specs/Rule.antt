@@ -1,0 +1,114 @@
+-- The rule of the table. Word 0 is 1 while a pass holds the book, and slot 0 has it while none does. Word 1 is 1 more than the worker that stopped the service, or 0.
+use Rattle.std.specs.Prelude.{◌≡◌, ◌≢◌, ℕ, suc, ◌-◌, ◌<◌, ◌^◌, true, List, [], ◌∷◌, ◌++◌, Option, Some, None, length, slice_index}
+use Rattle.std.specs.List.{All}
+use mathlib.Core.Option.{some, none}
+use mathlib.Core.Option as maybe
+use lib.ListN.{get_elem?}
+use Rattle.atomic_table.specs.Table.{State, Me, Step}
+use Rattle.resource_lock.specs.Outline.{Outline}
+use Rattle.resource_lock.specs.declared.ids.WorkerId.{WorkerId}
+use Rattle.lock_journal.specs.Entry.{Entry}
+use Rattle.lock_journal.specs.Journal.{Journal}
+use Rattle.run_laws.specs.Own.{NoneOf}
+use Rattle.coordination.specs.declared.rule.Sight.{Sight}
+use Rattle.coordination.specs.declared.rule.SeatView.{SeatView}
+use Rattle.coordination.specs.Agrees.{Agrees, IsSound}
+use Rattle.coordination.specs.Sights.{seeing, stopping, hearing, one, holding, all_of, no_book, sight_of}
+
+-- what is so of each worker of the view at a seat
+pub record FitsSight (n mark : ℕ) (book : Journal) (owner : ℕ → ℕ) (seat : ℕ) (s : Sight) : Type 0 where
+  pub known : s.worker.0 < n
+  pub agrees : Agrees s.worker s.seen book
+  pub seated : owner s.worker.0 ≡ seat
+  pub stopped : s.stopped ≡ true → mark ≡ suc s.worker.0
+  pub stops : mark ≡ suc s.worker.0 → s.stopped ≡ true
+  pub told : (w : WorkerId) → s.told ≡ Some w → mark ≡ suc w.0
+
+abbrev pub OutFits : Option ℕ → Journal → ℕ → SeatView → Type 0
+OutFits None book j v = v.out ≡ None
+OutFits (Some k) book j v = (j ≡ k → (v.out ≡ Some book) × (0 < length v.sights)) × (j ≢ k → v.out ≡ None)
+
+abbrev pub busy_of : Option ℕ → ℕ
+busy_of None = 0
+busy_of (Some k) = 1
+
+abbrev pub home_of : Option ℕ → Journal → maybe.Option Journal
+home_of None book = some book
+home_of (Some k) book = none
+
+-- One sound book of the graph, with which each worker's sight agrees. Each worker sits at one seat, and one seat at most holds the book.
+pub record Orderly (g : Outline) (s : State Journal SeatView) : Type 0 where
+  pub book : Journal
+  pub mark : ℕ
+  pub owner : ℕ → ℕ
+  pub holder : Option ℕ
+  pub graph : book.graph ≡ g
+  pub sound : IsSound book
+  pub wide : length s.words ≡ 2
+  pub deep : length s.homes ≡ 1
+  pub busy : slice_index s.words 0 ≡ busy_of holder
+  pub mark_is : slice_index s.words 1 ≡ mark
+  pub low : mark < 2 ^ 32
+  pub small : g.workers < 2 ^ 32
+  pub home : get_elem? s.homes 0 ≡ some (home_of holder book)
+  pub inside : (k : ℕ) → holder ≡ Some k → k < length s.views
+  pub fits : (j : ℕ) (v : SeatView) → get_elem? s.views j ≡ some v → All (FitsSight g.workers mark book owner j) v.sights × OutFits holder book j v
+
+abbrev pub M : Type 0
+M = Me Journal SeatView
+
+-- The book was found and taken. It is sound and agrees with what the worker saw, and the worker is one of its graph.
+pub record Taken (m m' : M) : Type 0 where
+  pub book : Journal
+  pub agrees : Agrees (sight_of m.0).worker (sight_of m.0).seen book
+  pub sound : IsSound book
+  pub known : (sight_of m.0).worker.0 < book.graph.workers
+  pub is : m' ≡ (holding (seeing (sight_of m.0) book), (0, book) ∷ [])
+
+abbrev pub taken : Step Journal → M → ℕ → M → Type 0
+taken st m r m' = (r ≡ 0 → Taken m m') × (r ≢ 0 → m' ≡ m)
+
+abbrev pub carried_book : List (ℕ × Journal) → Journal
+carried_book [] = no_book
+carried_book (x ∷ xs) = x.1
+
+-- the book went back, and the worker has seen it
+abbrev pub put_back : Step Journal → M → ℕ → M → Type 0
+put_back st m r m' = m' ≡ (one (seeing (sight_of m.0) (carried_book m.1)), [])
+
+-- the worker that a mark names
+abbrev pub marked : ℕ → WorkerId
+marked r = record { 0 = r - 1 }
+
+-- the worker has stopped the service, or hears who did
+abbrev pub stopped_at : Step Journal → M → ℕ → M → Type 0
+stopped_at st m r m' = (r < 2 ^ 32) × (r ≡ 0 → m' ≡ (one (stopping (sight_of m.0)), [])) × (r ≢ 0 → m' ≡ (one (hearing (sight_of m.0) (marked r)), []))
+
+-- the worker hears who has stopped the service, if somebody has
+abbrev pub heard : Step Journal → M → ℕ → M → Type 0
+heard st m r m' = (r < 2 ^ 32) × (r ≡ 0 → m' ≡ m) × (r ≢ 0 → m' ≡ (one (hearing (sight_of m.0) (marked r)), []))
+
+abbrev pub heads : List Sight → List Sight
+heads [] = []
+heads (s ∷ ss) = s ∷ []
+
+abbrev pub tails : List Sight → List Sight
+tails [] = []
+tails (s ∷ ss) = ss
+
+abbrev pub first_sight : SeatView → SeatView
+first_sight v = all_of (heads v.sights)
+
+abbrev pub other_sights : SeatView → SeatView
+other_sights v = record { sights = tails v.sights; out = v.out }
+
+abbrev pub both_sights : SeatView → SeatView → SeatView
+both_sights v w = record { sights = v.sights ++ w.sights; out = v.out }
+
+-- Only the worker's own entries were added to the book that it saw, of the same graph, and the book is still sound.
+pub record AddsOwn (s : Sight) (book : Journal) : Type 0 where
+  pub more : List Entry
+  pub graph : book.graph ≡ s.seen.graph
+  pub history : book.history ≡ s.seen.history ++ more
+  pub own : (w : WorkerId) → w.0 ≢ s.worker.0 → NoneOf w more
+  pub sound : IsSound s.seen → IsSound book

@@ -1,0 +1,66 @@
+-- What workers have seen of the one book.
+use Rattle.std.specs.Prelude.{ℕ, zero, suc, false, true, List, [], ◌∷◌, Some, None}
+use Rattle.resource_lock.specs.Outline.{Outline}
+use Rattle.resource_lock.specs.Opening.{opening_of}
+use Rattle.resource_lock.specs.declared.ids.WorkerId.{WorkerId}
+use Rattle.lock_journal.specs.Journal.{Journal}
+use Rattle.coordination.specs.declared.rule.Sight.{Sight}
+use Rattle.coordination.specs.declared.rule.SeatView.{SeatView}
+
+abbrev pub sight : ℕ → Journal → Sight
+sight w book = record { worker = record { 0 = w }; seen = book; stopped = false; told = None }
+
+-- the worker has seen the book
+abbrev pub seeing : Sight → Journal → Sight
+seeing s book = record { worker = s.worker; seen = book; stopped = s.stopped; told = s.told }
+
+-- the worker has stopped the service
+abbrev pub stopping : Sight → Sight
+stopping s = record { worker = s.worker; seen = s.seen; stopped = true; told = s.told }
+
+-- the worker was told who has stopped the service
+abbrev pub hearing : Sight → WorkerId → Sight
+hearing s w = record { worker = s.worker; seen = s.seen; stopped = s.stopped; told = Some w }
+
+-- a seat of one worker, which holds nothing
+abbrev pub one : Sight → SeatView
+one s = record { sights = s ∷ []; out = None }
+
+-- the same while it holds the book
+abbrev pub holding : Sight → SeatView
+holding s = record { sights = s ∷ []; out = Some s.seen }
+
+-- a seat without a worker
+abbrev pub nobody : SeatView
+nobody = record { sights = []; out = None }
+
+-- a seat with several workers, which holds nothing
+abbrev pub all_of : List Sight → SeatView
+all_of ss = record { sights = ss; out = None }
+
+-- the first sights of so many workers, from w on
+abbrev pub sights_from : ℕ → ℕ → Journal → List Sight
+sights_from w zero book = []
+sights_from w (suc n) book = sight w book ∷ sights_from (suc w) n book
+
+abbrev pub starting : Journal → SeatView
+starting book = all_of (sights_from 0 book.graph.workers book)
+
+abbrev pub no_graph : Outline
+no_graph = record { locks = 0; workers = 0; max = 0; units = 0; tasks = []; actions = [] }
+
+abbrev pub no_book : Journal
+no_book = record { graph = no_graph; state = opening_of no_graph; history = []; spare_entries = 0; spare_changes = 0 }
+
+abbrev pub first_or : Sight → List Sight → Sight
+first_or s [] = s
+first_or s (x ∷ xs) = x
+
+-- the sight of a seat with one worker
+abbrev pub sight_of : SeatView → Sight
+sight_of v = first_or (sight 0 no_book) v.sights
+
+-- so many workers, from w on
+abbrev pub workers_from : ℕ → ℕ → List ℕ
+workers_from w zero = []
+workers_from w (suc n) = w ∷ workers_from (suc w) n

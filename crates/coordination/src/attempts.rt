@@ -1,0 +1,76 @@
+//! One try under the lock. Nothing here waits.
+ghost use Rattle.std.specs.Prelude.{◌≡◌, IfNone, IfSome};
+ghost use Rattle.coordination.specs.Attempts.{Asked, Attempted, last_after};
+ghost use Rattle.coordination.specs.Sights.{hearing};
+
+use crate::passes::Pass;
+use crate::questions::Question;
+use crate::slots::Slot;
+use lock_journal::{Disposition, Transform};
+use resource_lock::WorkerId;
+use std::alloc::AllocError;
+
+// The number of the pass's last entry, after a transform that left so many entries.
+fn last_number(ran: &Result<Disposition, AllocError>, entries: u64, last: u64) -> u64
+    ensures { result ≡ last_after ran.now entries last }
+{
+    match ran {
+        Ok(Disposition::Finished | Disposition::Failed) => entries,
+        Ok(Disposition::Retry) | Err(_) => last,
+    }
+}
+
+impl Slot {
+    // Runs the transform once, unless the book is out.
+    pub fn attempt<T: Transform>(
+        &self,
+        pass: &mut Pass,
+        transform: &T,
+    ) -> Option<Result<Disposition, AllocError>>
+        requires { pass.old.service ≡ self.now.table.shared.table_id }
+        ensures same { pass.new.service ≡ pass.old.service }
+        ensures none { IfNone result (pass.new.sight ≡ pass.old.sight) }
+        ensures some { IfSome result (Attempted (T.kind_of transform.now) (T.fails_on transform.now) (T.retries_on transform.now) pass.old.sight pass.new.sight) }
+    {
+        if !self.try_take(&mut pass.seat) {
+            return None;
+        }
+        let (ran, part) = self.run(&mut pass.seat, pass.worker, transform);
+        self.put_back(&mut pass.seat);
+        pass.last = last_number(&ran, part.entries, pass.last);
+        pass.lease = part.lease;
+        pass.blocked = part.blocked;
+        Some(ran)
+    }
+
+    // Asks the question once, unless the book is out.
+    pub fn attempt_ask<Q: Question>(
+        &self,
+        pass: &mut Pass,
+        question: &Q,
+    ) -> Option<Option<Q::Answer>>
+        requires { pass.old.service ≡ self.now.table.shared.table_id }
+        ensures same { pass.new.service ≡ pass.old.service }
+        ensures none { IfNone result (pass.new.sight ≡ pass.old.sight) }
+        ensures some { IfSome result (Asked (Q.answers question.now) (Q.waits_on question.now) pass.old.sight pass.new.sight) }
+    {
+        if !self.try_take(&mut pass.seat) {
+            return None;
+        }
+        let answer = self.put(&mut pass.seat, pass.worker, question);
+        self.put_back(&mut pass.seat);
+        Some(answer)
+    }
+
+    // Tells the pass who has stopped the service.
+    pub fn hear(&self, pass: &mut Pass) -> Option<WorkerId>
+        requires { pass.old.service ≡ self.now.table.shared.table_id }
+        ensures same { pass.new.service ≡ pass.old.service }
+        ensures none { IfNone result (pass.new.sight ≡ pass.old.sight) }
+        ensures some { IfSome result (λ w. pass.new.sight ≡ hearing pass.old.sight w) }
+    {
+        let by = self.marked(&mut pass.seat)?;
+        pass.told = Some(by);
+        Some(by)
+    }
+}

@@ -1,0 +1,10 @@
+use resource_lock::WorkerId;
+
+/// Why a call under the state lock came to nothing.
+#[derive(Clone, Copy, Debug, PartialEq, Eq)]
+pub enum Halt {
+    /// There wasn't enough memory.
+    NoMemory,
+    /// The service was stopped with the pass of this worker.
+    Stopped(WorkerId),
+}

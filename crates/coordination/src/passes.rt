@@ -1,0 +1,77 @@
+ghost use Rattle.std.specs.Prelude.{◌≡◌};
+ghost use Rattle.resource_lock.specs.Standing.{holding_of};
+ghost use Rattle.coordination.specs.Lasts.{last_of};
+
+use crate::rule::SeatView;
+use atomic_table::Seat;
+use lock_journal::Book;
+use resource_lock::WorkerId;
+use std::marker::Model;
+
+/// A worker's part of a service. What it shows agrees with the book whenever the state is locked.
+#[derive(Drop)]
+pub struct Pass {
+    pub(crate) worker: WorkerId,
+    pub(crate) last: u64,
+    pub(crate) lease: bool,
+    pub(crate) blocked: bool,
+    pub(crate) stopped: bool,
+    pub(crate) told: Option<WorkerId>,
+    pub(crate) seat: Seat<Book, SeatView>,
+}
+
+impl Model for Pass {
+    ghost use Rattle.std.specs.Prelude.{◌≡◌};
+    ghost use Rattle.coordination.specs.Sights.{sight_of};
+    ghost use Rattle.coordination.specs.Passes.{Seated, IsPass};
+
+    ghost Value = { Seated };
+
+    ghost view = { λ p. record { service = p.seat.table_id; sight = sight_of p.seat.me.0 } };
+
+    ghost invariant = { λ p. IsPass p.worker p.last p.lease p.blocked p.seat.me × (p.stopped ≡ (sight_of p.seat.me.0).stopped) × (p.told ≡ (sight_of p.seat.me.0).told) };
+}
+
+impl Pass {
+    /// The worker.
+    pub fn worker(&self) -> WorkerId
+        ensures { result ≡ self.now.sight.worker }
+    {
+        self.worker
+    }
+
+    /// Whether the worker has a lease.
+    pub fn has_lease(&self) -> bool
+        ensures { result ≡ (holding_of self.now.sight.seen.state self.now.sight.worker).lease }
+    {
+        self.lease
+    }
+
+    /// Whether the worker is in a blocking section.
+    pub fn blocked(&self) -> bool
+        ensures { result ≡ (holding_of self.now.sight.seen.state self.now.sight.worker).blocked }
+    {
+        self.blocked
+    }
+
+    /// The number of the worker's last entry, counted from 1 on, or 0.
+    pub fn last(&self) -> u64
+        ensures { result ≡ last_of self.now.sight.worker self.now.sight.seen.history }
+    {
+        self.last
+    }
+
+    /// Whether the worker has stopped the service.
+    pub fn stopped(&self) -> bool
+        ensures { result ≡ self.now.sight.stopped }
+    {
+        self.stopped
+    }
+
+    /// The worker that has stopped the service, once this one was told.
+    pub fn told(&self) -> Option<WorkerId>
+        ensures { result ≡ self.now.sight.told }
+    {
+        self.told
+    }
+}

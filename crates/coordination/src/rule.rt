@@ -1,0 +1,96 @@
+ghost use Rattle.coordination.specs.Sights.{nobody, starting};
+ghost use Rattle.coordination.specs.Rule.{Orderly, taken, put_back, stopped_at, heard, first_sight, other_sights, both_sights};
+
+use atomic_table::{Join, Play, Split, TableRule};
+use lock_journal::Book;
+use resource_lock::WorkerId;
+use std::collections::LinkedList;
+use std::snapshot::Snapshot;
+
+/// What one worker has seen. It is for contracts alone: no value of it is made.
+pub struct Sight {
+    /// The worker.
+    pub worker: WorkerId,
+    /// The book as the worker's last call let go of it.
+    pub seen: Book,
+    /// Whether the worker has stopped the service.
+    pub stopped: bool,
+    /// Who has stopped the service, once the worker was told.
+    pub told: Option<WorkerId>,
+}
+
+/// What a seat shows: the sights of its workers, and the book while it holds that. It is for
+/// contracts alone: no value of it is made.
+pub struct SeatView {
+    /// The sights.
+    pub sights: LinkedList<Sight>,
+    /// The book that was taken out.
+    pub out: Option<Book>,
+}
+
+/// What a service is opened with.
+#[derive(Drop)]
+pub struct Start {
+    pub book: Snapshot<Book>,
+}
+
+/// The rule of the table.
+pub struct Order;
+
+impl TableRule<Book, SeatView, Start> for Order {
+    ghost holds = { λ key. Orderly key.book.value.graph };
+
+    ghost first = { λ key. starting key.book.value };
+}
+
+/// Takes the book out of its slot, or finds the slot empty.
+pub struct Take;
+
+impl Play<Book, SeatView> for Take {
+    ghost then = { taken };
+}
+
+/// Puts the book back.
+pub struct PutBack;
+
+impl Play<Book, SeatView> for PutBack {
+    ghost then = { put_back };
+}
+
+/// Marks the service as stopped, or finds it marked.
+pub struct Stop;
+
+impl Play<Book, SeatView> for Stop {
+    ghost then = { stopped_at };
+}
+
+/// Reads the stop mark.
+pub struct Hear;
+
+impl Play<Book, SeatView> for Hear {
+    ghost then = { heard };
+}
+
+/// Makes a seat without a worker.
+pub struct Sit;
+
+impl Play<Book, SeatView> for Sit {
+    ghost use Rattle.std.specs.Prelude.{◌≡◌, []};
+
+    ghost then = { λ st m r n. n ≡ (nobody, []) };
+}
+
+/// Cuts one worker off a seat, and joins the workers of two seats.
+pub struct OneWorker;
+
+impl Split<SeatView> for OneWorker {
+    ghost left = { other_sights };
+
+    ghost right = { first_sight };
+}
+
+impl Join<SeatView> for OneWorker {
+    ghost both = { both_sights };
+
+    ghost spent = { nobody };
+}

@@ -1,0 +1,182 @@
+ghost use Rattle.std.specs.Prelude.{◌≡◌, ◌≢◌, ◌<◌, [], All, IfOk, Ok, Err, Some, ℕ, length, map, slice_index, true, false};
+ghost use Rattle.resource_lock.specs.declared.ids.WorkerId.{WorkerId};
+ghost use Rattle.coordination.specs.Agrees.{Agrees};
+ghost use Rattle.coordination.specs.AtRest.{IsAtRest};
+ghost use Rattle.coordination.specs.Calls.{AskedInVain, HasFailed, HasFinished, HasLooked, HasStopped, IsAnswered, WasStopped};
+ghost use Rattle.coordination.specs.Sights.{sights_from, workers_from};
+
+use crate::halts::Halt;
+use crate::lasts::last_numbers;
+use crate::passes::Pass;
+use crate::questions::Question;
+use crate::rule::Start;
+use crate::slots::Slot;
+use lock_journal::{Book, Disposition, Transform};
+use std::alloc::{AllocError, Global};
+use std::marker::Model;
+use std::snapshot::Snapshot;
+use std::sync::{Condvar, Mutex, Wait};
+
+/// One book that several workers change, one at a time.
+#[derive(Drop)]
+pub struct Coordination {
+    slot: Slot,
+    gate: Mutex<()>,
+    changed: Condvar,
+}
+
+impl Model for Coordination {
+    ghost use Rattle.coordination.specs.Passes.{ServiceView};
+
+    ghost Value = { ServiceView };
+
+    ghost view = { λ c. record { service = c.slot.table.shared.table_id; book = c.slot.table.shared.key.book.value } };
+}
+
+/// A service that was opened, with a pass for each worker in order.
+#[derive(Drop)]
+pub struct Opened {
+    /// The service.
+    pub service: Coordination,
+    /// The passes.
+    pub passes: Vec<Pass>,
+}
+
+impl Coordination {
+    /// A service that keeps the book, in which nobody has anything, with a pass for each worker of
+    /// its graph. It fails for want of memory alone.
+    pub fn open(alloc: Global, book: Book) -> Result<Opened, AllocError>
+        requires { IsAtRest book.state }
+        ensures book { IfOk result (λ opened. opened.service.book ≡ book) }
+        ensures passes { IfOk result (λ opened. map (λ p. p.sight) opened.passes.items ≡ sights_from 0 book.graph.workers book) }
+        ensures len { IfOk result (λ opened. length opened.passes.items ≡ book.graph.workers) }
+        ensures workers { IfOk result (λ opened. map (λ p. p.sight.worker.0) opened.passes.items ≡ workers_from 0 book.graph.workers) }
+        ensures service { IfOk result (λ opened. All (λ p. p.service ≡ opened.service.service) opened.passes.items) }
+    {
+        let start = Start {
+            book: Snapshot::of(&book),
+        };
+        let workers = book.graph().workers();
+        let lasts = last_numbers(alloc, &book, workers)?;
+        let (slot, seat) = Slot::new(alloc, book, &start)?;
+        let passes = slot.passes(alloc, seat, workers, &lasts)?;
+        let service = Coordination {
+            slot,
+            gate: Mutex::new(()),
+            changed: Condvar::new(),
+        };
+        Ok(Opened { service, passes })
+    }
+
+    /// Gets the state lock and runs the transform.
+    ///
+    /// True means that it finished: those that wait are woken. False means that it failed. Where it
+    /// asks to be run again, the call waits for a change, unless the service was stopped. After
+    /// `NoMemory` and `Stopped` the pass is as before, but that `Stopped` tells it by whom.
+    pub fn with_state_lock<T: Transform, R: Wait>(
+        &self,
+        rt: &R,
+        pass: &mut Pass,
+        transform: &T,
+    ) -> Result<bool, Halt>
+        requires { pass.old.service ≡ self.now.service }
+        ensures service { pass.new.service ≡ pass.old.service }
+        ensures worker { pass.new.sight.worker ≡ pass.old.sight.worker }
+        ensures finished { result ≡ Ok true → HasFinished (T.kind_of transform.now) pass.old.sight pass.new.sight }
+        ensures failed { result ≡ Ok false → HasFailed (T.kind_of transform.now) (T.fails_on transform.now) pass.old.sight pass.new.sight }
+        ensures no_memory { result ≡ Err Halt.NoMemory → HasLooked pass.old.sight pass.new.sight }
+        ensures stopped { (by : WorkerId) → result ≡ Err (Halt.Stopped by) → WasStopped (T.retries_on transform.now) by pass.old.sight pass.new.sight }
+    {
+        let mut guard = self.gate.lock(rt);
+        for _ in rt.forever() {
+            match self.slot.attempt(pass, transform) {
+                Some(Ok(Disposition::Finished)) => {
+                    drop(guard);
+                    self.changed.notify_all();
+                    return Ok(true);
+                }
+                Some(Ok(Disposition::Failed)) => return Ok(false),
+                Some(Err(_)) => return Err(Halt::NoMemory),
+                Some(Ok(Disposition::Retry)) => {
+                    if let Some(by) = self.slot.hear(pass) {
+                        return Err(Halt::Stopped(by));
+                    }
+                }
+                None => {}
+            }
+            guard = self.changed.wait(rt, guard);
+        }
+        unreachable!()
+    }
+
+    /// Gets the state lock and asks the question, which makes no entry and changes no state.
+    ///
+    /// Where it has no answer yet, the call waits for a change, unless the service was stopped. It
+    /// never gives `NoMemory`. After `Stopped` the pass is as before, but that it is told by whom.
+    pub fn ask<Q: Question, R: Wait>(
+        &self,
+        rt: &R,
+        pass: &mut Pass,
+        question: &Q,
+    ) -> Result<Q::Answer, Halt>
+        requires { pass.old.service ≡ self.now.service }
+        ensures service { pass.new.service ≡ pass.old.service }
+        ensures worker { pass.new.sight.worker ≡ pass.old.sight.worker }
+        ensures answered { IfOk result (λ answer. IsAnswered (Q.answers question.now) answer pass.old.sight pass.new.sight) }
+        ensures stopped { (by : WorkerId) → result ≡ Err (Halt.Stopped by) → AskedInVain (Q.waits_on question.now) by pass.old.sight pass.new.sight }
+        ensures memory { result ≢ Err Halt.NoMemory }
+    {
+        let mut guard = self.gate.lock(rt);
+        for _ in rt.forever() {
+            match self.slot.attempt_ask(pass, question) {
+                Some(Some(answer)) => return Ok(answer),
+                Some(None) => {
+                    if let Some(by) = self.slot.hear(pass) {
+                        return Err(Halt::Stopped(by));
+                    }
+                }
+                None => {}
+            }
+            guard = self.changed.wait(rt, guard);
+        }
+        unreachable!()
+    }
+
+    /// Wakes those that wait for a change.
+    pub fn notify_state_change(&self) {
+        self.changed.notify_all();
+    }
+
+    /// Stops the service with this pass, and wakes those that wait. Where it was stopped before,
+    /// the pass is told by whom.
+    pub fn stop_all<R: Wait>(&self, rt: &R, pass: &mut Pass)
+        requires { pass.old.service ≡ self.now.service }
+        ensures service { pass.new.service ≡ pass.old.service }
+        ensures worker { pass.new.sight.worker ≡ pass.old.sight.worker }
+        ensures stopped { HasStopped pass.old.sight pass.new.sight }
+    {
+        let guard = self.gate.lock(rt);
+        match self.slot.mark(&mut pass.seat, pass.worker) {
+            None => pass.stopped = true,
+            Some(by) => pass.told = Some(by),
+        }
+        drop(guard);
+        self.changed.notify_all();
+    }
+
+    /// Takes the book out for good.
+    pub fn finish(self, passes: Vec<Pass>) -> Book
+        requires service { All (λ p. p.service ≡ self.service) passes.items }
+        requires all { map (λ p. p.sight.worker.0) passes.items ≡ workers_from 0 self.book.graph.workers }
+        ensures graph { result.graph ≡ self.book.graph }
+        ensures agrees { All (λ p. Agrees p.sight.worker p.sight.seen result) passes.items }
+        ensures told { All (λ p. (by : WorkerId) → p.sight.told ≡ Some by → All (λ q. q.sight.worker ≡ by → q.sight.stopped ≡ true) passes.items) passes.items }
+    {
+        let Coordination {
+            slot,
+            gate: _,
+            changed: _,
+        } = self;
+        slot.close(passes)
+    }
+}

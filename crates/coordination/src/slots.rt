@@ -1,0 +1,139 @@
+//! The steps on the table.
+ghost use Rattle.std.specs.Prelude.{◌≡◌, ◌≢◌, ◌<◌, ◌+◌, ◌-◌, ◌^◌, [], ◌∷◌, length, true, false, IfNone, IfSome};
+ghost use Rattle.coordination.specs.Attempts.{Answers, Ran};
+ghost use Rattle.coordination.specs.Parts.{IsPartOf};
+ghost use Rattle.coordination.specs.Rule.{AddsOwn, Taken, carried_book};
+ghost use Rattle.coordination.specs.Sights.{hearing, holding, one, seeing, sight_of, stopping};
+
+use crate::questions::Question;
+use crate::rule::{Hear, Order, PutBack, SeatView, Start, Stop, Take};
+use atomic_table::{Seat, Table};
+use lock_journal::{Book, Disposition, Transform};
+use resource_lock::WorkerId;
+use std::alloc::{AllocError, Global};
+
+/// What a book says of one worker, and how many entries it has.
+#[derive(Clone, Copy, Debug)]
+pub struct Part {
+    pub entries: u64,
+    pub lease: bool,
+    pub blocked: bool,
+}
+
+fn part_of(book: &Book, worker: WorkerId) -> Part
+    requires { worker.0 < book.now.graph.workers }
+    ensures { IsPartOf book.now worker result }
+{
+    let state = book.state();
+    Part {
+        entries: book.len(),
+        lease: state.has_lease(worker),
+        blocked: state.blocked(worker),
+    }
+}
+
+/// The book in its slot, with a word that says whether it is out and a word that says who has
+/// stopped the service.
+#[derive(Drop)]
+pub struct Slot {
+    pub table: Table<Book, SeatView, Start, Order, Global>,
+    pub ghost sized: { (table.shared.table_id.words ≡ 2) × (table.shared.table_id.slots ≡ 1) },
+}
+
+impl Slot {
+    // Takes the book out, unless it is out.
+    pub fn try_take(&self, seat: &mut Seat<Book, SeatView>) -> bool
+        requires id { seat.old.table_id ≡ self.now.table.shared.table_id }
+        requires lone { seat.old.me ≡ (one (sight_of seat.old.me.0), []) }
+        ensures same { (seat.new.table_id ≡ seat.old.table_id) × (seat.new.id ≡ seat.old.id) }
+        ensures taken { result ≡ true → Taken seat.old.me seat.new.me }
+        ensures busy { result ≡ false → seat.new.me ≡ seat.old.me }
+    {
+        self.table.shared.swap::<Take>(seat, 0, 1) == 0
+    }
+
+    // Runs the transform on the book that the seat holds, and says what the worker has then.
+    pub fn run<T: Transform>(
+        &self,
+        seat: &mut Seat<Book, SeatView>,
+        worker: WorkerId,
+        transform: &T,
+    ) -> (Result<Disposition, AllocError>, Part)
+        requires id { seat.old.table_id ≡ self.now.table.shared.table_id }
+        requires held { seat.old.me.1 ≡ (0, carried_book seat.old.me.1) ∷ [] }
+        requires known { worker.0 < (carried_book seat.old.me.1).graph.workers }
+        ensures same { (seat.new.table_id ≡ seat.old.table_id) × (seat.new.id ≡ seat.old.id) × (seat.new.me.0 ≡ seat.old.me.0) }
+        ensures held { seat.new.me.1 ≡ (0, carried_book seat.new.me.1) ∷ [] }
+        ensures graph { (carried_book seat.new.me.1).graph ≡ (carried_book seat.old.me.1).graph }
+        ensures ran { Ran (T.kind_of transform.now) (T.fails_on transform.now) (T.retries_on transform.now) worker (carried_book seat.old.me.1) (carried_book seat.new.me.1) result.0 }
+        ensures part { IsPartOf (carried_book seat.new.me.1) worker result.1 }
+    {
+        let book = seat.slot_mut(&self.table.shared, 0);
+        let ran = book.run(worker, transform);
+        (ran, part_of(book, worker))
+    }
+
+    // Asks the question of the book that the seat holds.
+    pub fn put<Q: Question>(
+        &self,
+        seat: &mut Seat<Book, SeatView>,
+        worker: WorkerId,
+        question: &Q,
+    ) -> Option<Q::Answer>
+        requires id { seat.old.table_id ≡ self.now.table.shared.table_id }
+        requires held { seat.old.me.1 ≡ (0, carried_book seat.old.me.1) ∷ [] }
+        requires known { worker.0 < (carried_book seat.old.me.1).graph.workers }
+        ensures same { (seat.new.table_id ≡ seat.old.table_id) × (seat.new.id ≡ seat.old.id) × (seat.new.me ≡ seat.old.me) }
+        ensures answer { Answers (Q.answers question.now) (Q.waits_on question.now) worker (carried_book seat.old.me.1) result }
+    {
+        let book = seat.slot_mut(&self.table.shared, 0);
+        question.ask(worker, book)
+    }
+
+    // Puts the book back.
+    pub fn put_back(&self, seat: &mut Seat<Book, SeatView>)
+        requires id { seat.old.table_id ≡ self.now.table.shared.table_id }
+        requires held { seat.old.me ≡ (holding (sight_of seat.old.me.0), (0, carried_book seat.old.me.1) ∷ []) }
+        requires own { AddsOwn (sight_of seat.old.me.0) (carried_book seat.old.me.1) }
+        ensures same { (seat.new.table_id ≡ seat.old.table_id) × (seat.new.id ≡ seat.old.id) }
+        ensures view { seat.new.me ≡ (one (seeing (sight_of seat.old.me.0) (carried_book seat.old.me.1)), []) }
+    {
+        self.table.shared.store::<PutBack>(seat, 0, 0);
+    }
+
+    // Stops the service, or says who has stopped it before.
+    pub fn mark(&self, seat: &mut Seat<Book, SeatView>, worker: WorkerId) -> Option<WorkerId>
+        requires id { seat.old.table_id ≡ self.now.table.shared.table_id }
+        requires lone { seat.old.me ≡ (one (sight_of seat.old.me.0), []) }
+        requires worker { worker ≡ (sight_of seat.old.me.0).worker }
+        ensures same { (seat.new.table_id ≡ seat.old.table_id) × (seat.new.id ≡ seat.old.id) }
+        ensures none { IfNone result (seat.new.me ≡ (one (stopping (sight_of seat.old.me.0)), [])) }
+        ensures some { IfSome result (λ w. seat.new.me ≡ (one (hearing (sight_of seat.old.me.0) w), [])) }
+    {
+        let found = self
+            .table
+            .shared
+            .compare_exchange::<Stop>(seat, 1, 0, u64::from(worker.0) + 1);
+        if found == 0 {
+            None
+        } else {
+            Some(WorkerId((found - 1) as u32))
+        }
+    }
+
+    // Who has stopped the service.
+    pub fn marked(&self, seat: &mut Seat<Book, SeatView>) -> Option<WorkerId>
+        requires id { seat.old.table_id ≡ self.now.table.shared.table_id }
+        requires lone { seat.old.me ≡ (one (sight_of seat.old.me.0), []) }
+        ensures same { (seat.new.table_id ≡ seat.old.table_id) × (seat.new.id ≡ seat.old.id) }
+        ensures none { IfNone result (seat.new.me ≡ seat.old.me) }
+        ensures some { IfSome result (λ w. seat.new.me ≡ (one (hearing (sight_of seat.old.me.0) w), [])) }
+    {
+        let found = self.table.shared.load::<Hear>(seat, 1);
+        if found == 0 {
+            None
+        } else {
+            Some(WorkerId((found - 1) as u32))
+        }
+    }
+}
