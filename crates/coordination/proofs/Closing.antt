@@ -10,7 +10,7 @@ use Rattle.resource_lock.specs.declared.ids.WorkerId.{WorkerId}
 use Rattle.lock_journal.specs.Journal.{Journal}
 use Rattle.coordination.specs.declared.rule.Sight.{Sight}
 use Rattle.coordination.specs.declared.rule.SeatView.{SeatView}
-use Rattle.coordination.specs.Agrees.{Agrees}
+use Rattle.coordination.specs.Agrees.{Agrees, IsSound}
 use Rattle.coordination.specs.Passes.{Seated}
 use Rattle.coordination.specs.Rule.{OutFits, home_of, Orderly}
 use Rattle.coordination.specs.Sights.{sight, all_of, no_book, sights_from, workers_from}
@@ -21,6 +21,7 @@ pub record Closes (g : Outline) (ss : List Sight) (xs : List Journal) : Type 0 w
   pub book : Journal
   pub mark : ℕ
   pub graph : book.graph ≡ g
+  pub sound : IsSound book
   pub slot : get_elem? xs 0 ≡ some book
   pub agrees : All (λ s. Agrees s.worker s.seen book) ss
   pub stops : All (λ s. mark ≡ suc s.worker.0 → s.stopped ≡ true) ss
@@ -45,7 +46,7 @@ length_map f [] = refl
 length_map f (x ∷ xs) = let h = length_map f xs in omega arith
 
 -- each worker is there
-there_is : (ss : List Sight) (n w : ℕ) → map (λ s. s.worker.0) ss ≡ workers_from 0 n → w < n → (w < length ss) × ((d : Sight) → (get_or ss w d).worker.0 ≡ w)
+pub there_is : (ss : List Sight) (n w : ℕ) → map (λ s. s.worker.0) ss ≡ workers_from 0 n → w < n → (w < length ss) × ((d : Sight) → (get_or ss w d).worker.0 ≡ w)
 there_is ss n w all low =
     let long : length ss ≡ n = sym (length_map (λ (s : Sight). s.worker.0) ss) ∙ (ap (λ (l : List ℕ). length l) all ∙ length_workers 0 n) in
     let inside : w < length ss = omega arith in
@@ -58,6 +59,7 @@ closing g id ss xs all s o at keeps None is =
       book = o.book;
       mark = o.mark;
       graph = o.graph;
+      sound = o.sound;
       slot = keeps 0 o.book (o.home ∙ ap (λ (k : Option ℕ). some (home_of k o.book)) is);
       agrees = λ k d h. (mine k d h).agrees;
       stops = λ k d h. (mine k d h).stops;
@@ -113,6 +115,9 @@ module _ (g : Outline) (ps : List Seated) (xs : List Journal) (result : Journal)
 
   pub graph_is : result.graph ≡ g
   graph_is = sym (ap (λ (b : Journal). b.graph) same) ∙ z.graph
+
+  pub sound_is : IsSound result
+  sound_is = subst IsSound same z.sound
 
   pub passes_agree : All (λ p. Agrees p.sight.worker p.sight.seen result) ps
   passes_agree = λ k d h. subst (Agrees (get_or ps k d).sight.worker (get_or ps k d).sight.seen) same (of_passes (λ (s : Sight). Agrees s.worker s.seen z.book) ps z.agrees k d h)

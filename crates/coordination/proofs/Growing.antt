@@ -81,7 +81,7 @@ goes_on w old new more sound sound' graph history none =
     }
 
 same_for-self : (w : WorkerId) (s : Standing) → SameFor w s s
-same_for-self w s = record { holding = refl; owns = λ l. refl; owned = refl; running = λ m. ((λ e. e), (λ e. e)); runs_task = refl; is_parked = refl; runs_unit = refl; is_idle = refl }
+same_for-self w s = record { holding = refl; owns = λ l. refl; owned = refl; running = λ m. ((λ e. e), (λ e. e)); claimed = refl; runs_task = refl; is_parked = refl; runs_unit = refl; is_idle = refl }
 
 same_for-then : (w : WorkerId) (a b c : Standing) → SameFor w a b → SameFor w b c → SameFor w a c
 same_for-then w a b c p q = record {
@@ -89,6 +89,7 @@ same_for-then w a b c p q = record {
   owns = λ l. q.owns l ∙ p.owns l;
   owned = q.owned ∙ p.owned;
   running = λ m. ((λ e. (q.running m).0 ((p.running m).0 e)), (λ e. (p.running m).1 ((q.running m).1 e)));
+  claimed = q.claimed ∙ p.claimed;
   runs_task = q.runs_task ∙ p.runs_task;
   is_parked = q.is_parked ∙ p.is_parked;
   runs_unit = q.runs_unit ∙ p.runs_unit;

@@ -6,3 +6,8 @@ pub mod Looks
 pub mod PassSteps
 pub mod Closing
 pub mod Opening
+pub mod InPlace
+pub mod Following
+pub mod Entries
+pub mod Nothing
+pub mod Rests

@@ -1,5 +1,5 @@
 -- One try under the lock, as the worker sees it.
-use Rattle.std.proofs.Common.{◌≡◌, ℕ, ◌<◌, List, [], ◌∷◌, ◌++◌, length, Result, Ok, Err, Option, Some, None, refl, sym, ap, ◌∙◌, subst, append-nil}
+use Rattle.std.proofs.Common.{◌≡◌, ◌<◌, List, [], ◌∷◌, ◌++◌, Result, Ok, Err, Option, Some, None, refl, sym, ap, ◌∙◌, subst, append-nil}
 use Rattle.resource_lock.specs.declared.ids.WorkerId.{WorkerId}
 use Rattle.resource_lock.specs.declared.changes.Change.{Change}
 use Rattle.resource_lock.specs.Outline.{Outline}
@@ -13,12 +13,13 @@ use Rattle.lock_journal.specs.declared.transforms.Disposition.{Disposition}
 use Rattle.lock_journal.specs.declared.transforms.Disposition.TheVariants.{Finished, Failed, Retry}
 use Rattle.run_laws.proofs.Growing.{lawful-push, replay-push}
 use Rattle.coordination.specs.declared.rule.Sight.{Sight}
-use Rattle.coordination.specs.Agrees.{Agrees, IsSound}
-use Rattle.coordination.specs.Attempts.{Answers, Asked, Attempted, Cause, Ran, last_after}
-use Rattle.coordination.specs.Lasts.{last_of}
+use Rattle.coordination.specs.Agrees.{IsSound}
+use Rattle.coordination.specs.Attempts.{Answers, Asked, Attempted, Cause, Ran}
 use Rattle.coordination.specs.Rule.{AddsOwn, M, Taken, carried_book}
 use Rattle.coordination.specs.Sights.{one, seeing, sight_of}
-use Rattle.coordination.proofs.Growing.{last_of-own}
+use Rattle.coordination.specs.Parts.{Follows, Grew, HasRoom, IsPartOf, marks_of}
+use Rattle.coordination.specs.declared.parts.Part.{Part}
+use Rattle.coordination.proofs.PassSteps.{part_on, room_on}
 
 -- the four clauses of the call together
 pub ran_of : {E : Type 0} (kind : Kind) (fails retries : Cause) (w : WorkerId) (old new : Journal) (r : Result Disposition E)
@@ -63,18 +64,6 @@ adds_own kind fails retries (Ok Failed) s new graph ran = record {
 adds_own kind fails retries (Ok Retry) s new graph ran = record { more = []; graph = graph; history = ran.history ∙ sym (append-nil s.seen.history); own = λ w ne. tt; sound = λ sound. sound-same s.seen new sound graph ran.state ran.history }
 adds_own kind fails retries (Err e) s new graph ran = record { more = []; graph = graph; history = ran.history ∙ sym (append-nil s.seen.history); own = λ w ne. tt; sound = λ sound. sound-same s.seen new sound graph ran.state ran.history }
 
--- the number that a pass keeps
-last_of-ran : {E : Type 0} (kind : Kind) (fails retries : Cause) (r : Result Disposition E) (w : WorkerId) (seen old new : Journal) → Agrees w seen old → Ran kind fails retries w old new r
-    → last_after r (length new.history) (last_of w seen.history) ≡ last_of w new.history
-last_of-ran kind fails retries (Ok Finished) w seen old new a ran =
-    let e : Entry = entry w kind (Some ran.0) in
-    ap (λ (l : List Entry). length l) ran.1.history ∙ sym (ap (λ (l : List Entry). last_of w l) ran.1.history ∙ last_of-own w old.history e refl)
-last_of-ran kind fails retries (Ok Failed) w seen old new a ran =
-    let e : Entry = entry w kind None in
-    ap (λ (l : List Entry). length l) ran.history ∙ sym (ap (λ (l : List Entry). last_of w l) ran.history ∙ last_of-own w old.history e refl)
-last_of-ran kind fails retries (Ok Retry) w seen old new a ran = sym (ap (λ (l : List Entry). last_of w l) ran.history ∙ a.last)
-last_of-ran kind fails retries (Err e) w seen old new a ran = sym (ap (λ (l : List Entry). last_of w l) ran.history ∙ a.last)
-
 -- m took the book and became m', whose view stayed in m''
 pub taken_sight : (m m' m'' : M) (t : Taken m m') → m''.0 ≡ m'.0 → sight_of m''.0 ≡ seeing (sight_of m.0) t.book
 taken_sight m m' m'' t same = ap sight_of (same ∙ ap (λ (x : M). x.0) t.is)
@@ -84,6 +73,30 @@ taken_book m m' t = ap (λ (x : M). carried_book x.1) t.is
 
 pub known_in : (m m' : M) (t : Taken m m') (worker : WorkerId) → worker ≡ (sight_of m.0).worker → worker.0 < (carried_book m'.1).graph.workers
 known_in m m' t worker is = subst (λ (p : WorkerId × Journal). p.0.0 < p.1.graph.workers) (λ i. (sym is i, sym (taken_book m m' t) i)) t.known
+
+-- the book that was taken is sound, and the worker's part is that of it
+pub sound_in : (m m' : M) (t : Taken m m') → IsSound (carried_book m'.1)
+sound_in m m' t = subst IsSound (sym (taken_book m m' t)) t.sound
+
+pub part_in : (m m' : M) (t : Taken m m') (worker : WorkerId) (part : Part) → worker ≡ (sight_of m.0).worker → IsPartOf (sight_of m.0).seen (sight_of m.0).worker part → IsPartOf (carried_book m'.1) worker part
+part_in m m' t worker part is p =
+    subst (λ (x : WorkerId × Journal). IsPartOf x.1 x.0 part) (λ i. (sym is i, sym (taken_book m m' t) i)) (part_on (sight_of m.0).worker (sight_of m.0).seen t.book part t.agrees p)
+
+pub room_in : (m m' : M) (t : Taken m m') (part : Part) → HasRoom (sight_of m.0).seen.graph.locks (marks_of (sight_of m.0).seen.graph) part
+    → HasRoom (carried_book m'.1).graph.locks (marks_of (carried_book m'.1).graph) part
+room_in m m' t part room =
+    subst (λ (b : Journal). HasRoom b.graph.locks (marks_of b.graph) part) (sym (taken_book m m' t)) (room_on (sight_of m.0).worker (sight_of m.0).seen t.book part t.agrees room)
+
+-- what a transform left of a book is what a part can follow
+grew : {E : Type 0} (kind : Kind) (fails retries : Cause) (w : WorkerId) (old new : Journal) (r : Result Disposition E) → Ran kind fails retries w old new r → Grew w old new r
+grew kind fails retries w old new (Ok Finished) ran = (kind, ran.0, ran.1)
+grew kind fails retries w old new (Ok Failed) ran = (kind, ran.history, ran.state)
+grew kind fails retries w old new (Ok Retry) ran = (ran.history, ran.state)
+grew kind fails retries w old new (Err e) ran = (ran.history, ran.state)
+
+pub follows : {E : Type 0} (kind : Kind) (fails retries : Cause) (w : WorkerId) (old new : Journal) (r : Result Disposition E) (part : Part) → IsSound old → new.graph ≡ old.graph → Ran kind fails retries w old new r
+    → IsPartOf old w part → HasRoom old.graph.locks (marks_of old.graph) part → Follows w old new r part
+follows kind fails retries w old new r part sound graph ran p room = record { sound = sound; graph = graph; grew = grew kind fails retries w old new r ran; kept = p; room = room }
 
 module _ {E : Type 0} (kind : Kind) (fails retries : Cause) (r : Result Disposition E) (m m' m'' : M) (t : Taken m m') (same : m''.0 ≡ m'.0) (worker : WorkerId) (is : worker ≡ (sight_of m.0).worker)
     (graph : (carried_book m''.1).graph ≡ (carried_book m'.1).graph) (ran : Ran kind fails retries worker (carried_book m'.1) (carried_book m''.1) r) where
@@ -103,13 +116,6 @@ module _ {E : Type 0} (kind : Kind) (fails retries : Cause) (r : Result Disposit
   pub attempted : (n : M) → n ≡ (one (seeing (sight_of m''.0) (carried_book m''.1)), []) → Attempted kind fails retries (sight_of m.0) (sight_of n.0) r
   attempted n back = record { before = t.book; after = carried_book m''.1; agrees = t.agrees; graph = same_graph; ran = found; is = after n back }
 
-  pub last_is : (last entries : ℕ) (n : M) → entries ≡ length (carried_book m''.1).history → last ≡ last_of (sight_of m.0).worker (sight_of m.0).seen.history
-      → n ≡ (one (seeing (sight_of m''.0) (carried_book m''.1)), []) → last_after r entries last ≡ last_of (sight_of n.0).worker (sight_of n.0).seen.history
-  last_is last entries n long was back =
-      (λ i. last_after r (long i) (was i))
-      ∙ (last_of-ran kind fails retries r (sight_of m.0).worker (sight_of m.0).seen t.book (carried_book m''.1) t.agrees found
-      ∙ sym (ap (λ (k : Sight). last_of k.worker k.seen.history) (after n back)))
-
 -- the same of a question
 module _ {A : Type 0} (answers : WorkerId → Journal → A → Type 0) (waits : WorkerId → Journal → Type 0) (r : Option A) (m m' m'' : M) (t : Taken m m') (same : m'' ≡ m') (worker : WorkerId)
     (is : worker ≡ (sight_of m.0).worker) where
@@ -125,7 +131,3 @@ module _ {A : Type 0} (answers : WorkerId → Journal → A → Type 0) (waits :
 
   pub asked : Answers answers waits worker (carried_book m'.1) r → (n : M) → n ≡ (one (seeing (sight_of m''.0) (carried_book m''.1)), []) → Asked answers waits (sight_of m.0) (sight_of n.0) r
   asked a n back = record { book = t.book; agrees = t.agrees; answer = subst (λ (p : WorkerId × Journal). Answers answers waits p.0 p.1 r) (λ i. (is i, taken_book m m' t i)) a; is = after_ask n back }
-
-  pub last_stays : (last : ℕ) (n : M) → last ≡ last_of (sight_of m.0).worker (sight_of m.0).seen.history → n ≡ (one (seeing (sight_of m''.0) (carried_book m''.1)), [])
-      → last ≡ last_of (sight_of n.0).worker (sight_of n.0).seen.history
-  last_stays last n was back = was ∙ (sym t.agrees.last ∙ sym (ap (λ (k : Sight). last_of k.worker k.seen.history) (after_ask n back)))

@@ -1,5 +1,5 @@
 -- One try under the lock, as the worker sees it.
-use Rattle.std.specs.Prelude.{◌≡◌, ℕ, List, Result, Ok, Err, Option, Some, None}
+use Rattle.std.specs.Prelude.{◌≡◌, List, Result, Ok, Err, Option, Some, None}
 use Rattle.resource_lock.specs.Outline.{Outline}
 use Rattle.resource_lock.specs.Standing.{Standing}
 use Rattle.resource_lock.specs.declared.ids.WorkerId.{WorkerId}
@@ -44,10 +44,3 @@ pub record Asked {A : Type 0} (answers : WorkerId → Journal → A → Type 0) 
   pub agrees : Agrees s.worker s.seen book
   pub answer : Answers answers waits s.worker book r
   pub is : s' ≡ seeing s book
-
--- the number of the worker's last entry after a transform, of a history with n entries
-abbrev pub last_after : {E : Type 0} → Result Disposition E → ℕ → ℕ → ℕ
-last_after (Ok Finished) n last = n
-last_after (Ok Failed) n last = n
-last_after (Ok Retry) n last = last
-last_after (Err e) n last = last

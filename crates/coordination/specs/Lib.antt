@@ -2,8 +2,10 @@ pub mod Lasts
 pub mod Agrees
 pub mod AtRest
 pub mod Sights
+pub mod Wakes
 pub mod Rule
 pub mod Attempts
 pub mod Calls
+pub mod Rising
 pub mod Parts
 pub mod Passes

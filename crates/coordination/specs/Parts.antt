@@ -1,11 +1,105 @@
--- What a book says of one worker.
-use Rattle.std.specs.Prelude.{◌≡◌, length}
-use Rattle.resource_lock.specs.Standing.{holding_of}
+-- What a pass keeps of a book for its worker, and how it follows the worker's entries.
+use Rattle.std.specs.Prelude.{◌≡◌, ◌+◌, ◌<◌, ◌≤◌, ℕ, true, false, List, [], ◌∷◌, ◌++◌, length, vec_capacity, vec_len, Result, Ok, Err, None}
+use Rattle.std.specs.List.{AllByRecursion}
+use Rattle.resource_lock.specs.Change.{can_all, holding_after, NamesOnly}
+use Rattle.resource_lock.specs.Good.{Good}
+use Rattle.resource_lock.specs.Outline.{Outline}
+use Rattle.resource_lock.specs.Standing.{Holding, IsWorkerOf, Standing, holding_of, runs_by}
+use Rattle.resource_lock.specs.declared.changes.Change.{Change}
+use Rattle.resource_lock.specs.declared.changes.Change.TheVariants.{Lock, Move, Park}
 use Rattle.resource_lock.specs.declared.ids.WorkerId.{WorkerId}
+use Rattle.lock_journal.specs.Entry.{entry}
 use Rattle.lock_journal.specs.Journal.{Journal}
-use Rattle.coordination.specs.declared.slots.Part.{Part}
+use Rattle.lock_journal.specs.Ran.{HasFinished}
+use Rattle.lock_journal.specs.Table.{owned}
+use Rattle.lock_journal.specs.declared.entries.Kind.{Kind}
+use Rattle.lock_journal.specs.declared.transforms.Disposition.{Disposition}
+use Rattle.lock_journal.specs.declared.transforms.Disposition.TheVariants.{Finished, Failed, Retry}
+use Rattle.run_laws.specs.Own.{claimed}
+use Rattle.run_laws.specs.OwnChanges.{claimed_after, locks_after, mark_before, without_if}
+use Rattle.coordination.specs.Agrees.{IsSound}
+use Rattle.coordination.specs.Lasts.{last_of}
+use Rattle.coordination.specs.declared.parts.Part.{Part}
+use Rattle.coordination.specs.declared.parts.Room.{Room}
 
+abbrev pub holding_in : Part → Holding
+holding_in part = record { lease = part.lease; parked = part.parked.items; blocked = part.blocked }
+
+-- the part says what the worker has, owns and runs
+pub record Has (s : Standing) (w : WorkerId) (part : Part) : Type 0 where
+  pub holding : holding_in part ≡ holding_of s w
+  pub locks : part.locks.items ≡ owned s w
+  pub claimed : part.claimed.items ≡ claimed s w
+
+-- the part says that of the book's state, and which entry was the worker's last
 pub record IsPartOf (book : Journal) (w : WorkerId) (part : Part) : Type 0 where
-  pub entries : part.entries ≡ length book.history
-  pub lease : part.lease ≡ (holding_of book.state w).lease
-  pub blocked : part.blocked ≡ (holding_of book.state w).blocked
+  pub has : Has book.state w part
+  pub last : part.last ≡ last_of w book.history
+
+-- how many tasks, actions and units there are together
+abbrev pub marks_of : Outline → ℕ
+marks_of g = length g.tasks + length g.actions + g.units
+
+abbrev pub mark_count : Standing → ℕ
+mark_count s = length s.tasks + length s.actions + length s.units
+
+pub record IsRoomOf (g : Outline) (room : Room) : Type 0 where
+  pub locks : room.locks ≡ g.locks
+  pub marks : room.marks ≡ marks_of g
+
+-- its lists have room for so many locks and marks
+pub record HasRoom (locks marks : ℕ) (part : Part) : Type 0 where
+  pub lock_room : locks ≤ vec_capacity part.locks
+  pub mark_room : marks ≤ vec_capacity part.claimed
+  pub park_room : locks ≤ vec_capacity part.parked
+
+-- it has nothing, and room for all
+pub record IsResting (room : Room) (last : ℕ) (part : Part) : Type 0 where
+  pub lease : part.lease ≡ false
+  pub blocked : part.blocked ≡ false
+  pub locks : part.locks.items ≡ []
+  pub claimed : part.claimed.items ≡ []
+  pub parked : part.parked.items ≡ []
+  pub number : part.last ≡ last
+  pub has_room : HasRoom room.locks room.marks part
+
+-- its lists have room for a change of the worker
+abbrev pub HasRoomFor : WorkerId → Part → Change → Type 0
+HasRoomFor w part (Lock l) = vec_len part.locks < vec_capacity part.locks
+HasRoomFor w part (Park l) = vec_len part.parked < vec_capacity part.parked
+HasRoomFor w part (Move m from to) = runs_by w to ≡ true → length (without_if mark_before (runs_by w from) m part.claimed.items) < vec_capacity part.claimed
+HasRoomFor w part _ = Unit {0}
+
+-- the part after a change of the worker, which takes no memory
+pub record IsAfter (w : WorkerId) (c : Change) (old new : Part) : Type 0 where
+  pub last : new.last ≡ old.last
+  pub holding : holding_in new ≡ holding_after (holding_in old) c
+  pub locks : new.locks.items ≡ locks_after old.locks.items c
+  pub claimed : new.claimed.items ≡ claimed_after w old.claimed.items c
+  pub lock_room : vec_capacity new.locks ≡ vec_capacity old.locks
+  pub mark_room : vec_capacity new.claimed ≡ vec_capacity old.claimed
+  pub park_room : vec_capacity new.parked ≡ vec_capacity old.parked
+
+-- The part is that of the worker in a good state, in which it can make these changes in turn, and has room for all.
+pub record LeadsOn (s : Standing) (w : WorkerId) (part : Part) (changes : List Change) : Type 0 where
+  pub good : Good s
+  pub worker : IsWorkerOf s w
+  pub named : AllByRecursion (NamesOnly s) changes
+  pub possible : can_all s w changes ≡ true
+  pub has : Has s w part
+  pub room : HasRoom (length s.owners) (mark_count s) part
+
+-- a book after a transform of the worker
+abbrev pub Grew : {E : Type 0} → WorkerId → Journal → Journal → Result Disposition E → Type 0
+Grew w old new (Ok Finished) = (kind : Kind) × (changes : List Change) × HasFinished old new w kind changes
+Grew w old new (Ok Failed) = (kind : Kind) × (new.history ≡ old.history ++ entry w kind None ∷ []) × (new.state ≡ old.state)
+Grew w old new (Ok Retry) = (new.history ≡ old.history) × (new.state ≡ old.state)
+Grew w old new (Err e) = (new.history ≡ old.history) × (new.state ≡ old.state)
+
+-- The part is that of a sound book, on which a transform of the worker was run.
+pub record Follows {E : Type 0} (w : WorkerId) (old new : Journal) (ran : Result Disposition E) (part : Part) : Type 0 where
+  pub sound : IsSound old
+  pub graph : new.graph ≡ old.graph
+  pub grew : Grew w old new ran
+  pub kept : IsPartOf old w part
+  pub room : HasRoom old.graph.locks (marks_of old.graph) part

@@ -1,7 +1,8 @@
 //! One try under the lock. Nothing here waits.
 ghost use Rattle.std.specs.Prelude.{◌≡◌, IfNone, IfSome};
-ghost use Rattle.coordination.specs.Attempts.{Asked, Attempted, last_after};
+ghost use Rattle.coordination.specs.Attempts.{Asked, Attempted};
 ghost use Rattle.coordination.specs.Sights.{hearing};
+ghost use Rattle.coordination.specs.Wakes.{last_lets_go_on};
 
 use crate::passes::Pass;
 use crate::questions::Question;
@@ -10,37 +11,26 @@ use lock_journal::{Disposition, Transform};
 use resource_lock::WorkerId;
 use std::alloc::AllocError;
 
-// The number of the pass's last entry, after a transform that left so many entries.
-fn last_number(ran: &Result<Disposition, AllocError>, entries: u64, last: u64) -> u64
-    ensures { result ≡ last_after ran.now entries last }
-{
-    match ran {
-        Ok(Disposition::Finished | Disposition::Failed) => entries,
-        Ok(Disposition::Retry) | Err(_) => last,
-    }
-}
-
 impl Slot {
-    // Runs the transform once, unless the book is out.
+    // Runs the transform once, unless the book is out, and says whether the last entry can let another
+    // worker go on.
     pub fn attempt<T: Transform>(
         &self,
         pass: &mut Pass,
         transform: &T,
-    ) -> Option<Result<Disposition, AllocError>>
+    ) -> Option<(Result<Disposition, AllocError>, bool)>
         requires { pass.old.service ≡ self.now.table.shared.table_id }
         ensures same { pass.new.service ≡ pass.old.service }
         ensures none { IfNone result (pass.new.sight ≡ pass.old.sight) }
-        ensures some { IfSome result (Attempted (T.kind_of transform.now) (T.fails_on transform.now) (T.retries_on transform.now) pass.old.sight pass.new.sight) }
+        ensures some { IfSome result (λ r. Attempted (T.kind_of transform.now) (T.fails_on transform.now) (T.retries_on transform.now) pass.old.sight pass.new.sight r.0) }
+        ensures frees { IfSome result (λ r. r.1 ≡ last_lets_go_on pass.new.sight.seen.history) }
     {
         if !self.try_take(&mut pass.seat) {
             return None;
         }
-        let (ran, part) = self.run(&mut pass.seat, pass.worker, transform);
+        let (ran, frees) = self.run(&mut pass.seat, pass.worker, &mut pass.part, transform);
         self.put_back(&mut pass.seat);
-        pass.last = last_number(&ran, part.entries, pass.last);
-        pass.lease = part.lease;
-        pass.blocked = part.blocked;
-        Some(ran)
+        Some((ran, frees))
     }
 
     // Asks the question once, unless the book is out.

@@ -5,19 +5,27 @@ mod attempts;
 mod halts;
 mod lasts;
 mod laws;
+mod parts;
 mod passes;
 mod questions;
+mod rising;
 mod rule;
 mod seats;
 mod services;
 mod slots;
+mod wakes;
 
 pub use halts::Halt;
 pub use laws::openings_are_at_rest;
 pub use passes::Pass;
 pub use questions::Question;
-pub use rule::{SeatView, Sight};
+pub use rule::Sight;
 pub use services::{Coordination, Opened};
+pub use wakes::lets_go_on;
 
 #[cfg(test)]
+mod pass_tests;
+#[cfg(test)]
 mod tests;
+#[cfg(test)]
+mod thread_tests;

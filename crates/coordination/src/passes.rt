@@ -1,20 +1,21 @@
 ghost use Rattle.std.specs.Prelude.{◌≡◌};
 ghost use Rattle.resource_lock.specs.Standing.{holding_of};
+ghost use Rattle.lock_journal.specs.Table.{owned};
+ghost use Rattle.run_laws.specs.Own.{claimed};
 ghost use Rattle.coordination.specs.Lasts.{last_of};
 
+use crate::parts::Part;
 use crate::rule::SeatView;
 use atomic_table::Seat;
 use lock_journal::Book;
-use resource_lock::WorkerId;
+use resource_lock::{LockId, MarkId, WorkerId};
 use std::marker::Model;
 
 /// A worker's part of a service. What it shows agrees with the book whenever the state is locked.
 #[derive(Drop)]
 pub struct Pass {
     pub(crate) worker: WorkerId,
-    pub(crate) last: u64,
-    pub(crate) lease: bool,
-    pub(crate) blocked: bool,
+    pub(crate) part: Part,
     pub(crate) stopped: bool,
     pub(crate) told: Option<WorkerId>,
     pub(crate) seat: Seat<Book, SeatView>,
@@ -29,7 +30,7 @@ impl Model for Pass {
 
     ghost view = { λ p. record { service = p.seat.table_id; sight = sight_of p.seat.me.0 } };
 
-    ghost invariant = { λ p. IsPass p.worker p.last p.lease p.blocked p.seat.me × (p.stopped ≡ (sight_of p.seat.me.0).stopped) × (p.told ≡ (sight_of p.seat.me.0).told) };
+    ghost invariant = { λ p. IsPass p.worker p.part p.seat.me × (p.stopped ≡ (sight_of p.seat.me.0).stopped) × (p.told ≡ (sight_of p.seat.me.0).told) };
 }
 
 impl Pass {
@@ -40,25 +41,47 @@ impl Pass {
         self.worker
     }
 
+    /// The locks that the worker owns, by rising number.
+    pub fn locks(&self) -> &[LockId]
+        ensures { result.now ≡ owned self.now.sight.seen.state self.now.sight.worker }
+    {
+        &self.part.locks
+    }
+
     /// Whether the worker has a lease.
     pub fn has_lease(&self) -> bool
         ensures { result ≡ (holding_of self.now.sight.seen.state self.now.sight.worker).lease }
     {
-        self.lease
+        self.part.lease
+    }
+
+    /// The marks that are Running by the worker: first of tasks, then of actions, then of units, each
+    /// by rising number.
+    pub fn claimed(&self) -> &[MarkId]
+        ensures { result.now ≡ claimed self.now.sight.seen.state self.now.sight.worker }
+    {
+        &self.part.claimed
+    }
+
+    /// The locks that the worker has parked, the last parked last.
+    pub fn parked(&self) -> &[LockId]
+        ensures { result.now ≡ (holding_of self.now.sight.seen.state self.now.sight.worker).parked }
+    {
+        &self.part.parked
     }
 
     /// Whether the worker is in a blocking section.
     pub fn blocked(&self) -> bool
         ensures { result ≡ (holding_of self.now.sight.seen.state self.now.sight.worker).blocked }
     {
-        self.blocked
+        self.part.blocked
     }
 
     /// The number of the worker's last entry, counted from 1 on, or 0.
     pub fn last(&self) -> u64
         ensures { result ≡ last_of self.now.sight.worker self.now.sight.seen.history }
     {
-        self.last
+        self.part.last
     }
 
     /// Whether the worker has stopped the service.

@@ -1,7 +1,6 @@
-ghost use Rattle.std.specs.Prelude.{◌≡◌, ◌<◌};
+ghost use Rattle.std.specs.Prelude.{◌≡◌, ◌<◌, IfNone, IfSome};
 ghost use Rattle.resource_lock.specs.declared.ids.WorkerId.{WorkerId};
 ghost use Rattle.lock_journal.specs.Journal.{Journal};
-ghost use Rattle.coordination.specs.Attempts.{Answers};
 
 use lock_journal::Book;
 use resource_lock::WorkerId;
@@ -17,8 +16,10 @@ pub trait Question {
     /// Where a worker may have to wait for an answer.
     ghost waits_on: { Self → WorkerId → Journal → Type 0 };
 
-    /// The answer, or None where it can be asked again once the book has changed.
+    /// The answer, or None where it is to be asked again once the book has another entry, be it a
+    /// failed one. So the answer may depend on anything in the book.
     fn ask(&self, worker: WorkerId, book: &Book) -> Option<Self::Answer>
         requires { worker.0 < book.now.graph.workers }
-        ensures { Answers (answers self.now) (waits_on self.now) worker book.now result };
+        ensures answers { IfSome result (λ answer. answers self.now worker book.now answer) }
+        ensures waits { IfNone result (waits_on self.now worker book.now) };
 }

@@ -2,10 +2,12 @@
 ghost use Rattle.std.specs.Prelude.{◌≡◌, ◌<◌, ◌^◌, [], ◌∷◌, All, IfOk, Some, ℕ, length, map, slice_index, true};
 ghost use Rattle.resource_lock.specs.declared.ids.WorkerId.{WorkerId};
 ghost use Rattle.coordination.specs.Agrees.{Agrees, IsSound};
-ghost use Rattle.coordination.specs.AtRest.{IsAtRest};
+ghost use Rattle.coordination.specs.AtRest.{HoldsNothing, IsAtRest};
 ghost use Rattle.coordination.specs.Lasts.{last_of};
+ghost use Rattle.coordination.specs.Parts.{IsRoomOf};
 ghost use Rattle.coordination.specs.Sights.{sights_from, starting, workers_from};
 
+use crate::parts::{Part, Room};
 use crate::passes::Pass;
 use crate::rule::{OneWorker, SeatView, Sit, Start};
 use crate::slots::Slot;
@@ -42,11 +44,13 @@ impl Slot {
         alloc: Global,
         mut seat: Seat<Book, SeatView>,
         workers: u32,
+        room: Room,
         lasts: &[u64],
     ) -> Result<Vec<Pass>, AllocError>
         requires id { seat.table_id ≡ self.now.table.shared.table_id }
         requires view { seat.me ≡ (starting self.now.table.shared.key.book.value, []) }
         requires workers { self.now.table.shared.key.book.value.graph.workers ≡ workers }
+        requires room { IsRoomOf self.now.table.shared.key.book.value.graph room }
         requires rest { IsAtRest self.now.table.shared.key.book.value.state }
         requires len { length lasts.now ≡ workers }
         requires each { (w : ℕ) → w < workers → slice_index lasts.now w ≡ last_of (record { 0 = w }) self.now.table.shared.key.book.value.history }
@@ -55,15 +59,14 @@ impl Slot {
     {
         let mut passes = Vec::new(alloc);
         for worker in 0..workers {
-            let part = self.table.shared.split_seat::<OneWorker>(&mut seat);
+            let part = Part::resting(alloc, room, lasts[worker as usize])?;
+            let own = self.table.shared.split_seat::<OneWorker>(&mut seat);
             passes.push(Pass {
                 worker: WorkerId(worker),
-                last: lasts[worker as usize],
-                lease: false,
-                blocked: false,
+                part,
                 stopped: false,
                 told: None,
-                seat: part,
+                seat: own,
             })?;
         }
         Ok(passes)
@@ -75,6 +78,8 @@ impl Slot {
         requires all { map (λ p. p.sight.worker.0) passes.items ≡ workers_from 0 self.table.shared.key.book.value.graph.workers }
         ensures graph { result.graph ≡ self.table.shared.key.book.value.graph }
         ensures agrees { All (λ p. Agrees p.sight.worker p.sight.seen result) passes.items }
+        ensures rest { All (λ p. HoldsNothing p.sight) passes.items → IsAtRest result.state }
+        ensures entries { All (λ e. e.worker.0 < result.graph.workers) result.history }
         ensures told { All (λ p. (by : WorkerId) → p.sight.told ≡ Some by → All (λ q. q.sight.worker ≡ by → q.sight.stopped ≡ true) passes.items) passes.items }
     {
         let Slot { table } = self;

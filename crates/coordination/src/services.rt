@@ -1,12 +1,13 @@
 ghost use Rattle.std.specs.Prelude.{◌≡◌, ◌≢◌, ◌<◌, [], All, IfOk, Ok, Err, Some, ℕ, length, map, slice_index, true, false};
 ghost use Rattle.resource_lock.specs.declared.ids.WorkerId.{WorkerId};
 ghost use Rattle.coordination.specs.Agrees.{Agrees};
-ghost use Rattle.coordination.specs.AtRest.{IsAtRest};
+ghost use Rattle.coordination.specs.AtRest.{HoldsNothing, IsAtRest};
 ghost use Rattle.coordination.specs.Calls.{AskedInVain, HasFailed, HasFinished, HasLooked, HasStopped, IsAnswered, WasStopped};
 ghost use Rattle.coordination.specs.Sights.{sights_from, workers_from};
 
 use crate::halts::Halt;
 use crate::lasts::last_numbers;
+use crate::parts::Room;
 use crate::passes::Pass;
 use crate::questions::Question;
 use crate::rule::Start;
@@ -15,14 +16,26 @@ use lock_journal::{Book, Disposition, Transform};
 use std::alloc::{AllocError, Global};
 use std::marker::Model;
 use std::snapshot::Snapshot;
-use std::sync::{Condvar, Mutex, Wait};
+use std::sync::{Condvar, Mutex, MutexGuard, Wait};
+
+/// Who may be asleep.
+#[derive(Clone, Copy, Debug)]
+struct Sleepers {
+    transforms: bool,
+    questions: bool,
+}
 
 /// One book that several workers change, one at a time.
+///
+/// Whoever looks at the book, or changes it, has the gate locked, and so has who falls asleep.
 #[derive(Drop)]
 pub struct Coordination {
     slot: Slot,
-    gate: Mutex<()>,
-    changed: Condvar,
+    gate: Mutex<Sleepers>,
+    // Questions wait for this, which comes with each entry.
+    entered: Condvar,
+    // Transforms wait for this, which comes with each entry that can let another worker go on.
+    freed: Condvar,
 }
 
 impl Model for Coordination {
@@ -57,22 +70,28 @@ impl Coordination {
             book: Snapshot::of(&book),
         };
         let workers = book.graph().workers();
+        let room = Room::of(book.graph());
         let lasts = last_numbers(alloc, &book, workers)?;
         let (slot, seat) = Slot::new(alloc, book, &start)?;
-        let passes = slot.passes(alloc, seat, workers, &lasts)?;
+        let passes = slot.passes(alloc, seat, workers, room, &lasts)?;
         let service = Coordination {
             slot,
-            gate: Mutex::new(()),
-            changed: Condvar::new(),
+            gate: Mutex::new(Sleepers {
+                transforms: false,
+                questions: false,
+            }),
+            entered: Condvar::new(),
+            freed: Condvar::new(),
         };
         Ok(Opened { service, passes })
     }
 
     /// Gets the state lock and runs the transform.
     ///
-    /// True means that it finished: those that wait are woken. False means that it failed. Where it
-    /// asks to be run again, the call waits for a change, unless the service was stopped. After
-    /// `NoMemory` and `Stopped` the pass is as before, but that `Stopped` tells it by whom.
+    /// True means that it finished, and false that it failed. Where it asks to be run again, the call
+    /// runs it again after an entry with a change that can let another worker go on (`lets_go_on`),
+    /// or answers that the service was stopped. After `NoMemory` and `Stopped` the pass is as before,
+    /// but that `Stopped` tells it by whom.
     pub fn with_state_lock<T: Transform, R: Wait>(
         &self,
         rt: &R,
@@ -90,29 +109,33 @@ impl Coordination {
         let mut guard = self.gate.lock(rt);
         for _ in rt.forever() {
             match self.slot.attempt(pass, transform) {
-                Some(Ok(Disposition::Finished)) => {
-                    drop(guard);
-                    self.changed.notify_all();
+                Some((Ok(Disposition::Finished), frees)) => {
+                    self.tell_entry(guard, frees);
                     return Ok(true);
                 }
-                Some(Ok(Disposition::Failed)) => return Ok(false),
-                Some(Err(_)) => return Err(Halt::NoMemory),
-                Some(Ok(Disposition::Retry)) => {
+                Some((Ok(Disposition::Failed), frees)) => {
+                    self.tell_entry(guard, frees);
+                    return Ok(false);
+                }
+                Some((Err(_), _)) => return Err(Halt::NoMemory),
+                Some((Ok(Disposition::Retry), _)) => {
                     if let Some(by) = self.slot.hear(pass) {
                         return Err(Halt::Stopped(by));
                     }
                 }
                 None => {}
             }
-            guard = self.changed.wait(rt, guard);
+            guard.transforms = true;
+            guard = self.freed.wait(rt, guard);
         }
         unreachable!()
     }
 
     /// Gets the state lock and asks the question, which makes no entry and changes no state.
     ///
-    /// Where it has no answer yet, the call waits for a change, unless the service was stopped. It
-    /// never gives `NoMemory`. After `Stopped` the pass is as before, but that it is told by whom.
+    /// Where it has no answer yet, the call asks again after an entry, failed ones too, or answers
+    /// that the service was stopped. It never gives `NoMemory`. After `Stopped` the pass is as before,
+    /// but that it is told by whom.
     pub fn ask<Q: Question, R: Wait>(
         &self,
         rt: &R,
@@ -137,17 +160,37 @@ impl Coordination {
                 }
                 None => {}
             }
-            guard = self.changed.wait(rt, guard);
+            guard.questions = true;
+            guard = self.entered.wait(rt, guard);
         }
         unreachable!()
     }
 
-    /// Wakes those that wait for a change.
+    /// Wakes all that wait: each transform is run again, and each question asked again.
+    ///
+    /// It doesn't take the state lock, so who is just about to wait may not hear of it. Entries and
+    /// stops don't need it.
     pub fn notify_state_change(&self) {
-        self.changed.notify_all();
+        self.entered.notify_all();
+        self.freed.notify_all();
     }
 
-    /// Stops the service with this pass, and wakes those that wait. Where it was stopped before,
+    // Lets the gate go after an entry, and wakes the questions, and the transforms too where the entry
+    // can let them go on. It touches no Condvar on which nobody sleeps.
+    fn tell_entry(&self, mut guard: MutexGuard<'_, Sleepers>, frees: bool) {
+        let asleep = *guard;
+        guard.questions = false;
+        guard.transforms = asleep.transforms && !frees;
+        drop(guard);
+        if asleep.questions {
+            self.entered.notify_all();
+        }
+        if asleep.transforms && frees {
+            self.freed.notify_all();
+        }
+    }
+
+    /// Stops the service with this pass, and wakes all that wait. Where it was stopped before,
     /// the pass is told by whom.
     pub fn stop_all<R: Wait>(&self, rt: &R, pass: &mut Pass)
         requires { pass.old.service ≡ self.now.service }
@@ -160,22 +203,26 @@ impl Coordination {
             None => pass.stopped = true,
             Some(by) => pass.told = Some(by),
         }
-        drop(guard);
-        self.changed.notify_all();
+        self.tell_entry(guard, true);
     }
 
-    /// Takes the book out for good.
+    /// Takes the book out for good. Every pass agrees with it, and each of its entries is of a worker
+    /// with a pass, so that its closings are those of the passes. Where every pass holds nothing,
+    /// nobody in the book owns a lock, has a lease, has parked a lock, is blocked or runs anything.
     pub fn finish(self, passes: Vec<Pass>) -> Book
         requires service { All (λ p. p.service ≡ self.service) passes.items }
         requires all { map (λ p. p.sight.worker.0) passes.items ≡ workers_from 0 self.book.graph.workers }
         ensures graph { result.graph ≡ self.book.graph }
         ensures agrees { All (λ p. Agrees p.sight.worker p.sight.seen result) passes.items }
+        ensures rest { All (λ p. HoldsNothing p.sight) passes.items → IsAtRest result.state }
+        ensures entries { All (λ e. e.worker.0 < result.graph.workers) result.history }
         ensures told { All (λ p. (by : WorkerId) → p.sight.told ≡ Some by → All (λ q. q.sight.worker ≡ by → q.sight.stopped ≡ true) passes.items) passes.items }
     {
         let Coordination {
             slot,
             gate: _,
-            changed: _,
+            entered: _,
+            freed: _,
         } = self;
         slot.close(passes)
     }

@@ -1,36 +1,20 @@
 //! The steps on the table.
 ghost use Rattle.std.specs.Prelude.{◌≡◌, ◌≢◌, ◌<◌, ◌+◌, ◌-◌, ◌^◌, [], ◌∷◌, length, true, false, IfNone, IfSome};
 ghost use Rattle.coordination.specs.Attempts.{Answers, Ran};
-ghost use Rattle.coordination.specs.Parts.{IsPartOf};
+ghost use Rattle.coordination.specs.Agrees.{IsSound};
+ghost use Rattle.coordination.specs.Parts.{HasRoom, IsPartOf, marks_of};
 ghost use Rattle.coordination.specs.Rule.{AddsOwn, Taken, carried_book};
 ghost use Rattle.coordination.specs.Sights.{hearing, holding, one, seeing, sight_of, stopping};
+ghost use Rattle.coordination.specs.Wakes.{last_lets_go_on};
 
+use crate::parts::Part;
 use crate::questions::Question;
 use crate::rule::{Hear, Order, PutBack, SeatView, Start, Stop, Take};
+use crate::wakes::last_lets_go_on;
 use atomic_table::{Seat, Table};
 use lock_journal::{Book, Disposition, Transform};
 use resource_lock::WorkerId;
 use std::alloc::{AllocError, Global};
-
-/// What a book says of one worker, and how many entries it has.
-#[derive(Clone, Copy, Debug)]
-pub struct Part {
-    pub entries: u64,
-    pub lease: bool,
-    pub blocked: bool,
-}
-
-fn part_of(book: &Book, worker: WorkerId) -> Part
-    requires { worker.0 < book.now.graph.workers }
-    ensures { IsPartOf book.now worker result }
-{
-    let state = book.state();
-    Part {
-        entries: book.len(),
-        lease: state.has_lease(worker),
-        blocked: state.blocked(worker),
-    }
-}
 
 /// The book in its slot, with a word that says whether it is out and a word that says who has
 /// stopped the service.
@@ -52,25 +36,33 @@ impl Slot {
         self.table.shared.swap::<Take>(seat, 0, 1) == 0
     }
 
-    // Runs the transform on the book that the seat holds, and says what the worker has then.
+    // Runs the transform on the book that the seat holds, has the worker's part follow it, and says
+    // whether the last entry can let another worker go on.
     pub fn run<T: Transform>(
         &self,
         seat: &mut Seat<Book, SeatView>,
         worker: WorkerId,
+        part: &mut Part,
         transform: &T,
-    ) -> (Result<Disposition, AllocError>, Part)
+    ) -> (Result<Disposition, AllocError>, bool)
         requires id { seat.old.table_id ≡ self.now.table.shared.table_id }
         requires held { seat.old.me.1 ≡ (0, carried_book seat.old.me.1) ∷ [] }
         requires known { worker.0 < (carried_book seat.old.me.1).graph.workers }
+        requires sound { IsSound (carried_book seat.old.me.1) }
+        requires part { IsPartOf (carried_book seat.old.me.1) worker part.old }
+        requires room { HasRoom (carried_book seat.old.me.1).graph.locks (marks_of (carried_book seat.old.me.1).graph) part.old }
         ensures same { (seat.new.table_id ≡ seat.old.table_id) × (seat.new.id ≡ seat.old.id) × (seat.new.me.0 ≡ seat.old.me.0) }
         ensures held { seat.new.me.1 ≡ (0, carried_book seat.new.me.1) ∷ [] }
         ensures graph { (carried_book seat.new.me.1).graph ≡ (carried_book seat.old.me.1).graph }
         ensures ran { Ran (T.kind_of transform.now) (T.fails_on transform.now) (T.retries_on transform.now) worker (carried_book seat.old.me.1) (carried_book seat.new.me.1) result.0 }
-        ensures part { IsPartOf (carried_book seat.new.me.1) worker result.1 }
+        ensures part { IsPartOf (carried_book seat.new.me.1) worker part.new }
+        ensures room { HasRoom (carried_book seat.new.me.1).graph.locks (marks_of (carried_book seat.new.me.1).graph) part.new }
+        ensures frees { result.1 ≡ last_lets_go_on (carried_book seat.new.me.1).history }
     {
         let book = seat.slot_mut(&self.table.shared, 0);
         let ran = book.run(worker, transform);
-        (ran, part_of(book, worker))
+        part.follow(worker, book, &ran);
+        (ran, last_lets_go_on(book))
     }
 
     // Asks the question of the book that the seat holds.

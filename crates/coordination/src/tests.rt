@@ -2,11 +2,12 @@ ghost use Rattle.std.specs.Prelude.{◌≡◌, ◌<◌, [], ◌∷◌, length, m
 ghost use Rattle.resource_lock.specs.Standing.{leases_out};
 ghost use Rattle.lock_journal.specs.declared.entries.Kind.TheVariants as kinds;
 
-use crate::{Coordination, Halt, Opened, Question, openings_are_at_rest};
+use crate::{Coordination, Halt, Opened, Pass, Question, lets_go_on, openings_are_at_rest};
 use lock_journal::{Book, Disposition, Kind, Tentative, Transform};
-use resource_lock::{Change, Graph, LockId, WorkerId};
-use std::alloc::Global;
+use resource_lock::{Change, Graph, LockId, Mark, MarkId, WorkerId};
+use std::alloc::{AllocError, Global};
 use std::process::Abort;
+use std::sync::Wait;
 use std::test::Fail;
 
 /// Takes lock 0 and a lease, or asks to be run again.
@@ -65,6 +66,28 @@ impl Question for LeasesOut {
     }
 }
 
+/// How many entries there are, once there are so many.
+#[derive(Clone, Copy, Debug)]
+pub struct EntriesFrom {
+    pub least: u64,
+}
+
+impl Question for EntriesFrom {
+    type Answer = u64;
+
+    ghost answers = { λ _ _ book entries. entries ≡ length book.history };
+
+    ghost waits_on = { λ q _ book. length book.history < q.least };
+
+    fn ask(&self, _worker: WorkerId, book: &Book) -> Option<u64> {
+        let entries = book.len();
+        if entries < self.least {
+            return None;
+        }
+        Some(entries)
+    }
+}
+
 /// A service with one lock, two workers and two leases, without tasks.
 fn open_service(rt: &impl Abort, alloc: Global) -> Result<Opened, Fail>
     ensures locks { IfOk result (λ opened. opened.service.book.graph.locks ≡ 1) }
@@ -82,14 +105,47 @@ fn open_service(rt: &impl Abort, alloc: Global) -> Result<Opened, Fail>
     Ok(Coordination::open(alloc, book)?)
 }
 
+/// Takes lock 0 and a lease. Where memory is wanting, the pass is as before.
+fn take_first<R: Wait + Abort>(rt: &R, service: &Coordination, pass: &mut Pass) -> Result<(), Fail>
+    requires { pass.old.service ≡ service.now.service }
+    ensures service { pass.new.service ≡ pass.old.service }
+    ensures worker { pass.new.sight.worker ≡ pass.old.sight.worker }
+{
+    let last = pass.last();
+    match service.with_state_lock(rt, pass, &TakeFirst) {
+        Err(Halt::NoMemory) => {
+            assert_eq!(rt; pass.last(), last);
+            assert!(rt; !pass.has_lease());
+            Err(AllocError)?
+        }
+        done => assert_eq!(rt; done, Ok(true)),
+    }
+    Ok(())
+}
+
+/// Takes lock 0 and a lease, and then stops the service.
+fn take_first_and_stop<R: Wait + Abort>(
+    rt: &R,
+    service: &Coordination,
+    pass: &mut Pass,
+) -> Result<(), Fail>
+    requires { pass.old.service ≡ service.now.service }
+    ensures { pass.new.service ≡ pass.old.service }
+{
+    take_first(rt, service, pass)?;
+    service.stop_all(rt, pass);
+    assert!(rt; pass.stopped());
+    assert_eq!(rt; pass.told(), None);
+    Ok(())
+}
+
 #[test]
 fn a_finished_transform_shows_in_its_pass(rt: HostRuntime) -> Result<(), Fail> {
     let Opened {
         service,
         mut passes,
     } = open_service(&rt, rt.alloc())?;
-    let done = service.with_state_lock(&rt, &mut passes[0], &TakeFirst);
-    assert_eq!(rt; done, Ok(true));
+    take_first(&rt, &service, &mut passes[0])?;
     assert_eq!(rt; passes[0].last(), 1);
     assert!(rt; passes[0].has_lease());
     assert!(rt; !passes[0].blocked());
@@ -105,16 +161,16 @@ fn a_retry_after_a_stop_is_told_by_whom(rt: HostRuntime) -> Result<(), Fail> {
         service,
         mut passes,
     } = open_service(&rt, rt.alloc())?;
-    let done = service.with_state_lock(&rt, &mut passes[0], &TakeFirst);
-    assert_eq!(rt; done, Ok(true));
-    service.stop_all(&rt, &mut passes[0]);
+    take_first_and_stop(&rt, &service, &mut passes[0])?;
     let told = service.with_state_lock(&rt, &mut passes[1], &TakeFirst);
     assert_eq!(rt; told, Err(Halt::Stopped(WorkerId(0))));
-    assert!(rt; passes[0].stopped());
-    assert_eq!(rt; passes[0].told(), None);
     assert!(rt; !passes[1].stopped());
     assert_eq!(rt; passes[1].told(), Some(WorkerId(0)));
     assert_eq!(rt; passes[1].last(), 0);
+    assert!(rt; !passes[1].has_lease());
+    assert!(rt; !passes[1].blocked());
+    let entries = service.ask(&rt, &mut passes[1], &EntriesFrom { least: 1 });
+    assert_eq!(rt; entries, Ok(1));
     Ok(())
 }
 
@@ -124,10 +180,50 @@ fn the_finished_book_has_what_the_passes_did(rt: HostRuntime) -> Result<(), Fail
         service,
         mut passes,
     } = open_service(&rt, rt.alloc())?;
-    let done = service.with_state_lock(&rt, &mut passes[0], &TakeFirst);
-    assert_eq!(rt; done, Ok(true));
+    take_first(&rt, &service, &mut passes[0])?;
     let book = service.finish(passes);
     assert_eq!(rt; book.len(), 1);
+    let entry = book.entry(0);
+    assert_eq!(rt; entry.worker, WorkerId(0));
+    assert_eq!(rt; entry.kind, Kind::Acquire);
+    assert!(rt; !entry.failed);
+    let taken = [Change::Lock(LockId(0)), Change::Take];
+    assert_eq!(rt; entry.changes, taken.as_slice());
     assert_eq!(rt; book.state().owner(LockId(0)), Some(WorkerId(0)));
+    Ok(())
+}
+
+#[test]
+fn a_book_at_rest_comes_back_as_it_was(rt: HostRuntime) -> Result<(), Fail> {
+    let Opened { service, passes } = open_service(&rt, rt.alloc())?;
+    let book = service.finish(passes);
+    assert_eq!(rt; book.len(), 0);
+    assert_eq!(rt; book.state().owner(LockId(0)), None);
+    assert_eq!(rt; book.state().leases_out(), 0);
+    Ok(())
+}
+
+#[test]
+fn what_is_given_back_queued_or_ended_lets_others_go_on(rt: HostRuntime) -> Result<(), Fail> {
+    let lock = LockId(0);
+    let unit = MarkId::Unit(0);
+    let running = Mark::Running(WorkerId(0));
+    for (change, expected) in [
+        (Change::Lock(lock), false),
+        (Change::Unlock(lock), true),
+        (Change::Take, false),
+        (Change::Give, true),
+        (Change::Move(unit, Mark::Waiting, Mark::Queued), true),
+        (Change::Move(unit, Mark::Queued, running), false),
+        (Change::Move(unit, running, Mark::Passed), true),
+        (Change::Move(unit, running, Mark::Failed), true),
+        (Change::Move(unit, Mark::Waiting, Mark::Skipped), true),
+        (Change::Park(lock), false),
+        (Change::Unpark(lock), false),
+        (Change::Enter, false),
+        (Change::Leave, false),
+    ] {
+        assert_eq!(rt; lets_go_on(change), expected);
+    }
     Ok(())
 }

@@ -22,3 +22,5 @@ pub mod Honest
 pub mod InTurn
 pub mod WorkedRows
 pub mod ByNumber
+pub mod OwnChanges
+pub mod Named

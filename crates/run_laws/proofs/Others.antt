@@ -21,7 +21,7 @@ use Rattle.lock_journal.specs.declared.entries.Kind.{Kind}
 use Rattle.lock_journal.specs.Allowed.{Finishes, lawful_from}
 use Rattle.lock_journal.specs.Entry.{Entry, changed, effect, replay_from}
 use Rattle.lock_journal.specs.Table.{owned_from}
-use Rattle.run_laws.specs.Own.{SameFor, NoneOf}
+use Rattle.run_laws.specs.Own.{SameFor, NoneOf, marks_in, places_from}
 
 -- place by place, what is the worker's is the same
 record SamePlaces (w : WorkerId) (s s' : Standing) : Type 0 where
@@ -78,7 +78,14 @@ owned_same n w (o ∷ os) [] long same = absurd (omega arith)
 owned_same n w (o ∷ os) (p ∷ ps) long same =
     ap₂ (λ b (locks : List LockId). cond b (record { 0 = n } ∷ locks) locks) (same 0) (owned_same (n + 1) w os ps (omega arith) (λ i. same (suc i)))
 
-running_of : (w : WorkerId) (m : Mark) → runs_by w m ≡ true → m ≡ Running w
+places_same : {X : Type 0} (test : X → Bool) (n : ℕ) (d : X) (xs ys : List X) → length xs ≡ length ys → ((i : ℕ) → test (get_or ys i d) ≡ test (get_or xs i d)) → places_from test n ys ≡ places_from test n xs
+places_same test n d [] [] long same = refl
+places_same test n d [] (y ∷ ys) long same = absurd (omega arith)
+places_same test n d (x ∷ xs) [] long same = absurd (omega arith)
+places_same test n d (x ∷ xs) (y ∷ ys) long same =
+    ap₂ (λ b (places : List ℕ). cond b (n ∷ places) places) (same 0) (places_same test (n + 1) d xs ys (omega arith) (λ i. same (suc i)))
+
+pub running_of : (w : WorkerId) (m : Mark) → runs_by w m ≡ true → m ≡ Running w
 running_of w (Running v) h = ap Running (same_worker v w (eqb-true v.0 w.0 h))
 running_of w Waiting h = absurd (cc)
 running_of w _ h = absurd (cc)
@@ -92,11 +99,15 @@ same_for w s s' p =
     let task : runs_task s' w ≡ runs_task s w = any_same (runs_by w) Waiting s.tasks s'.tasks p.shape.tasks (λ i. p.runs (TaskOf i)) in
     let parked : is_parked s' w ≡ is_parked s w = any_same (runs_by w) Waiting s.actions s'.actions p.shape.actions (λ i. p.runs (ActionOf i)) in
     let unit : runs_unit s' w ≡ runs_unit s w = any_same (runs_by w) Waiting s.units s'.units p.shape.units (λ i. p.runs (UnitOf i)) in
+    let tasks = places_same (runs_by w) 0 Waiting s.tasks s'.tasks p.shape.tasks (λ i. p.runs (TaskOf i)) in
+    let actions = places_same (runs_by w) 0 Waiting s.actions s'.actions p.shape.actions (λ i. p.runs (ActionOf i)) in
+    let units = places_same (runs_by w) 0 Waiting s.units s'.units p.shape.units (λ i. p.runs (UnitOf i)) in
     record {
       holding = p.holding;
       owns = p.owns;
       owned = owned_same 0 w s.owners s'.owners p.shape.locks (λ i. p.owns (record { 0 = i }));
       running = λ m. (still_running w (mark_of s m) (mark_of s' m) (p.runs m), still_running w (mark_of s' m) (mark_of s m) (sym (p.runs m)));
+      claimed = λ i. marks_in (tasks i) (actions i) (units i);
       runs_task = task;
       is_parked = parked;
       runs_unit = unit;

@@ -8,3 +8,4 @@ pub mod Answers
 pub mod Own
 pub mod WorkedRows
 pub mod ByNumber
+pub mod OwnChanges

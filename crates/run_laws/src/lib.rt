@@ -6,12 +6,15 @@ ghost use Rattle.item_actions.specs.declared.outcomes.Outcome.TheVariants.{NotTh
 ghost use Rattle.lock_journal.specs.Allowed.{Allowed, Lawful};
 ghost use Rattle.lock_journal.specs.Closings.{closing_of, closings, last_or, outcome_in, where_finished};
 ghost use Rattle.lock_journal.specs.Entry.{Entry, effect, replay};
-ghost use Rattle.lock_journal.specs.Table.{has_passed, skipped_waiting};
-ghost use Rattle.resource_lock.specs.Change.{can_all, make_all};
+ghost use Rattle.lock_journal.specs.Table.{has_passed, owned, skipped_waiting};
+ghost use Rattle.resource_lock.specs.Change.{can_all, holding_after, make_all, NamesOnly};
 ghost use Rattle.resource_lock.specs.Fits.{Fits};
+ghost use Rattle.resource_lock.specs.Good.{Good};
 ghost use Rattle.resource_lock.specs.Outline.{Outline, task_of};
 ghost use Rattle.resource_lock.specs.Ranges.{IsActionOf, IsUnitOf, actions_of};
-ghost use Rattle.resource_lock.specs.Standing.{Standing, mark_of};
+ghost use Rattle.resource_lock.specs.Shape.{BelongsTo};
+ghost use Rattle.resource_lock.specs.Standing.{IsWorkerOf, Standing, holding_of, mark_of};
+ghost use Rattle.resource_lock.specs.declared.changes.Change.{Change};
 ghost use Rattle.resource_lock.specs.declared.graphs.Retention.TheVariants.{Release, ReleaseAndReacquire, Retain};
 ghost use Rattle.resource_lock.specs.declared.ids.WorkerId.{WorkerId};
 ghost use Rattle.resource_lock.specs.declared.marks.Mark.TheVariants.{Failed, Passed, Skipped};
@@ -24,10 +27,11 @@ ghost use Rattle.run_laws.specs.Closing.{IsClosedOnce, IsDone};
 ghost use Rattle.run_laws.specs.InOrder.{outcomes_of_task, units_of_actions};
 ghost use Rattle.run_laws.specs.Marks.{HasEnded, IsEnded};
 ghost use Rattle.run_laws.specs.Outcomes.{AreRanks, mark_by, task_outcome, task_passes, unit_outcome};
-ghost use Rattle.run_laws.specs.Own.{NoneOf, SameFor};
+ghost use Rattle.run_laws.specs.Own.{NamesWorkers, NoneOf, SameFor, claimed};
+ghost use Rattle.run_laws.specs.OwnChanges.{after_all, claimed_after, locks_after};
 ghost use Rattle.run_laws.specs.Runs.{Agrees, ComesTo, IsOrderly};
 ghost use Rattle.run_laws.specs.WorkedRows.{IsWorkedRun, first_run, locks_by_turns, no_tasks, one_task, run_that_fails, run_that_fetches, run_that_reacquires, run_that_releases, start_too_early, two_tasks};
-ghost use Rattle.std.specs.List.{All, list_all, range_with_len};
+ghost use Rattle.std.specs.List.{All, AllByRecursion, list_all, range_with_len};
 ghost use Rattle.std.specs.Prelude.{List, [], length, map, false, true, ◌+◌, ◌++◌, ◌<◌, ◌≡◌, ◌≢◌, ◌∷◌, ℕ};
 
 /// Where a lawful history brought every task to its end, every action and unit has ended too, marks and outcomes are
@@ -49,6 +53,20 @@ pub fn closing_entries_give_the_marks()
 pub fn own_entries_say_all()
     ensures state { (g : Outline) (own later : List Entry) (w : WorkerId) → Lawful g (own ++ later) → NoneOf w later → SameFor w (replay g own) (replay g (own ++ later)) }
     ensures closings { (own later : List Entry) (w : WorkerId) → NoneOf w later → closed_by w (own ++ later) ≡ closed_by w own }
+{}
+
+/// A lawful history leads to a good state of its graph, in which whoever owns a lock or runs a mark is a worker of the graph.
+pub fn lawful_histories_lead_to_good_states()
+    ensures good { (g : Outline) (h : List Entry) → Lawful g h → Good (replay g h) }
+    ensures belongs { (g : Outline) (h : List Entry) → Lawful g h → BelongsTo g (replay g h) }
+    ensures workers { (g : Outline) (h : List Entry) → Lawful g h → NamesWorkers g.workers (replay g h) }
+{}
+
+/// What a worker's own entry leaves of what it has, owns and runs is said by the entry's changes alone.
+pub fn own_changes_say_all()
+    ensures holding { (s : Standing) (w : WorkerId) (changes : List Change) → IsWorkerOf s w → holding_of (make_all s w changes) w ≡ after_all holding_after (holding_of s w) changes }
+    ensures locks { (s : Standing) (w : WorkerId) (changes : List Change) → AllByRecursion (NamesOnly s) changes → can_all s w changes ≡ true → owned (make_all s w changes) w ≡ after_all locks_after (owned s w) changes }
+    ensures claimed { (s : Standing) (w : WorkerId) (changes : List Change) → AllByRecursion (NamesOnly s) changes → can_all s w changes ≡ true → claimed (make_all s w changes) w ≡ after_all (claimed_after w) (claimed s w) changes }
 {}
 
 /// Where each worker closed units with their values alone, but for faults and want of memory, the closing entries are the answers.

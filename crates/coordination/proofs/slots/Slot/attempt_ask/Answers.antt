@@ -1,10 +1,9 @@
 use Rattle.std.proofs.Common.{◌≡◌, ap, sym, ◌∙◌}
-use Rattle.resource_lock.specs.Standing.{Holding}
 use Rattle.coordination.specs.declared.rule.Sight.{Sight}
 use Rattle.coordination.specs.Sights.{sight_of, seeing}
 use Rattle.coordination.specs.Rule.{carried_book}
-use Rattle.coordination.proofs.Tries.{keeps, after_ask, last_stays}
-use Rattle.coordination.proofs.PassSteps.{closes_pass}
+use Rattle.coordination.proofs.Tries.{keeps, after_ask}
+use Rattle.coordination.proofs.PassSteps.{closes_pass, part_on, room_on}
 use Rattle.coordination.proofs.slots.Slot.attempt_ask.Goals as goal
 
 pub put_back-requires-clause-own : goal.put_back-requires-clause-own
@@ -19,14 +18,9 @@ invariant_of-pass-2 g c =
     let t = c.try_take.ensures.taken c.if-not-try_take.false in
     let is : sight_of c.put_back.new.seat.me.0 ≡ seeing (sight_of c.pass.inside.seat.me.0) t.book =
     after_ask answers waits c.put-answer.result c.pass.inside.seat.me c.try_take.new.seat.me c.put-answer.new.seat.me t c.put-answer.ensures.same.2 c.pass.inside.worker c.pass.invariant.0.worker_is c.put_back.new.seat.me
-    c.put_back.ensures.view in
-    let same = t.agrees.state.holding in (
-      closes_pass c.pass.inside.worker c.pass.inside.last c.pass.inside.lease c.pass.inside.blocked c.put_back.new.seat.me (seeing (sight_of c.put-answer.new.seat.me.0) (carried_book c.put-answer.new.seat.me.1))
-          (seeing (sight_of c.pass.inside.seat.me.0) t.book) c.put_back.ensures.view is c.pass.invariant.0.worker_is
-          (last_stays answers waits c.put-answer.result c.pass.inside.seat.me c.try_take.new.seat.me c.put-answer.new.seat.me t c.put-answer.ensures.same.2 c.pass.inside.worker c.pass.invariant.0.worker_is c.pass.inside.last
-          c.put_back.new.seat.me c.pass.invariant.0.last_is c.put_back.ensures.view)
-          (c.pass.invariant.0.lease_is ∙ sym (ap (λ (h : Holding). h.lease) same))
-          (c.pass.invariant.0.blocked_is ∙ sym (ap (λ (h : Holding). h.blocked) same)),
+    c.put_back.ensures.view in (
+      closes_pass c.pass.inside.worker c.pass.inside.part c.put_back.new.seat.me (seeing (sight_of c.put-answer.new.seat.me.0) (carried_book c.put-answer.new.seat.me.1)) (seeing (sight_of c.pass.inside.seat.me.0) t.book)
+          c.put_back.ensures.view is c.pass.invariant.0.worker_is (part_on _ _ t.book c.pass.inside.part t.agrees c.pass.invariant.0.part_is) (room_on _ _ t.book c.pass.inside.part t.agrees c.pass.invariant.0.room),
       c.pass.invariant.1 ∙ sym (ap (λ (k : Sight). k.stopped) is),
       c.pass.invariant.2 ∙ sym (ap (λ (k : Sight). k.told) is),
     )

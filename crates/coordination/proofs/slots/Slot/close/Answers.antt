@@ -1,12 +1,16 @@
-use Rattle.std.proofs.Common.{rules, ◌≡◌, ◌+◌, ◌++◌, ◌∷◌, suc, length, get_or, length-append, map, List, ap, ◌∙◌, subst, arith}
+use Rattle.std.proofs.Common.{rules, ◌≡◌, ◌+◌, ◌++◌, ◌∷◌, suc, length, get_or, length-append, map, List, sym, ap, ◌∙◌, subst, arith}
 use Rattle.std.specs.List.{All}
 use Rattle.std.proofs.Math.Seq.{get_or-append_seam}
 use Rattle.std.proofs.lemmas.Grind.{common_steps}
+use Rattle.resource_lock.specs.Outline.{Outline}
+use Rattle.coordination.specs.Agrees.{Agrees}
+use Rattle.coordination.specs.AtRest.{HoldsNothing}
 use Rattle.coordination.specs.Passes.{Seated}
-use Rattle.coordination.specs.Sights.{all_of}
+use Rattle.coordination.specs.Sights.{all_of, workers_from}
 use Rattle.coordination.specs.Rule.{M}
 use Rattle.coordination.proofs.Seating.{sits_it, joins_it}
-use Rattle.coordination.proofs.Closing.{closes, graph_is, workers_all, passes_agree, passes_told}
+use Rattle.coordination.proofs.Closing.{closes, graph_is, passes_agree, passes_told, sound_is, workers_all}
+use Rattle.coordination.proofs.Rests.{known_entries, rests_with, to_sights}
 use Rattle.coordination.proofs.slots.Slot.close.Goals as goal
 
 pub load_new_seat-seat-requires : goal.load_new_seat-seat-requires
@@ -56,3 +60,24 @@ returns-clause-told c =
     let view = ap (λ (m : M). m.0) c.loop-pass.invariant.2 ∙ ap (λ (l : List Seated). all_of (map (λ p. p.sight) l)) all in
     let z = closes g c.loop-pass.seat.id c.loop-pass.seat.me.0 (map (λ p. p.sight) ps) _ _ view (workers_all ps ∙ c.requires.all) c.close_with-closed.ensures.values.2 in
     passes_told g ps _ z
+
+pub returns-clause-rest : goal.returns-clause-rest
+returns-clause-rest c = λ nothing.
+    let ps : List Seated = c.args.passes.items in
+    let g = c.args.self.table.shared.key.book.value.graph in
+    let all : c.loop-pass.yielded ≡ c.args.passes.items = first_of (search rules, grind (arith, common_steps)) in
+    let view = ap (λ (m : M). m.0) c.loop-pass.invariant.2 ∙ ap (λ (l : List Seated). all_of (map (λ p. p.sight) l)) all in
+    let z = closes g c.loop-pass.seat.id c.loop-pass.seat.me.0 (map (λ p. p.sight) ps) _ _ view (workers_all ps ∙ c.requires.all) c.close_with-closed.ensures.values.2 in
+    let graph = graph_is g ps _ c.take-book.result z c.take-book.ensures.value in
+    rests_with c.take-book.result (map (λ p. p.sight) ps) (sound_is g ps _ c.take-book.result z c.take-book.ensures.value)
+    (to_sights (λ s. Agrees s.worker s.seen c.take-book.result) ps (passes_agree g ps _ c.take-book.result z c.take-book.ensures.value))
+    (workers_all ps ∙ (c.requires.all ∙ ap (λ (h : Outline). workers_from 0 h.workers) (sym graph))) (to_sights HoldsNothing ps nothing)
+
+pub returns-clause-entries : goal.returns-clause-entries
+returns-clause-entries c =
+    let ps : List Seated = c.args.passes.items in
+    let g = c.args.self.table.shared.key.book.value.graph in
+    let all : c.loop-pass.yielded ≡ c.args.passes.items = first_of (search rules, grind (arith, common_steps)) in
+    let view = ap (λ (m : M). m.0) c.loop-pass.invariant.2 ∙ ap (λ (l : List Seated). all_of (map (λ p. p.sight) l)) all in
+    let z = closes g c.loop-pass.seat.id c.loop-pass.seat.me.0 (map (λ p. p.sight) ps) _ _ view (workers_all ps ∙ c.requires.all) c.close_with-closed.ensures.values.2 in
+    known_entries c.take-book.result (sound_is g ps _ c.take-book.result z c.take-book.ensures.value)

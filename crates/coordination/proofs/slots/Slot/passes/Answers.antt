@@ -3,19 +3,19 @@ use Rattle.std.specs.List.{All}
 use Rattle.std.proofs.lemmas.List.Elements.{All-push}
 use Rattle.std.proofs.lemmas.List.{map-append}
 use Rattle.atomic_table.specs.Table.{Splits}
-use Rattle.resource_lock.specs.Standing.{Holding, holding_of}
 use Rattle.lock_journal.specs.Journal.{Journal}
 use Rattle.coordination.specs.declared.rule.Sight.{Sight}
 use Rattle.coordination.specs.declared.rule.SeatView.{SeatView}
-use Rattle.coordination.specs.Lasts.{last_of}
+use Rattle.coordination.specs.Parts.{HasRoom, IsPartOf, marks_of}
 use Rattle.coordination.specs.Passes.{Seated}
 use Rattle.coordination.specs.Rule.{M, Orderly, first_sight, other_sights}
 use Rattle.coordination.specs.Sights.{sight, sight_of, all_of, one, sights_from}
+use Rattle.coordination.proofs.Nothing.{resting_part}
 use Rattle.coordination.proofs.Seating.{splits_it}
 use Rattle.coordination.proofs.slots.Slot.passes.Goals as goal
 
-pub split_seat-part-requires : goal.split_seat-part-requires
-split_seat-part-requires c =
+pub split_seat-own-requires : goal.split_seat-own-requires
+split_seat-own-requires c =
     let inv = c.loop-worker.invariant in
     let w = c.loop-worker.worker in
     let n : ℕ = c.args.workers in
@@ -59,14 +59,15 @@ invariant_of-push c =
     let book = c.args.self.now.table.shared.key.book.value in
     let w = c.loop-worker.worker in
     let low = c.loop-worker-test.true in
-    let is = part book w c.args.workers low c.loop-worker.seat.me c.split_seat-part.result.me (ap (λ (x : M). x.0) c.loop-worker.invariant.1) c.split_seat-part.ensures.4 in
-    let s : sight_of c.split_seat-part.result.me.0 ≡ sight w book = ap (λ (x : M). sight_of x.0) is in (
+    let is = part book w c.args.workers low c.loop-worker.seat.me c.split_seat-own.result.me (ap (λ (x : M). x.0) c.loop-worker.invariant.1) c.split_seat-own.ensures.4 in
+    let s : sight_of c.split_seat-own.result.me.0 ≡ sight w book = ap (λ (x : M). sight_of x.0) is in (
       record {
         lone = is ∙ ap (λ (k : Sight). (one k, [])) (sym s);
         worker_is = sym (ap (λ (k : Sight). k.worker) s);
-        last_is = c.requires.each w low ∙ sym (ap (λ (k : Sight). last_of k.worker k.seen.history) s);
-        lease_is = sym (ap (λ (k : Sight). (holding_of k.seen.state k.worker).lease) s ∙ ap (λ (h : Holding). h.lease) (c.requires.rest.holdings record { 0 = w }));
-        blocked_is = sym (ap (λ (k : Sight). (holding_of k.seen.state k.worker).blocked) s ∙ ap (λ (h : Holding). h.blocked) (c.requires.rest.holdings record { 0 = w }));
+        part_is = subst (λ (k : Sight). IsPartOf k.seen k.worker c.in_ok-part.part) (sym s)
+            (resting_part book c.args.room (record { 0 = w }) _ c.in_ok-part.part c.requires.rest c.in_ok-part.ensures (c.requires.each w low));
+        room = subst (λ (k : Sight). HasRoom k.seen.graph.locks (marks_of k.seen.graph) c.in_ok-part.part) (sym s)
+            (subst (λ (x : ℕ × ℕ). HasRoom x.0 x.1 c.in_ok-part.part) (λ i. (c.requires.room.locks i, c.requires.room.marks i)) c.in_ok-part.ensures.has_room);
       },
       sym (ap (λ (k : Sight). k.stopped) s),
       sym (ap (λ (k : Sight). k.told) s),
@@ -79,14 +80,14 @@ loop-worker-preserved c =
     let n = c.args.workers in
     let low = c.loop-worker-test.true in
     let inv = c.loop-worker.invariant in
-    let e = c.split_seat-part.ensures in
+    let e = c.split_seat-own.ensures in
     let items = c.in_ok-push.ensures.items in
-    let is = part book w n low c.loop-worker.seat.me c.split_seat-part.result.me (ap (λ (x : M). x.0) inv.1) e.4 in
+    let is = part book w n low c.loop-worker.seat.me c.split_seat-own.result.me (ap (λ (x : M). x.0) inv.1) e.4 in
     let f : Seated → Sight = λ p. p.sight in
     let mine : Seated → Type 0 = λ p. p.service ≡ c.args.self.now.table.shared.table_id in (
       e.0 ∙ inv.0,
-      left book w n low c.loop-worker.seat.me c.split_seat-part.new.seat.me inv.1 e.2,
-      row book w n low (map f c.loop-worker.passes.items) (map f c.push.new.self.items) (sight_of c.split_seat-part.result.me.0) (ap (λ (l : List Seated). map f l) items ∙ map-append f c.loop-worker.passes.items _)
+      left book w n low c.loop-worker.seat.me c.split_seat-own.new.seat.me inv.1 e.2,
+      row book w n low (map f c.loop-worker.passes.items) (map f c.push.new.self.items) (sight_of c.split_seat-own.result.me.0) (ap (λ (l : List Seated). map f l) items ∙ map-append f c.loop-worker.passes.items _)
           (ap (λ (x : M). sight_of x.0) is) inv.2,
       subst (All mine) (sym items) (All-push mine c.loop-worker.passes.items _ inv.3 (e.3 ∙ (inv.0 ∙ c.requires.id))),
     )

@@ -1,0 +1,158 @@
+-- The part of a worker after changes of its own.
+use Rattle.std.proofs.Common.{◌≡◌, ℕ, suc, ◌+◌, ◌<◌, ◌≤◌, Bool, true, false, cond, List, [], ◌∷◌, ◌++◌, length, length-append, map, get_or, take, drop, Option, refl, sym, ap, ◌∙◌, subst, arith}
+use Rattle.std.specs.Prelude.{vec_capacity}
+use Rattle.std.proofs.lemmas.Bool.{and_parts}
+use Rattle.std.proofs.lemmas.List.{length-map, length_push, take_more, drop_more}
+use Rattle.resource_lock.specs.Change.{can, can_all, holding_after, make, make_all}
+use Rattle.resource_lock.specs.Good.{Good}
+use Rattle.resource_lock.specs.Standing.{Holding, Standing, holding_of, is_owner, runs_by}
+use Rattle.resource_lock.specs.declared.changes.Change.{Change}
+use Rattle.resource_lock.specs.declared.changes.Change.TheVariants.{Lock, Unlock, Take, Give, Move, Park, Unpark, Enter, Leave}
+use Rattle.resource_lock.specs.declared.ids.LockId.{LockId}
+use Rattle.resource_lock.specs.declared.ids.WorkerId.{WorkerId}
+use Rattle.resource_lock.specs.declared.marks.Mark.{Mark}
+use Rattle.resource_lock.specs.declared.marks.MarkId.{MarkId}
+use Rattle.resource_lock.proofs.Kept.{kept}
+use Rattle.resource_lock.proofs.Lists.{length-le_from_once}
+use Rattle.resource_lock.proofs.Runs.{all_named_along, make_all-append, same_shape-make, worker_along}
+use Rattle.lock_journal.specs.Table.{owned, owned_from}
+use Rattle.run_laws.specs.Own.{action_at, claimed, places_from, task_at, unit_at}
+use Rattle.run_laws.specs.OwnChanges.{claimed_after, locks_after, lock_before, mark_before, with_if, with_member, without_if}
+use Rattle.run_laws.proofs.OwnChanges.{own_claimed, own_holding, own_locks}
+use Rattle.coordination.specs.Parts.{HasRoomFor, IsAfter, LeadsOn, mark_count}
+use Rattle.coordination.specs.declared.parts.Part.{Part}
+
+-- how long the lists are
+length_with : {X : Type 0} (before : X → X → Bool) (x : X) (xs : List X) → length (with_member before x xs) ≡ suc (length xs)
+length_with before x [] = refl
+length_with before x (y ∷ ys) = at (before y x) (length_with before x ys)
+  where
+    at : (b : Bool) → length (with_member before x ys) ≡ suc (length ys) → length (cond b (y ∷ with_member before x ys) (x ∷ y ∷ ys)) ≡ suc (length (y ∷ ys))
+    at true rest = omega arith
+    at false rest = refl
+
+length_places : {X : Type 0} (test : X → Bool) (n : ℕ) (xs : List X) → length (places_from test n xs) ≤ length xs
+length_places test n [] = omega arith
+length_places test n (x ∷ xs) = at (test x) (length_places test (n + 1) xs)
+  where
+    at : (b : Bool) → length (places_from test (n + 1) xs) ≤ length xs → length (cond b (n ∷ places_from test (n + 1) xs) (places_from test (n + 1) xs)) ≤ length (x ∷ xs)
+    at true rest = omega arith
+    at false rest = omega arith
+
+length_owned : (n : ℕ) (os : List (Option WorkerId)) (w : WorkerId) → length (owned_from n os w) ≤ length os
+length_owned n [] w = omega arith
+length_owned n (o ∷ os) w = at (is_owner o w) (length_owned (n + 1) os w)
+  where
+    at : (b : Bool) → length (owned_from (n + 1) os w) ≤ length os → length (cond b (record { 0 = n } ∷ owned_from (n + 1) os w) (owned_from (n + 1) os w)) ≤ length (o ∷ os)
+    at true rest = omega arith
+    at false rest = omega arith
+
+length_claimed : (s : Standing) (w : WorkerId) → length (claimed s w) ≤ mark_count s
+length_claimed s w =
+    let ts : List ℕ = places_from (runs_by w) 0 s.tasks in
+    let qs : List ℕ = places_from (runs_by w) 0 s.actions in
+    let us : List ℕ = places_from (runs_by w) 0 s.units in
+    omega (
+      arith,
+      length-append (map task_at ts) (map action_at qs ++ map unit_at us),
+      length-append (map action_at qs) (map unit_at us),
+      length-map ts task_at,
+      length-map qs action_at,
+      length-map us unit_at,
+      length_places (runs_by w) 0 s.tasks,
+      length_places (runs_by w) 0 s.actions,
+      length_places (runs_by w) 0 s.units,
+    )
+
+module _ (s : Standing) (w : WorkerId) (part : Part) (c : Change) (cs : List Change) (l : LeadsOn s w part (c ∷ cs)) where
+  possible : (can s w c ≡ true) × (can_all (make s w c) w cs ≡ true)
+  possible = and_parts (can s w c) (can_all (make s w c) w cs) l.possible
+
+  good_then : Good (make s w c)
+  good_then = kept s w c l.worker l.named.0 l.good possible.0
+
+  -- one change further
+  pub leads_next : (new : Part) → IsAfter w c part new → LeadsOn (make s w c) w new cs
+  leads_next new a =
+      let shape = same_shape-make s w c in record {
+        good = good_then;
+        worker = worker_along s (make s w c) w shape l.worker;
+        named = all_named_along s (make s w c) cs shape l.named.1;
+        possible = possible.1;
+        has = record {
+          holding = a.holding ∙ (ap (λ (h : Holding). holding_after h c) l.has.holding ∙ sym (own_holding s w c l.worker));
+          locks = a.locks ∙ (ap (λ (ls : List LockId). locks_after ls c) l.has.locks ∙ sym (own_locks s w c l.named.0 possible.0));
+          claimed = a.claimed ∙ (ap (λ (ms : List MarkId). claimed_after w ms c) l.has.claimed ∙ sym (own_claimed s w c l.named.0 possible.0));
+        };
+        room = record {
+          lock_room = omega (arith, shape.locks, a.lock_room, l.room.lock_room);
+          mark_room = omega (arith, shape.tasks, shape.actions, shape.units, a.mark_room, l.room.mark_room);
+          park_room = omega (arith, shape.locks, a.park_room, l.room.park_room);
+        };
+      }
+
+-- there is room for it
+room_to_move : (s : Standing) (w : WorkerId) (part : Part) (m : MarkId) (from to : Mark) (cs : List Change) → LeadsOn s w part (Move m from to ∷ cs) → runs_by w to ≡ true
+    → length (without_if mark_before (runs_by w from) m part.claimed.items) < vec_capacity part.claimed
+room_to_move s w part m from to cs l is =
+    let c : Change = Move m from to in
+    let shape = same_shape-make s w c in
+    let less : List MarkId = without_if mark_before (runs_by w from) m (claimed s w) in
+    let after : claimed (make s w c) w ≡ with_member mark_before m less = own_claimed s w c l.named.0 (possible s w part c cs l).0 ∙ ap (λ b. with_if mark_before b m less) is in
+    omega (
+      arith,
+      ap (λ (ms : List MarkId). length ms) after,
+      length_with mark_before m less,
+      length_claimed (make s w c) w,
+      shape.tasks,
+      shape.actions,
+      shape.units,
+      l.room.mark_room,
+      ap (λ (ms : List MarkId). length (without_if mark_before (runs_by w from) m ms)) l.has.claimed,
+    )
+
+pub room_for : (s : Standing) (w : WorkerId) (part : Part) (c : Change) (cs : List Change) → LeadsOn s w part (c ∷ cs) → HasRoomFor w part c
+room_for s w part (Lock k) cs l =
+    let c : Change = Lock k in
+    omega (
+      arith,
+      ap (λ (ls : List LockId). length ls) (own_locks s w c l.named.0 (possible s w part c cs l).0),
+      length_with lock_before k (owned s w),
+      length_owned 0 (make s w c).owners w,
+      (same_shape-make s w c).locks,
+      l.room.lock_room,
+      ap (λ (ls : List LockId). length ls) l.has.locks,
+      part.locks.ok.0,
+    )
+room_for s w part (Park k) cs l =
+    let c : Change = Park k in
+    let good = good_then s w part c cs l in
+    omega (
+      arith,
+      length-le_from_once (length s.owners) (holding_of (make s w c) w).parked (good.parked_once w) (good.parked_locks w),
+      ap (λ (h : Holding). length h.parked) (own_holding s w c l.worker),
+      length_push (holding_of s w).parked k,
+      l.room.park_room,
+      ap (λ (h : Holding). length h.parked) l.has.holding,
+      part.parked.ok.0,
+    )
+room_for s w part (Move m from to) cs l = room_to_move s w part m from to cs l
+room_for s w part (Unlock k) cs l = tt
+room_for s w part Take cs l = tt
+room_for s w part Give cs l = tt
+room_for s w part (Unpark k) cs l = tt
+room_for s w part Enter cs l = tt
+room_for s w part Leave cs l = tt
+
+-- along a list of changes
+pub leads_at : (s : Standing) (w : WorkerId) (part : Part) (cs : List Change) (i : ℕ) (d : Change) → i < length cs → LeadsOn (make_all s w (take i cs)) w part (drop i cs)
+    → LeadsOn (make_all s w (take i cs)) w part (get_or cs i d ∷ drop (i + 1) cs)
+leads_at s w part cs i d within l = subst (LeadsOn (make_all s w (take i cs)) w part) (drop_more cs i d within) l
+
+pub leads_along : (s : Standing) (w : WorkerId) (part new : Part) (cs : List Change) (i : ℕ) (d : Change) → i < length cs → LeadsOn (make_all s w (take i cs)) w part (drop i cs) → IsAfter w (get_or cs i d) part new
+    → LeadsOn (make_all s w (take (i + 1) cs)) w new (drop (i + 1) cs)
+leads_along s w part new cs i d within l a =
+    let front : List Change = take i cs in
+    let c : Change = get_or cs i d in
+    subst (λ (t : Standing). LeadsOn t w new (drop (i + 1) cs)) (sym (ap (λ (ds : List Change). make_all s w ds) (take_more cs i d within) ∙ make_all-append s w front (c ∷ [])))
+    (leads_next (make_all s w front) w part c (drop (i + 1) cs) (leads_at s w part cs i d within l) new a)

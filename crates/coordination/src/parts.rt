@@ -1,0 +1,122 @@
+//! What a pass keeps of the book for its worker.
+ghost use Rattle.std.specs.Prelude.{◌≡◌, ◌<◌, [], IfOk, length, true, vec_capacity};
+ghost use Rattle.resource_lock.specs.Change.{make_all};
+ghost use Rattle.resource_lock.specs.Standing.{Standing, runs_by};
+ghost use Rattle.lock_journal.specs.Journal.{Journal};
+ghost use Rattle.run_laws.specs.OwnChanges.{mark_before, with_if, without_if};
+ghost use Rattle.coordination.specs.Parts.{Follows, HasRoom, HasRoomFor, IsAfter, IsPartOf, IsResting, IsRoomOf, LeadsOn, marks_of};
+
+use crate::rising::{add, remove};
+use lock_journal::{Book, Disposition};
+use resource_lock::{Change, Graph, LockId, Mark, MarkId, WorkerId};
+use std::alloc::{AllocError, Global};
+
+/// How many locks a graph has, and how many tasks, actions and units together.
+#[derive(Clone, Copy)]
+pub struct Room {
+    pub locks: usize,
+    pub marks: usize,
+}
+
+impl Room {
+    pub fn of(graph: &Graph) -> Room
+        ensures { IsRoomOf graph.now result }
+    {
+        Room {
+            locks: graph.locks() as usize,
+            marks: graph.tasks().len() + graph.actions().len() + graph.units() as usize,
+        }
+    }
+}
+
+/// The worker's part of a book.
+#[derive(Drop)]
+pub struct Part {
+    pub last: u64,
+    pub lease: bool,
+    pub blocked: bool,
+    pub locks: Vec<LockId>,
+    pub claimed: Vec<MarkId>,
+    pub parked: Vec<LockId>,
+}
+
+impl Part {
+    // The part of a worker that has nothing, with room for all that it can ever have.
+    pub fn resting(alloc: Global, room: Room, last: u64) -> Result<Part, AllocError>
+        ensures { IfOk result (IsResting room last) }
+    {
+        let locks = Vec::with_capacity(alloc, room.locks)?;
+        let claimed = Vec::with_capacity(alloc, room.marks)?;
+        let parked = Vec::with_capacity(alloc, room.locks)?;
+        Ok(Part {
+            last,
+            lease: false,
+            blocked: false,
+            locks,
+            claimed,
+            parked,
+        })
+    }
+
+    // Follows the book, on which a transform of the worker was run.
+    pub fn follow(&mut self, worker: WorkerId, book: &Book, ran: &Result<Disposition, AllocError>)
+        requires { (before : Journal) × Follows worker before book.now ran.now self.old }
+        ensures part { IsPartOf book.now worker self.new }
+        ensures room { HasRoom book.now.graph.locks (marks_of book.now.graph) self.new }
+    {
+        match ran {
+            Ok(Disposition::Finished) => {
+                self.last = book.len();
+                let own = book.entry(self.last - 1);
+                self.note_all(worker, own.changes);
+            }
+            Ok(Disposition::Failed) => self.last = book.len(),
+            Ok(Disposition::Retry) | Err(_) => {}
+        }
+    }
+
+    // Notes changes of the worker in order.
+    fn note_all(&mut self, worker: WorkerId, changes: &[Change])
+        requires { (s : Standing) × LeadsOn s worker self.old changes.now }
+        ensures leads { (s : Standing) → LeadsOn s worker self.old changes.now → LeadsOn (make_all s worker changes.now) worker self.new [] }
+        ensures last { self.new.last ≡ self.old.last }
+    {
+        for change in changes {
+            self.note(worker, *change);
+        }
+    }
+
+    // Notes a change of the worker.
+    fn note(&mut self, worker: WorkerId, change: Change)
+        requires { HasRoomFor worker self.old change }
+        ensures { IsAfter worker change self.old self.new }
+    {
+        match change {
+            Change::Lock(lock) => add(&mut self.locks, lock),
+            Change::Unlock(lock) => remove(&mut self.locks, lock),
+            Change::Take => self.lease = true,
+            Change::Give => self.lease = false,
+            Change::Move(id, from, to) => note_move(&mut self.claimed, worker, id, from, to),
+            Change::Park(lock) => self.parked.push_reserved(lock),
+            Change::Unpark(_) => {
+                let _ = self.parked.pop();
+            }
+            Change::Enter => self.blocked = true,
+            Change::Leave => self.blocked = false,
+        }
+    }
+}
+
+// The marks that run by a worker, after it has moved one.
+fn note_move(claimed: &mut Vec<MarkId>, worker: WorkerId, id: MarkId, from: Mark, to: Mark)
+    requires { runs_by worker to ≡ true → length (without_if mark_before (runs_by worker from) id claimed.old.items) < vec_capacity claimed.old }
+    ensures items { claimed.new.items ≡ with_if mark_before (runs_by worker to) id (without_if mark_before (runs_by worker from) id claimed.old.items) }
+    ensures capacity { vec_capacity claimed.new ≡ vec_capacity claimed.old }
+{
+    if from.runs_by(worker) {
+        remove(claimed, id);
+    }
+    if to.runs_by(worker) {
+        add(claimed, id);
+    }
+}
