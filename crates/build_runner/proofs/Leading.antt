@@ -1,26 +1,26 @@
--- What each transform of the one worker leaves, while a task is under way.
-use Rattle.std.proofs.Common.{◌≡◌, ℕ, zero, suc, ◌+◌, ◌<◌, Bool, true, false, List, [], ◌∷◌, ◌++◌, length, get_or, set, Option, None, refl, sym, ◌∙◌, ap, subst, arith, ◌⊎◌, inl, inr}
+-- What each transform of worker 0 leaves.
+use Rattle.std.proofs.Common.{◌≡◌, ◌≢◌, ℕ, zero, suc, ◌+◌, ◌<◌, Bool, true, false, List, [], ◌∷◌, ◌++◌, length, get_or, set, Option, None, Some, refl, sym, ◌∙◌, ap, subst, arith, ◌⊎◌, inl, inr}
 use Rattle.std.specs.Prelude.{if◌then◌else◌}
 use Rattle.std.specs.List.{list_all, range_with_len}
 use Rattle.std.proofs.lemmas.Bool.{cases_eq}
-use Rattle.std.proofs.lemmas.List.{get_or-set_same, get_or-set_other, length-set}
+use Rattle.std.proofs.lemmas.List.{append-nil, get_or-set_same, get_or-set_other, length-set}
 use Rattle.resource_lock.specs.Standing.{Standing, Holding, empty_holding, holding_of, mark_of, runs_by}
 use Rattle.resource_lock.specs.Outline.{Outline, task_of, action_of}
-use Rattle.resource_lock.specs.Ranges.{IsIn, IsItemOf, first_item, items_of, actions_of}
+use Rattle.resource_lock.specs.Ranges.{IsIn, IsItemOf, fetches, first_item, units_in, items_of, units_of, actions_of}
 use Rattle.resource_lock.specs.Change.{make, make_all}
 use Rattle.resource_lock.specs.declared.ids.LockId.{LockId}
 use Rattle.resource_lock.specs.declared.ids.WorkerId.{WorkerId}
 use Rattle.resource_lock.specs.declared.marks.Mark.{Mark}
-use Rattle.resource_lock.specs.declared.marks.Mark.TheVariants.{Waiting, Queued, Running, Passed, Failed}
+use Rattle.resource_lock.specs.declared.marks.Mark.TheVariants.{Waiting, Queued, Running, Passed, Failed, Skipped}
 use Rattle.resource_lock.specs.declared.marks.MarkId.{MarkId}
 use Rattle.resource_lock.specs.declared.marks.MarkId.TheVariants.{Task as TaskOf, Action as ActionOf, Unit as UnitOf}
 use Rattle.resource_lock.specs.declared.changes.Change.TheVariants.{Unlock, Give, Move}
 use Rattle.lock_journal.specs.Table.{list_of, moved_units, mark_from, units_passed, skipped_waiting}
-use Rattle.lock_journal.specs.declared.entries.Kind.TheVariants.{Submit, Close, End}
+use Rattle.lock_journal.specs.declared.entries.Kind.TheVariants.{Start, Skip, Submit, Park, Resume, Claim, Close, End}
 use Rattle.lock_journal.specs.declared.entries.Closed.{Closed}
 use Rattle.run_laws.specs.Marks.{IsEnded}
-use Rattle.build_runner.specs.Phases.{first_worker, working, only_action, IsPlain, IsResting, IsUnderway, AreItems, IsItemRunning, HasRun}
-use Rattle.build_runner.proofs.Enabled.{ended_still, no_unit_runs}
+use Rattle.build_runner.specs.Phases.{first_worker, working, only_action, IsPlain, IsResting, IsUntouched, IsUnderway, AreItems, IsItemRunning, IsStarted, IsSubmitted, HasParked, HasClaimed, HasResumed, HasRun}
+use Rattle.build_runner.proofs.Enabled.{ended_still, no_unit_runs, item_or_not, only_items, skipped_so_far}
 use Rattle.build_runner.proofs.Within.{IsWithin}
 use Rattle.item_actions.specs.declared.outcomes.Outcome.{Outcome}
 use Rattle.item_actions.specs.declared.outcomes.Outcome.TheVariants.{Number, Digest, NotThere, TooLong, Fault, NoMemory, Skipped as NotRun}
@@ -28,37 +28,59 @@ use Rattle.item_actions.specs.declared.outcomes.Outcome.TheVariants.{Number, Dig
 holding_written : (hs : List Holding) (h : Holding) → 0 < length hs → get_or (set hs 0 h) 0 empty_holding ≡ h
 holding_written hs h lt = get_or-set_same hs 0 h empty_holding lt
 
--- Units moved from Waiting to Queued, and nothing else.
-record IsQueued (s s' : Standing) (first n : ℕ) : Type 0 where
+-- Worker 0 wrote its own holding, and no other.
+others_written : (s : Standing) (h : Holding) → ((w : WorkerId) → w.0 ≢ 0 → holding_of s w ≡ empty_holding) → (w : WorkerId) → w.0 ≢ 0 → get_or (set s.holdings 0 h) w.0 empty_holding ≡ empty_holding
+others_written s h others w ne = get_or-set_other s.holdings 0 w.0 h empty_holding ne ∙ others w ne
+
+-- Units moved to one mark, and nothing else.
+record AreMoved (s s' : Standing) (to : Mark) (first n : ℕ) : Type 0 where
   owners : s'.owners ≡ s.owners
   holdings : s'.holdings ≡ s.holdings
   tasks : s'.tasks ≡ s.tasks
   actions : s'.actions ≡ s.actions
-  inside : (u : ℕ) → IsIn first n u → mark_of s' (UnitOf u) ≡ Queued
+  inside : (u : ℕ) → IsIn first n u → mark_of s' (UnitOf u) ≡ to
   outside : (u : ℕ) → (IsIn first n u → ⊥) → mark_of s' (UnitOf u) ≡ mark_of s (UnitOf u)
 
-queue_more : (s s' : Standing) (first n : ℕ) → ((u : ℕ) → IsIn first (suc n) u → u < length s.units) → IsQueued (record s { units = set s.units first Queued }) s' (first + 1) n → IsQueued s s' first (suc n)
-queue_more s s' first n within rest = record {
+move_more : (s s' : Standing) (to : Mark) (first n : ℕ) → ((u : ℕ) → IsIn first (suc n) u → u < length s.units) → AreMoved (record s { units = set s.units first to }) s' to (first + 1) n → AreMoved s s' to first (suc n)
+move_more s s' to first n within rest = record {
   owners = rest.owners;
   holdings = rest.holdings;
   tasks = rest.tasks;
   actions = rest.actions;
   inside = λ u i. at u i (cases_eq u first);
-  outside = λ u none. rest.outside u (λ i. let a = i.0 in let b = i.1 in none (omega arith, omega arith)) ∙ get_or-set_other s.units first u Queued Waiting (λ e. none (omega arith, omega arith));
+  outside = λ u none. rest.outside u (λ i. let a = i.0 in let b = i.1 in none (omega arith, omega arith)) ∙ get_or-set_other s.units first u to Waiting (λ e. none (omega arith, omega arith));
 }
   where
-    at : (u : ℕ) → IsIn first (suc n) u → (u ≡ first) ⊎ (u ≡ first → ⊥) → mark_of s' (UnitOf u) ≡ Queued
-    at u i (inl e) = rest.outside u (λ k. let a = k.0 in absurd (omega arith)) ∙ ap (λ m. get_or (set s.units first Queued) m Waiting) e ∙ get_or-set_same s.units first Queued Waiting (within first (omega arith, omega arith))
+    at : (u : ℕ) → IsIn first (suc n) u → (u ≡ first) ⊎ (u ≡ first → ⊥) → mark_of s' (UnitOf u) ≡ to
+    at u i (inl e) = rest.outside u (λ k. let a = k.0 in absurd (omega arith)) ∙ ap (λ m. get_or (set s.units first to) m Waiting) e ∙ get_or-set_same s.units first to Waiting (within first (omega arith, omega arith))
     at u i (inr ne) = let a = i.0 in let b = i.1 in rest.inside u (omega arith, omega arith)
 
-queue_leads : (s : Standing) (w : WorkerId) (first n : ℕ) → ((u : ℕ) → IsIn first n u → u < length s.units) → IsQueued s (make_all s w (moved_units (range_with_len first n) Waiting Queued)) first n
-queue_leads s w first zero within = record { owners = refl; holdings = refl; tasks = refl; actions = refl; inside = λ u i. let a = i.0 in let b = i.1 in absurd (omega arith); outside = λ u no_one. refl }
-queue_leads s w first (suc n) within = queue_more s _ first n within (queue_leads (make s w (Move (UnitOf first) Waiting Queued)) w (first + 1) n (λ u i. let a = i.0 in let b = i.1 in let c = within u (omega arith, omega arith) in omega (arith, length-set s.units first Queued)))
+moves_lead : (s : Standing) (w : WorkerId) (to : Mark) (first n : ℕ) → ((u : ℕ) → IsIn first n u → u < length s.units) → AreMoved s (make_all s w (moved_units (range_with_len first n) Waiting to)) to first n
+moves_lead s w to first zero within = record { owners = refl; holdings = refl; tasks = refl; actions = refl; inside = λ u i. let a = i.0 in let b = i.1 in absurd (omega arith); outside = λ u no_one. refl }
+moves_lead s w to first (suc n) within = move_more s _ to first n within (moves_lead (make s w (Move (UnitOf first) Waiting to)) w to (first + 1) n (λ u i. let a = i.0 in let b = i.1 in let c = within u (omega arith, omega arith) in omega (arith, length-set s.units first to)))
+
+pub start_leads : (g : Outline) (s : Standing) (t : ℕ) → IsWithin g s t → IsResting s → IsUntouched g s t → IsStarted g s t (make_all s first_worker (list_of g s first_worker (Start t)))
+start_leads g s t within r u = record {
+  rest = r;
+  under = record {
+    holding = holding_written s.holdings _ within.worker ∙ ap (λ (h : Holding). record h { lease = true }) (r.holdings first_worker);
+    others = others_written s _ (λ w ne. r.holdings w);
+    lock = get_or-set_same s.owners (task_of g t).lock.0 (Some first_worker) None within.lock;
+    free = λ l ne. get_or-set_other s.owners (task_of g t).lock.0 l.0 (Some first_worker) None ne ∙ r.free l;
+    task = get_or-set_same s.tasks t (Running first_worker) Waiting within.task;
+    tasks = λ k ne. get_or-set_other s.tasks t k (Running first_worker) Waiting ne;
+    action = u.action;
+    actions = λ k ne. refl;
+    units = λ k ne. refl;
+  };
+  items = record { ended = λ k i lt. let a = i.0 in absurd (omega arith); others = λ k i le. u.units k i };
+}
 
 pub submit_leads : (g : Outline) (r s : Standing) (t : ℕ) → IsWithin g s t → IsPlain g t → IsUnderway g r t s (Running first_worker) Waiting working → IsUnderway g r t (make_all s first_worker (list_of g s first_worker (Submit (only_action g t)))) (Running first_worker) Queued working × AreItems g t (make_all s first_worker (list_of g s first_worker (Submit (only_action g t)))) (first_item (action_of g (only_action g t))) Queued
 submit_leads g r s t within plain u = (
   record {
     holding = ap (λ (hs : List Holding). get_or hs 0 empty_holding) q.holdings ∙ u.holding;
+    others = λ w ne. ap (λ (hs : List Holding). get_or hs w.0 empty_holding) q.holdings ∙ u.others w ne;
     lock = ap (λ (os : List (Option WorkerId)). get_or os (task_of g t).lock.0 None) q.owners ∙ u.lock;
     free = λ l ne. ap (λ (os : List (Option WorkerId)). get_or os l.0 None) q.owners ∙ u.free l ne;
     task = ap (λ (ms : List Mark). get_or ms t Waiting) q.tasks ∙ u.task;
@@ -73,8 +95,63 @@ submit_leads g r s t within plain u = (
     s1 : Standing
     s1 = make s first_worker (Move (ActionOf (only_action g t)) Waiting Queued)
 
-    q : IsQueued s1 (make_all s1 first_worker (moved_units (items_of g (only_action g t)) Waiting Queued)) (first_item (action_of g (only_action g t))) (action_of g (only_action g t)).items
-    q = queue_leads s1 first_worker _ _ within.units
+    q : AreMoved s1 (make_all s1 first_worker (moved_units (items_of g (only_action g t)) Waiting Queued)) Queued (first_item (action_of g (only_action g t))) (action_of g (only_action g t)).items
+    q = moves_lead s1 first_worker Queued _ _ within.units
+
+pub park_leads : (g : Outline) (r s : Standing) (t : ℕ) → IsWithin g s t → IsPlain g t → IsSubmitted g r t s → HasParked g r t (first_item (action_of g (only_action g t))) (make_all s first_worker (list_of g s first_worker (Park (only_action g t))))
+park_leads g r s t within plain p = rw plain.retains (record {
+  rest = p.rest;
+  under = record {
+    holding = holding_written s.holdings _ within.worker ∙ ap (λ (h : Holding). record h { lease = false }) p.under.holding;
+    others = others_written s _ p.under.others;
+    lock = p.under.lock;
+    free = p.under.free;
+    task = p.under.task;
+    tasks = p.under.tasks;
+    action = get_or-set_same s.actions (only_action g t) (Running first_worker) Waiting within.action;
+    actions = λ k ne. get_or-set_other s.actions (only_action g t) k (Running first_worker) Waiting ne ∙ p.under.actions k ne;
+    units = p.under.units;
+  };
+  items = record { ended = p.items.ended; others = p.items.others };
+})
+
+pub claim_leads : (g : Outline) (r s : Standing) (t n : ℕ) → IsWithin g s t → IsItemOf g (only_action g t) n → HasParked g r t n s → HasClaimed g r t n (make_all s first_worker (list_of g s first_worker (Claim n)))
+claim_leads g r s t n within i p = record {
+  rest = p.rest;
+  under = record {
+    holding = holding_written s.holdings _ within.worker ∙ ap (λ (h : Holding). record h { lease = true }) p.under.holding;
+    others = others_written s _ p.under.others;
+    lock = p.under.lock;
+    free = p.under.free;
+    task = p.under.task;
+    tasks = p.under.tasks;
+    action = p.under.action;
+    actions = p.under.actions;
+    units = λ k ne. get_or-set_other s.units n k (Running first_worker) Waiting (λ e. ne (subst (λ m. IsItemOf g (only_action g t) m) (sym e) i)) ∙ p.under.units k ne;
+  };
+  item = record {
+    ended = λ k ik lt. subst IsEnded (sym (get_or-set_other s.units n k (Running first_worker) Waiting (λ e. absurd (omega arith)))) (p.items.ended k ik lt);
+    running = get_or-set_same s.units n (Running first_worker) Waiting (within.units n i);
+    others = λ k ik lt. get_or-set_other s.units n k (Running first_worker) Waiting (λ e. absurd (omega arith)) ∙ p.items.others k ik (omega arith);
+  };
+}
+
+pub resume_leads : (g : Outline) (r s : Standing) (t : ℕ) → IsWithin g s t → IsPlain g t → HasParked g r t (first_item (action_of g (only_action g t)) + (action_of g (only_action g t)).items) s → HasResumed g r t (make_all s first_worker (list_of g s first_worker (Resume (only_action g t))))
+resume_leads g r s t within plain p = rw plain.retains (record {
+  rest = p.rest;
+  under = record {
+    holding = holding_written s.holdings _ within.worker ∙ ap (λ (h : Holding). record h { lease = true }) p.under.holding;
+    others = others_written s _ p.under.others;
+    lock = p.under.lock;
+    free = p.under.free;
+    task = p.under.task;
+    tasks = p.under.tasks;
+    action = get_or-set_same s.actions (only_action g t) Passed Waiting within.action;
+    actions = λ k ne. get_or-set_other s.actions (only_action g t) k Passed Waiting ne ∙ p.under.actions k ne;
+    units = p.under.units;
+  };
+  items = record { ended = p.items.ended; others = p.items.others };
+})
 
 -- a unit that is closed has ended
 marked : (o : Outcome) → IsEnded (mark_from o)
@@ -90,6 +167,7 @@ pub close_leads : (g : Outline) (r s : Standing) (t : ℕ) (d : Closed) → IsWi
 close_leads g r s t d within i u items = (
   record {
     holding = holding_written s.holdings _ within.worker ∙ ap (λ (h : Holding). record h { lease = false }) u.holding;
+    others = others_written s _ u.others;
     lock = u.lock;
     free = u.free;
     task = u.task;
@@ -116,7 +194,7 @@ ended_leads : (g : Outline) (r s : Standing) (t n : ℕ) (m : Mark) → IsWithin
 unfolding ended_state
 ended_leads g r s t n m within rest u items e = record {
   resting = record {
-    holding = holding_written s.holdings _ within.worker ∙ ap (λ (h : Holding). record h { lease = false }) u.holding;
+    holdings = λ w. holding_at w (cases_eq w.0 0);
     free = λ l. owner_at l (cases_eq l.0 (task_of g t).lock.0);
     still = still;
   };
@@ -129,6 +207,10 @@ ended_leads g r s t n m within rest u items e = record {
     owner_at : (l : LockId) → (l.0 ≡ (task_of g t).lock.0) ⊎ (l.0 ≡ (task_of g t).lock.0 → ⊥) → get_or (set s.owners (task_of g t).lock.0 None) l.0 None ≡ None
     owner_at l (inl same) = ap (λ n. get_or (set s.owners (task_of g t).lock.0 None) n None) same ∙ get_or-set_same s.owners (task_of g t).lock.0 None None within.lock
     owner_at l (inr ne) = get_or-set_other s.owners (task_of g t).lock.0 l.0 None None ne ∙ u.free l ne
+
+    holding_at : (w : WorkerId) → (w.0 ≡ 0) ⊎ (w.0 ≡ 0 → ⊥) → get_or (set s.holdings 0 (record (holding_of s first_worker) { lease = false })) w.0 empty_holding ≡ empty_holding
+    holding_at w (inl same) = ap (λ n. get_or (set s.holdings 0 (record (holding_of s first_worker) { lease = false })) n empty_holding) same ∙ holding_written s.holdings _ within.worker ∙ ap (λ (h : Holding). record h { lease = false }) u.holding
+    holding_at w (inr ne) = others_written s _ u.others w ne
 
     task_at : (k : ℕ) → (k ≡ t) ⊎ (k ≡ t → ⊥) → runs_by first_worker (get_or (set s.tasks t m) k Waiting) ≡ false
     task_at k (inl same) = ap (λ n. runs_by first_worker (get_or (set s.tasks t m) n Waiting)) same ∙ ap (runs_by first_worker) (get_or-set_same s.tasks t m Waiting within.task) ∙ ended_still first_worker m e
@@ -150,3 +232,55 @@ end_leads g r s t n within plain rest u items = at (list_all (units_passed g s) 
     at : (b : Bool) → HasRun g r t (make_all s first_worker (skipped_waiting g s (actions_of g t) ++ Move (TaskOf t) (Running first_worker) (if b then Passed else Failed) ∷ (if (holding_of s first_worker).lease then Unlock (task_of g t).lock ∷ Give ∷ [] else [])))
     at true = rw (plain.one, u.action, u.holding) (ended_leads g r s t n Passed within rest u items tt)
     at false = rw (plain.one, u.action, u.holding) (ended_leads g r s t n Failed within rest u items tt)
+
+item_is_unit : (g : Outline) (t u : ℕ) → IsPlain g t → IsItemOf g (only_action g t) u → IsIn (action_of g (only_action g t)).first_unit (units_in (action_of g (only_action g t))) u
+item_is_unit g t u plain i =
+    let none : fetches (action_of g (only_action g t)).fetch ≡ 0 = ap fetches plain.no_fetch in
+    let a = i.0 in
+    let b = i.1 in
+    (omega arith, omega arith)
+
+pub skip_leads : (g : Outline) (s : Standing) (t : ℕ) → IsWithin g s t → IsPlain g t → IsResting s → HasRun g s t (make_all s first_worker (list_of g s first_worker (Skip t)))
+skip_leads g s t within plain r = rw plain.one (subst (λ cs. HasRun g s t (make_all (skipped_so_far g s t) first_worker cs)) (sym (append-nil (moved_units (units_of g (only_action g t)) Waiting Skipped))) (record {
+  resting = record {
+    holdings = λ w. ap (λ (hs : List Holding). get_or hs w.0 empty_holding) q.holdings ∙ r.holdings w;
+    free = λ l. ap (λ (os : List (Option WorkerId)). get_or os l.0 None) q.owners ∙ r.free l;
+    still = still;
+  };
+  task = subst IsEnded (sym (ap (λ (ms : List Mark). get_or ms t Waiting) q.tasks ∙ get_or-set_same s.tasks t Skipped Waiting within.task)) tt;
+  tasks = tasks;
+  actions = actions;
+  units = units;
+}))
+  where
+    s2 : Standing
+    s2 = make_all (skipped_so_far g s t) first_worker (moved_units (units_of g (only_action g t)) Waiting Skipped)
+
+    q : AreMoved (skipped_so_far g s t) (make_all (skipped_so_far g s t) first_worker (moved_units (units_of g (only_action g t)) Waiting Skipped)) Skipped (action_of g (only_action g t)).first_unit (units_in (action_of g (only_action g t)))
+    q = moves_lead (skipped_so_far g s t) first_worker Skipped _ _ (λ u i. within.units u (only_items g t u plain i))
+
+    tasks : (k : ℕ) → k ≢ t → mark_of s2 (TaskOf k) ≡ mark_of s (TaskOf k)
+    tasks k ne = ap (λ (ms : List Mark). get_or ms k Waiting) q.tasks ∙ get_or-set_other s.tasks t k Skipped Waiting ne
+
+    actions : (k : ℕ) → k ≢ only_action g t → mark_of s2 (ActionOf k) ≡ mark_of s (ActionOf k)
+    actions k ne = ap (λ (ms : List Mark). get_or ms k Waiting) q.actions ∙ get_or-set_other s.actions (only_action g t) k Skipped Waiting ne
+
+    units : (k : ℕ) → (IsItemOf g (only_action g t) k → ⊥) → mark_of s2 (UnitOf k) ≡ mark_of s (UnitOf k)
+    units k ne = q.outside k (λ i. ne (only_items g t k plain i))
+
+    task_at : (k : ℕ) → (k ≡ t) ⊎ (k ≡ t → ⊥) → runs_by first_worker (mark_of s2 (TaskOf k)) ≡ false
+    task_at k (inl same) = ap (λ n. runs_by first_worker (mark_of s2 (TaskOf n))) same ∙ ap (runs_by first_worker) (ap (λ (ms : List Mark). get_or ms t Waiting) q.tasks ∙ get_or-set_same s.tasks t Skipped Waiting within.task)
+    task_at k (inr ne) = ap (runs_by first_worker) (tasks k ne) ∙ r.still (TaskOf k)
+
+    action_at : (k : ℕ) → (k ≡ only_action g t) ⊎ (k ≡ only_action g t → ⊥) → runs_by first_worker (mark_of s2 (ActionOf k)) ≡ false
+    action_at k (inl same) = ap (λ n. runs_by first_worker (mark_of s2 (ActionOf n))) same ∙ ap (runs_by first_worker) (ap (λ (ms : List Mark). get_or ms (only_action g t) Waiting) q.actions ∙ get_or-set_same s.actions (only_action g t) Skipped Waiting within.action)
+    action_at k (inr ne) = ap (runs_by first_worker) (actions k ne) ∙ r.still (ActionOf k)
+
+    unit_at : (k : ℕ) → IsItemOf g (only_action g t) k ⊎ (IsItemOf g (only_action g t) k → ⊥) → runs_by first_worker (mark_of s2 (UnitOf k)) ≡ false
+    unit_at k (inl i) = ap (runs_by first_worker) (q.inside k (item_is_unit g t k plain i))
+    unit_at k (inr ne) = ap (runs_by first_worker) (units k ne) ∙ r.still (UnitOf k)
+
+    still : (m : MarkId) → runs_by first_worker (mark_of s2 m) ≡ false
+    still (TaskOf k) = task_at k (cases_eq k t)
+    still (ActionOf k) = action_at k (cases_eq k (only_action g t))
+    still (UnitOf k) = unit_at k (item_or_not g (only_action g t) k)

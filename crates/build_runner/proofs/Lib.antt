@@ -1,10 +1,13 @@
 pub mod Searches
 pub mod Enabled
+pub mod Within
 pub mod Leading
 pub mod Keeping
-pub mod Plans
-pub mod FirstForm
-pub mod Within
-pub mod Progress
 pub mod Stepping
+pub mod Plans
+pub mod PlainGraph
+pub mod Ranks
+pub mod AfterLists
+pub mod ReadySets
+pub mod Progress
 pub mod Ends

@@ -1,22 +1,22 @@
 -- The graph of a plan in which each task has one action, without a fetch, that retains the project lock.
-use Rattle.std.proofs.Common.{◌≡◌, ℕ, zero, suc, ◌+◌, ◌<◌, Bool, false, List, [], ◌∷◌, ◌++◌, length, get_or, take, map, None, refl, sym, ◌∙◌, ap, arith}
-use Rattle.std.specs.Prelude.{slice_get}
-use Rattle.std.specs.List.{flat_map, All, AllByRecursion}
-use Rattle.std.proofs.lemmas.List.Elements.{recursion_from_All}
-use Rattle.plan_reader.specs.IsPlan.{IsPlan}
+use Rattle.std.proofs.Common.{◌≡◌, ◌==◌, ℕ, zero, suc, ◌+◌, ◌<◌, Bool, true, false, ◌&&◌, List, [], ◌∷◌, ◌++◌, length, get_or, take, map, Option, None, Some, refl, sym, ◌∙◌, ap, arith}
+use Rattle.std.specs.Prelude.{slice_get, is_none}
+use Rattle.std.specs.List.{flat_map, list_all}
+use Rattle.std.proofs.lemmas.Bool.{and_parts, eqb-true}
 use Rattle.std.proofs.lemmas.List.{append-nil, length-append, length-map, get_or-map}
 use Rattle.resource_lock.specs.Outline.{no_task, no_action}
 use Rattle.resource_lock.specs.declared.graphs.GraphAction.{GraphAction}
-use Rattle.resource_lock.specs.declared.graphs.Retention.TheVariants.{Retain}
+use Rattle.resource_lock.specs.declared.graphs.Retention.{Retention}
+use Rattle.resource_lock.specs.declared.graphs.Retention.TheVariants.{Retain, Release, ReleaseAndReacquire}
 use Rattle.plan_reader.specs.declared.plans.PlanTask.{PlanTask}
 use Rattle.plan_reader.specs.Plan.{ActionShape, TaskShape, PlanShape, task_shape, action_shape}
 use Rattle.plan_reader.specs.Units.{item_unit, action_units, task_units}
 use Rattle.plan_reader.specs.Graph.{lock_of, tasks_from, actions_from, all_actions_from, units_in_all}
+use Rattle.build_runner.specs.CanRun.{is_retain, can_run_action, can_run_task}
 use Rattle.build_runner.specs.Planned.{no_task_shape, no_action_shape, single}
 
--- each task has one action, without a fetch, that retains the lock, and comes after none
+-- each task has one action, without a fetch, that retains the lock
 pub record IsSingle (t : TaskShape) : Type 0 where
-  pub after : t.after ≡ []
   pub one : t.actions ≡ single t ∷ []
   pub no_fetch : (single t).fetch ≡ None
   pub retains : (single t).retention ≡ Retain
@@ -31,10 +31,10 @@ single_at (t ∷ ts) a zero lt = a.0
 single_at (t ∷ ts) a (suc k) lt = single_at ts a.1 k (omega arith)
 
 -- a task's outline in the graph
-pub task_outline : (parallel : Bool) (n : ℕ) (ts : List TaskShape) → AreSingle ts → (k : ℕ) → k < length ts → get_or (tasks_from parallel n ts) k no_task ≡ record { lock = lock_of parallel (get_or ts k no_task_shape).project; after = []; first_action = n + k; actions = 1 }
+pub task_outline : (parallel : Bool) (n : ℕ) (ts : List TaskShape) → AreSingle ts → (k : ℕ) → k < length ts → get_or (tasks_from parallel n ts) k no_task ≡ record { lock = lock_of parallel (get_or ts k no_task_shape).project; after = (get_or ts k no_task_shape).after; first_action = n + k; actions = 1 }
 task_outline parallel n [] a k lt = absurd (omega arith)
-task_outline parallel n (t ∷ ts) a zero lt = rw (a.0.after, a.0.one) (ap (λ m. record { lock = lock_of parallel t.project; after = []; first_action = m; actions = 1 }) (omega arith))
-task_outline parallel n (t ∷ ts) a (suc k) lt = rw a.0.one (task_outline parallel (n + 1) ts a.1 k (omega arith) ∙ ap (λ m. record { lock = lock_of parallel (get_or ts k no_task_shape).project; after = []; first_action = m; actions = 1 }) (omega arith))
+task_outline parallel n (t ∷ ts) a zero lt = rw a.0.one (ap (λ m. record { lock = lock_of parallel t.project; after = t.after; first_action = m; actions = 1 }) (omega arith))
+task_outline parallel n (t ∷ ts) a (suc k) lt = rw a.0.one (task_outline parallel (n + 1) ts a.1 k (omega arith) ∙ ap (λ m. record { lock = lock_of parallel (get_or ts k no_task_shape).project; after = (get_or ts k no_task_shape).after; first_action = m; actions = 1 }) (omega arith))
 
 pub units_of_single : (t : TaskShape) → IsSingle t → task_units t ≡ map item_unit (single t).items
 units_of_single t s = rw (s.one, s.no_fetch) (append-nil (map item_unit (single t).items))
@@ -78,23 +78,39 @@ unit_at (t ∷ ts) (suc k) i lt within =
     ∙ get_right (task_units t) (flat_map task_units ts) (length (flat_map task_units (take k ts)) + i)
     ∙ unit_at ts k i (omega arith) within
 
--- what was read is such a plan
-pub single_of : (p : PlanShape) → IsPlan p → AreSingle p.tasks
-single_of p h = by_parts p.tasks (recursion_from_All _ p.tasks h.no_after) (recursion_from_All _ p.tasks h.one_action) (recursion_from_All _ p.tasks h.no_fetch) (recursion_from_All _ p.tasks h.retains)
-  where
-    only : (as' : List ActionShape) → length as' ≡ 1 → as' ≡ get_or as' 0 no_action_shape ∷ []
-    only [] e = absurd (omega arith)
-    only (a ∷ []) e = refl
-    only (a ∷ b ∷ as') e = absurd (omega arith)
+-- ---- a plan that can run is such a one
 
-    by_parts : (ts : List TaskShape) → AllByRecursion (λ (t : TaskShape). t.after ≡ []) ts → AllByRecursion (λ (t : TaskShape). length t.actions ≡ 1) ts → AllByRecursion (λ (t : TaskShape). All (λ (a : ActionShape). a.fetch ≡ None) t.actions) ts → AllByRecursion (λ (t : TaskShape). All (λ (a : ActionShape). a.retention ≡ Retain) t.actions) ts → AreSingle ts
-    by_parts [] a b c d = tt
-    by_parts (t ∷ ts) a b c d = (record { after = a.0; one = only t.actions b.0; no_fetch = c.0 0 no_action_shape (omega (arith, b.0)); retains = d.0 0 no_action_shape (omega (arith, b.0)) }, by_parts ts a.1 b.1 c.1 d.1)
+retain_only : (r : Retention) → is_retain r ≡ true → r ≡ Retain
+retain_only Retain e = refl
+retain_only Release e = absurd cc
+retain_only ReleaseAndReacquire e = absurd cc
 
--- a task that was read has one action
-pub one_action_read : (p : PlanShape) (tasks : List PlanTask) → map task_shape tasks ≡ p.tasks → IsPlan p → (t : ℕ) (d : PlanTask) → t < length tasks → length (get_or tasks t d).actions.items ≡ 1
-one_action_read p tasks e h t d lt =
-    let read : get_or p.tasks t (task_shape d) ≡ task_shape (get_or tasks t d) = ap (λ (ts : List TaskShape). get_or ts t (task_shape d)) (sym e) ∙ get_or-map task_shape tasks t d (task_shape d) lt in
+no_file : (f : Option (List ℕ)) → is_none f ≡ true → f ≡ None
+no_file None e = refl
+no_file (Some f) e = absurd cc
+
+only_one : (as' : List ActionShape) → (length as' == 1) ≡ true → as' ≡ get_or as' 0 no_action_shape ∷ []
+only_one [] e = absurd (omega (arith, eqb-true 0 1 e))
+only_one (a ∷ []) e = refl
+only_one (a ∷ b ∷ as') e = absurd (omega (arith, eqb-true (length (a ∷ b ∷ as')) 1 e))
+
+single_task : (t : TaskShape) → can_run_task t ≡ true → IsSingle t
+single_task t e =
+    let parts = and_parts (length t.actions == 1) (list_all can_run_action t.actions) e in
+    let one = only_one t.actions parts.0 in
+    let can : can_run_action (single t) ≡ true = (and_parts (can_run_action (single t)) true (ap (list_all can_run_action) (sym one) ∙ parts.1)).0 in
+    let front = (and_parts (is_none (single t).fetch && is_retain (single t).retention) _ can).0 in
+    let each = and_parts (is_none (single t).fetch) (is_retain (single t).retention) front in
+    record { one = one; no_fetch = no_file (single t).fetch each.0; retains = retain_only (single t).retention each.1 }
+
+pub single_of : (ts : List TaskShape) → list_all can_run_task ts ≡ true → AreSingle ts
+single_of [] e = tt
+single_of (t ∷ ts) e = let parts = and_parts _ _ e in (single_task t parts.0, single_of ts parts.1)
+
+-- its tasks have one action
+pub one_action_read : (p : PlanShape) (tasks : List PlanTask) → map task_shape tasks ≡ p.tasks → AreSingle p.tasks → (t : ℕ) (d : PlanTask) → t < length tasks → length (get_or tasks t d).actions.items ≡ 1
+one_action_read p tasks e single t d lt =
+    let read : get_or p.tasks t no_task_shape ≡ task_shape (get_or tasks t d) = ap (λ (ts : List TaskShape). get_or ts t no_task_shape) (sym e) ∙ get_or-map task_shape tasks t d no_task_shape lt in
     sym (length-map (get_or tasks t d).actions.items action_shape)
     ∙ ap (λ (s : TaskShape). length s.actions) (sym read)
-    ∙ h.one_action t (task_shape d) (omega (arith, ap length e, length-map tasks task_shape))
+    ∙ ap length (single_at p.tasks single t (omega (arith, ap length e, length-map tasks task_shape))).one

@@ -8,7 +8,7 @@ use Rattle.resource_lock.specs.Ranges.{IsActionOf, IsItemOf, first_item}
 use Rattle.resource_lock.specs.Fits.{Fits}
 use Rattle.resource_lock.specs.Shape.{BelongsTo}
 use Rattle.run_laws.proofs.Fitting.{apart_of}
-use Rattle.build_runner.specs.Phases.{only_action, IsPlain, IsFirstForm}
+use Rattle.build_runner.specs.Phases.{only_action, IsPlain, ArePlain}
 
 -- the worker, and the lock, the action and the items of the task, are in the range of the state
 pub record IsWithin (g : Outline) (s : Standing) (t : ℕ) : Type 0 where
@@ -22,18 +22,18 @@ pub record IsWithin (g : Outline) (s : Standing) (t : ℕ) : Type 0 where
 pub only_is : (g : Outline) (t : ℕ) → IsPlain g t → IsActionOf g t (only_action g t)
 only_is g t plain = let one = plain.one in (omega arith, omega arith)
 
-pub within_of : (g : Outline) (s : Standing) (t : ℕ) → Fits g → BelongsTo g s → IsFirstForm g → t < length g.tasks → IsWithin g s t
+pub within_of : (g : Outline) (s : Standing) (t : ℕ) → Fits g → BelongsTo g s → ArePlain g → t < length g.tasks → IsWithin g s t
 within_of g s t fits b form lt =
     let apart = apart_of g fits in
     record {
-      worker = omega (arith, b.workers, form.workers);
+      worker = let some = fits.some_worker in omega (arith, b.workers);
       lock = let l = fits.locks_within t no_task lt in omega (arith, b.locks);
       task = omega (arith, b.tasks);
       action = let l = apart.action_within t (only_action g t) (only_is g t (form.plain t lt)) in omega (arith, b.actions);
       units = λ u i. let l = (apart.unit_within (only_action g t) u (inr i)).1 in omega (arith, b.units);
     }
 
-pub action_in_range : (g : Outline) (t : ℕ) → Fits g → IsFirstForm g → t < length g.tasks → only_action g t < length g.actions
+pub action_in_range : (g : Outline) (t : ℕ) → Fits g → ArePlain g → t < length g.tasks → only_action g t < length g.actions
 action_in_range g t fits form lt = let apart = apart_of g fits in apart.action_within t (only_action g t) (only_is g t (form.plain t lt))
 
 -- the items end before the limit of units

@@ -1,6 +1,6 @@
 -- The states that a run on one thread comes through, task by task. A task waits, starts, submits its items, parks while
 -- they are claimed and closed one after another, resumes, and ends.
-use Rattle.std.specs.Prelude.{ℕ, ◌≡◌, ◌≢◌, ◌+◌, ◌<◌, ◌≤◌, length, true, false, [], None, Some}
+use Rattle.std.specs.Prelude.{ℕ, ◌≡◌, ◌≢◌, ◌⊎◌, ◌+◌, ◌<◌, ◌≤◌, length, true, false, [], None, Some}
 use Rattle.resource_lock.specs.Standing.{Standing, Holding, empty_holding, holding_of, owner_of, mark_of, runs_by}
 use Rattle.resource_lock.specs.Outline.{Outline, task_of, action_of}
 use Rattle.resource_lock.specs.Ranges.{IsItemOf, first_item}
@@ -13,7 +13,7 @@ use Rattle.resource_lock.specs.declared.marks.Mark.TheVariants.{Waiting, Queued,
 use Rattle.resource_lock.specs.declared.marks.MarkId.{MarkId}
 use Rattle.resource_lock.specs.declared.marks.MarkId.TheVariants.{Task as TaskOf, Action as ActionOf, Unit as UnitOf}
 
--- the only worker of a run on one thread
+-- the worker that makes each entry of a run on one thread
 abbrev pub first_worker : WorkerId
 first_worker = record { 0 = 0 }
 
@@ -25,23 +25,20 @@ working = record { lease = true; parked = []; blocked = false }
 abbrev pub only_action : Outline → ℕ → ℕ
 only_action g t = (task_of g t).first_action
 
--- the task comes after none and has one action, without a fetch, that retains the project lock
+-- the task has one action, without a fetch, that retains the project lock
 pub record IsPlain (g : Outline) (t : ℕ) : Type 0 where
-  pub after : (task_of g t).after ≡ []
   pub one : (task_of g t).actions ≡ 1
   pub own : (action_of g (only_action g t)).task ≡ t
   pub no_fetch : (action_of g (only_action g t)).fetch ≡ false
   pub retains : (action_of g (only_action g t)).retention ≡ Retain
 
--- one worker, one lease, and only plain tasks
-pub record IsFirstForm (g : Outline) : Type 0 where
-  pub workers : g.workers ≡ 1
-  pub max : g.max ≡ 1
+-- all tasks are plain
+pub record ArePlain (g : Outline) : Type 0 where
   pub plain : (t : ℕ) → t < length g.tasks → IsPlain g t
 
--- The worker has nothing, no lock has an owner, and the worker runs nothing.
+-- No worker has anything, no lock has an owner, and worker 0 runs nothing.
 pub record IsResting (s : Standing) : Type 0 where
-  pub holding : holding_of s first_worker ≡ empty_holding
+  pub holdings : (w : WorkerId) → holding_of s w ≡ empty_holding
   pub free : (l : LockId) → owner_of s l ≡ None
   pub still : (m : MarkId) → runs_by first_worker (mark_of s m) ≡ false
 
@@ -51,18 +48,15 @@ pub record IsUntouched (g : Outline) (s : Standing) (t : ℕ) : Type 0 where
   pub action : mark_of s (ActionOf (only_action g t)) ≡ Waiting
   pub units : (u : ℕ) → IsItemOf g (only_action g t) u → mark_of s (UnitOf u) ≡ Waiting
 
--- the tasks from number n on, below the stop, haven't begun
-pub record AreUntouched (g : Outline) (s : Standing) (n stop : ℕ) : Type 0 where
-  pub each : (k : ℕ) → n ≤ k → k < stop → IsUntouched g s k
+-- a task that hasn't ended hasn't begun
+pub record AreSettled (g : Outline) (s : Standing) : Type 0 where
+  pub each : (t : ℕ) → t < length g.tasks → IsUntouched g s t ⊎ IsEnded (mark_of s (TaskOf t))
 
--- the tasks below number n have ended
-pub record HaveEnded (s : Standing) (n : ℕ) : Type 0 where
-  pub each : (k : ℕ) → k < n → IsEnded (mark_of s (TaskOf k))
-
--- Task t started in the state r, and its worker, which owns the lock of the task and no other, has `held`.
+-- Task t started in the state r, and worker 0, which owns the lock of the task and no other, has `held`. The other workers have nothing.
 -- The task and its action have these marks, and each mark that isn't of the task is as it was in r.
 pub record IsUnderway (g : Outline) (r : Standing) (t : ℕ) (s : Standing) (of_task of_action : Mark) (held : Holding) : Type 0 where
   pub holding : holding_of s first_worker ≡ held
+  pub others : (w : WorkerId) → w.0 ≢ 0 → holding_of s w ≡ empty_holding
   pub lock : owner_of s (task_of g t).lock ≡ Some first_worker
   pub free : (l : LockId) → l.0 ≢ (task_of g t).lock.0 → owner_of s l ≡ None
   pub task : mark_of s (TaskOf t) ≡ of_task
@@ -112,7 +106,7 @@ pub record HasResumed (g : Outline) (r : Standing) (t : ℕ) (s : Standing) : Ty
   pub under : IsUnderway g r t s (Running first_worker) Passed working
   pub items : AreItems g t s (first_item (action_of g (only_action g t)) + (action_of g (only_action g t)).items) Queued
 
--- Task t, which started in the state r, has ended: the worker has nothing, and each mark that isn't of the task is as it was in r.
+-- Task t, which waited in the state r, has ended: no worker has anything, and each mark that isn't of the task is as it was in r.
 pub record HasRun (g : Outline) (r : Standing) (t : ℕ) (s : Standing) : Type 0 where
   pub resting : IsResting s
   pub task : IsEnded (mark_of s (TaskOf t))

@@ -1,9 +1,11 @@
 -- The plan behind a graph, where each task has one action.
-use Rattle.std.specs.Prelude.{ℕ, ◌≡◌, ◌+◌, ◌<◌, List, [], length, take, get_or, Some, None, slice_get, slice_index_or}
+use Rattle.std.specs.Prelude.{ℕ, Bool, ◌≡◌, ◌+◌, ◌<◌, List, [], length, take, get_or, Some, None, slice_get, slice_index_or}
 use Rattle.std.specs.List.{flat_map}
+use Rattle.resource_lock.specs.Outline.{Outline}
 use Rattle.resource_lock.specs.declared.graphs.Retention.TheVariants.{Retain}
 use Rattle.plan_reader.specs.Plan.{ActionShape, TaskShape, PlanShape, work_shape}
-use Rattle.plan_reader.specs.declared.plans.Work.{Work}
+use Rattle.plan_reader.specs.Graph.{tasks_from, all_actions_from}
+use Rattle.daemon_requirements.specs.declared.work.Work.{Work}
 use Rattle.plan_reader.specs.Units.{task_units, plan_units, item_unit}
 
 abbrev pub no_action_shape : ActionShape
@@ -18,6 +20,12 @@ task_in p t = slice_index_or p.tasks t no_task_shape
 -- the one action of a task
 abbrev pub single : TaskShape → ActionShape
 single t = slice_index_or t.actions 0 no_action_shape
+
+-- the graph has the tasks and the actions of the plan
+pub record IsGraphOf (p : PlanShape) (g : Outline) : Type 0 where
+  pub parallel : Bool
+  pub tasks : g.tasks ≡ tasks_from parallel 0 p.tasks
+  pub actions : g.actions ≡ all_actions_from 0 0 p.tasks
 
 -- how many units stand before a task's
 abbrev pub units_before : PlanShape → ℕ → ℕ

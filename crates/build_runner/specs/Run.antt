@@ -1,5 +1,5 @@
 -- What a run of a plan leaves.
-use Rattle.std.specs.Prelude.{ℕ, ◌≡◌, ◌+◌, ◌-◌, ◌^◌, ◌<◌, ◌≤◌, false, List, Option, None, Some}
+use Rattle.std.specs.Prelude.{ℕ, ◌≡◌, ◌≢◌, ◌+◌, ◌-◌, ◌^◌, ◌<◌, ◌≤◌, List, [], length, Option, None, Some}
 use Rattle.item_actions.specs.Files.{Folder}
 use Rattle.item_actions.specs.declared.outcomes.Outcome.{Outcome}
 use Rattle.resource_lock.specs.Good.{Good}
@@ -14,10 +14,11 @@ use Rattle.plan_reader.specs.Plan.{PlanShape}
 use Rattle.plan_reader.specs.Units.{unit_value}
 use Rattle.plan_reader.specs.Graph.{graph_of}
 use Rattle.run_laws.specs.Answers.{answers}
-use Rattle.run_laws.specs.ClosedBy.{faults_by}
+use Rattle.run_laws.specs.ClosedBy.{closed_by, faults_by}
 use Rattle.run_laws.specs.Marks.{HasEnded}
 use Rattle.run_laws.specs.Runs.{ComesTo, IsOrderly}
 use Rattle.build_runner.specs.Phases.{first_worker}
+use Rattle.build_runner.specs.declared.options.RunOptions.{RunOptions}
 
 -- no lock has an owner, and no worker has a lease, has parked a lock or is blocked
 pub record IsFree (s : Standing) : Type 0 where
@@ -30,14 +31,14 @@ abbrev pub values_of : PlanShape → Option Folder → List Entry → ℕ → Ou
 values_of plan None h = outcome_in h
 values_of plan (Some files) h = answers (unit_value plan files) h
 
--- how deep one follows `after`: no task of this form comes after another
-abbrev pub depth : ℕ
-depth = 1
+-- how deep one follows `after`: no chain of tasks that come after one another is longer
+abbrev pub depth : PlanShape → ℕ
+depth plan = length plan.tasks
 
--- A whole run of a plan, while the desk's count of faults went from before to after.
-pub record IsRunOf (plan : PlanShape) (told : Option Folder) (before after : ℕ) (b : Journal) : Type 0 where
+-- A whole run of a plan with these options, while the desk's count of faults went from before to after.
+pub record IsRunOf (plan : PlanShape) (options : RunOptions) (told : Option Folder) (before after : ℕ) (b : Journal) : Type 0 where
   -- the state is the replay of the stored entries, each allowed where it stands; at most max leases are out, and no worker owns what it has parked
-  pub graph : b.graph ≡ graph_of plan 1 1 false
+  pub graph : b.graph ≡ graph_of plan options.workers options.max options.parallel
   pub replays : b.state ≡ replay b.graph b.history
   pub lawful : Lawful b.graph b.history
   pub good : Good b.state
@@ -47,6 +48,8 @@ pub record IsRunOf (plan : PlanShape) (told : Option Folder) (before after : ℕ
   -- each task was started or skipped once, each closed item claimed once and closed once
   pub order : IsOrderly b.graph b.history
   -- marks and outcomes are those of the plan alone
-  pub results : ComesTo b.graph b.history (values_of plan told b.history) depth
-  -- units closed with Fault number at most the rise of the desk's count, where that isn't at its end
+  pub results : ComesTo b.graph b.history (values_of plan told b.history) (depth plan)
+  -- the units that worker 0 closed with Fault number at most the rise of the desk's count, where that isn't at its end
   pub faults : after < 2 ^ 64 - 1 → faults_by first_worker b.history + before ≤ after
+  -- no other worker closed a unit
+  pub others : (w : WorkerId) → w.0 ≢ 0 → closed_by w b.history ≡ []

@@ -7,14 +7,14 @@ ghost use Rattle.resource_lock.specs.Standing.{Standing};
 ghost use Rattle.plan_reader.specs.Plan.{PlanShape, work_shape};
 ghost use Rattle.plan_reader.specs.Units.{plan_units, item_unit, value_in};
 ghost use Rattle.run_laws.specs.Answers.{IsHonest};
-ghost use Rattle.build_runner.specs.Phases.{only_action, IsFirstForm, HasParked};
+ghost use Rattle.build_runner.specs.Phases.{only_action, ArePlain, HasParked};
 ghost use Rattle.build_runner.specs.Planned.{ArePlanned};
 ghost use Rattle.build_runner.specs.Kept.{Keeps};
 
 use crate::steps::{claim, close};
+use daemon_requirements::Work;
 use item_actions::{Outcome, act};
 use lock_journal::{Book, Closed};
-use plan_reader::Work;
 use std::alloc::{AllocError, Global};
 use worker_desk::{DeskFail, Files, Read};
 
@@ -52,7 +52,7 @@ fn run_item<D: Files>(
     work: &Work,
     desk: &mut D,
 ) -> Result<(), AllocError>
-    requires form { IsFirstForm book.old.graph }
+    requires form { ArePlain book.old.graph }
     requires task { task < length book.old.graph.tasks }
     requires item { IsItemOf book.old.graph (only_action book.old.graph task) unit }
     requires parked { (r : Standing) × HasParked book.old.graph r task unit book.old.state }
@@ -78,7 +78,7 @@ pub(crate) fn run_items<D: Files>(
     works: &[Work],
     desk: &mut D,
 ) -> Result<(), AllocError>
-    requires form { IsFirstForm book.old.graph }
+    requires form { ArePlain book.old.graph }
     requires task { task < length book.old.graph.tasks }
     requires few { first + length works.now < 2 ^ 32 }
     requires items { (u : ℕ) → first ≤ u → u < first + length works.now → IsItemOf book.old.graph (only_action book.old.graph task) u }

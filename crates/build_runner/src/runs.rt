@@ -1,20 +1,20 @@
 //! A whole run of a plan on one thread.
-ghost use Rattle.std.specs.Prelude.{◌≡◌, ◌≤◌, [], IfOk};
+ghost use Rattle.std.specs.Prelude.{◌≡◌, ◌≤◌, [], IfOk, IsTrue};
 ghost use Rattle.resource_lock.specs.Opening.{opening_of};
+ghost use Rattle.build_runner.specs.CanRun.{can_run};
 ghost use Rattle.build_runner.specs.Run.{IsRunOf};
 
-use crate::tasks::run_tasks;
+use crate::loops::run_tasks;
+use crate::options::RunOptions;
 use lock_journal::Book;
 use plan_reader::Plan;
 use resource_lock::Graph;
-use run_laws::{
-    every_run_comes_to_its_plan, honest_workers_give_the_answers,
-    tasks_without_after_have_rank_zero,
-};
+use run_laws::{every_run_comes_to_its_plan, honest_workers_give_the_answers};
 use std::alloc::{AllocError, Global};
+use task_ranks::ranks_give_a_numbering;
 use worker_desk::Files;
 
-/// The entries of a task with one action: start, submit, park, resume, end.
+/// The entries of a task with one action: start, submit, park, resume, end, or skip alone.
 const ENTRIES_A_TASK: u64 = 5;
 
 /// The entries of an item: claim, close.
@@ -44,27 +44,41 @@ fn open(alloc: Global, graph: Graph) -> Result<Book, AllocError>
     Book::opening(alloc, graph, entries, changes)
 }
 
-/// Runs a plan on this thread, as worker 0 with the one lease, and reads its files through the desk.
+/// Runs a plan on this thread, and reads its files through the desk. Worker 0 does all the work; the
+/// graph has as many workers, and leases, as the options ask for.
 ///
-/// The book that it gives has ended: no lock has an owner, each mark has ended, and each unit is
-/// closed with what the desk gave: where its files are told, the value of the unit's file, or
-/// `Fault` or `NoMemory`. The desk counts each fault, until its count stands at its end.
+/// The book that it gives has ended: no lock has an owner, each mark has ended, and each unit was
+/// skipped, or is closed with what the desk gave: where its files are told, the value of the unit's
+/// file, or `Fault` or `NoMemory`. The desk counts each fault, until its count stands at its end.
 ///
-/// It fails where the graph, the book or an entry finds no memory; the desk has then read some of
-/// the files, and what had run is lost.
-pub fn run_plan<D: Files>(alloc: Global, plan: &Plan, desk: &mut D) -> Result<Book, AllocError>
+/// It fails where the graph, the book, an entry or the choice of the next task finds no memory; the
+/// desk has then read some of the files, and what had run is lost.
+pub fn run_plan<D: Files>(
+    alloc: Global,
+    plan: &Plan,
+    options: &RunOptions,
+    desk: &mut D,
+) -> Result<Book, AllocError>
+    requires form { IsTrue (can_run plan.now) }
+    requires some_worker { 1 ≤ options.now.workers }
+    requires few_workers { options.now.workers ≤ 32 }
+    requires some_lease { 1 ≤ options.now.max }
+    requires few_leases { options.now.max ≤ 32 }
     ensures files { D.files desk.new ≡ D.files desk.old }
     ensures count { D.faults desk.old ≤ D.faults desk.new }
-    ensures run { IfOk result (λ book. IsRunOf plan.now (D.files desk.old) (D.faults desk.old) (D.faults desk.new) book) }
+    ensures run { IfOk result (λ book. IsRunOf plan.now options.now (D.files desk.old) (D.faults desk.old) (D.faults desk.new) book) }
 {
-    let graph = plan.graph(alloc, 1, 1, false)?;
+    let graph = plan.graph(alloc, options.workers, options.max, options.parallel)?;
     let mut book = open(alloc, graph)?;
+    // Where each task has a rank, they can be numbered so that each stands behind those that it
+    // comes after: so as long as one hasn't ended, one is ready.
+    ranks_give_a_numbering();
+    let _ = plan.tasks();
     run_tasks(alloc, plan, &mut book, desk)?;
     // What the contract says of the whole run follows from these laws of every lawful history.
     let _ = book.graph();
     let _ = book.state();
     every_run_comes_to_its_plan();
     honest_workers_give_the_answers();
-    tasks_without_after_have_rank_zero();
     Ok(book)
 }

@@ -7,11 +7,13 @@ mod links;
 mod names;
 mod requirement;
 mod rules;
+mod work;
 
 pub use fields::{Pair, RequirementFields};
 pub use links::Linked;
 pub use requirement::{PairList, RequirementRefusal, Requirements};
 pub use rules::{FieldRule, FieldTable, REQUIREMENT_TABLE};
+pub use work::{Isolation, Work};
 
 #[cfg(test)]
 mod tests;

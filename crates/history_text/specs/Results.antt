@@ -3,7 +3,7 @@ use Rattle.std.specs.Prelude.{ℕ, ◌+◌, List, [], ◌∷◌, ◌++◌, lengt
 use Rattle.std.specs.List.{flat_map, count_by, sum_by, range_with_len}
 use Rattle.item_actions.specs.Value.{passes}
 use Rattle.item_actions.specs.declared.actions.Action.{Action}
-use Rattle.item_actions.specs.declared.actions.Action.TheVariants.{Lines}
+use Rattle.item_actions.specs.declared.actions.Action.TheVariants.{Lines, Words, Bytes, Longest, Count, Sha256}
 use Rattle.item_actions.specs.declared.outcomes.Outcome.{Outcome}
 use Rattle.item_actions.specs.declared.outcomes.Outcome.TheVariants as outcomes
 use Rattle.resource_lock.specs.declared.marks.Mark.{Mark}
@@ -31,6 +31,11 @@ value_text outcomes.Skipped = codes "skipped"
 
 abbrev pub action_word : Action → List ℕ
 action_word Lines = codes "lines"
+action_word Words = codes "words"
+action_word Bytes = codes "bytes"
+action_word Longest = codes "longest"
+action_word (Count needle) = codes "count"
+action_word Sha256 = codes "sha256"
 
 abbrev pub unit_word : Option Action → List ℕ
 unit_word None = codes "fetch"

@@ -10,9 +10,10 @@ ghost use Rattle.history_text.specs.Results.{action_word, unit_line, unit_text};
 
 use crate::endings::outcome_of;
 use crate::outcomes::tell_value;
+use daemon_requirements::Work;
 use item_actions::{Action, Outcome, Text};
 use lock_journal::Book;
-use plan_reader::{PlanAction, Work};
+use plan_reader::PlanAction;
 use worker_desk::{Page, Sink};
 
 /// Tells a task's name or a file.
@@ -27,6 +28,11 @@ fn word_of(action: &Action) -> &[u8]
 {
     match action {
         Action::Lines => b"lines",
+        Action::Words => b"words",
+        Action::Bytes => b"bytes",
+        Action::Longest => b"longest",
+        Action::Count(_) => b"count",
+        Action::Sha256 => b"sha256",
     }
 }
 

@@ -1,2 +1,5 @@
+pub mod Bytes
 pub mod Files
+pub mod Forms
+pub mod Needles
 pub mod Value

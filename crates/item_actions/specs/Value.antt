@@ -1,13 +1,20 @@
 -- What an action gives on bytes, and what a unit gives by its file.
 use Rattle.std.specs.Prelude.{ℕ, ◌==◌, nat_lt, List, length, count_by, Option, None, Some, Bool, true, false, if◌then◌else◌}
 use Rattle.item_actions.specs.declared.actions.Action.{Action}
-use Rattle.item_actions.specs.declared.actions.Action.TheVariants.{Lines}
+use Rattle.sha2.specs.Sha256.{sha256}
+use Rattle.item_actions.specs.Bytes.{words, longest, occurrences}
+use Rattle.item_actions.specs.declared.actions.Action.TheVariants.{Lines, Words, Bytes, Longest, Count, Sha256}
 use Rattle.item_actions.specs.declared.outcomes.Outcome.{Outcome}
 use Rattle.item_actions.specs.declared.outcomes.Outcome.TheVariants.{Number, Digest, NotThere, TooLong}
 
 -- the value of an action on bytes
 abbrev pub act_on : Action → List ℕ → Outcome
 act_on Lines bytes = Number (count_by (λ b. b == 10) bytes)
+act_on Words bytes = Number (words bytes)
+act_on Bytes bytes = Number (length bytes)
+act_on Longest bytes = Number (longest bytes)
+act_on (Count needle) bytes = Number (occurrences needle bytes)
+act_on Sha256 bytes = Digest (sha256 bytes)
 
 -- the most bytes of a file or a plan
 abbrev pub most_bytes : ℕ

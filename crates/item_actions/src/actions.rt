@@ -2,7 +2,12 @@ ghost use Rattle.std.specs.Prelude.{◌≡◌};
 ghost use Rattle.item_actions.specs.Value.{act_on};
 
 use crate::counting::count_of_byte;
+use crate::needles::Needle;
+use crate::occurrences::count_of_needle;
 use crate::outcomes::Outcome;
+use crate::pieces::longest_piece;
+use crate::words::count_of_words;
+use sha2::{Digest, Sha256};
 
 const LINE_END: u8 = b'\n';
 
@@ -11,6 +16,16 @@ const LINE_END: u8 = b'\n';
 pub enum Action {
     /// How many bytes are line ends, 0x0A.
     Lines,
+    /// How many maximal runs there are of bytes that aren't space bytes, 0x09 to 0x0D and 0x20.
+    Words,
+    /// How many bytes there are.
+    Bytes,
+    /// The greatest length of a piece when the bytes are split at each line end.
+    Longest,
+    /// How often the needle is found from the left, none overlapping an earlier one.
+    Count(Needle),
+    /// The SHA-256 of the bytes, after FIPS 180-4.
+    Sha256,
 }
 
 /// The outcome of an action on bytes. It takes no memory.
@@ -19,5 +34,10 @@ pub fn act(action: &Action, bytes: &[u8]) -> Outcome
 {
     match action {
         Action::Lines => Outcome::Number(count_of_byte(bytes, LINE_END) as u64),
+        Action::Words => Outcome::Number(count_of_words(bytes) as u64),
+        Action::Bytes => Outcome::Number(bytes.len() as u64),
+        Action::Longest => Outcome::Number(longest_piece(bytes) as u64),
+        Action::Count(needle) => Outcome::Number(count_of_needle(bytes, needle) as u64),
+        Action::Sha256 => Outcome::Digest(Sha256::digest(bytes)),
     }
 }

@@ -3,10 +3,19 @@
 
 mod actions;
 mod counting;
+mod forms;
+mod lanes;
+mod needles;
+mod occurrences;
 mod outcomes;
+mod pieces;
+mod places;
 mod texts;
+mod words;
 
 pub use actions::{Action, act};
+pub use forms::is_file_name;
+pub use needles::Needle;
 pub use outcomes::Outcome;
 pub use texts::{Text, TextRefusal};
 

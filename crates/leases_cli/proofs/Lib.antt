@@ -1,3 +1,4 @@
+pub mod NeverNotYet
 pub mod Readings
 pub mod Reports
 pub mod Completing

@@ -1,11 +1,17 @@
 -- Why a call refuses.
-use Rattle.std.specs.Prelude.{ℕ, ◌≡◌, List, Option, None, Some}
+use Rattle.std.specs.Prelude.{ℕ, ◌≡◌, ◌≢◌, ◌⊎◌, true, false, List, Option, None, Some, Ok, Err}
 use Rattle.item_actions.specs.Files.{Folder, file_of}
 use Rattle.worker_desk.specs.Sunk.{Rises}
+use Rattle.plan_table.specs.declared.refusals.PlanRefusal.{PlanRefusal}
+use Rattle.plan_table.specs.declared.refusals.PlanRefusal.TheVariants.{NotYet}
+use Rattle.plan_table.specs.declared.refusals.PlanFail.{PlanFail}
+use Rattle.plan_table.specs.declared.refusals.PlanFail.TheVariants as fail
 use Rattle.plan_reader.specs.Plan.{PlanShape}
-use Rattle.plan_reader.specs.Reading.{reading_of}
-use Rattle.plan_reader.specs.declared.refusals.PlanRefusal.TheVariants.{NotYet}
-use Rattle.leases_cli.specs.Command.{command_of}
+use Rattle.plan_reader.specs.Reading.{Reads}
+use Rattle.build_runner.specs.CanRun.{can_run}
+use Rattle.command_words.specs.Reading.{command_of}
+use Rattle.command_words.specs.declared.commands.Command.TheVariants.{Run}
+use Rattle.command_words.specs.declared.commands.RunWords.{RunWords}
 use Rattle.leases_cli.specs.declared.status.Status.{Status}
 use Rattle.leases_cli.specs.declared.status.Status.TheVariants.{BadWords, BadPlan, NoPlan, PlanFault, NoMemory}
 
@@ -19,32 +25,48 @@ abbrev pub LacksFile : Option Folder → List ℕ → Type 0
 LacksFile None name = Unit {0}
 LacksFile (Some files) name = file_of files name ≡ None
 
+-- the bytes are this plan, and it can be run
+abbrev pub IsPlanToRun : List ℕ → PlanShape → Type 0
+IsPlanToRun bytes plan = Reads bytes (Ok plan) × (can_run plan ≡ true)
+
+-- the bytes are a plan that can't be run yet
+abbrev pub IsNotYet : List ℕ → Type 0
+IsNotYet bytes = (plan : PlanShape) × Reads bytes (Ok plan) × (can_run plan ≡ false)
+
+-- the first refusal of the bytes; NotYet exactly where they are a plan that can't be run yet
+abbrev pub IsRefusal : List ℕ → PlanRefusal → Type 0
+IsRefusal bytes refusal = ((refusal ≢ NotYet) × Reads bytes (Err refusal)) ⊎ ((refusal ≡ NotYet) × IsNotYet bytes)
+
 -- the file of this name is this plan
 abbrev pub IsPlanAt : Option Folder → List ℕ → PlanShape → Type 0
-IsPlanAt told name plan = (bytes : List ℕ) × HasBytes told name bytes × (reading_of bytes ≡ Some plan)
+IsPlanAt told name plan = (bytes : List ℕ) × HasBytes told name bytes × IsPlanToRun bytes plan
 
--- the file of this name isn't a plan of the first form, where the files are told
-abbrev pub IsRefusedAt : Option Folder → List ℕ → Type 0
-IsRefusedAt None name = Unit {0}
-IsRefusedAt (Some files) name = (bytes : List ℕ) × (file_of files name ≡ Some bytes) × (reading_of bytes ≡ None)
+-- the file of this name is refused so
+abbrev pub IsRefusedAt : Option Folder → List ℕ → PlanRefusal → Type 0
+IsRefusedAt told name refusal = (bytes : List ℕ) × HasBytes told name bytes × IsRefusal bytes refusal
 
--- Why no plan is read under a name: it isn't of the first form, there is none, or the outside failed.
+-- Why no plan is read under a name: it is refused, there is none, or the outside failed.
 abbrev pub IsReadCause : Option Folder → ℕ → ℕ → List ℕ → Status → Type 0
-IsReadCause told before after name (BadPlan NotYet) = IsRefusedAt told name
+IsReadCause told before after name (BadPlan refusal) = IsRefusedAt told name refusal
 IsReadCause told before after name NoPlan = LacksFile told name
 IsReadCause told before after name PlanFault = Rises before after
 IsReadCause told before after name _ = ⊥
 
--- the words are a command whose plan has such a name
-abbrev pub OfCommand : List (List ℕ) → (List ℕ → Type 0) → Type 0
-OfCommand words P = (name : List ℕ) × (command_of words ≡ Some name) × P name
+-- the words are a command of which this holds
+abbrev pub OfCommand : List (List ℕ) → (RunWords → Type 0) → Type 0
+OfCommand words P = (run : RunWords) × (command_of words ≡ Some (Run run)) × P run
 
 -- Why a status refuses, by the words, the files where told, and the desk's count of faults before and after.
 abbrev pub IsCause : List (List ℕ) → Option Folder → ℕ → ℕ → Status → Type 0
 IsCause words told before after BadWords = command_of words ≡ None
-IsCause words told before after status = OfCommand words (λ name. IsReadCause told before after name status)
+IsCause words told before after status = OfCommand words (λ run. IsReadCause told before after run.plan status)
 
 -- memory was wanting, or P holds
 abbrev pub OrNoMemory : Type 0 → Status → Type 0
 OrNoMemory P NoMemory = Unit {0}
 OrNoMemory P status = P
+
+-- memory was wanting, or the bytes are refused so
+abbrev pub IsRefusedBy : List ℕ → PlanFail → Type 0
+IsRefusedBy bytes (fail.Refused refusal) = IsRefusal bytes refusal
+IsRefusedBy bytes fail.NoMemory = Unit {0}

@@ -1,4 +1,3 @@
-pub mod Command
 pub mod Lines
 pub mod Causes
 pub mod Reported

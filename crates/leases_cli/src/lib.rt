@@ -1,9 +1,9 @@
-//! The program as one call: reads the words and the plan, runs the plan, and prints its results and its history.
+//! The program as one call: reads the words and the plan, runs the plan, and prints what the words ask for.
 #![tactic(auto)]
 
+mod refusals;
 mod status;
 mod top;
-mod words;
 
 pub use status::Status;
 pub use top::{Ended, leases};

@@ -1,5 +1,5 @@
 ghost use Rattle.std.specs.Prelude.{◌≡◌};
-ghost use Rattle.leases_cli.specs.Lines.{line_of, number_of};
+ghost use Rattle.leases_cli.specs.Lines.{number_of};
 
 use plan_reader::PlanRefusal;
 
@@ -38,19 +38,6 @@ impl Status {
             Status::PlanFault => 5,
             Status::SinkFault => 6,
             Status::NoMemory => 10,
-        }
-    }
-
-    /// The line that tells a refusal. The other statuses have none.
-    pub(crate) fn line(&self) -> &'static [u8]
-        ensures { result.now ≡ line_of self.now }
-    {
-        match self {
-            Status::BadWords => b"bad words\n",
-            Status::BadPlan(PlanRefusal::NotYet) => b"bad plan 14 NotYet at plan 0\n",
-            Status::NoPlan => b"no plan\n",
-            Status::PlanFault => b"plan not read\n",
-            Status::Passed | Status::TaskFailed | Status::SinkFault | Status::NoMemory => b"",
         }
     }
 }

@@ -1,23 +1,26 @@
-ghost use Rattle.std.specs.Prelude.{◌≡◌, ◌≤◌, ℕ, List, Option, Some, None, IfOk, IfErr, length, drop, get_or};
+ghost use Rattle.std.specs.Prelude.{◌≡◌, ◌≤◌, ℕ, true, [], List, Option, Some, None, IfOk, IfErr, length, drop, get_or, if◌then◌else◌};
 ghost use Rattle.std.specs.List.{list_all, range_with_len};
 ghost use Rattle.resource_lock.specs.Standing.{mark_of};
 ghost use Rattle.resource_lock.specs.declared.marks.MarkId.TheVariants as ids;
 ghost use Rattle.lock_journal.specs.Table.{has_passed};
+ghost use Rattle.worker_desk.specs.Paper.{Adds};
 ghost use Rattle.worker_desk.specs.Sunk.{Prints};
 ghost use Rattle.plan_reader.specs.Units.{plan_units};
 ghost use Rattle.run_laws.specs.Marks.{HasEnded};
 ghost use Rattle.item_actions.specs.Files.{Folder};
 ghost use Rattle.build_runner.specs.Run.{IsRunOf, values_of};
-ghost use Rattle.leases_cli.specs.Answered.{Answered, IsToldAs, all_pass, have_all_passed, run_text, text_by_book};
-ghost use Rattle.leases_cli.specs.Command.{command_of};
+ghost use Rattle.command_words.specs.Reading.{HasBounds, IsBounded, command_of};
+ghost use Rattle.command_words.specs.declared.commands.Command.TheVariants as commands;
+ghost use Rattle.leases_cli.specs.Answered.{Answered, IsToldAs, all_pass, have_all_passed, history_asked, options_of, run_text, text_by_book};
 ghost use Rattle.leases_cli.specs.Complete.{IsComplete};
 ghost use Rattle.leases_cli.specs.Reported.{IsReported};
-ghost use Rattle.leases_cli.specs.Causes.{IsPlanAt, IsReadCause, OrNoMemory};
+ghost use Rattle.leases_cli.specs.Causes.{IsPlanAt, IsPlanToRun, IsReadCause, IsRefusedBy, OrNoMemory};
 ghost use Rattle.leases_cli.specs.declared.status.Status.TheVariants as statuses;
 
+use crate::refusals::print_refusal;
 use crate::status::Status;
-use crate::words::plan_name;
-use build_runner::run_plan;
+use build_runner::{RunOptions, can_run, run_plan};
+use command_words::{Command, RunWords, WordsFail, read_command};
 use history_text::{results_go_by_number, tell_history, tell_results};
 use item_actions::Text;
 use lock_journal::Book;
@@ -25,7 +28,8 @@ use plan_reader::{Plan, PlanFail, PlanRefusal, read_plan};
 use resource_lock::{Mark, MarkId, State};
 use run_laws::outcomes_go_by_number;
 use std::alloc::Global;
-use worker_desk::{DeskFail, Failed, Files, Page, Read, Sink, put_all};
+use task_ranks::first_cycle_is_unique;
+use worker_desk::{DeskFail, Failed, Files, Page, Read, Sink};
 
 /// The most bytes of a plan.
 const MOST_BYTES: u64 = 4_194_304;
@@ -37,6 +41,22 @@ pub struct Ended {
     pub book: Option<Book>,
 }
 
+/// The plan that bytes are, if it can be run.
+fn plan_to_run(alloc: Global, bytes: &[u8]) -> Result<Plan, PlanFail>
+    ensures plan { IfOk result (λ plan. IsPlanToRun bytes.now plan) }
+    ensures refused { IfErr result (IsRefusedBy bytes.now) }
+{
+    let plan = match read_plan(alloc, bytes) {
+        Ok(plan) => plan,
+        Err(fail) => return Err(fail),
+    };
+    if can_run(&plan) {
+        Ok(plan)
+    } else {
+        Err(PlanFail::Refused(PlanRefusal::NotYet))
+    }
+}
+
 /// The plan of this name, or the refusal.
 fn read<D: Files>(alloc: Global, name: &Text, desk: &mut D) -> Result<Plan, Status>
     ensures files { D.files desk.new ≡ D.files desk.old }
@@ -45,28 +65,37 @@ fn read<D: Files>(alloc: Global, name: &Text, desk: &mut D) -> Result<Plan, Stat
     ensures refused { IfErr result (λ status. OrNoMemory (IsReadCause (D.files desk.old) (D.faults desk.old) (D.faults desk.new) name.now status) status) }
 {
     match desk.read(alloc, name, MOST_BYTES) {
-        Ok(Read::Bytes(bytes)) => match read_plan(alloc, bytes.as_slice()) {
+        Ok(Read::Bytes(bytes)) => match plan_to_run(alloc, bytes.as_slice()) {
             Ok(plan) => Ok(plan),
             Err(PlanFail::Refused(refusal)) => Err(Status::BadPlan(refusal)),
             Err(PlanFail::NoMemory) => Err(Status::NoMemory),
         },
-        Ok(Read::TooLong) => Err(Status::BadPlan(PlanRefusal::NotYet)),
+        Ok(Read::TooLong) => Err(Status::BadPlan(PlanRefusal::TooLong)),
         Ok(Read::NotThere) => Err(Status::NoPlan),
         Err(DeskFail::Failed) => Err(Status::PlanFault),
         Err(DeskFail::NoMemory) => Err(Status::NoMemory),
     }
 }
 
-/// Prints the results and the history of a run.
-fn print_run<O: Sink>(plan: &Plan, book: &Book, out: &mut O) -> Result<(), Failed>
+/// Tells the history of a run, where the words ask for it.
+fn tell_history_asked<O: Sink>(asked: &RunWords, book: &Book, page: &mut Page, out: &mut O)
+    ensures { Adds (O.seen out.old) page.old (O.seen out.new) page.new (history_asked asked.now book.now) }
+{
+    if asked.history {
+        tell_history(book, asked.parallel, page, out);
+    }
+}
+
+/// Prints what the words ask for of a run.
+fn print_run<O: Sink>(asked: &RunWords, plan: &Plan, book: &Book, out: &mut O) -> Result<(), Failed>
     requires tasks { length book.now.graph.tasks ≡ length plan.now.tasks }
     requires units { book.now.graph.units ≡ length (plan_units plan.now) }
     requires ended { HasEnded book.now.state }
-    ensures { Prints (O.seen out.old) (O.seen out.new) (text_by_book plan.now book.now) result }
+    ensures { Prints (O.seen out.old) (O.seen out.new) (text_by_book asked.now plan.now book.now) result }
 {
     let mut page = Page::new();
-    tell_results(plan, book, false, &mut page, out);
-    tell_history(book, false, &mut page, out);
+    tell_results(plan, book, asked.summary, &mut page, out);
+    tell_history_asked(asked, book, &mut page, out);
     page.end(out)
 }
 
@@ -86,15 +115,15 @@ fn all_passed(book: &Book) -> bool
 }
 
 /// Prints a run, and says how it went.
-fn report<O: Sink>(plan: &Plan, book: Book, out: &mut O) -> Ended
+fn report<O: Sink>(asked: &RunWords, plan: &Plan, book: Book, out: &mut O) -> Ended
     requires tasks { length book.graph.tasks ≡ length plan.now.tasks }
     requires units { book.graph.units ≡ length (plan_units plan.now) }
     requires ended { HasEnded book.state }
     ensures book { result.book ≡ Some book }
-    ensures status { IsReported (have_all_passed book) (O.seen out.old) (O.seen out.new) (text_by_book plan.now book) result.status }
+    ensures status { IsReported (have_all_passed book) (O.seen out.old) (O.seen out.new) (text_by_book asked.now plan.now book) result.status }
 {
     let passed = all_passed(&book);
-    let status = match print_run(plan, &book, out) {
+    let status = match print_run(asked, plan, &book, out) {
         Ok(()) if passed => Status::Passed,
         Ok(()) => Status::TaskFailed,
         Err(Failed) => Status::SinkFault,
@@ -110,7 +139,7 @@ fn refuse<O: Sink>(refusal: Status, out: &mut O) -> Ended
     ensures book { result.book ≡ None }
     ensures status { IsToldAs refusal (O.seen out.old) (O.seen out.new) result.status }
 {
-    let status = match put_all(out, refusal.line()) {
+    let status = match print_refusal(&refusal, out) {
         Ok(()) => refusal,
         Err(Failed) => Status::SinkFault,
     };
@@ -129,40 +158,59 @@ fn without_memory() -> Ended
 }
 
 /// Prints a run of the plan, and says how it went by the plan.
-fn report_run<O: Sink>(plan: &Plan, book: Book, out: &mut O) -> Ended
-    requires { (told : Option Folder) × (before : ℕ) × (after : ℕ) × IsRunOf plan.now told before after book }
+fn report_run<O: Sink>(asked: &RunWords, plan: &Plan, book: Book, out: &mut O) -> Ended
+    requires { (told : Option Folder) × (before : ℕ) × (after : ℕ) × IsRunOf plan.now (options_of asked.now) told before after book }
     ensures book { result.book ≡ Some book }
-    ensures status { (told : Option Folder) (before after : ℕ) → IsRunOf plan.now told before after book
-        → IsReported (all_pass book.graph (values_of plan.now told book.history)) (O.seen out.old) (O.seen out.new) (run_text plan.now told book) result.status }
+    ensures status { (told : Option Folder) (before after : ℕ) → IsRunOf plan.now (options_of asked.now) told before after book
+        → IsReported (all_pass plan.now book.graph (values_of plan.now told book.history)) (O.seen out.old) (O.seen out.new) (run_text asked.now plan.now told book) result.status }
 {
     let _ = book.graph();
     outcomes_go_by_number();
     results_go_by_number();
-    report(plan, book, out)
+    report(asked, plan, book, out)
 }
 
 /// Reads a plan through the desk, runs it and prints.
-fn run<D: Files, O: Sink>(alloc: Global, name: &Text, desk: &mut D, out: &mut O) -> Ended
+fn run<D: Files, O: Sink>(alloc: Global, asked: &RunWords, desk: &mut D, out: &mut O) -> Ended
+    requires { HasBounds asked.now }
     ensures files { D.files desk.new ≡ D.files desk.old }
     ensures count { D.faults desk.old ≤ D.faults desk.new }
-    ensures answer { (words : List (List ℕ)) → command_of words ≡ Some name.now
+    ensures answer { (words : List (List ℕ)) → command_of words ≡ Some (commands.Run asked.now)
         → Answered words (D.files desk.old) (D.faults desk.old) (D.faults desk.new) (O.seen out.old) (O.seen out.new) result.status result.book }
 {
-    let plan = match read(alloc, name, desk) {
+    let plan = match read(alloc, &asked.plan, desk) {
         Ok(plan) => plan,
         Err(Status::NoMemory) => return without_memory(),
         Err(refusal) => return refuse(refusal, out),
     };
-    match run_plan(alloc, &plan, desk) {
-        Ok(book) => report_run(&plan, book, out),
+    let options = RunOptions {
+        workers: asked.workers,
+        max: asked.max,
+        parallel: asked.parallel,
+    };
+    match run_plan(alloc, &plan, &options, desk) {
+        Ok(book) => report_run(asked, &plan, book, out),
         Err(_) => without_memory(),
+    }
+}
+
+/// Carries a command out.
+fn perform<D: Files, O: Sink>(alloc: Global, command: &Command, desk: &mut D, out: &mut O) -> Ended
+    requires { IsBounded command.now }
+    ensures files { D.files desk.new ≡ D.files desk.old }
+    ensures count { D.faults desk.old ≤ D.faults desk.new }
+    ensures answer { (words : List (List ℕ)) → command_of words ≡ Some command.now
+        → Answered words (D.files desk.old) (D.faults desk.old) (D.faults desk.new) (O.seen out.old) (O.seen out.new) result.status result.book }
+{
+    match command {
+        Command::Run(asked) => run(alloc, asked, desk, out),
     }
 }
 
 /// Does what the words after the program's name ask for.
 ///
-/// The one command is `run PLAN --max-workers 1 --threads 1 --history`. The plan and its files are
-/// read through the first of the desks, of which there are 32, and the results and the history are
+/// The one command is `run` with the options of `command_words::read_command`. The plan and its files
+/// are read through the first of the desks, of which there are 32, and what the words ask for is
 /// written to `out`. The answer and its cause are those of the contract; at `NoMemory` nothing was
 /// written, and at `SinkFault` the beginning of the text.
 pub fn leases<D: Files, O: Sink>(
@@ -183,8 +231,12 @@ pub fn leases<D: Files, O: Sink>(
         (D.faults (get_or desks.old.items 0 d)) (D.faults (get_or desks.new.items 0 d))
         (O.seen out.old) (O.seen out.new) result.status result.book }
 {
-    match plan_name(words) {
-        Some(name) => run(alloc, name, &mut desks[0], out),
-        None => refuse(Status::BadWords, out),
+    match read_command(alloc, words) {
+        Ok(command) => {
+            first_cycle_is_unique();
+            perform(alloc, &command, &mut desks[0], out)
+        }
+        Err(WordsFail::NoCommand) => refuse(Status::BadWords, out),
+        Err(WordsFail::NoMemory) => without_memory(),
     }
 }

@@ -16,17 +16,6 @@ use Rattle.plan_reader.specs.Units.{fetch_units, item_unit, action_units, task_u
 use Rattle.plan_reader.specs.IsPlan.{IsPlan}
 use Rattle.plan_reader.specs.Graph.{lock_of, locks_of, tasks_from, actions_from, units_in_all, all_actions_from, graph_of}
 
--- what the graph of a plan rests on
-record Suits (p : PlanShape) : Type 0 where
-  few_projects : length p.projects ≤ 4096
-  few_tasks : length p.tasks ≤ 2048
-  few_units : length (plan_units p) ≤ 8192
-  few_actions : All (λ t. length t.actions ≤ 8) p.tasks
-  few_after : All (λ t. length t.after ≤ 64) p.tasks
-  project_within : All (λ t. t.project < length p.projects) p.tasks
-  after_within : All (λ t. All (λ n. n < length p.tasks) t.after) p.tasks
-  some_item : All (λ t. All (λ a. 0 < length a.items) t.actions) p.tasks
-
 -- ---- tasks
 
 abbrev pub task_outline : Bool → ℕ → TaskShape → TaskOutline
@@ -47,9 +36,9 @@ lock_within : (parallel : Bool) (project projects : ℕ) → project < projects 
 lock_within true project projects within = within
 lock_within false project projects within = omega arith
 
-few_locks : (parallel : Bool) (projects : ℕ) → projects ≤ 4096 → (if parallel then projects else min 1 projects) ≤ 4096
-few_locks true projects few = few
-few_locks false projects few = omega arith
+few_locks : (parallel : Bool) (projects : ℕ) → projects ≤ 512 → (if parallel then projects else min 1 projects) ≤ 4096
+few_locks true projects few = omega (arith, few)
+few_locks false projects few = omega (arith, few)
 
 -- ---- actions
 
@@ -154,49 +143,26 @@ own_task parallel n task first (x ∷ ts) a m within e t is =
     (task_of_action task first x.actions a)
     (λ b lt. own_task parallel (n + length x.actions) (task + 1) (first + units_in_all x.actions) ts b m lt)
 
-fits : (p : PlanShape) (workers max : ℕ) (parallel : Bool) → Suits p → 1 ≤ workers → workers ≤ 32 → 1 ≤ max → max ≤ 32 → Fits (graph_of p workers max parallel)
-fits p workers max parallel s some_worker few_workers some_lease few_leases =
+pub graph_fits : (p : PlanShape) (workers max : ℕ) (parallel : Bool) → IsPlan p → 1 ≤ workers → workers ≤ 32 → 1 ≤ max → max ≤ 32 → Fits (graph_of p workers max parallel)
+graph_fits p workers max parallel h some_worker few_workers some_lease few_leases =
     let tasks : length (tasks_from parallel 0 p.tasks) ≡ length p.tasks = length-tasks_from parallel 0 p.tasks in
     record {
       some_worker = some_worker;
       few_workers = few_workers;
       some_lease = some_lease;
       few_leases = few_leases;
-      few_locks = few_locks parallel (length p.projects) s.few_projects;
-      few_tasks = rw tasks s.few_tasks;
-      few_units = s.few_units;
-      few_actions = each_task (λ t. t.actions ≤ 8) parallel 0 p.tasks (λ k d within n. s.few_actions k d within);
-      few_after = each_task (λ t. length t.after ≤ 64) parallel 0 p.tasks (λ k d within n. s.few_after k d within);
-      locks_within = each_task (λ t. t.lock.0 < locks_of parallel p) parallel 0 p.tasks (λ k d within n. lock_within parallel _ (length p.projects) (s.project_within k d within));
-      after_within = subst (λ n. All (λ t. All (λ m. m < n) t.after) (tasks_from parallel 0 p.tasks)) (sym tasks) (each_task (λ t. All (λ m. m < length p.tasks) t.after) parallel 0 p.tasks (λ k d within n. s.after_within k d within));
+      few_locks = few_locks parallel (length p.projects) h.few_projects;
+      few_tasks = rw tasks h.few_tasks;
+      few_units = h.few_units;
+      few_actions = each_task (λ t. t.actions ≤ 8) parallel 0 p.tasks (λ k d within n. h.few_actions k d within);
+      few_after = each_task (λ t. length t.after ≤ 64) parallel 0 p.tasks (λ k d within n. h.few_after k d within);
+      locks_within = each_task (λ t. t.lock.0 < locks_of parallel p) parallel 0 p.tasks (λ k d within n. lock_within parallel _ (length p.projects) (h.project_within k d within));
+      after_within = subst (λ n. All (λ t. All (λ m. m < n) t.after) (tasks_from parallel 0 p.tasks)) (sym tasks) (each_task (λ t. All (λ m. m < length p.tasks) t.after) parallel 0 p.tasks (λ k d within n. h.after_within k d within));
       actions_follow = actions_follow parallel 0 0 0 p.tasks (length (all_actions_from 0 0 p.tasks)) (omega arith);
       units_follow = all_units_follow 0 0 p.tasks (length (plan_units p)) (omega arith);
       own_task = λ a within. (own_task parallel 0 0 0 p.tasks a a within (omega arith) _ refl).1 _ (omega arith);
-      some_item = all_some_items 0 0 p.tasks s.some_item;
+      some_item = all_some_items 0 0 p.tasks h.some_item;
     }
-
--- ---- the graph of a plan that was read
-
-few_or_none : (ns : List ℕ) → ns ≡ [] → length ns ≤ 64
-few_or_none ns none = rw none (omega arith)
-
-all_of_none : (n : ℕ) (ns : List ℕ) → ns ≡ [] → All (λ m. m < n) ns
-all_of_none n ns none = subst (λ ms. All (λ m. m < n) ms) (sym none) (All-nil (λ m. m < n))
-
-suits : (p : PlanShape) → IsPlan p → Suits p
-suits p h = record {
-  few_projects = omega (arith, h.few_projects);
-  few_tasks = h.few_tasks;
-  few_units = h.few_units;
-  few_actions = λ k d within. omega (arith, h.one_action k d within);
-  few_after = λ k d within. few_or_none _ (h.no_after k d within);
-  project_within = h.project_within;
-  after_within = λ k d within. all_of_none (length p.tasks) _ (h.no_after k d within);
-  some_item = h.some_item;
-}
-
-pub graph_fits : (p : PlanShape) (workers max : ℕ) (parallel : Bool) → IsPlan p → 1 ≤ workers → workers ≤ 32 → 1 ≤ max → max ≤ 32 → Fits (graph_of p workers max parallel)
-graph_fits p workers max parallel h = fits p workers max parallel (suits p h)
 
 units_made : (task first : ℕ) (as' : List ActionShape) → sum_by units_in (actions_from task first as') ≡ units_in_all as'
 units_made task first [] = refl

@@ -1,7 +1,13 @@
 pub mod Lists
+pub mod Least
+pub mod Numbered
+pub mod PlaceNumbers
 pub mod Rooms
-pub mod Distinct
-pub mod ReadPlans
 pub mod Fitting
 pub mod GraphSteps
-pub mod DocumentLaws
+pub mod Pairs
+pub mod Quiet
+pub mod Numbers
+pub mod Accepted
+pub mod Answering
+pub mod OneAnswer

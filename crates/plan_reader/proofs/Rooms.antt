@@ -1,18 +1,18 @@
 -- Room for what the members of a list take, one after the other.
-use Rattle.std.proofs.Common.{◌≡◌, ℕ, ◌+◌, ◌<◌, List, length, take, get_or, Option, Some, None, is_some, nat_le, arith, ap, sym}
-use Rattle.std.specs.List.{flat_map}
-use Rattle.std.proofs.lemmas.Bool.{lt-leb, le-leb}
-use Rattle.std.proofs.lemmas.List.Folds.{length-flat_map-take}
+use Rattle.std.proofs.Common.{◌≡◌, ℕ, ◌+◌, ◌<◌, List, length, take, get_or, Option, Some, None, is_some, not, nat_lt, Bool, arith, ap, sym, ◌∙◌}
+use Rattle.std.specs.List.{sum_by}
+use Rattle.std.proofs.lemmas.Bool.{lt-ltb, le-ltb, not-true, not-false}
+use Rattle.std.proofs.lemmas.List.Sums.{sum_by_more_le}
 use Rattle.plan_reader.specs.Rooms.{IsLeft}
 
 -- where a member takes more than is left, all take more than there was
-pub too_many : {X Y : Type 0} (f : X → List Y) (xs : List X) (i : ℕ) (x : X) (room left : ℕ) → i < length xs → x ≡ get_or xs i x
-    → left + length (flat_map f (take i xs)) ≡ room → left < length (f x) → room < length (flat_map f xs)
+pub too_many : {X : Type 0} (f : X → ℕ) (xs : List X) (i : ℕ) (x : X) (room left : ℕ) → i < length xs → x ≡ get_or xs i x
+    → left + sum_by f (take i xs) ≡ room → left < f x → room < sum_by f xs
 too_many f xs i x room left within is so_far more =
-    let here : length (f x) ≡ length (f (get_or xs i x)) = ap (λ y. length (f y)) is in
-    omega (arith, length-flat_map-take f xs i x within)
+    let here : f x ≡ f (get_or xs i x) = ap f is in
+    omega (arith, sum_by_more_le f xs i x within)
 
--- something is left exactly where the room is enough
-pub is_enough : (room taken : ℕ) (o : Option ℕ) → IsLeft room taken o → is_some o ≡ nat_le taken room
-is_enough room taken None more = sym (lt-leb taken room more)
-is_enough room taken (Some left) fits = sym (le-leb taken room (omega arith))
+-- nothing is left exactly where the room is too small
+pub is_too_small : (room taken : ℕ) (o : Option ℕ) (none : Bool) → IsLeft room taken o → not none ≡ is_some o → none ≡ nat_lt room taken
+is_too_small room taken None none more e = not-false none e ∙ sym (lt-ltb room taken more)
+is_too_small room taken (Some left) none fits e = not-true none e ∙ sym (le-ltb room taken (omega arith))

@@ -1,22 +1,49 @@
 -- What holds of every plan that was read.
-use Rattle.std.specs.Prelude.{◌≡◌, ◌≢◌, ◌<◌, ◌≤◌, true, [], length, None}
+use Rattle.std.specs.Prelude.{ℕ, ◌≡◌, ◌≢◌, ◌+◌, ◌<◌, ◌≤◌, true, List, map, length, slice_index_or}
 use Rattle.std.specs.List.{All, AllPairs}
-use Rattle.resource_lock.specs.declared.graphs.Retention.TheVariants.{Retain}
-use Rattle.plan_reader.specs.Forms.{is_name, is_file_name}
-use Rattle.plan_reader.specs.Plan.{PlanShape}
+use Rattle.resource_lock.specs.declared.graphs.Retention.TheVariants.{Release}
+use Rattle.daemon_requirements.specs.Profile.{Profile}
+use Rattle.task_ranks.specs.Rank.{Ranked}
+use Rattle.item_actions.specs.Forms.{is_file_name}
+use Rattle.plan_table.specs.Forms.{is_name}
+use Rattle.plan_table.specs.Formed.{IsFetch}
+use Rattle.plan_reader.specs.Plan.{ActionShape, TaskShape, PlanShape}
 use Rattle.plan_reader.specs.Units.{plan_units}
 
+-- the names of its files have their form
+pub record HasFileNames (a : ActionShape) : Type 0 where
+  pub fetch : IsFetch a.fetch
+  pub items : All (λ w. is_file_name w.file ≡ true) a.items
+
+-- an action that isn't the last keeps the project lock, or takes it again
+abbrev pub ReleasesLast : List ActionShape → Type 0
+ReleasesLast as' = (k : ℕ) (d : ActionShape) → k + 1 < length as' → (slice_index_or as' k d).retention ≢ Release
+
+-- at most 64 arguments, properties and variables each
+pub record HasFewLists (p : Profile) : Type 0 where
+  pub args : length p.args ≤ 64
+  pub properties : length p.properties ≤ 64
+  pub variables : length p.variables ≤ 64
+
+-- for each task the tasks that it stands after
+abbrev pub afters : List TaskShape → List (List ℕ)
+afters ts = map (λ t. t.after) ts
+
 pub record IsPlan (p : PlanShape) : Type 0 where
-  pub few_projects : length p.projects ≤ 1
+  pub few_projects : length p.projects ≤ 512
   pub few_tasks : length p.tasks ≤ 2048
   pub few_units : length (plan_units p) ≤ 8192
+  pub few_requirements : length p.requirements ≤ 256
+  pub few_actions : All (λ t. length t.actions ≤ 8) p.tasks
+  pub few_after : All (λ t. length t.after ≤ 64) p.tasks
+  pub few_lists : All HasFewLists p.requirements
   pub project_names : All (λ n. is_name n ≡ true) p.projects
   pub task_names : All (λ t. is_name t.name ≡ true) p.tasks
-  pub own_names : AllPairs (λ t u. t.name ≢ u.name) p.tasks
+  pub own_projects : AllPairs (λ m n. m ≢ n) p.projects
+  pub own_tasks : AllPairs (λ t u. t.name ≢ u.name) p.tasks
   pub project_within : All (λ t. t.project < length p.projects) p.tasks
-  pub no_after : All (λ t. t.after ≡ []) p.tasks
-  pub one_action : All (λ t. length t.actions ≡ 1) p.tasks
-  pub no_fetch : All (λ t. All (λ a. a.fetch ≡ None) t.actions) p.tasks
-  pub retains : All (λ t. All (λ a. a.retention ≡ Retain) t.actions) p.tasks
+  pub after_within : All (λ t. All (λ u. u < length p.tasks) t.after) p.tasks
+  pub ranked : (t : ℕ) → t < length p.tasks → Ranked (afters p.tasks) t
   pub some_item : All (λ t. All (λ a. 0 < length a.items) t.actions) p.tasks
-  pub file_names : All (λ t. All (λ a. All (λ w. is_file_name w.file ≡ true) a.items) t.actions) p.tasks
+  pub release_last : All (λ t. ReleasesLast t.actions) p.tasks
+  pub file_names : All (λ t. All HasFileNames t.actions) p.tasks

@@ -1,9 +1,10 @@
-pub mod Forms
-pub mod Values
 pub mod Plan
 pub mod Units
 pub mod IsPlan
-pub mod FirstForm
-pub mod Rooms
-pub mod Reading
 pub mod Graph
+pub mod Names
+pub mod Rooms
+pub mod Rows
+pub mod Search
+pub mod Planned
+pub mod Reading

@@ -1,32 +1,56 @@
--- The plan that a text is, if it is one of the first form.
-use Rattle.std.specs.Prelude.{ℕ, ◌≡◌, if◌then◌else◌, nat_lt, List, length, Option, Some, None, option_map, option_and_then, Result, Ok, Err}
-use Rattle.std.specs.Str.{is_utf8}
-use Rattle.toml.specs.Data.{Data, table}
-use Rattle.toml.specs.Parse.{parse_document}
-use Rattle.item_actions.specs.Value.{most_bytes}
-use Rattle.plan_reader.specs.declared.refusals.PlanRefusal.TheVariants.{NotYet}
-use Rattle.plan_reader.specs.declared.refusals.PlanFail.{PlanFail}
-use Rattle.plan_reader.specs.declared.refusals.PlanFail.TheVariants.{Refused, NoMemory}
+-- The plan that a text is, or the first refusal.
+use Rattle.std.specs.Prelude.{ℕ, ◌≡◌, List, Option, None, Some, Result, Ok, Err}
+use Rattle.std.specs.Option.{option_or}
+use Rattle.toml.specs.Data.{Data}
+use Rattle.task_ranks.specs.Rank.{Dependencies, IsFirstCycle}
+use Rattle.plan_table.specs.declared.refusals.PlanRefusal.{PlanRefusal}
+use Rattle.plan_table.specs.declared.refusals.PlanFail.{PlanFail}
+use Rattle.plan_table.specs.declared.refusals.PlanFail.TheVariants as fail
+use Rattle.plan_table.specs.Document.{document_reading}
+use Rattle.plan_reader.specs.Names.{afters_of}
 use Rattle.plan_reader.specs.Plan.{PlanShape}
-use Rattle.plan_reader.specs.FirstForm.{is_first_form, plan_of}
+use Rattle.plan_reader.specs.Planned.{plan_of}
+use Rattle.plan_reader.specs.Search.{refusal_before, refusal_behind, cycle_at, cycle_refusal}
 
--- the document that a text is, if it is one
-abbrev pub document_of : List ℕ → Option Data
-document_of bytes = if is_utf8 bytes then option_map table (parse_document bytes) else None
+abbrev pub Answer : Type 0
+Answer = Result PlanShape PlanRefusal
 
--- the plan of a document, if it is of the first form
-abbrev pub plan_in : Data → Option PlanShape
-plan_in d = if is_first_form d then Some (plan_of d) else None
+abbrev pub answer_to : Option PlanRefusal → PlanShape → Answer
+answer_to None plan = Ok plan
+answer_to (Some r) plan = Err r
 
-abbrev pub reading_of : List ℕ → Option PlanShape
-reading_of bytes = if nat_lt most_bytes (length bytes) then None else option_and_then plan_in (document_of bytes)
+-- nothing is refused before Cycle, which is where the first task without a rank stands
+abbrev pub AnswersRanks : Data → Answer → Type 0
+AnswersRanks d answer = (first : Option ℕ) × IsFirstCycle (afters_of d) first × (answer ≡ answer_to (option_or (cycle_refusal first) (refusal_behind d)) (plan_of d))
 
--- memory ran out, or the refusal is NotYet and P holds
-abbrev pub NoMemoryOrNotYet : Type 0 → PlanFail → Type 0
-NoMemoryOrNotYet P NoMemory = Unit {0}
-NoMemoryOrNotYet P (Refused NotYet) = P
+abbrev pub AnswersBy : Option PlanRefusal → Data → Answer → Type 0
+AnswersBy (Some r) d answer = answer ≡ Err r
+AnswersBy None d answer = AnswersRanks d answer
 
--- the plan that was read, or NotYet where none is, or memory ran out
-abbrev pub Gives : Result PlanShape PlanFail → Option PlanShape → Type 0
-Gives (Ok p) reading = reading ≡ Some p
-Gives (Err fail) reading = NoMemoryOrNotYet (reading ≡ None) fail
+abbrev pub ReadsBy : Result Data PlanRefusal → Answer → Type 0
+ReadsBy (Err r) answer = answer ≡ Err r
+ReadsBy (Ok d) answer = AnswersBy (refusal_before d) d answer
+
+-- the answer to a text
+abbrev pub Reads : List ℕ → Answer → Type 0
+Reads bytes answer = ReadsBy (document_reading bytes) answer
+
+-- memory ran out, or the refusal is the answer
+abbrev pub Refuses : (Answer → Type 0) → PlanFail → Type 0
+Refuses Is fail.NoMemory = Unit {0}
+Refuses Is (fail.Refused r) = Is (Err r)
+
+-- the plan is the answer, or memory ran out, or the refusal is the answer
+abbrev pub Gives : (Answer → Type 0) → Result PlanShape PlanFail → Type 0
+Gives Is (Ok plan) = Is (Ok plan)
+Gives Is (Err e) = Refuses Is e
+
+-- memory ran out, or it is the refusal that was found
+abbrev pub RefusesBy : Option PlanRefusal → PlanFail → Type 0
+RefusesBy found fail.NoMemory = Unit {0}
+RefusesBy found (fail.Refused r) = found ≡ Some r
+
+-- memory ran out, or the first task without a rank is refused
+abbrev pub RefusesCycle : Dependencies → PlanFail → Type 0
+RefusesCycle g fail.NoMemory = Unit {0}
+RefusesCycle g (fail.Refused r) = (first : ℕ) × IsFirstCycle g (Some first) × (r ≡ cycle_at first)

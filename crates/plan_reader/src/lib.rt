@@ -1,20 +1,23 @@
 //! Plans: what a build is to do, read from TOML.
 #![tactic(auto)]
 
-mod forms;
 mod graphs;
+mod known;
+mod laws;
+mod limits;
 mod names;
 mod parts;
+mod places;
 mod plans;
+mod profiles;
 mod read;
-mod refusals;
-mod tables;
-mod values;
+mod rows;
+mod search;
 
-pub use forms::{is_file_name, is_name};
-pub use plans::{Plan, PlanAction, PlanTask, Work};
+pub use laws::{a_row_that_refuses_nothing_holds_nowhere, a_text_has_one_answer};
+pub use plan_table::{Part, Place, PlanFail, PlanRefusal, Which};
+pub use plans::{Plan, PlanAction, PlanTask};
 pub use read::read_plan;
-pub use refusals::{PlanFail, PlanRefusal};
 
 #[cfg(test)]
 mod tests;

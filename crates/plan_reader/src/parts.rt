@@ -1,94 +1,197 @@
 //! The plan of a document.
-ghost use Rattle.std.specs.Prelude.{◌≡◌, map, true, IfOk};
+ghost use Rattle.std.specs.Prelude.{◌≡◌, true, map, IfOk, option_map};
+ghost use Rattle.std.specs.List.{list_all};
 ghost use Rattle.toml.specs.View.{view};
-ghost use Rattle.plan_reader.specs.Plan.{work_shape, action_shape, task_shape};
-ghost use Rattle.plan_reader.specs.FirstForm.{tasks_of, actions_of, items_of, name_of, project_names, item_of, action_of, task_of, plan_of, is_first_form};
+ghost use Rattle.task_ranks.specs.Rank.{lists_of};
+ghost use Rattle.plan_table.specs.Keys.{projects_of, tasks_of, actions_of, items_of, fetch_of, name_of};
+ghost use Rattle.plan_reader.specs.Plan.{process_of as shown_process, work_shape, action_shape, task_shape};
+ghost use Rattle.plan_reader.specs.Names.{names_in, name_lists, after_numbers, afters_of};
+ghost use Rattle.plan_reader.specs.Planned.{count_of, action_named, default_profile, process_of, work_of, retention_named, action_of, task_of, profiles_of};
 
-use crate::plans::{Plan, PlanAction, PlanTask, Work};
-use crate::tables::{actions_of, file_of, items_of, name_of, projects_of, tasks_of};
-use item_actions::{Action, Text};
+use crate::known::Known;
+use crate::names::{copy_numbers, number_of};
+use crate::plans::{PlanAction, PlanTask};
+use daemon_requirements::{Isolation, Work};
+use item_actions::{Action, Needle, Text};
+use plan_table::{
+    actions_of, do_of, fetch_of, file_of, isolation_of, items_of, name_of, needle_of, project_of,
+    projects_of, requirements_name_of, tasks_of, wait_of,
+};
 use resource_lock::Retention;
 use std::alloc::{AllocError, Global};
 use toml::Value;
 
-fn work_of(alloc: Global, item: &Value) -> Result<Work, AllocError>
-    ensures { IfOk result (λ w. work_shape w ≡ item_of (view item.now)) }
+/// What counts a needle. A document whose needle is out of form is refused before.
+fn count_of(needle: &str) -> Action
+    ensures { result ≡ count_of needle.now }
+{
+    match Needle::of(needle.as_bytes()) {
+        Some(needle) => Action::Count(needle),
+        None => Action::Bytes,
+    }
+}
+
+fn action_named(word: &str, needle: &str) -> Action
+    ensures { result ≡ action_named word.now needle.now }
+{
+    match word {
+        "lines" => Action::Lines,
+        "words" => Action::Words,
+        "bytes" => Action::Bytes,
+        "longest" => Action::Longest,
+        "count" => count_of(needle),
+        _ => Action::Sha256,
+    }
+}
+
+fn isolation_in(alloc: Global, known: &Known, item: &Value) -> Result<Isolation, AllocError>
+    requires { known.now.default.now ≡ default_profile }
+    ensures { IfOk result (λ i. shown_process i ≡ process_of (name_lists known.now.names.now) known.now.profiles.now (view item.now)) }
+{
+    if isolation_of(item) == "process" {
+        let asked = known.copy_of(alloc, requirements_name_of(item))?;
+        Ok(Isolation::Process(asked))
+    } else {
+        Ok(Isolation::InThread)
+    }
+}
+
+fn work_of(alloc: Global, known: &Known, item: &Value) -> Result<Work, AllocError>
+    requires { known.now.default.now ≡ default_profile }
+    ensures { IfOk result (λ w. work_shape w ≡ work_of (name_lists known.now.names.now) known.now.profiles.now (view item.now)) }
 {
     Ok(Work {
-        action: Action::Lines,
+        action: action_named(do_of(item), needle_of(item)),
         file: Text::from_str(alloc, file_of(item))?,
+        isolation: isolation_in(alloc, known, item)?,
     })
 }
 
-fn works_of(alloc: Global, values: &[Value]) -> Result<Vec<Work>, AllocError>
-    ensures { IfOk result (λ works. map work_shape works.items ≡ map (λ v. item_of (view v)) values.now) }
+fn works_of(alloc: Global, known: &Known, items: &[Value]) -> Result<Vec<Work>, AllocError>
+    requires { known.now.default.now ≡ default_profile }
+    ensures { IfOk result (λ works. map work_shape works.items ≡ map (λ v. work_of (name_lists known.now.names.now) known.now.profiles.now (view v)) items.now) }
 {
-    let mut works = Vec::with_capacity(alloc, values.len())?;
-    for value in values {
-        works.push(work_of(alloc, value)?)?;
+    let mut works = Vec::with_capacity(alloc, items.len())?;
+    for item in items {
+        works.push(work_of(alloc, known, item)?)?;
     }
     Ok(works)
 }
 
-fn items_of_action(alloc: Global, action: &Value) -> Result<Vec<Work>, AllocError>
-    ensures { IfOk result (λ items. map work_shape items.items ≡ map item_of (items_of (view action.now))) }
+fn items_of_action(alloc: Global, known: &Known, action: &Value) -> Result<Vec<Work>, AllocError>
+    requires { known.now.default.now ≡ default_profile }
+    ensures { IfOk result (λ items. map work_shape items.items ≡ map (work_of (name_lists known.now.names.now) known.now.profiles.now) (items_of (view action.now))) }
 {
-    let items = works_of(alloc, items_of(action))?;
+    let items = works_of(alloc, known, items_of(action))?;
     Ok(items)
 }
 
-fn action_of(alloc: Global, action: &Value) -> Result<PlanAction, AllocError>
-    ensures { IfOk result (λ a. action_shape a ≡ action_of (view action.now)) }
+fn retention_named(word: &str) -> Retention
+    ensures { result ≡ retention_named word.now }
+{
+    match word {
+        "retain" => Retention::Retain,
+        "release" => Retention::Release,
+        _ => Retention::ReleaseAndReacquire,
+    }
+}
+
+fn fetched(alloc: Global, action: &Value) -> Result<Option<Text>, AllocError>
+    ensures { IfOk result (λ fetch. fetch ≡ fetch_of (view action.now)) }
+{
+    match fetch_of(action) {
+        Some(file) => Ok(Some(Text::from_str(alloc, file)?)),
+        None => Ok(None),
+    }
+}
+
+fn action_of(alloc: Global, known: &Known, action: &Value) -> Result<PlanAction, AllocError>
+    requires { known.now.default.now ≡ default_profile }
+    ensures { IfOk result (λ a. action_shape a ≡ action_of (name_lists known.now.names.now) known.now.profiles.now (view action.now)) }
 {
     Ok(PlanAction {
-        fetch: None,
-        retention: Retention::Retain,
-        items: items_of_action(alloc, action)?,
+        fetch: fetched(alloc, action)?,
+        retention: retention_named(wait_of(action)),
+        items: items_of_action(alloc, known, action)?,
     })
 }
 
-fn plan_actions_of(alloc: Global, values: &[Value]) -> Result<Vec<PlanAction>, AllocError>
-    ensures { IfOk result (λ actions. map action_shape actions.items ≡ map (λ v. action_of (view v)) values.now) }
+fn plan_actions_of(
+    alloc: Global,
+    known: &Known,
+    values: &[Value],
+) -> Result<Vec<PlanAction>, AllocError>
+    requires { known.now.default.now ≡ default_profile }
+    ensures { IfOk result (λ actions. map action_shape actions.items ≡ map (λ v. action_of (name_lists known.now.names.now) known.now.profiles.now (view v)) values.now) }
 {
     let mut actions = Vec::with_capacity(alloc, values.len())?;
     for value in values {
-        actions.push(action_of(alloc, value)?)?;
+        actions.push(action_of(alloc, known, value)?)?;
     }
     Ok(actions)
 }
 
-fn actions_of_task(alloc: Global, task: &Value) -> Result<Vec<PlanAction>, AllocError>
-    ensures { IfOk result (λ actions. map action_shape actions.items ≡ map action_of (actions_of (view task.now))) }
+fn actions_of_task(
+    alloc: Global,
+    known: &Known,
+    task: &Value,
+) -> Result<Vec<PlanAction>, AllocError>
+    requires { known.now.default.now ≡ default_profile }
+    ensures { IfOk result (λ actions. map action_shape actions.items ≡ map (action_of (name_lists known.now.names.now) known.now.profiles.now) (actions_of (view task.now))) }
 {
-    let actions = plan_actions_of(alloc, actions_of(task))?;
+    let actions = plan_actions_of(alloc, known, actions_of(task))?;
     Ok(actions)
 }
 
-fn task_of(alloc: Global, task: &Value) -> Result<PlanTask, AllocError>
-    ensures { IfOk result (λ t. task_shape t ≡ task_of (view task.now)) }
+/// The task of a table, which comes after these.
+fn task_of(
+    alloc: Global,
+    known: &Known,
+    task: &Value,
+    after: &[u32],
+) -> Result<PlanTask, AllocError>
+    requires default { known.now.default.now ≡ default_profile }
+    requires after { after.now ≡ after_numbers (name_lists known.now.names.now).tasks (view task.now) }
+    ensures { IfOk result (λ t. task_shape t ≡ task_of (name_lists known.now.names.now) known.now.profiles.now (view task.now)) }
 {
     Ok(PlanTask {
         name: Text::from_str(alloc, name_of(task))?,
-        project: 0,
-        after: Vec::new(alloc),
-        actions: actions_of_task(alloc, task)?,
+        project: number_of(&known.names.projects, project_of(task))?,
+        after: copy_numbers(alloc, after)?,
+        actions: actions_of_task(alloc, known, task)?,
     })
 }
 
-fn plan_tasks_of(alloc: Global, values: &[Value]) -> Result<Vec<PlanTask>, AllocError>
-    ensures { IfOk result (λ tasks. map task_shape tasks.items ≡ map (λ v. task_of (view v)) values.now) }
+fn plan_tasks_of(
+    alloc: Global,
+    known: &Known,
+    values: &[Value],
+    afters: &[Vec<u32>],
+) -> Result<Vec<PlanTask>, AllocError>
+    requires default { known.now.default.now ≡ default_profile }
+    requires afters { lists_of afters.now ≡ map (λ v. after_numbers (name_lists known.now.names.now).tasks (view v)) values.now }
+    ensures { IfOk result (λ tasks. map task_shape tasks.items ≡ map (λ v. task_of (name_lists known.now.names.now) known.now.profiles.now (view v)) values.now) }
 {
     let mut tasks = Vec::with_capacity(alloc, values.len())?;
-    for value in values {
-        tasks.push(task_of(alloc, value)?)?;
+    for (number, value) in values.iter().enumerate() {
+        tasks.push(task_of(alloc, known, value, &afters[number])?)?;
     }
     Ok(tasks)
 }
 
-fn tasks_of_plan(alloc: Global, document: &Value) -> Result<Vec<PlanTask>, AllocError>
-    ensures { IfOk result (λ tasks. map task_shape tasks.items ≡ map task_of (tasks_of (view document.now))) }
+/// The tasks of a document, each after those of its row.
+pub(crate) fn tasks_of_plan(
+    alloc: Global,
+    known: &Known,
+    document: &Value,
+    afters: &[Vec<u32>],
+) -> Result<Vec<PlanTask>, AllocError>
+    requires default { known.now.default.now ≡ default_profile }
+    requires names { name_lists known.now.names.now ≡ names_in (view document.now) }
+    requires afters { lists_of afters.now ≡ afters_of (view document.now) }
+    ensures { IfOk result (λ tasks. map task_shape tasks.items ≡ map (task_of (names_in (view document.now)) known.now.profiles.now) (tasks_of (view document.now))) }
 {
-    let tasks = plan_tasks_of(alloc, tasks_of(document))?;
+    let tasks = plan_tasks_of(alloc, known, tasks_of(document), afters)?;
     Ok(tasks)
 }
 
@@ -102,19 +205,10 @@ fn texts_of_names(alloc: Global, values: &[Value]) -> Result<Vec<Text>, AllocErr
     Ok(names)
 }
 
-fn projects_of_plan(alloc: Global, document: &Value) -> Result<Vec<Text>, AllocError>
-    ensures { IfOk result (λ projects. projects.items ≡ project_names (view document.now)) }
+/// The names of the projects of a document.
+pub(crate) fn projects_of_plan(alloc: Global, document: &Value) -> Result<Vec<Text>, AllocError>
+    ensures { IfOk result (λ projects. projects.items ≡ (names_in (view document.now)).projects) }
 {
     let projects = texts_of_names(alloc, projects_of(document))?;
     Ok(projects)
-}
-
-/// The plan of a document of the first form.
-pub(crate) fn plan_of(alloc: Global, document: &Value) -> Result<Plan, AllocError>
-    requires { is_first_form (view document.now) ≡ true }
-    ensures { IfOk result (λ plan. plan ≡ plan_of (view document.now)) }
-{
-    let projects = projects_of_plan(alloc, document)?;
-    let tasks = tasks_of_plan(alloc, document)?;
-    Ok(Plan::new(projects, tasks))
 }

@@ -2,16 +2,10 @@ ghost use Rattle.std.specs.Prelude.{◌≡◌, map};
 ghost use Rattle.plan_reader.specs.Plan.{task_shape, plan_shape};
 ghost use Rattle.plan_reader.specs.IsPlan.{IsPlan};
 
-use item_actions::{Action, Text};
+use daemon_requirements::{Requirements, Work};
+use item_actions::Text;
 use resource_lock::Retention;
 use std::marker::Model;
-
-/// An item: an action on a file.
-#[derive(Debug, Drop)]
-pub struct Work {
-    pub action: Action,
-    pub file: Text,
-}
 
 /// An action of a task: a file that is fetched first, what the worker does with its project lock while
 /// the items run, and the items.
@@ -31,12 +25,13 @@ pub struct PlanTask {
     pub actions: Vec<PlanAction>,
 }
 
-/// The projects and tasks of a build, in the order in which they stand in the plan file. A plan is made by
-/// `read_plan` alone.
+/// The projects, tasks and requirements of a build, in the order in which they stand in the plan file. A plan
+/// is made by `read_plan` alone.
 #[derive(Debug, Drop)]
 pub struct Plan {
     projects: Vec<Text>,
     tasks: Vec<PlanTask>,
+    requirements: Vec<Requirements>,
 }
 
 impl Model for Plan {
@@ -45,17 +40,25 @@ impl Model for Plan {
 
     ghost Value = { PlanShape };
 
-    ghost view = { λ p. plan_shape p.projects.items p.tasks.items };
+    ghost view = { λ p. plan_shape p.projects.items p.tasks.items p.requirements.items };
 
-    ghost invariant = { λ p. IsPlan (plan_shape p.projects.items p.tasks.items) };
+    ghost invariant = { λ p. IsPlan (plan_shape p.projects.items p.tasks.items p.requirements.items) };
 }
 
 impl Plan {
-    pub(crate) fn new(projects: Vec<Text>, tasks: Vec<PlanTask>) -> Plan
-        requires { IsPlan (plan_shape projects.items tasks.items) }
-        ensures { result ≡ plan_shape projects.items tasks.items }
+    pub(crate) fn new(
+        projects: Vec<Text>,
+        tasks: Vec<PlanTask>,
+        requirements: Vec<Requirements>,
+    ) -> Plan
+        requires { IsPlan (plan_shape projects.items tasks.items requirements.items) }
+        ensures { result ≡ plan_shape projects.items tasks.items requirements.items }
     {
-        Plan { projects, tasks }
+        Plan {
+            projects,
+            tasks,
+            requirements,
+        }
     }
 
     /// The projects' names, by number.
@@ -72,5 +75,13 @@ impl Plan {
         ensures plan { IsPlan self.now }
     {
         &self.tasks
+    }
+
+    /// The requirements, by number.
+    pub fn requirements(&self) -> &[Requirements]
+        ensures value { result.now ≡ self.now.requirements }
+        ensures plan { IsPlan self.now }
+    {
+        &self.requirements
     }
 }

@@ -1,58 +1,163 @@
 //! Reading a plan.
-ghost use Rattle.std.specs.Prelude.{◌≡◌, Some, None, IfOk, IfErr};
+ghost use Rattle.std.specs.Prelude.{◌≡◌, ◌≤◌, true, None, map, length, IfOk, IfErr};
 ghost use Rattle.toml.specs.View.{view};
-ghost use Rattle.plan_reader.specs.Reading.{document_of, plan_in, reading_of, NoMemoryOrNotYet, Gives};
+ghost use Rattle.task_ranks.specs.Rank.{lists_of, InRange, IsFirstCycle};
+ghost use Rattle.plan_table.specs.Document.{is_numbered};
+ghost use Rattle.plan_table.specs.Search.{places, table_refusal};
+ghost use Rattle.plan_reader.specs.Names.{name_lists, names_in, afters_of};
+ghost use Rattle.plan_reader.specs.Planned.{plan_of};
+ghost use Rattle.plan_reader.specs.Search.{twice_refusal, row_refusal, rows_refusal, rows_before, rows_behind, refusal_before, refusal_behind};
+ghost use Rattle.plan_reader.specs.Reading.{AnswersRanks, AnswersBy, Reads, Gives, RefusesBy, RefusesCycle};
 
-use crate::names::has_distinct_tasks;
-use crate::parts::plan_of;
+use crate::known::Known;
+use crate::names::{Names, afters_of, numbered_names};
+use crate::parts::{projects_of_plan, tasks_of_plan};
+use crate::places::place;
 use crate::plans::Plan;
-use crate::refusals::{PlanFail, PlanRefusal};
-use crate::tables::is_formed;
+use crate::profiles::{default_profile, profiles_of};
+use crate::rows::Row;
+use crate::search::row_refusal;
+use plan_table::{Part, PlanFail, PlanRefusal, read_document, table_refusal};
 use std::alloc::Global;
+use task_ranks::first_cycle;
 use toml::Value;
 
-/// The most bytes of a plan.
-const MOST_BYTES: usize = 4_194_304;
-
-/// The document that the text is.
-fn document_of(alloc: Global, bytes: &[u8]) -> Result<Value, PlanFail>
-    ensures read { IfOk result (λ v. document_of bytes.now ≡ Some (view v)) }
-    ensures refused { IfErr result (NoMemoryOrNotYet (document_of bytes.now ≡ None)) }
+fn check(row: Row, names: &Names, document: &Value) -> Result<(), PlanFail>
+    requires names { name_lists names.now ≡ names_in (view document.now) }
+    requires numbered { is_numbered (view document.now) ≡ true }
+    ensures ok { IfOk result (λ _. row_refusal (view document.now) row ≡ None) }
+    ensures err { IfErr result (RefusesBy (row_refusal (view document.now) row)) }
 {
-    match toml::table_from_slice(alloc, bytes) {
-        Ok(table) => Ok(Value::Table(table)),
-        Err(error) => {
-            if error.is_memory() {
-                Err(PlanFail::NoMemory)
-            } else {
-                Err(PlanFail::Refused(PlanRefusal::NotYet))
-            }
+    match row_refusal(row, names, document) {
+        Some(refusal) => Err(PlanFail::Refused(refusal)),
+        None => Ok(()),
+    }
+}
+
+fn check_before(names: &Names, document: &Value) -> Result<(), PlanFail>
+    requires names { name_lists names.now ≡ names_in (view document.now) }
+    requires numbered { is_numbered (view document.now) ≡ true }
+    ensures ok { IfOk result (λ _. rows_refusal rows_before (view document.now) ≡ None) }
+    ensures err { IfErr result (RefusesBy (rows_refusal rows_before (view document.now))) }
+{
+    check(Row::NoSuchProject, names, document)?;
+    check(Row::NoSuchTask, names, document)
+}
+
+fn check_behind(names: &Names, document: &Value) -> Result<(), PlanFail>
+    requires names { name_lists names.now ≡ names_in (view document.now) }
+    requires numbered { is_numbered (view document.now) ≡ true }
+    ensures ok { IfOk result (λ _. refusal_behind (view document.now) ≡ None) }
+    ensures err { IfErr result (RefusesBy (refusal_behind (view document.now))) }
+{
+    check(Row::ReleaseNotLast, names, document)?;
+    check(Row::ClassLoader, names, document)?;
+    check(Row::TooMany, names, document)?;
+    check(Row::BadRequirements, names, document)
+}
+
+/// Each task has a rank, by the numbers of the tasks that it comes after.
+fn check_ranks(alloc: Global, afters: &[Vec<u32>]) -> Result<(), PlanFail>
+    requires in_range { InRange (lists_of afters.now) }
+    requires numbered { length afters.now ≤ 4294967295 }
+    ensures ok { IfOk result (λ _. IsFirstCycle (lists_of afters.now) None) }
+    ensures err { IfErr result (RefusesCycle (lists_of afters.now)) }
+{
+    match first_cycle(alloc, afters)? {
+        Some(number) => {
+            let place = place(Part::Task, number);
+            Err(PlanFail::Refused(PlanRefusal::Cycle(place)))
         }
+        None => Ok(()),
     }
 }
 
-fn plan_in(alloc: Global, document: &Value) -> Result<Plan, PlanFail>
-    ensures { Gives result (plan_in (view document.now)) }
+fn check_table(document: &Value) -> Result<(), PlanFail>
+    requires { is_numbered (view document.now) ≡ true }
+    ensures ok { IfOk result (λ _. table_refusal (view document.now) ≡ None) }
+    ensures err { IfErr result (RefusesBy (table_refusal (view document.now))) }
 {
-    if !is_formed(document) || !has_distinct_tasks(alloc, document)? {
-        return Err(PlanFail::Refused(PlanRefusal::NotYet));
+    match table_refusal(document) {
+        Some(refusal) => Err(PlanFail::Refused(refusal)),
+        None => Ok(()),
     }
-    let plan = plan_of(alloc, document)?;
-    Ok(plan)
 }
 
-/// Reads a plan of the first form: a TOML document of at most 4,194,304 bytes, with at most one project,
-/// no requirements and at most 2,048 tasks. Each task has a name that no other task has, the project's name,
-/// no names in `after` and one action. The action's `wait` is the text `retain`, it fetches nothing, and
-/// each of its items counts lines. There are at most 8,192 items in all.
-///
-/// Any other text is refused with NotYet. NoMemory says nothing of the text.
+/// The plan of a document that nothing refuses.
+fn plan_of(
+    alloc: Global,
+    names: &Names,
+    afters: &[Vec<u32>],
+    document: &Value,
+) -> Result<Plan, PlanFail>
+    requires names { name_lists names.now ≡ names_in (view document.now) }
+    requires afters { lists_of afters.now ≡ afters_of (view document.now) }
+    requires before { refusal_before (view document.now) ≡ None }
+    requires ranked { IsFirstCycle (afters_of (view document.now)) None }
+    requires behind { refusal_behind (view document.now) ≡ None }
+    ensures plan { IfOk result (λ plan. plan ≡ plan_of (view document.now)) }
+    ensures memory { IfErr result (λ e. e ≡ PlanFail.NoMemory) }
+{
+    let projects = projects_of_plan(alloc, document)?;
+    let requirements = profiles_of(alloc, document)?;
+    let default = default_profile(alloc)?;
+    let known = Known {
+        names,
+        profiles: &requirements,
+        default: &default,
+    };
+    let tasks = tasks_of_plan(alloc, &known, document, afters)?;
+    Ok(Plan::new(projects, tasks, requirements))
+}
+
+/// The plan of a document in which nothing is refused before Cycle, or the first refusal.
+fn read_ranked(alloc: Global, names: &Names, document: &Value) -> Result<Plan, PlanFail>
+    requires names { name_lists names.now ≡ names_in (view document.now) }
+    requires numbered { is_numbered (view document.now) ≡ true }
+    requires before { refusal_before (view document.now) ≡ None }
+    ensures { Gives (AnswersRanks (view document.now)) result }
+{
+    let afters = afters_of(alloc, &names.tasks, document)?;
+    check_ranks(alloc, &afters)?;
+    check_behind(names, document)?;
+    plan_of(alloc, names, &afters, document)
+}
+
+/// The plan of a document whose names are these, or the first refusal.
+fn read_named(alloc: Global, names: &Names, document: &Value) -> Result<Plan, PlanFail>
+    requires names { name_lists names.now ≡ names_in (view document.now) }
+    requires numbered { is_numbered (view document.now) ≡ true }
+    requires formed { table_refusal (view document.now) ≡ None }
+    requires once { twice_refusal (view document.now) ≡ None }
+    ensures { Gives (AnswersBy (refusal_before (view document.now)) (view document.now)) result }
+{
+    check_before(names, document)?;
+    read_ranked(alloc, names, document)
+}
+
+/// The plan of a document, or the first refusal behind those of its text.
+fn read_tables(alloc: Global, document: &Value) -> Result<Plan, PlanFail>
+    requires { is_numbered (view document.now) ≡ true }
+    ensures { Gives (AnswersBy (refusal_before (view document.now)) (view document.now)) result }
+{
+    check_table(document)?;
+    let projects = numbered_names(alloc, Part::Project, document)?;
+    let tasks = numbered_names(alloc, Part::Task, document)?;
+    let requirements = numbered_names(alloc, Part::Requirements, document)?;
+    let names = Names {
+        projects,
+        tasks,
+        requirements,
+    };
+    read_named(alloc, &names, document)
+}
+
+/// Reads a plan, or answers why the text is none: with the refusal that stands first in `PlanRefusal`, at the
+/// first of its places, which are the plan, then the projects, the tasks and the requirements by number. NotYet is
+/// never among them. NoMemory says nothing of the text.
 pub fn read_plan(alloc: Global, bytes: &[u8]) -> Result<Plan, PlanFail>
-    ensures { Gives result (reading_of bytes.now) }
+    ensures { Gives (Reads bytes.now) result }
 {
-    if bytes.len() > MOST_BYTES {
-        return Err(PlanFail::Refused(PlanRefusal::NotYet));
-    }
-    let document = document_of(alloc, bytes)?;
-    plan_in(alloc, &document)
+    let document = read_document(alloc, bytes)?;
+    read_tables(alloc, &document)
 }

@@ -1,243 +1,415 @@
 use crate::*;
-use item_actions::Action;
+use daemon_requirements::{Isolation, Requirements};
+use item_actions::{Action, Needle};
 use resource_lock::Retention;
 use std::alloc::{AllocError, Global};
 use std::test::Fail;
 
-const FIRST_RUN: &str = "[[project]]
+const PLAN: &str = "[[project]]
 name = \"app\"
+[[project]]
+name = \"lib\"
+
+[[requirements]]
+name = \"big\"
+executable = \"java\"
+heap_mb = 1_024
+args = [\"-v\", \"\"]
+properties = { b = \"2\", a = \"1\" }
+debug = true
 
 [[task]]
-name = \"count\"
+name = \"a\"
 project = \"app\"
-
 [[task.action]]
 wait = \"retain\"
+item = [{ do = \"lines\", file = \"a.txt\" }]
+[[task.action]]
+wait = \"release\"
+item = [{ do = \"count\", file = \"a.txt\", needle = \"one\" }]
 
+[[task]]
+name = \"b\"
+project = \"lib\"
+after = [\"c\", \"a\", \"c\"]
+[[task.action]]
+fetch = \"b.txt\"
 [[task.action.item]]
-do = \"lines\"
-file = \"a.txt\"
+do = \"words\"
+file = \"b.txt\"
+isolation = \"process\"
+requirements = \"big\"
+[[task.action.item]]
+do = \"sha256\"
+file = \"b.txt\"
+isolation = \"process\"
+
+[[task]]
+name = \"c\"
+project = \"lib\"
 ";
 
-/// Before an action: an action of the first form.
-const SECOND_ACTION: &str = "[[task.action]]
-wait = \"retain\"
-item = [{ do = \"lines\", file = \"b.txt\" }]
-[[task.action]]";
+/// The refusal of a text that is no plan.
+fn refusal(alloc: Global, text: &str) -> Result<Option<PlanRefusal>, PlanFail> {
+    match read_plan(alloc, text.as_bytes()) {
+        Ok(_) => Ok(None),
+        Err(PlanFail::Refused(refusal)) => Ok(Some(refusal)),
+        Err(PlanFail::NoMemory) => Err(PlanFail::NoMemory),
+    }
+}
 
-/// Before a task: a task of the same name.
-const SAME_TASK: &str = "[[task]]
-name = \"count\"
-project = \"app\"
-action = [{ wait = \"retain\", item = [{ do = \"lines\", file = \"b.txt\" }] }]
-[[task]]";
+fn place(part: Part, number: u32) -> Place {
+    Place { part, number }
+}
 
-/// Before a task: a task of another name.
-const OTHER_TASK: &str = "[[task]]
-name = \"recount\"
-project = \"app\"
-action = [{ wait = \"retain\", item = [{ do = \"lines\", file = \"b.txt\" }] }]
-[[task]]";
+fn task(number: u32) -> Place {
+    place(Part::Task, number)
+}
+
+fn too_many(which: Which, part: Part) -> PlanRefusal {
+    PlanRefusal::TooMany(which, place(part, 0))
+}
 
 #[test]
-fn the_plan_of_the_first_run_is_read(rt: HostRuntime) -> Result<(), Fail> {
-    let plan = read_plan(rt.alloc(), FIRST_RUN.as_bytes())?;
-    assert_eq!(rt; plan.projects().len(), 1);
-    assert_eq!(rt; plan.projects()[0].as_str(), "app");
-    assert_eq!(rt; plan.tasks().len(), 1);
-    let task = &plan.tasks()[0];
-    assert_eq!(rt; task.name.as_str(), "count");
-    assert_eq!(rt; task.project, 0);
-    assert!(rt; task.after.is_empty());
+fn the_plan_has_what_is_written(rt: HostRuntime) -> Result<(), Fail> {
+    let plan = read_plan(rt.alloc(), PLAN.as_bytes())?;
+    assert_eq!(rt; plan.projects().len(), 2);
+    assert_eq!(rt; plan.projects()[1].as_str(), "lib");
+    assert_eq!(rt; plan.tasks().len(), 3);
+    let first = &plan.tasks()[0];
+    assert_eq!(rt; first.name.as_str(), "a");
+    assert_eq!(rt; first.project, 0);
+    assert!(rt; first.after.is_empty());
+    assert_eq!(rt; first.actions.len(), 2);
+    let (kept, released) = (&first.actions[0], &first.actions[1]);
+    assert_eq!(rt; kept.retention, Retention::Retain);
+    assert!(rt; kept.fetch.is_none());
+    assert_eq!(rt; kept.items.len(), 1);
+    assert_eq!(rt; kept.items[0].action, Action::Lines);
+    assert_eq!(rt; kept.items[0].file.as_str(), "a.txt");
+    assert_eq!(rt; released.retention, Retention::Release);
+    assert_eq!(rt; released.items.len(), 1);
+    let needle = Needle::of(b"one").expect(&rt, "a needle");
+    assert_eq!(rt; released.items[0].action, Action::Count(needle));
+    let second = &plan.tasks()[1];
+    assert_eq!(rt; second.project, 1);
+    assert_eq!(rt; second.after.as_slice(), [2, 0].as_slice());
+    assert_eq!(rt; second.actions.len(), 1);
+    let action = &second.actions[0];
+    assert_eq!(rt; action.items.len(), 2);
+    assert_eq!(rt; action.retention, Retention::ReleaseAndReacquire);
+    assert!(rt; matches!(&action.fetch, Some(file) if file.as_str() == "b.txt"));
+    assert_eq!(rt; action.items[1].action, Action::Sha256);
+    assert!(rt; plan.tasks()[2].actions.is_empty());
+    Ok(())
+}
+
+fn asked(isolation: &Isolation) -> Option<&Requirements> {
+    match isolation {
+        Isolation::Process(requirements) => Some(requirements),
+        Isolation::InThread => None,
+    }
+}
+
+#[test]
+fn items_have_the_requirements_that_they_name(rt: HostRuntime) -> Result<(), Fail> {
+    let plan = read_plan(rt.alloc(), PLAN.as_bytes())?;
+    assert_eq!(rt; plan.requirements().len(), 1);
+    assert_eq!(rt; plan.tasks().len(), 3);
+    let task = &plan.tasks()[1];
     assert_eq!(rt; task.actions.len(), 1);
-    let action = &task.actions[0];
-    assert!(rt; action.fetch.is_none());
-    assert_eq!(rt; action.retention, Retention::Retain);
-    assert_eq!(rt; action.items.len(), 1);
-    assert_eq!(rt; action.items[0].action, Action::Lines);
-    assert_eq!(rt; action.items[0].file.as_str(), "a.txt");
+    let items = &task.actions[0].items;
+    assert_eq!(rt; items.len(), 2);
+    for requirements in [
+        &plan.requirements()[0],
+        asked(&items[0].isolation).expect(&rt, "asked"),
+    ] {
+        let fields = requirements.fields();
+        assert_eq!(rt; fields.executable.as_str(), "java");
+        assert_eq!(rt; fields.heap_mb, 1_024);
+        assert_eq!(rt; fields.args.len(), 2);
+        assert_eq!(rt; fields.args[1].as_str(), "");
+        assert_eq!(rt; fields.properties.len(), 2);
+        assert_eq!(rt; fields.properties[0].name.as_str(), "a");
+        assert_eq!(rt; fields.properties[0].value.as_str(), "1");
+        assert!(rt; fields.debug);
+    }
+    let fields = asked(&items[1].isolation).expect(&rt, "asked").fields();
+    assert_eq!(rt; fields.executable.as_str(), "self");
+    assert_eq!(rt; fields.heap_mb, 512);
+    assert!(rt; fields.args.is_empty() && fields.properties.is_empty());
+    assert!(rt; fields.variables.is_empty() && !fields.debug && !fields.assertions);
+    assert_eq!(rt; fields.encoding.as_str(), "UTF-8");
     Ok(())
 }
 
 #[test]
-fn the_plan_of_the_first_run_gives_its_graph(rt: HostRuntime) -> Result<(), Fail> {
-    let plan = read_plan(rt.alloc(), FIRST_RUN.as_bytes())?;
-    let graph = plan.graph(rt.alloc(), 4, 2, true)?;
-    assert_eq!(rt; graph.locks(), 1);
-    assert_eq!(rt; graph.workers(), 4);
-    assert_eq!(rt; graph.max(), 2);
-    assert_eq!(rt; graph.units(), 1);
-    assert_eq!(rt; graph.tasks().len(), 1);
-    assert_eq!(rt; graph.tasks()[0].lock.0, 0);
-    assert!(rt; graph.tasks()[0].after.is_empty());
-    assert_eq!(rt; graph.tasks()[0].first_action, 0);
-    assert_eq!(rt; graph.tasks()[0].actions, 1);
-    assert_eq!(rt; graph.actions().len(), 1);
-    assert_eq!(rt; graph.actions()[0].task, 0);
-    assert_eq!(rt; graph.actions()[0].retention, Retention::Retain);
-    assert!(rt; !graph.actions()[0].fetch);
-    assert_eq!(rt; graph.actions()[0].first_unit, 0);
-    assert_eq!(rt; graph.actions()[0].items, 1);
+fn the_plan_gives_its_graph(rt: HostRuntime) -> Result<(), Fail> {
+    let plan = read_plan(rt.alloc(), PLAN.as_bytes())?;
+    for (parallel, locks, last) in [(true, 2, 1), (false, 1, 0)] {
+        let graph = plan.graph(rt.alloc(), 4, 2, parallel)?;
+        assert_eq!(rt; graph.locks(), locks);
+        assert_eq!(rt; graph.workers(), 4);
+        assert_eq!(rt; graph.max(), 2);
+        assert_eq!(rt; graph.units(), 5);
+        assert_eq!(rt; graph.tasks().len(), 3);
+        assert_eq!(rt; graph.actions().len(), 3);
+        assert_eq!(rt; graph.tasks()[2].lock.0, last);
+        assert_eq!(rt; graph.tasks()[1].after.as_slice(), [2, 0].as_slice());
+        assert_eq!(rt; graph.actions()[2].first_unit, 2);
+        assert!(rt; graph.actions()[2].fetch);
+    }
     Ok(())
 }
 
 #[test]
 fn no_bytes_are_the_empty_plan(rt: HostRuntime) -> Result<(), Fail> {
     let plan = read_plan(rt.alloc(), b"")?;
-    assert!(rt; plan.projects().is_empty());
-    assert!(rt; plan.tasks().is_empty());
-    let graph = plan.graph(rt.alloc(), 1, 1, false)?;
-    assert_eq!(rt; graph.locks(), 0);
-    assert_eq!(rt; graph.units(), 0);
+    assert!(rt; plan.projects().is_empty() && plan.tasks().is_empty());
+    assert!(rt; plan.requirements().is_empty());
+    assert_eq!(rt; plan.graph(rt.alloc(), 1, 1, false)?.locks(), 0);
     Ok(())
 }
 
-/// Whether a text is a plan, and not refused with NotYet.
-fn is_plan(alloc: Global, text: &str) -> Result<bool, PlanFail> {
-    match read_plan(alloc, text.as_bytes()) {
-        Ok(_) => Ok(true),
-        Err(PlanFail::Refused(PlanRefusal::NotYet)) => Ok(false),
-        Err(PlanFail::NoMemory) => Err(PlanFail::NoMemory),
-    }
-}
-
 #[test]
-fn one_change_makes_no_plan_of_the_first_form(rt: HostRuntime) -> Result<(), Fail> {
+fn one_change_is_refused_at_its_place(rt: HostRuntime) -> Result<(), Fail> {
     let changes = [
-        ("wait = \"retain\"\n", ""),
-        ("\"retain\"", "\"release\""),
-        ("wait = \"retain\"", "wait = true"),
-        ("wait = \"retain\"", "wait = \"retain\"\nfetch = \"b.txt\""),
-        ("\"lines\"", "\"words\""),
-        ("do = \"lines\"\n", ""),
-        ("file = \"a.txt\"", "file = \"a.txt\"\nisolation = \"none\""),
-        ("\"a.txt\"", "\"../a\""),
-        ("\"a.txt\"", "\"/a\""),
-        ("\"a.txt\"", "\"a//b\""),
-        ("\"a.txt\"", "\"a/.\""),
-        ("\"a.txt\"", "\"a:b\""),
-        ("\"a.txt\"", "1"),
-        ("[[task.action.item]]", "[task.action.item]"),
         (
-            "[[task.action.item]]\ndo = \"lines\"\nfile = \"a.txt\"",
-            "item = []",
+            "\"lib\"\n\n[[req",
+            "\"app\"\n\n[[req",
+            PlanRefusal::Twice(place(Part::Project, 1)),
         ),
-        ("[[task.action]]", SECOND_ACTION),
-        ("[[task]]", SAME_TASK),
-        ("\"count\"", "\"count it\""),
-        ("\"count\"", "\"\""),
-        ("project = \"app\"", "project = \"other\""),
+        ("name = \"c\"", "name = \"a\"", PlanRefusal::Twice(task(2))),
+        (
+            "[[task]]\nname = \"a\"",
+            "[[requirements]]\nname = \"big\"\n[[task]]\nname = \"a\"",
+            PlanRefusal::Twice(place(Part::Requirements, 1)),
+        ),
         (
             "project = \"app\"",
-            "project = \"app\"\nafter = [\"count\"]",
+            "project = \"web\"",
+            PlanRefusal::NoSuchProject(task(0)),
         ),
-        ("project = \"app\"", "project = \"app\"\nlock = \"app\""),
-        ("name = \"app\"", "name = \"app\"\nfolder = \"app\""),
-        ("[[project]]", "[[project]]\nname = \"other\"\n[[project]]"),
-        ("[[project]]", "[project]"),
         (
-            "[[project]]",
-            "[[requirements]]\nname = \"small\"\n[[project]]",
+            "\"a\", \"c\"",
+            "\"a\", \"d\"",
+            PlanRefusal::NoSuchTask(task(1)),
         ),
-        ("[[project]]", "version = 1\n[[project]]"),
-        ("[[project]]", "[[project]"),
+        ("\"a\", \"c\"", "\"a\", \"b\"", PlanRefusal::Cycle(task(1))),
+        (
+            "name = \"c\"",
+            "name = \"c\"\nafter = [\"b\"]",
+            PlanRefusal::Cycle(task(1)),
+        ),
+        (
+            "name = \"a\"",
+            "name = \"a\"\nafter = [\"b\"]",
+            PlanRefusal::Cycle(task(0)),
+        ),
+        (
+            "\"retain\"",
+            "\"release\"",
+            PlanRefusal::ReleaseNotLast(task(0)),
+        ),
+        (
+            "lines\"",
+            "lines\", isolation = \"classloader\"",
+            PlanRefusal::ClassLoader(task(0)),
+        ),
+        (
+            "requirements = \"big\"",
+            "requirements = \"b\"",
+            PlanRefusal::BadRequirements(task(1)),
+        ),
+        (
+            "1_024",
+            "0",
+            PlanRefusal::BadRequirements(place(Part::Requirements, 0)),
+        ),
+        (
+            "1_024",
+            "65_537",
+            PlanRefusal::BadRequirements(place(Part::Requirements, 0)),
+        ),
+        (
+            "1_024",
+            "-1",
+            PlanRefusal::BadRequirements(place(Part::Requirements, 0)),
+        ),
+        (
+            "name = \"c\"",
+            "name = \"c \"",
+            PlanRefusal::BadName(task(2)),
+        ),
+        ("name = \"c\"", "name =", PlanRefusal::NotToml),
     ];
-    for (from, to) in changes {
-        let text = FIRST_RUN.replace(rt.alloc(), from, to)?;
-        assert!(rt; !is_plan(rt.alloc(), text.as_str())?, "{to}");
+    for (from, to, expected) in changes {
+        let text = PLAN.replace(rt.alloc(), from, to)?;
+        assert_eq!(rt; refusal(rt.alloc(), text.as_str())?, Some(expected), "{to}");
     }
     Ok(())
 }
 
 #[test]
-fn other_spellings_are_of_the_first_form(rt: HostRuntime) -> Result<(), Fail> {
+fn of_several_refusals_the_lowest_is_answered(rt: HostRuntime) -> Result<(), Fail> {
+    // Each change makes one more refusal, which stands before those of the changes before it.
     let changes = [
-        ("\n", "\r\n"),
-        ("project = \"app\"", "project = \"app\"\nafter = []"),
-        ("[[project]]", "requirements = []\n[[project]]"),
-        ("\"app\"", "\"A-z_0.9:\""),
-        ("\"a.txt\"", "\"src/..a/b-c_d\""),
-        ("[[task]]", OTHER_TASK),
+        (
+            "1_024",
+            "0",
+            PlanRefusal::BadRequirements(place(Part::Requirements, 0)),
+        ),
+        (
+            "requirements = \"big\"",
+            "requirements = \"b\"",
+            PlanRefusal::BadRequirements(task(1)),
+        ),
+        (
+            "lines\"",
+            "lines\", isolation = \"classloader\"",
+            PlanRefusal::ClassLoader(task(0)),
+        ),
+        (
+            "\"retain\"",
+            "\"release\"",
+            PlanRefusal::ReleaseNotLast(task(0)),
+        ),
+        (
+            "name = \"c\"",
+            "name = \"c\"\nafter = [\"c\"]",
+            PlanRefusal::Cycle(task(1)),
+        ),
+        (
+            "\"a\", \"c\"",
+            "\"a\", \"d\"",
+            PlanRefusal::NoSuchTask(task(1)),
+        ),
+        (
+            "\"lib\"\nafter",
+            "\"web\"\nafter",
+            PlanRefusal::NoSuchProject(task(1)),
+        ),
+        ("name = \"b\"", "name = \"a\"", PlanRefusal::Twice(task(1))),
+        (
+            "\"lib\"\n\n[[req",
+            "\"app\"\n\n[[req",
+            PlanRefusal::Twice(place(Part::Project, 1)),
+        ),
     ];
-    for (from, to) in changes {
-        let text = FIRST_RUN.replace(rt.alloc(), from, to)?;
-        assert!(rt; is_plan(rt.alloc(), text.as_str())?, "{to}");
+    let mut text = String::from_str(rt.alloc(), PLAN)?;
+    for (from, to, expected) in changes {
+        text = text.replace(rt.alloc(), from, to)?;
+        assert_eq!(rt; refusal(rt.alloc(), text.as_str())?, Some(expected), "{to}");
     }
     Ok(())
 }
 
-#[test]
-fn bytes_that_are_not_utf_8_are_no_plan(rt: HostRuntime) {
-    let result = read_plan(rt.alloc(), b"# \xff");
-    assert!(rt; matches!(result, Err(PlanFail::Refused(PlanRefusal::NotYet))));
+/// So many members of an array, each with its number in place of `#`.
+fn members(alloc: Global, member: &str, count: usize) -> Result<String, AllocError> {
+    let mut text = String::from_str(alloc, "[")?;
+    for number in 0..count {
+        let number = format!(in alloc; "{number}")?;
+        text.push_str(member.replace(alloc, "#", number.as_str())?.as_str())?;
+        text.push_str(",\n")?;
+    }
+    text.push_str("]\n")?;
+    Ok(text)
 }
 
 #[test]
-fn the_forms_tell_names_and_files(rt: HostRuntime) {
-    assert!(rt; is_name(b"app:1"));
-    assert!(rt; !is_name(b"src/app"));
-    assert!(rt; is_file_name(b"src/app.1"));
-    assert!(rt; !is_file_name(b"src/../app"));
-}
-
-#[test]
-fn names_and_files_have_their_lengths(rt: HostRuntime) -> Result<(), Fail> {
-    for (text, longest) in [("count", 64), ("a.txt", 255)] {
-        for (length, accepted) in [(longest, true), (longest + 1, false)] {
-            let name = "n".repeat(rt.alloc(), length)?;
-            let plan = FIRST_RUN.replace(rt.alloc(), text, name.as_str())?;
-            assert_eq!(rt; is_plan(rt.alloc(), plan.as_str())?, accepted, "{length}");
+fn a_plan_is_as_long_as_its_limits(rt: HostRuntime) -> Result<(), Fail> {
+    let app = "project = [{ name = \"app\" }]\n";
+    let head = "project = [{ name = \"app\" }]\n[[task]]\nname = \"t\"\nproject = \"app\"\n";
+    let one = "[[requirements]]\nname = \"r\"\n";
+    let cases = [
+        (
+            "",
+            "project = ",
+            "{ name = \"p#\" }",
+            512usize,
+            too_many(Which::Projects, Part::Plan),
+        ),
+        (
+            app,
+            "task = ",
+            "{ name = \"t#\", project = \"app\" }",
+            2_048,
+            too_many(Which::Tasks, Part::Plan),
+        ),
+        (
+            "",
+            "requirements = ",
+            "{ name = \"r#\" }",
+            256,
+            too_many(Which::Requirements, Part::Plan),
+        ),
+        (
+            head,
+            "[[task.action]]\nitem = ",
+            "{ do = \"lines\", file = \"f\" }",
+            8_192,
+            too_many(Which::Units, Part::Plan),
+        ),
+        (
+            head,
+            "action = ",
+            "{ item = [{ do = \"bytes\", file = \"f\" }] }",
+            8,
+            too_many(Which::Actions, Part::Task),
+        ),
+        (
+            one,
+            "args = ",
+            "\"a\"",
+            64,
+            too_many(Which::Lists, Part::Requirements),
+        ),
+    ];
+    for (before, key, member, most, expected) in cases {
+        for (count, answer) in [(most, None), (most.saturating_add(1), Some(expected))] {
+            let members = members(rt.alloc(), member, count)?;
+            let text = format!(in rt.alloc(); "{before}{key}{members}")?;
+            assert_eq!(rt; refusal(rt.alloc(), text.as_str())?, answer, "{key}{count}");
         }
     }
     Ok(())
 }
 
-/// A plan of so many tasks.
-fn tasks(alloc: Global, count: usize) -> Result<String, AllocError> {
-    let mut plan = String::from_str(alloc, "project = [{ name = \"app\" }]\n")?;
-    for number in 0..count {
-        let task = format!(in alloc;
-            "[[task]]
-name = \"t{number}\"
-project = \"app\"
-action = [{{ wait = \"retain\", item = [{{ do = \"lines\", file = \"a.txt\" }}] }}]
+#[test]
+fn names_in_after_and_pairs_are_counted_as_written(rt: HostRuntime) -> Result<(), Fail> {
+    let lists = PlanRefusal::TooMany(Which::Lists, place(Part::Requirements, 0));
+    let after = PlanRefusal::TooMany(Which::After, place(Part::Task, 1));
+    for (count, fits) in [(64, true), (65, false)] {
+        let names = members(rt.alloc(), "\"t\"", count)?;
+        let text = format!(in rt.alloc();
+            "project = [{{ name = \"app\" }}]
+task = [{{ name = \"t\", project = \"app\" }}, {{ name = \"u\", project = \"app\", after = {names}}}]
 "
         )?;
-        plan.push_str(task.as_str())?;
+        let answer = if fits { None } else { Some(after) };
+        assert_eq!(rt; refusal(rt.alloc(), text.as_str())?, answer);
+        for key in ["properties", "variables"] {
+            let mut text = format!(in rt.alloc();
+                "[[requirements]]\nname = \"r\"\n[requirements.{key}]\n"
+            )?;
+            for number in 0..count {
+                text.push_str(format!(in rt.alloc(); "k{number} = \"\"\n")?.as_str())?;
+            }
+            let answer = if fits { None } else { Some(lists) };
+            assert_eq!(rt; refusal(rt.alloc(), text.as_str())?, answer, "{key}");
+        }
     }
-    Ok(plan)
-}
-
-/// A plan of one task with so many items.
-fn items(alloc: Global, count: usize) -> Result<String, AllocError> {
-    let item = "{ do = \"lines\", file = \"a.txt\" },\n".repeat(alloc, count)?;
-    let plan = format!(in alloc;
-        "project = [{{ name = \"app\" }}]
-[[task]]
-name = \"count\"
-project = \"app\"
-[[task.action]]
-wait = \"retain\"
-item = [{item}]
-"
-    )?;
-    Ok(plan)
-}
-
-#[test]
-fn a_plan_has_2_048_tasks_and_8_192_items_at_most(rt: HostRuntime) -> Result<(), Fail> {
-    assert!(rt; is_plan(rt.alloc(), tasks(rt.alloc(), 2_048)?.as_str())?);
-    assert!(rt; !is_plan(rt.alloc(), tasks(rt.alloc(), 2_049)?.as_str())?);
-    assert!(rt; is_plan(rt.alloc(), items(rt.alloc(), 8_192)?.as_str())?);
-    assert!(rt; !is_plan(rt.alloc(), items(rt.alloc(), 8_193)?.as_str())?);
     Ok(())
 }
 
 #[test]
 fn a_plan_has_4_194_304_bytes_at_most(rt: HostRuntime) -> Result<(), Fail> {
-    let blank = " ".repeat(rt.alloc(), 4_194_304)?;
-    assert!(rt; is_plan(rt.alloc(), blank.as_str())?);
+    let longest = " ".repeat(rt.alloc(), 4_194_304)?;
+    assert_eq!(rt; refusal(rt.alloc(), longest.as_str())?, None);
     let longer = " ".repeat(rt.alloc(), 4_194_305)?;
-    assert!(rt; !is_plan(rt.alloc(), longer.as_str())?);
+    assert_eq!(rt;
+        refusal(rt.alloc(), longer.as_str())?,
+        Some(PlanRefusal::TooLong)
+    );
     Ok(())
 }

@@ -5,3 +5,4 @@ pub mod Memory
 pub mod Paper
 pub mod Reading
 pub mod Sunk
+pub mod Supply

@@ -1,4 +1,4 @@
-//! The outside as the build sees it: files that are read, and sinks that take text.
+//! The outside as the build sees it: files that are read, sources that give bytes, and sinks that take them.
 #![tactic(auto)]
 
 mod calls;
@@ -7,20 +7,26 @@ mod files;
 mod folder_desk;
 mod memory_desk;
 mod memory_sink;
+mod memory_source;
 mod pages;
 mod read_buffers;
 mod retries;
 mod sinks;
+mod sources;
 mod std_sink;
+mod std_source;
 
 pub use file_map::{FileEntry, FileMap};
 pub use files::{DeskFail, Files, Read};
 pub use folder_desk::FolderDesk;
 pub use memory_desk::MemoryDesk;
 pub use memory_sink::MemorySink;
+pub use memory_source::MemorySource;
 pub use pages::Page;
 pub use sinks::{Failed, Sink, put_all};
+pub use sources::Source;
 pub use std_sink::StdSink;
+pub use std_source::StdSource;
 
 #[cfg(test)]
 mod tests;

@@ -1,6 +1,6 @@
 use crate::{
-    DeskFail, FileEntry, FileMap, Files, FolderDesk, MemoryDesk, MemorySink, Page, Read, StdSink,
-    put_all,
+    DeskFail, Failed, FileEntry, FileMap, Files, FolderDesk, MemoryDesk, MemorySink, MemorySource,
+    Page, Read, Source, StdSink, StdSource, put_all,
 };
 use item_actions::Text;
 use std::alloc::{AllocError, Global};
@@ -32,6 +32,23 @@ fn second_call_of_a_sink_fails(rt: HostRuntime) -> Result<(), Fail> {
     assert!(rt; put_all(&mut sink, b"ghi").is_ok());
     assert_eq!(rt; sink.taken(), b"abcghi".as_slice());
     assert_eq!(rt; sink.count(), 1);
+    Ok(())
+}
+
+#[test]
+fn second_call_of_a_source_fails(rt: HostRuntime) -> Result<(), Fail> {
+    let alloc = rt.alloc();
+    let bytes = Vec::from_slice(alloc, b"abcdefg")?;
+    let mut source = MemorySource::new(bytes, vec![in alloc; 1u64]?);
+    let mut buffer = [0u8; 4];
+    assert_eq!(rt; source.take(&mut buffer), Ok(4));
+    assert_eq!(rt; &buffer, b"abcd");
+    assert_eq!(rt; source.take(&mut buffer), Err(Failed));
+    assert_eq!(rt; source.count(), 1);
+    assert_eq!(rt; source.take(&mut buffer), Ok(3));
+    assert_eq!(rt; &buffer, b"efgd");
+    assert_eq!(rt; source.take(&mut buffer), Ok(0));
+    assert_eq!(rt; source.count(), 1);
     Ok(())
 }
 
@@ -109,7 +126,7 @@ fn folder_desk_reads_what_a_sink_wrote(rt: HostRuntime) -> Result<(), Fail> {
     Ok(())
 }
 
-// A writer whose first calls are interrupted.
+// A reader and writer whose first calls are interrupted.
 #[derive(Drop)]
 struct Interrupted {
     left: u32,
@@ -127,6 +144,28 @@ impl Write for Interrupted {
     fn flush(&mut self) -> io::Result<()> {
         Ok(())
     }
+}
+
+impl io::Read for Interrupted {
+    fn read(&mut self, buffer: &mut [u8]) -> io::Result<usize> {
+        if self.left > 0 {
+            self.left -= 1;
+            return Err(io::Error::from(ErrorKind::Interrupted));
+        }
+        buffer.fill(b'x');
+        Ok(buffer.len())
+    }
+}
+
+#[test]
+fn interrupted_reads_are_made_again_a_thousand_times(rt: HostRuntime) {
+    let mut buffer = [0u8; 2];
+    let mut enough = StdSource::new(Interrupted { left: 1000 });
+    assert_eq!(rt; enough.take(&mut buffer), Ok(2));
+    assert_eq!(rt; &buffer, b"xx");
+    let mut too_many = StdSource::new(Interrupted { left: 1001 });
+    assert_eq!(rt; too_many.take(&mut buffer), Err(Failed));
+    assert_eq!(rt; too_many.count(), 1);
 }
 
 #[test]

@@ -1,9 +1,9 @@
-use Rattle.std.proofs.Common.{◌∷◌, [], ◌++◌, ◌+◌, ◌∙◌, ap, sym, subst}
+use Rattle.std.proofs.Common.{◌∷◌, [], ◌+◌, sym, subst}
 use Rattle.std.proofs.lemmas.Result.{on_ok_weaker}
 use Rattle.lock_journal.specs.declared.entries.Closed.{Closed}
 use Rattle.resource_lock.specs.Outline.{Outline}
 use Rattle.build_runner.specs.Phases.{HasParked, HasClaimed}
-use Rattle.build_runner.proofs.Keeping.{keeps_closed, counted, planned_honest}
+use Rattle.build_runner.proofs.Keeping.{closed_then, keeps_closed, counted, planned_honest}
 use Rattle.build_runner.proofs.items.run_item.Goals as goal
 
 -- the entries leave the graph as it is
@@ -18,6 +18,6 @@ returns-clause-keeps g c = λ plan planned. on_ok_weaker c.close.result (λ clos
     let d : Closed = record { unit = c.args.unit; outcome = c.work_out-outcome.result } in
     let work = c.work_out-outcome.ensures in
     keeps_closed (g.D.Files.files c.args.desk.now) plan (g.D.Files.faults c.args.desk.now) (g.D.Files.faults c.work_out-outcome.new.desk) c.args.book.now.history c.close.new.book.history d
-    (closed ∙ ap (λ ds. ds ++ d ∷ []) c.in_ok-claim.ensures.closed)
+    (closed_then c.args.book.now.history c.claim.new.book.history c.close.new.book.history [] (d ∷ []) c.in_ok-claim.ensures.closed closed)
     work.count (counted d _ _ work.fault work.count)
     (planned_honest (g.D.Files.files c.args.desk.now) plan c.args.unit d.outcome _ planned work.honest)) c.close.ensures.closed

@@ -5,7 +5,7 @@ use Rattle.resource_lock.specs.Outline.{Outline}
 use Rattle.resource_lock.specs.Ranges.{IsItemOf}
 use Rattle.plan_reader.specs.Plan.{work_shape}
 use Rattle.plan_reader.specs.Units.{plan_units, item_unit}
-use Rattle.plan_reader.specs.declared.plans.Work.{Work}
+use Rattle.daemon_requirements.specs.declared.work.Work.{Work}
 use Rattle.build_runner.specs.Phases.{only_action, HasParked}
 use Rattle.build_runner.specs.Kept.{Keeps}
 use Rattle.build_runner.proofs.Keeping.{keeps_then}

@@ -1,10 +1,9 @@
-use Rattle.std.proofs.Common.{refl}
 use Rattle.std.proofs.lemmas.Result.{on_ok_weaker}
 use Rattle.lock_journal.specs.declared.entries.Kind.TheVariants as kinds
 use Rattle.build_runner.specs.Phases.{HasRun}
 use Rattle.build_runner.proofs.Enabled.{end_enabled}
 use Rattle.build_runner.proofs.Leading.{end_leads}
-use Rattle.build_runner.proofs.Stepping.{step_to, step_closes_none, not_both}
+use Rattle.build_runner.proofs.Stepping.{step_to, step_closes, not_both}
 use Rattle.build_runner.proofs.Within.{within_of}
 use Rattle.build_runner.proofs.steps.end.Goals as goal
 
@@ -19,4 +18,4 @@ returns-clause-run c = λ r p. on_ok_weaker c.finish.result (λ h.
     (end_leads c.args.book.now.graph r c.args.book.now.state c.args.task _ (within_of c.args.book.now.graph c.args.book.now.state c.args.task c.finish.ensures.fits c.finish.ensures.belongs c.requires.form c.requires.task) (c.requires.form.plain c.args.task c.requires.task) p.rest p.under p.items)) c.finish.ensures.finished
 
 pub returns-clause-closed : goal.returns-clause-closed
-returns-clause-closed c = on_ok_weaker c.finish.result (λ h. step_closes_none c.args.book.now c.finish.new.book (kinds.End c.args.task) h.0 h.1 refl) c.finish.ensures.finished
+returns-clause-closed c = on_ok_weaker c.finish.result (λ h. step_closes c.args.book.now c.finish.new.book (kinds.End c.args.task) h.0 h.1) c.finish.ensures.finished

@@ -1,4 +1,4 @@
-use Rattle.std.proofs.Common.{◌≡◌, subst, sym, refl, arith, true}
+use Rattle.std.proofs.Common.{◌≡◌, subst, sym, arith, true}
 use Rattle.std.proofs.lemmas.Result.{on_ok_weaker}
 use Rattle.resource_lock.specs.Change.{make_all}
 use Rattle.lock_journal.specs.Table.{is_enabled, list_of}
@@ -6,7 +6,7 @@ use Rattle.lock_journal.specs.declared.entries.Kind.TheVariants as kinds
 use Rattle.build_runner.specs.Phases.{first_worker, IsSubmitted}
 use Rattle.build_runner.proofs.Enabled.{submit_enabled}
 use Rattle.build_runner.proofs.Leading.{submit_leads}
-use Rattle.build_runner.proofs.Stepping.{step_to, step_closes_none, not_both}
+use Rattle.build_runner.proofs.Stepping.{step_to, step_closes, not_both}
 use Rattle.build_runner.proofs.Within.{within_of}
 use Rattle.build_runner.proofs.steps.submit.Goals as goal
 
@@ -25,4 +25,4 @@ returns-clause-submitted c = λ r p. on_ok_weaker c.finish.result (λ h.
     (subst (λ a. IsSubmitted c.args.book.now.graph r c.args.task (make_all c.args.book.now.state first_worker (list_of c.args.book.now.graph c.args.book.now.state first_worker (kinds.Submit a)))) (sym c.requires.action) (record { rest = p.rest; under = left.0; items = left.1 }))) c.finish.ensures.finished
 
 pub returns-clause-closed : goal.returns-clause-closed
-returns-clause-closed c = on_ok_weaker c.finish.result (λ h. step_closes_none c.args.book.now c.finish.new.book (kinds.Submit c.args.action) h.0 h.1 refl) c.finish.ensures.finished
+returns-clause-closed c = on_ok_weaker c.finish.result (λ h. step_closes c.args.book.now c.finish.new.book (kinds.Submit c.args.action) h.0 h.1) c.finish.ensures.finished

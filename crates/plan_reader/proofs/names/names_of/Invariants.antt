@@ -1,7 +1,8 @@
 use Rattle.std.proofs.Common.{◌≡◌, map, take}
 use Rattle.toml.specs.View.{view}
-use Rattle.plan_reader.specs.FirstForm.{name_of}
+use Rattle.plan_table.specs.Keys.{name_of}
+use Rattle.plan_reader.specs.Names.{texts}
 use Rattle.plan_reader.proofs.names.names_of.Given as goal
 
 abbrev pub invariant-loop-value : goal.invariant-loop-value
-invariant-loop-value l = map (λ s. s.now) l.names.items ≡ map (λ v. name_of (view v)) (take l.value-index l.values)
+invariant-loop-value l = texts l.names.items ≡ map (λ v. name_of (view v)) (take l.value-index l.values)

@@ -1,5 +1,5 @@
 use Rattle.std.proofs.Common.{◌∙◌, sym}
-use Rattle.plan_reader.specs.FirstForm.{name_of}
+use Rattle.plan_table.specs.Keys.{name_of}
 use Rattle.plan_reader.proofs.Lists.{map_of_elements}
 use Rattle.plan_reader.proofs.parts.projects_of_plan.Goals as goal
 

@@ -1,6 +1,6 @@
 use Rattle.std.proofs.Common.{◌≡◌, map, take}
 use Rattle.toml.specs.View.{view}
-use Rattle.plan_reader.specs.FirstForm.{name_of}
+use Rattle.plan_table.specs.Keys.{name_of}
 use Rattle.plan_reader.proofs.parts.texts_of_names.Given as goal
 
 abbrev pub invariant-loop-value : goal.invariant-loop-value

@@ -1,0 +1,239 @@
+#!/usr/bin/env python3
+"""Compares the item actions with the system's tools, and counts their instructions.
+
+Makes its files and a small program over the crate item_actions in a temporary folder, and builds it as the gate
+does. On small files and on text and random bytes of 64 MiB it compares the answers with those of wc, grep and
+sha256sum. On the large ones it prints for each action the instructions a byte that callgrind counts, and the
+least time of three rounds beside the time of the tool. Not part of the gate. Skips, with status 0, where valgrind
+or rt is missing; ends with status 1 where an answer differs or a goal is missed.
+
+    bench/item_actions.py [MIB]
+"""
+
+import pathlib
+import random
+import re
+import shutil
+import subprocess
+import sys
+import tempfile
+import time
+
+NEEDLE = "the"
+
+# The most instructions a byte, as the gate builds (x86-64-v2).
+GOALS = {"lines": 0.45, "words": 1.2, "bytes": 0.01, "longest": 1.2, "count": 2.2, "count-byte": 0.45, "sha256": 50.0}
+
+PROGRAM = """\
+//! Does one action on a file's bytes some times over, and prints the outcome and the least time in nanoseconds.
+#![tactic(auto)]
+
+use anyhow::anyhow;
+use item_actions::{Action, Needle, Outcome, act};
+use std::time::Instant;
+use std::{env, fs};
+
+fn action_of(word: &str, needle: &str) -> Option<Action> {
+    match word {
+        "lines" => Some(Action::Lines),
+        "words" => Some(Action::Words),
+        "bytes" => Some(Action::Bytes),
+        "longest" => Some(Action::Longest),
+        "count" => Needle::of(needle.as_bytes()).map(Action::Count),
+        "sha256" => Some(Action::Sha256),
+        _ => None,
+    }
+}
+
+fn main(rt: HostRuntime) -> Result<(), anyhow::Error> {
+    let mut words = env::args(&rt)?.skip(1);
+    let (Some(word), Some(needle), Some(rounds), Some(file)) =
+        (words.next(), words.next(), words.next(), words.next())
+    else {
+        return Err(anyhow!("four words are wanted"));
+    };
+    let action = action_of(word.as_str(), needle.as_str()).ok_or(anyhow!("no such action"))?;
+    let rounds: u32 = rounds.as_str().parse()?;
+    let bytes = fs::read(&rt, file.as_str())?;
+    let mut outcome = Outcome::Skipped;
+    let mut least = u128::MAX;
+    for _ in 0..rounds {
+        let start = Instant::now(&rt)?;
+        outcome = act(&action, &bytes);
+        least = least.min(start.elapsed(&rt)?.as_nanos());
+    }
+    match outcome {
+        Outcome::Number(number) => println!(rt; "{number}")?,
+        Outcome::Digest(digest) => {
+            for byte in digest {
+                print!(rt; "{byte:02x}")?;
+            }
+            println!(rt;)?;
+        }
+        _ => println!(rt; "none")?,
+    }
+    println!(rt; "{least}")?;
+    Ok(())
+}
+"""
+
+COMMON_WORDS = (
+    "the of and a to in is you that it he was for on are as with his they at be this have from or one had by word"
+    " but not what all were we when your can said there use an each which she do how their if will up other about"
+    " out many then them these so some her would make like him into time has look two more write go see number no"
+    " way could people my than first water been call who oil its now find long down day did get come made may part"
+).split()
+
+
+def text_of(size: int) -> bytes:
+    """Lines of common words, up to 72 bytes each."""
+    source = random.Random(1)
+    lines, made, line = [], 0, ""
+    while made < size:
+        word = source.choice(COMMON_WORDS)
+        if len(line) + len(word) > 71:
+            lines.append(line + "\n")
+            made += len(line) + 1
+            line = word
+        else:
+            line = f"{line} {word}".lstrip()
+    return "".join(lines).encode()[:size]
+
+
+def small_files() -> list[bytes]:
+    source = random.Random(2)
+    letters = b"the \n\t\r\x0b\x0c\x00\xc3"
+    return [bytes(source.choice(letters) for _ in range(size)) for size in range(0, 200)]
+
+
+def build(folder: pathlib.Path) -> str:
+    """The program, built over a copy of the crate."""
+    crate = pathlib.Path(__file__).resolve().parent.parent / "crates/item_actions"
+    skipped = shutil.ignore_patterns("out", "must-fail")
+    shutil.copytree(crate, folder / "crates/item_actions", ignore=skipped)
+    source = folder / "crates/act_probe/src"
+    source.mkdir(parents=True)
+    (source / "main.rt").write_text(PROGRAM)
+    (folder / "crates.txt").write_text("item_actions: memchr sha2\nact_probe: item_actions anyhow\n")
+    subprocess.run(["rt", "run"], cwd=folder / "crates/act_probe", stdin=subprocess.DEVNULL, capture_output=True)
+    program = folder / "crates/act_probe/out/act_probe"
+    if not program.exists():
+        sys.exit("the program couldn't be built")
+    return str(program)
+
+
+class Probe:
+    def __init__(self, program: str) -> None:
+        self.program = program
+
+    def words(self, action: str, rounds: int, file: pathlib.Path) -> list[str]:
+        word, _, one_byte = action.partition("-")
+        return [self.program, word, NEEDLE[0] if one_byte else NEEDLE, str(rounds), str(file)]
+
+    def answer(self, action: str, file: pathlib.Path, rounds: int = 1) -> tuple[str, float]:
+        """The outcome, and the least time in seconds."""
+        run = subprocess.run(self.words(action, rounds, file), capture_output=True, text=True, check=True)
+        outcome, nanoseconds = run.stdout.split()
+        return outcome, int(nanoseconds) / 1e9
+
+    def instructions(self, action: str, file: pathlib.Path) -> int:
+        """Those of one round: of a run with it, less one without."""
+        return self.collected(action, 1, file) - self.collected(action, 0, file)
+
+    def collected(self, action: str, rounds: int, file: pathlib.Path) -> int:
+        call = ["valgrind", "--tool=callgrind", "--callgrind-out-file=/dev/null", *self.words(action, rounds, file)]
+        run = subprocess.run(call, capture_output=True, text=True, check=True)
+        found = re.search(r"Collected\s*:\s*(\d+)", run.stderr)
+        if found is None:
+            sys.exit(f"callgrind printed no count:\n{run.stderr}")
+        return int(found.group(1))
+
+
+def output_of(*words: str) -> str:
+    return subprocess.run(words, capture_output=True, text=True, env={"LC_ALL": "C", "PATH": "/usr/bin:/bin"}).stdout
+
+
+def tool_answer(action: str, file: pathlib.Path) -> str:
+    """What the system's tool says. wc's count of words leaves runs without a printable byte out, and its longest
+    line counts columns, so these two are worked out here from the bytes where a file isn't plain text."""
+    name = str(file)
+    if action == "lines":
+        return output_of("wc", "-l", name).split()[0]
+    if action == "bytes":
+        return output_of("wc", "-c", name).split()[0]
+    if action == "sha256":
+        return output_of("sha256sum", name).split()[0]
+    if action.startswith("count"):
+        needle = NEEDLE if action == "count" else NEEDLE[0]
+        return str(output_of("grep", "-a", "-o", "-F", "-e", needle, name).count("\n"))
+    data = file.read_bytes()
+    plain = all(byte == 10 or 32 <= byte < 127 for byte in data[: 1 << 20])
+    if plain:
+        return output_of("wc", "-w" if action == "words" else "-L", name).split()[0]
+    if action == "words":
+        return str(len(data.split()))
+    return str(max(len(line) for line in data.split(b"\n")))
+
+
+def tool_time(action: str, file: pathlib.Path) -> float:
+    words = {
+        "lines": ["wc", "-l"], "words": ["wc", "-w"], "bytes": ["wc", "-c"], "longest": ["wc", "-L"],
+        "count": ["grep", "-a", "-o", "-F", "-e", NEEDLE], "count-byte": ["grep", "-a", "-o", "-F", "-e", NEEDLE[0]],
+        "sha256": ["sha256sum"],
+    }[action]
+    start = time.monotonic()
+    output_of(*words, str(file))
+    return time.monotonic() - start
+
+
+def compare(probe: Probe, file: pathlib.Path, what: str) -> bool:
+    same = True
+    for action in GOALS:
+        ours, theirs = probe.answer(action, file)[0], tool_answer(action, file)
+        if ours != theirs:
+            print(f"{what}: {action} is {ours}, the tool says {theirs}")
+            same = False
+    return same
+
+
+def measure(probe: Probe, file: pathlib.Path, what: str) -> bool:
+    within = True
+    size = file.stat().st_size
+    for action, goal in GOALS.items():
+        a_byte = probe.instructions(action, file) / size
+        _, ours = probe.answer(action, file, 3)
+        theirs = tool_time(action, file)
+        print(
+            f"{what:6} {action:10} {a_byte:6.2f} instructions a byte (goal {goal:5.2f}),"
+            f" {ours * 1000:8.1f} ms, the tool {theirs * 1000:8.1f} ms"
+        )
+        within = within and a_byte <= goal
+    return within
+
+
+def main() -> None:
+    size = (int(sys.argv[1]) if len(sys.argv) > 1 else 64) << 20
+    for tool in ("valgrind", "rt"):
+        if shutil.which(tool) is None:
+            print(f"skipped: there is no {tool} here")
+            return
+    with tempfile.TemporaryDirectory() as name:
+        folder = pathlib.Path(name)
+        probe = Probe(build(folder))
+        file = folder / "small"
+        good = True
+        for data in small_files():
+            file.write_bytes(data)
+            good = compare(probe, file, f"{len(data)} bytes") and good
+        large = {"text": text_of(size), "random": random.Random(3).randbytes(size)}
+        for what, data in large.items():
+            (folder / what).write_bytes(data)
+            good = compare(probe, folder / what, what) and good
+        print("answers as the tools give them" if good else "answers differ")
+        for what in large:
+            good = measure(probe, folder / what, what) and good
+    sys.exit(0 if good else 1)
+
+
+if __name__ == "__main__":
+    main()

@@ -1,0 +1,57 @@
+//! Which plans this crate runs.
+ghost use Rattle.std.specs.Prelude.{◌≡◌, ◌&&◌, is_none};
+ghost use Rattle.std.specs.List.{list_all};
+ghost use Rattle.plan_reader.specs.Plan.{action_shape, task_shape, work_shape};
+ghost use Rattle.build_runner.specs.CanRun.{is_retain, can_run, can_run_action, can_run_task};
+
+use daemon_requirements::{Isolation, Work};
+use plan_reader::{Plan, PlanAction, PlanTask};
+use resource_lock::Retention;
+
+/// Whether this crate runs a plan: each task has exactly one action, and no action has a fetch,
+/// another retention than Retain, or an item that runs in a process.
+pub fn can_run(plan: &Plan) -> bool
+    ensures { result ≡ can_run plan.now }
+{
+    can_run_tasks(plan.tasks())
+}
+
+fn can_run_tasks(tasks: &[PlanTask]) -> bool
+    ensures { result ≡ list_all (λ t. can_run_task (task_shape t)) tasks.now }
+{
+    tasks.iter().all(can_run_task)
+}
+
+fn can_run_task(task: &PlanTask) -> bool
+    ensures { result ≡ can_run_task (task_shape task.now) }
+{
+    task.actions.len() == 1 && can_run_actions(&task.actions)
+}
+
+fn can_run_actions(actions: &[PlanAction]) -> bool
+    ensures { result ≡ list_all (λ a. can_run_action (action_shape a)) actions.now }
+{
+    actions.iter().all(can_run_action)
+}
+
+fn can_run_action(action: &PlanAction) -> bool
+    ensures { result ≡ can_run_action (action_shape action.now) }
+{
+    retains_without_fetch(action) && run_in_thread(&action.items)
+}
+
+/// Whether an action has no fetch, and retains the project lock.
+fn retains_without_fetch(action: &PlanAction) -> bool
+    ensures { result ≡ (is_none action.now.fetch && is_retain action.now.retention) }
+{
+    action.fetch.is_none() && matches!(action.retention, Retention::Retain)
+}
+
+/// Whether each item runs in the worker's own thread.
+fn run_in_thread(items: &[Work]) -> bool
+    ensures { result ≡ list_all (λ w. is_none (work_shape w).process) items.now }
+{
+    items
+        .iter()
+        .all(|work| matches!(work.isolation, Isolation::InThread))
+}

@@ -1,0 +1,5 @@
+use Rattle.std.proofs.Common.{◌≡◌, map, take}
+use Rattle.command_words.proofs.reading.borrowed.Given as goal
+
+abbrev pub invariant-loop-word : goal.invariant-loop-word
+invariant-loop-word l = map (λ s. s.now) l.strs.items ≡ take l.word-index l.words

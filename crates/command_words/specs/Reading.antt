@@ -1,0 +1,65 @@
+-- The command that words are.
+use Rattle.std.specs.Prelude.{codes, ℕ, ◌≤◌, Bool, false, not, ◌&&◌, ◌==◌, if◌then◌else◌, nat_le, List, [], ◌∷◌, length, unwrap_or, Option, Some, None, option_map, option_and_then}
+use Rattle.std.specs.Option.{option_map_or}
+use Rattle.std.specs.List.{list_any}
+use Rattle.std.specs.Str.{bytes_eq}
+use Rattle.clap.specs.Walk.{Row, Text, first_of, is_empty}
+use Rattle.clap.specs.Simple.{matches_of}
+use Rattle.clap.specs.Faults.{fault_of}
+use Rattle.command_words.specs.Numbers.{count_of}
+use Rattle.command_words.specs.Rules.{run_app}
+use Rattle.command_words.specs.declared.commands.Command.{Command}
+use Rattle.command_words.specs.declared.commands.Command.TheVariants.{Run}
+use Rattle.command_words.specs.declared.commands.RunWords.{RunWords}
+
+-- a flag that was named
+abbrev pub is_on : Text → List Row → Bool
+is_on id rows = option_map_or (bytes_eq (codes "true")) (first_of id rows) false
+
+-- the number that an option gives, or the default where it isn't there
+abbrev pub count_or : Option Text → ℕ → Option ℕ
+count_or None default = Some default
+count_or (Some t) default = count_of t
+
+-- 1 to 255 bytes, none of them zero
+abbrev pub is_plan_name : Text → Bool
+is_plan_name t = (nat_le 1 (length t) && nat_le (length t) 255) && not (list_any (λ b. b == 0) t)
+
+abbrev pub plan_of : List Row → Text
+plan_of rows = unwrap_or (first_of (codes "PLAN") rows) []
+
+abbrev pub asked : List Row → ℕ → ℕ → RunWords
+asked rows max workers = record {
+  plan = plan_of rows;
+  workers = workers;
+  max = max;
+  parallel = is_on (codes "parallel") rows;
+  history = is_on (codes "history") rows;
+  summary = is_on (codes "summary") rows;
+}
+
+-- at most two leases are out where the words don't say otherwise, and as many threads work as leases may be out
+abbrev pub run_of_rows : List Row → Option RunWords
+run_of_rows rows =
+    if is_plan_name (plan_of rows)
+    then option_and_then (λ max. option_map (asked rows max) (count_or (first_of (codes "threads") rows) max)) (count_or (first_of (codes "max-workers") rows) 2)
+    else None
+
+-- what the words after `run` ask for: the parser finds no fault with them
+abbrev pub run_of : List Text → Option RunWords
+run_of words = if is_empty (fault_of run_app words) then run_of_rows (matches_of run_app words) else None
+
+-- the first word is the command's name
+abbrev pub command_of : List Text → Option Command
+command_of [] = None
+command_of (name ∷ words) = if bytes_eq name (codes "run") then option_map Run (run_of words) else None
+
+-- the numbers that a command may have
+pub record HasBounds (run : RunWords) : Type 0 where
+  pub some_worker : 1 ≤ run.workers
+  pub few_workers : run.workers ≤ 32
+  pub some_lease : 1 ≤ run.max
+  pub few_leases : run.max ≤ 32
+
+abbrev pub IsBounded : Command → Type 0
+IsBounded (Run run) = HasBounds run

@@ -1,0 +1,28 @@
+-- The arguments behind `run`, as the parser has them.
+use Rattle.std.specs.Prelude.{codes, true, Some}
+use Rattle.clap.specs.Walk.{Rule, Text}
+use Rattle.clap.specs.Simple.{App, Shape, new_rule, new_app, with_rule, on_top}
+use Rattle.clap.specs.declared.builder.action.ArgAction.TheVariants.{Set, SetTrue}
+
+-- an option with one value
+abbrev pub option_rule : Text → Rule
+option_rule name = record (new_rule name) { long = Some name; action = Some Set }
+
+abbrev pub flag_rule : Text → Rule
+flag_rule name = record (new_rule name) { long = Some name; action = Some SetTrue }
+
+abbrev pub plan_rule : Rule
+plan_rule = record (new_rule (codes "PLAN")) { required = true; action = Some Set }
+
+-- the words begin behind the command's name, and there are no flags but its own
+abbrev pub bare : Shape → Shape
+bare s = record s { no_binary_name = true; disable_help_flag = true; disable_version_flag = true }
+
+abbrev pub bare_app : Text → App
+bare_app name = on_top bare (new_app name)
+
+unfoldable pub run_app : App
+run_app =
+    with_rule (with_rule (with_rule (with_rule (with_rule (with_rule (bare_app (codes "run")) plan_rule)
+    (option_rule (codes "max-workers"))) (option_rule (codes "threads")))
+    (flag_rule (codes "parallel"))) (flag_rule (codes "history"))) (flag_rule (codes "summary"))

@@ -1,0 +1,47 @@
+ghost use Rattle.std.specs.Prelude.{◌≡◌};
+
+use item_actions::Text;
+use std::alloc::{AllocError, AllocFailed};
+
+/// A command.
+#[derive(Debug, Drop)]
+pub enum Command {
+    /// Reads a plan, runs it and prints.
+    Run(RunWords),
+}
+
+/// What the words of `run` ask for.
+#[derive(Debug, Drop)]
+pub struct RunWords {
+    /// The name of the plan's file: 1 to 255 bytes, none of them zero.
+    pub plan: Text,
+    /// How many threads work, 1 to 32.
+    pub workers: u32,
+    /// The most leases that may be out, 1 to 32.
+    pub max: u32,
+    /// Whether each project has a lock of its own.
+    pub parallel: bool,
+    /// Whether the history is printed.
+    pub history: bool,
+    /// Whether of the results the summary alone is printed.
+    pub summary: bool,
+}
+
+/// Why words give no command.
+#[derive(Clone, Copy, Debug, PartialEq, Eq)]
+pub enum WordsFail {
+    /// They are none.
+    NoCommand,
+    /// There was no memory to read them.
+    NoMemory,
+}
+
+impl From<AllocError> for WordsFail {
+    ghost use Rattle.command_words.specs.declared.commands.WordsFail.TheVariants.{NoMemory};
+
+    ghost from_gives = { λ _ fail. fail ≡ NoMemory };
+
+    fn from(_error: AllocError) -> WordsFail {
+        WordsFail::NoMemory
+    }
+}

@@ -1,0 +1,13 @@
+//! The words after the program's name, as a command.
+#![tactic(auto)]
+
+mod commands;
+mod numbers;
+mod parser;
+mod reading;
+
+pub use commands::{Command, RunWords, WordsFail};
+pub use reading::read_command;
+
+#[cfg(test)]
+mod tests;

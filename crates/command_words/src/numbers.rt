@@ -1,0 +1,59 @@
+//! Numbers in words.
+ghost use Rattle.command_words.specs.Numbers.{count_of, in_bounds, is_numeral};
+ghost use Rattle.std.specs.Char.{is_ascii_digit};
+ghost use Rattle.std.specs.List.{list_all};
+ghost use Rattle.std.specs.Prelude.{true, IfSome, ◌≡◌, ◌≤◌};
+ghost use Rattle.std.specs.Str.Parse.{digits_value};
+
+/// The most digits of a number.
+const MOST_DIGITS: usize = 10;
+
+/// The greatest number of threads, and of leases.
+const GREATEST: u64 = 32;
+
+fn are_digits(bytes: &[u8]) -> bool
+    ensures { result ≡ list_all is_ascii_digit bytes.now }
+{
+    bytes.iter().all(|b| b.is_ascii_digit())
+}
+
+fn is_numeral(text: &str) -> bool
+    ensures { result ≡ is_numeral text.now }
+{
+    1 <= text.len() && text.len() <= MOST_DIGITS && are_digits(text.as_bytes())
+}
+
+fn value_of(text: &str) -> u64
+    requires { is_numeral text.now ≡ true }
+    ensures { result ≡ digits_value 10 text.now }
+{
+    match text.parse::<u64>() {
+        Ok(value) => value,
+        Err(_) => unreachable!(),
+    }
+}
+
+fn in_bounds(value: u64) -> Option<u32>
+    ensures value { result ≡ in_bounds value }
+    ensures some { IfSome result (λ n. 1 ≤ n) }
+    ensures few { IfSome result (λ n. n ≤ 32) }
+{
+    if 1 <= value && value <= GREATEST {
+        Some(value as u32)
+    } else {
+        None
+    }
+}
+
+/// The number, 1 to 32, that a text writes with 1 to 10 digits.
+pub(crate) fn count_of(text: &str) -> Option<u32>
+    ensures value { result ≡ count_of text.now }
+    ensures some { IfSome result (λ n. 1 ≤ n) }
+    ensures few { IfSome result (λ n. n ≤ 32) }
+{
+    if is_numeral(text) {
+        in_bounds(value_of(text))
+    } else {
+        None
+    }
+}

@@ -1,0 +1,76 @@
+//! The parser of the words after `run`.
+ghost use Rattle.clap.specs.Simple.{app_of, with_rule};
+ghost use Rattle.command_words.specs.Rules.{bare_app, flag_rule, option_rule, plan_rule, run_app};
+ghost use Rattle.std.specs.Prelude.{codes, IfOk, ◌≡◌};
+
+use clap::{Arg, ArgAction, Command};
+use std::alloc::{AllocError, Global};
+
+fn with_flag<'a>(
+    alloc: Global,
+    command: Command<'a>,
+    name: &'a str,
+) -> Result<Command<'a>, AllocError>
+    ensures { IfOk result (λ c. app_of c ≡ with_rule (app_of command.entry) (flag_rule name.entry.now)) }
+{
+    let flag = Arg::new(alloc, name).long(name).action(ArgAction::SetTrue);
+    command.arg(flag)
+}
+
+fn with_option<'a>(
+    alloc: Global,
+    command: Command<'a>,
+    name: &'a str,
+) -> Result<Command<'a>, AllocError>
+    ensures { IfOk result (λ c. app_of c ≡ with_rule (app_of command.entry) (option_rule name.entry.now)) }
+{
+    let option = Arg::new(alloc, name).long(name).action(ArgAction::Set);
+    command.arg(option)
+}
+
+fn bare_command<'a>(alloc: Global, name: &'a str) -> Command<'a>
+    ensures { app_of result ≡ bare_app name.entry.now }
+{
+    Command::new(alloc, name)
+        .no_binary_name(true)
+        .disable_help_flag(true)
+        .disable_version_flag(true)
+}
+
+fn with_plan<'a>(alloc: Global, command: Command<'a>) -> Result<Command<'a>, AllocError>
+    ensures { IfOk result (λ c. app_of c ≡ with_rule (app_of command.entry) plan_rule) }
+{
+    let plan = Arg::new(alloc, "PLAN")
+        .required(true)
+        .action(ArgAction::Set);
+    command.arg(plan)
+}
+
+fn with_options<'a>(alloc: Global, command: Command<'a>) -> Result<Command<'a>, AllocError>
+    ensures { IfOk result (λ c. app_of c ≡ with_rule (with_rule (app_of command.entry) (option_rule (codes "max-workers"))) (option_rule (codes "threads"))) }
+{
+    let command = with_option(alloc, command, "max-workers")?;
+    let command = with_option(alloc, command, "threads")?;
+    Ok(command)
+}
+
+fn with_flags<'a>(alloc: Global, command: Command<'a>) -> Result<Command<'a>, AllocError>
+    ensures { IfOk result (λ c. app_of c ≡ with_rule (with_rule (with_rule (app_of command.entry)
+        (flag_rule (codes "parallel"))) (flag_rule (codes "history"))) (flag_rule (codes "summary"))) }
+{
+    let command = with_flag(alloc, command, "parallel")?;
+    let command = with_flag(alloc, command, "history")?;
+    let command = with_flag(alloc, command, "summary")?;
+    Ok(command)
+}
+
+/// The parser: PLAN, which is required, two options with a value each, and three flags.
+#[tactic(auto, unfolding(crate::specs::Rules::run_app))]
+pub(crate) fn run_command<'a>(alloc: Global) -> Result<Command<'a>, AllocError>
+    ensures { IfOk result (λ c. app_of c ≡ run_app) }
+{
+    let command = with_plan(alloc, bare_command(alloc, "run"))?;
+    let command = with_options(alloc, command)?;
+    let command = with_flags(alloc, command)?;
+    Ok(command)
+}

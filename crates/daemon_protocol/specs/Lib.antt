@@ -1,0 +1,4 @@
+pub mod Bodies
+pub mod Reading
+pub mod Spelling
+pub mod Start

@@ -1,0 +1,62 @@
+-- The bytes of a frame: its tag, the length of its body, and the body. Numbers stand with their highest byte first.
+use Rattle.std.specs.Prelude.{◌≡◌, ◌≢◌, ℕ, ◌<◌, ◌≤◌, ◌^◌, List, [], ◌∷◌, ◌++◌, length, true}
+use Rattle.std.specs.Int.{w16, w32, w64, to_be_bytes}
+use Rattle.item_actions.specs.Forms.{is_file_name}
+use Rattle.item_actions.specs.declared.actions.Action.{Action}
+use Rattle.item_actions.specs.declared.actions.Action.TheVariants as actions
+use Rattle.item_actions.specs.declared.outcomes.Outcome.{Outcome}
+use Rattle.item_actions.specs.declared.outcomes.Outcome.TheVariants as outcomes
+use Rattle.daemon_protocol.specs.declared.frames.Frame.{Frame}
+use Rattle.daemon_protocol.specs.declared.frames.Frame.TheVariants.{Request, Reply, Stop}
+
+abbrev pub action_bytes : Action → List ℕ
+action_bytes actions.Lines = 1 ∷ []
+action_bytes actions.Words = 2 ∷ []
+action_bytes actions.Bytes = 3 ∷ []
+action_bytes actions.Longest = 4 ∷ []
+action_bytes (actions.Count needle) = 5 ∷ length needle ∷ needle
+action_bytes actions.Sha256 = 6 ∷ []
+
+-- a skipped unit has no reply
+abbrev pub outcome_bytes : Outcome → List ℕ
+outcome_bytes (outcomes.Number n) = 1 ∷ to_be_bytes w64 n
+outcome_bytes (outcomes.Digest digest) = 2 ∷ digest
+outcome_bytes outcomes.NotThere = 3 ∷ []
+outcome_bytes outcomes.TooLong = 4 ∷ []
+outcome_bytes outcomes.Fault = 5 ∷ []
+outcome_bytes outcomes.NoMemory = 6 ∷ []
+outcome_bytes outcomes.Skipped = []
+
+abbrev pub body : Frame → List ℕ
+body (Request r) = to_be_bytes w32 r.unit ++ (action_bytes r.action ++ (to_be_bytes w16 (length r.file) ++ r.file))
+body (Reply r) = to_be_bytes w32 r.unit ++ outcome_bytes r.outcome
+body Stop = []
+
+abbrev pub tag : Frame → ℕ
+tag (Request r) = 1
+tag (Reply r) = 2
+tag Stop = 3
+
+abbrev pub spelling : Frame → List ℕ
+spelling f = tag f ∷ (to_be_bytes w32 (length (body f)) ++ body f)
+
+-- a request's file has the form of a file's name, and a reply's unit was not skipped
+abbrev pub IsValid : Frame → Type 0
+IsValid (Request r) = is_file_name r.file ≡ true
+IsValid (Reply r) = r.outcome ≢ outcomes.Skipped
+IsValid Stop = Unit {0}
+
+-- what the types of the fields hold
+abbrev pub ActionFits : Action → Type 0
+ActionFits (actions.Count needle) = (1 ≤ length needle) × (length needle ≤ 64)
+ActionFits _ = Unit {0}
+
+abbrev pub OutcomeFits : Outcome → Type 0
+OutcomeFits (outcomes.Number n) = n < 2 ^ 64
+OutcomeFits (outcomes.Digest digest) = length digest ≡ 32
+OutcomeFits _ = Unit {0}
+
+abbrev pub FrameFits : Frame → Type 0
+FrameFits (Request r) = (r.unit < 2 ^ 32) × ActionFits r.action
+FrameFits (Reply r) = (r.unit < 2 ^ 32) × OutcomeFits r.outcome
+FrameFits Stop = Unit {0}

@@ -1,0 +1,178 @@
+ghost use Rattle.std.specs.Prelude.{◌≡◌, ◌≤◌, ◌+◌, ◌==◌, length, IfOk, IfSome, None, Some, if◌then◌else◌};
+ghost use Rattle.std.specs.Int.{w32, w64, from_be_bytes};
+ghost use Rattle.item_actions.specs.Forms.{is_file_name};
+ghost use Rattle.item_actions.specs.declared.outcomes.Outcome.TheVariants.{Number, Digest};
+ghost use Rattle.daemon_protocol.specs.Bodies.{frame_of, request_of, request_with, action_at, count_at, reply_of, outcome_of, cause_of, stop_of};
+
+use crate::frames::{Frame, Reply, Request};
+use item_actions::{Action, Needle, Outcome, Text, is_file_name};
+use std::alloc::{AllocError, Global};
+use std::str;
+
+/// The frame of this tag whose body these bytes are.
+pub(crate) fn frame_of(alloc: Global, tag: u8, body: &[u8]) -> Result<Option<Frame>, AllocError>
+    ensures { IfOk result (λ f. f ≡ frame_of tag body.now) }
+{
+    match tag {
+        1 => request_of(alloc, body),
+        2 => Ok(reply_of(body)),
+        _ => Ok(stop_of(body)),
+    }
+}
+
+fn request_of(alloc: Global, body: &[u8]) -> Result<Option<Frame>, AllocError>
+    ensures { IfOk result (λ f. f ≡ request_of body.now) }
+{
+    if body.len() < 4 {
+        return Ok(None);
+    }
+    let (unit, bytes) = (number_of(&body[..4]), &body[4..]);
+    match action_at(bytes) {
+        Some((action, len)) => request_with(alloc, unit, action, &bytes[len..]),
+        None => Ok(None),
+    }
+}
+
+fn request_with(
+    alloc: Global,
+    unit: u32,
+    action: Action,
+    bytes: &[u8],
+) -> Result<Option<Frame>, AllocError>
+    ensures { IfOk result (λ f. f ≡ request_with unit action bytes.now) }
+{
+    if bytes.len() < 2 {
+        return Ok(None);
+    }
+    let name = &bytes[2..];
+    if u16::from_be_bytes([bytes[0], bytes[1]]) as usize != name.len() {
+        return Ok(None);
+    }
+    match file_of(alloc, name)? {
+        Some(file) => Ok(Some(Frame::Request(Request { unit, action, file }))),
+        None => Ok(None),
+    }
+}
+
+fn file_of(alloc: Global, name: &[u8]) -> Result<Option<Text>, AllocError>
+    ensures { IfOk result (λ f. f ≡ (if is_file_name name.now then Some name.now else None)) }
+{
+    if !is_file_name(name) {
+        return Ok(None);
+    }
+    match str::from_utf8(name) {
+        Ok(name) => Ok(Some(Text::from_str(alloc, name)?)),
+        Err(_) => Ok(None),
+    }
+}
+
+// The action at the start of the bytes, and how many bytes it takes up.
+fn action_at(bytes: &[u8]) -> Option<(Action, usize)>
+    ensures action { result ≡ action_at bytes.now }
+    ensures within { IfSome result (λ a. a.1 ≤ length bytes.now) }
+{
+    match bytes {
+        [1, ..] => Some((Action::Lines, 1)),
+        [2, ..] => Some((Action::Words, 1)),
+        [3, ..] => Some((Action::Bytes, 1)),
+        [4, ..] => Some((Action::Longest, 1)),
+        [5, after @ ..] => count_at(after),
+        [6, ..] => Some((Action::Sha256, 1)),
+        _ => None,
+    }
+}
+
+fn count_at(bytes: &[u8]) -> Option<(Action, usize)>
+    ensures action { result ≡ count_at bytes.now }
+    ensures within { IfSome result (λ a. a.1 ≤ length bytes.now + 1) }
+{
+    let [len, after @ ..] = bytes else {
+        return None;
+    };
+    let len = *len as usize;
+    if after.len() < len {
+        return None;
+    }
+    match Needle::of(&after[..len]) {
+        Some(needle) => Some((Action::Count(needle), len + 2)),
+        None => None,
+    }
+}
+
+fn reply_of(body: &[u8]) -> Option<Frame>
+    ensures { result ≡ reply_of body.now }
+{
+    if body.len() < 4 {
+        return None;
+    }
+    match outcome_of(&body[4..]) {
+        Some(outcome) => {
+            let unit = number_of(&body[..4]);
+            Some(Frame::Reply(Reply { unit, outcome }))
+        }
+        None => None,
+    }
+}
+
+fn outcome_of(bytes: &[u8]) -> Option<Outcome>
+    ensures { result ≡ outcome_of bytes.now }
+{
+    match bytes {
+        [1, number @ ..] => outcome_of_number(number),
+        [2, digest @ ..] => outcome_of_digest(digest),
+        [cause] => cause_of(*cause),
+        _ => None,
+    }
+}
+
+fn outcome_of_number(bytes: &[u8]) -> Option<Outcome>
+    ensures { result ≡ (if length bytes.now == 8 then Some (Number (from_be_bytes w64 bytes.now)) else None) }
+{
+    if bytes.len() != 8 {
+        return None;
+    }
+    let mut number = [0; 8];
+    number.copy_from_slice(bytes);
+    Some(Outcome::Number(u64::from_be_bytes(number)))
+}
+
+fn outcome_of_digest(bytes: &[u8]) -> Option<Outcome>
+    ensures { result ≡ (if length bytes.now == 32 then Some (Digest bytes.now) else None) }
+{
+    if bytes.len() != 32 {
+        return None;
+    }
+    let mut digest = [0; 32];
+    digest.copy_from_slice(bytes);
+    Some(Outcome::Digest(digest))
+}
+
+fn cause_of(cause: u8) -> Option<Outcome>
+    ensures { result ≡ cause_of cause }
+{
+    match cause {
+        3 => Some(Outcome::NotThere),
+        4 => Some(Outcome::TooLong),
+        5 => Some(Outcome::Fault),
+        6 => Some(Outcome::NoMemory),
+        _ => None,
+    }
+}
+
+fn stop_of(body: &[u8]) -> Option<Frame>
+    ensures { result ≡ stop_of body.now }
+{
+    if body.is_empty() {
+        Some(Frame::Stop)
+    } else {
+        None
+    }
+}
+
+/// The number whose four bytes these are.
+pub(crate) fn number_of(bytes: &[u8]) -> u32
+    requires { length bytes.now ≡ 4 }
+    ensures { result ≡ from_be_bytes w32 bytes.now }
+{
+    u32::from_be_bytes([bytes[0], bytes[1], bytes[2], bytes[3]])
+}

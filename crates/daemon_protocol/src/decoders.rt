@@ -1,0 +1,165 @@
+ghost use Rattle.std.specs.Prelude.{◌≡◌, ◌+◌, ◌<◌, ◌≤◌, ◌^◌, ◌++◌, ℕ, List, [], length, drop, IfOk, OnErr, IsSome};
+ghost use Rattle.daemon_protocol.specs.declared.frames.Frame.{Frame};
+ghost use Rattle.daemon_protocol.specs.Start.{look, Cuts};
+ghost use Rattle.daemon_protocol.specs.Reading.{Reads, nothing_read, refusal_at, start_with, after_frames};
+
+use crate::frames::{Frame, FrameRefusal};
+use crate::starts::{Flaw, Start, look};
+use std::alloc::{AllocError, Global};
+use std::marker::Model;
+
+/// What a piece of a stream gave.
+#[derive(Debug, Drop)]
+pub struct Fed {
+    /// The frames that became whole, in order.
+    pub frames: Vec<Frame>,
+    /// Why no frame comes any more, if that is so.
+    pub refusal: Option<FrameRefusal>,
+}
+
+// The frames that bytes begin with, how many bytes they take up, and the flaw of what follows them, if it can
+// be no frame.
+#[derive(Drop)]
+struct Front {
+    frames: Vec<Frame>,
+    len: usize,
+    flaw: Option<Flaw>,
+}
+
+/// Reads the frames of a stream that comes in pieces. It holds the bytes that are no whole frame yet, and
+/// the place in the stream where they begin. After a refusal it holds nothing, and the place is the refusal's.
+#[derive(Debug, Drop)]
+pub struct Decoder {
+    held: Vec<u8>,
+    place: u64,
+    refusal: Option<FrameRefusal>,
+}
+
+impl Model for Decoder {
+    ghost use Rattle.daemon_protocol.specs.Reading.{Reading};
+
+    ghost Value = { Reading };
+
+    ghost view = { λ d. record { held = d.held.items; place = d.place; refusal = d.refusal } };
+}
+
+impl Decoder {
+    /// A decoder at the start of a stream. It takes no memory.
+    pub fn new(alloc: Global) -> Decoder
+        ensures value { result ≡ nothing_read }
+        ensures reads { Reads [] [] result }
+    {
+        Decoder {
+            held: Vec::new(alloc),
+            place: 0,
+            refusal: None,
+        }
+    }
+
+    /// Reads one piece more: the frames of the stream so far are those given before, and then these. A refusal
+    /// comes as soon as the bytes tell it. After it each piece gives no frames and the same refusal. Where
+    /// there is no memory the decoder is as before.
+    pub fn feed(&mut self, alloc: Global, piece: &[u8]) -> Result<Fed, AllocError>
+        requires room { self.old.place + length self.old.held + length piece.now < 2 ^ 64 }
+        ensures reads { (stream : List ℕ) (frames : List Frame) → Reads stream frames self.old
+            → IfOk result (λ fed. Reads (stream ++ piece.now) (frames ++ fed.frames.items) self.new) }
+        ensures refusal { IfOk result (λ fed. fed.refusal ≡ self.new.refusal) }
+        ensures refused { IsSome self.old.refusal → IfOk result (λ fed. (fed.frames.items ≡ []) × (self.new ≡ self.old)) }
+        ensures err { OnErr result (self.new ≡ self.old) }
+    {
+        if self.refusal.is_some() {
+            return Ok(Fed {
+                frames: Vec::new(alloc),
+                refusal: self.refusal,
+            });
+        }
+        let before = self.held.len();
+        self.held.extend_from_slice(piece)?;
+        match front_of(alloc, &self.held) {
+            Ok(front) => Ok(self.pass(front)),
+            Err(error) => {
+                self.held.truncate(before);
+                Err(error)
+            }
+        }
+    }
+
+    // Goes past the frames at the front of what is held.
+    fn pass(&mut self, front: Front) -> Fed
+        requires within { front.len ≤ length self.old.held }
+        requires room { self.old.place + length self.old.held < 2 ^ 64 }
+        ensures reading { self.new ≡ after_frames self.old front.len front.flaw }
+        ensures frames { result.frames ≡ front.frames }
+        ensures refusal { result.refusal ≡ self.new.refusal }
+    {
+        self.place += front.len as u64;
+        match front.flaw {
+            None => drop_front(&mut self.held, front.len),
+            Some(flaw) => {
+                self.held.clear();
+                self.refusal = Some(refusal_at(flaw, self.place));
+            }
+        }
+        Fed {
+            frames: front.frames,
+            refusal: self.refusal,
+        }
+    }
+
+    /// How many bytes are held that are no whole frame yet; 0 after a refusal.
+    pub fn rest(&self) -> u64
+        ensures { result ≡ length self.now.held }
+    {
+        self.held.len() as u64
+    }
+
+    /// The place in the stream where these bytes begin, or that of the refusal.
+    pub fn place(&self) -> u64
+        ensures { result ≡ self.now.place }
+    {
+        self.place
+    }
+}
+
+fn front_of(alloc: Global, bytes: &[u8]) -> Result<Front, AllocError>
+    ensures within { IfOk result (λ f. f.len ≤ length bytes.now) }
+    ensures cuts { IfOk result (λ f. Cuts bytes.now f.frames.items (drop f.len bytes.now)) }
+    ensures end { IfOk result (λ f. look (drop f.len bytes.now) ≡ start_with f.flaw) }
+{
+    let mut frames = Vec::new(alloc);
+    let mut len = 0usize;
+    loop {
+        let flaw = match look(alloc, &bytes[len..])? {
+            Start::Whole(frame, count) => {
+                frames.push(frame)?;
+                len += count;
+                continue;
+            }
+            Start::Unfinished => None,
+            Start::Refused(flaw) => Some(flaw),
+        };
+        return Ok(Front { frames, len, flaw });
+    }
+}
+
+fn drop_front(bytes: &mut Vec<u8>, count: usize)
+    requires { count ≤ length bytes.old.items }
+    ensures { bytes.new.items ≡ drop count bytes.old.items }
+{
+    if count == 0 {
+        return;
+    }
+    let left = bytes.len() - count;
+    bytes.copy_within(count.., 0);
+    bytes.truncate(left);
+}
+
+fn refusal_at(flaw: Flaw, place: u64) -> FrameRefusal
+    ensures { result ≡ refusal_at flaw place }
+{
+    match flaw {
+        Flaw::Tag => FrameRefusal::BadTag(place),
+        Flaw::Length => FrameRefusal::BadLength(place),
+        Flaw::Field => FrameRefusal::BadField(place),
+    }
+}

@@ -1,0 +1,40 @@
+use item_actions::{Action, Outcome, Text};
+
+/// A unit of work that a daemon is asked to do.
+#[derive(Debug, Drop)]
+pub struct Request {
+    pub unit: u32,
+    pub action: Action,
+    /// The name of a file, of the form that `item_actions::is_file_name` tests.
+    pub file: Text,
+}
+
+/// What became of a unit of work.
+#[derive(Clone, Copy, Debug, PartialEq, Eq)]
+pub struct Reply {
+    pub unit: u32,
+    /// It isn't `Skipped`, which has no bytes.
+    pub outcome: Outcome,
+}
+
+/// What is sent over a link.
+#[derive(Debug, Drop)]
+pub enum Frame {
+    /// From the build to a daemon.
+    Request(Request),
+    /// From a daemon to the build.
+    Reply(Reply),
+    /// From the build: no more work comes.
+    Stop,
+}
+
+/// Why the bytes of a stream go on with no frame, each with the place of the first byte that is in no frame.
+#[derive(Clone, Copy, Debug, PartialEq, Eq)]
+pub enum FrameRefusal {
+    /// That byte is no frame's tag.
+    BadTag(u64),
+    /// The length of the body is over 65,536.
+    BadLength(u64),
+    /// The body isn't one of its tag's bodies.
+    BadField(u64),
+}

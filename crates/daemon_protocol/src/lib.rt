@@ -1,0 +1,17 @@
+//! The frames between a build and its worker daemons: their bytes, and a decoder of a stream in any pieces.
+#![tactic(auto)]
+
+mod bodies;
+mod decoders;
+mod encoding;
+mod frames;
+mod laws;
+mod starts;
+
+pub use decoders::{Decoder, Fed};
+pub use encoding::encode;
+pub use frames::{Frame, FrameRefusal, Reply, Request};
+pub use laws::{read_frames_are_spelled, spelled_frames_are_read, streams_have_one_reading};
+
+#[cfg(test)]
+mod tests;

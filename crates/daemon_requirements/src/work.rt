@@ -1,0 +1,19 @@
+use crate::requirement::Requirements;
+use item_actions::{Action, Text};
+
+/// Where an item runs.
+#[derive(Debug, Drop)]
+pub enum Isolation {
+    /// In the worker's own thread.
+    InThread,
+    /// In a worker daemon that covers these requirements.
+    Process(Requirements),
+}
+
+/// An item: an action on a file.
+#[derive(Debug, Drop)]
+pub struct Work {
+    pub action: Action,
+    pub file: Text,
+    pub isolation: Isolation,
+}

@@ -1,0 +1,11 @@
+use Rattle.std.proofs.Common.{◌==◌, rules}
+use Rattle.std.proofs.lemmas.Iterator.Search.{any_from_yields_List}
+use Rattle.std.proofs.lemmas.Iterator.Splits.{YieldsList-from_slice_split}
+use Rattle.item_actions.specs.Forms.{is_no_part}
+use Rattle.item_actions.proofs.forms.has_no_part.Goals as goal
+
+pub returns : goal.returns
+returns c =
+    any_from_yields_List is_no_part _ _ _ c.any.ensures.ran
+    (YieldsList-from_slice_split _ (λ b. b == 47) c.args.bytes.now c.split.ensures.rest c.split.ensures.done c.split.ensures.closure (λ x b q k. search rules))
+    (λ x b q k. search rules)

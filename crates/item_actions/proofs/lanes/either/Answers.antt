@@ -1,0 +1,6 @@
+use Rattle.std.proofs.Common.{bit_or}
+use Rattle.memchr.proofs.lemmas.LaneLemmas.{HasLanes-zip2}
+use Rattle.item_actions.proofs.lanes.either.Goals as goal
+
+pub returns : goal.returns
+returns c = HasLanes-zip2 bit_or c.args.left c.args.right c.fits-left.0 c.fits-right.0

@@ -1,0 +1,52 @@
+ghost use Rattle.std.specs.Prelude.{◌≡◌, ◌<◌, ◌≤◌, ◌⊎◌, length, MatchOption};
+
+use std::marker::Model;
+
+const MOST_BYTES: usize = 64;
+
+/// What is searched for: 1 to 64 bytes.
+#[derive(Clone, Copy, Debug, PartialEq, Eq)]
+pub struct Needle {
+    bytes: [u8; MOST_BYTES],
+    len: usize,
+}
+
+impl Model for Needle {
+    ghost use Rattle.std.specs.Prelude.{ℕ, List, length, take};
+
+    ghost Value = { List ℕ };
+
+    ghost use Rattle.item_actions.specs.Needles.{padded, IsPadded};
+
+    ghost view = { λ n. take n.len n.bytes };
+
+    ghost invariant = { IsPadded };
+
+    ghost inverse = { padded };
+
+    ghost inverse_ok = { λ _ h. h.zeros };
+}
+
+impl Needle {
+    /// A needle of these bytes; None exactly where their number is outside 1 to 64.
+    pub fn of(bytes: &[u8]) -> Option<Needle>
+        ensures { MatchOption result (64 < length bytes.now ⊎ (length bytes.now ≡ 0)) (λ n. n ≡ bytes.now) }
+    {
+        let len = bytes.len();
+        if len == 0 || MOST_BYTES < len {
+            return None;
+        }
+        let mut kept = [0; MOST_BYTES];
+        kept[..len].copy_from_slice(bytes);
+        Some(Needle { bytes: kept, len })
+    }
+
+    /// The bytes.
+    pub fn bytes(&self) -> &[u8]
+        ensures bytes { result.now ≡ self.now }
+        ensures some { 1 ≤ length result.now }
+        ensures few { length result.now ≤ 64 }
+    {
+        &self.bytes[..self.len]
+    }
+}

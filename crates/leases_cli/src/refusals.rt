@@ -1,0 +1,123 @@
+//! The lines that tell refusals. They take no memory.
+ghost use Rattle.leases_cli.specs.Lines.{bad_plan_line, excess_label, label_of, line_of, part_word, place_of, place_text};
+ghost use Rattle.std.specs.Prelude.{◌≡◌};
+ghost use Rattle.worker_desk.specs.Paper.{Adds};
+ghost use Rattle.worker_desk.specs.Sunk.{Prints};
+
+use crate::status::Status;
+use plan_reader::{Part, Place, PlanRefusal, Which};
+use worker_desk::{Failed, Page, Sink};
+
+/// The plan itself.
+const WHOLE: Place = Place {
+    part: Part::Plan,
+    number: 0,
+};
+
+fn excess_label(which: Which) -> &'static [u8]
+    ensures { result.now ≡ excess_label which }
+{
+    match which {
+        Which::Projects => b"12 TooMany projects",
+        Which::Tasks => b"12 TooMany tasks",
+        Which::Units => b"12 TooMany units",
+        Which::Requirements => b"12 TooMany requirements",
+        Which::Actions => b"12 TooMany actions",
+        Which::After => b"12 TooMany after",
+        Which::Lists => b"12 TooMany lists",
+    }
+}
+
+/// The number and the name of a refusal.
+fn label_of(refusal: PlanRefusal) -> &'static [u8]
+    ensures { result.now ≡ label_of refusal }
+{
+    match refusal {
+        PlanRefusal::TooLong => b"0 TooLong",
+        PlanRefusal::NotToml => b"1 NotToml",
+        PlanRefusal::UnknownKey(_) => b"2 UnknownKey",
+        PlanRefusal::WrongType(_) => b"3 WrongType",
+        PlanRefusal::Missing(_) => b"4 Missing",
+        PlanRefusal::BadName(_) => b"5 BadName",
+        PlanRefusal::Twice(_) => b"6 Twice",
+        PlanRefusal::NoSuchProject(_) => b"7 NoSuchProject",
+        PlanRefusal::NoSuchTask(_) => b"8 NoSuchTask",
+        PlanRefusal::Cycle(_) => b"9 Cycle",
+        PlanRefusal::ReleaseNotLast(_) => b"10 ReleaseNotLast",
+        PlanRefusal::ClassLoader(_) => b"11 ClassLoader",
+        PlanRefusal::TooMany(which, _) => excess_label(which),
+        PlanRefusal::BadRequirements(_) => b"13 BadRequirements",
+        PlanRefusal::NotYet => b"14 NotYet",
+    }
+}
+
+fn place_of(refusal: PlanRefusal) -> Place
+    ensures { result ≡ place_of refusal }
+{
+    match refusal {
+        PlanRefusal::TooLong | PlanRefusal::NotToml | PlanRefusal::NotYet => WHOLE,
+        PlanRefusal::UnknownKey(place)
+        | PlanRefusal::WrongType(place)
+        | PlanRefusal::Missing(place)
+        | PlanRefusal::BadName(place)
+        | PlanRefusal::Twice(place)
+        | PlanRefusal::NoSuchProject(place)
+        | PlanRefusal::NoSuchTask(place)
+        | PlanRefusal::Cycle(place)
+        | PlanRefusal::ReleaseNotLast(place)
+        | PlanRefusal::ClassLoader(place)
+        | PlanRefusal::TooMany(_, place)
+        | PlanRefusal::BadRequirements(place) => place,
+    }
+}
+
+fn part_word(part: Part) -> &'static [u8]
+    ensures { result.now ≡ part_word part }
+{
+    match part {
+        Part::Plan => b"plan",
+        Part::Project => b"project",
+        Part::Task => b"task",
+        Part::Requirements => b"requirements",
+    }
+}
+
+fn tell_place<K: Sink>(place: Place, page: &mut Page, sink: &mut K)
+    ensures { Adds (K.seen sink.old) page.old (K.seen sink.new) page.new (place_text place) }
+{
+    page.text(sink, part_word(place.part));
+    page.text(sink, b" ");
+    page.number(sink, u64::from(place.number));
+}
+
+fn tell_bad_plan<K: Sink>(refusal: PlanRefusal, page: &mut Page, sink: &mut K)
+    ensures { Adds (K.seen sink.old) page.old (K.seen sink.new) page.new (bad_plan_line refusal) }
+{
+    page.text(sink, b"bad plan ");
+    page.text(sink, label_of(refusal));
+    page.text(sink, b" at ");
+    tell_place(place_of(refusal), page, sink);
+    page.text(sink, b"\n");
+}
+
+/// Tells the line of a refusal. The statuses that refuse nothing, and NoMemory, have none.
+fn tell_refusal<K: Sink>(refusal: &Status, page: &mut Page, sink: &mut K)
+    ensures { Adds (K.seen sink.old) page.old (K.seen sink.new) page.new (line_of refusal.now) }
+{
+    match refusal {
+        Status::BadWords => page.text(sink, b"bad words\n"),
+        Status::BadPlan(refusal) => tell_bad_plan(*refusal, page, sink),
+        Status::NoPlan => page.text(sink, b"no plan\n"),
+        Status::PlanFault => page.text(sink, b"plan not read\n"),
+        Status::Passed | Status::TaskFailed | Status::SinkFault | Status::NoMemory => {}
+    }
+}
+
+/// Prints the line of a refusal.
+pub(crate) fn print_refusal<K: Sink>(refusal: &Status, sink: &mut K) -> Result<(), Failed>
+    ensures { Prints (K.seen sink.old) (K.seen sink.new) (line_of refusal.now) result }
+{
+    let mut page = Page::new();
+    tell_refusal(refusal, &mut page, sink);
+    page.end(sink)
+}

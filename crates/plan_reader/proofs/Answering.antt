@@ -1,0 +1,94 @@
+-- From what a step answers to the answer for the whole document.
+use Rattle.std.proofs.Common.{◌≡◌, ℕ, ◌<◌, List, [], ◌∷◌, map, length, slice_index_or, Option, Some, None, Result, Ok, Err, IfOk, IfErr, IsErrAnd, refl, ap, sym, subst, ◌∙◌, arith}
+use Rattle.std.specs.Option.{option_or}
+use Rattle.std.proofs.lemmas.List.{length-map, get_or-map}
+use Rattle.toml.specs.Data.{Data}
+use Rattle.task_ranks.specs.Rank.{Dependencies, after, InRange, IsFirstCycle}
+use Rattle.plan_table.specs.declared.refusals.Part.TheVariants.{Project, Task, Requirements}
+use Rattle.plan_table.specs.declared.refusals.PlanRefusal.{PlanRefusal}
+use Rattle.plan_table.specs.declared.refusals.PlanFail.{PlanFail}
+use Rattle.plan_table.specs.declared.refusals.PlanFail.TheVariants.{Refused, NoMemory}
+use Rattle.plan_table.specs.Document as document
+use Rattle.plan_table.specs.Keys.{name_of, tasks_of, after_of}
+use Rattle.plan_table.specs.Search.{table_refusal}
+use Rattle.plan_reader.specs.Names.{names_in, after_numbers, afters_of}
+use Rattle.plan_reader.specs.Plan.{PlanShape}
+use Rattle.plan_reader.specs.Planned.{plan_of}
+use Rattle.plan_reader.specs.Search.{twice_in, twice_refusal, rows_refusal, rows_before, refusal_before, refusal_behind}
+use Rattle.plan_reader.specs.Reading.{Answer, answer_to, AnswersRanks, AnswersBy, ReadsBy, Refuses, Gives, RefusesBy, RefusesCycle}
+use Rattle.plan_reader.proofs.Numbers.{numbers_within}
+
+-- ---- one refusal after the other
+
+pub sooner : (a b : Option PlanRefusal) (e : PlanFail) → RefusesBy a e → RefusesBy (option_or a b) e
+sooner a b NoMemory h = tt
+sooner a b (Refused r) h = ap (λ o. option_or o b) h
+
+pub later : (a b : Option PlanRefusal) (e : PlanFail) → a ≡ None → RefusesBy b e → RefusesBy (option_or a b) e
+later a b e none h = subst (λ o. RefusesBy (option_or o b) e) (sym none) h
+
+pub refused : (d : Data) (e : PlanFail) → RefusesBy (refusal_before d) e → Refuses (AnswersBy (refusal_before d) d) e
+refused d NoMemory h = tt
+refused d (Refused r) h = subst (λ o. AnswersBy o d (Err r)) (sym h) refl
+
+pub none_before : (d : Data) → table_refusal d ≡ None → twice_refusal d ≡ None → rows_refusal rows_before d ≡ None → refusal_before d ≡ None
+none_before d a b c =
+    ap (λ o. option_or o (option_or (twice_refusal d) (rows_refusal rows_before d))) a
+    ∙ ap (λ o. option_or o (rows_refusal rows_before d)) b
+    ∙ c
+
+pub answers_by : (d : Data) (r : Result PlanShape PlanFail) → refusal_before d ≡ None → Gives (AnswersRanks d) r → Gives (AnswersBy (refusal_before d) d) r
+answers_by d r none h = subst (λ o. Gives (AnswersBy o d) r) (sym none) h
+
+pub twice_task : (d : Data) (e : PlanFail) → twice_in d Project ≡ None → RefusesBy (twice_in d Task) e → RefusesBy (twice_refusal d) e
+twice_task d e p h = later (twice_in d Project) _ e p (sooner (twice_in d Task) _ e h)
+
+pub twice_requirements : (d : Data) (e : PlanFail) → twice_in d Project ≡ None → twice_in d Task ≡ None → RefusesBy (twice_in d Requirements) e → RefusesBy (twice_refusal d) e
+twice_requirements d e p t h = later (twice_in d Project) _ e p (later (twice_in d Task) _ e t (sooner (twice_in d Requirements) None e h))
+
+pub none_twice : (d : Data) → twice_in d Project ≡ None → twice_in d Task ≡ None → twice_in d Requirements ≡ None → twice_refusal d ≡ None
+none_twice d p t r =
+    ap (λ o. option_or o (option_or (twice_in d Task) (option_or (twice_in d Requirements) None))) p
+    ∙ ap (λ o. option_or o (option_or (twice_in d Requirements) None)) t
+    ∙ ap (λ o. option_or o None) r
+
+-- the error of a step is handed on
+pub handed_on : (Is : Answer → Type 0) (r : Result PlanShape PlanFail) (e : PlanFail) → IsErrAnd r (λ f. f ≡ e) → Refuses Is e → Gives Is r
+handed_on Is (Ok p) e is h = absurd is
+handed_on Is (Err f) e is h = subst (Refuses Is) (sym is) h
+
+-- ---- ranks
+
+pub in_range : (d : Data) → InRange (afters_of d)
+in_range d t k within short =
+    let names = (names_in d).tasks in
+    let tasks : length (afters_of d) ≡ length (tasks_of d) = length-map (tasks_of d) (after_numbers names) in
+    let named : length names ≡ length (tasks_of d) = length-map (tasks_of d) name_of in
+    omega (arith, tasks, named, numbers_in names (tasks_of d) t k (omega (arith, within, tasks)) (omega (arith, named, within, tasks)) short)
+  where
+    numbers_in : (names : _) (ts : List Data) (t k : ℕ) → t < length ts → 0 < length names → k < length (after (map (after_numbers names) ts) t) → slice_index_or (after (map (after_numbers names) ts) t) k 0 < length names
+    numbers_in names [] t k within some short = absurd (omega (arith, within))
+    numbers_in names (x ∷ ts) t k within some short =
+        let there : after (map (after_numbers names) (x ∷ ts)) t ≡ after_numbers names (slice_index_or (x ∷ ts) t x) = get_or-map (after_numbers names) (x ∷ ts) t x [] within in
+        subst (λ ns. k < length ns → slice_index_or ns k 0 < length names) (sym there) (numbers_within names (after_of (slice_index_or (x ∷ ts) t x)) some k 0) short
+
+pub cycle_refused : (d : Data) (g : Dependencies) (e : PlanFail) → g ≡ afters_of d → RefusesCycle g e → Refuses (AnswersRanks d) e
+cycle_refused d g NoMemory same h = tt
+cycle_refused d g (Refused r) same (first, cycle, is) = (Some first, subst (λ x. IsFirstCycle x (Some first)) same cycle, ap Err is)
+
+pub behind_refused : (d : Data) (e : PlanFail) → IsFirstCycle (afters_of d) None → RefusesBy (refusal_behind d) e → Refuses (AnswersRanks d) e
+behind_refused d NoMemory ranked h = tt
+behind_refused d (Refused r) ranked h = (None, ranked, ap (λ o. answer_to o (plan_of d)) (sym h))
+
+pub answered : (d : Data) (r : Result PlanShape PlanFail) → IsFirstCycle (afters_of d) None → refusal_behind d ≡ None → IfOk r (λ p. p ≡ plan_of d) → IfErr r (λ e. e ≡ NoMemory) → Gives (AnswersRanks d) r
+answered d (Ok p) ranked none made memory = (None, ranked, ap Ok made ∙ ap (λ o. answer_to o (plan_of d)) (sym none))
+answered d (Err e) ranked none made memory = subst (Refuses (AnswersRanks d)) (sym memory) tt
+
+-- ---- the text
+
+pub text_refused : (reading : Result Data PlanRefusal) (e : PlanFail) → document.Refuses e reading → Refuses (ReadsBy reading) e
+text_refused reading NoMemory h = tt
+text_refused reading (Refused r) h = subst (λ x. ReadsBy x (Err r)) (sym h) refl
+
+pub text_read : (reading : Result Data PlanRefusal) (d : Data) (r : Result PlanShape PlanFail) → reading ≡ Ok d → Gives (AnswersBy (refusal_before d) d) r → Gives (ReadsBy reading) r
+text_read reading d r is h = subst (λ x. Gives (ReadsBy x) r) (sym is) h

@@ -1,0 +1,11 @@
+use Rattle.std.proofs.Common.{◌≡◌, ◌++◌, map, ap, sym, subst, ◌∙◌}
+use Rattle.std.proofs.lemmas.List.{append-nil}
+use Rattle.daemon_requirements.specs.Profile.{HasDistinctNames}
+use Rattle.plan_reader.proofs.Pairs.{pair_shown, distinct_names}
+use Rattle.plan_reader.proofs.profiles.pairs_of_table.Goals as goal
+
+pub returns-clause-distinct : goal.returns-clause-distinct
+returns-clause-distinct c =
+    let pairs = c.loop-name.pairs.items in
+    let all : map pair_shown c.args.table.now.entries ≡ pairs = sym c.loop-name.invariant ∙ ap (λ rest. pairs ++ map pair_shown rest) c.in-None.ensures.steps.0 ∙ append-nil pairs in
+    subst HasDistinctNames all (distinct_names c.args.table.now.entries c.into_iter-name-iterator.ensures.into_iter_gives.5)

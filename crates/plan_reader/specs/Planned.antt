@@ -1,0 +1,103 @@
+-- The plan of a document that nothing refuses.
+use Rattle.std.specs.Prelude.{ℕ, ℤ, pos, negsuc, codes, if◌then◌else◌, List, map, Option, None, Some, unwrap_or, option_and_then, slice_get, position}
+use Rattle.std.specs.Str.{bytes_eq}
+use Rattle.toml.specs.Data.{Data, table, no_members}
+use Rattle.item_actions.specs.declared.actions.Action.{Action}
+use Rattle.item_actions.specs.declared.actions.Action.TheVariants.{Lines, Words, Bytes, Longest, Count, Sha256}
+use Rattle.resource_lock.specs.declared.graphs.Retention.{Retention}
+use Rattle.resource_lock.specs.declared.graphs.Retention.TheVariants.{Retain, Release, ReleaseAndReacquire}
+use Rattle.daemon_requirements.specs.declared.fields.Pair.{Pair}
+use Rattle.daemon_requirements.specs.Profile.{Profile}
+use Rattle.plan_table.specs.Forms.{Text, is_needle}
+use Rattle.plan_table.specs.Keys.{tasks_of, requirements_of, name_of, project_of, actions_of, wait_of, fetch_of, items_of, do_of, file_of, needle_of, isolation_of, requirements_name_of, executable_of, heap_of, args_of, properties_of, variables_of, debug_of, assertions_of, encoding_of}
+use Rattle.plan_reader.specs.Plan.{WorkShape, ActionShape, TaskShape, PlanShape}
+use Rattle.plan_reader.specs.Names.{NameLists, names_in, number_of, after_numbers}
+
+-- ---- requirements
+
+abbrev pub pair_of : Text × Text → Pair
+pair_of p = record { name = p.0; value = p.1 }
+
+-- in MB, as it is written
+abbrev pub heap_number : ℤ → ℕ
+heap_number (pos mb) = mb
+heap_number (negsuc n) = 0
+
+abbrev pub profile_of : Data → Profile
+profile_of r = record {
+  executable = executable_of r;
+  heap_mb = heap_number (heap_of r);
+  args = args_of r;
+  properties = map pair_of (properties_of r);
+  variables = map pair_of (variables_of r);
+  debug = debug_of r;
+  assertions = assertions_of r;
+  encoding = encoding_of r;
+}
+
+-- what a table without keys asks for
+abbrev pub default_profile : Profile
+default_profile = profile_of (table no_members)
+
+abbrev pub profiles_of : Data → List Profile
+profiles_of d = map profile_of (requirements_of d)
+
+-- the one of that name, and the default where no name is given
+abbrev pub profile_named : List Text → List Profile → Option Text → Profile
+profile_named names profiles None = default_profile
+profile_named names profiles (Some name) = unwrap_or (option_and_then (slice_get profiles) (position (bytes_eq name) names)) default_profile
+
+-- ---- items
+
+-- what is counted has the form of a needle
+abbrev pub count_of : Text → Action
+count_of needle = if is_needle needle then Count needle else Bytes
+
+abbrev pub action_named : Text → Text → Action
+action_named word needle =
+    if bytes_eq word (codes "lines") then Lines
+    else if bytes_eq word (codes "words") then Words
+    else if bytes_eq word (codes "bytes") then Bytes
+    else if bytes_eq word (codes "longest") then Longest
+    else if bytes_eq word (codes "count") then count_of needle
+    else Sha256
+
+abbrev pub process_of : NameLists → List Profile → Data → Option Profile
+process_of names profiles item = if bytes_eq (isolation_of item) (codes "process") then Some (profile_named names.requirements profiles (requirements_name_of item)) else None
+
+abbrev pub work_of : NameLists → List Profile → Data → WorkShape
+work_of names profiles item = record {
+  action = action_named (do_of item) (needle_of item);
+  file = file_of item;
+  process = process_of names profiles item;
+}
+
+-- ---- actions and tasks
+
+abbrev pub retention_named : Text → Retention
+retention_named word =
+    if bytes_eq word (codes "retain") then Retain
+    else if bytes_eq word (codes "release") then Release
+    else ReleaseAndReacquire
+
+abbrev pub action_of : NameLists → List Profile → Data → ActionShape
+action_of names profiles action = record {
+  fetch = fetch_of action;
+  retention = retention_named (wait_of action);
+  items = map (work_of names profiles) (items_of action);
+}
+
+abbrev pub task_of : NameLists → List Profile → Data → TaskShape
+task_of names profiles t = record {
+  name = name_of t;
+  project = number_of names.projects (project_of t);
+  after = after_numbers names.tasks t;
+  actions = map (action_of names profiles) (actions_of t);
+}
+
+abbrev pub plan_of : Data → PlanShape
+plan_of d = record {
+  projects = (names_in d).projects;
+  tasks = map (task_of (names_in d) (profiles_of d)) (tasks_of d);
+  requirements = profiles_of d;
+}

@@ -1,0 +1,45 @@
+//! What the parts of a plan refer to.
+ghost use Rattle.std.specs.Prelude.{◌≡◌, None, IfOk, option_map, option_and_then, slice_get, position};
+ghost use Rattle.std.specs.Str.{bytes_eq};
+ghost use Rattle.plan_reader.specs.Names.{texts};
+ghost use Rattle.plan_reader.specs.Planned.{default_profile, profile_named};
+
+use crate::names::{Names, position_of};
+use daemon_requirements::Requirements;
+use std::alloc::{AllocError, Global};
+
+/// The names of a plan, and its requirements by number.
+#[derive(Drop)]
+pub(crate) struct Known<'a> {
+    pub names: &'a Names<'a>,
+    pub profiles: &'a [Requirements],
+    /// What an item asks for that names no requirements.
+    pub default: &'a Requirements,
+}
+
+impl Known<'_> {
+    fn profile(&self, name: &str) -> Option<&Requirements>
+        ensures { option_map (λ p. p.now) result ≡ option_and_then (slice_get self.now.profiles.now) (position (bytes_eq name.now) (texts self.now.names.now.requirements.keys)) }
+    {
+        match position_of(&self.names.requirements, name) {
+            Some(number) => self.profiles.get(number),
+            None => None,
+        }
+    }
+
+    /// A copy of the requirements of this name, and of the default where there is none.
+    pub(crate) fn copy_of(
+        &self,
+        alloc: Global,
+        name: Option<&str>,
+    ) -> Result<Requirements, AllocError>
+        requires { self.now.default.now ≡ default_profile }
+        ensures { IfOk result (λ p. p ≡ profile_named (texts self.now.names.now.requirements.keys) self.now.profiles.now (option_map (λ s. s.now) name.entry)) }
+    {
+        let named = match name {
+            Some(name) => self.profile(name),
+            None => None,
+        };
+        named.unwrap_or(self.default).copy(alloc)
+    }
+}

@@ -1,0 +1,174 @@
+//! The limits of a plan.
+ghost use Rattle.std.specs.Prelude.{string_bytes, ◌≡◌, nat_lt, [], map, length};
+ghost use Rattle.std.specs.Option.{option_map_or};
+ghost use Rattle.std.specs.List.{sum_by};
+ghost use Rattle.toml.specs.View.{view};
+ghost use Rattle.plan_table.specs.Forms.{Text};
+ghost use Rattle.plan_table.specs.Values.{text_of};
+ghost use Rattle.plan_table.specs.Keys.{projects_of, tasks_of, requirements_of, actions_of, items_of, after_of, args_of};
+ghost use Rattle.plan_reader.specs.Rooms.{IsLeft};
+ghost use Rattle.plan_reader.specs.Rows.{unit_count, task_unit_count, plan_unit_count, excess_of_plan, excess_of_task, has_few_lists, excess_of_requirements, excess};
+
+use plan_table::{
+    Part, Which, actions_of, after_of, args_of, fetch_of, items_of, projects_of, properties_of,
+    requirements_of, tasks_of, variables_of,
+};
+use toml::{Table, Value};
+
+const MOST_PROJECTS: usize = 512;
+
+const MOST_TASKS: usize = 2_048;
+
+const MOST_UNITS: usize = 8_192;
+
+const MOST_REQUIREMENTS: usize = 256;
+
+/// Of one task.
+const MOST_ACTIONS: usize = 8;
+
+/// Of one task, as they are written.
+const MOST_AFTER: usize = 64;
+
+/// The most arguments, properties or variables of one requirements table.
+const MOST_LISTED: usize = 64;
+
+fn project_count(document: &Value) -> usize
+    ensures { result ≡ length (projects_of (view document.now)) }
+{
+    projects_of(document).len()
+}
+
+fn task_count(document: &Value) -> usize
+    ensures { result ≡ length (tasks_of (view document.now)) }
+{
+    tasks_of(document).len()
+}
+
+fn requirements_count(document: &Value) -> usize
+    ensures { result ≡ length (requirements_of (view document.now)) }
+{
+    requirements_of(document).len()
+}
+
+fn action_count(task: &Value) -> usize
+    ensures { result ≡ length (actions_of (view task.now)) }
+{
+    actions_of(task).len()
+}
+
+fn after_count(task: &Value) -> usize
+    ensures { result ≡ length (after_of (view task.now)) }
+{
+    after_of(task).len()
+}
+
+fn args_count(requirements: &Value) -> usize
+    ensures { result ≡ length (args_of (view requirements.now)) }
+{
+    args_of(requirements).len()
+}
+
+fn unit_count(action: &Value) -> usize
+    ensures { result ≡ unit_count (view action.now) }
+{
+    items_of(action).len() + usize::from(fetch_of(action).is_some())
+}
+
+/// What is left of the room after the units of the actions, if it holds them.
+fn room_after_actions(mut room: usize, actions: &[Value]) -> Option<usize>
+    ensures { IsLeft room (sum_by (λ v. unit_count (view v)) actions.now) result }
+{
+    for action in actions {
+        room = room.checked_sub(unit_count(action))?;
+    }
+    Some(room)
+}
+
+fn room_after_task(room: usize, task: &Value) -> Option<usize>
+    ensures { IsLeft room (task_unit_count (view task.now)) result }
+{
+    room_after_actions(room, actions_of(task))
+}
+
+/// What is left of the room after the units of the tasks, if it holds them.
+fn room_after_tasks(mut room: usize, tasks: &[Value]) -> Option<usize>
+    ensures { IsLeft room (sum_by (λ v. task_unit_count (view v)) tasks.now) result }
+{
+    for task in tasks {
+        room = room_after_task(room, task)?;
+    }
+    Some(room)
+}
+
+fn has_many_units(document: &Value) -> bool
+    ensures { result ≡ nat_lt 8192 (plan_unit_count (view document.now)) }
+{
+    room_after_tasks(MOST_UNITS, tasks_of(document)).is_none()
+}
+
+fn excess_of_plan(document: &Value) -> Option<Which>
+    ensures { result ≡ excess_of_plan (view document.now) }
+{
+    if project_count(document) > MOST_PROJECTS {
+        Some(Which::Projects)
+    } else if task_count(document) > MOST_TASKS {
+        Some(Which::Tasks)
+    } else if has_many_units(document) {
+        Some(Which::Units)
+    } else if requirements_count(document) > MOST_REQUIREMENTS {
+        Some(Which::Requirements)
+    } else {
+        None
+    }
+}
+
+fn excess_of_task(task: &Value) -> Option<Which>
+    ensures { result ≡ excess_of_task (view task.now) }
+{
+    if action_count(task) > MOST_ACTIONS {
+        Some(Which::Actions)
+    } else if after_count(task) > MOST_AFTER {
+        Some(Which::After)
+    } else {
+        None
+    }
+}
+
+fn pair_count(pairs: Option<&Table>) -> usize
+    ensures { result ≡ length {A = Text × Text} (option_map_or (λ m. map (λ e. (string_bytes e.0, text_of (view e.1))) m.now.entries) pairs.entry []) }
+{
+    match pairs {
+        Some(pairs) => pairs.len(),
+        None => 0,
+    }
+}
+
+fn has_few_lists(requirements: &Value) -> bool
+    ensures { result ≡ has_few_lists (view requirements.now) }
+{
+    args_count(requirements) <= MOST_LISTED
+        && pair_count(properties_of(requirements)) <= MOST_LISTED
+        && pair_count(variables_of(requirements)) <= MOST_LISTED
+}
+
+fn excess_of_requirements(requirements: &Value) -> Option<Which>
+    ensures { result ≡ excess_of_requirements (view requirements.now) }
+{
+    if has_few_lists(requirements) {
+        None
+    } else {
+        Some(Which::Lists)
+    }
+}
+
+/// What a table of this part has too much of. Of several, the one that stands first in `Which`.
+pub(crate) fn excess(part: Part, table: &Value) -> Option<Which>
+    ensures { result ≡ excess part (view table.now) }
+{
+    match part {
+        Part::Plan => excess_of_plan(table),
+        Part::Project => None,
+        Part::Task => excess_of_task(table),
+        Part::Requirements => excess_of_requirements(table),
+    }
+}

@@ -1,0 +1,149 @@
+//! The tests of a plan that look at more than one key.
+ghost use Rattle.std.specs.Prelude.{◌≡◌, not, map, false, nat_lt, is_some, length};
+ghost use Rattle.std.specs.List.{list_any, sum_by};
+ghost use Rattle.toml.specs.View.{view};
+ghost use Rattle.plan_table.specs.Keys.{actions_of, items_of};
+ghost use Rattle.plan_table.specs.Values.{text_of};
+ghost use Rattle.plan_reader.specs.Names.{texts, has_name, name_lists};
+ghost use Rattle.plan_reader.specs.Rows.{lacks_project, lacks_task, releases, releases_early, has_item, item_fails, asks_unknown, is_class_loader, is_heap, holds};
+
+use crate::limits::excess;
+use crate::names::{Names, has_name};
+use indexmap::IndexSet;
+use plan_table::{
+    Part, actions_of, after_of, heap_of, isolation_of, items_of, project_of, requirements_name_of,
+    text_of, wait_of,
+};
+use toml::Value;
+
+/// A row of the tests, in their order. Cycle stands behind NoSuchTask.
+#[derive(Clone, Copy, Debug, PartialEq, Eq)]
+pub(crate) enum Row {
+    NoSuchProject,
+    NoSuchTask,
+    ReleaseNotLast,
+    ClassLoader,
+    TooMany,
+    BadRequirements,
+}
+
+fn lacks_project(names: &IndexSet<&str>, task: &Value) -> bool
+    ensures { result ≡ lacks_project (texts names.now.keys) (view task.now) }
+{
+    !has_name(names, project_of(task))
+}
+
+fn lacks_any(names: &IndexSet<&str>, values: &[Value]) -> bool
+    ensures { result ≡ list_any (λ v. not (has_name (texts names.now.keys) (text_of (view v)))) values.now }
+{
+    values.iter().any(|value| !has_name(names, text_of(value)))
+}
+
+fn lacks_task(names: &IndexSet<&str>, task: &Value) -> bool
+    ensures { result ≡ lacks_task (texts names.now.keys) (view task.now) }
+{
+    lacks_any(names, after_of(task))
+}
+
+fn releases(action: &Value) -> bool
+    ensures { result ≡ releases (view action.now) }
+{
+    wait_of(action) == "release"
+}
+
+fn any_releases(actions: &[Value]) -> bool
+    ensures { result ≡ list_any (λ v. releases (view v)) actions.now }
+{
+    actions.iter().any(|action| releases(action))
+}
+
+/// Whether an action that isn't the last releases the project lock.
+fn releases_early(actions: &[Value]) -> bool
+    ensures { result ≡ releases_early (map view actions.now) }
+{
+    any_releases(&actions[..actions.len().saturating_sub(1)])
+}
+
+fn task_releases_early(task: &Value) -> bool
+    ensures { result ≡ releases_early (actions_of (view task.now)) }
+{
+    releases_early(actions_of(task))
+}
+
+/// Whether an item asks for requirements that aren't there.
+fn asks_unknown(names: &IndexSet<&str>, item: &Value) -> bool
+    ensures { result ≡ asks_unknown (texts names.now.keys) (view item.now) }
+{
+    match requirements_name_of(item) {
+        Some(name) => !has_name(names, name),
+        None => false,
+    }
+}
+
+fn item_fails(row: Row, names: &IndexSet<&str>, item: &Value) -> bool
+    ensures { result ≡ item_fails row (texts names.now.keys) (view item.now) }
+{
+    match row {
+        Row::ClassLoader => isolation_of(item) == "classloader",
+        Row::BadRequirements => asks_unknown(names, item),
+        _ => false,
+    }
+}
+
+fn any_item_fails(row: Row, names: &IndexSet<&str>, items: &[Value]) -> bool
+    ensures { result ≡ list_any (λ v. item_fails row (texts names.now.keys) (view v)) items.now }
+{
+    items.iter().any(|item| item_fails(row, names, item))
+}
+
+fn action_fails(row: Row, names: &IndexSet<&str>, action: &Value) -> bool
+    ensures { result ≡ list_any (item_fails row (texts names.now.keys)) (items_of (view action.now)) }
+{
+    any_item_fails(row, names, items_of(action))
+}
+
+fn any_action_fails(row: Row, names: &IndexSet<&str>, actions: &[Value]) -> bool
+    ensures { result ≡ list_any (λ v. list_any (item_fails row (texts names.now.keys)) (items_of (view v))) actions.now }
+{
+    actions
+        .iter()
+        .any(|action| action_fails(row, names, action))
+}
+
+fn has_failing_item(row: Row, names: &IndexSet<&str>, task: &Value) -> bool
+    ensures { result ≡ has_item (item_fails row (texts names.now.keys)) (view task.now) }
+{
+    any_action_fails(row, names, actions_of(task))
+}
+
+fn is_heap(mb: i64) -> bool
+    ensures { result ≡ is_heap mb }
+{
+    (1..=65_536).contains(&mb)
+}
+
+fn holds_of_task(row: Row, names: &Names, task: &Value) -> bool
+    ensures { result ≡ holds (name_lists names.now) row Part.Task (view task.now) }
+{
+    match row {
+        Row::NoSuchProject => lacks_project(&names.projects, task),
+        Row::NoSuchTask => lacks_task(&names.tasks, task),
+        Row::ReleaseNotLast => task_releases_early(task),
+        Row::ClassLoader | Row::BadRequirements => {
+            has_failing_item(row, &names.requirements, task)
+        }
+        Row::TooMany => excess(Part::Task, task).is_some(),
+    }
+}
+
+/// Whether the test of a row holds of a table of this part.
+pub(crate) fn holds(row: Row, names: &Names, part: Part, table: &Value) -> bool
+    ensures { result ≡ holds (name_lists names.now) row part (view table.now) }
+{
+    match (row, part) {
+        (_, Part::Task) => holds_of_task(row, names, table),
+        (Row::TooMany, _) => excess(part, table).is_some(),
+        (Row::BadRequirements, Part::Requirements) => !is_heap(heap_of(table)),
+        _ => false,
+    }
+}

@@ -1,0 +1,4 @@
+pub mod Lists
+pub mod DocumentLaws
+pub mod FirstLaws
+pub mod FormedLaws

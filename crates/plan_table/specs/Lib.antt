@@ -1,0 +1,9 @@
+pub mod Forms
+pub mod Values
+pub mod Keys
+pub mod Document
+pub mod Rules
+pub mod Tables
+pub mod Search
+pub mod First
+pub mod Formed

@@ -1,0 +1,61 @@
+-- The first test of a plan's tables that holds: the first of the tests, at its first place.
+use Rattle.std.specs.Prelude.{Bool, ◌||◌, List, [], ◌∷◌, Option, None, option_map}
+use Rattle.std.specs.Option.{option_or}
+use Rattle.std.specs.List.{list_any, position}
+use Rattle.toml.specs.Data.{Data}
+use Rattle.plan_table.specs.declared.rules.TableKind.TheVariants as kind
+use Rattle.plan_table.specs.declared.tables.TableTest.{TableTest}
+use Rattle.plan_table.specs.declared.tables.TableTest.TheVariants.{UnknownKey, WrongType, Missing, BadName}
+use Rattle.plan_table.specs.declared.refusals.Part.{Part}
+use Rattle.plan_table.specs.declared.refusals.Part.TheVariants.{Plan, Project, Task, Requirements}
+use Rattle.plan_table.specs.declared.refusals.Place.{Place}
+use Rattle.plan_table.specs.declared.refusals.PlanRefusal.{PlanRefusal}
+use Rattle.plan_table.specs.declared.refusals.PlanRefusal.TheVariants as refusal
+use Rattle.plan_table.specs.Keys.{projects_of, tasks_of, requirements_of, actions_of, items_of}
+use Rattle.plan_table.specs.Tables.{holds}
+
+-- ---- a test at one place
+
+abbrev pub holds_in_action : TableTest → Data → Bool
+holds_in_action t d = holds t kind.Action d || list_any (holds t kind.Item) (items_of d)
+
+-- what stands in an action or an item holds at its task
+abbrev pub holds_at : TableTest → Part → Data → Bool
+holds_at t Plan d = holds t kind.Document d
+holds_at t Project d = holds t kind.Project d
+holds_at t Task d = holds t kind.Task d || list_any (holds_in_action t) (actions_of d)
+holds_at t Requirements d = holds t kind.Requirements d
+
+-- ---- the search
+
+-- the first answer that a list gives
+abbrev pub first_of : {X Y : Type 0} → (X → Option Y) → List X → Option Y
+first_of f [] = None
+first_of f (x ∷ xs) = option_or (f x) (first_of f xs)
+
+abbrev pub places : Data → Part → List Data
+places d Plan = d ∷ []
+places d Project = projects_of d
+places d Task = tasks_of d
+places d Requirements = requirements_of d
+
+abbrev pub parts : List Part
+parts = Plan ∷ Project ∷ Task ∷ Requirements ∷ []
+
+abbrev pub first_in : TableTest → Part → List Data → Option Place
+first_in t p ds = option_map (λ i. record { part = p; number = i }) (position (holds_at t p) ds)
+
+abbrev pub first_place : TableTest → Data → Option Place
+first_place t d = first_of (λ p. first_in t p (places d p)) parts
+
+abbrev pub tests : List TableTest
+tests = UnknownKey ∷ WrongType ∷ Missing ∷ BadName ∷ []
+
+abbrev pub refusal_of : TableTest → Place → PlanRefusal
+refusal_of UnknownKey p = refusal.UnknownKey p
+refusal_of WrongType p = refusal.WrongType p
+refusal_of Missing p = refusal.Missing p
+refusal_of BadName p = refusal.BadName p
+
+abbrev pub table_refusal : Data → Option PlanRefusal
+table_refusal d = first_of (λ t. option_map (refusal_of t) (first_place t d)) tests

@@ -1,0 +1,62 @@
+//! The TOML document of a plan.
+ghost use Rattle.std.specs.Prelude.{◌≡◌, true, map, Some, None, Ok, Err, IfOk, IfErr};
+ghost use Rattle.toml.specs.View.{view};
+ghost use Rattle.plan_table.specs.declared.refusals.PlanRefusal.TheVariants.{NotToml};
+ghost use Rattle.plan_table.specs.Document.{document_of, document_or_not_toml, document_reading, Refuses, ReadsDocument, have_numbers, is_numbered};
+
+use crate::keys::{projects_of, requirements_of, tasks_of};
+use crate::refusals::{PlanFail, PlanRefusal};
+use std::alloc::Global;
+use toml::Value;
+
+/// The most bytes of a plan.
+const MOST_BYTES: usize = 4_194_304;
+
+fn parse_document(alloc: Global, bytes: &[u8]) -> Result<Value, PlanFail>
+    ensures { ReadsDocument result (document_or_not_toml (document_of bytes.now)) }
+{
+    match toml::table_from_slice(alloc, bytes) {
+        Ok(table) => Ok(Value::Table(table)),
+        Err(error) => {
+            if error.is_memory() {
+                Err(PlanFail::NoMemory)
+            } else {
+                Err(PlanFail::Refused(PlanRefusal::NotToml))
+            }
+        }
+    }
+}
+
+#[tactic(auto, using(crate::proofs::Lists::length_of_view))]
+fn have_numbers(values: &[Value]) -> bool
+    ensures { result ≡ have_numbers (map view values.now) }
+{
+    values.len() <= u32::MAX as usize
+}
+
+fn is_numbered(document: &Value) -> bool
+    ensures { result ≡ is_numbered (view document.now) }
+{
+    have_numbers(projects_of(document))
+        && have_numbers(tasks_of(document))
+        && have_numbers(requirements_of(document))
+}
+
+/// The document that a text is, as a table. TooLong comes exactly where the text has more than 4,194,304 bytes,
+/// and NotToml exactly where it has no more and `toml` reads no document in it. NoMemory says nothing of the text.
+///
+/// A document that is read has less than 2^32 projects, tasks and requirements each, so that each has a number: one
+/// that had more would be answered with NoMemory.
+pub fn read_document(alloc: Global, bytes: &[u8]) -> Result<Value, PlanFail>
+    ensures document { ReadsDocument result (document_reading bytes.now) }
+    ensures numbered { IfOk result (λ v. is_numbered (view v) ≡ true) }
+{
+    if bytes.len() > MOST_BYTES {
+        return Err(PlanFail::Refused(PlanRefusal::TooLong));
+    }
+    let document = parse_document(alloc, bytes)?;
+    if !is_numbered(&document) {
+        return Err(PlanFail::NoMemory);
+    }
+    Ok(document)
+}

@@ -1,0 +1,84 @@
+//! The forms of the texts of a plan.
+ghost use Rattle.std.specs.Prelude.{◌≡◌, not};
+ghost use Rattle.std.specs.List.{list_any, list_all};
+ghost use Rattle.plan_table.specs.Forms.{is_letter_or_digit, is_joining, is_name_byte, has_length, has_byte, is_name, is_needle, is_executable, is_encoding, is_value, is_key};
+
+fn is_letter_or_digit(b: u8) -> bool
+    ensures { result ≡ is_letter_or_digit b }
+{
+    matches!(b, b'a'..=b'z' | b'A'..=b'Z' | b'0'..=b'9')
+}
+
+fn is_joining(b: u8) -> bool
+    ensures { result ≡ is_joining b }
+{
+    matches!(b, b'_' | b'-' | b'.')
+}
+
+fn is_name_byte(b: u8) -> bool
+    ensures { result ≡ is_name_byte b }
+{
+    is_letter_or_digit(b) || is_joining(b) || b == b':'
+}
+
+fn are_name_bytes(bytes: &[u8]) -> bool
+    ensures { result ≡ list_all is_name_byte bytes.now }
+{
+    bytes.iter().all(|b| is_name_byte(*b))
+}
+
+fn has_length(bytes: &[u8], least: usize, most: usize) -> bool
+    ensures { result ≡ has_length least most bytes.now }
+{
+    least <= bytes.len() && bytes.len() <= most
+}
+
+fn has_byte(bytes: &[u8], b: u8) -> bool
+    ensures { result ≡ has_byte b bytes.now }
+{
+    bytes.iter().any(|c| *c == b)
+}
+
+/// Whether the bytes have the form of a name: 1 to 64 bytes, each an ASCII letter, a digit, `_`, `-`,
+/// `.` or `:`.
+pub fn is_name(bytes: &[u8]) -> bool
+    ensures { result ≡ is_name bytes.now }
+{
+    has_length(bytes, 1, 64) && are_name_bytes(bytes)
+}
+
+/// Whether the bytes have the form of a needle: 1 to 64 bytes, a zero byte among them or not.
+pub fn is_needle(bytes: &[u8]) -> bool
+    ensures { result ≡ is_needle bytes.now }
+{
+    has_length(bytes, 1, 64)
+}
+
+/// Whether the bytes have the form of an executable: 1 to 255 bytes, none of them zero.
+pub fn is_executable(bytes: &[u8]) -> bool
+    ensures { result ≡ is_executable bytes.now }
+{
+    has_length(bytes, 1, 255) && !has_byte(bytes, 0)
+}
+
+/// Whether the bytes have the form of an encoding: 1 to 64 bytes, none of them zero.
+pub fn is_encoding(bytes: &[u8]) -> bool
+    ensures { result ≡ is_encoding bytes.now }
+{
+    has_length(bytes, 1, 64) && !has_byte(bytes, 0)
+}
+
+/// Whether the bytes have the form of an argument, or of the value of a property or variable: 0 to 255 bytes,
+/// none of them zero.
+pub fn is_value(bytes: &[u8]) -> bool
+    ensures { result ≡ is_value bytes.now }
+{
+    has_length(bytes, 0, 255) && !has_byte(bytes, 0)
+}
+
+/// Whether the bytes have the form of a property's or variable's name: 1 to 255 bytes, none of them zero or `=`.
+pub fn is_key(bytes: &[u8]) -> bool
+    ensures { result ≡ is_key bytes.now }
+{
+    has_length(bytes, 1, 255) && !has_byte(bytes, 0) && !has_byte(bytes, b'=')
+}

@@ -1,0 +1,29 @@
+//! The table of a plan: its TOML document, what stands under each key, and the refusals that each table gives by
+//! itself.
+#![tactic(auto)]
+
+mod document;
+mod forms;
+mod keys;
+mod laws;
+mod refusals;
+mod rules;
+mod search;
+mod tables;
+mod values;
+
+pub use document::read_document;
+pub use forms::{is_encoding, is_executable, is_key, is_name, is_needle, is_value};
+pub use keys::{
+    actions_of, after_of, args_of, assertions_of, debug_of, do_of, encoding_of, executable_of,
+    fetch_of, file_of, heap_of, isolation_of, items_of, name_of, needle_of, project_of,
+    projects_of, properties_of, requirements_name_of, requirements_of, tasks_of, variables_of,
+    wait_of,
+};
+pub use laws::{the_first_refusal_is_told, what_is_not_refused_is_formed};
+pub use refusals::{Part, Place, PlanFail, PlanRefusal, Which};
+pub use search::table_refusal;
+pub use values::text_of;
+
+#[cfg(test)]
+mod tests;

@@ -1,0 +1,186 @@
+//! The tests of one table.
+ghost use Rattle.std.specs.Prelude.{◌≡◌, ◌==◌, length, not, map, string_bytes};
+ghost use Rattle.std.specs.BTreeMap.{keys};
+ghost use Rattle.std.specs.List.{list_any};
+ghost use Rattle.std.specs.Str.{bytes_eq};
+ghost use Rattle.toml.specs.View.{view};
+ghost use Rattle.plan_table.specs.Keys.{items_of};
+ghost use Rattle.plan_table.specs.Rules.{rule_of, rules};
+ghost use Rattle.plan_table.specs.Tables.{has_rule, has_other_key, counts, asks_for_process, has_idle_key, unknown_key, is_mistyped, wrong_type, is_lacking, lacks_more, missing, is_misformed, bad_name, holds};
+
+use crate::keys::{do_of, isolation_of, items_of};
+use crate::rules::{KeyRule, TableKind, has_form, has_type, rules_of};
+use toml::{Table, Value};
+
+/// A test of a table.
+#[derive(Clone, Copy)]
+pub(crate) enum TableTest {
+    UnknownKey,
+    WrongType,
+    Missing,
+    BadName,
+}
+
+fn is_key_of_rule(rules: &[KeyRule], key: &str) -> bool
+    ensures { result ≡ list_any (λ r. bytes_eq r.key.now key.now) rules.now }
+{
+    rules.iter().any(|rule| rule.key == key)
+}
+
+#[tactic(auto, using(crate::proofs::Lists::any_of_map))]
+fn has_rule(rules: &[KeyRule], key: &str) -> bool
+    ensures { result ≡ has_rule (map rule_of rules.now) key.now }
+{
+    is_key_of_rule(rules, key)
+}
+
+fn has_key_without_rule(table: &Table, rules: &[KeyRule]) -> bool
+    ensures { result ≡ list_any (λ k. not (has_rule (map rule_of rules.now) (string_bytes k))) (keys table.now) }
+{
+    table.keys().any(|key| !has_rule(rules, key.as_str()))
+}
+
+#[tactic(auto, using(crate::proofs::Lists::other_key_of_table))]
+fn has_other_key(table: &Value, rules: &[KeyRule]) -> bool
+    ensures { result ≡ has_other_key (map rule_of rules.now) (view table.now) }
+{
+    match table {
+        Value::Table(table) => has_key_without_rule(table, rules),
+        _ => false,
+    }
+}
+
+fn has_unknown_key(kind: TableKind, table: &Value) -> bool
+    ensures { result ≡ has_other_key (rules kind) (view table.now) }
+{
+    has_other_key(table, rules_of(kind))
+}
+
+fn counts(item: &Value) -> bool
+    ensures { result ≡ counts (view item.now) }
+{
+    do_of(item) == "count"
+}
+
+fn asks_for_process(item: &Value) -> bool
+    ensures { result ≡ asks_for_process (view item.now) }
+{
+    isolation_of(item) == "process"
+}
+
+fn has_idle_key(item: &Value) -> bool
+    ensures { result ≡ has_idle_key (view item.now) }
+{
+    item.get("needle").is_some() && !counts(item)
+        || item.get("requirements").is_some() && !asks_for_process(item)
+}
+
+fn unknown_key(kind: TableKind, table: &Value) -> bool
+    ensures { result ≡ unknown_key kind (view table.now) }
+{
+    match kind {
+        TableKind::Item => has_unknown_key(kind, table) || has_idle_key(table),
+        _ => has_unknown_key(kind, table),
+    }
+}
+
+fn is_mistyped(table: &Value, rule: &KeyRule) -> bool
+    ensures { result ≡ is_mistyped (view table.now) (rule_of rule.now) }
+{
+    match table.get(rule.key) {
+        Some(value) => !has_type(rule.form, value),
+        None => false,
+    }
+}
+
+fn any_mistyped(table: &Value, rules: &[KeyRule]) -> bool
+    ensures { result ≡ list_any (λ r. is_mistyped (view table.now) (rule_of r)) rules.now }
+{
+    rules.iter().any(|rule| is_mistyped(table, rule))
+}
+
+fn has_mistyped(kind: TableKind, table: &Value) -> bool
+    ensures { result ≡ list_any (is_mistyped (view table.now)) (rules kind) }
+{
+    any_mistyped(table, rules_of(kind))
+}
+
+fn wrong_type(kind: TableKind, table: &Value) -> bool
+    ensures { result ≡ wrong_type kind (view table.now) }
+{
+    !table.is_table() || has_mistyped(kind, table)
+}
+
+fn is_lacking(table: &Value, rule: &KeyRule) -> bool
+    ensures { result ≡ is_lacking (view table.now) (rule_of rule.now) }
+{
+    rule.is_required && table.get(rule.key).is_none()
+}
+
+fn any_lacking(table: &Value, rules: &[KeyRule]) -> bool
+    ensures { result ≡ list_any (λ r. is_lacking (view table.now) (rule_of r)) rules.now }
+{
+    rules.iter().any(|rule| is_lacking(table, rule))
+}
+
+fn lacks_required(kind: TableKind, table: &Value) -> bool
+    ensures { result ≡ list_any (is_lacking (view table.now)) (rules kind) }
+{
+    any_lacking(table, rules_of(kind))
+}
+
+#[tactic(auto, using(crate::proofs::Lists::length_of_view))]
+fn has_no_items(action: &Value) -> bool
+    ensures { result ≡ (length (items_of (view action.now)) == 0) }
+{
+    items_of(action).is_empty()
+}
+
+fn lacks_more(kind: TableKind, table: &Value) -> bool
+    ensures { result ≡ lacks_more kind (view table.now) }
+{
+    match kind {
+        TableKind::Action => has_no_items(table),
+        TableKind::Item => counts(table) && table.get("needle").is_none(),
+        _ => false,
+    }
+}
+
+fn missing(kind: TableKind, table: &Value) -> bool
+    ensures { result ≡ missing kind (view table.now) }
+{
+    lacks_required(kind, table) || lacks_more(kind, table)
+}
+
+fn is_misformed(table: &Value, rule: &KeyRule) -> bool
+    ensures { result ≡ is_misformed (view table.now) (rule_of rule.now) }
+{
+    match table.get(rule.key) {
+        Some(value) => !has_form(rule.form, value),
+        None => false,
+    }
+}
+
+fn any_misformed(table: &Value, rules: &[KeyRule]) -> bool
+    ensures { result ≡ list_any (λ r. is_misformed (view table.now) (rule_of r)) rules.now }
+{
+    rules.iter().any(|rule| is_misformed(table, rule))
+}
+
+fn bad_name(kind: TableKind, table: &Value) -> bool
+    ensures { result ≡ bad_name kind (view table.now) }
+{
+    any_misformed(table, rules_of(kind))
+}
+
+/// Whether the test holds of the table, or of another value that stands where it should.
+pub(crate) fn holds(test: TableTest, kind: TableKind, table: &Value) -> bool
+    ensures { result ≡ holds test kind (view table.now) }
+{
+    match test {
+        TableTest::UnknownKey => unknown_key(kind, table),
+        TableTest::WrongType => wrong_type(kind, table),
+        TableTest::Missing => missing(kind, table),
+        TableTest::BadName => bad_name(kind, table),
+    }
+}

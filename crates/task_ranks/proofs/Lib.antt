@@ -1,0 +1,7 @@
+pub mod First
+pub mod Marking
+pub mod Ordering
+pub mod Popping
+pub mod Ranges
+pub mod Telling
+pub mod UserLists

@@ -1,0 +1,4 @@
+pub mod Rank
+pub mod Numbering
+pub mod Search
+pub mod Users

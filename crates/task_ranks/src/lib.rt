@@ -1,0 +1,26 @@
+//! Ranks of tasks: a task has one where each task that it comes after has one, so none on a cycle has.
+#![tactic(auto)]
+
+ghost use Rattle.std.specs.Prelude.{None, Option, ◌≡◌, ℕ};
+ghost use Rattle.task_ranks.specs.Numbering.{IsNumbering};
+ghost use Rattle.task_ranks.specs.Rank.{Dependencies, InRange, IsFirstCycle};
+
+mod cycles;
+mod users;
+mod waiting;
+
+pub use cycles::first_cycle;
+pub use users::{users_at, users_of};
+
+/// There is one first task without a rank at most.
+pub fn first_cycle_is_unique()
+    ensures { (d : Dependencies) (a b : Option ℕ) → IsFirstCycle d a → IsFirstCycle d b → a ≡ b }
+{}
+
+/// Where each task has a rank, the tasks can be numbered so that each stands behind those that it comes after.
+pub fn ranks_give_a_numbering()
+    ensures { (d : Dependencies) → InRange d → IsFirstCycle d None → (number : ℕ → ℕ) × IsNumbering d number }
+{}
+
+#[cfg(test)]
+mod tests;
