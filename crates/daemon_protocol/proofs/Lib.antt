@@ -2,7 +2,8 @@ mod Fronts
 mod Names
 mod OneReading
 mod Readings
-mod Settled
+pub mod Settled
+mod Sizes
 mod Spelled
 mod Starting
 mod Unspelled

@@ -10,7 +10,7 @@ use Rattle.daemon_protocol.specs.declared.starts.Flaw.TheVariants.{Length, Tag}
 use Rattle.daemon_protocol.specs.Bodies.{frame_of}
 use Rattle.daemon_protocol.specs.Start.{look, look_length, look_body, look_field, Cuts, nothing, first}
 
-enough : (a n : ℕ) → ltb a n ≡ false → n ≤ a
+pub enough : (a n : ℕ) → ltb a n ≡ false → n ≤ a
 enough a n p = grind (arith, nat_tests)
 
 not_less : (a n : ℕ) → n ≤ a → ltb a n ≡ false
@@ -61,7 +61,7 @@ fits_field : (n m : ℕ) (o : Option Frame) (f : Frame) → look_field n o ≡ W
 fits_field n m None f h = cc
 fits_field n m (Some g) f h = cc
 
-fits_body : (tag n m : ℕ) (body : List ℕ) (f : Frame) → look_body tag n body ≡ Whole f m → (m ≡ 5 + n) × (n ≤ length body)
+pub fits_body : (tag n m : ℕ) (body : List ℕ) (f : Frame) → look_body tag n body ≡ Whole f m → (m ≡ 5 + n) × (n ≤ length body)
 fits_body tag n m body f =
     let X = look_field n (frame_of tag (take n body)) in
     let A = cond (ltb (length body) n) Unfinished X in

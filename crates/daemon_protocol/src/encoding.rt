@@ -6,7 +6,7 @@ use item_actions::{Action, Outcome};
 use std::alloc::{AllocError, Global};
 
 /// How many bytes come before a frame's body: its tag, and the body's length.
-const HEAD: usize = 5;
+pub(crate) const HEAD: usize = 5;
 
 /// The bytes of a frame. A request's file has the form of a file's name, and a reply's outcome isn't Skipped.
 pub fn encode(alloc: Global, frame: &Frame) -> Result<Vec<u8>, AllocError>

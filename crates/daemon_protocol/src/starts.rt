@@ -1,8 +1,11 @@
-ghost use Rattle.std.specs.Prelude.{◌≡◌, ◌≤◌, length, IfOk};
+ghost use Rattle.std.specs.Prelude.{◌≡◌, ◌<◌, ◌≤◌, ◌+◌, ◌++◌, ℕ, List, length, IfOk};
 ghost use Rattle.std.specs.Int.{w32, from_be_bytes};
 ghost use Rattle.daemon_protocol.specs.Start.{look, look_tag, look_length, look_body, look_field};
+ghost use Rattle.daemon_protocol.specs.declared.frames.Frame.{Frame};
+ghost use Rattle.daemon_protocol.specs.declared.starts.Start.TheVariants.{Unfinished, Whole};
 
 use crate::bodies::{frame_of, number_of};
+use crate::encoding::HEAD;
 use crate::frames::Frame;
 use std::alloc::{AllocError, Global};
 
@@ -10,15 +13,18 @@ use std::alloc::{AllocError, Global};
 const MOST_BYTES: usize = 65_536;
 
 /// What is wrong with bytes that begin no frame.
-#[derive(Clone, Copy)]
+#[derive(Clone, Copy, Debug, PartialEq, Eq)]
 pub enum Flaw {
+    /// The first byte is no frame's tag.
     Tag,
+    /// The length of the body is over 65,536.
     Length,
+    /// The body isn't one of its tag's bodies.
     Field,
 }
 
 /// What stands at the start of bytes.
-#[derive(Drop)]
+#[derive(Debug, Drop)]
 pub enum Start {
     /// Too few bytes to tell.
     Unfinished,
@@ -29,7 +35,7 @@ pub enum Start {
 }
 
 /// What stands at the start of the bytes.
-pub(crate) fn look(alloc: Global, bytes: &[u8]) -> Result<Start, AllocError>
+pub fn look(alloc: Global, bytes: &[u8]) -> Result<Start, AllocError>
     ensures { IfOk result (λ s. s ≡ look bytes.now) }
 {
     match bytes {
@@ -78,4 +84,17 @@ fn look_field(len: usize, frame: Option<Frame>) -> Start
         Some(frame) => Start::Whole(frame, 5 + len),
         None => Start::Refused(Flaw::Field),
     }
+}
+
+/// How many bytes at least are lacking until bytes that are no whole frame yet begin one.
+pub fn lacking(bytes: &[u8]) -> usize
+    requires { look bytes.now ≡ Unfinished }
+    ensures some { 0 < result }
+    ensures least { (more : List ℕ) (f : Frame) (n : ℕ) → look (bytes.now ++ more) ≡ Whole f n → length bytes.now + result ≤ n }
+    ensures few { length bytes.now + result ≤ 65541 }
+{
+    if bytes.len() < HEAD {
+        return HEAD - bytes.len();
+    }
+    HEAD + number_of(&bytes[1..HEAD]) as usize - bytes.len()
 }

@@ -1,0 +1,2 @@
+mod Services
+mod Supplies

@@ -1,0 +1,4 @@
+pub mod Answer
+pub mod Answering
+pub mod Serving
+pub mod Taking

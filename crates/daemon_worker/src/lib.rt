@@ -1,0 +1,11 @@
+//! What a worker process does: it answers the requests that come to it, one after the other.
+#![tactic(auto)]
+
+mod answering;
+mod serving;
+mod taking;
+
+pub use serving::{Served, serve};
+
+#[cfg(test)]
+mod tests;

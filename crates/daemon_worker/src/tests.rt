@@ -1,0 +1,216 @@
+use crate::{Served, serve};
+use item_actions::Text;
+use std::alloc::{AllocError, Global};
+use std::test::Fail;
+use worker_desk::{FileEntry, FileMap, MemoryDesk, MemorySink, MemorySource, Source};
+
+/// A request of unit 7 for the lines of a.txt, and its reply.
+const REQUEST: &[u8; 17] = b"\x01\0\0\0\x0c\0\0\0\x07\x01\0\x05a.txt";
+
+const REPLY: &[u8; 18] = b"\x02\0\0\0\x0d\0\0\0\x07\x01\0\0\0\0\0\0\0\x03";
+
+const STOP: &[u8; 5] = b"\x03\0\0\0\0";
+
+fn numbers(alloc: Global, number: u64) -> Result<Vec<u64>, AllocError> {
+    Vec::from_slice(alloc, &[number])
+}
+
+fn file(alloc: Global, name: &str, bytes: &[u8]) -> Result<FileEntry, AllocError> {
+    Ok(FileEntry {
+        name: Text::from_str(alloc, name)?,
+        bytes: Vec::from_slice(alloc, bytes)?,
+    })
+}
+
+/// A desk with a.txt and an empty file.
+fn desk(alloc: Global, failing: Vec<u64>) -> Result<MemoryDesk, AllocError> {
+    let mut files = Vec::new(alloc);
+    files.push(file(alloc, "a.txt", b"one\ntwo\nthree\n")?)?;
+    files.push(file(alloc, "empty", b"")?)?;
+    MemoryDesk::new(alloc, FileMap::new(files), failing)
+}
+
+/// What serving these bytes answers, with its sink.
+fn served(alloc: Global, bytes: &[u8]) -> Result<(Served, MemorySink), AllocError> {
+    let mut source = MemorySource::new(Vec::from_slice(alloc, bytes)?, Vec::new(alloc));
+    let mut sink = MemorySink::limited(alloc, 1000)?;
+    let mut files = desk(alloc, Vec::new(alloc))?;
+    let served = serve(alloc, &mut source, &mut sink, &mut files);
+    Ok((served, sink))
+}
+
+/// A piece so many times, and then other bytes.
+fn repeated(alloc: Global, piece: &[u8], count: usize, end: &[u8]) -> Result<Vec<u8>, AllocError> {
+    let mut all = Vec::new(alloc);
+    for _ in 0..count {
+        all.extend_from_slice(piece)?;
+    }
+    all.extend_from_slice(end)?;
+    Ok(all)
+}
+
+#[test]
+fn streams_end_at_a_stop_at_their_end_or_at_a_bad_frame(rt: HostRuntime) -> Result<(), Fail> {
+    let alloc = rt.alloc();
+    let cases: [(usize, &[u8], Served); 12] = [
+        (0, b"", Served::Done),
+        (0, STOP, Served::Done),
+        (1, b"", Served::Done),
+        (1, STOP, Served::Done),
+        (2, STOP, Served::Done),
+        (0, b"\x04", Served::BadFrame(0)),
+        (0, b"\x01\0\x01\0\x01", Served::BadFrame(0)),
+        (0, b"\x03\0\0\0\x01\0", Served::BadFrame(0)),
+        (0, REPLY, Served::BadFrame(0)),
+        (1, REPLY, Served::BadFrame(17)),
+        (1, b"\x02\0\0\0\0", Served::BadFrame(17)),
+        (2, b"\0", Served::BadFrame(34)),
+    ];
+    for (requests, end, expected) in &cases {
+        let stream = repeated(alloc, REQUEST, *requests, end)?;
+        let (served, sink) = served(alloc, &stream)?;
+        assert_eq!(rt; served, *expected);
+        assert_eq!(rt;
+            sink.taken(),
+            repeated(alloc, REPLY, *requests, b"")?.as_slice()
+        );
+    }
+    Ok(())
+}
+
+#[test]
+fn cut_request_is_a_bad_frame(rt: HostRuntime) -> Result<(), Fail> {
+    for len in 1..REQUEST.len() {
+        let (served, sink) = served(rt.alloc(), &REQUEST[..len])?;
+        assert_eq!(rt; served, Served::BadFrame(0));
+        assert!(rt; sink.taken().is_empty());
+    }
+    Ok(())
+}
+
+#[test]
+fn what_follows_a_stop_stays_in_the_source(rt: HostRuntime) -> Result<(), Fail> {
+    let alloc = rt.alloc();
+    let bytes = repeated(alloc, REQUEST, 1, b"\x03\0\0\0\0rest")?;
+    let mut source = MemorySource::new(bytes, Vec::new(alloc));
+    let mut sink = MemorySink::limited(alloc, 1000)?;
+    let mut files = desk(alloc, Vec::new(alloc))?;
+    let served = serve(alloc, &mut source, &mut sink, &mut files);
+    assert_eq!(rt; served, Served::Done);
+    let mut buffer = [0u8; 5];
+    assert_eq!(rt; source.take(&mut buffer), Ok(4));
+    assert_eq!(rt; &buffer, b"rest\0");
+    Ok(())
+}
+
+#[test]
+fn files_are_missing_or_empty(rt: HostRuntime) -> Result<(), Fail> {
+    let cases: [(&[u8], &[u8]); 2] = [
+        (
+            b"\x01\0\0\0\x0b\0\0\0\x01\x03\0\x04none",
+            b"\x02\0\0\0\x05\0\0\0\x01\x03",
+        ),
+        (
+            b"\x01\0\0\0\x0c\0\0\0\x03\x03\0\x05empty",
+            b"\x02\0\0\0\x0d\0\0\0\x03\x01\0\0\0\0\0\0\0\0",
+        ),
+    ];
+    for (request, reply) in &cases {
+        let (served, sink) = served(rt.alloc(), request)?;
+        assert_eq!(rt; served, Served::Done);
+        assert_eq!(rt; sink.taken(), *reply);
+    }
+    Ok(())
+}
+
+#[test]
+fn file_of_a_byte_over_the_limit_is_too_long(rt: HostRuntime) -> Result<(), Fail> {
+    let alloc = rt.alloc();
+    let cases: [(usize, &[u8]); 2] = [
+        (4_194_304, b"\x02\0\0\0\x0d\0\0\0\x02\x01\0\0\0\0\0\x40\0\0"),
+        (4_194_305, b"\x02\0\0\0\x05\0\0\0\x02\x04"),
+    ];
+    for (len, reply) in &cases {
+        let mut entries = Vec::new(alloc);
+        entries.push(FileEntry {
+            name: Text::from_str(alloc, "long")?,
+            bytes: vec![in alloc; 10u8; *len]?,
+        })?;
+        let mut files = MemoryDesk::new(alloc, FileMap::new(entries), Vec::new(alloc))?;
+        let request = Vec::from_slice(alloc, b"\x01\0\0\0\x0b\0\0\0\x02\x03\0\x04long")?;
+        let mut source = MemorySource::new(request, Vec::new(alloc));
+        let mut sink = MemorySink::limited(alloc, 1000)?;
+        let served = serve(alloc, &mut source, &mut sink, &mut files);
+        assert_eq!(rt; served, Served::Done);
+        assert_eq!(rt; sink.taken(), *reply);
+    }
+    Ok(())
+}
+
+#[test]
+fn file_that_cannot_be_read_is_answered_with_a_fault(rt: HostRuntime) -> Result<(), Fail> {
+    let alloc = rt.alloc();
+    let bytes = repeated(alloc, REQUEST, 2, b"")?;
+    let mut source = MemorySource::new(bytes, Vec::new(alloc));
+    let mut sink = MemorySink::limited(alloc, 1000)?;
+    let mut files = desk(alloc, numbers(alloc, 0)?)?;
+    let served = serve(alloc, &mut source, &mut sink, &mut files);
+    assert_eq!(rt; served, Served::Done);
+    let replies = repeated(alloc, b"\x02\0\0\0\x05\0\0\0\x07\x05", 1, REPLY)?;
+    assert_eq!(rt; sink.taken(), replies.as_slice());
+    assert_eq!(rt; files.count(), 1);
+    Ok(())
+}
+
+#[test]
+fn source_fails_at_each_call_in_turn(rt: HostRuntime) -> Result<(), Fail> {
+    let alloc = rt.alloc();
+    // Each request takes two calls, and the Stop takes one.
+    let replies: [usize; 5] = [0, 0, 1, 1, 2];
+    for (call, replies) in replies.iter().enumerate() {
+        let bytes = repeated(alloc, REQUEST, 2, STOP)?;
+        let mut source = MemorySource::new(bytes, numbers(alloc, call as u64)?);
+        let mut sink = MemorySink::limited(alloc, 1000)?;
+        let mut files = desk(alloc, Vec::new(alloc))?;
+        let served = serve(alloc, &mut source, &mut sink, &mut files);
+        assert_eq!(rt; served, Served::SourceFault);
+        assert_eq!(rt; source.count(), 1);
+        assert_eq!(rt;
+            sink.taken(),
+            repeated(alloc, REPLY, *replies, b"")?.as_slice()
+        );
+    }
+    Ok(())
+}
+
+#[test]
+fn sink_fails_at_each_call_in_turn(rt: HostRuntime) -> Result<(), Fail> {
+    let alloc = rt.alloc();
+    let replies: [usize; 2] = [0, 1];
+    for (call, replies) in replies.iter().enumerate() {
+        let bytes = repeated(alloc, REQUEST, 2, STOP)?;
+        let mut source = MemorySource::new(bytes, Vec::new(alloc));
+        let mut sink = MemorySink::new(alloc, 1000, numbers(alloc, call as u64)?)?;
+        let mut files = desk(alloc, Vec::new(alloc))?;
+        let served = serve(alloc, &mut source, &mut sink, &mut files);
+        assert_eq!(rt; served, Served::SinkFault);
+        assert_eq!(rt; sink.count(), 1);
+        assert_eq!(rt;
+            sink.taken(),
+            repeated(alloc, REPLY, *replies, b"")?.as_slice()
+        );
+    }
+    Ok(())
+}
+
+#[test]
+fn full_sink_has_the_beginning_of_the_replies(rt: HostRuntime) -> Result<(), Fail> {
+    let alloc = rt.alloc();
+    let mut source = MemorySource::new(Vec::from_slice(alloc, REQUEST)?, Vec::new(alloc));
+    let mut sink = MemorySink::limited(alloc, 10)?;
+    let mut files = desk(alloc, Vec::new(alloc))?;
+    let served = serve(alloc, &mut source, &mut sink, &mut files);
+    assert_eq!(rt; served, Served::SinkFault);
+    assert_eq!(rt; sink.taken(), &REPLY[..10]);
+    Ok(())
+}
