@@ -1,5 +1,8 @@
 mod Agreement
+mod Behind
 mod Counts
+mod FileNames
+mod Greatest
 mod Longest
 mod NoOverlap
 mod OneByte

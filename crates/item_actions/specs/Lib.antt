@@ -2,4 +2,5 @@ pub mod Bytes
 pub mod Files
 pub mod Forms
 pub mod Needles
+pub mod Pieces
 pub mod Value

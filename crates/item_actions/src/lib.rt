@@ -5,6 +5,8 @@ mod actions;
 mod counting;
 mod forms;
 mod lanes;
+mod laws;
+mod limits;
 mod needles;
 mod occurrences;
 mod outcomes;
@@ -15,6 +17,8 @@ mod words;
 
 pub use actions::{Action, act};
 pub use forms::is_file_name;
+pub use laws::{counting_goes_on_behind_the_first, longest_is_the_greatest_piece};
+pub use limits::MOST_FILE_BYTES;
 pub use needles::Needle;
 pub use outcomes::Outcome;
 pub use texts::{Text, TextRefusal};

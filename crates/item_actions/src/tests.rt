@@ -1,4 +1,7 @@
-use crate::{Action, Needle, Outcome, Text, TextRefusal, act, is_file_name};
+use crate::{
+    Action, Needle, Outcome, Text, TextRefusal, act, counting_goes_on_behind_the_first,
+    is_file_name, longest_is_the_greatest_piece,
+};
 use std::test::Fail;
 
 fn number_of(action: &Action, bytes: &[u8]) -> Option<u64> {
@@ -63,6 +66,22 @@ fn counts_of_needles(rt: HostRuntime) {
     for (needle, bytes, count) in rows {
         assert_eq!(rt; count_of(needle, bytes), Some(count));
     }
+}
+
+// The laws say of all bytes what is worked out here of a few.
+#[test]
+fn laws_on_a_few_bytes(rt: HostRuntime) {
+    longest_is_the_greatest_piece();
+    let rows: [&[u8]; 5] = [b"", b"\n", b"abcd\nab", b"ab\n\nabc\nd", b"\na\n\nbcd"];
+    for bytes in rows {
+        let lengths = bytes.split(|b| *b == b'\n').map(|piece| piece.len() as u64);
+        assert_eq!(rt; number_of(&Action::Longest, bytes), lengths.max());
+    }
+    counting_goes_on_behind_the_first();
+    let bytes = b"banananan";
+    assert_eq!(rt; count_of(b"anan", &bytes[1 + 4..]), Some(1));
+    assert_eq!(rt; count_of(b"anan", bytes), Some(2));
+    assert_eq!(rt; count_of(b"anab", bytes), Some(0));
 }
 
 #[test]
@@ -149,8 +168,12 @@ fn needles_have_1_to_64_bytes(rt: HostRuntime) {
 
 #[test]
 fn names_of_files(rt: HostRuntime) {
-    let good: [&[u8]; 6] = [
+    let good: [&[u8]; 10] = [
         b"a.txt",
+        b"_/-/Zz/09",
+        b"..a/.../....",
+        b".a/a./a..",
+        b"-..",
         b"src/a_b-c.txt",
         b"...",
         b"a/b/c",
@@ -160,8 +183,18 @@ fn names_of_files(rt: HostRuntime) {
     for name in good {
         assert!(rt; is_file_name(name));
     }
-    let bad: [&[u8]; 12] = [
+    let bad: [&[u8]; 22] = [
         b"",
+        b"/",
+        b"../a",
+        b"a/.",
+        b"a/..",
+        b"./",
+        b"...//a",
+        b"a/./b",
+        b"a@",
+        b"a`",
+        b"a[b",
         b"/a",
         b"a/",
         b"a//b",
