@@ -1,4 +1,7 @@
+mod in_pieces;
+
 use crate::{Served, serve};
+use in_pieces::InPieces;
 use item_actions::Text;
 use std::alloc::{AllocError, Global};
 use std::test::Fail;
@@ -10,6 +13,9 @@ const REQUEST: &[u8; 17] = b"\x01\0\0\0\x0c\0\0\0\x07\x01\0\x05a.txt";
 const REPLY: &[u8; 18] = b"\x02\0\0\0\x0d\0\0\0\x07\x01\0\0\0\0\0\0\0\x03";
 
 const STOP: &[u8; 5] = b"\x03\0\0\0\0";
+
+/// How many bytes at most a source or a sink moves in a call.
+const PIECES: [usize; 3] = [1, 3, 1000];
 
 fn numbers(alloc: Global, number: u64) -> Result<Vec<u64>, AllocError> {
     Vec::from_slice(alloc, &[number])
@@ -30,13 +36,29 @@ fn desk(alloc: Global, failing: Vec<u64>) -> Result<MemoryDesk, AllocError> {
     MemoryDesk::new(alloc, FileMap::new(files), failing)
 }
 
-/// What serving these bytes answers, with its sink.
-fn served(alloc: Global, bytes: &[u8]) -> Result<(Served, MemorySink), AllocError> {
-    let mut source = MemorySource::new(Vec::from_slice(alloc, bytes)?, Vec::new(alloc));
-    let mut sink = MemorySink::limited(alloc, 1000)?;
+/// What serving these bytes answers, with its sink, where a call of the source or the sink moves at most so many.
+fn served_in_pieces(
+    alloc: Global,
+    bytes: &[u8],
+    most: usize,
+) -> Result<(Served, MemorySink), AllocError> {
+    let mut source = InPieces {
+        inner: MemorySource::new(Vec::from_slice(alloc, bytes)?, Vec::new(alloc)),
+        most,
+    };
+    let mut sink = InPieces {
+        inner: MemorySink::limited(alloc, 1000)?,
+        most,
+    };
     let mut files = desk(alloc, Vec::new(alloc))?;
     let served = serve(alloc, &mut source, &mut sink, &mut files);
-    Ok((served, sink))
+    let InPieces { inner, most: _ } = sink;
+    Ok((served, inner))
+}
+
+/// What serving these bytes answers, with its sink.
+fn served(alloc: Global, bytes: &[u8]) -> Result<(Served, MemorySink), AllocError> {
+    served_in_pieces(alloc, bytes, bytes.len())
 }
 
 /// A piece so many times, and then other bytes.
@@ -68,12 +90,12 @@ fn streams_end_at_a_stop_at_their_end_or_at_a_bad_frame(rt: HostRuntime) -> Resu
     ];
     for (requests, end, expected) in &cases {
         let stream = repeated(alloc, REQUEST, *requests, end)?;
-        let (served, sink) = served(alloc, &stream)?;
-        assert_eq!(rt; served, *expected);
-        assert_eq!(rt;
-            sink.taken(),
-            repeated(alloc, REPLY, *requests, b"")?.as_slice()
-        );
+        let replies = repeated(alloc, REPLY, *requests, b"")?;
+        for most in &PIECES {
+            let (served, sink) = served_in_pieces(alloc, &stream, *most)?;
+            assert_eq!(rt; served, *expected, "in pieces of {most}");
+            assert_eq!(rt; sink.taken(), replies.as_slice());
+        }
     }
     Ok(())
 }
@@ -81,9 +103,11 @@ fn streams_end_at_a_stop_at_their_end_or_at_a_bad_frame(rt: HostRuntime) -> Resu
 #[test]
 fn cut_request_is_a_bad_frame(rt: HostRuntime) -> Result<(), Fail> {
     for len in 1..REQUEST.len() {
-        let (served, sink) = served(rt.alloc(), &REQUEST[..len])?;
-        assert_eq!(rt; served, Served::BadFrame(0));
-        assert!(rt; sink.taken().is_empty());
+        for most in &PIECES {
+            let (served, sink) = served_in_pieces(rt.alloc(), &REQUEST[..len], *most)?;
+            assert_eq!(rt; served, Served::BadFrame(0));
+            assert!(rt; sink.taken().is_empty());
+        }
     }
     Ok(())
 }
@@ -162,43 +186,86 @@ fn file_that_cannot_be_read_is_answered_with_a_fault(rt: HostRuntime) -> Result<
     Ok(())
 }
 
+/// What serving two requests and a Stop answers, with the sink, where this call of the source fails.
+fn served_where_source_fails(
+    alloc: Global,
+    most: usize,
+    call: u64,
+) -> Result<(Served, MemorySink), AllocError> {
+    let bytes = repeated(alloc, REQUEST, 2, STOP)?;
+    let mut source = InPieces {
+        inner: MemorySource::new(bytes, numbers(alloc, call)?),
+        most,
+    };
+    let mut sink = MemorySink::limited(alloc, 1000)?;
+    let mut files = desk(alloc, Vec::new(alloc))?;
+    let served = serve(alloc, &mut source, &mut sink, &mut files);
+    Ok((served, sink))
+}
+
 #[test]
 fn source_fails_at_each_call_in_turn(rt: HostRuntime) -> Result<(), Fail> {
     let alloc = rt.alloc();
-    // Each request takes two calls, and the Stop takes one.
-    let replies: [usize; 5] = [0, 0, 1, 1, 2];
-    for (call, replies) in replies.iter().enumerate() {
-        let bytes = repeated(alloc, REQUEST, 2, STOP)?;
-        let mut source = MemorySource::new(bytes, numbers(alloc, call as u64)?);
-        let mut sink = MemorySink::limited(alloc, 1000)?;
-        let mut files = desk(alloc, Vec::new(alloc))?;
-        let served = serve(alloc, &mut source, &mut sink, &mut files);
-        assert_eq!(rt; served, Served::SourceFault);
-        assert_eq!(rt; source.count(), 1);
-        assert_eq!(rt;
-            sink.taken(),
-            repeated(alloc, REPLY, *replies, b"")?.as_slice()
-        );
+    // The replies before each call. A request takes two calls and the Stop one; in pieces of three bytes a request takes
+    // six and the Stop two.
+    let cases: [(usize, &[usize]); 2] = [
+        (1000, &[0, 0, 1, 1, 2]),
+        (3, &[0, 0, 0, 0, 0, 0, 1, 1, 1, 1, 1, 1, 2, 2]),
+    ];
+    for (most, replies) in &cases {
+        for (call, replies) in replies.iter().enumerate() {
+            let (served, sink) = served_where_source_fails(alloc, *most, call as u64)?;
+            assert_eq!(rt; served, Served::SourceFault, "call {call}");
+            assert_eq!(rt;
+                sink.taken(),
+                repeated(alloc, REPLY, *replies, b"")?.as_slice()
+            );
+        }
+        let (served, _) = served_where_source_fails(alloc, *most, replies.len() as u64)?;
+        assert_eq!(rt; served, Served::Done);
     }
     Ok(())
+}
+
+/// What serving two requests and a Stop answers, with the sink, where this call of the sink fails.
+fn served_where_sink_fails(
+    alloc: Global,
+    most: usize,
+    call: u64,
+) -> Result<(Served, MemorySink), AllocError> {
+    let bytes = repeated(alloc, REQUEST, 2, STOP)?;
+    let mut source = MemorySource::new(bytes, Vec::new(alloc));
+    let mut sink = InPieces {
+        inner: MemorySink::new(alloc, 1000, numbers(alloc, call)?)?,
+        most,
+    };
+    let mut files = desk(alloc, Vec::new(alloc))?;
+    let served = serve(alloc, &mut source, &mut sink, &mut files);
+    let InPieces { inner, most: _ } = sink;
+    Ok((served, inner))
 }
 
 #[test]
 fn sink_fails_at_each_call_in_turn(rt: HostRuntime) -> Result<(), Fail> {
     let alloc = rt.alloc();
-    let replies: [usize; 2] = [0, 1];
-    for (call, replies) in replies.iter().enumerate() {
-        let bytes = repeated(alloc, REQUEST, 2, STOP)?;
-        let mut source = MemorySource::new(bytes, Vec::new(alloc));
-        let mut sink = MemorySink::new(alloc, 1000, numbers(alloc, call as u64)?)?;
-        let mut files = desk(alloc, Vec::new(alloc))?;
-        let served = serve(alloc, &mut source, &mut sink, &mut files);
-        assert_eq!(rt; served, Served::SinkFault);
-        assert_eq!(rt; sink.count(), 1);
-        assert_eq!(rt;
-            sink.taken(),
-            repeated(alloc, REPLY, *replies, b"")?.as_slice()
-        );
+    let replies = repeated(alloc, REPLY, 2, b"")?;
+    // A reply takes one call; in pieces of three bytes it takes six, and in pieces of seven three.
+    let cases: [(usize, &[usize]); 3] = [
+        (1000, &[0, 18]),
+        (3, &[0, 3, 6, 9, 12, 15, 18, 21, 24, 27, 30, 33]),
+        (7, &[0, 7, 14, 18, 25, 32]),
+    ];
+    for (most, taken) in &cases {
+        for (call, taken) in taken.iter().enumerate() {
+            let (served, sink) = served_where_sink_fails(alloc, *most, call as u64)?;
+            assert_eq!(rt; served, Served::SinkFault, "call {call}");
+            assert_eq!(rt; sink.count(), 1);
+            assert_eq!(rt; sink.taken().len(), *taken);
+            assert!(rt; replies.starts_with(sink.taken()));
+        }
+        let (served, sink) = served_where_sink_fails(alloc, *most, taken.len() as u64)?;
+        assert_eq!(rt; served, Served::Done);
+        assert_eq!(rt; sink.taken(), replies.as_slice());
     }
     Ok(())
 }

@@ -63,10 +63,7 @@ fn read_named<R: rt::Files>(rt: &R, alloc: Global, name: &str, limit: u64) -> Re
 {
     let mut retries = Retries::new();
     match open(rt, name, &mut retries) {
-        Ok(mut file) => {
-            let size = file.metadata().map_or(0, |data| data.len());
-            read_open(&mut file, alloc, size, limit, &mut retries)
-        }
+        Ok(mut file) => read_open(&mut file, alloc, limit, &mut retries),
         Err(error) if error.kind() == ErrorKind::NotFound => Ok(Read::NotThere),
         Err(error) => Err(fail_of(&error)),
     }
@@ -81,11 +78,10 @@ fn open<R: rt::Files>(rt: &R, name: &str, retries: &mut Retries) -> io::Result<R
     }
 }
 
-// Reads an open file to its end, if it has at most `limit` bytes. Its size is only a guess.
-fn read_open<F: io::Read>(
+// Reads an open file to its end, if it has at most `limit` bytes.
+fn read_open<F: io::Read + OpenFile>(
     file: &mut F,
     alloc: Global,
-    size: u64,
     limit: u64,
     retries: &mut Retries,
 ) -> Result<Read, DeskFail>
@@ -95,7 +91,7 @@ fn read_open<F: io::Read>(
 {
     let mut buffer = ReadBuffer::new(alloc, limit);
     while !buffer.is_over() {
-        match buffer.read_more(file, size) {
+        match buffer.read_more(file) {
             Ok(0) => return Ok(Read::Bytes(buffer.into_bytes())),
             Ok(_) => {}
             Err(error) if retries.allow(&error) => {}

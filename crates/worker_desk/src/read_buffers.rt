@@ -1,13 +1,14 @@
-ghost use Rattle.std.specs.Prelude.{◌≡◌, ◌≤◌, ◌<◌, ◌+◌, [], length, take, drop, vec_len, IfOk, OnOk, OnErr, IsTrue, ◌↔◌};
+ghost use Rattle.std.specs.Prelude.{◌≡◌, ◌≤◌, ◌<◌, ◌+◌, ◌^◌, [], length, take, drop, vec_len, IfOk, OnOk, OnErr, IsTrue, ◌↔◌};
 ghost use Rattle.std.specs.Io.KnownBytes.{Consumes, IsAtEnd, Keeps};
 ghost use Rattle.worker_desk.specs.Gathered.{ReadGathers};
 
 use std::alloc::{AllocError, Global};
+use std::fs::OpenFile;
 use std::io;
 use std::marker::Model;
 
-/// The least room that is made for a read.
-const LEAST_ROOM: u64 = 4096;
+/// The room for the first read. A file of fewer bytes is read with no question for its size.
+const FIRST_ROOM: u64 = 1024;
 
 /// What was read of a file so far, in one buffer that grows as it fills. It never has room for more
 /// than a byte over the limit.
@@ -61,12 +62,12 @@ impl ReadBuffer {
         room
     }
 
-    /// Reads once. A buffer that is full grows first, to `expected` bytes and one if that is more.
-    pub fn read_more<F: io::Read>(&mut self, file: &mut F, expected: u64) -> io::Result<usize>
+    /// Reads once. A buffer that is full grows first.
+    pub fn read_more<F: io::Read + OpenFile>(&mut self, file: &mut F) -> io::Result<usize>
         requires { length self.old.bytes ≤ self.old.limit }
         ensures { ReadGathers (F.remaining file.old) (F.remaining file.new) self.old self.new result }
     {
-        grow(&mut self.room, self.filled, expected, self.limit)?;
+        grow(&mut self.room, self.filled, file, self.limit)?;
         let read = read_at(file, &mut self.room, self.filled)?;
         self.filled += read;
         Ok(read)
@@ -74,7 +75,12 @@ impl ReadBuffer {
 }
 
 // Makes the buffer longer than what is filled.
-fn grow(room: &mut Vec<u8>, filled: usize, expected: u64, limit: u64) -> Result<(), AllocError>
+fn grow<F: OpenFile>(
+    room: &mut Vec<u8>,
+    filled: usize,
+    file: &F,
+    limit: u64,
+) -> Result<(), AllocError>
     requires filled { filled ≤ vec_len room.old }
     requires within { filled ≤ limit }
     requires most { vec_len room.old ≤ limit + 1 }
@@ -86,11 +92,20 @@ fn grow(room: &mut Vec<u8>, filled: usize, expected: u64, limit: u64) -> Result<
     if filled < room.len() {
         return Ok(());
     }
-    let least = expected
-        .saturating_add(1)
-        .max(LEAST_ROOM)
-        .max(2 * filled as u64);
-    room.resize(least.min(limit.saturating_add(1)) as usize, 0)
+    let wanted = wanted_room(file, filled);
+    room.resize(wanted.min(limit.saturating_add(1)) as usize, 0)
+}
+
+// How long a full buffer is to be. The size of a file is only a guess: one byte more shows its end.
+fn wanted_room<F: OpenFile>(file: &F, filled: usize) -> u64
+    requires { filled < 2 ^ 63 }
+    ensures { filled < result }
+{
+    if filled == 0 {
+        return FIRST_ROOM;
+    }
+    let size = file.metadata().map_or(0, |data| data.len());
+    size.saturating_add(1).max(2 * filled as u64)
 }
 
 fn read_at<F: io::Read>(file: &mut F, room: &mut Vec<u8>, filled: usize) -> io::Result<usize>

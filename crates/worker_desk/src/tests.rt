@@ -126,6 +126,52 @@ fn folder_desk_reads_what_a_sink_wrote(rt: HostRuntime) -> Result<(), Fail> {
     Ok(())
 }
 
+/// So many bytes, which aren't all the same.
+fn varied(alloc: Global, len: u64) -> Result<Vec<u8>, AllocError> {
+    let mut bytes = Vec::new(alloc);
+    for place in 0..len {
+        bytes.push((place % 251) as u8)?;
+    }
+    Ok(bytes)
+}
+
+#[test]
+fn folder_desk_reads_files_of_lengths_about_its_first_room(rt: HostRuntime) -> Result<(), Fail> {
+    let alloc = rt.alloc();
+    let name = "worker_desk_lengths.txt";
+    let written = text(alloc, name)?;
+    let mut desk = FolderDesk::new(&rt);
+    let lengths: [(u64, u64); 6] = [
+        (0, 1),
+        (1022, 1023),
+        (1023, 1024),
+        (1024, 1025),
+        (2048, 2049),
+        (4999, 5000),
+    ];
+    for (below, len) in lengths {
+        let content = varied(alloc, len)?;
+        let mut sink = StdSink::new(File::create(&rt, name)?);
+        assert!(rt; put_all(&mut sink, &content).is_ok());
+        let whole = desk.read(alloc, &written, len);
+        assert!(rt;
+            matches!(&whole, Ok(Read::Bytes(bytes)) if bytes.as_slice() == content.as_slice()),
+            "{len} bytes"
+        );
+        assert!(rt;
+            matches!(desk.read(alloc, &written, below), Ok(Read::TooLong)),
+            "{len} bytes"
+        );
+    }
+    fs::write(&rt, name, b"")?;
+    assert!(rt;
+        matches!(desk.read(alloc, &written, 0), Ok(Read::Bytes(bytes)) if bytes.is_empty())
+    );
+    fs::remove_file(&rt, name)?;
+    assert_eq!(rt; desk.count(), 0);
+    Ok(())
+}
+
 // A reader and writer whose first calls are interrupted.
 #[derive(Drop)]
 struct Interrupted {

@@ -1,4 +1,4 @@
-use Rattle.std.proofs.Common.{◌≡◌, ◌≤◌, ◌+◌, ◌++◌, length, List, arith, rules, sym, ap, ◌∙◌, subst}
+use Rattle.std.proofs.Common.{◌++◌, rules, sym, ap, ◌∙◌, subst}
 use Rattle.daemon_worker.specs.Taking.{Takes}
 use Rattle.daemon_worker.proofs.Supplies.{takes_then, nothing_behind}
 use Rattle.daemon_worker.proofs.taking.take_frame.Goals as goal
