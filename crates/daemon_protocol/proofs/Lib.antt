@@ -1,6 +1,7 @@
 mod Fronts
 mod Names
 mod OneReading
+mod Pushing
 mod Readings
 pub mod Settled
 mod Sizes

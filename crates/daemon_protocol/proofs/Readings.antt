@@ -4,7 +4,7 @@ use Rattle.std.specs.Option.{is_some}
 use Rattle.std.proofs.lemmas.Bool.{true≢false, false≢true}
 use Rattle.std.proofs.lemmas.List.{append-nil}
 use Rattle.daemon_protocol.specs.Start.{look, Cuts, nothing}
-use Rattle.daemon_protocol.specs.Reading.{Reading, Reads, IsEnd, nothing_read, start_with, after_frames}
+use Rattle.daemon_protocol.specs.Reading.{Reading, Reads, ReadsOn, IsEnd, nothing_read, start_with, after_frames}
 use Rattle.daemon_protocol.specs.declared.frames.Frame.{Frame}
 use Rattle.daemon_protocol.specs.declared.frames.FrameRefusal.{FrameRefusal}
 use Rattle.daemon_protocol.specs.declared.starts.Flaw.{Flaw}
@@ -15,9 +15,9 @@ pub reads_nothing : Reads [] [] nothing_read
 reads_nothing = record { rest = []; cuts = nothing []; place = omega arith; end = (refl, refl) }
 
 after : (held piece : List ℕ) (place n : ℕ) (flaw : Option Flaw) → look (drop n (held ++ piece)) ≡ start_with flaw
-    → IsEnd (drop n (held ++ piece)) (after_frames record { held = held ++ piece; place = place; refusal = None } n flaw).place
-    (after_frames record { held = held ++ piece; place = place; refusal = None } n flaw).held
-    (after_frames record { held = held ++ piece; place = place; refusal = None } n flaw).refusal
+    → IsEnd (drop n (held ++ piece)) (after_frames record { held = drop n (held ++ piece); place = place; refusal = None } n flaw).place
+    (after_frames record { held = drop n (held ++ piece); place = place; refusal = None } n flaw).held
+    (after_frames record { held = drop n (held ++ piece); place = place; refusal = None } n flaw).refusal
 after held piece place n None is = (is, refl)
 after held piece place n (Some flaw) is = (flaw, is, refl, refl)
 
@@ -31,13 +31,13 @@ reads_more : (stream : List ℕ) (frames : List Frame) (held piece : List ℕ) (
     → n ≤ length (held ++ piece)
     → Cuts (held ++ piece) more (drop n (held ++ piece))
     → look (drop n (held ++ piece)) ≡ start_with flaw
-    → Reads (stream ++ piece) (frames ++ more) (after_frames record { held = held ++ piece; place = place; refusal = None } n flaw)
+    → Reads (stream ++ piece) (frames ++ more) (after_frames record { held = drop n (held ++ piece); place = place; refusal = None } n flaw)
 reads_more stream frames held piece place n more flaw before within cuts end =
     let same : held ≡ before.rest = before.end.1 in
     record {
       rest = drop n (held ++ piece);
       cuts = cuts_piece stream frames held piece more (drop n (held ++ piece)) (subst (Cuts stream frames) (sym same) before.cuts) cuts;
-      place = omega (arith, same_place record { held = held ++ piece; place = place; refusal = None } n flaw, length-drop n (held ++ piece), length-append held piece, length-append stream piece, before.place, ap length same);
+      place = omega (arith, same_place record { held = drop n (held ++ piece); place = place; refusal = None } n flaw, length-drop n (held ++ piece), length-append held piece, length-append stream piece, before.place, ap length same);
       end = after held piece place n flaw end;
     }
 
@@ -69,17 +69,14 @@ refused stream frames more held piece place (Some refusal) some none before =
 pub reads_refused : (stream : List ℕ) (frames more : List Frame) (r : Reading) (piece : List ℕ) → is_some r.refusal ≡ true → more ≡ [] → Reads stream frames r → Reads (stream ++ piece) (frames ++ more) r
 reads_refused stream frames more r piece some none before = refused stream frames more r.held piece r.place r.refusal some none before
 
-fed : (stream : List ℕ) (frames more : List Frame) (held piece joined : List ℕ) (place n : ℕ) (flaw : Option Flaw) (refusal : Option FrameRefusal) → is_some refusal ≡ false → joined ≡ held ++ piece
-    → n ≤ length joined → Cuts joined more (drop n joined) → look (drop n joined) ≡ start_with flaw
+fed : (stream : List ℕ) (frames more : List Frame) (held piece : List ℕ) (place n : ℕ) (flaw : Option Flaw) (refusal : Option FrameRefusal) → is_some refusal ≡ false
+    → n ≤ length (held ++ piece) → Cuts (held ++ piece) more (drop n (held ++ piece)) → look (drop n (held ++ piece)) ≡ start_with flaw
     → Reads stream frames record { held = held; place = place; refusal = refusal }
-    → Reads (stream ++ piece) (frames ++ more) (after_frames record { held = joined; place = place; refusal = refusal } n flaw)
-fed stream frames more held piece joined place n flaw (Some refusal) none same within cuts end before = absurd (true≢false none)
-fed stream frames more held piece joined place n flaw None none same within cuts end before =
-    subst (λ all. n ≤ length all → Cuts all more (drop n all) → look (drop n all) ≡ start_with flaw → Reads (stream ++ piece) (frames ++ more) (after_frames record { held = all; place = place; refusal = None } n flaw))
-    (sym same) (λ w c e. reads_more stream frames held piece place n more flaw before w c e) within cuts end
+    → Reads (stream ++ piece) (frames ++ more) (after_frames record { held = drop n (held ++ piece); place = place; refusal = refusal } n flaw)
+fed stream frames more held piece place n flaw (Some refusal) none within cuts end before = absurd (true≢false none)
+fed stream frames more held piece place n flaw None none within cuts end before = reads_more stream frames held piece place n more flaw before within cuts end
 
-pub reads_fed : (stream : List ℕ) (frames more : List Frame) (r : Reading) (piece joined : List ℕ) (n : ℕ) (flaw : Option Flaw) → is_some r.refusal ≡ false → joined ≡ r.held ++ piece
-    → n ≤ length joined → Cuts joined more (drop n joined) → look (drop n joined) ≡ start_with flaw
-    → Reads stream frames r
-    → Reads (stream ++ piece) (frames ++ more) (after_frames record { held = joined; place = r.place; refusal = r.refusal } n flaw)
-reads_fed stream frames more r piece joined n flaw none same within cuts end before = fed stream frames more r.held piece joined r.place n flaw r.refusal none same within cuts end before
+-- a piece more, where there is no refusal yet
+pub reads_on : (stream : List ℕ) (frames more : List Frame) (r s : Reading) (piece : List ℕ) → is_some r.refusal ≡ false → ReadsOn (r.held ++ piece) more r s → Reads stream frames r → Reads (stream ++ piece) (frames ++ more) s
+reads_on stream frames more r s piece none on before =
+    subst (Reads (stream ++ piece) (frames ++ more)) (sym on.reading) (fed stream frames more r.held piece r.place on.len on.flaw r.refusal none on.within on.cuts on.end before)

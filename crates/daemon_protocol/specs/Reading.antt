@@ -1,5 +1,5 @@
 -- What a decoder knows of a stream.
-use Rattle.std.specs.Prelude.{◌≡◌, ℕ, ◌+◌, List, [], Option, None, Some, length, drop}
+use Rattle.std.specs.Prelude.{◌≡◌, ℕ, ◌+◌, ◌≤◌, List, [], ◌∷◌, ◌++◌, Option, None, Some, Bool, true, false, length, drop}
 use Rattle.daemon_protocol.specs.Start.{look, Cuts}
 use Rattle.daemon_protocol.specs.declared.frames.Frame.{Frame}
 use Rattle.daemon_protocol.specs.declared.frames.FrameRefusal.{FrameRefusal}
@@ -40,7 +40,21 @@ abbrev pub start_with : Option Flaw → Start
 start_with None = Unfinished
 start_with (Some flaw) = Refused flaw
 
--- the first n bytes held were frames, and then comes no frame
+-- the frames and one more, where there is one
+abbrev pub IsPushed : Option Frame → List Frame → List Frame → Bool → Type 0
+IsPushed None before after is = (after ≡ before) × (is ≡ false)
+IsPushed (Some f) before after is = (after ≡ before ++ f ∷ []) × (is ≡ true)
+
+-- n bytes were frames, and what is held comes after them, or no frame does
 abbrev pub after_frames : Reading → ℕ → Option Flaw → Reading
-after_frames r n None = record { held = drop n r.held; place = r.place + n; refusal = r.refusal }
+after_frames r n None = record { held = r.held; place = r.place + n; refusal = r.refusal }
 after_frames r n (Some flaw) = record { held = []; place = r.place + n; refusal = Some (refusal_at flaw (r.place + n)) }
+
+-- the bytes begin with these frames and no more, and the second reading says what follows them
+pub record ReadsOn (bytes : List ℕ) (frames : List Frame) (before after : Reading) : Type 0 where
+  pub len : ℕ
+  pub flaw : Option Flaw
+  pub within : len ≤ length bytes
+  pub cuts : Cuts bytes frames (drop len bytes)
+  pub end : look (drop len bytes) ≡ start_with flaw
+  pub reading : after ≡ after_frames record { held = drop len bytes; place = before.place; refusal = before.refusal } len flaw

@@ -1,8 +1,10 @@
 -- What stands at the start of a stream, and the frames that it begins with.
-use Rattle.std.specs.Prelude.{◌≡◌, ℕ, ◌+◌, List, [], ◌∷◌, Option, None, Some, length, take, drop, ◌==◌, ◌||◌, nat_lt, if◌then◌else◌}
+use Rattle.std.specs.Prelude.{◌≡◌, ℕ, ◌+◌, ◌≤◌, List, [], ◌∷◌, Option, None, Some, length, take, drop, ◌==◌, ◌||◌, nat_lt, if◌then◌else◌}
 use Rattle.std.specs.Int.{w32, from_be_bytes}
 use Rattle.daemon_protocol.specs.Bodies.{frame_of}
 use Rattle.daemon_protocol.specs.declared.frames.Frame.{Frame}
+use Rattle.daemon_protocol.specs.declared.starts.Head.{Head}
+use Rattle.daemon_protocol.specs.declared.starts.Head.TheVariants as heads
 use Rattle.daemon_protocol.specs.declared.starts.Flaw.TheVariants.{Tag, Length, Field}
 use Rattle.daemon_protocol.specs.declared.starts.Start.{Start}
 use Rattle.daemon_protocol.specs.declared.starts.Start.TheVariants.{Unfinished, Whole, Refused}
@@ -28,6 +30,17 @@ look_tag tag bytes = if tag == 1 || tag == 2 || tag == 3 then look_length tag by
 abbrev pub look : List ℕ → Start
 look [] = Unfinished
 look (tag ∷ bytes) = look_tag tag bytes
+
+-- what stands where a head does
+abbrev pub start_of : Head → Start
+start_of heads.Unfinished = Unfinished
+start_of (heads.Whole tag body) = look_field (length body.now) (frame_of tag body.now)
+start_of (heads.Refused flaw) = Refused flaw
+
+-- a head's body ends within n bytes, of which so many come before it
+abbrev pub FitsBehind : ℕ → Head → ℕ → Type 0
+FitsBehind before (heads.Whole tag body) n = before + length body.now ≤ n
+FitsBehind before _ n = Unit {0}
 
 -- the bytes begin with these frames, one after the other, and then come the last
 pub data Cuts : List ℕ → List Frame → List ℕ → Type 0 where

@@ -20,7 +20,9 @@ pub(crate) fn frame_of(alloc: Global, tag: u8, body: &[u8]) -> Result<Option<Fra
     }
 }
 
-fn request_of(alloc: Global, body: &[u8]) -> Result<Option<Frame>, AllocError>
+/// The request whose body these bytes are.
+#[inline(always)]
+pub(crate) fn request_of(alloc: Global, body: &[u8]) -> Result<Option<Frame>, AllocError>
     ensures { IfOk result (λ f. f ≡ request_of body.now) }
 {
     if body.len() < 4 {
@@ -33,6 +35,7 @@ fn request_of(alloc: Global, body: &[u8]) -> Result<Option<Frame>, AllocError>
     }
 }
 
+#[inline(always)]
 fn request_with(
     alloc: Global,
     unit: u32,
@@ -67,6 +70,7 @@ fn file_of(alloc: Global, name: &[u8]) -> Result<Option<Text>, AllocError>
 }
 
 // The action at the start of the bytes, and how many bytes it takes up.
+#[inline(always)]
 fn action_at(bytes: &[u8]) -> Option<(Action, usize)>
     ensures action { result ≡ action_at bytes.now }
     ensures within { IfSome result (λ a. a.1 ≤ length bytes.now) }
@@ -99,7 +103,9 @@ fn count_at(bytes: &[u8]) -> Option<(Action, usize)>
     }
 }
 
-fn reply_of(body: &[u8]) -> Option<Frame>
+/// The reply whose body these bytes are.
+#[inline(always)]
+pub(crate) fn reply_of(body: &[u8]) -> Option<Frame>
     ensures { result ≡ reply_of body.now }
 {
     if body.len() < 4 {
@@ -159,7 +165,8 @@ fn cause_of(cause: u8) -> Option<Outcome>
     }
 }
 
-fn stop_of(body: &[u8]) -> Option<Frame>
+/// Stop, where these bytes are its body.
+pub(crate) fn stop_of(body: &[u8]) -> Option<Frame>
     ensures { result ≡ stop_of body.now }
 {
     if body.is_empty() {

@@ -1,10 +1,13 @@
 ghost use Rattle.std.specs.Prelude.{◌≡◌, ◌+◌, ◌<◌, ◌≤◌, ◌^◌, ◌++◌, ℕ, List, [], length, drop, IfOk, OnErr, IsSome};
 ghost use Rattle.daemon_protocol.specs.declared.frames.Frame.{Frame};
 ghost use Rattle.daemon_protocol.specs.Start.{look, Cuts};
-ghost use Rattle.daemon_protocol.specs.Reading.{Reads, nothing_read, refusal_at, start_with, after_frames};
+ghost use Rattle.daemon_protocol.specs.Reading.{Reads, nothing_read, refusal_at, start_with, after_frames, IsPushed, ReadsOn};
+ghost use Rattle.daemon_protocol.specs.Bodies.{frame_of};
 
+use crate::bodies::{reply_of, request_of, stop_of};
+use crate::encoding::HEAD;
 use crate::frames::{Frame, FrameRefusal};
-use crate::starts::{Flaw, Start, look};
+use crate::starts::{Flaw, Head, head_of};
 use std::alloc::{AllocError, Global};
 use std::marker::Model;
 
@@ -73,10 +76,42 @@ impl Decoder {
                 refusal: self.refusal,
             });
         }
+        if self.held.is_empty() {
+            self.read(alloc, piece)
+        } else {
+            self.read_behind(alloc, piece)
+        }
+    }
+
+    // Reads a piece where nothing is held. Only what is no whole frame yet is copied.
+    fn read(&mut self, alloc: Global, piece: &[u8]) -> Result<Fed, AllocError>
+        requires none { self.old.held ≡ [] }
+        requires room { self.old.place + length piece.now < 2 ^ 64 }
+        ensures reads { IfOk result (λ fed. ReadsOn piece.now fed.frames.items self.old self.new) }
+        ensures refusal { IfOk result (λ fed. fed.refusal ≡ self.new.refusal) }
+        ensures err { OnErr result (self.new ≡ self.old) }
+    {
+        let front = front_of(alloc, piece)?;
+        if front.flaw.is_none() {
+            self.held.extend_from_slice(&piece[front.len..])?;
+        }
+        Ok(self.pass(front))
+    }
+
+    // Reads a piece that comes behind what is held.
+    fn read_behind(&mut self, alloc: Global, piece: &[u8]) -> Result<Fed, AllocError>
+        requires room { self.old.place + length self.old.held + length piece.now < 2 ^ 64 }
+        ensures reads { IfOk result (λ fed. ReadsOn (self.old.held ++ piece.now) fed.frames.items self.old self.new) }
+        ensures refusal { IfOk result (λ fed. fed.refusal ≡ self.new.refusal) }
+        ensures err { OnErr result (self.new ≡ self.old) }
+    {
         let before = self.held.len();
         self.held.extend_from_slice(piece)?;
         match front_of(alloc, &self.held) {
-            Ok(front) => Ok(self.pass(front)),
+            Ok(front) => {
+                drop_front(&mut self.held, front.len);
+                Ok(self.pass(front))
+            }
             Err(error) => {
                 self.held.truncate(before);
                 Err(error)
@@ -84,21 +119,17 @@ impl Decoder {
         }
     }
 
-    // Goes past the frames at the front of what is held.
+    // Goes past a front. What comes after it is held, where it may become a frame.
     fn pass(&mut self, front: Front) -> Fed
-        requires within { front.len ≤ length self.old.held }
-        requires room { self.old.place + length self.old.held < 2 ^ 64 }
+        requires { self.old.place + front.len < 2 ^ 64 }
         ensures reading { self.new ≡ after_frames self.old front.len front.flaw }
         ensures frames { result.frames ≡ front.frames }
         ensures refusal { result.refusal ≡ self.new.refusal }
     {
         self.place += front.len as u64;
-        match front.flaw {
-            None => drop_front(&mut self.held, front.len),
-            Some(flaw) => {
-                self.held.clear();
-                self.refusal = Some(refusal_at(flaw, self.place));
-            }
+        if let Some(flaw) = front.flaw {
+            self.held.clear();
+            self.refusal = Some(refusal_at(flaw, self.place));
         }
         Fed {
             frames: front.frames,
@@ -121,6 +152,8 @@ impl Decoder {
     }
 }
 
+// The frames that the bytes begin with, and what follows them.
+#[inline(always)]
 fn front_of(alloc: Global, bytes: &[u8]) -> Result<Front, AllocError>
     ensures within { IfOk result (λ f. f.len ≤ length bytes.now) }
     ensures cuts { IfOk result (λ f. Cuts bytes.now f.frames.items (drop f.len bytes.now)) }
@@ -129,16 +162,49 @@ fn front_of(alloc: Global, bytes: &[u8]) -> Result<Front, AllocError>
     let mut frames = Vec::new(alloc);
     let mut len = 0usize;
     loop {
-        let flaw = match look(alloc, &bytes[len..])? {
-            Start::Whole(frame, count) => {
-                frames.push(frame)?;
-                len += count;
-                continue;
+        let flaw = match head_of(&bytes[len..]) {
+            Head::Unfinished => None,
+            Head::Whole(tag, body) => {
+                if push_frame(alloc, &mut frames, tag, body)? {
+                    len += HEAD + body.len();
+                    continue;
+                }
+                Some(Flaw::Field)
             }
-            Start::Unfinished => None,
-            Start::Refused(flaw) => Some(flaw),
+            Head::Refused(flaw) => Some(flaw),
         };
         return Ok(Front { frames, len, flaw });
+    }
+}
+
+// Puts the frame of this tag whose body these bytes are behind the others, and answers whether there is one.
+// Each kind of frame goes straight to its place: a frame is large to move.
+#[inline(always)]
+fn push_frame(
+    alloc: Global,
+    frames: &mut Vec<Frame>,
+    tag: u8,
+    body: &[u8],
+) -> Result<bool, AllocError>
+    ensures { IfOk result (λ is. IsPushed (frame_of tag body.now) frames.old.items frames.new.items is) }
+{
+    match tag {
+        1 => push_some(frames, request_of(alloc, body)?),
+        2 => push_some(frames, reply_of(body)),
+        _ => push_some(frames, stop_of(body)),
+    }
+}
+
+#[inline(always)]
+fn push_some(frames: &mut Vec<Frame>, frame: Option<Frame>) -> Result<bool, AllocError>
+    ensures { IfOk result (λ is. IsPushed frame frames.old.items frames.new.items is) }
+{
+    match frame {
+        Some(frame) => {
+            frames.push(frame)?;
+            Ok(true)
+        }
+        None => Ok(false),
     }
 }
 

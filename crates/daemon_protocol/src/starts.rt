@@ -1,6 +1,5 @@
-ghost use Rattle.std.specs.Prelude.{◌≡◌, ◌<◌, ◌≤◌, ◌+◌, ◌++◌, ℕ, List, length, IfOk};
-ghost use Rattle.std.specs.Int.{w32, from_be_bytes};
-ghost use Rattle.daemon_protocol.specs.Start.{look, look_tag, look_length, look_body, look_field};
+ghost use Rattle.std.specs.Prelude.{◌≡◌, ◌<◌, ◌≤◌, ◌+◌, ◌^◌, ◌++◌, ℕ, List, length, IfOk};
+ghost use Rattle.daemon_protocol.specs.Start.{look, look_tag, look_length, look_body, look_field, start_of, FitsBehind};
 ghost use Rattle.daemon_protocol.specs.declared.frames.Frame.{Frame};
 ghost use Rattle.daemon_protocol.specs.declared.starts.Start.TheVariants.{Unfinished, Whole};
 
@@ -34,54 +33,85 @@ pub enum Start {
     Refused(Flaw),
 }
 
+/// What the head of a frame says, and the body behind it where it is whole.
+pub(crate) enum Head<'a> {
+    /// Too few bytes to tell.
+    Unfinished,
+    /// The tag, and the body.
+    Whole(u8, &'a [u8]),
+    /// The start of no frame, whatever follows.
+    Refused(Flaw),
+}
+
 /// What stands at the start of the bytes.
 pub fn look(alloc: Global, bytes: &[u8]) -> Result<Start, AllocError>
     ensures { IfOk result (λ s. s ≡ look bytes.now) }
 {
-    match bytes {
-        [] => Ok(Start::Unfinished),
-        [tag, bytes @ ..] => look_tag(alloc, *tag, bytes),
+    match head_of(bytes) {
+        Head::Unfinished => Ok(Start::Unfinished),
+        Head::Whole(tag, body) => {
+            let frame = frame_of(alloc, tag, body)?;
+            Ok(look_field(body.len(), frame))
+        }
+        Head::Refused(flaw) => Ok(Start::Refused(flaw)),
     }
 }
 
-fn look_tag(alloc: Global, tag: u8, bytes: &[u8]) -> Result<Start, AllocError>
-    ensures { IfOk result (λ s. s ≡ look_tag tag bytes.now) }
+/// The head at the start of the bytes.
+#[inline(always)]
+pub(crate) fn head_of(bytes: &[u8]) -> Head<'_>
+    ensures start { start_of result ≡ look bytes.now }
+    ensures fits { FitsBehind 5 result (length bytes.now) }
+{
+    match bytes {
+        [] => Head::Unfinished,
+        [tag, bytes @ ..] => head_of_tag(*tag, bytes),
+    }
+}
+
+#[inline(always)]
+fn head_of_tag(tag: u8, bytes: &[u8]) -> Head<'_>
+    ensures start { start_of result ≡ look_tag tag bytes.now }
+    ensures fits { FitsBehind 4 result (length bytes.now) }
 {
     if tag == 1 || tag == 2 || tag == 3 {
-        look_length(alloc, tag, bytes)
+        head_of_length(tag, bytes)
     } else {
-        Ok(Start::Refused(Flaw::Tag))
+        Head::Refused(Flaw::Tag)
     }
 }
 
-fn look_length(alloc: Global, tag: u8, bytes: &[u8]) -> Result<Start, AllocError>
-    ensures { IfOk result (λ s. s ≡ look_length tag bytes.now) }
+#[inline(always)]
+fn head_of_length(tag: u8, bytes: &[u8]) -> Head<'_>
+    ensures start { start_of result ≡ look_length tag bytes.now }
+    ensures fits { FitsBehind 4 result (length bytes.now) }
 {
     if bytes.len() < 4 {
-        return Ok(Start::Unfinished);
+        return Head::Unfinished;
     }
-    look_body(alloc, tag, number_of(&bytes[..4]) as usize, &bytes[4..])
+    head_of_body(tag, number_of(&bytes[..4]) as usize, &bytes[4..])
 }
 
-fn look_body(alloc: Global, tag: u8, len: usize, bytes: &[u8]) -> Result<Start, AllocError>
-    ensures { IfOk result (λ s. s ≡ look_body tag len bytes.now) }
+#[inline(always)]
+fn head_of_body(tag: u8, len: usize, bytes: &[u8]) -> Head<'_>
+    ensures start { start_of result ≡ look_body tag len bytes.now }
+    ensures fits { FitsBehind 0 result (length bytes.now) }
 {
     if MOST_BYTES < len {
-        return Ok(Start::Refused(Flaw::Length));
+        return Head::Refused(Flaw::Length);
     }
     if bytes.len() < len {
-        return Ok(Start::Unfinished);
+        return Head::Unfinished;
     }
-    let frame = frame_of(alloc, tag, &bytes[..len])?;
-    Ok(look_field(len, frame))
+    Head::Whole(tag, &bytes[..len])
 }
 
 fn look_field(len: usize, frame: Option<Frame>) -> Start
-    requires { len ≤ 65536 }
+    requires { 5 + len < 2 ^ 64 }
     ensures { result ≡ look_field len frame }
 {
     match frame {
-        Some(frame) => Start::Whole(frame, 5 + len),
+        Some(frame) => Start::Whole(frame, HEAD + len),
         None => Start::Refused(Flaw::Field),
     }
 }
