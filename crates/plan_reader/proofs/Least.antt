@@ -1,5 +1,5 @@
 -- The least number that passes a test.
-use Rattle.std.proofs.Common.{◌≡◌, ℕ, zero, suc, ◌+◌, ◌<◌, ◌≤◌, Bool, true, false, Some, None, refl, ap, sym, arith, inl, inr}
+use Rattle.std.proofs.Common.{◌≡◌, ℕ, zero, suc, ◌+◌, ◌<◌, ◌≤◌, Bool, true, false, Some, None, refl, ap, sym, subst, arith, inl, inr}
 use Rattle.std.proofs.lemmas.Bool.{cases_eq, cases_Bool}
 use Rattle.std.proofs.lemmas.Option.{none-some}
 use Rattle.std.specs.Option.{option_map_or}
@@ -42,4 +42,21 @@ least_fails test i (suc n) e k low high =
             | inl same ↦ rw (sym same) fails
             | inr other ↦ least_fails test (i + 1) n (rw fails at e) k (omega arith) (omega arith)
           ]
+    ]
+
+pub least_first : (test : ℕ → Bool) (i n j : ℕ) → least_from test i n ≡ Some j → (test j ≡ true) × ((k : ℕ) → i ≤ k → k < j → test k ≡ false)
+least_first test i zero j e = absurd (none-some j e)
+least_first test i (suc n) j e =
+    elim (cases_Bool (test i)) [
+      | inl passes ↦
+          let here : i ≡ j = some_is i j (rw passes at e) in
+          (subst (λ k. test k ≡ true) here passes, λ k low high. absurd (omega (arith, here, low, high)))
+      | inr fails ↦
+          let later = least_first test (i + 1) n j (rw fails at e) in (
+            later.0,
+            λ k low high. elim (cases_eq i k) [
+              | inl same ↦ rw (sym same) fails
+              | inr other ↦ later.1 k (omega (arith, low, other)) high
+            ],
+          )
     ]

@@ -9,5 +9,10 @@ pub mod Pairs
 pub mod Quiet
 pub mod Numbers
 pub mod Accepted
+pub mod FirstTwice
+pub mod FirstRows
+pub mod Seen
+pub mod FirstRefusal
+pub mod FirstOfText
 pub mod Answering
 pub mod OneAnswer

@@ -1,6 +1,6 @@
 -- What follows where no test holds.
 use Rattle.std.proofs.Common.{◌≡◌, ◌≢◌, cond, nat_lt, Bool, true, false, List, map, [], take, length, get_or, Option, Some, None, option_map, refl, sym, ◌∙◌, arith, inl, inr}
-use Rattle.std.specs.List.{All, AllPairs, list_any, position, position_or_len, slice_get}
+use Rattle.std.specs.List.{All, AllPairs, list_any, position, position_or_len}
 use Rattle.std.specs.Option.{option_or}
 use Rattle.std.specs.Str.{bytes_eq}
 use Rattle.std.proofs.lemmas.Bool.{true≢false, cases_Bool, ltb-false}
@@ -11,12 +11,12 @@ use Rattle.std.proofs.lemmas.Option.{none-some}
 use Rattle.std.proofs.lemmas.Slice.Eq.{bytes_eq-Decides}
 use Rattle.toml.specs.Data.{Data}
 use Rattle.plan_table.specs.declared.refusals.Part.{Part}
-use Rattle.plan_table.specs.declared.refusals.Part.TheVariants.{Plan, Project, Task, Requirements}
 use Rattle.plan_table.specs.First.{part_number}
 use Rattle.plan_table.specs.Forms.{Text}
 use Rattle.plan_table.specs.Keys.{name_of}
 use Rattle.plan_table.specs.Search.{places, parts}
-use Rattle.plan_table.proofs.FirstLaws.{first_of_none}
+use Rattle.plan_table.proofs.FirstAnswers.{first_of_none}
+use Rattle.plan_table.proofs.FirstPlaces.{part_at}
 use Rattle.plan_reader.specs.declared.rows.Row.{Row}
 use Rattle.plan_reader.specs.Names.{names_in, is_repeat, first_repeat}
 use Rattle.plan_reader.specs.Rows.{holds}
@@ -30,12 +30,6 @@ neither (Some x) b e = absurd (none-some x (sym e))
 pub unmapped : {X Y : Type 0} (f : X → Y) (o : Option X) → option_map f o ≡ None → o ≡ None
 unmapped f None e = refl
 unmapped f (Some x) e = absurd (none-some (f x) (sym e))
-
-part_at : (p : Part) → slice_get parts (part_number p) ≡ Some p
-part_at Plan = refl
-part_at Project = refl
-part_at Task = refl
-part_at Requirements = refl
 
 -- ---- the rows
 

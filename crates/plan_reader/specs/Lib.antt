@@ -8,3 +8,4 @@ pub mod Rows
 pub mod Search
 pub mod Planned
 pub mod Reading
+pub mod First

@@ -14,7 +14,10 @@ mod read;
 mod rows;
 mod search;
 
-pub use laws::{a_row_that_refuses_nothing_holds_nowhere, a_text_has_one_answer};
+pub use laws::{
+    a_row_that_refuses_nothing_holds_nowhere, a_text_has_one_answer,
+    the_answer_is_the_first_refusal,
+};
 pub use plan_table::{Part, Place, PlanFail, PlanRefusal, Which};
 pub use plans::{Plan, PlanAction, PlanTask};
 pub use read::read_plan;

@@ -18,7 +18,8 @@ use Rattle.plan_table.specs.Keys.{projects_of, tasks_of, name_of, actions_of, it
 use Rattle.plan_table.specs.Tables.{holds}
 use Rattle.plan_table.specs.Search.{holds_in_action, holds_at, places, table_refusal}
 use Rattle.plan_table.specs.Formed.{IsFetch, IsFormedAction, IsFormed}
-use Rattle.plan_table.proofs.FirstLaws.{no_refusal}
+use Rattle.plan_table.proofs.FirstPlaces.{spot}
+use Rattle.plan_table.proofs.FirstLaws.{no_test}
 
 -- of each element the test fails
 none_passes : {X : Type 0} (test : X → Bool) (xs : List X) → list_any test xs ≡ false → All (λ x. test x ≡ false) xs
@@ -30,7 +31,10 @@ none_passes test xs none k d within =
 
 quiet : (d : Data) → table_refusal d ≡ None → (t : TableTest) (p : Part) → All (λ x. holds_at t p x ≡ false) (places d p)
 quiet d none t p k x within =
-    sym (ap (λ o. option_map_or (holds_at t p) o false) (slice_get-get_or (places d p) k x within)) ∙ no_refusal d none (record { test = t; part = p; number = k })
+    elim (cases_Bool (holds_at t p (get_or (places d p) k x))) [
+      | inl passes ↦ absurd (no_test d none t (spot p k) (ap (λ o. option_map_or (holds_at t p) o false) (slice_get-get_or (places d p) k x within) ∙ passes))
+      | inr fails ↦ fails
+    ]
 
 -- ---- texts
 

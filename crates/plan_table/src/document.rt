@@ -6,11 +6,9 @@ ghost use Rattle.plan_table.specs.Document.{document_of, document_or_not_toml, d
 
 use crate::keys::{projects_of, requirements_of, tasks_of};
 use crate::refusals::{PlanFail, PlanRefusal};
+use item_actions::MOST_FILE_BYTES;
 use std::alloc::Global;
 use toml::Value;
-
-/// The most bytes of a plan.
-const MOST_BYTES: usize = 4_194_304;
 
 fn parse_document(alloc: Global, bytes: &[u8]) -> Result<Value, PlanFail>
     ensures { ReadsDocument result (document_or_not_toml (document_of bytes.now)) }
@@ -51,7 +49,7 @@ pub fn read_document(alloc: Global, bytes: &[u8]) -> Result<Value, PlanFail>
     ensures document { ReadsDocument result (document_reading bytes.now) }
     ensures numbered { IfOk result (λ v. is_numbered (view v) ≡ true) }
 {
-    if bytes.len() > MOST_BYTES {
+    if bytes.len() as u64 > MOST_FILE_BYTES {
         return Err(PlanFail::Refused(PlanRefusal::TooLong));
     }
     let document = parse_document(alloc, bytes)?;

@@ -123,7 +123,7 @@ const WITH_AN_EXECUTABLE: &str =
     r#"Requirements 0: requirements = [{ name = 'r', executable = "@" }]"#;
 
 const EXECUTABLES: &str = r#"fine: self
-fine: /opt/a b/../ä=
+fine: /a b/../ä=
 fine: /^255
 BadName: /^256
 BadName: a^0
