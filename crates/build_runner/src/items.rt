@@ -13,13 +13,10 @@ ghost use Rattle.build_runner.specs.Kept.{Keeps};
 
 use crate::steps::{claim, close};
 use daemon_requirements::Work;
-use item_actions::{Outcome, act};
+use item_actions::{MOST_FILE_BYTES, Outcome, act};
 use lock_journal::{Book, Closed};
 use std::alloc::{AllocError, Global};
 use worker_desk::{DeskFail, Files, Read};
-
-/// A file of more bytes than this, 4 MiB, is too long.
-const MOST_BYTES: u64 = 4_194_304;
 
 /// Works an item out on the bytes of its file.
 ///
@@ -32,7 +29,7 @@ fn work_out<D: Files>(alloc: Global, work: &Work, desk: &mut D) -> Outcome
     ensures fault { result ≡ outcomes.Fault → Rises (D.faults desk.old) (D.faults desk.new) }
     ensures honest { IfSome (D.files desk.old) (λ files. IsHonest result (value_in files (Some (item_unit (work_shape work.now))))) }
 {
-    match desk.read(alloc, &work.file, MOST_BYTES) {
+    match desk.read(alloc, &work.file, MOST_FILE_BYTES) {
         Ok(Read::Bytes(bytes)) => act(&work.action, bytes.as_slice()),
         Ok(Read::NotThere) => Outcome::NotThere,
         Ok(Read::TooLong) => Outcome::TooLong,

@@ -9,7 +9,7 @@ use Rattle.clap.specs.Faults.{fault_of}
 use Rattle.command_words.specs.Numbers.{count_of}
 use Rattle.command_words.specs.Rules.{run_app}
 use Rattle.command_words.specs.declared.commands.Command.{Command}
-use Rattle.command_words.specs.declared.commands.Command.TheVariants.{Run}
+use Rattle.command_words.specs.declared.commands.Command.TheVariants.{Run, Worker}
 use Rattle.command_words.specs.declared.commands.RunWords.{RunWords}
 
 -- a flag that was named
@@ -49,10 +49,12 @@ run_of_rows rows =
 abbrev pub run_of : List Text → Option RunWords
 run_of words = if is_empty (fault_of run_app words) then run_of_rows (matches_of run_app words) else None
 
--- the first word is the command's name
+-- the first word is the command's name; what follows `worker` isn't looked at
 abbrev pub command_of : List Text → Option Command
 command_of [] = None
-command_of (name ∷ words) = if bytes_eq name (codes "run") then option_map Run (run_of words) else None
+command_of (name ∷ words) =
+    if bytes_eq name (codes "run") then option_map Run (run_of words)
+    else (if bytes_eq name (codes "worker") then Some Worker else None)
 
 -- the numbers that a command may have
 pub record HasBounds (run : RunWords) : Type 0 where
@@ -63,3 +65,4 @@ pub record HasBounds (run : RunWords) : Type 0 where
 
 abbrev pub IsBounded : Command → Type 0
 IsBounded (Run run) = HasBounds run
+IsBounded Worker = Unit {0}

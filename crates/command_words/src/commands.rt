@@ -8,6 +8,8 @@ use std::alloc::{AllocError, AllocFailed};
 pub enum Command {
     /// Reads a plan, runs it and prints.
     Run(RunWords),
+    /// Answers the requests of a stream.
+    Worker,
 }
 
 /// What the words of `run` ask for.

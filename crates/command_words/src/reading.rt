@@ -140,9 +140,10 @@ fn read_run(alloc: Global, words: &[Text]) -> Result<RunWords, WordsFail>
 
 /// The command that the words after the program's name are.
 ///
-/// The first word is the command's name, `run`. Behind it stand the name of the plan's file and, in any
-/// order, `--max-workers` and `--threads` with a number each, `--parallel`, `--history` and
-/// `--summary`. NoCommand comes exactly where the words are none.
+/// The first word is the command's name, `run` or `worker`. Behind `run` stand the name of the plan's
+/// file and, in any order, `--max-workers` and `--threads` with a number each, `--parallel`,
+/// `--history` and `--summary`. What stands behind `worker` isn't looked at. NoCommand comes exactly
+/// where the words are none.
 pub fn read_command(alloc: Global, words: &[Text]) -> Result<Command, WordsFail>
     ensures ok { IfOk result (λ command. command_of words.now ≡ Some command) }
     ensures bounds { IfOk result IsBounded }
@@ -151,9 +152,12 @@ pub fn read_command(alloc: Global, words: &[Text]) -> Result<Command, WordsFail>
     let [name, rest @ ..] = words else {
         return Err(WordsFail::NoCommand);
     };
-    if name.as_str() != "run" {
-        return Err(WordsFail::NoCommand);
+    match name.as_str() {
+        "run" => {
+            let run = read_run(alloc, rest)?;
+            Ok(Command::Run(run))
+        }
+        "worker" => Ok(Command::Worker),
+        _ => Err(WordsFail::NoCommand),
     }
-    let run = read_run(alloc, rest)?;
-    Ok(Command::Run(run))
 }

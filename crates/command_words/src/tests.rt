@@ -49,7 +49,7 @@ static COMMANDS: [(&str, &str); 35] = [
 ];
 
 /// Words with `|` between them that are no command.
-static NO_COMMANDS: [&str; 104] = [
+static NO_COMMANDS: [&str; 109] = [
     "run",
     "run|",
     "run|p|q",
@@ -131,7 +131,12 @@ static NO_COMMANDS: [&str; 104] = [
     "Run|p",
     "run |p",
     "p",
-    "worker",
+    "Worker",
+    "workers",
+    "worke",
+    " worker",
+    "worker ",
+    "--help|worker",
     "check|p",
     "make|7|a.txt",
     "--max-workers|1|run|p",
@@ -154,6 +159,17 @@ static NO_COMMANDS: [&str; 104] = [
     "run|p|--threads|0x4",
     "run|p|--threads|4_0",
     "run|p|--threads|4.0",
+];
+
+/// Words with `|` between them that are the worker's command.
+static WORKERS: [&str; 7] = [
+    "worker",
+    "worker|",
+    "worker|-x",
+    "worker|--help|run",
+    "worker|--|--",
+    "worker|worker",
+    "worker|run|p|--threads|33",
 ];
 
 fn words_of(alloc: Global, line: &str) -> Result<Vec<Text>, AllocError> {
@@ -187,6 +203,16 @@ fn words_are_the_commands_of_the_table(rt: HostRuntime) -> Result<(), Fail> {
             return Err(Fail::new(*line));
         };
         assert_eq!(rt; spelled(rt.alloc(), &run)?.as_str(), *expected);
+    }
+    Ok(())
+}
+
+#[test]
+fn words_behind_worker_are_not_looked_at(rt: HostRuntime) -> Result<(), Fail> {
+    for line in &WORKERS {
+        let words = words_of(rt.alloc(), line)?;
+        let read = read_command(rt.alloc(), &words);
+        assert!(rt; matches!(read, Ok(Command::Worker)), "{line}");
     }
     Ok(())
 }

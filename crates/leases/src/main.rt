@@ -1,4 +1,4 @@
-//! The program: the words, the real files and standard output, and the one call that does the rest.
+//! The program: the words, the real files, standard input and output, and the one call that does the rest.
 #![tactic(auto)]
 
 use item_actions::Text;
@@ -7,7 +7,7 @@ use std::alloc::{AllocError, AllocFailed, Global};
 use std::io::ErrorKind;
 use std::process::ExitCode;
 use std::{env, io};
-use worker_desk::{FolderDesk, StdSink};
+use worker_desk::{FolderDesk, StdSink, StdSource};
 
 /// As many desks as a run may have threads.
 const DESKS: usize = 32;
@@ -55,8 +55,9 @@ fn run(rt: &HostRuntime) -> Result<Status, Hindrance> {
     for _ in 0..DESKS {
         desks.push(FolderDesk::new(rt))?;
     }
+    let mut input = StdSource::new(rt.stdin());
     let mut out = StdSink::new(io::writer(rt));
-    Ok(leases(alloc, &words, &mut desks, &mut out).status)
+    Ok(leases(alloc, &words, &mut desks, &mut input, &mut out).status)
 }
 
 fn main(rt: HostRuntime) -> ExitCode {

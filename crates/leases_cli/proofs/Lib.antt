@@ -1,4 +1,5 @@
 pub mod NeverNotYet
 pub mod Readings
 pub mod Reports
+pub mod Commands
 pub mod Completing

@@ -1,5 +1,5 @@
 -- The report of a run by the book is that by the plan.
-use Rattle.std.proofs.Common.{◌≡◌, ℕ, zero, suc, ◌+◌, ◌<◌, ◌≤◌, Bool, true, false, ◌&&◌, List, [], ◌∷◌, ◌++◌, length, Option, None, Some, refl, sym, ◌∙◌, ap, subst, arith, inl, inr}
+use Rattle.std.proofs.Common.{◌≡◌, ℕ, zero, suc, ◌+◌, ◌<◌, ◌≤◌, Bool, true, false, ◌&&◌, List, [], ◌∷◌, ◌++◌, length, Option, Some, refl, sym, ◌∙◌, ap, subst, arith}
 use Rattle.std.specs.Prelude.{if◌then◌else◌}
 use Rattle.std.specs.List.{list_all, range_with_len}
 use Rattle.item_actions.specs.Files.{Folder}
@@ -21,17 +21,13 @@ use Rattle.run_laws.specs.Outcomes.{task_outcome}
 use Rattle.run_laws.specs.Runs.{ComesTo}
 use Rattle.build_runner.specs.Run.{IsRunOf, values_of, depth}
 use Rattle.build_runner.specs.declared.options.RunOptions.{RunOptions}
-use Rattle.command_words.specs.Failing.{NoMemoryOr}
-use Rattle.command_words.specs.Reading.{command_of}
-use Rattle.command_words.specs.declared.commands.WordsFail.{WordsFail}
-use Rattle.command_words.specs.declared.commands.WordsFail.TheVariants.{NoCommand}
 use Rattle.command_words.specs.declared.commands.RunWords.{RunWords}
 use Rattle.history_text.specs.Results.{results_text, summary_text, task_marks}
 use Rattle.worker_desk.specs.Sunk.{Sunk}
-use Rattle.leases_cli.specs.Answered.{Answered, IsNamedRun, IsToldAs, all_pass, have_all_passed, history_asked, run_text, text_by_book}
+use Rattle.leases_cli.specs.Answered.{RunAnswered, IsNamedRun, all_pass, have_all_passed, history_asked, run_text, text_by_book}
 use Rattle.leases_cli.specs.Reported.{IsReported}
 use Rattle.leases_cli.specs.declared.status.Status.{Status}
-use Rattle.leases_cli.specs.declared.status.Status.TheVariants.{Passed, TaskFailed, BadWords, BadPlan, NoPlan, PlanFault, SinkFault, NoMemory}
+use Rattle.leases_cli.specs.declared.status.Status.TheVariants.{Passed, TaskFailed, BadWords, BadPlan, NoPlan, PlanFault, SinkFault, BadFrame, SourceFault, NoMemory}
 
 -- what the laws say that are called
 abbrev pub UnitsByNumber : Type 0
@@ -88,28 +84,18 @@ earlier_start plan options told told' start before after b e le run = record {
   faults = λ lt. let f = run.faults lt in omega arith;
 }
 
--- what was reported of a run is the call's answer
-pub reported_answers : (words : List (List ℕ)) (told : Option Folder) (before after : ℕ) (old new : Sunk) (asked : RunWords) (plan : PlanShape) (b : Journal) (book : Option Journal) (status : Status) → book ≡ Some b → IsNamedRun words told before after asked plan b → IsReported (all_pass plan b.graph (values_of plan told b.history)) old new (run_text asked plan told b) status → Answered words told before after old new status book
-reported_answers words told before after old new asked plan b book status e run reported = subst (Answered words told before after old new status) (sym e) (by_status status reported)
+-- what was reported of a run is its answer
+pub reported_answers : (asked : RunWords) (told : Option Folder) (before after : ℕ) (old new : Sunk) (plan : PlanShape) (b : Journal) (book : Option Journal) (status : Status) → book ≡ Some b → IsNamedRun asked told before after plan b → IsReported (all_pass plan b.graph (values_of plan told b.history)) old new (run_text asked plan told b) status → RunAnswered asked told before after old new status book
+reported_answers asked told before after old new plan b book status e run reported = subst (RunAnswered asked told before after old new status) (sym e) (by_status status reported)
   where
-    by_status : (s : Status) → IsReported (all_pass plan b.graph (values_of plan told b.history)) old new (run_text asked plan told b) s → Answered words told before after old new s (Some b)
-    by_status Passed r = (asked, plan, run, r)
-    by_status TaskFailed r = (asked, plan, run, r)
-    by_status SinkFault r = (asked, plan, run, r)
+    by_status : (s : Status) → IsReported (all_pass plan b.graph (values_of plan told b.history)) old new (run_text asked plan told b) s → RunAnswered asked told before after old new s (Some b)
+    by_status Passed r = (plan, run, r)
+    by_status TaskFailed r = (plan, run, r)
+    by_status SinkFault r = (plan, run, r)
     by_status BadWords r = absurd r
     by_status (BadPlan refusal) r = absurd r
     by_status NoPlan r = absurd r
     by_status PlanFault r = absurd r
+    by_status (BadFrame place) r = absurd r
+    by_status SourceFault r = absurd r
     by_status NoMemory r = absurd r
-
--- what was told instead of a command is no want of memory
-pub no_command : (P : Type 0) (f : WordsFail) → f ≡ NoCommand → NoMemoryOr P f → P
-no_command P f is h = subst (NoMemoryOr P) is h
-
--- words that are no command are refused
-pub bad_words_answered : (words : List (List ℕ)) (told : Option Folder) (before after : ℕ) (old new : Sunk) (book : Option Journal) (status : Status) → command_of words ≡ None → book ≡ None → IsToldAs BadWords old new status → Answered words told before after old new status book
-bad_words_answered words told before after old new book status none e refused = subst (Answered words told before after old new status) (sym e) (by_report refused)
-  where
-    by_report : IsToldAs BadWords old new status → Answered words told before after old new status None
-    by_report (inl r) = subst (λ (s : Status). Answered words told before after old new s None) (sym r.0) (none, r.1)
-    by_report (inr r) = subst (λ (s : Status). Answered words told before after old new s None) (sym r.0) (BadWords, none, r.1)

@@ -18,20 +18,21 @@ use Rattle.build_runner.specs.Run.{IsRunOf, values_of, depth}
 use Rattle.build_runner.specs.declared.options.RunOptions.{RunOptions}
 use Rattle.history_text.specs.Text.{history_text}
 use Rattle.history_text.specs.Results.{results_text, summary_text, task_marks}
-use Rattle.command_words.specs.Reading.{command_of}
-use Rattle.command_words.specs.declared.commands.Command.TheVariants.{Run}
+use Rattle.command_words.specs.declared.commands.Command.{Command}
+use Rattle.command_words.specs.declared.commands.Command.TheVariants.{Run, Worker}
 use Rattle.command_words.specs.declared.commands.RunWords.{RunWords}
-use Rattle.leases_cli.specs.Causes.{IsPlanAt, IsCause}
+use Rattle.daemon_worker.specs.Serving.{Outside}
+use Rattle.leases_cli.specs.Causes.{IsPlanAt, IsReadCause}
 use Rattle.leases_cli.specs.Lines.{line_of}
+use Rattle.leases_cli.specs.Worker.{HasWorked}
 use Rattle.leases_cli.specs.declared.status.Status.{Status}
-use Rattle.leases_cli.specs.declared.status.Status.TheVariants.{Passed, TaskFailed, SinkFault, NoMemory}
+use Rattle.leases_cli.specs.declared.status.Status.TheVariants.{Passed, TaskFailed, BadWords, SinkFault, NoMemory}
 
 abbrev pub options_of : RunWords → RunOptions
 options_of run = record { workers = run.workers; max = run.max; parallel = run.parallel }
 
--- The book is that of a run of the plan that the words name, with their options.
-pub record IsNamedRun (words : List (List ℕ)) (told : Option Folder) (before after : ℕ) (asked : RunWords) (plan : PlanShape) (b : Journal) : Type 0 where
-  pub command : command_of words ≡ Some (Run asked)
+-- The book is that of a run of this plan, which stands under the name that is asked for, with the options asked for.
+pub record IsNamedRun (asked : RunWords) (told : Option Folder) (before after : ℕ) (plan : PlanShape) (b : Journal) : Type 0 where
   pub named : IsPlanAt told asked.plan plan
   pub run : IsRunOf plan (options_of asked) told before after b
 
@@ -62,33 +63,43 @@ text_by_book asked plan b = results_asked asked plan (task_marks b.state) (outco
 abbrev pub run_text : RunWords → PlanShape → Option Folder → Journal → List ℕ
 run_text asked plan told b = text_by_plan asked plan (values_of plan told b.history) b
 
--- ---- the answer
+-- ---- a refusal
 
--- of the run of some plan that the words name this holds
-abbrev pub OfRun : List (List ℕ) → Option Folder → ℕ → ℕ → Journal → (RunWords → PlanShape → Type 0) → Type 0
-OfRun words told before after b P = (asked : RunWords) × (plan : PlanShape) × IsNamedRun words told before after asked plan b × P asked plan
-
--- whether all its tasks pass, and that its text was written
-abbrev pub RunWrote : Bool → Option Folder → Sunk → Sunk → Journal → RunWords → PlanShape → Type 0
-RunWrote passed told old new b asked plan = (all_pass plan b.graph (values_of plan told b.history) ≡ passed) × Wrote old new (run_text asked plan told b)
-
--- What a status and a book say, by the words, the files where told, the desk's count of faults before and after, and the sink before and after.
-abbrev pub Answered : List (List ℕ) → Option Folder → ℕ → ℕ → Sunk → Sunk → Status → Option Journal → Type 0
--- every task passed, and all of the text was written
-Answered words told before after old new Passed (Some b) = OfRun words told before after b (RunWrote true told old new b)
--- some task didn't, and all of the text was written
-Answered words told before after old new TaskFailed (Some b) = OfRun words told before after b (RunWrote false told old new b)
--- the sink failed, and has the beginning of the text
-Answered words told before after old new SinkFault (Some b) = OfRun words told before after b (λ asked plan. Broke old new (run_text asked plan told b))
--- the sink failed, and has the beginning of a refusal's line
-Answered words told before after old new SinkFault None =
-    (refusal : Status) × IsCause words told before after refusal × Broke old new (line_of refusal)
--- there was no memory, and nothing was written
-Answered words told before after old new NoMemory None = Wrote old new []
--- a refusal, and its line was written
-Answered words told before after old new refusal None = IsCause words told before after refusal × Wrote old new (line_of refusal)
-Answered words told before after old new refusal (Some b) = ⊥
-
--- the line of a refusal was written, or the sink failed
+-- the line of a refusal was written, or the sink failed in it
 abbrev pub IsToldAs : Status → Sunk → Sunk → Status → Type 0
 IsToldAs refusal old new status = ((status ≡ refusal) × Wrote old new (line_of refusal)) ⊎ ((status ≡ SinkFault) × Broke old new (line_of refusal))
+
+-- there was no memory, and nothing was written; or a refusal was told that has its cause
+abbrev pub IsRefusedFor : (Status → Type 0) → Sunk → Sunk → Status → Type 0
+IsRefusedFor IsCause old new status = ((status ≡ NoMemory) × Wrote old new []) ⊎ ((refusal : Status) × IsCause refusal × IsToldAs refusal old new status)
+
+-- ---- the answer
+
+-- of the run of some plan this holds
+abbrev pub OfRun : RunWords → Option Folder → ℕ → ℕ → Journal → (PlanShape → Type 0) → Type 0
+OfRun asked told before after b P = (plan : PlanShape) × IsNamedRun asked told before after plan b × P plan
+
+-- whether all its tasks pass, and that its text was written
+abbrev pub RunWrote : Bool → RunWords → Option Folder → Sunk → Sunk → Journal → PlanShape → Type 0
+RunWrote passed asked told old new b plan = (all_pass plan b.graph (values_of plan told b.history) ≡ passed) × Wrote old new (run_text asked plan told b)
+
+-- How a run ended, by the files where told, the desk's count of faults before and after, and the sink before and after.
+abbrev pub RunEnded : RunWords → Option Folder → ℕ → ℕ → Sunk → Sunk → Journal → Status → Type 0
+-- every task passed, and all of the text was written
+RunEnded asked told before after old new b Passed = OfRun asked told before after b (RunWrote true asked told old new b)
+-- some task didn't, and all of the text was written
+RunEnded asked told before after old new b TaskFailed = OfRun asked told before after b (RunWrote false asked told old new b)
+-- the sink failed, and has the beginning of the text
+RunEnded asked told before after old new b SinkFault = OfRun asked told before after b (λ plan. Broke old new (run_text asked plan told b))
+RunEnded asked told before after old new b _ = ⊥
+
+-- What `run` answers: a run ended; or there was no memory, or no plan was read, for a cause that was told.
+abbrev pub RunAnswered : RunWords → Option Folder → ℕ → ℕ → Sunk → Sunk → Status → Option Journal → Type 0
+RunAnswered asked told before after old new status (Some b) = RunEnded asked told before after old new b status
+RunAnswered asked told before after old new status None = IsRefusedFor (IsReadCause told before after asked.plan) old new status
+
+-- What a call answers, by the command, if the words are one, and the outside before and after.
+abbrev pub Answered : Option Command → Outside → Outside → Status → Option Journal → Type 0
+Answered None old new status book = (book ≡ None) × IsRefusedFor (λ refusal. refusal ≡ BadWords) old.sink new.sink status
+Answered (Some (Run asked)) old new status book = RunAnswered asked old.files old.faults new.faults old.sink new.sink status book
+Answered (Some Worker) old new status book = (book ≡ None) × HasWorked old new status

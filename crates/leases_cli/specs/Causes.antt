@@ -9,11 +9,8 @@ use Rattle.plan_table.specs.declared.refusals.PlanFail.TheVariants as fail
 use Rattle.plan_reader.specs.Plan.{PlanShape}
 use Rattle.plan_reader.specs.Reading.{Reads}
 use Rattle.build_runner.specs.CanRun.{can_run}
-use Rattle.command_words.specs.Reading.{command_of}
-use Rattle.command_words.specs.declared.commands.Command.TheVariants.{Run}
-use Rattle.command_words.specs.declared.commands.RunWords.{RunWords}
 use Rattle.leases_cli.specs.declared.status.Status.{Status}
-use Rattle.leases_cli.specs.declared.status.Status.TheVariants.{BadWords, BadPlan, NoPlan, PlanFault, NoMemory}
+use Rattle.leases_cli.specs.declared.status.Status.TheVariants.{BadPlan, NoPlan, PlanFault, NoMemory}
 
 -- the file of this name has these bytes, where the files are told
 abbrev pub HasBytes : Option Folder → List ℕ → List ℕ → Type 0
@@ -51,15 +48,6 @@ IsReadCause told before after name (BadPlan refusal) = IsRefusedAt told name ref
 IsReadCause told before after name NoPlan = LacksFile told name
 IsReadCause told before after name PlanFault = Rises before after
 IsReadCause told before after name _ = ⊥
-
--- the words are a command of which this holds
-abbrev pub OfCommand : List (List ℕ) → (RunWords → Type 0) → Type 0
-OfCommand words P = (run : RunWords) × (command_of words ≡ Some (Run run)) × P run
-
--- Why a status refuses, by the words, the files where told, and the desk's count of faults before and after.
-abbrev pub IsCause : List (List ℕ) → Option Folder → ℕ → ℕ → Status → Type 0
-IsCause words told before after BadWords = command_of words ≡ None
-IsCause words told before after status = OfCommand words (λ run. IsReadCause told before after run.plan status)
 
 -- memory was wanting, or P holds
 abbrev pub OrNoMemory : Type 0 → Status → Type 0

@@ -1,17 +1,23 @@
 -- What a call comes to where nothing failed.
-use Rattle.std.specs.Prelude.{ℕ, ◌≡◌, ◌-◌, ◌^◌, ◌<◌, List, Option, None, Some, Bool, true, false}
+use Rattle.std.specs.Prelude.{ℕ, ◌≡◌, ◌-◌, ◌^◌, ◌<◌, ◌⊎◌, List, Option, None, Some, Bool, true, false}
+use Rattle.std.specs.List.{AllByRecursion}
 use Rattle.item_actions.specs.Files.{Folder, file_of}
+use Rattle.item_actions.specs.declared.outcomes.Outcome.TheVariants as outcome
 use Rattle.lock_journal.specs.Journal.{Journal}
-use Rattle.worker_desk.specs.Sunk.{Sunk}
 use Rattle.plan_reader.specs.Plan.{PlanShape}
 use Rattle.run_laws.specs.ClosedBy.{faults_by}
 use Rattle.build_runner.specs.Phases.{first_worker}
 use Rattle.build_runner.specs.Run.{values_of}
-use Rattle.command_words.specs.Reading.{command_of}
-use Rattle.command_words.specs.declared.commands.Command.TheVariants.{Run}
+use Rattle.command_words.specs.declared.commands.Command.{Command}
+use Rattle.command_words.specs.declared.commands.Command.TheVariants.{Run, Worker}
 use Rattle.command_words.specs.declared.commands.RunWords.{RunWords}
+use Rattle.daemon_worker.specs.Answer.{Answer, value_on}
+use Rattle.daemon_worker.specs.Serving.{Outside, HasServed}
+use Rattle.daemon_worker.specs.declared.serving.Served.{Served}
+use Rattle.daemon_worker.specs.declared.serving.Served.TheVariants as ends
 use Rattle.leases_cli.specs.Answered.{all_pass}
 use Rattle.leases_cli.specs.Causes.{IsPlanToRun}
+use Rattle.leases_cli.specs.Worker.{status_of}
 use Rattle.leases_cli.specs.declared.status.Status.{Status}
 use Rattle.leases_cli.specs.declared.status.Status.TheVariants.{Passed, TaskFailed, NoMemory}
 
@@ -20,10 +26,10 @@ pub record MetNoFault (before after : ℕ) : Type 0 where
   pub same : after ≡ before
   pub below : before < 2 ^ 64 - 1
 
--- the words are a command, and the files have this plan under the name that it gives
-pub record HasPlan (words : List (List ℕ)) (files : Folder) (plan : PlanShape) : Type 0 where
-  pub asked : RunWords
-  pub command : command_of words ≡ Some (Run asked)
+-- ---- a run
+
+-- the files have this plan under the name that is asked for
+pub record HasPlan (asked : RunWords) (files : Folder) (plan : PlanShape) : Type 0 where
   pub bytes : List ℕ
   pub file : file_of files asked.plan ≡ Some bytes
   pub reading : IsPlanToRun bytes plan
@@ -37,7 +43,36 @@ abbrev pub HasSucceeded : PlanShape → Folder → Status → Option Journal →
 HasSucceeded plan files status (Some b) = (faults_by first_worker b.history ≡ 0) × (status ≡ status_by (all_pass plan b.graph (values_of plan (Some files) b.history)))
 HasSucceeded plan files status None = status ≡ NoMemory
 
--- where the files are told and have the plan, and neither the desk nor the sink met a fault
-abbrev pub IsComplete : List (List ℕ) → Option Folder → ℕ → ℕ → Sunk → Sunk → Status → Option Journal → Type 0
-IsComplete words told before after old new status book =
-    (files : Folder) (plan : PlanShape) → told ≡ Some files → HasPlan words files plan → MetNoFault before after → MetNoFault old.faults new.faults → HasSucceeded plan files status book
+-- ---- a worker
+
+-- a request was answered with its value, or for want of memory
+abbrev pub HasValue : Folder → Answer → Type 0
+HasValue files a = (a.outcome ≡ value_on files a.request) ⊎ (a.outcome ≡ outcome.NoMemory)
+
+-- serving ended as the frames say, or for want of memory
+abbrev pub IsByFrames : Served → Type 0
+IsByFrames ends.SourceFault = ⊥
+IsByFrames ends.SinkFault = ⊥
+IsByFrames _ = Unit {0}
+
+-- each request that came was answered so, and serving ended so
+pub record HasServedWell (files : Folder) (old new : Outside) (end : Served) : Type 0 where
+  pub served : HasServed old new end
+  pub values : AllByRecursion (HasValue files) served.answers
+  pub by_frames : IsByFrames end
+
+abbrev pub HasWorkedWell : Folder → Outside → Outside → Status → Type 0
+HasWorkedWell files old new status = (end : Served) × HasServedWell files old new end × (status ≡ status_of end)
+
+-- ---- the call
+
+-- by the command, where these are the files, and neither the desk nor the sink met a fault
+abbrev pub Succeeds : Option Command → Folder → Outside → Outside → Status → Option Journal → Type 0
+Succeeds None files old new status book = Unit {0}
+Succeeds (Some (Run asked)) files old new status book = (plan : PlanShape) → HasPlan asked files plan → HasSucceeded plan files status book
+Succeeds (Some Worker) files old new status book = MetNoFault old.source.faults new.source.faults → HasWorkedWell files old new status
+
+-- where the files are told
+abbrev pub IsComplete : Option Command → Outside → Outside → Status → Option Journal → Type 0
+IsComplete command old new status book =
+    (files : Folder) → old.files ≡ Some files → MetNoFault old.faults new.faults → MetNoFault old.sink.faults new.sink.faults → Succeeds command files old new status book

@@ -1,5 +1,6 @@
 pub mod Lines
 pub mod Causes
 pub mod Reported
+pub mod Worker
 pub mod Answered
 pub mod Complete

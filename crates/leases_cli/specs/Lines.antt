@@ -7,8 +7,9 @@ use Rattle.plan_table.specs.declared.refusals.Which.{Which}
 use Rattle.plan_table.specs.declared.refusals.Which.TheVariants as which
 use Rattle.plan_table.specs.declared.refusals.PlanRefusal.{PlanRefusal}
 use Rattle.plan_table.specs.declared.refusals.PlanRefusal.TheVariants as refusal
+use Rattle.plan_table.specs.First.{place_of}
 use Rattle.leases_cli.specs.declared.status.Status.{Status}
-use Rattle.leases_cli.specs.declared.status.Status.TheVariants.{Passed, TaskFailed, BadWords, BadPlan, NoPlan, PlanFault, SinkFault, NoMemory}
+use Rattle.leases_cli.specs.declared.status.Status.TheVariants.{Passed, TaskFailed, BadWords, BadPlan, NoPlan, PlanFault, SinkFault, BadFrame, SourceFault, NoMemory}
 
 abbrev pub number_of : Status → ℕ
 number_of Passed = 0
@@ -18,6 +19,8 @@ number_of (BadPlan r) = 3
 number_of NoPlan = 4
 number_of PlanFault = 5
 number_of SinkFault = 6
+number_of (BadFrame place) = 7
+number_of SourceFault = 8
 number_of NoMemory = 10
 
 -- ---- the refusal of a plan
@@ -50,27 +53,6 @@ label_of (refusal.TooMany w p) = excess_label w
 label_of (refusal.BadRequirements p) = codes "13 BadRequirements"
 label_of refusal.NotYet = codes "14 NotYet"
 
--- what is refused whole is refused at the plan
-abbrev pub whole : Place
-whole = record { part = Plan; number = 0 }
-
-abbrev pub place_of : PlanRefusal → Place
-place_of refusal.TooLong = whole
-place_of refusal.NotToml = whole
-place_of (refusal.UnknownKey p) = p
-place_of (refusal.WrongType p) = p
-place_of (refusal.Missing p) = p
-place_of (refusal.BadName p) = p
-place_of (refusal.Twice p) = p
-place_of (refusal.NoSuchProject p) = p
-place_of (refusal.NoSuchTask p) = p
-place_of (refusal.Cycle p) = p
-place_of (refusal.ReleaseNotLast p) = p
-place_of (refusal.ClassLoader p) = p
-place_of (refusal.TooMany w p) = p
-place_of (refusal.BadRequirements p) = p
-place_of refusal.NotYet = whole
-
 abbrev pub part_word : Part → List ℕ
 part_word Plan = codes "plan"
 part_word Project = codes "project"
@@ -83,7 +65,7 @@ place_text p = part_word p.part ++ codes " " ++ decimal p.number
 abbrev pub bad_plan_line : PlanRefusal → List ℕ
 bad_plan_line r = codes "bad plan " ++ label_of r ++ codes " at " ++ place_text (place_of r) ++ codes "\n"
 
--- ---- a refusal's line; where a run ended, the texts are printed instead
+-- ---- a refusal's line; where a run or a worker ended, nothing is printed besides the texts and the replies
 abbrev pub line_of : Status → List ℕ
 line_of BadWords = codes "bad words\n"
 line_of (BadPlan r) = bad_plan_line r

@@ -1,5 +1,6 @@
 //! The lines that tell refusals. They take no memory.
-ghost use Rattle.leases_cli.specs.Lines.{bad_plan_line, excess_label, label_of, line_of, part_word, place_of, place_text};
+ghost use Rattle.leases_cli.specs.Lines.{bad_plan_line, excess_label, label_of, line_of, part_word, place_text};
+ghost use Rattle.plan_table.specs.First.{place_of};
 ghost use Rattle.std.specs.Prelude.{◌≡◌};
 ghost use Rattle.worker_desk.specs.Paper.{Adds};
 ghost use Rattle.worker_desk.specs.Sunk.{Prints};
@@ -100,7 +101,7 @@ fn tell_bad_plan<K: Sink>(refusal: PlanRefusal, page: &mut Page, sink: &mut K)
     page.text(sink, b"\n");
 }
 
-/// Tells the line of a refusal. The statuses that refuse nothing, and NoMemory, have none.
+/// Tells the line of a refusal. The other statuses have none.
 fn tell_refusal<K: Sink>(refusal: &Status, page: &mut Page, sink: &mut K)
     ensures { Adds (K.seen sink.old) page.old (K.seen sink.new) page.new (line_of refusal.now) }
 {
@@ -109,7 +110,12 @@ fn tell_refusal<K: Sink>(refusal: &Status, page: &mut Page, sink: &mut K)
         Status::BadPlan(refusal) => tell_bad_plan(*refusal, page, sink),
         Status::NoPlan => page.text(sink, b"no plan\n"),
         Status::PlanFault => page.text(sink, b"plan not read\n"),
-        Status::Passed | Status::TaskFailed | Status::SinkFault | Status::NoMemory => {}
+        Status::Passed
+        | Status::TaskFailed
+        | Status::SinkFault
+        | Status::BadFrame(_)
+        | Status::SourceFault
+        | Status::NoMemory => {}
     }
 }
 

@@ -6,7 +6,8 @@ use plan_reader::PlanRefusal;
 /// How a call of the program ended.
 #[derive(Clone, Copy, Debug, PartialEq, Eq)]
 pub enum Status {
-    /// Every task passed.
+    /// Every task passed; or a worker's requests were all answered, up to a Stop or to the end of the input between
+    /// two frames.
     Passed,
     /// A task failed or was skipped.
     TaskFailed,
@@ -18,9 +19,14 @@ pub enum Status {
     NoPlan,
     /// The outside failed while the plan was read.
     PlanFault,
-    /// The sink failed. What it had taken by then is the beginning of the text.
+    /// The sink failed. What it had taken by then is the beginning of the text, or of the replies.
     SinkFault,
-    /// There was no memory. Nothing was written.
+    /// A worker found neither a request nor a Stop at this place of its input, or its input gave 2^40 bytes. Each
+    /// request before it was answered.
+    BadFrame(u64),
+    /// A worker's input failed. Each request that had come whole was answered.
+    SourceFault,
+    /// There was no memory. Nothing was written, but by a worker its replies up to then.
     NoMemory,
 }
 
@@ -37,6 +43,8 @@ impl Status {
             Status::NoPlan => 4,
             Status::PlanFault => 5,
             Status::SinkFault => 6,
+            Status::BadFrame(_) => 7,
+            Status::SourceFault => 8,
             Status::NoMemory => 10,
         }
     }

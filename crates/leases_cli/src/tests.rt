@@ -1,11 +1,12 @@
 mod refusals;
 mod runs;
+mod workers;
 
 use crate::{Ended, leases};
 use item_actions::Text;
 use std::alloc::{AllocError, Global};
 use std::test::Fail;
-use worker_desk::{FileEntry, FileMap, MemoryDesk, MemorySink};
+use worker_desk::{FileEntry, FileMap, MemoryDesk, MemorySink, MemorySource};
 
 /// One task of one item, the lines of `a.txt`.
 const FIRST_PLAN: &str = "[[project]]
@@ -44,11 +45,17 @@ fn desk(alloc: Global, plan: &str, failing: Vec<u64>) -> Result<MemoryDesk, Fail
     Ok(MemoryDesk::new(alloc, FileMap::new(files), failing)?)
 }
 
+/// An input of no bytes.
+fn nothing(alloc: Global) -> MemorySource {
+    MemorySource::new(Vec::new(alloc), Vec::new(alloc))
+}
+
 /// What a call does with a first desk and 31 others.
 fn call_words(
     alloc: Global,
     words: &[Text],
     first: MemoryDesk,
+    input: &mut MemorySource,
     out: &mut MemorySink,
 ) -> Result<Ended, Fail> {
     let mut desks = Vec::new(alloc);
@@ -56,16 +63,27 @@ fn call_words(
     for _ in 1..32u32 {
         desks.push(desk(alloc, "", Vec::new(alloc))?)?;
     }
-    Ok(leases(alloc, words, &mut desks, out))
+    Ok(leases(alloc, words, &mut desks, input, out))
 }
 
 /// The same with the words of a line, which stand between single spaces.
-fn call(alloc: Global, line: &str, first: MemoryDesk, out: &mut MemorySink) -> Result<Ended, Fail> {
+fn call_line(
+    alloc: Global,
+    line: &str,
+    first: MemoryDesk,
+    input: &mut MemorySource,
+    out: &mut MemorySink,
+) -> Result<Ended, Fail> {
     let mut words = Vec::new(alloc);
     for word in line.split(' ') {
         words.push(Text::from_str(alloc, word)?)?;
     }
-    call_words(alloc, &words, first, out)
+    call_words(alloc, &words, first, input, out)
+}
+
+/// The same without input.
+fn call(alloc: Global, line: &str, first: MemoryDesk, out: &mut MemorySink) -> Result<Ended, Fail> {
+    call_line(alloc, line, first, &mut nothing(alloc), out)
 }
 
 /// What a call does with a plan.

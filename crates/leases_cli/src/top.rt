@@ -1,4 +1,4 @@
-ghost use Rattle.std.specs.Prelude.{◌≡◌, ◌≤◌, ℕ, true, [], List, Option, Some, None, IfOk, IfErr, length, drop, get_or, if◌then◌else◌};
+ghost use Rattle.std.specs.Prelude.{◌≡◌, ◌≢◌, ◌≤◌, ℕ, true, [], List, Option, Some, None, IfOk, IfErr, length, drop, get_or, if◌then◌else◌};
 ghost use Rattle.std.specs.List.{list_all, range_with_len};
 ghost use Rattle.resource_lock.specs.Standing.{mark_of};
 ghost use Rattle.resource_lock.specs.declared.marks.MarkId.TheVariants as ids;
@@ -11,28 +11,25 @@ ghost use Rattle.item_actions.specs.Files.{Folder};
 ghost use Rattle.build_runner.specs.Run.{IsRunOf, values_of};
 ghost use Rattle.command_words.specs.Reading.{HasBounds, IsBounded, command_of};
 ghost use Rattle.command_words.specs.declared.commands.Command.TheVariants as commands;
-ghost use Rattle.leases_cli.specs.Answered.{Answered, IsToldAs, all_pass, have_all_passed, history_asked, options_of, run_text, text_by_book};
+ghost use Rattle.leases_cli.specs.Answered.{Answered, RunAnswered, IsToldAs, all_pass, have_all_passed, history_asked, options_of, run_text, text_by_book};
 ghost use Rattle.leases_cli.specs.Complete.{IsComplete};
 ghost use Rattle.leases_cli.specs.Reported.{IsReported};
 ghost use Rattle.leases_cli.specs.Causes.{IsPlanAt, IsPlanToRun, IsReadCause, IsRefusedBy, OrNoMemory};
-ghost use Rattle.leases_cli.specs.declared.status.Status.TheVariants as statuses;
 
 use crate::refusals::print_refusal;
 use crate::status::Status;
+use crate::worker::serve_worker;
 use build_runner::{RunOptions, can_run, run_plan};
 use command_words::{Command, RunWords, WordsFail, read_command};
 use history_text::{results_go_by_number, tell_history, tell_results};
-use item_actions::Text;
+use item_actions::{MOST_FILE_BYTES, Text};
 use lock_journal::Book;
 use plan_reader::{Plan, PlanFail, PlanRefusal, read_plan};
 use resource_lock::{Mark, MarkId, State};
 use run_laws::outcomes_go_by_number;
 use std::alloc::Global;
 use task_ranks::first_cycle_is_unique;
-use worker_desk::{DeskFail, Failed, Files, Page, Read, Sink};
-
-/// The most bytes of a plan.
-const MOST_BYTES: u64 = 4_194_304;
+use worker_desk::{DeskFail, Failed, Files, Page, Read, Sink, Source};
 
 /// How a call ended, and the book of the run, if a run ended.
 #[derive(Drop)]
@@ -64,7 +61,7 @@ fn read<D: Files>(alloc: Global, name: &Text, desk: &mut D) -> Result<Plan, Stat
     ensures plan { IfOk result (λ plan. IsPlanAt (D.files desk.old) name.now plan) }
     ensures refused { IfErr result (λ status. OrNoMemory (IsReadCause (D.files desk.old) (D.faults desk.old) (D.faults desk.new) name.now status) status) }
 {
-    match desk.read(alloc, name, MOST_BYTES) {
+    match desk.read(alloc, name, MOST_FILE_BYTES) {
         Ok(Read::Bytes(bytes)) => match plan_to_run(alloc, bytes.as_slice()) {
             Ok(plan) => Ok(plan),
             Err(PlanFail::Refused(refusal)) => Err(Status::BadPlan(refusal)),
@@ -134,27 +131,23 @@ fn report<O: Sink>(asked: &RunWords, plan: &Plan, book: Book, out: &mut O) -> En
     }
 }
 
+/// The end of a call in which no run ended.
+fn without_run(status: Status) -> Ended
+    ensures book { result.book ≡ None }
+    ensures status { result.status ≡ status }
+{
+    Ended { status, book: None }
+}
+
 /// Writes the line of a refusal.
 fn refuse<O: Sink>(refusal: Status, out: &mut O) -> Ended
     ensures book { result.book ≡ None }
     ensures status { IsToldAs refusal (O.seen out.old) (O.seen out.new) result.status }
 {
-    let status = match print_refusal(&refusal, out) {
+    without_run(match print_refusal(&refusal, out) {
         Ok(()) => refusal,
         Err(Failed) => Status::SinkFault,
-    };
-    Ended { status, book: None }
-}
-
-/// Nothing could be done for want of memory.
-fn without_memory() -> Ended
-    ensures book { result.book ≡ None }
-    ensures status { result.status ≡ statuses.NoMemory }
-{
-    Ended {
-        status: Status::NoMemory,
-        book: None,
-    }
+    })
 }
 
 /// Prints a run of the plan, and says how it went by the plan.
@@ -175,12 +168,11 @@ fn run<D: Files, O: Sink>(alloc: Global, asked: &RunWords, desk: &mut D, out: &m
     requires { HasBounds asked.now }
     ensures files { D.files desk.new ≡ D.files desk.old }
     ensures count { D.faults desk.old ≤ D.faults desk.new }
-    ensures answer { (words : List (List ℕ)) → command_of words ≡ Some (commands.Run asked.now)
-        → Answered words (D.files desk.old) (D.faults desk.old) (D.faults desk.new) (O.seen out.old) (O.seen out.new) result.status result.book }
+    ensures answer { RunAnswered asked.now (D.files desk.old) (D.faults desk.old) (D.faults desk.new) (O.seen out.old) (O.seen out.new) result.status result.book }
 {
     let plan = match read(alloc, &asked.plan, desk) {
         Ok(plan) => plan,
-        Err(Status::NoMemory) => return without_memory(),
+        Err(Status::NoMemory) => return without_run(Status::NoMemory),
         Err(refusal) => return refuse(refusal, out),
     };
     let options = RunOptions {
@@ -190,33 +182,48 @@ fn run<D: Files, O: Sink>(alloc: Global, asked: &RunWords, desk: &mut D, out: &m
     };
     match run_plan(alloc, &plan, &options, desk) {
         Ok(book) => report_run(asked, &plan, book, out),
-        Err(_) => without_memory(),
+        Err(_) => without_run(Status::NoMemory),
     }
 }
 
 /// Carries a command out.
-fn perform<D: Files, O: Sink>(alloc: Global, command: &Command, desk: &mut D, out: &mut O) -> Ended
+fn perform<D: Files, I: Source, O: Sink>(
+    alloc: Global,
+    command: &Command,
+    desk: &mut D,
+    input: &mut I,
+    out: &mut O,
+) -> Ended
     requires { IsBounded command.now }
     ensures files { D.files desk.new ≡ D.files desk.old }
     ensures count { D.faults desk.old ≤ D.faults desk.new }
-    ensures answer { (words : List (List ℕ)) → command_of words ≡ Some command.now
-        → Answered words (D.files desk.old) (D.faults desk.old) (D.faults desk.new) (O.seen out.old) (O.seen out.new) result.status result.book }
+    ensures input { command.now ≢ commands.Worker → I.seen input.new ≡ I.seen input.old }
+    ensures input_count { (I.seen input.old).faults ≤ (I.seen input.new).faults }
+    ensures answer { Answered (Some command.now)
+        record { source = I.seen input.old; sink = O.seen out.old; files = D.files desk.old; faults = D.faults desk.old }
+        record { source = I.seen input.new; sink = O.seen out.new; files = D.files desk.new; faults = D.faults desk.new }
+        result.status result.book }
 {
     match command {
         Command::Run(asked) => run(alloc, asked, desk, out),
+        Command::Worker => without_run(serve_worker(alloc, desk, input, out)),
     }
 }
 
 /// Does what the words after the program's name ask for.
 ///
-/// The one command is `run` with the options of `command_words::read_command`. The plan and its files
-/// are read through the first of the desks, of which there are 32, and what the words ask for is
-/// written to `out`. The answer and its cause are those of the contract; at `NoMemory` nothing was
-/// written, and at `SinkFault` the beginning of the text.
-pub fn leases<D: Files, O: Sink>(
+/// They are read by `command_words::read_command`. For `run` the plan and its files are read through the
+/// first of the desks, of which there are 32, and what the words ask for is written to `out`. For `worker`
+/// the requests that the input gives are answered on `out` by the files of the first desk; no other command
+/// takes anything from the input. The answer and its cause are those of the contract.
+///
+/// At SinkFault the beginning of the text or of the replies was written, and at NoMemory nothing, but by a
+/// worker its replies up to then.
+pub fn leases<D: Files, I: Source, O: Sink>(
     alloc: Global,
     words: &[Text],
     desks: &mut Vec<D>,
+    input: &mut I,
     out: &mut O,
 ) -> Ended
     requires desks { length desks.old.items ≡ 32 }
@@ -224,19 +231,21 @@ pub fn leases<D: Files, O: Sink>(
     ensures others { drop 1 desks.new.items ≡ drop 1 desks.old.items }
     ensures files { (d : D) → D.files (get_or desks.new.items 0 d) ≡ D.files (get_or desks.old.items 0 d) }
     ensures count { (d : D) → D.faults (get_or desks.old.items 0 d) ≤ D.faults (get_or desks.new.items 0 d) }
-    ensures answer { (d : D) → Answered words.now (D.files (get_or desks.old.items 0 d))
-        (D.faults (get_or desks.old.items 0 d)) (D.faults (get_or desks.new.items 0 d))
-        (O.seen out.old) (O.seen out.new) result.status result.book }
-    ensures complete { (d : D) → IsComplete words.now (D.files (get_or desks.old.items 0 d))
-        (D.faults (get_or desks.old.items 0 d)) (D.faults (get_or desks.new.items 0 d))
-        (O.seen out.old) (O.seen out.new) result.status result.book }
+    ensures input { command_of words.now ≢ Some commands.Worker → I.seen input.new ≡ I.seen input.old }
+    ensures input_count { (I.seen input.old).faults ≤ (I.seen input.new).faults }
+    ensures answer { (d : D) → Answered (command_of words.now)
+        record { source = I.seen input.old; sink = O.seen out.old; files = D.files (get_or desks.old.items 0 d); faults = D.faults (get_or desks.old.items 0 d) }
+        record { source = I.seen input.new; sink = O.seen out.new; files = D.files (get_or desks.new.items 0 d); faults = D.faults (get_or desks.new.items 0 d) }
+        result.status result.book }
+    ensures complete { (d : D) → IsComplete (command_of words.now)
+        record { source = I.seen input.old; sink = O.seen out.old; files = D.files (get_or desks.old.items 0 d); faults = D.faults (get_or desks.old.items 0 d) }
+        record { source = I.seen input.new; sink = O.seen out.new; files = D.files (get_or desks.new.items 0 d); faults = D.faults (get_or desks.new.items 0 d) }
+        result.status result.book }
 {
+    first_cycle_is_unique();
     match read_command(alloc, words) {
-        Ok(command) => {
-            first_cycle_is_unique();
-            perform(alloc, &command, &mut desks[0], out)
-        }
+        Ok(command) => perform(alloc, &command, &mut desks[0], input, out),
         Err(WordsFail::NoCommand) => refuse(Status::BadWords, out),
-        Err(WordsFail::NoMemory) => without_memory(),
+        Err(WordsFail::NoMemory) => without_run(Status::NoMemory),
     }
 }

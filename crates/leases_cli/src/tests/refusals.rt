@@ -1,5 +1,5 @@
 //! Words and plans that are refused, and the lines that tell it.
-use super::{AMPLE, FIRST_PLAN, ONE_THREAD, call, call_words, desk, run};
+use super::{AMPLE, FIRST_PLAN, ONE_THREAD, call, call_words, desk, nothing, run};
 use std::alloc::Global;
 use std::test::Fail;
 use worker_desk::MemorySink;
@@ -14,7 +14,7 @@ static NO_COMMANDS: [&str; 9] = [
     "run p --daemons",
     "build p",
     "make x a.txt",
-    "worker",
+    "workers",
 ];
 
 #[test]
@@ -33,7 +33,7 @@ fn words_that_are_no_command_are_bad_words(rt: HostRuntime) -> Result<(), Fail> 
 fn no_words_are_bad_words(rt: HostRuntime) -> Result<(), Fail> {
     let first = desk(rt.alloc(), FIRST_PLAN, Vec::new(rt.alloc()))?;
     let mut out = MemorySink::limited(rt.alloc(), AMPLE)?;
-    let ended = call_words(rt.alloc(), &[], first, &mut out)?;
+    let ended = call_words(rt.alloc(), &[], first, &mut nothing(rt.alloc()), &mut out)?;
     assert_eq!(rt; ended.status.number(), 2);
     Ok(())
 }

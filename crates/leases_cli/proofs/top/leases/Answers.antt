@@ -1,33 +1,43 @@
-use Rattle.std.proofs.Common.{◌≡◌, ◌<◌, None, length, get_or, set, sym, subst, arith, ◌∙◌}
-use Rattle.std.proofs.lemmas.List.{get_or_default, get_or-set_same}
+use Rattle.std.proofs.Common.{Option, sym, subst}
 use Rattle.command_words.specs.Reading.{command_of}
-use Rattle.leases_cli.specs.Complete.{IsComplete}
+use Rattle.command_words.specs.declared.commands.Command.{Command}
+use Rattle.leases_cli.specs.Answered.{Answered}
+use Rattle.leases_cli.proofs.Commands.{bad_words_answered, no_memory_answered, of_first}
 use Rattle.leases_cli.proofs.Completing.{complete_of}
-use Rattle.leases_cli.proofs.Reports.{bad_words_answered, no_command}
 use Rattle.leases_cli.proofs.top.leases.Goals as goal
 
-pub returns-in-Err-NoCommand-clause-answer : goal.returns-in-Err-NoCommand-clause-answer
-returns-in-Err-NoCommand-clause-answer g c = λ d.
-    let faults = g.D.Files.faults (get_or c.args.desks.now.items 0 d) in
-    bad_words_answered c.args.words.now (g.D.Files.files (get_or c.args.desks.now.items 0 d)) faults faults (g.O.Sink.seen c.args.out.now) (g.O.Sink.seen c.refuse.new.out) c.refuse.result.book c.refuse.result.status
-    (no_command (command_of c.args.words.now ≡ None) c.in-Err-NoCommand.field-0 c.in-Err-NoCommand.field-0-is c.in-Err-NoCommand.ensures.err) c.refuse.ensures.book c.refuse.ensures.status
+-- ---- a command was carried out on the first desk
 
--- completeness is read off the answer for the first desk
+pub returns-in-Ok-clause-answer : goal.returns-in-Ok-clause-answer
+returns-in-Ok-clause-answer g c = λ d.
+    of_first
+    (λ x y. Answered (command_of c.args.words.now)
+    (record { source = g.I.Source.seen c.args.input.now; sink = g.O.Sink.seen c.args.out.now; files = g.D.Files.files x; faults = g.D.Files.faults x })
+    (record { source = g.I.Source.seen c.perform.new.input; sink = g.O.Sink.seen c.perform.new.out; files = g.D.Files.files y; faults = g.D.Files.faults y })
+    c.perform.result.status c.perform.result.book)
+    c.args.desks.now.items c.index_mut.result.now c.perform.new.desk d c.requires.desks c.index_mut.ensures.value
+    (subst
+    (λ (command : Option Command). Answered command
+    (record { source = g.I.Source.seen c.args.input.now; sink = g.O.Sink.seen c.args.out.now; files = g.D.Files.files c.index_mut.result.now; faults = g.D.Files.faults c.index_mut.result.now })
+    (record { source = g.I.Source.seen c.perform.new.input; sink = g.O.Sink.seen c.perform.new.out; files = g.D.Files.files c.perform.new.desk; faults = g.D.Files.faults c.perform.new.desk })
+    c.perform.result.status c.perform.result.book)
+    (sym c.in-Ok.ensures.ok) c.perform.ensures.answer)
+
 pub returns-in-Ok-clause-complete : goal.returns-in-Ok-clause-complete
-returns-in-Ok-clause-complete g c = λ d.
-    let words = c.args.words.now in
-    let desks = c.args.desks.now.items in
-    let first = c.index_mut.result.now in
-    let last = c.perform.new.desk in
-    let old = g.O.Sink.seen c.args.out.now in
-    let new = g.O.Sink.seen c.perform.new.out in
-    let status = c.perform.result.status in
-    let book = c.perform.result.book in
-    let some : 0 < length desks = omega (arith, c.requires.desks) in
-    let before : first ≡ get_or desks 0 d = c.index_mut.ensures.value ∙ get_or_default desks 0 first d some in
-    let after : last ≡ get_or (set desks 0 last) 0 d = sym (get_or-set_same desks 0 last d some) in
-    let complete =
-    complete_of c.first_cycle_is_unique.ensures words (g.D.Files.files first) (g.D.Files.faults first) (g.D.Files.faults last) old new status book
-    (c.perform.ensures.answer words c.in-Ok.ensures.ok) in
-    subst (λ x. IsComplete words (g.D.Files.files (get_or desks 0 d)) (g.D.Files.faults (get_or desks 0 d)) (g.D.Files.faults x) old new status book) after
-    (subst (λ x. IsComplete words (g.D.Files.files x) (g.D.Files.faults x) (g.D.Files.faults last) old new status book) before complete)
+returns-in-Ok-clause-complete g c = λ d. complete_of c.first_cycle_is_unique.ensures _ _ _ _ _ (returns-in-Ok-clause-answer g c d)
+
+-- ---- the words are no command
+
+pub returns-in-Err-NoCommand-clause-answer : goal.returns-in-Err-NoCommand-clause-answer
+returns-in-Err-NoCommand-clause-answer g c = λ d. bad_words_answered _ c.in-Err-NoCommand.field-0 _ _ _ _ c.in-Err-NoCommand.field-0-is c.in-Err-NoCommand.ensures.err c.refuse.ensures.book c.refuse.ensures.status
+
+pub returns-in-Err-NoCommand-clause-complete : goal.returns-in-Err-NoCommand-clause-complete
+returns-in-Err-NoCommand-clause-complete g c = λ d. complete_of c.first_cycle_is_unique.ensures _ _ _ _ _ (returns-in-Err-NoCommand-clause-answer g c d)
+
+-- ---- there was no memory to read the words
+
+pub returns-in-Err-NoMemory-clause-answer : goal.returns-in-Err-NoMemory-clause-answer
+returns-in-Err-NoMemory-clause-answer g c = λ d. no_memory_answered _ _ _ _ c.without_run.ensures.book c.without_run.ensures.status
+
+pub returns-in-Err-NoMemory-clause-complete : goal.returns-in-Err-NoMemory-clause-complete
+returns-in-Err-NoMemory-clause-complete g c = λ d. complete_of c.first_cycle_is_unique.ensures _ _ _ _ _ (returns-in-Err-NoMemory-clause-answer g c d)
