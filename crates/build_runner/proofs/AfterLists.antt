@@ -6,47 +6,47 @@ use Rattle.std.specs.declared.alloc.Global.{Global}
 use Rattle.std.proofs.lemmas.Bool.{cases_lt}
 use Rattle.std.proofs.lemmas.List.{get_or_default, get_or_past, length-map}
 use Rattle.resource_lock.specs.Fits.{Fits}
-use Rattle.resource_lock.specs.Outline.{Outline, TaskOutline, task_of, no_task}
+use Rattle.resource_lock.specs.GraphView.{GraphView, GraphTaskView, task_of, no_task}
 use Rattle.task_ranks.specs.Rank.{Dependencies, InRange, after, lists_of}
 use Rattle.task_ranks.specs.Users.{Tells}
 use Rattle.build_runner.specs.Dependents.{AreDependents}
 use Rattle.build_runner.proofs.Ranks.{afters_in, after_in}
 
-size_of : (g : Outline) → length (afters_in g.tasks) ≡ length g.tasks
-size_of g = length-map g.tasks (λ (t : TaskOutline). t.after)
+size_of : (g : GraphView) → length (afters_in g.tasks) ≡ length g.tasks
+size_of g = length-map g.tasks (λ (t : GraphTaskView). t.after)
 
-pub afters_within : (g : Outline) → Fits g → InRange (afters_in g.tasks)
+pub afters_within : (g : GraphView) → Fits g → InRange (afters_in g.tasks)
 afters_within g fits t k lt within =
     let same = after_in g.tasks t in
     let low : get_or (after (afters_in g.tasks) t) k 0 < length g.tasks = subst (λ us. get_or us k 0 < length g.tasks) (sym same) (fits.after_within t no_task (omega (arith, lt, size_of g)) k 0 (omega (arith, within, ap length same))) in
     omega (arith, low, size_of g)
 
 -- a task that comes after another is one of the graph
-has_after : (g : Outline) (k i : ℕ) → i < length (task_of g k).after → k < length g.tasks
+has_after : (g : GraphView) (k i : ℕ) → i < length (task_of g k).after → k < length g.tasks
 has_after g k i lt = at (cases_lt k (length g.tasks))
   where
     at : (k < length g.tasks) ⊎ (length g.tasks ≤ k) → k < length g.tasks
     at (inl low) = low
-    at (inr past) = absurd (omega (arith, lt, ap (λ (t : TaskOutline). length t.after) (get_or_past g.tasks k no_task past)))
+    at (inr past) = absurd (omega (arith, lt, ap (λ (t : GraphTaskView). length t.after) (get_or_past g.tasks k no_task past)))
 
-told : (g : Outline) (all : Dependencies) → Tells (afters_in g.tasks) (length g.tasks) all → (t k : ℕ) → Contains (task_of g k).after t → Contains (after all t) k
-told g all tells t k c =
+known : (g : GraphView) (all : Dependencies) → Tells (afters_in g.tasks) (length g.tasks) all → (t k : ℕ) → Contains (task_of g k).after t → Contains (after all t) k
+known g all tells t k c =
     let same = after_in g.tasks k in
     let named : get_or (after (afters_in g.tasks) k) c.0 0 ≡ t = ap (λ us. get_or us c.0 0) same ∙ get_or_default (task_of g k).after c.0 0 t c.1 ∙ c.2 in
     subst (λ n. Contains (after all n) k) named (tells.complete k c.0 (has_after g k c.0 c.1) (omega (arith, c.1, ap length same)))
 
-dependents_from : (g : Outline) (all : List (Vec ℕ Global)) → Tells (afters_in g.tasks) (length g.tasks) (lists_of all) → AreDependents g all
+dependents_from : (g : GraphView) (all : List (Vec ℕ Global)) → Tells (afters_in g.tasks) (length g.tasks) (lists_of all) → AreDependents g all
 dependents_from g all tells = record {
   size = sym (length-map all (λ row. row.items)) ∙ tells.size ∙ size_of g;
   within = λ t k c. let low = tells.range t k c in omega (arith, low, size_of g);
-  told = told g (lists_of all) tells;
+  known = known g (lists_of all) tells;
 }
 
-pub are_dependents : (g : Outline) (rows : List (Vec ℕ Global)) (all : List (Vec ℕ Global)) → lists_of rows ≡ afters_in g.tasks → Tells (lists_of rows) (length rows) (lists_of all) → AreDependents g all
+pub are_dependents : (g : GraphView) (rows : List (Vec ℕ Global)) (all : List (Vec ℕ Global)) → lists_of rows ≡ afters_in g.tasks → Tells (lists_of rows) (length rows) (lists_of all) → AreDependents g all
 are_dependents g rows all same tells =
     let size : length rows ≡ length g.tasks = sym (length-map rows (λ row. row.items)) ∙ ap length same ∙ size_of g in
     dependents_from g all (subst (λ n. Tells (afters_in g.tasks) n (lists_of all)) size (subst (λ d. Tells d (length rows) (lists_of all)) same tells))
 
 -- the tasks that come after a task are in range
-pub all_within : (g : Outline) (all : List (Vec ℕ Global)) (t : ℕ) → AreDependents g all → All (λ k. k < length g.tasks) (after (lists_of all) t)
+pub all_within : (g : GraphView) (all : List (Vec ℕ Global)) (t : ℕ) → AreDependents g all → All (λ k. k < length g.tasks) (after (lists_of all) t)
 all_within g all t are = λ k d lt. are.within t (get_or (after (lists_of all) t) k d) (k, lt, get_or_default (after (lists_of all) t) k _ d lt)

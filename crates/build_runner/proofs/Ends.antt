@@ -6,8 +6,8 @@ use Rattle.std.proofs.lemmas.List.{get_or-replicate, get_or_past, length-replica
 use Rattle.item_actions.specs.Files.{Folder}
 use Rattle.item_actions.specs.declared.outcomes.Outcome.{Outcome}
 use Rattle.item_actions.specs.declared.outcomes.Outcome.TheVariants as outcomes
-use Rattle.resource_lock.specs.Standing.{Standing, empty_holding, mark_of, runs_by}
-use Rattle.resource_lock.specs.Outline.{Outline}
+use Rattle.resource_lock.specs.StateView.{StateView, empty_holding, mark_of, runs_by}
+use Rattle.resource_lock.specs.GraphView.{GraphView}
 use Rattle.resource_lock.specs.Opening.{opening_of}
 use Rattle.resource_lock.specs.declared.ids.WorkerId.{WorkerId}
 use Rattle.resource_lock.specs.declared.marks.Mark.TheVariants.{Waiting}
@@ -15,7 +15,7 @@ use Rattle.resource_lock.specs.declared.marks.MarkId.{MarkId}
 use Rattle.resource_lock.specs.declared.marks.MarkId.TheVariants.{Task as TaskOf, Action as ActionOf, Unit as UnitOf}
 use Rattle.lock_journal.specs.Closings.{last_or}
 use Rattle.lock_journal.specs.Entry.{Entry}
-use Rattle.plan_reader.specs.Plan.{PlanShape}
+use Rattle.plan_reader.specs.PlanView.{PlanView}
 use Rattle.plan_reader.specs.Units.{unit_value}
 use Rattle.run_laws.specs.Answers.{IsHonest, IsHonestWorker, answers}
 use Rattle.run_laws.specs.ClosedBy.{closed_by}
@@ -33,19 +33,19 @@ all_the_same n i x = at (cases_lt i n)
     at (inl lt) = get_or-replicate n i x x lt
     at (inr le) = get_or_past (replicate n x) i x (omega (arith, length-replicate n x))
 
-waits_at_first : (g : Outline) (m : MarkId) → mark_of (opening_of g) m ≡ Waiting
+waits_at_first : (g : GraphView) (m : MarkId) → mark_of (opening_of g) m ≡ Waiting
 waits_at_first g (TaskOf t) = all_the_same (length g.tasks) t Waiting
 waits_at_first g (ActionOf a) = all_the_same (length g.actions) a Waiting
 waits_at_first g (UnitOf u) = all_the_same g.units u Waiting
 
-pub resting_at_first : (g : Outline) → IsResting (opening_of g)
+pub resting_at_first : (g : GraphView) → IsResting (opening_of g)
 resting_at_first g = record {
   holdings = λ w. all_the_same g.workers w.0 empty_holding;
   free = λ l. all_the_same g.locks l.0 None;
   still = λ m. ap (runs_by first_worker) (waits_at_first g m);
 }
 
-pub settled_at_first : (g o : Outline) → AreSettled g (opening_of o)
+pub settled_at_first : (g o : GraphView) → AreSettled g (opening_of o)
 settled_at_first g o = record {
   each = λ t lt. inl (record {
     task = waits_at_first o (TaskOf t);
@@ -56,7 +56,7 @@ settled_at_first g o = record {
 
 -- the state at the end
 
-pub free_at_end : (s : Standing) → IsResting s → IsFree s
+pub free_at_end : (s : StateView) → IsResting s → IsFree s
 free_at_end s rest = record { owners = rest.free; holdings = rest.holdings }
 
 -- the closings
@@ -71,6 +71,6 @@ honest_workers value h others honest w = at w (cases_eq w.0 0)
 abbrev pub HonestAnswers : Type 0
 HonestAnswers = (value : ℕ → Outcome) (h : List Entry) → ((w : WorkerId) → IsHonestWorker value h w) → Agrees (answers value h) h
 
-pub values_agree : (told : Option Folder) (plan : PlanShape) (before after : ℕ) (h : List Entry) → HonestAnswers → Keeps told plan before after [] h → Agrees (values_of plan told h) h
+pub values_agree : (known : Option Folder) (plan : PlanView) (before after : ℕ) (h : List Entry) → HonestAnswers → Keeps known plan before after [] h → Agrees (values_of plan known h) h
 values_agree None plan before after h give keeps = λ u o e. ap (last_or outcomes.Skipped) e
 values_agree (Some files) plan before after h give keeps = give (unit_value plan files) h (honest_workers (unit_value plan files) h keeps.others (keeps.honest tt))

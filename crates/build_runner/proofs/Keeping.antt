@@ -8,9 +8,9 @@ use Rattle.item_actions.specs.Files.{Folder}
 use Rattle.item_actions.specs.declared.outcomes.Outcome.{Outcome}
 use Rattle.lock_journal.specs.Entry.{Entry}
 use Rattle.lock_journal.specs.declared.entries.Closed.{Closed}
-use Rattle.plan_reader.specs.Plan.{PlanShape}
+use Rattle.plan_reader.specs.PlanView.{PlanView}
 use Rattle.item_actions.specs.declared.outcomes.Outcome.TheVariants as outcomes
-use Rattle.worker_desk.specs.Sunk.{Rises}
+use Rattle.worker_desk.specs.SinkView.{Rises}
 use Rattle.plan_reader.specs.Units.{PlannedUnit, plan_units, unit_value, value_in}
 use Rattle.run_laws.specs.Answers.{IsHonest, IsHonestWorker}
 use Rattle.run_laws.specs.ClosedBy.{closed_by, faults_in, is_fault}
@@ -22,11 +22,11 @@ all_append P [] ys a b = b
 all_append P (x ∷ xs) ys a b = (a.0, all_append P xs ys a.1 b)
 
 -- no unit was closed
-pub keeps_still : (told : Option Folder) (plan : PlanShape) (n : ℕ) (h h' : List Entry) → HasClosed h h' [] → Keeps told plan n n h h'
-keeps_still told plan n h h' closed = record {
+pub keeps_still : (known : Option Folder) (plan : PlanView) (n : ℕ) (h h' : List Entry) → HasClosed h h' [] → Keeps known plan n n h h'
+keeps_still known plan n h h' closed = record {
   count = omega arith;
   faults = λ lt. omega (arith, ap faults_in e);
-  honest = at told;
+  honest = at known;
   others = closed.others;
 }
   where
@@ -37,11 +37,11 @@ keeps_still told plan n h h' closed = record {
     at None = tt
     at (Some files) = λ honest. subst (AllByRecursion (λ d. IsHonest d.outcome (unit_value plan files d.unit))) (sym e) honest
 
-pub keeps_then : (told : Option Folder) (plan : PlanShape) (a b c : ℕ) (h h' h'' : List Entry) → Keeps told plan a b h h' → Keeps told plan b c h' h'' → Keeps told plan a c h h''
-keeps_then told plan a b c h h' h'' k l = record {
+pub keeps_then : (known : Option Folder) (plan : PlanView) (a b c : ℕ) (h h' h'' : List Entry) → Keeps known plan a b h h' → Keeps known plan b c h' h'' → Keeps known plan a c h h''
+keeps_then known plan a b c h h' h'' k l = record {
   count = let x = k.count in let y = l.count in omega arith;
   faults = λ lt. let y = l.count in let x = k.faults (omega arith) in let z = l.faults lt in omega arith;
-  honest = at told k.honest l.honest;
+  honest = at known k.honest l.honest;
   others = λ w ne. l.others w ne ∙ k.others w ne;
 }
   where
@@ -57,11 +57,11 @@ closed_then h h' h'' ds es a b = record {
 }
 
 -- one unit was closed, with an outcome that came while the desk's count went from before to after
-pub keeps_closed : (told : Option Folder) (plan : PlanShape) (before after : ℕ) (h h' : List Entry) (d : Closed) → HasClosed h h' (d ∷ []) → before ≤ after → (after < 2 ^ 64 - 1 → faults_in (d ∷ []) + before ≤ after) → IfSome told (λ files. IsHonest d.outcome (unit_value plan files d.unit)) → Keeps told plan before after h h'
-keeps_closed told plan before after h h' d closed le faults honest = record {
+pub keeps_closed : (known : Option Folder) (plan : PlanView) (before after : ℕ) (h h' : List Entry) (d : Closed) → HasClosed h h' (d ∷ []) → before ≤ after → (after < 2 ^ 64 - 1 → faults_in (d ∷ []) + before ≤ after) → IfSome known (λ files. IsHonest d.outcome (unit_value plan files d.unit)) → Keeps known plan before after h h'
+keeps_closed known plan before after h h' d closed le faults honest = record {
   count = le;
   faults = λ lt. let f = faults lt in omega (arith, ap faults_in closed.own, sum_by-append (λ (x : Closed). cond (is_fault x.outcome) 1 0) (closed_by first_worker h) (d ∷ []));
-  honest = at told honest;
+  honest = at known honest;
   others = closed.others;
 }
   where
@@ -86,6 +86,6 @@ counted d before after rises le lt = at d.outcome refl
     at outcomes.Skipped e = none outcomes.Skipped refl
 
 -- the outcome of an item is that of the unit of the plan that it is
-pub planned_honest : (told : Option Folder) (plan : PlanShape) (unit : ℕ) (o : Outcome) (planned : Option PlannedUnit) → slice_get (plan_units plan) unit ≡ planned → IfSome told (λ files. IsHonest o (value_in files planned)) → IfSome told (λ files. IsHonest o (unit_value plan files unit))
+pub planned_honest : (known : Option Folder) (plan : PlanView) (unit : ℕ) (o : Outcome) (planned : Option PlannedUnit) → slice_get (plan_units plan) unit ≡ planned → IfSome known (λ files. IsHonest o (value_in files planned)) → IfSome known (λ files. IsHonest o (unit_value plan files unit))
 planned_honest None plan unit o planned e h = tt
 planned_honest (Some files) plan unit o planned e h = subst (λ p. IsHonest o (value_in files p)) (sym e) h

@@ -4,8 +4,8 @@ use Rattle.std.specs.Prelude.{if◌then◌else◌}
 use Rattle.std.specs.List.{list_all, range_with_len}
 use Rattle.std.proofs.lemmas.Bool.{cases_eq}
 use Rattle.std.proofs.lemmas.List.{append-nil, get_or-set_same, get_or-set_other, length-set}
-use Rattle.resource_lock.specs.Standing.{Standing, Holding, empty_holding, holding_of, mark_of, runs_by}
-use Rattle.resource_lock.specs.Outline.{Outline, task_of, action_of}
+use Rattle.resource_lock.specs.StateView.{StateView, Holding, empty_holding, holding_of, mark_of, runs_by}
+use Rattle.resource_lock.specs.GraphView.{GraphView, task_of, action_of}
 use Rattle.resource_lock.specs.Ranges.{IsIn, IsItemOf, fetches, first_item, units_in, items_of, units_of, actions_of}
 use Rattle.resource_lock.specs.Change.{make, make_all}
 use Rattle.resource_lock.specs.declared.ids.LockId.{LockId}
@@ -29,11 +29,11 @@ holding_written : (hs : List Holding) (h : Holding) → 0 < length hs → get_or
 holding_written hs h lt = get_or-set_same hs 0 h empty_holding lt
 
 -- Worker 0 wrote its own holding, and no other.
-others_written : (s : Standing) (h : Holding) → ((w : WorkerId) → w.0 ≢ 0 → holding_of s w ≡ empty_holding) → (w : WorkerId) → w.0 ≢ 0 → get_or (set s.holdings 0 h) w.0 empty_holding ≡ empty_holding
+others_written : (s : StateView) (h : Holding) → ((w : WorkerId) → w.0 ≢ 0 → holding_of s w ≡ empty_holding) → (w : WorkerId) → w.0 ≢ 0 → get_or (set s.holdings 0 h) w.0 empty_holding ≡ empty_holding
 others_written s h others w ne = get_or-set_other s.holdings 0 w.0 h empty_holding ne ∙ others w ne
 
 -- Units moved to one mark, and nothing else.
-record AreMoved (s s' : Standing) (to : Mark) (first n : ℕ) : Type 0 where
+record AreMoved (s s' : StateView) (to : Mark) (first n : ℕ) : Type 0 where
   owners : s'.owners ≡ s.owners
   holdings : s'.holdings ≡ s.holdings
   tasks : s'.tasks ≡ s.tasks
@@ -41,7 +41,7 @@ record AreMoved (s s' : Standing) (to : Mark) (first n : ℕ) : Type 0 where
   inside : (u : ℕ) → IsIn first n u → mark_of s' (UnitOf u) ≡ to
   outside : (u : ℕ) → (IsIn first n u → ⊥) → mark_of s' (UnitOf u) ≡ mark_of s (UnitOf u)
 
-move_more : (s s' : Standing) (to : Mark) (first n : ℕ) → ((u : ℕ) → IsIn first (suc n) u → u < length s.units) → AreMoved (record s { units = set s.units first to }) s' to (first + 1) n → AreMoved s s' to first (suc n)
+move_more : (s s' : StateView) (to : Mark) (first n : ℕ) → ((u : ℕ) → IsIn first (suc n) u → u < length s.units) → AreMoved (record s { units = set s.units first to }) s' to (first + 1) n → AreMoved s s' to first (suc n)
 move_more s s' to first n within rest = record {
   owners = rest.owners;
   holdings = rest.holdings;
@@ -55,11 +55,11 @@ move_more s s' to first n within rest = record {
     at u i (inl e) = rest.outside u (λ k. let a = k.0 in absurd (omega arith)) ∙ ap (λ m. get_or (set s.units first to) m Waiting) e ∙ get_or-set_same s.units first to Waiting (within first (omega arith, omega arith))
     at u i (inr ne) = let a = i.0 in let b = i.1 in rest.inside u (omega arith, omega arith)
 
-moves_lead : (s : Standing) (w : WorkerId) (to : Mark) (first n : ℕ) → ((u : ℕ) → IsIn first n u → u < length s.units) → AreMoved s (make_all s w (moved_units (range_with_len first n) Waiting to)) to first n
+moves_lead : (s : StateView) (w : WorkerId) (to : Mark) (first n : ℕ) → ((u : ℕ) → IsIn first n u → u < length s.units) → AreMoved s (make_all s w (moved_units (range_with_len first n) Waiting to)) to first n
 moves_lead s w to first zero within = record { owners = refl; holdings = refl; tasks = refl; actions = refl; inside = λ u i. let a = i.0 in let b = i.1 in absurd (omega arith); outside = λ u no_one. refl }
 moves_lead s w to first (suc n) within = move_more s _ to first n within (moves_lead (make s w (Move (UnitOf first) Waiting to)) w to (first + 1) n (λ u i. let a = i.0 in let b = i.1 in let c = within u (omega arith, omega arith) in omega (arith, length-set s.units first to)))
 
-pub start_leads : (g : Outline) (s : Standing) (t : ℕ) → IsWithin g s t → IsResting s → IsUntouched g s t → IsStarted g s t (make_all s first_worker (list_of g s first_worker (Start t)))
+pub start_leads : (g : GraphView) (s : StateView) (t : ℕ) → IsWithin g s t → IsResting s → IsUntouched g s t → IsStarted g s t (make_all s first_worker (list_of g s first_worker (Start t)))
 start_leads g s t within r u = record {
   rest = r;
   under = record {
@@ -76,7 +76,7 @@ start_leads g s t within r u = record {
   items = record { ended = λ k i lt. let a = i.0 in absurd (omega arith); others = λ k i le. u.units k i };
 }
 
-pub submit_leads : (g : Outline) (r s : Standing) (t : ℕ) → IsWithin g s t → IsPlain g t → IsUnderway g r t s (Running first_worker) Waiting working → IsUnderway g r t (make_all s first_worker (list_of g s first_worker (Submit (only_action g t)))) (Running first_worker) Queued working × AreItems g t (make_all s first_worker (list_of g s first_worker (Submit (only_action g t)))) (first_item (action_of g (only_action g t))) Queued
+pub submit_leads : (g : GraphView) (r s : StateView) (t : ℕ) → IsWithin g s t → IsPlain g t → IsUnderway g r t s (Running first_worker) Waiting working → IsUnderway g r t (make_all s first_worker (list_of g s first_worker (Submit (only_action g t)))) (Running first_worker) Queued working × AreItems g t (make_all s first_worker (list_of g s first_worker (Submit (only_action g t)))) (first_item (action_of g (only_action g t))) Queued
 submit_leads g r s t within plain u = (
   record {
     holding = ap (λ (hs : List Holding). get_or hs 0 empty_holding) q.holdings ∙ u.holding;
@@ -92,13 +92,13 @@ submit_leads g r s t within plain u = (
   record { ended = λ k i lt. let a = i.0 in absurd (omega arith); others = λ k i le. q.inside k i },
 )
   where
-    s1 : Standing
+    s1 : StateView
     s1 = make s first_worker (Move (ActionOf (only_action g t)) Waiting Queued)
 
     q : AreMoved s1 (make_all s1 first_worker (moved_units (items_of g (only_action g t)) Waiting Queued)) Queued (first_item (action_of g (only_action g t))) (action_of g (only_action g t)).items
     q = moves_lead s1 first_worker Queued _ _ within.units
 
-pub park_leads : (g : Outline) (r s : Standing) (t : ℕ) → IsWithin g s t → IsPlain g t → IsSubmitted g r t s → HasParked g r t (first_item (action_of g (only_action g t))) (make_all s first_worker (list_of g s first_worker (Park (only_action g t))))
+pub park_leads : (g : GraphView) (r s : StateView) (t : ℕ) → IsWithin g s t → IsPlain g t → IsSubmitted g r t s → HasParked g r t (first_item (action_of g (only_action g t))) (make_all s first_worker (list_of g s first_worker (Park (only_action g t))))
 park_leads g r s t within plain p = rw plain.retains (record {
   rest = p.rest;
   under = record {
@@ -115,7 +115,7 @@ park_leads g r s t within plain p = rw plain.retains (record {
   items = record { ended = p.items.ended; others = p.items.others };
 })
 
-pub claim_leads : (g : Outline) (r s : Standing) (t n : ℕ) → IsWithin g s t → IsItemOf g (only_action g t) n → HasParked g r t n s → HasClaimed g r t n (make_all s first_worker (list_of g s first_worker (Claim n)))
+pub claim_leads : (g : GraphView) (r s : StateView) (t n : ℕ) → IsWithin g s t → IsItemOf g (only_action g t) n → HasParked g r t n s → HasClaimed g r t n (make_all s first_worker (list_of g s first_worker (Claim n)))
 claim_leads g r s t n within i p = record {
   rest = p.rest;
   under = record {
@@ -136,7 +136,7 @@ claim_leads g r s t n within i p = record {
   };
 }
 
-pub resume_leads : (g : Outline) (r s : Standing) (t : ℕ) → IsWithin g s t → IsPlain g t → HasParked g r t (first_item (action_of g (only_action g t)) + (action_of g (only_action g t)).items) s → HasResumed g r t (make_all s first_worker (list_of g s first_worker (Resume (only_action g t))))
+pub resume_leads : (g : GraphView) (r s : StateView) (t : ℕ) → IsWithin g s t → IsPlain g t → HasParked g r t (first_item (action_of g (only_action g t)) + (action_of g (only_action g t)).items) s → HasResumed g r t (make_all s first_worker (list_of g s first_worker (Resume (only_action g t))))
 resume_leads g r s t within plain p = rw plain.retains (record {
   rest = p.rest;
   under = record {
@@ -163,7 +163,7 @@ marked Fault = tt
 marked NoMemory = tt
 marked NotRun = tt
 
-pub close_leads : (g : Outline) (r s : Standing) (t : ℕ) (d : Closed) → IsWithin g s t → IsItemOf g (only_action g t) d.unit → IsUnderway g r t s (Running first_worker) (Running first_worker) working → IsItemRunning g t s d.unit → IsUnderway g r t (make_all s first_worker (list_of g s first_worker (Close d))) (Running first_worker) (Running first_worker) empty_holding × AreItems g t (make_all s first_worker (list_of g s first_worker (Close d))) (d.unit + 1) Queued
+pub close_leads : (g : GraphView) (r s : StateView) (t : ℕ) (d : Closed) → IsWithin g s t → IsItemOf g (only_action g t) d.unit → IsUnderway g r t s (Running first_worker) (Running first_worker) working → IsItemRunning g t s d.unit → IsUnderway g r t (make_all s first_worker (list_of g s first_worker (Close d))) (Running first_worker) (Running first_worker) empty_holding × AreItems g t (make_all s first_worker (list_of g s first_worker (Close d))) (d.unit + 1) Queued
 close_leads g r s t d within i u items = (
   record {
     holding = holding_written s.holdings _ within.worker ∙ ap (λ (h : Holding). record h { lease = false }) u.holding;
@@ -187,10 +187,10 @@ close_leads g r s t d within i u items = (
     at k ik lt (inr ne) = subst IsEnded (sym (get_or-set_other s.units d.unit k (mark_from d.outcome) Waiting ne)) (items.ended k ik (omega arith))
 
 -- the state that the end of a task leaves, where its mark becomes m
-ended_state : Outline → Standing → ℕ → Mark → Standing
+ended_state : GraphView → StateView → ℕ → Mark → StateView
 ended_state g s t m = make_all s first_worker (Move (TaskOf t) (Running first_worker) m ∷ Unlock (task_of g t).lock ∷ Give ∷ [])
 
-ended_leads : (g : Outline) (r s : Standing) (t n : ℕ) (m : Mark) → IsWithin g s t → IsResting r → IsUnderway g r t s (Running first_worker) Passed working → AreItems g t s n Queued → IsEnded m → HasRun g r t (ended_state g s t m)
+ended_leads : (g : GraphView) (r s : StateView) (t n : ℕ) (m : Mark) → IsWithin g s t → IsResting r → IsUnderway g r t s (Running first_worker) Passed working → AreItems g t s n Queued → IsEnded m → HasRun g r t (ended_state g s t m)
 unfolding ended_state
 ended_leads g r s t n m within rest u items e = record {
   resting = record {
@@ -225,7 +225,7 @@ ended_leads g r s t n m within rest u items e = record {
     still (ActionOf k) = action_at k (cases_eq k (only_action g t))
     still (UnitOf k) = no_unit_runs g r s t n _ _ _ _ rest u items refl k
 
-pub end_leads : (g : Outline) (r s : Standing) (t n : ℕ) → IsWithin g s t → IsPlain g t → IsResting r → IsUnderway g r t s (Running first_worker) Passed working → AreItems g t s n Queued → HasRun g r t (make_all s first_worker (list_of g s first_worker (End t)))
+pub end_leads : (g : GraphView) (r s : StateView) (t n : ℕ) → IsWithin g s t → IsPlain g t → IsResting r → IsUnderway g r t s (Running first_worker) Passed working → AreItems g t s n Queued → HasRun g r t (make_all s first_worker (list_of g s first_worker (End t)))
 unfolding ended_state
 end_leads g r s t n within plain rest u items = at (list_all (units_passed g s) (actions_of g t))
   where
@@ -233,14 +233,14 @@ end_leads g r s t n within plain rest u items = at (list_all (units_passed g s) 
     at true = rw (plain.one, u.action, u.holding) (ended_leads g r s t n Passed within rest u items tt)
     at false = rw (plain.one, u.action, u.holding) (ended_leads g r s t n Failed within rest u items tt)
 
-item_is_unit : (g : Outline) (t u : ℕ) → IsPlain g t → IsItemOf g (only_action g t) u → IsIn (action_of g (only_action g t)).first_unit (units_in (action_of g (only_action g t))) u
+item_is_unit : (g : GraphView) (t u : ℕ) → IsPlain g t → IsItemOf g (only_action g t) u → IsIn (action_of g (only_action g t)).first_unit (units_in (action_of g (only_action g t))) u
 item_is_unit g t u plain i =
     let none : fetches (action_of g (only_action g t)).fetch ≡ 0 = ap fetches plain.no_fetch in
     let a = i.0 in
     let b = i.1 in
     (omega arith, omega arith)
 
-pub skip_leads : (g : Outline) (s : Standing) (t : ℕ) → IsWithin g s t → IsPlain g t → IsResting s → HasRun g s t (make_all s first_worker (list_of g s first_worker (Skip t)))
+pub skip_leads : (g : GraphView) (s : StateView) (t : ℕ) → IsWithin g s t → IsPlain g t → IsResting s → HasRun g s t (make_all s first_worker (list_of g s first_worker (Skip t)))
 skip_leads g s t within plain r = rw plain.one (subst (λ cs. HasRun g s t (make_all (skipped_so_far g s t) first_worker cs)) (sym (append-nil (moved_units (units_of g (only_action g t)) Waiting Skipped))) (record {
   resting = record {
     holdings = λ w. ap (λ (hs : List Holding). get_or hs w.0 empty_holding) q.holdings ∙ r.holdings w;
@@ -253,7 +253,7 @@ skip_leads g s t within plain r = rw plain.one (subst (λ cs. HasRun g s t (make
   units = units;
 }))
   where
-    s2 : Standing
+    s2 : StateView
     s2 = make_all (skipped_so_far g s t) first_worker (moved_units (units_of g (only_action g t)) Waiting Skipped)
 
     q : AreMoved (skipped_so_far g s t) (make_all (skipped_so_far g s t) first_worker (moved_units (units_of g (only_action g t)) Waiting Skipped)) Skipped (action_of g (only_action g t)).first_unit (units_in (action_of g (only_action g t)))

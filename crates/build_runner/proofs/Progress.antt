@@ -4,9 +4,9 @@ use Rattle.std.specs.List.{All, AllByRecursion, list_all, list_any}
 use Rattle.std.proofs.lemmas.Bool.{cases_eq, or_left, or_right, and_from}
 use Rattle.std.proofs.lemmas.List.{get_or_default}
 use Rattle.std.proofs.lemmas.List.Elements.{recursion_from_All}
-use Rattle.resource_lock.specs.Standing.{Standing, mark_of}
+use Rattle.resource_lock.specs.StateView.{StateView, mark_of}
 use Rattle.resource_lock.specs.Change.{same_mark}
-use Rattle.resource_lock.specs.Outline.{Outline, task_of, no_task}
+use Rattle.resource_lock.specs.GraphView.{GraphView, task_of, no_task}
 use Rattle.resource_lock.specs.Ranges.{IsActionOf}
 use Rattle.resource_lock.specs.Fits.{Fits}
 use Rattle.resource_lock.specs.declared.marks.Mark.{Mark}
@@ -24,7 +24,7 @@ use Rattle.build_runner.specs.Ready.{EndsTask}
 use Rattle.build_runner.proofs.Within.{only_is}
 
 -- what hadn't begun when another task ran hasn't begun after it
-untouched_after : (g : Outline) (r s : Standing) (t k : ℕ) → Fits g → IsPlain g t → IsPlain g k → HasRun g r t s → k ≢ t → IsUntouched g r k → IsUntouched g s k
+untouched_after : (g : GraphView) (r s : StateView) (t k : ℕ) → Fits g → IsPlain g t → IsPlain g k → HasRun g r t s → k ≢ t → IsUntouched g r k → IsUntouched g s k
 untouched_after g r s t k fits plain other run ne u =
     let apart = apart_of g fits in
     record {
@@ -33,7 +33,7 @@ untouched_after g r s t k fits plain other run ne u =
       units = λ n i. run.units n (λ j. ne (apart.one_task k t (only_action g k) (only_is g k other) (subst (λ m. IsActionOf g t m) (apart.one_action (only_action g t) (only_action g k) n (inr j) (inr i)) (only_is g t plain)))) ∙ u.units n i;
     }
 
-pub settled_after : (g : Outline) (r s : Standing) (t : ℕ) → Fits g → ArePlain g → t < length g.tasks → HasRun g r t s → AreSettled g r → AreSettled g s
+pub settled_after : (g : GraphView) (r s : StateView) (t : ℕ) → Fits g → ArePlain g → t < length g.tasks → HasRun g r t s → AreSettled g r → AreSettled g s
 settled_after g r s t fits form lt run before = record { each = λ k within. at k within (cases_eq k t) (before.each k within) }
   where
     at : (k : ℕ) → k < length g.tasks → (k ≡ t) ⊎ (k ≡ t → ⊥) → IsUntouched g r k ⊎ IsEnded (mark_of r (TaskOf k)) → IsUntouched g s k ⊎ IsEnded (mark_of s (TaskOf k))
@@ -42,15 +42,15 @@ settled_after g r s t fits form lt run before = record { each = λ k within. at 
     at k within (inr ne) (inr ended) = inr (subst IsEnded (sym (run.tasks k ne)) ended)
 
 -- a choice that is open is for a task that waits
-pub open_within : (g : Outline) (s : Standing) (c : Choice) → IsOpen g s c → task_in_choice c < length g.tasks
+pub open_within : (g : GraphView) (s : StateView) (c : Choice) → IsOpen g s c → task_in_choice c < length g.tasks
 open_within g s (choices.Skip t) o = o.within
 open_within g s (choices.Start t) o = o.within
 
-pub open_waits : (g : Outline) (s : Standing) (c : Choice) → IsOpen g s c → mark_of s (TaskOf (task_in_choice c)) ≡ Waiting
+pub open_waits : (g : GraphView) (s : StateView) (c : Choice) → IsOpen g s c → mark_of s (TaskOf (task_in_choice c)) ≡ Waiting
 open_waits g s (choices.Skip t) o = o.waits
 open_waits g s (choices.Start t) o = o.waits
 
-pub ends_task : (g : Outline) (r s : Standing) (t : ℕ) → mark_of r (TaskOf t) ≡ Waiting → HasRun g r t s → EndsTask r t s
+pub ends_task : (g : GraphView) (r s : StateView) (t : ℕ) → mark_of r (TaskOf t) ≡ Waiting → HasRun g r t s → EndsTask r t s
 ends_task g r s t waits run = record { waited = waits; ended = run.task; others = run.tasks }
 
 -- ---- how many tasks wait
@@ -86,7 +86,7 @@ fewer_wait (x ∷ xs) (y ∷ ys) (suc t) e lt w ended same =
 -- ---- where no task is ready
 
 -- tasks that have all ended have all passed, or one of them failed or was skipped
-all_or_any : (s : Standing) (ks : List ℕ) → AllByRecursion (λ k. IsEnded (mark_of s (TaskOf k))) ks → (list_all (λ k. has_passed (mark_of s (TaskOf k))) ks ≡ true) ⊎ (list_any (λ k. has_fallen (mark_of s (TaskOf k))) ks ≡ true)
+all_or_any : (s : StateView) (ks : List ℕ) → AllByRecursion (λ k. IsEnded (mark_of s (TaskOf k))) ks → (list_all (λ k. has_passed (mark_of s (TaskOf k))) ks ≡ true) ⊎ (list_any (λ k. has_fallen (mark_of s (TaskOf k))) ks ≡ true)
 all_or_any s [] ended = inl refl
 all_or_any s (k ∷ ks) ended = at (mark_of s (TaskOf k)) refl ended.0 (all_or_any s ks ended.1)
   where
@@ -106,7 +106,7 @@ all_or_any s (k ∷ ks) ended = at (mark_of s (TaskOf k)) refl ended.0 (all_or_a
     at (Running v) e ended _ = absurd ended
 
 -- where no task is ready, a task whose earlier ones have ended has ended
-ended_behind : (g : Outline) (s : Standing) (t : ℕ) → t < length g.tasks → AreSettled g s → (CanSkip g s t → ⊥) → (CanStart g s t → ⊥) → AllByRecursion (λ k. IsEnded (mark_of s (TaskOf k))) (task_of g t).after → IsEnded (mark_of s (TaskOf t))
+ended_behind : (g : GraphView) (s : StateView) (t : ℕ) → t < length g.tasks → AreSettled g s → (CanSkip g s t → ⊥) → (CanStart g s t → ⊥) → AllByRecursion (λ k. IsEnded (mark_of s (TaskOf k))) (task_of g t).after → IsEnded (mark_of s (TaskOf t))
 ended_behind g s t lt settled no_skip no_start earlier = at (settled.each t lt) (all_or_any s (task_of g t).after earlier)
   where
     at : IsUntouched g s t ⊎ IsEnded (mark_of s (TaskOf t)) → (list_all (λ k. has_passed (mark_of s (TaskOf k))) (task_of g t).after ≡ true) ⊎ (list_any (λ k. has_fallen (mark_of s (TaskOf k))) (task_of g t).after ≡ true) → IsEnded (mark_of s (TaskOf t))
@@ -115,11 +115,11 @@ ended_behind g s t lt settled no_skip no_start earlier = at (settled.each t lt) 
     at (inl u) (inr any) = absurd (no_skip (record { within = lt; waits = u.task; fallen = any }))
 
 -- so each has ended, by its rank
-ended_by_rank : (g : Outline) (s : Standing) (rank : ℕ → ℕ) → Fits g → AreRanks g rank → AreSettled g s → ((t : ℕ) → (CanSkip g s t → ⊥) × (CanStart g s t → ⊥)) → (n t : ℕ) → rank t < n → t < length g.tasks → IsEnded (mark_of s (TaskOf t))
+ended_by_rank : (g : GraphView) (s : StateView) (rank : ℕ → ℕ) → Fits g → AreRanks g rank → AreSettled g s → ((t : ℕ) → (CanSkip g s t → ⊥) × (CanStart g s t → ⊥)) → (n t : ℕ) → rank t < n → t < length g.tasks → IsEnded (mark_of s (TaskOf t))
 ended_by_rank g s rank fits ranks settled none zero t low lt = absurd (omega arith)
 ended_by_rank g s rank fits ranks settled none (suc n) t low lt = ended_behind g s t lt settled (none t).0 (none t).1 (recursion_from_All _ (task_of g t).after (λ i d within.
     let below = ranks t i d within in
     ended_by_rank g s rank fits ranks settled none n (get_or (task_of g t).after i d) (omega arith) (fits.after_within t no_task lt i d within)))
 
-pub all_ended : (g : Outline) (s : Standing) (rank : ℕ → ℕ) → Fits g → AreRanks g rank → AreSettled g s → length s.tasks ≡ length g.tasks → ((t : ℕ) → (CanSkip g s t → ⊥) × (CanStart g s t → ⊥)) → All IsEnded s.tasks
+pub all_ended : (g : GraphView) (s : StateView) (rank : ℕ → ℕ) → Fits g → AreRanks g rank → AreSettled g s → length s.tasks ≡ length g.tasks → ((t : ℕ) → (CanSkip g s t → ⊥) × (CanStart g s t → ⊥)) → All IsEnded s.tasks
 all_ended g s rank fits ranks settled size none = λ t d lt. subst IsEnded (get_or_default s.tasks t Waiting d lt) (ended_by_rank g s rank fits ranks settled none (suc (rank t)) t (omega arith) (omega arith))

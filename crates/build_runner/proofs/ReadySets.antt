@@ -10,8 +10,8 @@ use Rattle.std.proofs.lemmas.Map.Lookups.{exact_unsigned}
 use Rattle.std.specs.declared.cmp.Ordering.{Ordering}
 use Rattle.std.specs.declared.cmp.Ordering.TheVariants.{Less, Equal, Greater}
 use Rattle.std.proofs.lemmas.List.{get_or_default}
-use Rattle.resource_lock.specs.Outline.{Outline, task_of}
-use Rattle.resource_lock.specs.Standing.{Standing, mark_of}
+use Rattle.resource_lock.specs.GraphView.{GraphView, task_of}
+use Rattle.resource_lock.specs.StateView.{StateView, mark_of}
 use Rattle.resource_lock.specs.declared.marks.Mark.{Mark}
 use Rattle.resource_lock.specs.declared.marks.Mark.TheVariants.{Waiting}
 use Rattle.resource_lock.specs.declared.marks.MarkId.TheVariants.{Task as TaskOf}
@@ -41,7 +41,7 @@ looked_set Such Before After t old new left look is = record {
     complete k p (inl h) = inl (look.keeps k h)
     complete k p (inr b) = unseen k p (left k b)
 
-pub looked : (g : Outline) (s : Standing) (Before After : ℕ → Type 0) (t : ℕ) (old new : ReadyTasks) → ((k : ℕ) → Before k → (k ≡ t) ⊎ After k) → LooksAt (CanSkip g s) t old.skippable new.skippable → LooksAt (CanStart g s) t old.startable new.startable → AreReady g s Before old → AreReady g s After new
+pub looked : (g : GraphView) (s : StateView) (Before After : ℕ → Type 0) (t : ℕ) (old new : ReadyTasks) → ((k : ℕ) → Before k → (k ≡ t) ⊎ After k) → LooksAt (CanSkip g s) t old.skippable new.skippable → LooksAt (CanStart g s) t old.startable new.startable → AreReady g s Before old → AreReady g s After new
 looked g s Before After t old new left skip start are = record {
   skippable = looked_set (CanSkip g s) Before After t old.skippable new.skippable left skip are.skippable;
   startable = looked_set (CanStart g s) Before After t old.startable new.startable left start are.startable;
@@ -87,7 +87,7 @@ any_stays p q more (k ∷ ks) h = at (or_cases (p k) (list_any p ks) h) (any_sta
 -- ---- one task ends
 
 -- a test that a waiting mark doesn't meet is met by the tasks that met it before
-stays_met : (test : Mark → Bool) → test Waiting ≡ false → (r s : Standing) (t : ℕ) → EndsTask r t s → (k : ℕ) → test (mark_of r (TaskOf k)) ≡ true → test (mark_of s (TaskOf k)) ≡ true
+stays_met : (test : Mark → Bool) → test Waiting ≡ false → (r s : StateView) (t : ℕ) → EndsTask r t s → (k : ℕ) → test (mark_of r (TaskOf k)) ≡ true → test (mark_of s (TaskOf k)) ≡ true
 stays_met test none r s t ends k h = at (cases_eq k t)
   where
     at : (k ≡ t) ⊎ (k ≡ t → ⊥) → test (mark_of s (TaskOf k)) ≡ true
@@ -97,17 +97,17 @@ stays_met test none r s t ends k h = at (cases_eq k t)
 ended_not_waiting : (m : Mark) → IsEnded m → m ≡ Waiting → ⊥
 ended_not_waiting m e w = subst IsEnded w e
 
-other_than : (r s : Standing) (t k : ℕ) → EndsTask r t s → mark_of s (TaskOf k) ≡ Waiting → k ≢ t
+other_than : (r s : StateView) (t k : ℕ) → EndsTask r t s → mark_of s (TaskOf k) ≡ Waiting → k ≢ t
 other_than r s t k ends w e = ended_not_waiting (mark_of s (TaskOf t)) ends.ended (ap (λ n. mark_of s (TaskOf n)) (sym e) ∙ w)
 
-skip_stays : (g : Outline) (r s : Standing) (t k : ℕ) → EndsTask r t s → k ≢ t → CanSkip g r k → CanSkip g s k
+skip_stays : (g : GraphView) (r s : StateView) (t k : ℕ) → EndsTask r t s → k ≢ t → CanSkip g r k → CanSkip g s k
 skip_stays g r s t k ends ne can = record {
   within = can.within;
   waits = ends.others k ne ∙ can.waits;
   fallen = any_stays _ (λ n. has_fallen (mark_of s (TaskOf n))) (stays_met has_fallen refl r s t ends) (task_of g k).after can.fallen;
 }
 
-start_stays : (g : Outline) (r s : Standing) (t k : ℕ) → EndsTask r t s → k ≢ t → CanStart g r k → CanStart g s k
+start_stays : (g : GraphView) (r s : StateView) (t k : ℕ) → EndsTask r t s → k ≢ t → CanStart g r k → CanStart g s k
 start_stays g r s t k ends ne can = record {
   within = can.within;
   waits = ends.others k ne ∙ can.waits;
@@ -115,7 +115,7 @@ start_stays g r s t k ends ne can = record {
 }
 
 -- what is ready in the new state and wasn't before comes after the task that ended
-skip_before : (g : Outline) (r s : Standing) (t k : ℕ) → EndsTask r t s → CanSkip g s k → CanSkip g r k ⊎ Contains (task_of g k).after t
+skip_before : (g : GraphView) (r s : StateView) (t k : ℕ) → EndsTask r t s → CanSkip g s k → CanSkip g r k ⊎ Contains (task_of g k).after t
 skip_before g r s t k ends can = at (among_or_not (task_of g k).after t)
   where
     at : Contains (task_of g k).after t ⊎ AllByRecursion (λ n. n ≢ t) (task_of g k).after → CanSkip g r k ⊎ Contains (task_of g k).after t
@@ -126,7 +126,7 @@ skip_before g r s t k ends can = at (among_or_not (task_of g k).after t)
       fallen = any_same (λ n. has_fallen (mark_of s (TaskOf n))) (λ n. has_fallen (mark_of r (TaskOf n))) t (λ n ne. ap has_fallen (sym (ends.others n ne))) (task_of g k).after none ∙ can.fallen;
     })
 
-start_before : (g : Outline) (r s : Standing) (t k : ℕ) → EndsTask r t s → CanStart g s k → CanStart g r k ⊎ Contains (task_of g k).after t
+start_before : (g : GraphView) (r s : StateView) (t k : ℕ) → EndsTask r t s → CanStart g s k → CanStart g r k ⊎ Contains (task_of g k).after t
 start_before g r s t k ends can = at (among_or_not (task_of g k).after t)
   where
     at : Contains (task_of g k).after t ⊎ AllByRecursion (λ n. n ≢ t) (task_of g k).after → CanStart g r k ⊎ Contains (task_of g k).after t
@@ -176,8 +176,8 @@ set_after Before Now Unseen t old new removes stays came is = record {
     complete k ne (inr u) = inr u
 
 -- once the task has ended and was removed, only those that come after it are to be looked at
-pub ready_after : (g : Outline) (r s : Standing) (t : ℕ) (dependents : List ℕ) (old new : ReadyTasks) → EndsTask r t s → ((k : ℕ) → Contains (task_of g k).after t → Contains dependents k) → Removes t old.skippable new.skippable → Removes t old.startable new.startable → AreReady g r NoTask old → AreReady g s (StandsFrom 0 dependents) new
-ready_after g r s t dependents old new ends told skip start are = record {
+pub ready_after : (g : GraphView) (r s : StateView) (t : ℕ) (dependents : List ℕ) (old new : ReadyTasks) → EndsTask r t s → ((k : ℕ) → Contains (task_of g k).after t → Contains dependents k) → Removes t old.skippable new.skippable → Removes t old.startable new.startable → AreReady g r NoTask old → AreReady g s (StandsFrom 0 dependents) new
+ready_after g r s t dependents old new ends known skip start are = record {
   skippable = set_after (CanSkip g r) (CanSkip g s) (StandsFrom 0 dependents) t old.skippable new.skippable skip (λ k ne c. skip_stays g r s t k ends ne c) (λ k c. (other_than r s t k ends c.waits, or_stands k (skip_before g r s t k ends c))) are.skippable;
   startable = set_after (CanStart g r) (CanStart g s) (StandsFrom 0 dependents) t old.startable new.startable start (λ k ne c. start_stays g r s t k ends ne c) (λ k c. (other_than r s t k ends c.waits, or_stands k (start_before g r s t k ends c))) are.startable;
 }
@@ -187,7 +187,7 @@ ready_after g r s t dependents old new ends told skip start are = record {
 
     or_stands : {X : Type 0} (k : ℕ) → X ⊎ Contains (task_of g k).after t → X ⊎ StandsFrom 0 dependents k
     or_stands k (inl x) = inl x
-    or_stands k (inr c) = inr (stands k (told k c))
+    or_stands k (inr c) = inr (stands k (known k c))
 
 -- the first that is still to be looked at, and the others
 pub stands_on : (list : List ℕ) (i k : ℕ) → StandsFrom i list k → (k ≡ get_or list i 0) ⊎ StandsFrom (i + 1) list k
@@ -201,7 +201,7 @@ stands_on list i k from = at (cases_eq from.place i)
 pub none_stands : (list : List ℕ) (i k : ℕ) → length list ≤ i → StandsFrom i list k → NoTask k
 none_stands list i k le from = let a = from.from in let b = from.within in absurd (omega arith)
 
-pub all_looked : (g : Outline) (s : Standing) (Before After : ℕ → Type 0) (ready : ReadyTasks) → ((k : ℕ) → Before k → After k) → AreReady g s Before ready → AreReady g s After ready
+pub all_looked : (g : GraphView) (s : StateView) (Before After : ℕ → Type 0) (ready : ReadyTasks) → ((k : ℕ) → Before k → After k) → AreReady g s Before ready → AreReady g s After ready
 all_looked g s Before After ready none are = record {
   skippable = record { sound = are.skippable.sound; complete = λ k p. at k (are.skippable.complete k p) };
   startable = record { sound = are.startable.sound; complete = λ k p. at k (are.startable.complete k p) };

@@ -1,8 +1,8 @@
 -- The states that a run on one thread comes through, task by task. A task waits, starts, submits its items, parks while
 -- they are claimed and closed one after another, resumes, and ends.
 use Rattle.std.specs.Prelude.{ℕ, ◌≡◌, ◌≢◌, ◌⊎◌, ◌+◌, ◌<◌, ◌≤◌, length, true, false, [], None, Some}
-use Rattle.resource_lock.specs.Standing.{Standing, Holding, empty_holding, holding_of, owner_of, mark_of, runs_by}
-use Rattle.resource_lock.specs.Outline.{Outline, task_of, action_of}
+use Rattle.resource_lock.specs.StateView.{StateView, Holding, empty_holding, holding_of, owner_of, mark_of, runs_by}
+use Rattle.resource_lock.specs.GraphView.{GraphView, task_of, action_of}
 use Rattle.resource_lock.specs.Ranges.{IsItemOf, first_item}
 use Rattle.run_laws.specs.Marks.{IsEnded}
 use Rattle.resource_lock.specs.declared.graphs.Retention.TheVariants.{Retain}
@@ -22,39 +22,39 @@ abbrev pub working : Holding
 working = record { lease = true; parked = []; blocked = false }
 
 -- the one action of a task
-abbrev pub only_action : Outline → ℕ → ℕ
+abbrev pub only_action : GraphView → ℕ → ℕ
 only_action g t = (task_of g t).first_action
 
 -- the task has one action, without a fetch, that retains the project lock
-pub record IsPlain (g : Outline) (t : ℕ) : Type 0 where
+pub record IsPlain (g : GraphView) (t : ℕ) : Type 0 where
   pub one : (task_of g t).actions ≡ 1
   pub own : (action_of g (only_action g t)).task ≡ t
   pub no_fetch : (action_of g (only_action g t)).fetch ≡ false
   pub retains : (action_of g (only_action g t)).retention ≡ Retain
 
 -- all tasks are plain
-pub record ArePlain (g : Outline) : Type 0 where
+pub record ArePlain (g : GraphView) : Type 0 where
   pub plain : (t : ℕ) → t < length g.tasks → IsPlain g t
 
 -- No worker has anything, no lock has an owner, and worker 0 runs nothing.
-pub record IsResting (s : Standing) : Type 0 where
+pub record IsResting (s : StateView) : Type 0 where
   pub holdings : (w : WorkerId) → holding_of s w ≡ empty_holding
   pub free : (l : LockId) → owner_of s l ≡ None
   pub still : (m : MarkId) → runs_by first_worker (mark_of s m) ≡ false
 
 -- The task, its action and its items wait.
-pub record IsUntouched (g : Outline) (s : Standing) (t : ℕ) : Type 0 where
+pub record IsUntouched (g : GraphView) (s : StateView) (t : ℕ) : Type 0 where
   pub task : mark_of s (TaskOf t) ≡ Waiting
   pub action : mark_of s (ActionOf (only_action g t)) ≡ Waiting
   pub units : (u : ℕ) → IsItemOf g (only_action g t) u → mark_of s (UnitOf u) ≡ Waiting
 
 -- a task that hasn't ended hasn't begun
-pub record AreSettled (g : Outline) (s : Standing) : Type 0 where
+pub record AreSettled (g : GraphView) (s : StateView) : Type 0 where
   pub each : (t : ℕ) → t < length g.tasks → IsUntouched g s t ⊎ IsEnded (mark_of s (TaskOf t))
 
 -- Task t started in the state r, and worker 0, which owns the lock of the task and no other, has `held`. The other workers have nothing.
 -- The task and its action have these marks, and each mark that isn't of the task is as it was in r.
-pub record IsUnderway (g : Outline) (r : Standing) (t : ℕ) (s : Standing) (of_task of_action : Mark) (held : Holding) : Type 0 where
+pub record IsUnderway (g : GraphView) (r : StateView) (t : ℕ) (s : StateView) (of_task of_action : Mark) (held : Holding) : Type 0 where
   pub holding : holding_of s first_worker ≡ held
   pub others : (w : WorkerId) → w.0 ≢ 0 → holding_of s w ≡ empty_holding
   pub lock : owner_of s (task_of g t).lock ≡ Some first_worker
@@ -66,48 +66,48 @@ pub record IsUnderway (g : Outline) (r : Standing) (t : ℕ) (s : Standing) (of_
   pub units : (u : ℕ) → (IsItemOf g (only_action g t) u → ⊥) → mark_of s (UnitOf u) ≡ mark_of r (UnitOf u)
 
 -- the items before number n have ended, and the others have this mark
-pub record AreItems (g : Outline) (t : ℕ) (s : Standing) (n : ℕ) (mark : Mark) : Type 0 where
+pub record AreItems (g : GraphView) (t : ℕ) (s : StateView) (n : ℕ) (mark : Mark) : Type 0 where
   pub ended : (u : ℕ) → IsItemOf g (only_action g t) u → u < n → IsEnded (mark_of s (UnitOf u))
   pub others : (u : ℕ) → IsItemOf g (only_action g t) u → n ≤ u → mark_of s (UnitOf u) ≡ mark
 
 -- item n runs, those before it have ended, and those behind it are queued
-pub record IsItemRunning (g : Outline) (t : ℕ) (s : Standing) (n : ℕ) : Type 0 where
+pub record IsItemRunning (g : GraphView) (t : ℕ) (s : StateView) (n : ℕ) : Type 0 where
   pub ended : (u : ℕ) → IsItemOf g (only_action g t) u → u < n → IsEnded (mark_of s (UnitOf u))
   pub running : mark_of s (UnitOf n) ≡ Running first_worker
   pub others : (u : ℕ) → IsItemOf g (only_action g t) u → n < u → mark_of s (UnitOf u) ≡ Queued
 
 -- The worker runs the task, whose action and items wait.
-pub record IsStarted (g : Outline) (r : Standing) (t : ℕ) (s : Standing) : Type 0 where
+pub record IsStarted (g : GraphView) (r : StateView) (t : ℕ) (s : StateView) : Type 0 where
   pub rest : IsResting r
   pub under : IsUnderway g r t s (Running first_worker) Waiting working
   pub items : AreItems g t s (first_item (action_of g (only_action g t))) Waiting
 
 -- The action and its items are queued.
-pub record IsSubmitted (g : Outline) (r : Standing) (t : ℕ) (s : Standing) : Type 0 where
+pub record IsSubmitted (g : GraphView) (r : StateView) (t : ℕ) (s : StateView) : Type 0 where
   pub rest : IsResting r
   pub under : IsUnderway g r t s (Running first_worker) Queued working
   pub items : AreItems g t s (first_item (action_of g (only_action g t))) Queued
 
 -- The worker gave its lease back and runs the action; the items before number n have ended, and the others are queued.
-pub record HasParked (g : Outline) (r : Standing) (t n : ℕ) (s : Standing) : Type 0 where
+pub record HasParked (g : GraphView) (r : StateView) (t n : ℕ) (s : StateView) : Type 0 where
   pub rest : IsResting r
   pub under : IsUnderway g r t s (Running first_worker) (Running first_worker) empty_holding
   pub items : AreItems g t s n Queued
 
 -- The worker took a lease again and runs item n.
-pub record HasClaimed (g : Outline) (r : Standing) (t n : ℕ) (s : Standing) : Type 0 where
+pub record HasClaimed (g : GraphView) (r : StateView) (t n : ℕ) (s : StateView) : Type 0 where
   pub rest : IsResting r
   pub under : IsUnderway g r t s (Running first_worker) (Running first_worker) working
   pub item : IsItemRunning g t s n
 
 -- All items have ended, the action has passed, and the worker runs the task with its lease.
-pub record HasResumed (g : Outline) (r : Standing) (t : ℕ) (s : Standing) : Type 0 where
+pub record HasResumed (g : GraphView) (r : StateView) (t : ℕ) (s : StateView) : Type 0 where
   pub rest : IsResting r
   pub under : IsUnderway g r t s (Running first_worker) Passed working
   pub items : AreItems g t s (first_item (action_of g (only_action g t)) + (action_of g (only_action g t)).items) Queued
 
 -- Task t, which waited in the state r, has ended: no worker has anything, and each mark that isn't of the task is as it was in r.
-pub record HasRun (g : Outline) (r : Standing) (t : ℕ) (s : Standing) : Type 0 where
+pub record HasRun (g : GraphView) (r : StateView) (t : ℕ) (s : StateView) : Type 0 where
   pub resting : IsResting s
   pub task : IsEnded (mark_of s (TaskOf t))
   pub tasks : (k : ℕ) → k ≢ t → mark_of s (TaskOf k) ≡ mark_of r (TaskOf k)

@@ -2,8 +2,8 @@
 use Rattle.std.specs.Prelude.{ℕ, ◌≡◌, ◌≢◌, ◌⊎◌, ◌≤◌, ◌<◌, Bool, true, List, length, slice_index_or}
 use Rattle.std.specs.BTreeSet.{BTreeSet, contains}
 use Rattle.std.specs.Ordering.{nat_cmp}
-use Rattle.resource_lock.specs.Outline.{Outline}
-use Rattle.resource_lock.specs.Standing.{Standing, mark_of}
+use Rattle.resource_lock.specs.GraphView.{GraphView}
+use Rattle.resource_lock.specs.StateView.{StateView, mark_of}
 use Rattle.resource_lock.specs.declared.marks.Mark.TheVariants.{Waiting}
 use Rattle.resource_lock.specs.declared.marks.MarkId.TheVariants.{Task as TaskOf}
 use Rattle.run_laws.specs.Marks.{IsEnded}
@@ -19,7 +19,7 @@ pub record IsSetOf (Such Unseen : ℕ → Type 0) (set : BTreeSet ℕ) : Type 0 
   pub complete : (t : ℕ) → Such t → (has set t ≡ true) ⊎ Unseen t
 
 -- The sets are those of the state, but for tasks that are still to be looked at.
-pub record AreReady (g : Outline) (s : Standing) (Unseen : ℕ → Type 0) (ready : ReadyTasks) : Type 0 where
+pub record AreReady (g : GraphView) (s : StateView) (Unseen : ℕ → Type 0) (ready : ReadyTasks) : Type 0 where
   pub skippable : IsSetOf (CanSkip g s) Unseen ready.skippable
   pub startable : IsSetOf (CanStart g s) Unseen ready.startable
 
@@ -40,7 +40,7 @@ pub record LooksAt (Such : ℕ → Type 0) (t : ℕ) (old new : BTreeSet ℕ) : 
   pub only : (k : ℕ) → has new k ≡ true → (has old k ≡ true) ⊎ Such k
 
 -- from r to s the task, which waited, has ended, and no other task's mark has changed
-pub record EndsTask (r : Standing) (t : ℕ) (s : Standing) : Type 0 where
+pub record EndsTask (r : StateView) (t : ℕ) (s : StateView) : Type 0 where
   pub waited : mark_of r (TaskOf t) ≡ Waiting
   pub ended : IsEnded (mark_of s (TaskOf t))
   pub others : (k : ℕ) → k ≢ t → mark_of s (TaskOf k) ≡ mark_of r (TaskOf k)

@@ -3,14 +3,14 @@ use Rattle.std.specs.Prelude.{ℕ, ◌≡◌, ◌≢◌, ◌+◌, ◌-◌, ◌^�
 use Rattle.item_actions.specs.Files.{Folder}
 use Rattle.item_actions.specs.declared.outcomes.Outcome.{Outcome}
 use Rattle.resource_lock.specs.Good.{Good}
-use Rattle.resource_lock.specs.Standing.{Standing, empty_holding, holding_of, owner_of}
+use Rattle.resource_lock.specs.StateView.{StateView, empty_holding, holding_of, owner_of}
 use Rattle.resource_lock.specs.declared.ids.LockId.{LockId}
 use Rattle.resource_lock.specs.declared.ids.WorkerId.{WorkerId}
 use Rattle.lock_journal.specs.Allowed.{Lawful}
 use Rattle.lock_journal.specs.Closings.{outcome_in}
 use Rattle.lock_journal.specs.Entry.{Entry, replay}
-use Rattle.lock_journal.specs.Journal.{Journal}
-use Rattle.plan_reader.specs.Plan.{PlanShape}
+use Rattle.lock_journal.specs.BookView.{BookView}
+use Rattle.plan_reader.specs.PlanView.{PlanView}
 use Rattle.plan_reader.specs.Units.{unit_value}
 use Rattle.plan_reader.specs.Graph.{graph_of}
 use Rattle.run_laws.specs.Answers.{answers}
@@ -21,24 +21,24 @@ use Rattle.build_runner.specs.Phases.{first_worker}
 use Rattle.build_runner.specs.declared.options.RunOptions.{RunOptions}
 
 -- no lock has an owner, and no worker has a lease, has parked a lock or is blocked
-pub record IsFree (s : Standing) : Type 0 where
+pub record IsFree (s : StateView) : Type 0 where
   pub owners : (l : LockId) → owner_of s l ≡ None
   pub holdings : (w : WorkerId) → holding_of s w ≡ empty_holding
 
--- What each unit gives: by its file, where the files are told, but for the units that met a fault or want of memory.
+-- What each unit gives: by its file, where the files are known, but for the units that met a fault or want of memory.
 -- Where they aren't, what its closing entry says.
-abbrev pub values_of : PlanShape → Option Folder → List Entry → ℕ → Outcome
+abbrev pub values_of : PlanView → Option Folder → List Entry → ℕ → Outcome
 values_of plan None h = outcome_in h
 values_of plan (Some files) h = answers (unit_value plan files) h
 
 -- how deep one follows `after`: no chain of tasks that come after one another is longer
-abbrev pub depth : PlanShape → ℕ
+abbrev pub depth : PlanView → ℕ
 depth plan = length plan.tasks
 
 -- A whole run of a plan with these options, while the desk's count of faults went from before to after.
-pub record IsRunOf (plan : PlanShape) (options : RunOptions) (told : Option Folder) (before after : ℕ) (b : Journal) : Type 0 where
+pub record IsRunOf (plan : PlanView) (options : RunOptions) (known : Option Folder) (before after : ℕ) (b : BookView) : Type 0 where
   -- the state is the replay of the stored entries, each allowed where it stands; at most max leases are out, and no worker owns what it has parked
-  pub graph : b.graph ≡ graph_of plan options.workers options.max options.parallel
+  pub graph : b.graph ≡ graph_of plan options.workers options.max_leases options.parallel
   pub replays : b.state ≡ replay b.graph b.history
   pub lawful : Lawful b.graph b.history
   pub good : Good b.state
@@ -48,7 +48,7 @@ pub record IsRunOf (plan : PlanShape) (options : RunOptions) (told : Option Fold
   -- each task was started or skipped once, each closed item claimed once and closed once
   pub order : IsOrderly b.graph b.history
   -- marks and outcomes are those of the plan alone
-  pub results : ComesTo b.graph b.history (values_of plan told b.history) (depth plan)
+  pub results : ComesTo b.graph b.history (values_of plan known b.history) (depth plan)
   -- the units that worker 0 closed with Fault number at most the rise of the desk's count, where that isn't at its end
   pub faults : after < 2 ^ 64 - 1 → faults_by first_worker b.history + before ≤ after
   -- no other worker closed a unit

@@ -2,9 +2,9 @@
 ghost use Rattle.std.specs.Prelude.{◌≡◌, ◌==◌, ◌&&◌, ◌||◌, ◌↔◌, ◌<◌, ℕ, All, Contains, IfOk, IfNone, IfSome, IsTrue, OnOk, length};
 ghost use Rattle.std.specs.List.{list_all, list_any};
 ghost use Rattle.resource_lock.specs.Fits.{Fits};
-ghost use Rattle.resource_lock.specs.Outline.{Outline, task_of};
+ghost use Rattle.resource_lock.specs.GraphView.{GraphView, task_of};
 ghost use Rattle.resource_lock.specs.Shape.{BelongsTo};
-ghost use Rattle.resource_lock.specs.Standing.{Standing, mark_of};
+ghost use Rattle.resource_lock.specs.StateView.{StateView, mark_of};
 ghost use Rattle.resource_lock.specs.declared.marks.MarkId.TheVariants as ids;
 ghost use Rattle.lock_journal.specs.Table.{has_fallen, has_passed};
 ghost use Rattle.build_runner.specs.Choices.{CanSkip, CanStart, IsOpen, task_in_choice};
@@ -62,8 +62,8 @@ impl ReadyTasks {
     /// What an idle worker does next: it skips the lowest task that can be skipped, or else starts
     /// the lowest that can be started. None where no task is ready.
     pub(crate) fn first(&self) -> Option<Choice>
-        ensures open { (g : Outline) (s : Standing) → AreReady g s NoTask self.now → IfSome result (IsOpen g s) }
-        ensures none { (g : Outline) (s : Standing) → AreReady g s NoTask self.now → IfNone result ((t : ℕ) → (CanSkip g s t → ⊥) × (CanStart g s t → ⊥)) }
+        ensures open { (g : GraphView) (s : StateView) → AreReady g s NoTask self.now → IfSome result (IsOpen g s) }
+        ensures none { (g : GraphView) (s : StateView) → AreReady g s NoTask self.now → IfNone result ((t : ℕ) → (CanSkip g s t → ⊥) × (CanStart g s t → ⊥)) }
     {
         if let Some(task) = self.skippable.first() {
             return Some(Choice::Skip(*task));
@@ -82,7 +82,7 @@ impl ReadyTasks {
         requires within { All (λ k. k < length book.now.graph.tasks) dependents.now }
         requires dependents { (k : ℕ) → Contains (task_of book.now.graph k).after ended → Contains dependents.now k }
         ensures belongs { BelongsTo book.now.graph book.now.state }
-        ensures ready { (r : Standing) → EndsTask r ended book.now.state → AreReady book.now.graph r NoTask self.old
+        ensures ready { (r : StateView) → EndsTask r ended book.now.state → AreReady book.now.graph r NoTask self.old
             → OnOk result (AreReady book.now.graph book.now.state NoTask self.new) }
     {
         let _ = book.graph();

@@ -1,10 +1,10 @@
 //! The items of a task, worked out one after another.
 ghost use Rattle.std.specs.Prelude.{◌≡◌, ◌≢◌, ◌<◌, ◌≤◌, ◌+◌, ◌^◌, ℕ, Some, IfSome, OnOk, length, slice_get};
 ghost use Rattle.item_actions.specs.declared.outcomes.Outcome.TheVariants as outcomes;
-ghost use Rattle.worker_desk.specs.Sunk.{Rises};
+ghost use Rattle.worker_desk.specs.SinkView.{Rises};
 ghost use Rattle.resource_lock.specs.Ranges.{IsItemOf};
-ghost use Rattle.resource_lock.specs.Standing.{Standing};
-ghost use Rattle.plan_reader.specs.Plan.{PlanShape, work_shape};
+ghost use Rattle.resource_lock.specs.StateView.{StateView};
+ghost use Rattle.plan_reader.specs.PlanView.{PlanView, work_view};
 ghost use Rattle.plan_reader.specs.Units.{plan_units, item_unit, value_in};
 ghost use Rattle.run_laws.specs.Answers.{IsHonest};
 ghost use Rattle.build_runner.specs.Phases.{only_action, ArePlain, HasParked};
@@ -13,7 +13,7 @@ ghost use Rattle.build_runner.specs.Kept.{Keeps};
 
 use crate::steps::{claim, close};
 use daemon_requirements::Work;
-use item_actions::{MOST_FILE_BYTES, Outcome, act};
+use item_actions::{MAX_FILE_BYTES, Outcome, act};
 use lock_journal::{Book, Closed};
 use std::alloc::{AllocError, Global};
 use worker_desk::{DeskFail, Files, Read};
@@ -27,9 +27,9 @@ fn work_out<D: Files>(alloc: Global, work: &Work, desk: &mut D) -> Outcome
     ensures count { D.faults desk.old ≤ D.faults desk.new }
     ensures ran { result ≢ outcomes.Skipped }
     ensures fault { result ≡ outcomes.Fault → Rises (D.faults desk.old) (D.faults desk.new) }
-    ensures honest { IfSome (D.files desk.old) (λ files. IsHonest result (value_in files (Some (item_unit (work_shape work.now))))) }
+    ensures honest { IfSome (D.files desk.old) (λ files. IsHonest result (value_in files (Some (item_unit (work_view work.now))))) }
 {
-    match desk.read(alloc, &work.file, MOST_FILE_BYTES) {
+    match desk.read(alloc, &work.file, MAX_FILE_BYTES) {
         Ok(Read::Bytes(bytes)) => act(&work.action, bytes.as_slice()),
         Ok(Read::NotThere) => Outcome::NotThere,
         Ok(Read::TooLong) => Outcome::TooLong,
@@ -52,12 +52,12 @@ fn run_item<D: Files>(
     requires form { ArePlain book.old.graph }
     requires task { task < length book.old.graph.tasks }
     requires item { IsItemOf book.old.graph (only_action book.old.graph task) unit }
-    requires parked { (r : Standing) × HasParked book.old.graph r task unit book.old.state }
+    requires parked { (r : StateView) × HasParked book.old.graph r task unit book.old.state }
     ensures files { D.files desk.new ≡ D.files desk.old }
     ensures count { D.faults desk.old ≤ D.faults desk.new }
     ensures graph { book.new.graph ≡ book.old.graph }
-    ensures parked { (r : Standing) → HasParked book.old.graph r task unit book.old.state → OnOk result (HasParked book.old.graph r task (unit + 1) book.new.state) }
-    ensures keeps { (plan : PlanShape) → slice_get (plan_units plan) unit ≡ Some (item_unit (work_shape work.now)) → OnOk result (Keeps (D.files desk.old) plan (D.faults desk.old) (D.faults desk.new) book.old.history book.new.history) }
+    ensures parked { (r : StateView) → HasParked book.old.graph r task unit book.old.state → OnOk result (HasParked book.old.graph r task (unit + 1) book.new.state) }
+    ensures keeps { (plan : PlanView) → slice_get (plan_units plan) unit ≡ Some (item_unit (work_view work.now)) → OnOk result (Keeps (D.files desk.old) plan (D.faults desk.old) (D.faults desk.new) book.old.history book.new.history) }
 {
     claim(book, task, unit)?;
     let outcome = work_out(alloc, work, desk);
@@ -79,12 +79,12 @@ pub(crate) fn run_items<D: Files>(
     requires task { task < length book.old.graph.tasks }
     requires few { first + length works.now < 2 ^ 32 }
     requires items { (u : ℕ) → first ≤ u → u < first + length works.now → IsItemOf book.old.graph (only_action book.old.graph task) u }
-    requires parked { (r : Standing) × HasParked book.old.graph r task first book.old.state }
+    requires parked { (r : StateView) × HasParked book.old.graph r task first book.old.state }
     ensures files { D.files desk.new ≡ D.files desk.old }
     ensures count { D.faults desk.old ≤ D.faults desk.new }
     ensures graph { book.new.graph ≡ book.old.graph }
-    ensures parked { (r : Standing) → HasParked book.old.graph r task first book.old.state → OnOk result (HasParked book.old.graph r task (first + length works.now) book.new.state) }
-    ensures keeps { (plan : PlanShape) → ArePlanned plan first works.now → OnOk result (Keeps (D.files desk.old) plan (D.faults desk.old) (D.faults desk.new) book.old.history book.new.history) }
+    ensures parked { (r : StateView) → HasParked book.old.graph r task first book.old.state → OnOk result (HasParked book.old.graph r task (first + length works.now) book.new.state) }
+    ensures keeps { (plan : PlanView) → ArePlanned plan first works.now → OnOk result (Keeps (D.files desk.old) plan (D.faults desk.old) (D.faults desk.new) book.old.history book.new.history) }
 {
     let mut unit = first;
     for work in works {

@@ -4,7 +4,7 @@ pub struct RunOptions {
     /// How many workers the run has, 1 to 32.
     pub workers: u32,
     /// At most how many leases are out at once, 1 to 32.
-    pub max: u32,
+    pub max_leases: u32,
     /// Whether each project has a lock of its own. Without it all share one.
     pub parallel: bool,
 }

@@ -27,7 +27,7 @@ const CHANGES_A_TASK: u64 = 11;
 const CHANGES_AN_ITEM: u64 = 5;
 
 /// The most changes that an entry asks room for before it is made.
-const MOST_CHANGES: u64 = 8_203;
+const MAX_CHANGES: u64 = 8_203;
 
 /// A book of the graph without an entry, and with room for those of a whole run.
 ///
@@ -40,7 +40,7 @@ fn open(alloc: Global, graph: Graph) -> Result<Book, AllocError>
     let tasks = graph.tasks().len() as u64;
     let units = u64::from(graph.units());
     let entries = ENTRIES_A_TASK * tasks + ENTRIES_AN_ITEM * units;
-    let changes = CHANGES_A_TASK * tasks + CHANGES_AN_ITEM * units + MOST_CHANGES;
+    let changes = CHANGES_A_TASK * tasks + CHANGES_AN_ITEM * units + MAX_CHANGES;
     Book::opening(alloc, graph, entries, changes)
 }
 
@@ -48,7 +48,7 @@ fn open(alloc: Global, graph: Graph) -> Result<Book, AllocError>
 /// graph has as many workers, and leases, as the options ask for.
 ///
 /// The book that it gives has ended: no lock has an owner, each mark has ended, and each unit was
-/// skipped, or is closed with what the desk gave: where its files are told, the value of the unit's
+/// skipped, or is closed with what the desk gave: where its files are known, the value of the unit's
 /// file, or `Fault` or `NoMemory`. The desk counts each fault, until its count stands at its end.
 ///
 /// It fails where the graph, the book, an entry or the choice of the next task finds no memory; the
@@ -62,13 +62,13 @@ pub fn run_plan<D: Files>(
     requires form { IsTrue (can_run plan.now) }
     requires some_worker { 1 ≤ options.now.workers }
     requires few_workers { options.now.workers ≤ 32 }
-    requires some_lease { 1 ≤ options.now.max }
-    requires few_leases { options.now.max ≤ 32 }
+    requires some_lease { 1 ≤ options.now.max_leases }
+    requires few_leases { options.now.max_leases ≤ 32 }
     ensures files { D.files desk.new ≡ D.files desk.old }
     ensures count { D.faults desk.old ≤ D.faults desk.new }
     ensures run { IfOk result (λ book. IsRunOf plan.now options.now (D.files desk.old) (D.faults desk.old) (D.faults desk.new) book) }
 {
-    let graph = plan.graph(alloc, options.workers, options.max, options.parallel)?;
+    let graph = plan.graph(alloc, options.workers, options.max_leases, options.parallel)?;
     let mut book = open(alloc, graph)?;
     // Where each task has a rank, they can be numbered so that each stands behind those that it
     // comes after: so as long as one hasn't ended, one is ready.

@@ -4,9 +4,9 @@
 ghost use Rattle.std.specs.Prelude.{◌≡◌, ◌≢◌, ◌<◌, ◌+◌, ◌∷◌, [], List, OnOk, length};
 ghost use Rattle.resource_lock.specs.Fits.{Fits};
 ghost use Rattle.resource_lock.specs.Ranges.{IsItemOf, first_item};
-ghost use Rattle.resource_lock.specs.Outline.{action_of};
+ghost use Rattle.resource_lock.specs.GraphView.{action_of};
 ghost use Rattle.resource_lock.specs.Shape.{BelongsTo};
-ghost use Rattle.resource_lock.specs.Standing.{Standing};
+ghost use Rattle.resource_lock.specs.StateView.{StateView};
 ghost use Rattle.resource_lock.specs.declared.changes.Change.{Change};
 ghost use Rattle.item_actions.specs.declared.outcomes.Outcome.TheVariants as outcomes;
 ghost use Rattle.lock_journal.specs.Ran.{HasFinished};
@@ -67,9 +67,9 @@ pub(crate) fn submit(book: &mut Book, task: u32, action: u32) -> Result<(), Allo
     requires form { ArePlain book.old.graph }
     requires task { task < length book.old.graph.tasks }
     requires action { action ≡ only_action book.old.graph task }
-    requires started { (r : Standing) × IsStarted book.old.graph r task book.old.state }
+    requires started { (r : StateView) × IsStarted book.old.graph r task book.old.state }
     ensures graph { book.new.graph ≡ book.old.graph }
-    ensures submitted { (r : Standing) → IsStarted book.old.graph r task book.old.state → OnOk result (IsSubmitted book.old.graph r task book.new.state) }
+    ensures submitted { (r : StateView) → IsStarted book.old.graph r task book.old.state → OnOk result (IsSubmitted book.old.graph r task book.new.state) }
     ensures closed { OnOk result (HasClosed book.old.history book.new.history []) }
 {
     finish(book, &Submit { action })
@@ -80,9 +80,9 @@ pub(crate) fn park(book: &mut Book, task: u32, action: u32) -> Result<(), AllocE
     requires form { ArePlain book.old.graph }
     requires task { task < length book.old.graph.tasks }
     requires action { action ≡ only_action book.old.graph task }
-    requires submitted { (r : Standing) × IsSubmitted book.old.graph r task book.old.state }
+    requires submitted { (r : StateView) × IsSubmitted book.old.graph r task book.old.state }
     ensures graph { book.new.graph ≡ book.old.graph }
-    ensures parked { (r : Standing) → IsSubmitted book.old.graph r task book.old.state → OnOk result (HasParked book.old.graph r task (first_item (action_of book.old.graph action)) book.new.state) }
+    ensures parked { (r : StateView) → IsSubmitted book.old.graph r task book.old.state → OnOk result (HasParked book.old.graph r task (first_item (action_of book.old.graph action)) book.new.state) }
     ensures closed { OnOk result (HasClosed book.old.history book.new.history []) }
 {
     finish(book, &Park { action })
@@ -93,9 +93,9 @@ pub(crate) fn claim(book: &mut Book, task: u32, unit: u32) -> Result<(), AllocEr
     requires form { ArePlain book.old.graph }
     requires task { task < length book.old.graph.tasks }
     requires item { IsItemOf book.old.graph (only_action book.old.graph task) unit }
-    requires parked { (r : Standing) × HasParked book.old.graph r task unit book.old.state }
+    requires parked { (r : StateView) × HasParked book.old.graph r task unit book.old.state }
     ensures graph { book.new.graph ≡ book.old.graph }
-    ensures claimed { (r : Standing) → HasParked book.old.graph r task unit book.old.state → OnOk result (HasClaimed book.old.graph r task unit book.new.state) }
+    ensures claimed { (r : StateView) → HasParked book.old.graph r task unit book.old.state → OnOk result (HasClaimed book.old.graph r task unit book.new.state) }
     ensures closed { OnOk result (HasClosed book.old.history book.new.history []) }
 {
     finish(book, &Claim { unit })
@@ -107,9 +107,9 @@ pub(crate) fn close(book: &mut Book, task: u32, closed: Closed) -> Result<(), Al
     requires task { task < length book.old.graph.tasks }
     requires item { IsItemOf book.old.graph (only_action book.old.graph task) closed.unit }
     requires ran { closed.outcome ≢ outcomes.Skipped }
-    requires claimed { (r : Standing) × HasClaimed book.old.graph r task closed.unit book.old.state }
+    requires claimed { (r : StateView) × HasClaimed book.old.graph r task closed.unit book.old.state }
     ensures graph { book.new.graph ≡ book.old.graph }
-    ensures parked { (r : Standing) → HasClaimed book.old.graph r task closed.unit book.old.state → OnOk result (HasParked book.old.graph r task (closed.unit + 1) book.new.state) }
+    ensures parked { (r : StateView) → HasClaimed book.old.graph r task closed.unit book.old.state → OnOk result (HasParked book.old.graph r task (closed.unit + 1) book.new.state) }
     ensures closed { OnOk result (HasClosed book.old.history book.new.history (closed ∷ [])) }
 {
     finish(book, &Close { closed })
@@ -120,9 +120,9 @@ pub(crate) fn resume(book: &mut Book, task: u32, action: u32) -> Result<(), Allo
     requires form { ArePlain book.old.graph }
     requires task { task < length book.old.graph.tasks }
     requires action { action ≡ only_action book.old.graph task }
-    requires parked { (r : Standing) × HasParked book.old.graph r task (first_item (action_of book.old.graph action) + (action_of book.old.graph action).items) book.old.state }
+    requires parked { (r : StateView) × HasParked book.old.graph r task (first_item (action_of book.old.graph action) + (action_of book.old.graph action).items) book.old.state }
     ensures graph { book.new.graph ≡ book.old.graph }
-    ensures resumed { (r : Standing) → HasParked book.old.graph r task (first_item (action_of book.old.graph action) + (action_of book.old.graph action).items) book.old.state → OnOk result (HasResumed book.old.graph r task book.new.state) }
+    ensures resumed { (r : StateView) → HasParked book.old.graph r task (first_item (action_of book.old.graph action) + (action_of book.old.graph action).items) book.old.state → OnOk result (HasResumed book.old.graph r task book.new.state) }
     ensures closed { OnOk result (HasClosed book.old.history book.new.history []) }
 {
     finish(book, &Resume { action })
@@ -132,9 +132,9 @@ pub(crate) fn resume(book: &mut Book, task: u32, action: u32) -> Result<(), Allo
 pub(crate) fn end(book: &mut Book, task: u32) -> Result<(), AllocError>
     requires form { ArePlain book.old.graph }
     requires task { task < length book.old.graph.tasks }
-    requires resumed { (r : Standing) × HasResumed book.old.graph r task book.old.state }
+    requires resumed { (r : StateView) × HasResumed book.old.graph r task book.old.state }
     ensures graph { book.new.graph ≡ book.old.graph }
-    ensures run { (r : Standing) → HasResumed book.old.graph r task book.old.state → OnOk result (HasRun book.old.graph r task book.new.state) }
+    ensures run { (r : StateView) → HasResumed book.old.graph r task book.old.state → OnOk result (HasRun book.old.graph r task book.new.state) }
     ensures closed { OnOk result (HasClosed book.old.history book.new.history []) }
 {
     finish(book, &End { task })

@@ -1,9 +1,9 @@
 //! A task of a plan, run from its start to its end.
 ghost use Rattle.std.specs.Prelude.{◌≡◌, ◌<◌, ◌≤◌, ◌+◌, ◌^◌, IsTrue, OnOk, length, map};
-ghost use Rattle.resource_lock.specs.Outline.{action_of};
+ghost use Rattle.resource_lock.specs.GraphView.{action_of};
 ghost use Rattle.resource_lock.specs.Fits.{Fits};
 ghost use Rattle.resource_lock.specs.Ranges.{first_item};
-ghost use Rattle.plan_reader.specs.Plan.{PlanShape, work_shape};
+ghost use Rattle.plan_reader.specs.PlanView.{PlanView, work_view};
 ghost use Rattle.build_runner.specs.CanRun.{can_run};
 ghost use Rattle.build_runner.specs.Choices.{CanStart};
 ghost use Rattle.build_runner.specs.Phases.{only_action, ArePlain, IsResting, IsUntouched, HasRun};
@@ -22,7 +22,7 @@ use worker_desk::Files;
 fn items_of(plan: &Plan, task: u32) -> &[Work]
     requires form { IsTrue (can_run plan.now) }
     requires task { task < length plan.now.tasks }
-    ensures items { map work_shape result.now ≡ (single (task_in plan.entry.now task)).items }
+    ensures items { map work_view result.now ≡ (single (task_in plan.entry.now task)).items }
 {
     plan.tasks()[task as usize].actions[0].items.as_slice()
 }
@@ -76,7 +76,7 @@ fn run_entries<D: Files>(
     ensures count { D.faults desk.old ≤ D.faults desk.new }
     ensures graph { book.new.graph ≡ book.old.graph }
     ensures run { OnOk result (HasRun book.old.graph book.old.state numbers.task book.new.state) }
-    ensures keeps { (plan : PlanShape) → ArePlanned plan numbers.first items.now → OnOk result (Keeps (D.files desk.old) plan (D.faults desk.old) (D.faults desk.new) book.old.history book.new.history) }
+    ensures keeps { (plan : PlanView) → ArePlanned plan numbers.first items.now → OnOk result (Keeps (D.files desk.old) plan (D.faults desk.old) (D.faults desk.new) book.old.history book.new.history) }
 {
     start(book, numbers.task)?;
     submit(book, numbers.task, numbers.action)?;

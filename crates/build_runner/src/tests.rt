@@ -33,7 +33,7 @@ const MISSING: &str = "missing.txt";
 
 const ONE_THREAD: RunOptions = RunOptions {
     workers: 1,
-    max: 1,
+    max_leases: 1,
     parallel: false,
 };
 
@@ -189,7 +189,7 @@ fn run(rt: &impl Abort, alloc: Global, text: &str, options: &RunOptions) -> Resu
     let plan = read_plan(alloc, text.as_bytes())?;
     assert!(rt; can_run(&plan));
     assert!(rt; 1 <= options.workers && options.workers <= 32);
-    assert!(rt; 1 <= options.max && options.max <= 32);
+    assert!(rt; 1 <= options.max_leases && options.max_leases <= 32);
     let mut desk = desk(alloc, Vec::new(alloc))?;
     let book = run_plan(alloc, &plan, options, &mut desk)?;
     assert_eq!(rt; desk.count(), 0);
@@ -213,14 +213,14 @@ fn tasks_run_and_are_skipped_in_the_order_in_which_they_get_ready(
 fn run_is_the_same_for_more_workers_and_leases(rt: HostRuntime) -> Result<(), Fail> {
     let options = RunOptions {
         workers: 4,
-        max: 3,
+        max_leases: 3,
         parallel: true,
     };
     for case in &CASES {
         let text = text_of(rt.alloc(), case.tasks)?;
         let book = run(&rt, rt.alloc(), text.as_str(), &options)?;
         assert_eq!(rt; book.graph().workers(), 4);
-        assert_eq!(rt; book.graph().max(), 3);
+        assert_eq!(rt; book.graph().max_leases(), 3);
         let expected = entries_of(rt.alloc(), case.done)?;
         assert_eq!(rt; kinds_of(&rt, rt.alloc(), &book)?, expected);
     }

@@ -29,10 +29,10 @@ abbrev pub plan_of : List Row → Text
 plan_of rows = unwrap_or (first_of (codes "PLAN") rows) []
 
 abbrev pub asked : List Row → ℕ → ℕ → RunWords
-asked rows max workers = record {
+asked rows max_leases workers = record {
   plan = plan_of rows;
   workers = workers;
-  max = max;
+  max_leases = max_leases;
   parallel = is_on (codes "parallel") rows;
   history = is_on (codes "history") rows;
   summary = is_on (codes "summary") rows;
@@ -42,7 +42,7 @@ asked rows max workers = record {
 abbrev pub run_of_rows : List Row → Option RunWords
 run_of_rows rows =
     if is_plan_name (plan_of rows)
-    then option_and_then (λ max. option_map (asked rows max) (count_or (first_of (codes "threads") rows) max)) (count_or (first_of (codes "max-workers") rows) 2)
+    then option_and_then (λ max_leases. option_map (asked rows max_leases) (count_or (first_of (codes "threads") rows) max_leases)) (count_or (first_of (codes "max-workers") rows) 2)
     else None
 
 -- what the words after `run` ask for: the parser finds no fault with them
@@ -60,8 +60,8 @@ command_of (name ∷ words) =
 pub record HasBounds (run : RunWords) : Type 0 where
   pub some_worker : 1 ≤ run.workers
   pub few_workers : run.workers ≤ 32
-  pub some_lease : 1 ≤ run.max
-  pub few_leases : run.max ≤ 32
+  pub some_lease : 1 ≤ run.max_leases
+  pub few_leases : run.max_leases ≤ 32
 
 abbrev pub IsBounded : Command → Type 0
 IsBounded (Run run) = HasBounds run

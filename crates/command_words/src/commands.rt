@@ -20,7 +20,7 @@ pub struct RunWords {
     /// How many threads work, 1 to 32.
     pub workers: u32,
     /// The most leases that may be out, 1 to 32.
-    pub max: u32,
+    pub max_leases: u32,
     /// Whether each project has a lock of its own.
     pub parallel: bool,
     /// Whether the history is printed.

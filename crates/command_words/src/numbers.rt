@@ -6,10 +6,10 @@ ghost use Rattle.std.specs.Prelude.{true, IfSome, ◌≡◌, ◌≤◌};
 ghost use Rattle.std.specs.Str.Parse.{digits_value};
 
 /// The most digits of a number.
-const MOST_DIGITS: usize = 10;
+const MAX_DIGITS: usize = 10;
 
 /// The greatest number of threads, and of leases.
-const GREATEST: u64 = 32;
+const MAX_COUNT: u64 = 32;
 
 fn are_digits(bytes: &[u8]) -> bool
     ensures { result ≡ list_all is_ascii_digit bytes.now }
@@ -20,7 +20,7 @@ fn are_digits(bytes: &[u8]) -> bool
 fn is_numeral(text: &str) -> bool
     ensures { result ≡ is_numeral text.now }
 {
-    1 <= text.len() && text.len() <= MOST_DIGITS && are_digits(text.as_bytes())
+    1 <= text.len() && text.len() <= MAX_DIGITS && are_digits(text.as_bytes())
 }
 
 fn value_of(text: &str) -> u64
@@ -38,7 +38,7 @@ fn in_bounds(value: u64) -> Option<u32>
     ensures some { IfSome result (λ n. 1 ≤ n) }
     ensures few { IfSome result (λ n. n ≤ 32) }
 {
-    if 1 <= value && value <= GREATEST {
+    if 1 <= value && value <= MAX_COUNT {
         Some(value as u32)
     } else {
         None

@@ -17,10 +17,10 @@ use item_actions::Text;
 use std::alloc::{AllocError, Global};
 
 /// The most bytes of the name of the plan's file.
-const LONGEST_PLAN_NAME: usize = 255;
+const MAX_PLAN_NAME_BYTES: usize = 255;
 
 /// The most leases that may be out, where the words don't say it.
-const DEFAULT_MAX: u32 = 2;
+const DEFAULT_MAX_LEASES: u32 = 2;
 
 /// What the parser makes of words.
 fn matches_of<'a>(alloc: Global, words: &'a [&'a str]) -> Result<ArgMatches<'a>, WordsFail>
@@ -78,7 +78,7 @@ fn has_zero(bytes: &[u8]) -> bool
 fn is_plan_name(text: &str) -> bool
     ensures { result ≡ is_plan_name text.now }
 {
-    1 <= text.len() && text.len() <= LONGEST_PLAN_NAME && !has_zero(text.as_bytes())
+    1 <= text.len() && text.len() <= MAX_PLAN_NAME_BYTES && !has_zero(text.as_bytes())
 }
 
 /// What the words of `run` ask for, by the parser's matches.
@@ -91,16 +91,16 @@ fn run_words(alloc: Global, matches: &ArgMatches<'_>) -> Result<RunWords, WordsF
     if !is_plan_name(plan) {
         return Err(WordsFail::NoCommand);
     }
-    let Some(max) = count_at(matches, "max-workers", DEFAULT_MAX) else {
+    let Some(max_leases) = count_at(matches, "max-workers", DEFAULT_MAX_LEASES) else {
         return Err(WordsFail::NoCommand);
     };
-    let Some(workers) = count_at(matches, "threads", max) else {
+    let Some(workers) = count_at(matches, "threads", max_leases) else {
         return Err(WordsFail::NoCommand);
     };
     Ok(RunWords {
         plan: Text::from_str(alloc, plan)?,
         workers,
-        max,
+        max_leases,
         parallel: is_on(matches, "parallel"),
         history: is_on(matches, "history"),
         summary: is_on(matches, "summary"),

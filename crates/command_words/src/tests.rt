@@ -182,7 +182,7 @@ fn words_of(alloc: Global, line: &str) -> Result<Vec<Text>, AllocError> {
 
 /// The name of the plan's file, the most leases, the threads, and the flags that are on.
 fn spelled(alloc: Global, run: &RunWords) -> Result<String, AllocError> {
-    let mut text = format!(in alloc; "{} {} {}", run.plan.as_str(), run.max, run.workers)?;
+    let mut text = format!(in alloc; "{} {} {}", run.plan.as_str(), run.max_leases, run.workers)?;
     for (name, is_on) in [
         (" parallel", run.parallel),
         (" history", run.history),

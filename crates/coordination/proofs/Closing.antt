@@ -5,27 +5,27 @@ use Rattle.std.proofs.lemmas.List.{get_or-map}
 use mathlib.Core.Option.{some, some-injective}
 use lib.ListN.{get_elem?}
 use Rattle.atomic_table.specs.Table.{Final, Seen}
-use Rattle.resource_lock.specs.Outline.{Outline}
+use Rattle.resource_lock.specs.GraphView.{GraphView}
 use Rattle.resource_lock.specs.declared.ids.WorkerId.{WorkerId}
-use Rattle.lock_journal.specs.Journal.{Journal}
+use Rattle.lock_journal.specs.BookView.{BookView}
 use Rattle.coordination.specs.declared.rule.Sight.{Sight}
 use Rattle.coordination.specs.declared.rule.SeatView.{SeatView}
 use Rattle.coordination.specs.Agrees.{Agrees, IsSound}
-use Rattle.coordination.specs.Passes.{Seated}
+use Rattle.coordination.specs.Passes.{PassView}
 use Rattle.coordination.specs.Rule.{OutFits, home_of, Orderly}
 use Rattle.coordination.specs.Sights.{sight, all_of, no_book, sights_from, workers_from}
 use Rattle.coordination.proofs.Moves.{S}
 
 -- what the last state says of each worker, and of the slot
-pub record Closes (g : Outline) (ss : List Sight) (xs : List Journal) : Type 0 where
-  pub book : Journal
+pub record Closes (g : GraphView) (ss : List Sight) (xs : List BookView) : Type 0 where
+  pub book : BookView
   pub mark : ℕ
   pub graph : book.graph ≡ g
   pub sound : IsSound book
   pub slot : get_elem? xs 0 ≡ some book
   pub agrees : All (λ s. Agrees s.worker s.seen book) ss
   pub stops : All (λ s. mark ≡ suc s.worker.0 → s.stopped ≡ true) ss
-  pub told : All (λ s. (w : WorkerId) → s.told ≡ Some w → mark ≡ suc w.0) ss
+  pub stopped_by : All (λ s. (w : WorkerId) → s.stopped_by ≡ Some w → mark ≡ suc w.0) ss
 
 some_at : (views : List SeatView) (k : ℕ) → k < length views → (u : SeatView) × (get_elem? views k ≡ some u)
 some_at [] k h = absurd (omega arith)
@@ -52,8 +52,8 @@ there_is ss n w all low =
     let inside : w < length ss = omega arith in
     (inside, λ d. sym (get_or-map (λ (s : Sight). s.worker.0) ss w d 0 inside) ∙ (ap (λ (l : List ℕ). get_or l w 0) all ∙ (workers_at 0 n w 0 low ∙ omega arith)))
 
-closing : (g : Outline) (id : ℕ) (ss : List Sight) (xs : List Journal) → map (λ s. s.worker.0) ss ≡ workers_from 0 g.workers → (s : S) (o : Orderly g s) → get_elem? s.views id ≡ some (all_of ss)
-    → ((k : ℕ) (y : Journal) → get_elem? s.homes k ≡ some (some y) → get_elem? xs k ≡ some y) → (holder : Option ℕ) → o.holder ≡ holder → Closes g ss xs
+closing : (g : GraphView) (id : ℕ) (ss : List Sight) (xs : List BookView) → map (λ s. s.worker.0) ss ≡ workers_from 0 g.workers → (s : S) (o : Orderly g s) → get_elem? s.views id ≡ some (all_of ss)
+    → ((k : ℕ) (y : BookView) → get_elem? s.homes k ≡ some (some y) → get_elem? xs k ≡ some y) → (holder : Option ℕ) → o.holder ≡ holder → Closes g ss xs
 closing g id ss xs all s o at keeps None is =
     let mine = (o.fits id (all_of ss) at).0 in record {
       book = o.book;
@@ -63,7 +63,7 @@ closing g id ss xs all s o at keeps None is =
       slot = keeps 0 o.book (o.home ∙ ap (λ (k : Option ℕ). some (home_of k o.book)) is);
       agrees = λ k d h. (mine k d h).agrees;
       stops = λ k d h. (mine k d h).stops;
-      told = λ k d h. (mine k d h).told;
+      stopped_by = λ k d h. (mine k d h).stopped_by;
     }
 closing g id ss xs all s o at keeps (Some k) is =
     let u = some_at s.views k (o.inside k is) in
@@ -79,42 +79,42 @@ closing g id ss xs all s o at keeps (Some k) is =
     let holds : OutFits (Some k) o.book id (all_of ss) = subst (λ (j : Option ℕ). OutFits j o.book id (all_of ss)) is (o.fits id (all_of ss) at).1 in
     let not : None ≡ Some o.book = (holds.0 same).0 in absurd (cc)
 
-pub closes : (g : Outline) (id : ℕ) (v : SeatView) (ss : List Sight) (ws : List ℕ) (xs : List Journal) → v ≡ all_of ss → map (λ s. s.worker.0) ss ≡ workers_from 0 g.workers → Final (Seen (Orderly g) id v) ws xs
+pub closes : (g : GraphView) (id : ℕ) (v : SeatView) (ss : List Sight) (ws : List ℕ) (xs : List BookView) → v ≡ all_of ss → map (λ s. s.worker.0) ss ≡ workers_from 0 g.workers → Final (Seen (Orderly g) id v) ws xs
     → Closes g ss xs
 closes g id v ss ws xs is all f = closing g id ss xs all f.0 f.1.0 (f.1.1 ∙ ap some is) f.4 f.1.0.holder refl
 
 -- the same of the passes
-pub workers_all : (ps : List Seated) → map (λ s. s.worker.0) (map (λ p. p.sight) ps) ≡ map (λ p. p.sight.worker.0) ps
+pub workers_all : (ps : List PassView) → map (λ s. s.worker.0) (map (λ p. p.sight) ps) ≡ map (λ p. p.sight.worker.0) ps
 workers_all [] = refl
 workers_all (p ∷ ps) = λ i. p.sight.worker.0 ∷ workers_all ps i
 
-workers_of : (w n : ℕ) (book : Journal) → map (λ (s : Sight). s.worker.0) (sights_from w n book) ≡ workers_from w n
+workers_of : (w n : ℕ) (book : BookView) → map (λ (s : Sight). s.worker.0) (sights_from w n book) ≡ workers_from w n
 workers_of w zero book = refl
 workers_of w (suc n) book = ap (λ (l : List ℕ). w ∷ l) (workers_of (suc w) n book)
 
 -- the workers of new passes, and how many they are
-pub workers_first : (ps : List Seated) (n : ℕ) (book : Journal) → map (λ p. p.sight) ps ≡ sights_from 0 n book → map (λ p. p.sight.worker.0) ps ≡ workers_from 0 n
+pub workers_first : (ps : List PassView) (n : ℕ) (book : BookView) → map (λ p. p.sight) ps ≡ sights_from 0 n book → map (λ p. p.sight.worker.0) ps ≡ workers_from 0 n
 workers_first ps n book is = sym (workers_all ps) ∙ (ap (λ (l : List Sight). map (λ s. s.worker.0) l) is ∙ workers_of 0 n book)
 
-pub length_first : (ps : List Seated) (n : ℕ) (book : Journal) → map (λ p. p.sight) ps ≡ sights_from 0 n book → length ps ≡ n
+pub length_first : (ps : List PassView) (n : ℕ) (book : BookView) → map (λ p. p.sight) ps ≡ sights_from 0 n book → length ps ≡ n
 length_first ps n book is =
-    sym (length_map (λ (p : Seated). p.sight.worker.0) ps) ∙ (ap (λ (l : List ℕ). length l) (workers_first ps n book is) ∙ length_workers 0 n)
+    sym (length_map (λ (p : PassView). p.sight.worker.0) ps) ∙ (ap (λ (l : List ℕ). length l) (workers_first ps n book is) ∙ length_workers 0 n)
 
 -- a fact of each sight is one of each pass
-of_passes : (P : Sight → Type 0) (ps : List Seated) → All P (map (λ p. p.sight) ps) → (k : ℕ) (d : Seated) → k < length ps → P (get_or ps k d).sight
-of_passes P ps all k d h = let f : Seated → Sight = λ p. p.sight in let long = length_map f ps in subst P (at k ps d) (all k d.sight (omega arith))
+of_passes : (P : Sight → Type 0) (ps : List PassView) → All P (map (λ p. p.sight) ps) → (k : ℕ) (d : PassView) → k < length ps → P (get_or ps k d).sight
+of_passes P ps all k d h = let f : PassView → Sight = λ p. p.sight in let long = length_map f ps in subst P (at k ps d) (all k d.sight (omega arith))
   where
-    at : (k : ℕ) (ps : List Seated) (d : Seated) → get_or (map (λ p. p.sight) ps) k d.sight ≡ (get_or ps k d).sight
+    at : (k : ℕ) (ps : List PassView) (d : PassView) → get_or (map (λ p. p.sight) ps) k d.sight ≡ (get_or ps k d).sight
     at k [] d = refl
     at zero (p ∷ ps) d = refl
     at (suc k) (p ∷ ps) d = at k ps d
 
-module _ (g : Outline) (ps : List Seated) (xs : List Journal) (result : Journal) (z : Closes g (map (λ p. p.sight) ps) xs) (took : get_elem? xs 0 ≡ some result) where
+module _ (g : GraphView) (ps : List PassView) (xs : List BookView) (result : BookView) (z : Closes g (map (λ p. p.sight) ps) xs) (took : get_elem? xs 0 ≡ some result) where
   same : z.book ≡ result
   same = some-injective z.book result (sym z.slot ∙ took)
 
   pub graph_is : result.graph ≡ g
-  graph_is = sym (ap (λ (b : Journal). b.graph) same) ∙ z.graph
+  graph_is = sym (ap (λ (b : BookView). b.graph) same) ∙ z.graph
 
   pub sound_is : IsSound result
   sound_is = subst IsSound same z.sound
@@ -122,8 +122,8 @@ module _ (g : Outline) (ps : List Seated) (xs : List Journal) (result : Journal)
   pub passes_agree : All (λ p. Agrees p.sight.worker p.sight.seen result) ps
   passes_agree = λ k d h. subst (Agrees (get_or ps k d).sight.worker (get_or ps k d).sight.seen) same (of_passes (λ (s : Sight). Agrees s.worker s.seen z.book) ps z.agrees k d h)
 
-pub passes_told : (g : Outline) (ps : List Seated) (xs : List Journal) → Closes g (map (λ p. p.sight) ps) xs
-    → All (λ p. (by : WorkerId) → p.sight.told ≡ Some by → All (λ q. q.sight.worker ≡ by → q.sight.stopped ≡ true) ps) ps
-passes_told g ps xs z = λ k d h w told k' d' h' worker.
-    let mark : z.mark ≡ suc w.0 = of_passes (λ (s : Sight). (w : WorkerId) → s.told ≡ Some w → z.mark ≡ suc w.0) ps z.told k d h w told in
+pub passes_told : (g : GraphView) (ps : List PassView) (xs : List BookView) → Closes g (map (λ p. p.sight) ps) xs
+    → All (λ p. (by : WorkerId) → p.sight.stopped_by ≡ Some by → All (λ q. q.sight.worker ≡ by → q.sight.stopped ≡ true) ps) ps
+passes_told g ps xs z = λ k d h w stopped_by k' d' h' worker.
+    let mark : z.mark ≡ suc w.0 = of_passes (λ (s : Sight). (w : WorkerId) → s.stopped_by ≡ Some w → z.mark ≡ suc w.0) ps z.stopped_by k d h w stopped_by in
     of_passes (λ (s : Sight). z.mark ≡ suc s.worker.0 → s.stopped ≡ true) ps z.stops k' d' h' (mark ∙ ap (λ (v : WorkerId). suc v.0) (sym worker))

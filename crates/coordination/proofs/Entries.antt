@@ -5,14 +5,14 @@ use Rattle.std.proofs.Math.Seq.{get_or-append_seam}
 use Rattle.std.proofs.lemmas.Option.{get_or_from_slice_get}
 use Rattle.resource_lock.specs.Change.{make_all}
 use Rattle.resource_lock.specs.Good.{Good}
-use Rattle.resource_lock.specs.Outline.{Outline}
+use Rattle.resource_lock.specs.GraphView.{GraphView}
 use Rattle.resource_lock.specs.Shape.{BelongsTo}
-use Rattle.resource_lock.specs.Standing.{Standing}
+use Rattle.resource_lock.specs.StateView.{StateView}
 use Rattle.resource_lock.specs.declared.changes.Change.{Change}
 use Rattle.resource_lock.specs.declared.ids.WorkerId.{WorkerId}
 use Rattle.resource_lock.proofs.Runs.{belongs_along, same_shape-make_all, worker_from}
 use Rattle.lock_journal.specs.Entry.{Entry, entry}
-use Rattle.lock_journal.specs.Journal.{Journal}
+use Rattle.lock_journal.specs.BookView.{BookView}
 use Rattle.lock_journal.specs.Shown.{entry_shown}
 use Rattle.lock_journal.specs.declared.entries.Shown.{Shown}
 use Rattle.lock_journal.specs.declared.transforms.Disposition.{Disposition}
@@ -25,21 +25,21 @@ use Rattle.coordination.specs.declared.parts.Part.{Part}
 use Rattle.coordination.proofs.Growing.{last_of-own}
 
 -- at a result that is known by an equation
-pub follows_at : {E : Type 0} (w : WorkerId) (old new : Journal) (r s : Result Disposition E) (part : Part) → r ≡ s → Follows w old new r part → Follows w old new s part
+pub follows_at : {E : Type 0} (w : WorkerId) (old new : BookView) (r s : Result Disposition E) (part : Part) → r ≡ s → Follows w old new r part → Follows w old new s part
 follows_at w old new r s part is f = subst (λ t. Follows w old new t part) is f
 
-pub belongs_sound : (book : Journal) → IsSound book → BelongsTo book.graph book.state
+pub belongs_sound : (book : BookView) → IsSound book → BelongsTo book.graph book.state
 belongs_sound book sound = subst (BelongsTo book.graph) (sym sound.replays) (belongs book.graph book.history sound.lawful)
 
 -- the room of the graph is that of its states
-room_in : (g : Outline) (s : Standing) (part : Part) → BelongsTo g s → HasRoom g.locks (marks_of g) part → HasRoom (length s.owners) (mark_count s) part
+room_in : (g : GraphView) (s : StateView) (part : Part) → BelongsTo g s → HasRoom g.locks (marks_of g) part → HasRoom (length s.owners) (mark_count s) part
 room_in g s part b room = record {
   lock_room = omega (arith, b.locks, room.lock_room);
   mark_room = omega (arith, b.tasks, b.actions, b.units, room.mark_room);
   park_room = omega (arith, b.locks, room.park_room);
 }
 
-room_out : (g : Outline) (s : Standing) (part : Part) → BelongsTo g s → HasRoom (length s.owners) (mark_count s) part → HasRoom g.locks (marks_of g) part
+room_out : (g : GraphView) (s : StateView) (part : Part) → BelongsTo g s → HasRoom (length s.owners) (mark_count s) part → HasRoom g.locks (marks_of g) part
 room_out g s part b room = record {
   lock_room = omega (arith, b.locks, room.lock_room);
   mark_room = omega (arith, b.tasks, b.actions, b.units, room.mark_room);
@@ -50,7 +50,7 @@ not_failed : (failed : Bool) (xs cs : List Change) → cond failed None (Some xs
 not_failed true xs cs is = absurd (cc)
 not_failed false xs cs is = cc
 
-module _ {E : Type 0} (w : WorkerId) (old new : Journal) (part : Part) (f : Follows {E = E} w old new (Ok Finished) part) where
+module _ {E : Type 0} (w : WorkerId) (old new : BookView) (part : Part) (f : Follows {E = E} w old new (Ok Finished) part) where
   -- the last entry shows its changes
   pub shown_changes : (n : ℕ) (shown : Shown) → n ≡ length new.history → slice_get new.history (n - 1) ≡ Some (entry_shown shown) → shown.changes.now ≡ f.grew.1
   shown_changes n shown long at =
@@ -80,21 +80,21 @@ module _ {E : Type 0} (w : WorkerId) (old new : Journal) (part : Part) (f : Foll
     part_after last long =
         let e : Entry = entry w f.grew.0 (Some f.grew.1) in
         let history : new.history ≡ old.history ++ e ∷ [] = f.grew.2.history in record {
-          has = subst (λ (s : Standing). Has s w after) (sym f.grew.2.state) leads.has;
+          has = subst (λ (s : StateView). Has s w after) (sym f.grew.2.state) leads.has;
           last = last ∙ (long ∙ (ap (λ (h : List Entry). length h) history ∙ sym (ap (λ (h : List Entry). last_of w h) history ∙ last_of-own w old.history e refl)));
         }
 
     pub room_after : HasRoom new.graph.locks (marks_of new.graph) after
     room_after =
-        subst (λ (g : Outline). HasRoom g.locks (marks_of g) after) (sym f.graph)
+        subst (λ (g : GraphView). HasRoom g.locks (marks_of g) after) (sym f.graph)
         (room_out old.graph (make_all old.state w f.grew.1) after (belongs_along old.graph old.state (make_all old.state w f.grew.1) (same_shape-make_all old.state w f.grew.1) (belongs_sound old f.sound)) leads.room)
 
 -- a failed transform leaves all but the number of the last entry
-pub part_failed : {E : Type 0} (w : WorkerId) (old new : Journal) (part : Part) (n : ℕ) → Follows {E = E} w old new (Ok Failed) part → n ≡ length new.history → IsPartOf new w (record part { last = n })
+pub part_failed : {E : Type 0} (w : WorkerId) (old new : BookView) (part : Part) (n : ℕ) → Follows {E = E} w old new (Ok Failed) part → n ≡ length new.history → IsPartOf new w (record part { last = n })
 part_failed w old new part n f long =
     let e : Entry = entry w f.grew.0 None in
     let history : new.history ≡ old.history ++ e ∷ [] = f.grew.1 in
-    let has = subst (λ (s : Standing). Has s w part) (sym f.grew.2) f.kept.has in record {
+    let has = subst (λ (s : StateView). Has s w part) (sym f.grew.2) f.kept.has in record {
       has = record { holding = has.holding; locks = has.locks; claimed = has.claimed };
       last = long ∙ (ap (λ (h : List Entry). length h) history ∙ sym (ap (λ (h : List Entry). last_of w h) history ∙ last_of-own w old.history e refl));
     }

@@ -5,7 +5,7 @@ use Rattle.std.proofs.lemmas.Bool.{and_parts}
 use Rattle.std.proofs.lemmas.List.{length-map, length_push, take_more, drop_more}
 use Rattle.resource_lock.specs.Change.{can, can_all, holding_after, make, make_all}
 use Rattle.resource_lock.specs.Good.{Good}
-use Rattle.resource_lock.specs.Standing.{Holding, Standing, holding_of, is_owner, runs_by}
+use Rattle.resource_lock.specs.StateView.{Holding, StateView, holding_of, is_owner, runs_by}
 use Rattle.resource_lock.specs.declared.changes.Change.{Change}
 use Rattle.resource_lock.specs.declared.changes.Change.TheVariants.{Lock, Unlock, Take, Give, Move, Park, Unpark, Enter, Leave}
 use Rattle.resource_lock.specs.declared.ids.LockId.{LockId}
@@ -47,7 +47,7 @@ length_owned n (o ∷ os) w = at (is_owner o w) (length_owned (n + 1) os w)
     at true rest = omega arith
     at false rest = omega arith
 
-length_claimed : (s : Standing) (w : WorkerId) → length (claimed s w) ≤ mark_count s
+length_claimed : (s : StateView) (w : WorkerId) → length (claimed s w) ≤ mark_count s
 length_claimed s w =
     let ts : List ℕ = places_from (runs_by w) 0 s.tasks in
     let qs : List ℕ = places_from (runs_by w) 0 s.actions in
@@ -64,7 +64,7 @@ length_claimed s w =
       length_places (runs_by w) 0 s.units,
     )
 
-module _ (s : Standing) (w : WorkerId) (part : Part) (c : Change) (cs : List Change) (l : LeadsOn s w part (c ∷ cs)) where
+module _ (s : StateView) (w : WorkerId) (part : Part) (c : Change) (cs : List Change) (l : LeadsOn s w part (c ∷ cs)) where
   possible : (can s w c ≡ true) × (can_all (make s w c) w cs ≡ true)
   possible = and_parts (can s w c) (can_all (make s w c) w cs) l.possible
 
@@ -92,7 +92,7 @@ module _ (s : Standing) (w : WorkerId) (part : Part) (c : Change) (cs : List Cha
       }
 
 -- there is room for it
-room_to_move : (s : Standing) (w : WorkerId) (part : Part) (m : MarkId) (from to : Mark) (cs : List Change) → LeadsOn s w part (Move m from to ∷ cs) → runs_by w to ≡ true
+room_to_move : (s : StateView) (w : WorkerId) (part : Part) (m : MarkId) (from to : Mark) (cs : List Change) → LeadsOn s w part (Move m from to ∷ cs) → runs_by w to ≡ true
     → length (without_if mark_before (runs_by w from) m part.claimed.items) < vec_capacity part.claimed
 room_to_move s w part m from to cs l is =
     let c : Change = Move m from to in
@@ -111,7 +111,7 @@ room_to_move s w part m from to cs l is =
       ap (λ (ms : List MarkId). length (without_if mark_before (runs_by w from) m ms)) l.has.claimed,
     )
 
-pub room_for : (s : Standing) (w : WorkerId) (part : Part) (c : Change) (cs : List Change) → LeadsOn s w part (c ∷ cs) → HasRoomFor w part c
+pub room_for : (s : StateView) (w : WorkerId) (part : Part) (c : Change) (cs : List Change) → LeadsOn s w part (c ∷ cs) → HasRoomFor w part c
 room_for s w part (Lock k) cs l =
     let c : Change = Lock k in
     omega (
@@ -145,14 +145,14 @@ room_for s w part Enter cs l = tt
 room_for s w part Leave cs l = tt
 
 -- along a list of changes
-pub leads_at : (s : Standing) (w : WorkerId) (part : Part) (cs : List Change) (i : ℕ) (d : Change) → i < length cs → LeadsOn (make_all s w (take i cs)) w part (drop i cs)
+pub leads_at : (s : StateView) (w : WorkerId) (part : Part) (cs : List Change) (i : ℕ) (d : Change) → i < length cs → LeadsOn (make_all s w (take i cs)) w part (drop i cs)
     → LeadsOn (make_all s w (take i cs)) w part (get_or cs i d ∷ drop (i + 1) cs)
 leads_at s w part cs i d within l = subst (LeadsOn (make_all s w (take i cs)) w part) (drop_more cs i d within) l
 
-pub leads_along : (s : Standing) (w : WorkerId) (part new : Part) (cs : List Change) (i : ℕ) (d : Change) → i < length cs → LeadsOn (make_all s w (take i cs)) w part (drop i cs) → IsAfter w (get_or cs i d) part new
+pub leads_along : (s : StateView) (w : WorkerId) (part new : Part) (cs : List Change) (i : ℕ) (d : Change) → i < length cs → LeadsOn (make_all s w (take i cs)) w part (drop i cs) → IsAfter w (get_or cs i d) part new
     → LeadsOn (make_all s w (take (i + 1) cs)) w new (drop (i + 1) cs)
 leads_along s w part new cs i d within l a =
     let front : List Change = take i cs in
     let c : Change = get_or cs i d in
-    subst (λ (t : Standing). LeadsOn t w new (drop (i + 1) cs)) (sym (ap (λ (ds : List Change). make_all s w ds) (take_more cs i d within) ∙ make_all-append s w front (c ∷ [])))
+    subst (λ (t : StateView). LeadsOn t w new (drop (i + 1) cs)) (sym (ap (λ (ds : List Change). make_all s w ds) (take_more cs i d within) ∙ make_all-append s w front (c ∷ [])))
     (leads_next (make_all s w front) w part c (drop (i + 1) cs) (leads_at s w part cs i d within l) new a)

@@ -4,12 +4,12 @@ use Rattle.std.proofs.lemmas.List.Sums.{sum_by-append}
 use Rattle.std.proofs.lemmas.List.{length-take-le, take_more}
 use Rattle.std.proofs.lemmas.Option.{get_or_from_slice_get, slice_get_within}
 use Rattle.std.specs.Prelude.{slice_get}
-use Rattle.resource_lock.specs.Outline.{Outline}
-use Rattle.resource_lock.specs.Standing.{Standing}
+use Rattle.resource_lock.specs.GraphView.{GraphView}
+use Rattle.resource_lock.specs.StateView.{StateView}
 use Rattle.resource_lock.specs.declared.ids.WorkerId.{WorkerId}
 use Rattle.lock_journal.specs.Allowed.{Lawful}
 use Rattle.lock_journal.specs.Entry.{Entry, replay}
-use Rattle.lock_journal.specs.Journal.{Journal}
+use Rattle.lock_journal.specs.BookView.{BookView}
 use Rattle.run_laws.specs.ClosedBy.{closed_by}
 use Rattle.run_laws.specs.Own.{NoneOf, SameFor}
 use Rattle.run_laws.proofs.Growing.{closed_by-own, same_by_own}
@@ -64,9 +64,9 @@ count_of-same w xs ys none =
     let no = count_of-none w ys none in omega arith
 
 -- entries of others alone were added to a sound book, which is sound again
-pub goes_on : (w : WorkerId) (old new : Journal) (more : List Entry) → IsSound old → IsSound new → new.graph ≡ old.graph → new.history ≡ old.history ++ more → NoneOf w more → Agrees w old new
+pub goes_on : (w : WorkerId) (old new : BookView) (more : List Entry) → IsSound old → IsSound new → new.graph ≡ old.graph → new.history ≡ old.history ++ more → NoneOf w more → Agrees w old new
 goes_on w old new more sound sound' graph history none =
-    let lawful : Lawful old.graph (old.history ++ more) = subst (λ (p : Outline × List Entry). Lawful p.0 p.1) (λ i. (graph i, history i)) sound'.lawful in
+    let lawful : Lawful old.graph (old.history ++ more) = subst (λ (p : GraphView × List Entry). Lawful p.0 p.1) (λ i. (graph i, history i)) sound'.lawful in
     let replays : new.state ≡ replay old.graph (old.history ++ more) = sound'.replays ∙ (λ i. replay (graph i) (history i)) in
     let state : SameFor w (replay old.graph old.history) (replay old.graph (old.history ++ more)) = same_by_own old.graph old.history more w lawful none in
     record {
@@ -74,16 +74,16 @@ goes_on w old new more sound sound' graph history none =
       between = more;
       history = history;
       others = none;
-      state = subst (λ (p : Standing × Standing). SameFor w p.0 p.1) (λ i. (sym sound.replays i, sym replays i)) state;
+      state = subst (λ (p : StateView × StateView). SameFor w p.0 p.1) (λ i. (sym sound.replays i, sym replays i)) state;
       closings = ap (λ (h : List Entry). closed_by w h) history ∙ closed_by-own old.history more w none;
       count = ap (λ (h : List Entry). count_of w h) history ∙ count_of-same w old.history more none;
       last = ap (λ (h : List Entry). last_of w h) history ∙ last_of-none w old.history more none;
     }
 
-same_for-self : (w : WorkerId) (s : Standing) → SameFor w s s
+same_for-self : (w : WorkerId) (s : StateView) → SameFor w s s
 same_for-self w s = record { holding = refl; owns = λ l. refl; owned = refl; running = λ m. ((λ e. e), (λ e. e)); claimed = refl; runs_task = refl; is_parked = refl; runs_unit = refl; is_idle = refl }
 
-same_for-then : (w : WorkerId) (a b c : Standing) → SameFor w a b → SameFor w b c → SameFor w a c
+same_for-then : (w : WorkerId) (a b c : StateView) → SameFor w a b → SameFor w b c → SameFor w a c
 same_for-then w a b c p q = record {
   holding = q.holding ∙ p.holding;
   owns = λ l. q.owns l ∙ p.owns l;
@@ -96,7 +96,7 @@ same_for-then w a b c p q = record {
   is_idle = q.is_idle ∙ p.is_idle;
 }
 
-pub agrees_then : (w : WorkerId) (a b c : Journal) → Agrees w a b → Agrees w b c → Agrees w a c
+pub agrees_then : (w : WorkerId) (a b c : BookView) → Agrees w a b → Agrees w b c → Agrees w a c
 agrees_then w a b c p q = record {
   graph = q.graph ∙ p.graph;
   between = p.between ++ q.between;
@@ -109,7 +109,7 @@ agrees_then w a b c p q = record {
 }
 
 -- the same graph, state and history
-pub agrees_same : (w : WorkerId) (a b : Journal) → b.graph ≡ a.graph → b.state ≡ a.state → b.history ≡ a.history → Agrees w a b
+pub agrees_same : (w : WorkerId) (a b : BookView) → b.graph ≡ a.graph → b.state ≡ a.state → b.history ≡ a.history → Agrees w a b
 agrees_same w a b graph state history = record {
   graph = graph;
   between = [];
@@ -121,5 +121,5 @@ agrees_same w a b graph state history = record {
   last = ap (λ (h : List Entry). last_of w h) history;
 }
 
-pub agrees_self : (w : WorkerId) (a : Journal) → Agrees w a a
+pub agrees_self : (w : WorkerId) (a : BookView) → Agrees w a a
 agrees_self w a = agrees_same w a a refl refl refl

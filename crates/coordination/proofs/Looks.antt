@@ -1,9 +1,9 @@
 -- Looks, one after another.
 use Rattle.std.proofs.Common.{◌≡◌, Result, Ok, Err, Option, Some, None, refl, sym, ap, ◌∙◌, subst}
-use Rattle.resource_lock.specs.Outline.{Outline}
-use Rattle.resource_lock.specs.Standing.{Standing}
+use Rattle.resource_lock.specs.GraphView.{GraphView}
+use Rattle.resource_lock.specs.StateView.{StateView}
 use Rattle.resource_lock.specs.declared.ids.WorkerId.{WorkerId}
-use Rattle.lock_journal.specs.Journal.{Journal}
+use Rattle.lock_journal.specs.BookView.{BookView}
 use Rattle.lock_journal.specs.Ran as journal
 use Rattle.lock_journal.specs.declared.entries.Kind.{Kind}
 use Rattle.lock_journal.specs.declared.transforms.Disposition.{Disposition}
@@ -21,7 +21,7 @@ use Rattle.coordination.proofs.Growing.{agrees_same, agrees_self, agrees_then}
 pub at_result : {E : Type 0} (kind : Kind) (fails retries : Cause) (s s' : Sight) (r r' : Result Disposition E) → r ≡ r' → Attempted kind fails retries s s' r → Attempted kind fails retries s s' r'
 at_result kind fails retries s s' r r' is a = subst (Attempted kind fails retries s s') is a
 
-pub at_answer : {A : Type 0} (answers : WorkerId → Journal → A → Type 0) (waits : WorkerId → Journal → Type 0) (s s' : Sight) (r r' : Option A) → r ≡ r' → Asked answers waits s s' r → Asked answers waits s s' r'
+pub at_answer : {A : Type 0} (answers : WorkerId → BookView → A → Type 0) (waits : WorkerId → BookView → Type 0) (s s' : Sight) (r r' : Option A) → r ≡ r' → Asked answers waits s s' r → Asked answers waits s s' r'
 at_answer answers waits s s' r r' is a = subst (Asked answers waits s s') is a
 
 pub looked_not : (s : Sight) → HasLooked s s
@@ -31,11 +31,11 @@ pub same_halt : {A : Type 0} (v w : WorkerId) → ◌≡◌ {A = Result A Halt} 
 same_halt v w is = cc
 
 -- the book that was found after a look
-agrees_on : (s s' : Sight) (book : Journal) → HasLooked s s' → Agrees s'.worker s'.seen book → Agrees s.worker s.seen book
+agrees_on : (s s' : Sight) (book : BookView) → HasLooked s s' → Agrees s'.worker s'.seen book → Agrees s.worker s.seen book
 agrees_on s s' book look a =
     agrees_then s.worker s.seen look.book book look.agrees (subst (λ (k : Sight). Agrees k.worker k.seen book) look.sight a)
 
-seeing_on : (s s' : Sight) (book : Journal) → HasLooked s s' → seeing s' book ≡ seeing s book
+seeing_on : (s s' : Sight) (book : BookView) → HasLooked s s' → seeing s' book ≡ seeing s book
 seeing_on s s' book look = ap (λ (k : Sight). seeing k book) look.sight
 
 worker_on : (s s' : Sight) → HasLooked s s' → s'.worker ≡ s.worker
@@ -74,11 +74,11 @@ module _ {E : Type 0} (kind : Kind) (fails retries : Cause) (s s' s'' : Sight) (
   }
 
   -- the transform is to be run again
-  retried : Attempted {E = E} kind fails retries s' s'' (Ok Retry) → (book : Journal) × Agrees s.worker s.seen book × retries book.graph s.worker book.state × (s'' ≡ seeing s book)
+  retried : Attempted {E = E} kind fails retries s' s'' (Ok Retry) → (book : BookView) × Agrees s.worker s.seen book × retries book.graph s.worker book.state × (s'' ≡ seeing s book)
   retried a = (
     a.after,
     agrees_on s s' a.after look (agrees_then s'.worker s'.seen a.before a.after a.agrees (agrees_same s'.worker a.before a.after a.graph a.ran.state a.ran.history)),
-    subst (λ (p : Outline × WorkerId × Standing). retries p.0 p.1 p.2) (λ i. (sym a.graph i, worker_on s s' look i, sym a.ran.state i)) a.ran.cause,
+    subst (λ (p : GraphView × WorkerId × StateView). retries p.0 p.1 p.2) (λ i. (sym a.graph i, worker_on s s' look i, sym a.ran.state i)) a.ran.cause,
     a.is ∙ seeing_on s s' a.after look,
   )
 
@@ -86,9 +86,9 @@ module _ {E : Type 0} (kind : Kind) (fails retries : Cause) (s s' s'' : Sight) (
   retry_on a = let r = retried a in record { book = r.0; agrees = r.1; sight = r.3 }
 
   pub stopped_on : (by : WorkerId) (t : Sight) → Attempted {E = E} kind fails retries s' s'' (Ok Retry) → t ≡ hearing s'' by → WasStopped retries by s t
-  stopped_on by t a told = let r = retried a in record { book = r.0; agrees = r.1; cause = r.2; sight = told ∙ ap (λ (k : Sight). hearing k by) r.3 }
+  stopped_on by t a stopped_by = let r = retried a in record { book = r.0; agrees = r.1; cause = r.2; sight = stopped_by ∙ ap (λ (k : Sight). hearing k by) r.3 }
 
-module _ {A : Type 0} (answers : WorkerId → Journal → A → Type 0) (waits : WorkerId → Journal → Type 0) (s s' s'' : Sight) (look : HasLooked s s') where
+module _ {A : Type 0} (answers : WorkerId → BookView → A → Type 0) (waits : WorkerId → BookView → Type 0) (s s' s'' : Sight) (look : HasLooked s s') where
   pub answered_on : (answer : A) → Asked answers waits s' s'' (Some answer) → IsAnswered answers answer s s''
   answered_on answer a = record {
     book = a.book;
@@ -101,9 +101,9 @@ module _ {A : Type 0} (answers : WorkerId → Journal → A → Type 0) (waits :
   no_answer_on a = record { book = a.book; agrees = agrees_on s s' a.book look a.agrees; sight = a.is ∙ seeing_on s s' a.book look }
 
   pub in_vain_on : (by : WorkerId) (t : Sight) → Asked answers waits s' s'' None → t ≡ hearing s'' by → AskedInVain waits by s t
-  in_vain_on by t a told = record {
+  in_vain_on by t a stopped_by = record {
     book = a.book;
     agrees = agrees_on s s' a.book look a.agrees;
     cause = subst (λ (w : WorkerId). waits w a.book) (worker_on s s' look) a.answer;
-    sight = told ∙ ap (λ (k : Sight). hearing k by) (a.is ∙ seeing_on s s' a.book look);
+    sight = stopped_by ∙ ap (λ (k : Sight). hearing k by) (a.is ∙ seeing_on s s' a.book look);
   }

@@ -10,9 +10,9 @@ use prog.Atomic.{either}
 use lib.ListN.{get_elem?}
 use Rattle.atomic_table.specs.Table.{State, Act, Valid, carried_after, step, keeps, takes, gives, stepped, Allows}
 use Rattle.atomic_table.proofs.Lists.{at_set, set_here, set_again}
-use Rattle.resource_lock.specs.Outline.{Outline}
+use Rattle.resource_lock.specs.GraphView.{GraphView}
 use Rattle.resource_lock.specs.declared.ids.WorkerId.{WorkerId}
-use Rattle.lock_journal.specs.Journal.{Journal}
+use Rattle.lock_journal.specs.BookView.{BookView}
 use Rattle.coordination.specs.declared.rule.Sight.{Sight}
 use Rattle.coordination.specs.declared.rule.SeatView.{SeatView}
 use Rattle.coordination.specs.Sights.{seeing, stopping, hearing, one, holding}
@@ -21,7 +21,7 @@ use Rattle.coordination.specs.Rule.{AddsOwn, FitsSight, OutFits, busy_of, home_o
 use Rattle.coordination.proofs.Growing.{goes_on, agrees_self, agrees_then}
 
 abbrev pub S : Type 0
-S = State Journal SeatView
+S = State BookView SeatView
 
 -- a fact of each seat, after the view of one has changed
 pub set_views : (P : ℕ → SeatView → Type 0) (views : List SeatView) (id : ℕ) (w : SeatView) → ((j : ℕ) (u : SeatView) → j ≢ id → get_elem? views j ≡ some u → P j u) → P id w
@@ -48,11 +48,11 @@ there (x ∷ xs) (suc k) v e = let h = there xs k v e in omega arith
 inside_of : (l : List SeatView) (id : ℕ) (w : SeatView) → id < length l → (k : ℕ) → Some id ≡ Some k → k < length (set l id w)
 inside_of l id w h k e = let same : id ≡ k = cc in let long = length-set l id w in omega arith
 
-alone : (n mark : ℕ) (book : Journal) (owner : ℕ → ℕ) (id : ℕ) (h : Sight) → FitsSight n mark book owner id h → All (FitsSight n mark book owner id) (h ∷ [])
+alone : (n mark : ℕ) (book : BookView) (owner : ℕ → ℕ) (id : ℕ) (h : Sight) → FitsSight n mark book owner id h → All (FitsSight n mark book owner id) (h ∷ [])
 alone n mark book owner id h fit = All-cons (FitsSight n mark book owner id) h [] fit (All-nil (FitsSight n mark book owner id))
 
 -- nothing but a word that keeps its value was written
-same_views : (g : Outline) (s : S) (o : Orderly g s) (ws : List ℕ) (id : ℕ) (v : SeatView) → get_elem? s.views id ≡ some v → length ws ≡ 2 → get_or ws 0 0 ≡ get_or s.words 0 0 → get_or ws 1 0 ≡ get_or s.words 1 0
+same_views : (g : GraphView) (s : S) (o : Orderly g s) (ws : List ℕ) (id : ℕ) (v : SeatView) → get_elem? s.views id ≡ some v → length ws ≡ 2 → get_or ws 0 0 ≡ get_or s.words 0 0 → get_or ws 1 0 ≡ get_or s.words 1 0
     → Orderly g (record { words = ws; homes = s.homes; views = set s.views id v })
 same_views g s o ws id v at wide first second = record {
   book = o.book;
@@ -72,8 +72,8 @@ same_views g s o ws id v at wide first second = record {
   fits = λ j u e. o.fits j u (subst (λ l. get_elem? l j ≡ some u) (set_again s.views id v at) e);
 }
 
-takes_at : (g : Outline) (slots id : ℕ) (h : Sight) (s : S) (o : Orderly g s) (holder : Option ℕ) → o.holder ≡ holder → get_elem? s.views id ≡ some (one h)
-    → (w : SeatView) × (a : Act Journal) × Valid s.homes [] a × Orderly g (stepped s 0 1 id [] w a) × taken (step slots 0 1 0 none) (one h, []) (get_or s.words 0 0) (w, carried_after [] a)
+takes_at : (g : GraphView) (slots id : ℕ) (h : Sight) (s : S) (o : Orderly g s) (holder : Option ℕ) → o.holder ≡ holder → get_elem? s.views id ≡ some (one h)
+    → (w : SeatView) × (a : Act BookView) × Valid s.homes [] a × Orderly g (stepped s 0 1 id [] w a) × taken (step slots 0 1 0 none) (one h, []) (get_or s.words 0 0) (w, carried_after [] a)
 takes_at g slots id h s o None is at =
     let mine = o.fits id (one h) at in
     let fit : FitsSight g.workers o.mark o.book o.owner id h = All-head (FitsSight g.workers o.mark o.book o.owner id) h [] mine.0 in
@@ -100,11 +100,11 @@ takes_at g slots id h s o None is at =
         inside = inside_of s.views id (holding new) (there s.views id (one h) at);
         fits = set_views (λ j u. All (FitsSight g.workers o.mark o.book o.owner j) u.sights × OutFits (Some id) o.book j u) s.views id (holding new)
             (λ j u apart e. ((o.fits j u e).0, ((λ same. absurd (apart same)), (λ _. subst (λ (k : Option ℕ). OutFits k o.book j u) is (o.fits j u e).1)))) (
-              alone g.workers o.mark o.book o.owner id new (record { known = fit.known; agrees = agrees_self h.worker o.book; seated = fit.seated; stopped = fit.stopped; stops = fit.stops; told = fit.told }),
+              alone g.workers o.mark o.book o.owner id new (record { known = fit.known; agrees = agrees_self h.worker o.book; seated = fit.seated; stopped = fit.stopped; stops = fit.stops; stopped_by = fit.stopped_by }),
               ((λ _. (refl, omega arith)), (λ ne. absurd (ne refl))),
             );
       },
-      ((λ _. record { book = o.book; agrees = fit.agrees; sound = o.sound; known = subst (λ (x : Outline). h.worker.0 < x.workers) (sym o.graph) fit.known; is = refl }), (λ ne. absurd (ne free))),
+      ((λ _. record { book = o.book; agrees = fit.agrees; sound = o.sound; known = subst (λ (x : GraphView). h.worker.0 < x.workers) (sym o.graph) fit.known; is = refl }), (λ ne. absurd (ne free))),
     )
 takes_at g slots id h s o (Some k) is at =
     let out : get_or s.words 0 0 ≡ 1 = o.busy ∙ ap busy_of is in (
@@ -116,16 +116,16 @@ takes_at g slots id h s o (Some k) is at =
       ((λ free. absurd (omega arith)), (λ _. refl)),
     )
 
-pub takes_it : (g : Outline) (slots id : ℕ) (h : Sight) → Allows (Orderly g) slots id (one h, []) 0 (λ _. 1) (taken (step slots 0 1 0 none) (one h, []))
+pub takes_it : (g : GraphView) (slots id : ℕ) (h : Sight) → Allows (Orderly g) slots id (one h, []) 0 (λ _. 1) (taken (step slots 0 1 0 none) (one h, []))
 takes_it g slots id h s o deep at small = takes_at g slots id h s o o.holder refl at
 
 -- what the seat that holds the journal knows of the rule
-pub record Held (g : Outline) (id : ℕ) (h : Sight) (s : S) (o : Orderly g s) : Type 0 where
+pub record Held (g : GraphView) (id : ℕ) (h : Sight) (s : S) (o : Orderly g s) : Type 0 where
   pub is : o.holder ≡ Some id
   pub book_is : o.book ≡ h.seen
   pub fit : FitsSight g.workers o.mark o.book o.owner id h
 
-held_at : (g : Outline) (id : ℕ) (h : Sight) (s : S) (o : Orderly g s) (holder : Option ℕ) → o.holder ≡ holder → get_elem? s.views id ≡ some (holding h) → Held g id h s o
+held_at : (g : GraphView) (id : ℕ) (h : Sight) (s : S) (o : Orderly g s) (holder : Option ℕ) → o.holder ≡ holder → get_elem? s.views id ≡ some (holding h) → Held g id h s o
 held_at g id h s o None is at = let out : OutFits None o.book id (holding h) = subst (λ (k : Option ℕ). OutFits k o.book id (holding h)) is (o.fits id (holding h) at).1 in absurd (cc)
 held_at g id h s o (Some k) is at =
     let f = o.fits id (holding h) at in
@@ -134,17 +134,17 @@ held_at g id h s o (Some k) is at =
     (λ same. let found : Some h.seen ≡ Some o.book = (out.0 same).0 in record { is = is ∙ ap Some (sym same); book_is = cc; fit = All-head (FitsSight g.workers o.mark o.book o.owner id) h [] f.0 })
     (λ apart. let not : Some h.seen ≡ None = out.1 apart in absurd (cc))
 
-pub holds_it : (g : Outline) (id : ℕ) (h : Sight) (s : S) (o : Orderly g s) → get_elem? s.views id ≡ some (holding h) → Held g id h s o
+pub holds_it : (g : GraphView) (id : ℕ) (h : Sight) (s : S) (o : Orderly g s) → get_elem? s.views id ≡ some (holding h) → Held g id h s o
 holds_it g id h s o at = held_at g id h s o o.holder refl at
 
-pub puts_it : (g : Outline) (slots id : ℕ) (h : Sight) (book : Journal) → AddsOwn h book
+pub puts_it : (g : GraphView) (slots id : ℕ) (h : Sight) (book : BookView) → AddsOwn h book
     → Allows (Orderly g) slots id (holding h, (0, book) ∷ []) 0 (λ _. 0) (λ _. put_back (step slots 0 0 0 none) (holding h, (0, book) ∷ []) 0)
 puts_it g slots id h book adds s o deep at small =
     let q = holds_it g id h s o at in
     let new : Sight = seeing h book in
     let sound : IsSound book = adds.sound (subst IsSound q.book_is o.sound) in
-    let graph : book.graph ≡ o.book.graph = adds.graph ∙ sym (ap (λ (b : Journal). b.graph) q.book_is) in
-    let history : book.history ≡ o.book.history ++ adds.more = adds.history ∙ sym (ap (λ (b : Journal). b.history ++ adds.more) q.book_is) in
+    let graph : book.graph ≡ o.book.graph = adds.graph ∙ sym (ap (λ (b : BookView). b.graph) q.book_is) in
+    let history : book.history ≡ o.book.history ++ adds.more = adds.history ∙ sym (ap (λ (b : BookView). b.history ++ adds.more) q.book_is) in
     let other : (k : Sight) → k.worker.0 ≢ h.worker.0 → Agrees k.worker k.seen o.book → Agrees k.worker k.seen book =
     λ k ne a. agrees_then k.worker k.seen o.book book a (goes_on k.worker o.book book adds.more o.sound sound graph history (adds.own k.worker ne)) in (
       one new,
@@ -174,18 +174,18 @@ puts_it g slots id h book adds s o deep at small =
                     seated = fit.seated;
                     stopped = fit.stopped;
                     stops = fit.stops;
-                    told = fit.told;
+                    stopped_by = fit.stopped_by;
                   })
                   u.sights f.0,
               (subst (λ (k : Option ℕ). OutFits k o.book j u) q.is f.1).1 apart,
             ))
-            (alone g.workers o.mark book o.owner id new (record { known = q.fit.known; agrees = agrees_self h.worker book; seated = q.fit.seated; stopped = q.fit.stopped; stops = q.fit.stops; told = q.fit.told }), refl);
+            (alone g.workers o.mark book o.owner id new (record { known = q.fit.known; agrees = agrees_self h.worker book; seated = q.fit.seated; stopped = q.fit.stopped; stops = q.fit.stops; stopped_by = q.fit.stopped_by }), refl);
       },
       refl,
     )
 
 -- a worker that holds nothing changes its own word on the stop, and the mark
-marks : (g : Outline) (s : S) (o : Orderly g s) (mark id : ℕ) (h h' : Sight) → get_elem? s.views id ≡ some (one h) → mark < 2 ^ 32 → FitsSight g.workers mark o.book o.owner id h'
+marks : (g : GraphView) (s : S) (o : Orderly g s) (mark id : ℕ) (h h' : Sight) → get_elem? s.views id ≡ some (one h) → mark < 2 ^ 32 → FitsSight g.workers mark o.book o.owner id h'
     → ((j : ℕ) (k : Sight) → j ≢ id → FitsSight g.workers o.mark o.book o.owner j k → FitsSight g.workers mark o.book o.owner j k) → Orderly g (stepped s 1 mark id [] (one h') keeps)
 marks g s o mark id h h' at low mine others = record {
   book = o.book;
@@ -211,14 +211,14 @@ marks g s o mark id h h' at low mine others = record {
     still None f = f
     still (Some k) f = ((λ e. ((f.0 e).0, omega arith)), f.1)
 
-fits_at : (g : Outline) (s : S) (o : Orderly g s) (id : ℕ) (h : Sight) → get_elem? s.views id ≡ some (one h) → FitsSight g.workers o.mark o.book o.owner id h
+fits_at : (g : GraphView) (s : S) (o : Orderly g s) (id : ℕ) (h : Sight) → get_elem? s.views id ≡ some (one h) → FitsSight g.workers o.mark o.book o.owner id h
 fits_at g s o id h at = All-head (FitsSight g.workers o.mark o.book o.owner id) h [] (o.fits id (one h) at).0
 
-hears : (n mark : ℕ) (book : Journal) (owner : ℕ → ℕ) (id : ℕ) (h : Sight) (w : WorkerId) → mark ≡ suc w.0 → FitsSight n mark book owner id h → FitsSight n mark book owner id (hearing h w)
-hears n mark book owner id h w is fit = record { known = fit.known; agrees = fit.agrees; seated = fit.seated; stopped = fit.stopped; stops = fit.stops; told = λ x (e : Some w ≡ Some x). let same : w ≡ x = cc in is ∙ ap (λ (v : WorkerId). suc v.0) same }
+hears : (n mark : ℕ) (book : BookView) (owner : ℕ → ℕ) (id : ℕ) (h : Sight) (w : WorkerId) → mark ≡ suc w.0 → FitsSight n mark book owner id h → FitsSight n mark book owner id (hearing h w)
+hears n mark book owner id h w is fit = record { known = fit.known; agrees = fit.agrees; seated = fit.seated; stopped = fit.stopped; stops = fit.stops; stopped_by = λ x (e : Some w ≡ Some x). let same : w ≡ x = cc in is ∙ ap (λ (v : WorkerId). suc v.0) same }
 
 -- somebody has stopped the service before
-hears_it : (g : Outline) (s : S) (o : Orderly g s) (id : ℕ) (h : Sight) → get_elem? s.views id ≡ some (one h) → get_or s.words 1 0 ≢ 0
+hears_it : (g : GraphView) (s : S) (o : Orderly g s) (id : ℕ) (h : Sight) → get_elem? s.views id ≡ some (one h) → get_or s.words 1 0 ≢ 0
     → Orderly g (stepped s 1 (get_or s.words 1 0) id [] (one (hearing h (marked (get_or s.words 1 0)))) keeps)
 hears_it g s o id h at was =
     let x : ℕ = get_or s.words 1 0 in
@@ -227,7 +227,7 @@ hears_it g s o id h at was =
     subst (λ m. Orderly g (stepped s 1 m id [] (one (hearing h (marked x))) keeps)) is
     (marks g s o o.mark id h (hearing h (marked x)) at o.low (hears g.workers o.mark o.book o.owner id h (marked x) next (fits_at g s o id h at)) (λ j k _ fit. fit))
 
-pub stops_it : (g : Outline) (slots id : ℕ) (h : Sight) → Allows (Orderly g) slots id (one h, []) 1 (λ x. either (eqb x 0) (h.worker.0 + 1) x) (stopped_at (step slots 1 0 (h.worker.0 + 1) none) (one h, []))
+pub stops_it : (g : GraphView) (slots id : ℕ) (h : Sight) → Allows (Orderly g) slots id (one h, []) 1 (λ x. either (eqb x 0) (h.worker.0 + 1) x) (stopped_at (step slots 1 0 (h.worker.0 + 1) none) (one h, []))
 stops_it g slots id h s o deep at small =
     let x : ℕ = get_or s.words 1 0 in
     let fit = fits_at g s o id h at in
@@ -240,14 +240,14 @@ stops_it g slots id h s o deep at small =
       tt,
       subst (λ b. Orderly g (stepped s 1 (either b (h.worker.0 + 1) x) id [] (one (stopping h)) keeps)) (sym (eq-eqb x 0 none_yet))
           (marks g s o (h.worker.0 + 1) id h (stopping h) at (let p = fit.known in let q = o.small in omega arith)
-          (record { known = fit.known; agrees = fit.agrees; seated = fit.seated; stopped = λ _. omega arith; stops = λ _. refl; told = λ w e. let f = fit.told w e in absurd (omega arith) })
+          (record { known = fit.known; agrees = fit.agrees; seated = fit.seated; stopped = λ _. omega arith; stops = λ _. refl; stopped_by = λ w e. let f = fit.stopped_by w e in absurd (omega arith) })
           (λ j k apart f. record {
             known = f.known;
             agrees = f.agrees;
             seated = f.seated;
             stopped = λ e. let g = f.stopped e in absurd (omega arith);
             stops = λ e. let same : k.worker.0 ≡ h.worker.0 = omega arith in absurd (apart (sym f.seated ∙ (ap o.owner same ∙ fit.seated)));
-            told = λ w e. let g = f.told w e in absurd (omega arith);
+            stopped_by = λ w e. let g = f.stopped_by w e in absurd (omega arith);
           })),
       (little, (λ _. refl), (λ ne. absurd (ne none_yet))),
     ))
@@ -259,7 +259,7 @@ stops_it g slots id h s o deep at small =
       (little, (λ e. absurd (was e)), (λ _. refl)),
     ))
 
-pub looks_it : (g : Outline) (slots id : ℕ) (h : Sight) → Allows (Orderly g) slots id (one h, []) 1 (λ x. x) (heard (step slots 1 0 0 none) (one h, []))
+pub looks_it : (g : GraphView) (slots id : ℕ) (h : Sight) → Allows (Orderly g) slots id (one h, []) 1 (λ x. x) (heard (step slots 1 0 0 none) (one h, []))
 looks_it g slots id h s o deep at small =
     let x : ℕ = get_or s.words 1 0 in
     let little : x < 2 ^ 32 = subst (λ m. m < 2 ^ 32) (sym o.mark_is) o.low in

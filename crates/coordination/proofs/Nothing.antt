@@ -1,14 +1,14 @@
 -- A worker that owns and runs nothing.
 use Rattle.std.proofs.Common.{◌≡◌, ◌≢◌, ℕ, zero, suc, ◌+◌, Bool, true, false, cond, List, [], ◌∷◌, ◌++◌, map, get_or, Option, None, Some, refl, sym, ap, ◌∙◌}
 use Rattle.std.proofs.lemmas.Bool.{eq-eqb}
-use Rattle.resource_lock.specs.Standing.{Standing, is_owner, mark_of, owner_of, runs_by}
+use Rattle.resource_lock.specs.StateView.{StateView, is_owner, mark_of, owner_of, runs_by}
 use Rattle.resource_lock.specs.declared.ids.LockId.{LockId}
 use Rattle.resource_lock.specs.declared.ids.WorkerId.{WorkerId}
 use Rattle.resource_lock.specs.declared.marks.Mark.{Mark}
 use Rattle.resource_lock.specs.declared.marks.Mark.TheVariants.{Waiting, Running}
 use Rattle.resource_lock.specs.declared.marks.MarkId.{MarkId}
 use Rattle.resource_lock.specs.declared.marks.MarkId.TheVariants.{Task as TaskOf, Action as ActionOf, Unit as UnitOf}
-use Rattle.lock_journal.specs.Journal.{Journal}
+use Rattle.lock_journal.specs.BookView.{BookView}
 use Rattle.lock_journal.specs.Table.{owned, owned_from}
 use Rattle.run_laws.specs.Own.{action_at, claimed, marks_in, places_from, task_at, unit_at}
 use Rattle.run_laws.proofs.Others.{running_of}
@@ -56,7 +56,7 @@ not_by w m not = at (runs_by w m) refl
     at false is = refl
 
 -- the worker doesn't own, and doesn't run
-pub owns_none : (s : Standing) (w : WorkerId) → owned s w ≡ [] → (l : LockId) → owner_of s l ≢ Some w
+pub owns_none : (s : StateView) (w : WorkerId) → owned s w ≡ [] → (l : LockId) → owner_of s l ≢ Some w
 owns_none s w nothing l is =
     let other : is_owner (owner_of s l) w ≡ false = none_owned 0 s.owners w nothing l.0 in
     let own : is_owner (owner_of s l) w ≡ true = ap (λ o. is_owner o w) is ∙ eq-eqb w.0 w.0 refl in absurd (cc)
@@ -72,7 +72,7 @@ empty_map f (x ∷ xs) none_there = absurd (cc)
 still_not : (w : WorkerId) (m : Mark) → runs_by w m ≡ false → m ≢ Running w
 still_not w m other is = let own : runs_by w m ≡ true = ap (runs_by w) is ∙ eq-eqb w.0 w.0 refl in absurd (cc)
 
-pub runs_none : (s : Standing) (w : WorkerId) → claimed s w ≡ [] → (m : MarkId) → mark_of s m ≢ Running w
+pub runs_none : (s : StateView) (w : WorkerId) → claimed s w ≡ [] → (m : MarkId) → mark_of s m ≢ Running w
 runs_none s w nothing =
     let ts : List ℕ = places_from (runs_by w) 0 s.tasks in
     let qs : List ℕ = places_from (runs_by w) 0 s.actions in
@@ -85,9 +85,9 @@ runs_none s w nothing =
     ]
 
 -- a part that has nothing is that of any worker of a state at rest
-pub resting_part : (book : Journal) (room : Room) (w : WorkerId) (last : ℕ) (part : Part) → IsAtRest book.state → IsResting room last part → last ≡ last_of w book.history → IsPartOf book w part
+pub resting_part : (book : BookView) (room : Room) (w : WorkerId) (last : ℕ) (part : Part) → IsAtRest book.state → IsResting room last part → last ≡ last_of w book.history → IsPartOf book w part
 resting_part book room w last part rest r is =
-    let s : Standing = book.state in
+    let s : StateView = book.state in
     let owner : (i : ℕ) → is_owner (get_or s.owners i None) w ≡ false = λ i. ap (λ o. is_owner o w) (rest.owners (record { 0 = i })) in
     let tasks = no_places (runs_by w) Waiting 0 s.tasks (λ i. not_by w (get_or s.tasks i Waiting) (rest.marks w (TaskOf i))) in
     let actions = no_places (runs_by w) Waiting 0 s.actions (λ i. not_by w (get_or s.actions i Waiting) (rest.marks w (ActionOf i))) in

@@ -1,8 +1,8 @@
 -- Nobody has anything where a run begins.
 use Rattle.std.proofs.Common.{◌≡◌, ◌≢◌, ℕ, zero, suc, get_or, length, None, replicate, refl}
 use Rattle.resource_lock.specs.Opening.{opening_of}
-use Rattle.resource_lock.specs.Outline.{Outline}
-use Rattle.resource_lock.specs.Standing.{empty_holding, mark_of}
+use Rattle.resource_lock.specs.GraphView.{GraphView}
+use Rattle.resource_lock.specs.StateView.{empty_holding, mark_of}
 use Rattle.resource_lock.specs.declared.ids.WorkerId.{WorkerId}
 use Rattle.resource_lock.specs.declared.marks.Mark.{Mark}
 use Rattle.resource_lock.specs.declared.marks.Mark.TheVariants.{Running, Waiting}
@@ -15,7 +15,7 @@ same_anywhere zero k x = refl
 same_anywhere (suc n) zero x = refl
 same_anywhere (suc n) (suc k) x = same_anywhere n k x
 
-waits : (g : Outline) (m : MarkId) → mark_of (opening_of g) m ≡ Waiting
+waits : (g : GraphView) (m : MarkId) → mark_of (opening_of g) m ≡ Waiting
 waits g (TaskOf t) = same_anywhere (length g.tasks) t Waiting
 waits g (ActionOf a) = same_anywhere (length g.actions) a Waiting
 waits g (UnitOf u) = same_anywhere g.units u Waiting
@@ -23,7 +23,7 @@ waits g (UnitOf u) = same_anywhere g.units u Waiting
 not_running : (w : WorkerId) (m : Mark) → m ≡ Waiting → m ≢ Running w
 not_running w m is e = absurd (cc)
 
-pub rests : (g : Outline) → IsAtRest (opening_of g)
+pub rests : (g : GraphView) → IsAtRest (opening_of g)
 rests g = record {
   owners = λ l. same_anywhere g.locks l.0 None;
   holdings = λ w. same_anywhere g.workers w.0 empty_holding;

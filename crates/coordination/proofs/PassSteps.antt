@@ -1,8 +1,8 @@
 -- A pass closes again after its steps.
 use Rattle.std.proofs.Common.{◌≡◌, sym, ap, ◌∙◌, subst, []}
-use Rattle.resource_lock.specs.Outline.{Outline}
+use Rattle.resource_lock.specs.GraphView.{GraphView}
 use Rattle.resource_lock.specs.declared.ids.WorkerId.{WorkerId}
-use Rattle.lock_journal.specs.Journal.{Journal}
+use Rattle.lock_journal.specs.BookView.{BookView}
 use Rattle.coordination.specs.declared.parts.Part.{Part}
 use Rattle.coordination.specs.declared.rule.Sight.{Sight}
 use Rattle.coordination.specs.Agrees.{Agrees}
@@ -12,14 +12,14 @@ use Rattle.coordination.specs.Rule.{M}
 use Rattle.coordination.specs.Sights.{one, sight_of}
 
 -- the part of a worker is that of any book that agrees with what it saw
-pub part_on : (w : WorkerId) (seen book : Journal) (part : Part) → Agrees w seen book → IsPartOf seen w part → IsPartOf book w part
+pub part_on : (w : WorkerId) (seen book : BookView) (part : Part) → Agrees w seen book → IsPartOf seen w part → IsPartOf book w part
 part_on w seen book part a p = record {
   has = record { holding = p.has.holding ∙ sym a.state.holding; locks = p.has.locks ∙ sym a.state.owned; claimed = p.has.claimed ∙ sym a.state.claimed };
   last = p.last ∙ sym a.last;
 }
 
-pub room_on : (w : WorkerId) (seen book : Journal) (part : Part) → Agrees w seen book → HasRoom seen.graph.locks (marks_of seen.graph) part → HasRoom book.graph.locks (marks_of book.graph) part
-room_on w seen book part a room = subst (λ (g : Outline). HasRoom g.locks (marks_of g) part) (sym a.graph) room
+pub room_on : (w : WorkerId) (seen book : BookView) (part : Part) → Agrees w seen book → HasRoom seen.graph.locks (marks_of seen.graph) part → HasRoom book.graph.locks (marks_of book.graph) part
+room_on w seen book part a room = subst (λ (g : GraphView). HasRoom g.locks (marks_of g) part) (sym a.graph) room
 
 -- a seat that is alone again is a pass
 pub closes_pass : (worker : WorkerId) (part : Part) (me : M) (k s : Sight) → me ≡ (one k, []) → sight_of me.0 ≡ s → worker ≡ s.worker → IsPartOf s.seen s.worker part → HasRoom s.seen.graph.locks (marks_of s.seen.graph) part → IsPass worker part me

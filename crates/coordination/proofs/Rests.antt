@@ -4,38 +4,38 @@ use Rattle.std.proofs.lemmas.Bool.{cases_lt}
 use Rattle.std.specs.List.{All}
 use Rattle.std.proofs.lemmas.List.{get_or_past}
 use Rattle.std.proofs.lemmas.List.Elements.{All-cons, All-head, All-nil, All-tail}
-use Rattle.resource_lock.specs.Outline.{Outline}
-use Rattle.resource_lock.specs.Standing.{Standing, empty_holding, holding_of, owner_of}
+use Rattle.resource_lock.specs.GraphView.{GraphView}
+use Rattle.resource_lock.specs.StateView.{StateView, empty_holding, holding_of, owner_of}
 use Rattle.resource_lock.specs.declared.ids.LockId.{LockId}
 use Rattle.resource_lock.specs.declared.ids.WorkerId.{WorkerId}
 use Rattle.resource_lock.proofs.Undo.{same_worker}
 use Rattle.lock_journal.specs.Allowed.{lawful_from}
 use Rattle.lock_journal.specs.Entry.{Entry, effect}
-use Rattle.lock_journal.specs.Journal.{Journal}
+use Rattle.lock_journal.specs.BookView.{BookView}
 use Rattle.lock_journal.specs.Table.{owned}
 use Rattle.run_laws.specs.Own.{NamesWorkers, claimed}
 use Rattle.run_laws.proofs.Named.{named}
 use Rattle.coordination.specs.declared.rule.Sight.{Sight}
 use Rattle.coordination.specs.Agrees.{Agrees, IsSound}
 use Rattle.coordination.specs.AtRest.{HoldsNothing, IsAtRest}
-use Rattle.coordination.specs.Passes.{Seated}
+use Rattle.coordination.specs.Passes.{PassView}
 use Rattle.coordination.specs.Sights.{no_book, sight, workers_from}
 use Rattle.coordination.proofs.Closing.{there_is}
 use Rattle.coordination.proofs.Entries.{belongs_sound}
 use Rattle.coordination.proofs.Nothing.{owns_none, runs_none}
 
 -- a fact of each pass is one of each sight
-pub to_sights : (P : Sight → Type 0) (ps : List Seated) → All (λ p. P p.sight) ps → All P (map (λ p. p.sight) ps)
+pub to_sights : (P : Sight → Type 0) (ps : List PassView) → All (λ p. P p.sight) ps → All P (map (λ p. p.sight) ps)
 to_sights P [] all = All-nil P
 to_sights P (p ∷ ps) all = All-cons P p.sight (map (λ q. q.sight) ps) (All-head (λ q. P q.sight) p ps all) (to_sights P ps (All-tail (λ q. P q.sight) p ps all))
 
 -- a worker of the book owns, runs and has nothing
-record HasNothing (s : Standing) (w : WorkerId) : Type 0 where
+record HasNothing (s : StateView) (w : WorkerId) : Type 0 where
   locks : owned s w ≡ []
   claimed : claimed s w ≡ []
   holding : holding_of s w ≡ empty_holding
 
-module _ (book : Journal) (ss : List Sight) (sound : IsSound book) (agree : All (λ s. Agrees s.worker s.seen book) ss) (all : map (λ s. s.worker.0) ss ≡ workers_from 0 book.graph.workers) (nothing : All HoldsNothing ss) where
+module _ (book : BookView) (ss : List Sight) (sound : IsSound book) (agree : All (λ s. Agrees s.worker s.seen book) ss) (all : map (λ s. s.worker.0) ss ≡ workers_from 0 book.graph.workers) (nothing : All HoldsNothing ss) where
   has_nothing : (w : WorkerId) → w.0 < book.graph.workers → HasNothing book.state w
   has_nothing w low =
       let d : Sight = sight 0 no_book in
@@ -62,10 +62,10 @@ module _ (book : Journal) (ss : List Sight) (sound : IsSound book) (agree : All 
     marks = λ w m is. absurd (runs_none book.state w (has_nothing w (names.runners m w is)).claimed m is);
   }
 
-entries_known : (g : Outline) (s : Standing) (h : List Entry) → lawful_from g s h → All (λ e. e.worker.0 < g.workers) h
+entries_known : (g : GraphView) (s : StateView) (h : List Entry) → lawful_from g s h → All (λ e. e.worker.0 < g.workers) h
 entries_known g s [] lawful = All-nil (λ e. e.worker.0 < g.workers)
 entries_known g s (e ∷ h) lawful = All-cons (λ x. x.worker.0 < g.workers) e h lawful.0.worker (entries_known g (effect s e) h lawful.1)
 
 -- each entry is one of the workers'
-pub known_entries : (book : Journal) → IsSound book → All (λ e. e.worker.0 < book.graph.workers) book.history
+pub known_entries : (book : BookView) → IsSound book → All (λ e. e.worker.0 < book.graph.workers) book.history
 known_entries book sound = entries_known book.graph _ book.history sound.lawful

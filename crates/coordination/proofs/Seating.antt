@@ -6,8 +6,8 @@ use mathlib.Core.Option.{some, some-ne-none}
 use lib.ListN.{get_elem?}
 use Rattle.atomic_table.specs.Table.{opening, Enters, Splits, Joins}
 use Rattle.atomic_table.proofs.Lists.{at_set}
-use Rattle.resource_lock.specs.Outline.{Outline}
-use Rattle.lock_journal.specs.Journal.{Journal}
+use Rattle.resource_lock.specs.GraphView.{GraphView}
+use Rattle.lock_journal.specs.BookView.{BookView}
 use Rattle.coordination.specs.declared.rule.Sight.{Sight}
 use Rattle.coordination.specs.declared.rule.SeatView.{SeatView}
 use Rattle.coordination.specs.Sights.{sight, all_of, nobody, sights_from, starting}
@@ -17,18 +17,18 @@ use Rattle.coordination.proofs.Growing.{agrees_self}
 use Rattle.coordination.proofs.Moves.{set_views, more_views}
 
 -- the same at another seat
-reseat : (n mark : ℕ) (book : Journal) (owner owner' : ℕ → ℕ) (j i : ℕ) (h : Sight) → FitsSight n mark book owner j h → owner' h.worker.0 ≡ i → FitsSight n mark book owner' i h
-reseat n mark book owner owner' j i h f at = record { known = f.known; agrees = f.agrees; seated = at; stopped = f.stopped; stops = f.stops; told = f.told }
+reseat : (n mark : ℕ) (book : BookView) (owner owner' : ℕ → ℕ) (j i : ℕ) (h : Sight) → FitsSight n mark book owner j h → owner' h.worker.0 ≡ i → FitsSight n mark book owner' i h
+reseat n mark book owner owner' j i h f at = record { known = f.known; agrees = f.agrees; seated = at; stopped = f.stopped; stops = f.stops; stopped_by = f.stopped_by }
 
 -- the sights that a table starts with
-fresh : (n w k : ℕ) (book : Journal) → w + k ≤ n → All (FitsSight n 0 book (λ _. 0) 0) (sights_from w k book)
+fresh : (n w k : ℕ) (book : BookView) → w + k ≤ n → All (FitsSight n 0 book (λ _. 0) 0) (sights_from w k book)
 fresh n w zero book room = All-nil (FitsSight n 0 book (λ _. 0) 0)
 fresh n w (suc k) book room =
     All-cons (FitsSight n 0 book (λ _. 0) 0) (sight w book) (sights_from (suc w) k book)
-    (record { known = omega arith; agrees = agrees_self (record { 0 = w }) book; seated = refl; stopped = λ e. absurd (cc); stops = λ e. absurd (omega arith); told = λ x e. absurd (cc) })
+    (record { known = omega arith; agrees = agrees_self (record { 0 = w }) book; seated = refl; stopped = λ e. absurd (cc); stops = λ e. absurd (omega arith); stopped_by = λ x e. absurd (cc) })
     (fresh n (suc w) k book (omega arith))
 
-pub begins : (book : Journal) → IsSound book → book.graph.workers < 2 ^ 32 → Orderly book.graph (opening (0 ∷ 0 ∷ []) (book ∷ []) (starting book))
+pub begins : (book : BookView) → IsSound book → book.graph.workers < 2 ^ 32 → Orderly book.graph (opening (0 ∷ 0 ∷ []) (book ∷ []) (starting book))
 begins book sound small =
     let n : ℕ = book.graph.workers in record {
       book = book;
@@ -48,11 +48,11 @@ begins book sound small =
       fits = more_views (λ j u. All (FitsSight n 0 book (λ _. 0) j) u.sights × OutFits None book j u) [] (starting book) (λ j u e. absurd (some-ne-none u (sym e))) (fresh n 0 n book (omega arith), refl);
     }
 
-out_nobody : (holder : Option ℕ) (book : Journal) (j : ℕ) (v : SeatView) → v.out ≡ None → ((k : ℕ) → holder ≡ Some k → j ≢ k) → OutFits holder book j v
+out_nobody : (holder : Option ℕ) (book : BookView) (j : ℕ) (v : SeatView) → v.out ≡ None → ((k : ℕ) → holder ≡ Some k → j ≢ k) → OutFits holder book j v
 out_nobody None book j v not far = not
 out_nobody (Some k) book j v not far = ((λ e. absurd (far k refl e)), (λ _. not))
 
-pub sits_it : (g : Outline) (slots : ℕ) → Enters (Orderly g) slots 0 (λ x w. ◌≡◌ {A = M} (w, []) (nobody, []))
+pub sits_it : (g : GraphView) (slots : ℕ) → Enters (Orderly g) slots 0 (λ x w. ◌≡◌ {A = M} (w, []) (nobody, []))
 sits_it g slots s o deep small = (
   nobody,
   record {
@@ -77,15 +77,15 @@ sits_it g slots s o deep small = (
 )
 
 -- the workers from w on are not below w
-later : (w m x : ℕ) (book : Journal) → x < w → All (λ h. x < h.worker.0) (sights_from w m book)
+later : (w m x : ℕ) (book : BookView) → x < w → All (λ h. x < h.worker.0) (sights_from w m book)
 later w zero x book low = All-nil (λ h. x < h.worker.0)
 later w (suc m) x book low = All-cons (λ h. x < h.worker.0) (sight w book) (sights_from (suc w) m book) low (later (suc w) m x book (omega arith))
 
-out_less : (holder : Option ℕ) (book : Journal) (j : ℕ) (hs ks : List Sight) → OutFits holder book j (all_of hs) → OutFits holder book j (all_of ks)
+out_less : (holder : Option ℕ) (book : BookView) (j : ℕ) (hs ks : List Sight) → OutFits holder book j (all_of hs) → OutFits holder book j (all_of ks)
 out_less None book j hs ks f = refl
 out_less (Some k) book j hs ks f = ((λ e. let not = (f.0 e).0 in absurd (cc)), (λ _. refl))
 
-pub splits_it : (g : Outline) (id w m : ℕ) (book : Journal)
+pub splits_it : (g : GraphView) (id w m : ℕ) (book : BookView)
     → Splits (Orderly g) id (all_of (sights_from w (suc m) book)) (all_of (sights_from (suc w) m book)) (all_of (sight w book ∷ []))
 splits_it g id w m book s o at =
     let left : SeatView = all_of (sights_from (suc w) m book) in
@@ -129,15 +129,15 @@ splits_it g id w m book s o at =
           );
     }
 
-out_both : (holder : Option ℕ) (book : Journal) (j : ℕ) (v w : SeatView) → OutFits holder book j v → OutFits holder book j (both_sights v w)
+out_both : (holder : Option ℕ) (book : BookView) (j : ℕ) (v w : SeatView) → OutFits holder book j v → OutFits holder book j (both_sights v w)
 out_both None book j v w f = f
 out_both (Some k) book j v w f = ((λ e. let g = f.0 e in let has = g.1 in let long = length-append v.sights w.sights in (g.0, omega arith)), f.1)
 
-out_not : (holder : Option ℕ) (book : Journal) (j : ℕ) (w : SeatView) → w.out ≡ None → OutFits holder book j w → OutFits holder book j nobody
+out_not : (holder : Option ℕ) (book : BookView) (j : ℕ) (w : SeatView) → w.out ≡ None → OutFits holder book j w → OutFits holder book j nobody
 out_not None book j w not f = refl
 out_not (Some k) book j w not f = ((λ e. let g = (f.0 e).0 in absurd (cc)), (λ _. refl))
 
-pub joins_it : (g : Outline) (id other : ℕ) (v w : SeatView) → w.out ≡ None → Joins (Orderly g) id v other w (both_sights v w) nobody
+pub joins_it : (g : GraphView) (id other : ℕ) (v w : SeatView) → w.out ≡ None → Joins (Orderly g) id v other w (both_sights v w) nobody
 joins_it g id other v w not s o at apart at_other =
     let both : SeatView = both_sights v w in
     let owner : ℕ → ℕ = λ x. cond (eqb (o.owner x) other) id (o.owner x) in

@@ -2,11 +2,11 @@
 use Rattle.std.proofs.Common.{◌≡◌, ◌<◌, List, [], ◌∷◌, ◌++◌, Result, Ok, Err, Option, Some, None, refl, sym, ap, ◌∙◌, subst, append-nil}
 use Rattle.resource_lock.specs.declared.ids.WorkerId.{WorkerId}
 use Rattle.resource_lock.specs.declared.changes.Change.{Change}
-use Rattle.resource_lock.specs.Outline.{Outline}
-use Rattle.resource_lock.specs.Standing.{Standing}
+use Rattle.resource_lock.specs.GraphView.{GraphView}
+use Rattle.resource_lock.specs.StateView.{StateView}
 use Rattle.lock_journal.specs.Allowed.{Allowed, Lawful}
 use Rattle.lock_journal.specs.Entry.{Entry, effect, entry, replay}
-use Rattle.lock_journal.specs.Journal.{Journal, SameBook}
+use Rattle.lock_journal.specs.BookView.{BookView, SameBook}
 use Rattle.lock_journal.specs.Ran.{HasFinished, HasFailed, IsToRetry}
 use Rattle.lock_journal.specs.declared.entries.Kind.{Kind}
 use Rattle.lock_journal.specs.declared.transforms.Disposition.{Disposition}
@@ -22,7 +22,7 @@ use Rattle.coordination.specs.declared.parts.Part.{Part}
 use Rattle.coordination.proofs.PassSteps.{part_on, room_on}
 
 -- the four clauses of the call together
-pub ran_of : {E : Type 0} (kind : Kind) (fails retries : Cause) (w : WorkerId) (old new : Journal) (r : Result Disposition E)
+pub ran_of : {E : Type 0} (kind : Kind) (fails retries : Cause) (w : WorkerId) (old new : BookView) (r : Result Disposition E)
     → (r ≡ Ok Finished → (changes : List Change) × HasFinished old new w kind changes) → (r ≡ Ok Failed → HasFailed fails old new w kind) → (r ≡ Ok Retry → IsToRetry retries old new w)
     → ((e : E) → r ≡ Err e → SameBook old new) → Ran kind fails retries w old new r
 ran_of kind fails retries w old new (Ok Finished) a b c d = a refl
@@ -31,22 +31,22 @@ ran_of kind fails retries w old new (Ok Retry) a b c d = c refl
 ran_of kind fails retries w old new (Err e) a b c d = d e refl
 
 -- a sound book with one allowed entry more is sound
-sound-push : (old new : Journal) (e : Entry) → IsSound old → new.graph ≡ old.graph → Allowed old.graph old.state e → new.history ≡ old.history ++ e ∷ [] → new.state ≡ effect old.state e → IsSound new
+sound-push : (old new : BookView) (e : Entry) → IsSound old → new.graph ≡ old.graph → Allowed old.graph old.state e → new.history ≡ old.history ++ e ∷ [] → new.state ≡ effect old.state e → IsSound new
 sound-push old new e sound graph allowed history state =
-    let ok : Allowed old.graph (replay old.graph old.history) e = subst (λ (s : Standing). Allowed old.graph s e) sound.replays allowed in
+    let ok : Allowed old.graph (replay old.graph old.history) e = subst (λ (s : StateView). Allowed old.graph s e) sound.replays allowed in
     record {
-      lawful = subst (λ (p : Outline × List Entry). Lawful p.0 p.1) (λ i. (sym graph i, sym history i)) (lawful-push old.graph old.history e sound.lawful ok);
-      replays = state ∙ (ap (λ (s : Standing). effect s e) sound.replays ∙ (sym (replay-push old.graph old.history e) ∙ (λ i. replay (sym graph i) (sym history i))));
+      lawful = subst (λ (p : GraphView × List Entry). Lawful p.0 p.1) (λ i. (sym graph i, sym history i)) (lawful-push old.graph old.history e sound.lawful ok);
+      replays = state ∙ (ap (λ (s : StateView). effect s e) sound.replays ∙ (sym (replay-push old.graph old.history e) ∙ (λ i. replay (sym graph i) (sym history i))));
     }
 
-sound-same : (old new : Journal) → IsSound old → new.graph ≡ old.graph → new.state ≡ old.state → new.history ≡ old.history → IsSound new
+sound-same : (old new : BookView) → IsSound old → new.graph ≡ old.graph → new.state ≡ old.state → new.history ≡ old.history → IsSound new
 sound-same old new sound graph state history = record {
-  lawful = subst (λ (p : Outline × List Entry). Lawful p.0 p.1) (λ i. (sym graph i, sym history i)) sound.lawful;
+  lawful = subst (λ (p : GraphView × List Entry). Lawful p.0 p.1) (λ i. (sym graph i, sym history i)) sound.lawful;
   replays = state ∙ (sound.replays ∙ (λ i. replay (sym graph i) (sym history i)));
 }
 
 -- what a transform added is its worker's
-adds_own : {E : Type 0} (kind : Kind) (fails retries : Cause) (r : Result Disposition E) (s : Sight) (new : Journal) → new.graph ≡ s.seen.graph → Ran kind fails retries s.worker s.seen new r → AddsOwn s new
+adds_own : {E : Type 0} (kind : Kind) (fails retries : Cause) (r : Result Disposition E) (s : Sight) (new : BookView) → new.graph ≡ s.seen.graph → Ran kind fails retries s.worker s.seen new r → AddsOwn s new
 adds_own kind fails retries (Ok Finished) s new graph ran = record {
   more = entry s.worker kind (Some ran.0) ∷ [];
   graph = graph;
@@ -72,7 +72,7 @@ pub taken_book : (m m' : M) (t : Taken m m') → carried_book m'.1 ≡ t.book
 taken_book m m' t = ap (λ (x : M). carried_book x.1) t.is
 
 pub known_in : (m m' : M) (t : Taken m m') (worker : WorkerId) → worker ≡ (sight_of m.0).worker → worker.0 < (carried_book m'.1).graph.workers
-known_in m m' t worker is = subst (λ (p : WorkerId × Journal). p.0.0 < p.1.graph.workers) (λ i. (sym is i, sym (taken_book m m' t) i)) t.known
+known_in m m' t worker is = subst (λ (p : WorkerId × BookView). p.0.0 < p.1.graph.workers) (λ i. (sym is i, sym (taken_book m m' t) i)) t.known
 
 -- the book that was taken is sound, and the worker's part is that of it
 pub sound_in : (m m' : M) (t : Taken m m') → IsSound (carried_book m'.1)
@@ -80,31 +80,31 @@ sound_in m m' t = subst IsSound (sym (taken_book m m' t)) t.sound
 
 pub part_in : (m m' : M) (t : Taken m m') (worker : WorkerId) (part : Part) → worker ≡ (sight_of m.0).worker → IsPartOf (sight_of m.0).seen (sight_of m.0).worker part → IsPartOf (carried_book m'.1) worker part
 part_in m m' t worker part is p =
-    subst (λ (x : WorkerId × Journal). IsPartOf x.1 x.0 part) (λ i. (sym is i, sym (taken_book m m' t) i)) (part_on (sight_of m.0).worker (sight_of m.0).seen t.book part t.agrees p)
+    subst (λ (x : WorkerId × BookView). IsPartOf x.1 x.0 part) (λ i. (sym is i, sym (taken_book m m' t) i)) (part_on (sight_of m.0).worker (sight_of m.0).seen t.book part t.agrees p)
 
 pub room_in : (m m' : M) (t : Taken m m') (part : Part) → HasRoom (sight_of m.0).seen.graph.locks (marks_of (sight_of m.0).seen.graph) part
     → HasRoom (carried_book m'.1).graph.locks (marks_of (carried_book m'.1).graph) part
 room_in m m' t part room =
-    subst (λ (b : Journal). HasRoom b.graph.locks (marks_of b.graph) part) (sym (taken_book m m' t)) (room_on (sight_of m.0).worker (sight_of m.0).seen t.book part t.agrees room)
+    subst (λ (b : BookView). HasRoom b.graph.locks (marks_of b.graph) part) (sym (taken_book m m' t)) (room_on (sight_of m.0).worker (sight_of m.0).seen t.book part t.agrees room)
 
 -- what a transform left of a book is what a part can follow
-grew : {E : Type 0} (kind : Kind) (fails retries : Cause) (w : WorkerId) (old new : Journal) (r : Result Disposition E) → Ran kind fails retries w old new r → Grew w old new r
+grew : {E : Type 0} (kind : Kind) (fails retries : Cause) (w : WorkerId) (old new : BookView) (r : Result Disposition E) → Ran kind fails retries w old new r → Grew w old new r
 grew kind fails retries w old new (Ok Finished) ran = (kind, ran.0, ran.1)
 grew kind fails retries w old new (Ok Failed) ran = (kind, ran.history, ran.state)
 grew kind fails retries w old new (Ok Retry) ran = (ran.history, ran.state)
 grew kind fails retries w old new (Err e) ran = (ran.history, ran.state)
 
-pub follows : {E : Type 0} (kind : Kind) (fails retries : Cause) (w : WorkerId) (old new : Journal) (r : Result Disposition E) (part : Part) → IsSound old → new.graph ≡ old.graph → Ran kind fails retries w old new r
+pub follows : {E : Type 0} (kind : Kind) (fails retries : Cause) (w : WorkerId) (old new : BookView) (r : Result Disposition E) (part : Part) → IsSound old → new.graph ≡ old.graph → Ran kind fails retries w old new r
     → IsPartOf old w part → HasRoom old.graph.locks (marks_of old.graph) part → Follows w old new r part
 follows kind fails retries w old new r part sound graph ran p room = record { sound = sound; graph = graph; grew = grew kind fails retries w old new r ran; kept = p; room = room }
 
 module _ {E : Type 0} (kind : Kind) (fails retries : Cause) (r : Result Disposition E) (m m' m'' : M) (t : Taken m m') (same : m''.0 ≡ m'.0) (worker : WorkerId) (is : worker ≡ (sight_of m.0).worker)
     (graph : (carried_book m''.1).graph ≡ (carried_book m'.1).graph) (ran : Ran kind fails retries worker (carried_book m'.1) (carried_book m''.1) r) where
   found : Ran kind fails retries (sight_of m.0).worker t.book (carried_book m''.1) r
-  found = subst (λ (p : WorkerId × Journal). Ran kind fails retries p.0 p.1 (carried_book m''.1) r) (λ i. (is i, taken_book m m' t i)) ran
+  found = subst (λ (p : WorkerId × BookView). Ran kind fails retries p.0 p.1 (carried_book m''.1) r) (λ i. (is i, taken_book m m' t i)) ran
 
   same_graph : (carried_book m''.1).graph ≡ t.book.graph
-  same_graph = graph ∙ ap (λ (b : Journal). b.graph) (taken_book m m' t)
+  same_graph = graph ∙ ap (λ (b : BookView). b.graph) (taken_book m m' t)
 
   pub owns : AddsOwn (sight_of m''.0) (carried_book m''.1)
   owns = subst (λ (k : Sight). AddsOwn k (carried_book m''.1)) (sym (taken_sight m m' m'' t same)) (adds_own kind fails retries r (seeing (sight_of m.0) t.book) (carried_book m''.1) same_graph found)
@@ -117,17 +117,17 @@ module _ {E : Type 0} (kind : Kind) (fails retries : Cause) (r : Result Disposit
   attempted n back = record { before = t.book; after = carried_book m''.1; agrees = t.agrees; graph = same_graph; ran = found; is = after n back }
 
 -- the same of a question
-module _ {A : Type 0} (answers : WorkerId → Journal → A → Type 0) (waits : WorkerId → Journal → Type 0) (r : Option A) (m m' m'' : M) (t : Taken m m') (same : m'' ≡ m') (worker : WorkerId)
+module _ {A : Type 0} (answers : WorkerId → BookView → A → Type 0) (waits : WorkerId → BookView → Type 0) (r : Option A) (m m' m'' : M) (t : Taken m m') (same : m'' ≡ m') (worker : WorkerId)
     (is : worker ≡ (sight_of m.0).worker) where
   book_is : carried_book m''.1 ≡ t.book
   book_is = ap (λ (x : M). carried_book x.1) same ∙ taken_book m m' t
 
   pub keeps : AddsOwn (sight_of m''.0) (carried_book m''.1)
-  keeps = subst (λ (p : Sight × Journal). AddsOwn p.0 p.1) (λ i. (sym (taken_sight m m' m'' t (ap (λ (x : M). x.0) same)) i, sym book_is i))
+  keeps = subst (λ (p : Sight × BookView). AddsOwn p.0 p.1) (λ i. (sym (taken_sight m m' m'' t (ap (λ (x : M). x.0) same)) i, sym book_is i))
       (record { more = []; graph = refl; history = sym (append-nil t.book.history); own = λ w ne. tt; sound = λ s. s })
 
   pub after_ask : (n : M) → n ≡ (one (seeing (sight_of m''.0) (carried_book m''.1)), []) → sight_of n.0 ≡ seeing (sight_of m.0) t.book
   after_ask n back = ap (λ (x : M). sight_of x.0) back ∙ (λ i. seeing (taken_sight m m' m'' t (ap (λ (x : M). x.0) same) i) (book_is i))
 
   pub asked : Answers answers waits worker (carried_book m'.1) r → (n : M) → n ≡ (one (seeing (sight_of m''.0) (carried_book m''.1)), []) → Asked answers waits (sight_of m.0) (sight_of n.0) r
-  asked a n back = record { book = t.book; agrees = t.agrees; answer = subst (λ (p : WorkerId × Journal). Answers answers waits p.0 p.1 r) (λ i. (is i, taken_book m m' t i)) a; is = after_ask n back }
+  asked a n back = record { book = t.book; agrees = t.agrees; answer = subst (λ (p : WorkerId × BookView). Answers answers waits p.0 p.1 r) (λ i. (is i, taken_book m m' t i)) a; is = after_ask n back }

@@ -3,13 +3,13 @@ use Rattle.std.specs.Prelude.{◌≡◌, List, ◌++◌}
 use Rattle.resource_lock.specs.declared.ids.WorkerId.{WorkerId}
 use Rattle.lock_journal.specs.Entry.{Entry, replay}
 use Rattle.lock_journal.specs.Allowed.{Lawful}
-use Rattle.lock_journal.specs.Journal.{Journal}
+use Rattle.lock_journal.specs.BookView.{BookView}
 use Rattle.run_laws.specs.ClosedBy.{closed_by}
 use Rattle.run_laws.specs.Own.{NoneOf, SameFor}
 use Rattle.coordination.specs.Lasts.{last_of, count_of}
 
 -- The history goes on from what the worker saw by entries of others alone, and what the worker has, owns, runs, closed and listed is the same in both.
-pub record Agrees (w : WorkerId) (seen book : Journal) : Type 0 where
+pub record Agrees (w : WorkerId) (seen book : BookView) : Type 0 where
   pub graph : book.graph ≡ seen.graph
   pub between : List Entry
   pub history : book.history ≡ seen.history ++ between
@@ -20,6 +20,6 @@ pub record Agrees (w : WorkerId) (seen book : Journal) : Type 0 where
   pub last : last_of w book.history ≡ last_of w seen.history
 
 -- the history is lawful, and the state is what it leads to
-pub record IsSound (book : Journal) : Type 0 where
+pub record IsSound (book : BookView) : Type 0 where
   pub lawful : Lawful book.graph book.history
   pub replays : book.state ≡ replay book.graph book.history

@@ -1,10 +1,10 @@
 -- One try under the lock, as the worker sees it.
 use Rattle.std.specs.Prelude.{◌≡◌, List, Result, Ok, Err, Option, Some, None}
-use Rattle.resource_lock.specs.Outline.{Outline}
-use Rattle.resource_lock.specs.Standing.{Standing}
+use Rattle.resource_lock.specs.GraphView.{GraphView}
+use Rattle.resource_lock.specs.StateView.{StateView}
 use Rattle.resource_lock.specs.declared.ids.WorkerId.{WorkerId}
 use Rattle.resource_lock.specs.declared.changes.Change.{Change}
-use Rattle.lock_journal.specs.Journal.{Journal, SameBook}
+use Rattle.lock_journal.specs.BookView.{BookView, SameBook}
 use Rattle.lock_journal.specs.Ran.{HasFinished, HasFailed, IsToRetry}
 use Rattle.lock_journal.specs.declared.entries.Kind.{Kind}
 use Rattle.lock_journal.specs.declared.transforms.Disposition.{Disposition}
@@ -15,10 +15,10 @@ use Rattle.coordination.specs.Sights.{seeing}
 
 -- where a transform may fail, or ask to be run again
 abbrev pub Cause : Type 1
-Cause = Outline → WorkerId → Standing → Type 0
+Cause = GraphView → WorkerId → StateView → Type 0
 
 -- what a transform of this kind left of a book
-abbrev pub Ran : {E : Type 0} → Kind → Cause → Cause → WorkerId → Journal → Journal → Result Disposition E → Type 0
+abbrev pub Ran : {E : Type 0} → Kind → Cause → Cause → WorkerId → BookView → BookView → Result Disposition E → Type 0
 Ran kind fails retries w old new (Ok Finished) = (changes : List Change) × HasFinished old new w kind changes
 Ran kind fails retries w old new (Ok Failed) = HasFailed fails old new w kind
 Ran kind fails retries w old new (Ok Retry) = IsToRetry retries old new w
@@ -26,21 +26,21 @@ Ran kind fails retries w old new (Err e) = SameBook old new
 
 -- The transform found a book that agrees with the worker's sight, and the worker saw what it left.
 pub record Attempted {E : Type 0} (kind : Kind) (fails retries : Cause) (s s' : Sight) (r : Result Disposition E) : Type 0 where
-  pub before : Journal
-  pub after : Journal
+  pub before : BookView
+  pub after : BookView
   pub agrees : Agrees s.worker s.seen before
   pub graph : after.graph ≡ before.graph
   pub ran : Ran kind fails retries s.worker before after r
   pub is : s' ≡ seeing s after
 
 -- what a question may answer
-abbrev pub Answers : {A : Type 0} → (WorkerId → Journal → A → Type 0) → (WorkerId → Journal → Type 0) → WorkerId → Journal → Option A → Type 0
+abbrev pub Answers : {A : Type 0} → (WorkerId → BookView → A → Type 0) → (WorkerId → BookView → Type 0) → WorkerId → BookView → Option A → Type 0
 Answers answers waits w book (Some a) = answers w book a
 Answers answers waits w book None = waits w book
 
 -- The question was asked of a book that agrees with the worker's sight, and the worker saw it.
-pub record Asked {A : Type 0} (answers : WorkerId → Journal → A → Type 0) (waits : WorkerId → Journal → Type 0) (s s' : Sight) (r : Option A) : Type 0 where
-  pub book : Journal
+pub record Asked {A : Type 0} (answers : WorkerId → BookView → A → Type 0) (waits : WorkerId → BookView → Type 0) (s s' : Sight) (r : Option A) : Type 0 where
+  pub book : BookView
   pub agrees : Agrees s.worker s.seen book
   pub answer : Answers answers waits s.worker book r
   pub is : s' ≡ seeing s book

@@ -2,7 +2,7 @@
 use Rattle.std.specs.Prelude.{◌≡◌, ◌⊎◌, List}
 use Rattle.resource_lock.specs.declared.ids.WorkerId.{WorkerId}
 use Rattle.resource_lock.specs.declared.changes.Change.{Change}
-use Rattle.lock_journal.specs.Journal.{Journal}
+use Rattle.lock_journal.specs.BookView.{BookView}
 use Rattle.lock_journal.specs.Ran as journal
 use Rattle.lock_journal.specs.declared.entries.Kind.{Kind}
 use Rattle.coordination.specs.declared.rule.Sight.{Sight}
@@ -12,8 +12,8 @@ use Rattle.coordination.specs.Sights.{seeing, stopping, hearing}
 
 -- The transform found a book that agrees with the pass, and finished. The pass has seen the book with its entry.
 pub record HasFinished (kind : Kind) (old new : Sight) : Type 0 where
-  pub before : Journal
-  pub after : Journal
+  pub before : BookView
+  pub after : BookView
   pub changes : List Change
   pub agrees : Agrees old.worker old.seen before
   pub graph : after.graph ≡ before.graph
@@ -22,8 +22,8 @@ pub record HasFinished (kind : Kind) (old new : Sight) : Type 0 where
 
 -- The transform found a book that agrees with the pass, and failed. The pass has seen the book with its failed entry.
 pub record HasFailed (kind : Kind) (fails : Cause) (old new : Sight) : Type 0 where
-  pub before : Journal
-  pub after : Journal
+  pub before : BookView
+  pub after : BookView
   pub agrees : Agrees old.worker old.seen before
   pub graph : after.graph ≡ before.graph
   pub failed : journal.HasFailed fails before after old.worker kind
@@ -31,31 +31,31 @@ pub record HasFailed (kind : Kind) (fails : Cause) (old new : Sight) : Type 0 wh
 
 -- Nothing of the worker's has changed: the pass has seen a book that agrees with it.
 pub record HasLooked (old new : Sight) : Type 0 where
-  pub book : Journal
+  pub book : BookView
   pub agrees : Agrees old.worker old.seen book
   pub sight : new ≡ seeing old book
 
--- The transform asked to be run again on a book that agrees with the pass, and the pass was told who has stopped the service.
+-- The transform asked to be run again on a book that agrees with the pass, and the pass was stopped_by who has stopped the service.
 pub record WasStopped (retries : Cause) (by : WorkerId) (old new : Sight) : Type 0 where
-  pub book : Journal
+  pub book : BookView
   pub agrees : Agrees old.worker old.seen book
   pub cause : retries book.graph old.worker book.state
   pub sight : new ≡ hearing (seeing old book) by
 
 -- The question was answered of a book that agrees with the pass, and the pass has seen it.
-pub record IsAnswered {A : Type 0} (answers : WorkerId → Journal → A → Type 0) (a : A) (old new : Sight) : Type 0 where
-  pub book : Journal
+pub record IsAnswered {A : Type 0} (answers : WorkerId → BookView → A → Type 0) (a : A) (old new : Sight) : Type 0 where
+  pub book : BookView
   pub agrees : Agrees old.worker old.seen book
   pub answer : answers old.worker book a
   pub sight : new ≡ seeing old book
 
--- The question had no answer of a book that agrees with the pass, and the pass was told who has stopped the service.
-pub record AskedInVain (waits : WorkerId → Journal → Type 0) (by : WorkerId) (old new : Sight) : Type 0 where
-  pub book : Journal
+-- The question had no answer of a book that agrees with the pass, and the pass was stopped_by who has stopped the service.
+pub record AskedInVain (waits : WorkerId → BookView → Type 0) (by : WorkerId) (old new : Sight) : Type 0 where
+  pub book : BookView
   pub agrees : Agrees old.worker old.seen book
   pub cause : waits old.worker book
   pub sight : new ≡ hearing (seeing old book) by
 
--- The worker has stopped the service, or was told who did so before.
+-- The worker has stopped the service, or was stopped_by who did so before.
 abbrev pub HasStopped : Sight → Sight → Type 0
 HasStopped old new = (new ≡ stopping old) ⊎ ((by : WorkerId) × (new ≡ hearing old by))

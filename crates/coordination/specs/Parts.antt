@@ -3,13 +3,13 @@ use Rattle.std.specs.Prelude.{◌≡◌, ◌+◌, ◌<◌, ◌≤◌, ℕ, true,
 use Rattle.std.specs.List.{AllByRecursion}
 use Rattle.resource_lock.specs.Change.{can_all, holding_after, NamesOnly}
 use Rattle.resource_lock.specs.Good.{Good}
-use Rattle.resource_lock.specs.Outline.{Outline}
-use Rattle.resource_lock.specs.Standing.{Holding, IsWorkerOf, Standing, holding_of, runs_by}
+use Rattle.resource_lock.specs.GraphView.{GraphView}
+use Rattle.resource_lock.specs.StateView.{Holding, IsWorkerOf, StateView, holding_of, runs_by}
 use Rattle.resource_lock.specs.declared.changes.Change.{Change}
 use Rattle.resource_lock.specs.declared.changes.Change.TheVariants.{Lock, Move, Park}
 use Rattle.resource_lock.specs.declared.ids.WorkerId.{WorkerId}
 use Rattle.lock_journal.specs.Entry.{entry}
-use Rattle.lock_journal.specs.Journal.{Journal}
+use Rattle.lock_journal.specs.BookView.{BookView}
 use Rattle.lock_journal.specs.Ran.{HasFinished}
 use Rattle.lock_journal.specs.Table.{owned}
 use Rattle.lock_journal.specs.declared.entries.Kind.{Kind}
@@ -26,24 +26,24 @@ abbrev pub holding_in : Part → Holding
 holding_in part = record { lease = part.lease; parked = part.parked.items; blocked = part.blocked }
 
 -- the part says what the worker has, owns and runs
-pub record Has (s : Standing) (w : WorkerId) (part : Part) : Type 0 where
+pub record Has (s : StateView) (w : WorkerId) (part : Part) : Type 0 where
   pub holding : holding_in part ≡ holding_of s w
   pub locks : part.locks.items ≡ owned s w
   pub claimed : part.claimed.items ≡ claimed s w
 
 -- the part says that of the book's state, and which entry was the worker's last
-pub record IsPartOf (book : Journal) (w : WorkerId) (part : Part) : Type 0 where
+pub record IsPartOf (book : BookView) (w : WorkerId) (part : Part) : Type 0 where
   pub has : Has book.state w part
   pub last : part.last ≡ last_of w book.history
 
 -- how many tasks, actions and units there are together
-abbrev pub marks_of : Outline → ℕ
+abbrev pub marks_of : GraphView → ℕ
 marks_of g = length g.tasks + length g.actions + g.units
 
-abbrev pub mark_count : Standing → ℕ
+abbrev pub mark_count : StateView → ℕ
 mark_count s = length s.tasks + length s.actions + length s.units
 
-pub record IsRoomOf (g : Outline) (room : Room) : Type 0 where
+pub record IsRoomOf (g : GraphView) (room : Room) : Type 0 where
   pub locks : room.locks ≡ g.locks
   pub marks : room.marks ≡ marks_of g
 
@@ -81,7 +81,7 @@ pub record IsAfter (w : WorkerId) (c : Change) (old new : Part) : Type 0 where
   pub park_room : vec_capacity new.parked ≡ vec_capacity old.parked
 
 -- The part is that of the worker in a good state, in which it can make these changes in turn, and has room for all.
-pub record LeadsOn (s : Standing) (w : WorkerId) (part : Part) (changes : List Change) : Type 0 where
+pub record LeadsOn (s : StateView) (w : WorkerId) (part : Part) (changes : List Change) : Type 0 where
   pub good : Good s
   pub worker : IsWorkerOf s w
   pub named : AllByRecursion (NamesOnly s) changes
@@ -90,14 +90,14 @@ pub record LeadsOn (s : Standing) (w : WorkerId) (part : Part) (changes : List C
   pub room : HasRoom (length s.owners) (mark_count s) part
 
 -- a book after a transform of the worker
-abbrev pub Grew : {E : Type 0} → WorkerId → Journal → Journal → Result Disposition E → Type 0
+abbrev pub Grew : {E : Type 0} → WorkerId → BookView → BookView → Result Disposition E → Type 0
 Grew w old new (Ok Finished) = (kind : Kind) × (changes : List Change) × HasFinished old new w kind changes
 Grew w old new (Ok Failed) = (kind : Kind) × (new.history ≡ old.history ++ entry w kind None ∷ []) × (new.state ≡ old.state)
 Grew w old new (Ok Retry) = (new.history ≡ old.history) × (new.state ≡ old.state)
 Grew w old new (Err e) = (new.history ≡ old.history) × (new.state ≡ old.state)
 
 -- The part is that of a sound book, on which a transform of the worker was run.
-pub record Follows {E : Type 0} (w : WorkerId) (old new : Journal) (ran : Result Disposition E) (part : Part) : Type 0 where
+pub record Follows {E : Type 0} (w : WorkerId) (old new : BookView) (ran : Result Disposition E) (part : Part) : Type 0 where
   pub sound : IsSound old
   pub graph : new.graph ≡ old.graph
   pub grew : Grew w old new ran

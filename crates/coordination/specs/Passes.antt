@@ -1,8 +1,8 @@
 -- A pass and a service, as contracts see them.
 use Rattle.std.specs.Prelude.{◌≡◌, []}
-use Rattle.atomic_table.specs.Seated.{TableId}
+use Rattle.atomic_table.specs.PassView.{TableId}
 use Rattle.resource_lock.specs.declared.ids.WorkerId.{WorkerId}
-use Rattle.lock_journal.specs.Journal.{Journal}
+use Rattle.lock_journal.specs.BookView.{BookView}
 use Rattle.coordination.specs.declared.rule.Sight.{Sight}
 use Rattle.coordination.specs.Parts.{HasRoom, IsPartOf, marks_of}
 use Rattle.coordination.specs.declared.parts.Part.{Part}
@@ -10,7 +10,7 @@ use Rattle.coordination.specs.Sights.{one, sight_of}
 use Rattle.coordination.specs.Rule.{M}
 
 -- which service it is of, and what its worker has seen
-pub record Seated : Type 0 where
+pub record PassView : Type 0 where
   pub service : TableId
   pub sight : Sight
 
@@ -22,6 +22,6 @@ pub record IsPass (worker : WorkerId) (part : Part) (me : M) : Type 0 where
   pub room : HasRoom (sight_of me.0).seen.graph.locks (marks_of (sight_of me.0).seen.graph) part
 
 -- which one it is, and the book that it was opened with
-pub record ServiceView : Type 0 where
+pub record CoordinationView : Type 0 where
   pub service : TableId
-  pub book : Journal
+  pub book : BookView

@@ -5,10 +5,10 @@ use mathlib.Core.Option.{some, none}
 use mathlib.Core.Option as maybe
 use lib.ListN.{get_elem?}
 use Rattle.atomic_table.specs.Table.{State, Me, Step}
-use Rattle.resource_lock.specs.Outline.{Outline}
+use Rattle.resource_lock.specs.GraphView.{GraphView}
 use Rattle.resource_lock.specs.declared.ids.WorkerId.{WorkerId}
 use Rattle.lock_journal.specs.Entry.{Entry}
-use Rattle.lock_journal.specs.Journal.{Journal}
+use Rattle.lock_journal.specs.BookView.{BookView}
 use Rattle.run_laws.specs.Own.{NoneOf}
 use Rattle.coordination.specs.declared.rule.Sight.{Sight}
 use Rattle.coordination.specs.declared.rule.SeatView.{SeatView}
@@ -16,15 +16,15 @@ use Rattle.coordination.specs.Agrees.{Agrees, IsSound}
 use Rattle.coordination.specs.Sights.{seeing, stopping, hearing, one, holding, all_of, no_book, sight_of}
 
 -- what is so of each worker of the view at a seat
-pub record FitsSight (n mark : ℕ) (book : Journal) (owner : ℕ → ℕ) (seat : ℕ) (s : Sight) : Type 0 where
+pub record FitsSight (n mark : ℕ) (book : BookView) (owner : ℕ → ℕ) (seat : ℕ) (s : Sight) : Type 0 where
   pub known : s.worker.0 < n
   pub agrees : Agrees s.worker s.seen book
   pub seated : owner s.worker.0 ≡ seat
   pub stopped : s.stopped ≡ true → mark ≡ suc s.worker.0
   pub stops : mark ≡ suc s.worker.0 → s.stopped ≡ true
-  pub told : (w : WorkerId) → s.told ≡ Some w → mark ≡ suc w.0
+  pub stopped_by : (w : WorkerId) → s.stopped_by ≡ Some w → mark ≡ suc w.0
 
-abbrev pub OutFits : Option ℕ → Journal → ℕ → SeatView → Type 0
+abbrev pub OutFits : Option ℕ → BookView → ℕ → SeatView → Type 0
 OutFits None book j v = v.out ≡ None
 OutFits (Some k) book j v = (j ≡ k → (v.out ≡ Some book) × (0 < length v.sights)) × (j ≢ k → v.out ≡ None)
 
@@ -32,13 +32,13 @@ abbrev pub busy_of : Option ℕ → ℕ
 busy_of None = 0
 busy_of (Some k) = 1
 
-abbrev pub home_of : Option ℕ → Journal → maybe.Option Journal
+abbrev pub home_of : Option ℕ → BookView → maybe.Option BookView
 home_of None book = some book
 home_of (Some k) book = none
 
 -- One sound book of the graph, with which each worker's sight agrees. Each worker sits at one seat, and one seat at most holds the book.
-pub record Orderly (g : Outline) (s : State Journal SeatView) : Type 0 where
-  pub book : Journal
+pub record Orderly (g : GraphView) (s : State BookView SeatView) : Type 0 where
+  pub book : BookView
   pub mark : ℕ
   pub owner : ℕ → ℕ
   pub holder : Option ℕ
@@ -55,25 +55,25 @@ pub record Orderly (g : Outline) (s : State Journal SeatView) : Type 0 where
   pub fits : (j : ℕ) (v : SeatView) → get_elem? s.views j ≡ some v → All (FitsSight g.workers mark book owner j) v.sights × OutFits holder book j v
 
 abbrev pub M : Type 0
-M = Me Journal SeatView
+M = Me BookView SeatView
 
 -- The book was found and taken. It is sound and agrees with what the worker saw, and the worker is one of its graph.
 pub record Taken (m m' : M) : Type 0 where
-  pub book : Journal
+  pub book : BookView
   pub agrees : Agrees (sight_of m.0).worker (sight_of m.0).seen book
   pub sound : IsSound book
   pub known : (sight_of m.0).worker.0 < book.graph.workers
   pub is : m' ≡ (holding (seeing (sight_of m.0) book), (0, book) ∷ [])
 
-abbrev pub taken : Step Journal → M → ℕ → M → Type 0
+abbrev pub taken : Step BookView → M → ℕ → M → Type 0
 taken st m r m' = (r ≡ 0 → Taken m m') × (r ≢ 0 → m' ≡ m)
 
-abbrev pub carried_book : List (ℕ × Journal) → Journal
+abbrev pub carried_book : List (ℕ × BookView) → BookView
 carried_book [] = no_book
 carried_book (x ∷ xs) = x.1
 
 -- the book went back, and the worker has seen it
-abbrev pub put_back : Step Journal → M → ℕ → M → Type 0
+abbrev pub put_back : Step BookView → M → ℕ → M → Type 0
 put_back st m r m' = m' ≡ (one (seeing (sight_of m.0) (carried_book m.1)), [])
 
 -- the worker that a mark names
@@ -81,11 +81,11 @@ abbrev pub marked : ℕ → WorkerId
 marked r = record { 0 = r - 1 }
 
 -- the worker has stopped the service, or hears who did
-abbrev pub stopped_at : Step Journal → M → ℕ → M → Type 0
+abbrev pub stopped_at : Step BookView → M → ℕ → M → Type 0
 stopped_at st m r m' = (r < 2 ^ 32) × (r ≡ 0 → m' ≡ (one (stopping (sight_of m.0)), [])) × (r ≢ 0 → m' ≡ (one (hearing (sight_of m.0) (marked r)), []))
 
 -- the worker hears who has stopped the service, if somebody has
-abbrev pub heard : Step Journal → M → ℕ → M → Type 0
+abbrev pub heard : Step BookView → M → ℕ → M → Type 0
 heard st m r m' = (r < 2 ^ 32) × (r ≡ 0 → m' ≡ m) × (r ≢ 0 → m' ≡ (one (hearing (sight_of m.0) (marked r)), []))
 
 abbrev pub heads : List Sight → List Sight
@@ -106,7 +106,7 @@ abbrev pub both_sights : SeatView → SeatView → SeatView
 both_sights v w = record { sights = v.sights ++ w.sights; out = v.out }
 
 -- Only the worker's own entries were added to the book that it saw, of the same graph, and the book is still sound.
-pub record AddsOwn (s : Sight) (book : Journal) : Type 0 where
+pub record AddsOwn (s : Sight) (book : BookView) : Type 0 where
   pub more : List Entry
   pub graph : book.graph ≡ s.seen.graph
   pub history : book.history ≡ s.seen.history ++ more

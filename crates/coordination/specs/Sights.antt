@@ -1,26 +1,26 @@
 -- What workers have seen of the one book.
 use Rattle.std.specs.Prelude.{ℕ, zero, suc, false, true, List, [], ◌∷◌, Some, None}
-use Rattle.resource_lock.specs.Outline.{Outline}
+use Rattle.resource_lock.specs.GraphView.{GraphView}
 use Rattle.resource_lock.specs.Opening.{opening_of}
 use Rattle.resource_lock.specs.declared.ids.WorkerId.{WorkerId}
-use Rattle.lock_journal.specs.Journal.{Journal}
+use Rattle.lock_journal.specs.BookView.{BookView}
 use Rattle.coordination.specs.declared.rule.Sight.{Sight}
 use Rattle.coordination.specs.declared.rule.SeatView.{SeatView}
 
-abbrev pub sight : ℕ → Journal → Sight
-sight w book = record { worker = record { 0 = w }; seen = book; stopped = false; told = None }
+abbrev pub sight : ℕ → BookView → Sight
+sight w book = record { worker = record { 0 = w }; seen = book; stopped = false; stopped_by = None }
 
 -- the worker has seen the book
-abbrev pub seeing : Sight → Journal → Sight
-seeing s book = record { worker = s.worker; seen = book; stopped = s.stopped; told = s.told }
+abbrev pub seeing : Sight → BookView → Sight
+seeing s book = record { worker = s.worker; seen = book; stopped = s.stopped; stopped_by = s.stopped_by }
 
 -- the worker has stopped the service
 abbrev pub stopping : Sight → Sight
-stopping s = record { worker = s.worker; seen = s.seen; stopped = true; told = s.told }
+stopping s = record { worker = s.worker; seen = s.seen; stopped = true; stopped_by = s.stopped_by }
 
--- the worker was told who has stopped the service
+-- the worker was stopped_by who has stopped the service
 abbrev pub hearing : Sight → WorkerId → Sight
-hearing s w = record { worker = s.worker; seen = s.seen; stopped = s.stopped; told = Some w }
+hearing s w = record { worker = s.worker; seen = s.seen; stopped = s.stopped; stopped_by = Some w }
 
 -- a seat of one worker, which holds nothing
 abbrev pub one : Sight → SeatView
@@ -39,17 +39,17 @@ abbrev pub all_of : List Sight → SeatView
 all_of ss = record { sights = ss; out = None }
 
 -- the first sights of so many workers, from w on
-abbrev pub sights_from : ℕ → ℕ → Journal → List Sight
+abbrev pub sights_from : ℕ → ℕ → BookView → List Sight
 sights_from w zero book = []
 sights_from w (suc n) book = sight w book ∷ sights_from (suc w) n book
 
-abbrev pub starting : Journal → SeatView
+abbrev pub starting : BookView → SeatView
 starting book = all_of (sights_from 0 book.graph.workers book)
 
-abbrev pub no_graph : Outline
-no_graph = record { locks = 0; workers = 0; max = 0; units = 0; tasks = []; actions = [] }
+abbrev pub no_graph : GraphView
+no_graph = record { locks = 0; workers = 0; max_leases = 0; units = 0; tasks = []; actions = [] }
 
-abbrev pub no_book : Journal
+abbrev pub no_book : BookView
 no_book = record { graph = no_graph; state = opening_of no_graph; history = []; spare_entries = 0; spare_changes = 0 }
 
 abbrev pub first_or : Sight → List Sight → Sight

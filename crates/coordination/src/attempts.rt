@@ -60,7 +60,7 @@ impl Slot {
         ensures some { IfSome result (λ w. pass.new.sight ≡ hearing pass.old.sight w) }
     {
         let by = self.marked(&mut pass.seat)?;
-        pass.told = Some(by);
+        pass.stopped_by = Some(by);
         Some(by)
     }
 }

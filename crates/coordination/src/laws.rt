@@ -1,8 +1,8 @@
 ghost use Rattle.resource_lock.specs.Opening.{opening_of};
-ghost use Rattle.resource_lock.specs.Outline.{Outline};
+ghost use Rattle.resource_lock.specs.GraphView.{GraphView};
 ghost use Rattle.coordination.specs.AtRest.{IsAtRest};
 
 /// In the state that a run begins in nobody has anything, so a service can be opened with it.
 pub fn openings_are_at_rest()
-    ensures { (g : Outline) → IsAtRest (opening_of g) }
+    ensures { (g : GraphView) → IsAtRest (opening_of g) }
 {}

@@ -1,8 +1,8 @@
 //! What a pass keeps of the book for its worker.
 ghost use Rattle.std.specs.Prelude.{◌≡◌, ◌<◌, [], IfOk, length, true, vec_capacity};
 ghost use Rattle.resource_lock.specs.Change.{make_all};
-ghost use Rattle.resource_lock.specs.Standing.{Standing, runs_by};
-ghost use Rattle.lock_journal.specs.Journal.{Journal};
+ghost use Rattle.resource_lock.specs.StateView.{StateView, runs_by};
+ghost use Rattle.lock_journal.specs.BookView.{BookView};
 ghost use Rattle.run_laws.specs.OwnChanges.{mark_before, with_if, without_if};
 ghost use Rattle.coordination.specs.Parts.{Follows, HasRoom, HasRoomFor, IsAfter, IsPartOf, IsResting, IsRoomOf, LeadsOn, marks_of};
 
@@ -60,7 +60,7 @@ impl Part {
 
     // Follows the book, on which a transform of the worker was run.
     pub fn follow(&mut self, worker: WorkerId, book: &Book, ran: &Result<Disposition, AllocError>)
-        requires { (before : Journal) × Follows worker before book.now ran.now self.old }
+        requires { (before : BookView) × Follows worker before book.now ran.now self.old }
         ensures part { IsPartOf book.now worker self.new }
         ensures room { HasRoom book.now.graph.locks (marks_of book.now.graph) self.new }
     {
@@ -77,8 +77,8 @@ impl Part {
 
     // Notes changes of the worker in order.
     fn note_all(&mut self, worker: WorkerId, changes: &[Change])
-        requires { (s : Standing) × LeadsOn s worker self.old changes.now }
-        ensures leads { (s : Standing) → LeadsOn s worker self.old changes.now → LeadsOn (make_all s worker changes.now) worker self.new [] }
+        requires { (s : StateView) × LeadsOn s worker self.old changes.now }
+        ensures leads { (s : StateView) → LeadsOn s worker self.old changes.now → LeadsOn (make_all s worker changes.now) worker self.new [] }
         ensures last { self.new.last ≡ self.old.last }
     {
         for change in changes {

@@ -1,5 +1,5 @@
 ghost use Rattle.std.specs.Prelude.{◌≡◌};
-ghost use Rattle.resource_lock.specs.Standing.{holding_of};
+ghost use Rattle.resource_lock.specs.StateView.{holding_of};
 ghost use Rattle.lock_journal.specs.Table.{owned};
 ghost use Rattle.run_laws.specs.Own.{claimed};
 ghost use Rattle.coordination.specs.Lasts.{last_of};
@@ -17,20 +17,20 @@ pub struct Pass {
     pub(crate) worker: WorkerId,
     pub(crate) part: Part,
     pub(crate) stopped: bool,
-    pub(crate) told: Option<WorkerId>,
+    pub(crate) stopped_by: Option<WorkerId>,
     pub(crate) seat: Seat<Book, SeatView>,
 }
 
 impl Model for Pass {
     ghost use Rattle.std.specs.Prelude.{◌≡◌};
     ghost use Rattle.coordination.specs.Sights.{sight_of};
-    ghost use Rattle.coordination.specs.Passes.{Seated, IsPass};
+    ghost use Rattle.coordination.specs.Passes.{PassView, IsPass};
 
-    ghost Value = { Seated };
+    ghost Value = { PassView };
 
     ghost view = { λ p. record { service = p.seat.table_id; sight = sight_of p.seat.me.0 } };
 
-    ghost invariant = { λ p. IsPass p.worker p.part p.seat.me × (p.stopped ≡ (sight_of p.seat.me.0).stopped) × (p.told ≡ (sight_of p.seat.me.0).told) };
+    ghost invariant = { λ p. IsPass p.worker p.part p.seat.me × (p.stopped ≡ (sight_of p.seat.me.0).stopped) × (p.stopped_by ≡ (sight_of p.seat.me.0).stopped_by) };
 }
 
 impl Pass {
@@ -91,10 +91,10 @@ impl Pass {
         self.stopped
     }
 
-    /// The worker that has stopped the service, once this one was told.
-    pub fn told(&self) -> Option<WorkerId>
-        ensures { result ≡ self.now.sight.told }
+    /// The worker that has stopped the service, once this one was stopped_by.
+    pub fn stopped_by(&self) -> Option<WorkerId>
+        ensures { result ≡ self.now.sight.stopped_by }
     {
-        self.told
+        self.stopped_by
     }
 }

@@ -1,6 +1,6 @@
 ghost use Rattle.std.specs.Prelude.{◌≡◌, ◌<◌, IfNone, IfSome};
 ghost use Rattle.resource_lock.specs.declared.ids.WorkerId.{WorkerId};
-ghost use Rattle.lock_journal.specs.Journal.{Journal};
+ghost use Rattle.lock_journal.specs.BookView.{BookView};
 
 use lock_journal::Book;
 use resource_lock::WorkerId;
@@ -11,10 +11,10 @@ pub trait Question {
     type Answer;
 
     /// Which answers a worker may get of a book.
-    ghost answers: { Self → WorkerId → Journal → Self.Answer → Type 0 };
+    ghost answers: { Self → WorkerId → BookView → Self.Answer → Type 0 };
 
     /// Where a worker may have to wait for an answer.
-    ghost waits_on: { Self → WorkerId → Journal → Type 0 };
+    ghost waits_on: { Self → WorkerId → BookView → Type 0 };
 
     /// The answer, or None where it is to be asked again once the book has another entry, be it a
     /// failed one. So the answer may depend on anything in the book.

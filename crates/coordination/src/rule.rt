@@ -15,8 +15,8 @@ pub struct Sight {
     pub seen: Book,
     /// Whether the worker has stopped the service.
     pub stopped: bool,
-    /// Who has stopped the service, once the worker was told.
-    pub told: Option<WorkerId>,
+    /// Who has stopped the service, once the worker was stopped_by.
+    pub stopped_by: Option<WorkerId>,
 }
 
 /// What a seat shows: the sights of its workers, and the book while it holds that. It is for
@@ -30,14 +30,14 @@ pub struct SeatView {
 
 /// What a service is opened with.
 #[derive(Drop)]
-pub struct Start {
+pub struct OpenedWith {
     pub book: Snapshot<Book>,
 }
 
 /// The rule of the table.
 pub struct Order;
 
-impl TableRule<Book, SeatView, Start> for Order {
+impl TableRule<Book, SeatView, OpenedWith> for Order {
     ghost holds = { λ key. Orderly key.book.value.graph };
 
     ghost first = { λ key. starting key.book.value };

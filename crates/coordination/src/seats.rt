@@ -9,7 +9,7 @@ ghost use Rattle.coordination.specs.Sights.{sights_from, starting, workers_from}
 
 use crate::parts::{Part, Room};
 use crate::passes::Pass;
-use crate::rule::{OneWorker, SeatView, Sit, Start};
+use crate::rule::{OneWorker, OpenedWith, SeatView, Sit};
 use crate::slots::Slot;
 use atomic_table::{Refused, Seat, Table};
 use lock_journal::Book;
@@ -21,7 +21,7 @@ impl Slot {
     pub fn new(
         alloc: Global,
         book: Book,
-        start: &Start,
+        start: &OpenedWith,
     ) -> Result<(Slot, Seat<Book, SeatView>), AllocError>
         requires start { start.now.book.value ≡ book }
         requires sound { IsSound book }
@@ -65,7 +65,7 @@ impl Slot {
                 worker: WorkerId(worker),
                 part,
                 stopped: false,
-                told: None,
+                stopped_by: None,
                 seat: own,
             })?;
         }
@@ -80,7 +80,7 @@ impl Slot {
         ensures agrees { All (λ p. Agrees p.sight.worker p.sight.seen result) passes.items }
         ensures rest { All (λ p. HoldsNothing p.sight) passes.items → IsAtRest result.state }
         ensures entries { All (λ e. e.worker.0 < result.graph.workers) result.history }
-        ensures told { All (λ p. (by : WorkerId) → p.sight.told ≡ Some by → All (λ q. q.sight.worker ≡ by → q.sight.stopped ≡ true) passes.items) passes.items }
+        ensures stopped_by { All (λ p. (by : WorkerId) → p.sight.stopped_by ≡ Some by → All (λ q. q.sight.worker ≡ by → q.sight.stopped ≡ true) passes.items) passes.items }
     {
         let Slot { table } = self;
         let (_, mut seat) = table.shared.load_new_seat::<Sit>(0);

@@ -10,7 +10,7 @@ use crate::lasts::last_numbers;
 use crate::parts::Room;
 use crate::passes::Pass;
 use crate::questions::Question;
-use crate::rule::Start;
+use crate::rule::OpenedWith;
 use crate::slots::Slot;
 use lock_journal::{Book, Disposition, Transform};
 use std::alloc::{AllocError, Global};
@@ -39,9 +39,9 @@ pub struct Coordination {
 }
 
 impl Model for Coordination {
-    ghost use Rattle.coordination.specs.Passes.{ServiceView};
+    ghost use Rattle.coordination.specs.Passes.{CoordinationView};
 
-    ghost Value = { ServiceView };
+    ghost Value = { CoordinationView };
 
     ghost view = { λ c. record { service = c.slot.table.shared.table_id; book = c.slot.table.shared.key.book.value } };
 }
@@ -66,7 +66,7 @@ impl Coordination {
         ensures workers { IfOk result (λ opened. map (λ p. p.sight.worker.0) opened.passes.items ≡ workers_from 0 book.graph.workers) }
         ensures service { IfOk result (λ opened. All (λ p. p.service ≡ opened.service.service) opened.passes.items) }
     {
-        let start = Start {
+        let start = OpenedWith {
             book: Snapshot::of(&book),
         };
         let workers = book.graph().workers();
@@ -135,7 +135,7 @@ impl Coordination {
     ///
     /// Where it has no answer yet, the call asks again after an entry, failed ones too, or answers
     /// that the service was stopped. It never gives `NoMemory`. After `Stopped` the pass is as before,
-    /// but that it is told by whom.
+    /// but that it is stopped_by by whom.
     pub fn ask<Q: Question, R: Wait>(
         &self,
         rt: &R,
@@ -191,7 +191,7 @@ impl Coordination {
     }
 
     /// Stops the service with this pass, and wakes all that wait. Where it was stopped before,
-    /// the pass is told by whom.
+    /// the pass is stopped_by by whom.
     pub fn stop_all<R: Wait>(&self, rt: &R, pass: &mut Pass)
         requires { pass.old.service ≡ self.now.service }
         ensures service { pass.new.service ≡ pass.old.service }
@@ -201,7 +201,7 @@ impl Coordination {
         let guard = self.gate.lock(rt);
         match self.slot.mark(&mut pass.seat, pass.worker) {
             None => pass.stopped = true,
-            Some(by) => pass.told = Some(by),
+            Some(by) => pass.stopped_by = Some(by),
         }
         self.tell_entry(guard, true);
     }
@@ -216,7 +216,7 @@ impl Coordination {
         ensures agrees { All (λ p. Agrees p.sight.worker p.sight.seen result) passes.items }
         ensures rest { All (λ p. HoldsNothing p.sight) passes.items → IsAtRest result.state }
         ensures entries { All (λ e. e.worker.0 < result.graph.workers) result.history }
-        ensures told { All (λ p. (by : WorkerId) → p.sight.told ≡ Some by → All (λ q. q.sight.worker ≡ by → q.sight.stopped ≡ true) passes.items) passes.items }
+        ensures stopped_by { All (λ p. (by : WorkerId) → p.sight.stopped_by ≡ Some by → All (λ q. q.sight.worker ≡ by → q.sight.stopped ≡ true) passes.items) passes.items }
     {
         let Coordination {
             slot,

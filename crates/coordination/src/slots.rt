@@ -9,7 +9,7 @@ ghost use Rattle.coordination.specs.Wakes.{last_lets_go_on};
 
 use crate::parts::Part;
 use crate::questions::Question;
-use crate::rule::{Hear, Order, PutBack, SeatView, Start, Stop, Take};
+use crate::rule::{Hear, OpenedWith, Order, PutBack, SeatView, Stop, Take};
 use crate::wakes::last_lets_go_on;
 use atomic_table::{Seat, Table};
 use lock_journal::{Book, Disposition, Transform};
@@ -20,7 +20,7 @@ use std::alloc::{AllocError, Global};
 /// stopped the service.
 #[derive(Drop)]
 pub struct Slot {
-    pub table: Table<Book, SeatView, Start, Order, Global>,
+    pub table: Table<Book, SeatView, OpenedWith, Order, Global>,
     pub ghost sized: { (table.shared.table_id.words ≡ 2) × (table.shared.table_id.slots ≡ 1) },
 }
 

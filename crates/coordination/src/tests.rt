@@ -1,5 +1,5 @@
 ghost use Rattle.std.specs.Prelude.{◌≡◌, ◌<◌, [], ◌∷◌, length, map, All, IfOk};
-ghost use Rattle.resource_lock.specs.Standing.{leases_out};
+ghost use Rattle.resource_lock.specs.StateView.{leases_out};
 ghost use Rattle.lock_journal.specs.declared.entries.Kind.TheVariants as kinds;
 
 use crate::{Coordination, Halt, Opened, Pass, Question, lets_go_on, openings_are_at_rest};
@@ -135,7 +135,7 @@ fn take_first_and_stop<R: Wait + Abort>(
     take_first(rt, service, pass)?;
     service.stop_all(rt, pass);
     assert!(rt; pass.stopped());
-    assert_eq!(rt; pass.told(), None);
+    assert_eq!(rt; pass.stopped_by(), None);
     Ok(())
 }
 
@@ -162,10 +162,10 @@ fn a_retry_after_a_stop_is_told_by_whom(rt: HostRuntime) -> Result<(), Fail> {
         mut passes,
     } = open_service(&rt, rt.alloc())?;
     take_first_and_stop(&rt, &service, &mut passes[0])?;
-    let told = service.with_state_lock(&rt, &mut passes[1], &TakeFirst);
-    assert_eq!(rt; told, Err(Halt::Stopped(WorkerId(0))));
+    let stopped_by = service.with_state_lock(&rt, &mut passes[1], &TakeFirst);
+    assert_eq!(rt; stopped_by, Err(Halt::Stopped(WorkerId(0))));
     assert!(rt; !passes[1].stopped());
-    assert_eq!(rt; passes[1].told(), Some(WorkerId(0)));
+    assert_eq!(rt; passes[1].stopped_by(), Some(WorkerId(0)));
     assert_eq!(rt; passes[1].last(), 0);
     assert!(rt; !passes[1].has_lease());
     assert!(rt; !passes[1].blocked());

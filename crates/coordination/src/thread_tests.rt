@@ -289,7 +289,7 @@ impl Play for StopOthers {
             let answer = service.ask(rt, pass, &EntriesFrom { least: 1 });
             assert_eq!(rt; answer.err(), stopped);
         }
-        assert_eq!(rt; pass.told(), Some(WorkerId(0)));
+        assert_eq!(rt; pass.stopped_by(), Some(WorkerId(0)));
     }
 }
 

@@ -1,21 +1,21 @@
 -- A stream is read in one way.
 use Rattle.std.proofs.Common.{◌≡◌, ℕ, List, ◌∷◌, Option, None, Some, length, drop, refl, sym, ap, ◌∙◌, arith, subst}
-use Rattle.daemon_protocol.specs.Start.{look, Cuts, nothing, first}
-use Rattle.daemon_protocol.specs.Reading.{Reading, Reads, IsEnd, refusal_at}
+use Rattle.daemon_protocol.specs.StreamStart.{look, Cuts, nothing, first}
+use Rattle.daemon_protocol.specs.DecoderView.{DecoderView, Reads, IsEnd, refusal_at}
 use Rattle.daemon_protocol.specs.declared.frames.Frame.{Frame}
 use Rattle.daemon_protocol.specs.declared.frames.FrameRefusal.{FrameRefusal}
 use Rattle.daemon_protocol.specs.declared.starts.Flaw.{Flaw}
-use Rattle.daemon_protocol.specs.declared.starts.Start.{Start}
-use Rattle.daemon_protocol.specs.declared.starts.Start.TheVariants.{Unfinished, Whole, Refused}
+use Rattle.daemon_protocol.specs.declared.starts.StreamStart.{StreamStart}
+use Rattle.daemon_protocol.specs.declared.starts.StreamStart.TheVariants.{Unfinished, Whole, Refused}
 
 abbrev IsNoFrame : List ℕ → Type 0
 IsNoFrame bytes = (f : Frame) (n : ℕ) → ¬ (look bytes ≡ Whole f n)
 
-abbrev frame_in : Frame → Start → Frame
+abbrev frame_in : Frame → StreamStart → Frame
 frame_in other (Whole f n) = f
 frame_in other _ = other
 
-abbrev length_in : Start → ℕ
+abbrev length_in : StreamStart → ℕ
 length_in (Whole f n) = n
 length_in _ = 0
 
@@ -34,7 +34,7 @@ no_frame : (rest : List ℕ) (place : ℕ) (held : List ℕ) (refusal : Option F
 no_frame rest place held None end f n is = let both : Unfinished ≡ Whole f n = sym end.0 ∙ is in cc
 no_frame rest place held (Some refusal) end f n is = let both : Refused end.0 ≡ Whole f n = sym end.1 ∙ is in cc
 
-abbrev flaw_in : Flaw → Start → Flaw
+abbrev flaw_in : Flaw → StreamStart → Flaw
 flaw_in other (Refused flaw) = flaw
 flaw_in other _ = other
 
@@ -46,7 +46,7 @@ same_end rest place held held' (Some refusal) (Some other) a b =
     let flaw : a.0 ≡ b.0 = ap (flaw_in a.0) (sym a.1 ∙ b.1) in
     (a.3 ∙ sym b.3, ap Some (a.2 ∙ ap (λ x. refusal_at x place) flaw ∙ sym b.2))
 
-pub one_reading : (stream : List ℕ) (fs gs : List Frame) (r q : Reading) → Reads stream fs r → Reads stream gs q → (fs ≡ gs) × (r ≡ q)
+pub one_reading : (stream : List ℕ) (fs gs : List Frame) (r q : DecoderView) → Reads stream fs r → Reads stream gs q → (fs ≡ gs) × (r ≡ q)
 one_reading stream fs gs r q a b =
     let cuts = same_cuts stream fs gs a.rest b.rest a.cuts b.cuts (no_frame a.rest r.place r.held r.refusal a.end) (no_frame b.rest q.place q.held q.refusal b.end) in
     let place : q.place ≡ r.place = omega (arith, a.place, b.place, ap length cuts.1) in

@@ -3,10 +3,10 @@ use Rattle.std.proofs.Common.{◌≡◌, ℕ, ◌+◌, ◌-◌, List, [], ◌∷
 use Rattle.std.proofs.lemmas.Bool.{true≢false}
 use Rattle.std.proofs.lemmas.List.{drop-drop}
 use Rattle.daemon_protocol.specs.declared.frames.Frame.{Frame}
-use Rattle.daemon_protocol.specs.declared.starts.Start.TheVariants.{Refused}
+use Rattle.daemon_protocol.specs.declared.starts.StreamStart.TheVariants.{Refused}
 use Rattle.daemon_protocol.specs.declared.starts.Flaw.TheVariants.{Field}
-use Rattle.daemon_protocol.specs.Start.{look, look_field, Cuts}
-use Rattle.daemon_protocol.specs.Reading.{IsPushed}
+use Rattle.daemon_protocol.specs.StreamStart.{look, look_field, Cuts}
+use Rattle.daemon_protocol.specs.DecoderView.{IsPushed}
 use Rattle.daemon_protocol.proofs.Settled.{cuts_more}
 use Rattle.daemon_protocol.proofs.Starting.{rest}
 

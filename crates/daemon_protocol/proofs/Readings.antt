@@ -3,12 +3,12 @@ use Rattle.std.proofs.Common.{◌≡◌, ℕ, ◌+◌, ◌≤◌, List, [], ◌+
 use Rattle.std.specs.Option.{is_some}
 use Rattle.std.proofs.lemmas.Bool.{true≢false, false≢true}
 use Rattle.std.proofs.lemmas.List.{append-nil}
-use Rattle.daemon_protocol.specs.Start.{look, Cuts, nothing}
-use Rattle.daemon_protocol.specs.Reading.{Reading, Reads, ReadsOn, IsEnd, nothing_read, start_with, after_frames}
+use Rattle.daemon_protocol.specs.StreamStart.{look, Cuts, nothing}
+use Rattle.daemon_protocol.specs.DecoderView.{DecoderView, Reads, ReadsOn, IsEnd, nothing_read, start_with, after_frames}
 use Rattle.daemon_protocol.specs.declared.frames.Frame.{Frame}
 use Rattle.daemon_protocol.specs.declared.frames.FrameRefusal.{FrameRefusal}
 use Rattle.daemon_protocol.specs.declared.starts.Flaw.{Flaw}
-use Rattle.daemon_protocol.specs.declared.starts.Start.TheVariants.{Unfinished, Refused}
+use Rattle.daemon_protocol.specs.declared.starts.StreamStart.TheVariants.{Unfinished, Refused}
 use Rattle.daemon_protocol.proofs.Settled.{settles, cuts_longer, cuts_piece}
 
 pub reads_nothing : Reads [] [] nothing_read
@@ -21,7 +21,7 @@ after : (held piece : List ℕ) (place n : ℕ) (flaw : Option Flaw) → look (d
 after held piece place n None is = (is, refl)
 after held piece place n (Some flaw) is = (flaw, is, refl, refl)
 
-same_place : (r : Reading) (n : ℕ) (flaw : Option Flaw) → (after_frames r n flaw).place ≡ r.place + n
+same_place : (r : DecoderView) (n : ℕ) (flaw : Option Flaw) → (after_frames r n flaw).place ≡ r.place + n
 same_place r n None = refl
 same_place r n (Some flaw) = refl
 
@@ -66,7 +66,7 @@ refused stream frames more held piece place None some none before = absurd (fals
 refused stream frames more held piece place (Some refusal) some none before =
     subst (λ fs. Reads (stream ++ piece) (frames ++ fs) record { held = held; place = place; refusal = Some refusal }) (sym none) (reads_same stream frames held piece place refusal before)
 
-pub reads_refused : (stream : List ℕ) (frames more : List Frame) (r : Reading) (piece : List ℕ) → is_some r.refusal ≡ true → more ≡ [] → Reads stream frames r → Reads (stream ++ piece) (frames ++ more) r
+pub reads_refused : (stream : List ℕ) (frames more : List Frame) (r : DecoderView) (piece : List ℕ) → is_some r.refusal ≡ true → more ≡ [] → Reads stream frames r → Reads (stream ++ piece) (frames ++ more) r
 reads_refused stream frames more r piece some none before = refused stream frames more r.held piece r.place r.refusal some none before
 
 fed : (stream : List ℕ) (frames more : List Frame) (held piece : List ℕ) (place n : ℕ) (flaw : Option Flaw) (refusal : Option FrameRefusal) → is_some refusal ≡ false
@@ -77,6 +77,6 @@ fed stream frames more held piece place n flaw (Some refusal) none within cuts e
 fed stream frames more held piece place n flaw None none within cuts end before = reads_more stream frames held piece place n more flaw before within cuts end
 
 -- a piece more, where there is no refusal yet
-pub reads_on : (stream : List ℕ) (frames more : List Frame) (r s : Reading) (piece : List ℕ) → is_some r.refusal ≡ false → ReadsOn (r.held ++ piece) more r s → Reads stream frames r → Reads (stream ++ piece) (frames ++ more) s
+pub reads_on : (stream : List ℕ) (frames more : List Frame) (r s : DecoderView) (piece : List ℕ) → is_some r.refusal ≡ false → ReadsOn (r.held ++ piece) more r s → Reads stream frames r → Reads (stream ++ piece) (frames ++ more) s
 reads_on stream frames more r s piece none on before =
     subst (Reads (stream ++ piece) (frames ++ more)) (sym on.reading) (fed stream frames more r.held piece r.place on.len on.flaw r.refusal none on.within on.cuts on.end before)

@@ -5,10 +5,10 @@ use Rattle.std.proofs.lemmas.Bool.{cases_Bool}
 use Rattle.std.proofs.lemmas.Bool.Decides.{nat_tests}
 use Rattle.std.proofs.lemmas.List.{take-append-le, drop-append-le, length-drop}
 use Rattle.daemon_protocol.specs.declared.frames.Frame.{Frame}
-use Rattle.daemon_protocol.specs.declared.starts.Start.TheVariants.{Unfinished, Whole, Refused}
+use Rattle.daemon_protocol.specs.declared.starts.StreamStart.TheVariants.{Unfinished, Whole, Refused}
 use Rattle.daemon_protocol.specs.declared.starts.Flaw.TheVariants.{Length, Tag}
 use Rattle.daemon_protocol.specs.Bodies.{frame_of}
-use Rattle.daemon_protocol.specs.Start.{look, look_length, look_body, look_field}
+use Rattle.daemon_protocol.specs.StreamStart.{look, look_length, look_body, look_field}
 use Rattle.daemon_protocol.proofs.Settled.{enough, fits_body}
 
 -- the length of the body, by the bytes behind the tag

@@ -6,16 +6,16 @@ use Rattle.std.proofs.lemmas.Bool.{and_from, le-leb, eq-eqb, cond-true, cond-fal
 use Rattle.std.proofs.lemmas.Bool.Decides.{nat_tests}
 use Rattle.std.proofs.lemmas.Nat.{from_be_bytes-to_be_bytes_2, from_be_bytes-to_be_bytes_4, from_be_bytes-to_be_bytes_8}
 use Rattle.item_actions.specs.Forms.{is_file_name}
-use Rattle.item_actions.specs.declared.actions.Action.{Action}
-use Rattle.item_actions.specs.declared.actions.Action.TheVariants as actions
+use Rattle.item_actions.specs.declared.actions.ItemAction.{ItemAction}
+use Rattle.item_actions.specs.declared.actions.ItemAction.TheVariants as actions
 use Rattle.item_actions.specs.declared.outcomes.Outcome.{Outcome}
 use Rattle.item_actions.specs.declared.outcomes.Outcome.TheVariants as outcomes
 use Rattle.daemon_protocol.specs.Bodies.{action_at, count_at, request_after, request_with, request_of, outcome_of, reply_with, reply_of, frame_of}
 use Rattle.daemon_protocol.specs.Spelling.{action_bytes, outcome_bytes, body, spelling, IsValid, ActionFits, OutcomeFits, FrameFits}
-use Rattle.daemon_protocol.specs.Start.{look, look_body, look_field}
+use Rattle.daemon_protocol.specs.StreamStart.{look, look_body, look_field}
 use Rattle.daemon_protocol.specs.declared.frames.Frame.{Frame}
 use Rattle.daemon_protocol.specs.declared.frames.Frame.TheVariants.{Request, Reply, Stop}
-use Rattle.daemon_protocol.specs.declared.starts.Start.TheVariants.{Whole}
+use Rattle.daemon_protocol.specs.declared.starts.StreamStart.TheVariants.{Whole}
 use Rattle.daemon_protocol.proofs.Names.{short}
 
 not_less : (a n : ℕ) → n ≤ a → ltb a n ≡ false
@@ -28,7 +28,7 @@ count_read needle rest some few =
     cond-true _ _ _ (and_from (leb 1 n && leb n 64) (leb n (length (needle ++ rest))) (and_from (leb 1 n) (leb n 64) (le-leb _ _ some) (le-leb _ _ few)) (le-leb _ _ within))
     ∙ ap (λ xs. Some (actions.Count xs, n + 2)) (take-append_seam needle rest)
 
-action_read : (a : Action) (rest : List ℕ) → ActionFits a → action_at (action_bytes a ++ rest) ≡ Some (a, length (action_bytes a))
+action_read : (a : ItemAction) (rest : List ℕ) → ActionFits a → action_at (action_bytes a ++ rest) ≡ Some (a, length (action_bytes a))
 action_read actions.Lines rest fits = refl
 action_read actions.Words rest fits = refl
 action_read actions.Bytes rest fits = refl
@@ -38,14 +38,14 @@ action_read (actions.Count needle) rest fits =
     count_read needle rest fits.0 fits.1 ∙ ap (λ n. Some (actions.Count needle, n)) more
 action_read actions.Sha256 rest fits = refl
 
-file_read : (unit : ℕ) (a : Action) (file : List ℕ) → is_file_name file ≡ true → request_with unit a (to_be_bytes w16 (length file) ++ file) ≡ Some (Request record { unit = unit; action = a; file = file })
+file_read : (unit : ℕ) (a : ItemAction) (file : List ℕ) → is_file_name file ≡ true → request_with unit a (to_be_bytes w16 (length file) ++ file) ≡ Some (Request record { unit = unit; action = a; file = file })
 file_read unit a file is =
     let few = short file is in
     let len : from_be_bytes w16 (to_be_bytes w16 (length file)) ≡ length file = from_be_bytes-to_be_bytes_2 (length file) (omega arith) in
     cond-false _ _ _ (not_less (length (to_be_bytes w16 (length file) ++ file)) 2 (omega arith))
     ∙ cond-true _ _ _ (and_from (eqb (from_be_bytes w16 (to_be_bytes w16 (length file))) (length file)) (is_file_name file) (eq-eqb _ _ len) is)
 
-request_read : (unit : ℕ) (a : Action) (file : List ℕ) → unit < 2 ^ 32 → ActionFits a → is_file_name file ≡ true
+request_read : (unit : ℕ) (a : ItemAction) (file : List ℕ) → unit < 2 ^ 32 → ActionFits a → is_file_name file ≡ true
     → request_of (to_be_bytes w32 unit ++ (action_bytes a ++ (to_be_bytes w16 (length file) ++ file))) ≡ Some (Request record { unit = unit; action = a; file = file })
 request_read unit a file below fits is =
     let rest = to_be_bytes w16 (length file) ++ file in
@@ -83,7 +83,7 @@ look_read tag b after f known few is =
     ∙ ap (λ xs. look_field n (frame_of tag xs)) (take-append_seam b after)
     ∙ ap (look_field n) is
 
-few_action : (a : Action) → ActionFits a → length (action_bytes a) ≤ 66
+few_action : (a : ItemAction) → ActionFits a → length (action_bytes a) ≤ 66
 few_action actions.Lines fits = omega arith
 few_action actions.Words fits = omega arith
 few_action actions.Bytes fits = omega arith

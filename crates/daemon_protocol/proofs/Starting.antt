@@ -2,8 +2,8 @@
 use Rattle.std.proofs.Common.{◌≡◌, ℕ, ◌-◌, ◌≤◌, List, [], ◌∷◌, false, cond, ltb, length, get_or, take, drop, sym, ap, ◌∙◌, arith, take_all, length-drop}
 use Rattle.std.specs.Int.{w32, from_be_bytes}
 use Rattle.std.proofs.lemmas.Bool.Decides.{nat_tests}
-use Rattle.daemon_protocol.specs.Start.{look, look_tag, look_length, look_body}
-use Rattle.daemon_protocol.specs.declared.starts.Start.TheVariants.{Unfinished}
+use Rattle.daemon_protocol.specs.StreamStart.{look, look_tag, look_length, look_body}
+use Rattle.daemon_protocol.specs.declared.starts.StreamStart.TheVariants.{Unfinished}
 
 pub rest : (bytes : List ℕ) (n : ℕ) → take (length bytes - n) (drop n bytes) ≡ drop n bytes
 rest bytes n = take_all _ _ (omega (arith, length-drop n bytes))

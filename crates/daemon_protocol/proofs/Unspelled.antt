@@ -7,16 +7,16 @@ use Rattle.std.proofs.lemmas.Bool.Decides.{nat_tests}
 use Rattle.std.proofs.lemmas.List.{get_or-drop, get_or-take, get_or_past, nil_from_length}
 use Rattle.std.proofs.lemmas.Nat.{be_bytes_2, be_bytes_4, be_bytes_8}
 use Rattle.item_actions.specs.Forms.{is_file_name}
-use Rattle.item_actions.specs.declared.actions.Action.{Action}
-use Rattle.item_actions.specs.declared.actions.Action.TheVariants as actions
+use Rattle.item_actions.specs.declared.actions.ItemAction.{ItemAction}
+use Rattle.item_actions.specs.declared.actions.ItemAction.TheVariants as actions
 use Rattle.item_actions.specs.declared.outcomes.Outcome.{Outcome}
 use Rattle.item_actions.specs.declared.outcomes.Outcome.TheVariants as outcomes
 use Rattle.daemon_protocol.specs.Bodies.{action_at, count_at, request_after, request_with, request_of, cause_of, outcome_of, reply_with, reply_of, frame_of}
 use Rattle.daemon_protocol.specs.Spelling.{action_bytes, outcome_bytes, body, tag, spelling, IsValid}
-use Rattle.daemon_protocol.specs.Start.{look, look_length, look_body, look_field}
+use Rattle.daemon_protocol.specs.StreamStart.{look, look_length, look_body, look_field}
 use Rattle.daemon_protocol.specs.declared.frames.Frame.{Frame}
-use Rattle.daemon_protocol.specs.declared.starts.Start.{Start}
-use Rattle.daemon_protocol.specs.declared.starts.Start.TheVariants.{Unfinished, Whole, Refused}
+use Rattle.daemon_protocol.specs.declared.starts.StreamStart.{StreamStart}
+use Rattle.daemon_protocol.specs.declared.starts.StreamStart.TheVariants.{Unfinished, Whole, Refused}
 
 enough : (a n : ℕ) → ltb a n ≡ false → n ≤ a
 enough a n other = grind (arith, nat_tests)
@@ -34,7 +34,7 @@ bytes_before n bytes are i = ⊎_elim
     (cases_lt i n)
 
 -- the action of its bytes
-abbrev IsAction : List ℕ → Action × ℕ → Type 0
+abbrev IsAction : List ℕ → ItemAction × ℕ → Type 0
 IsAction bytes a = take a.1 bytes ≡ action_bytes a.0
 
 one : (b c : ℕ) (after : List ℕ) → eqb b c ≡ true → take 1 (b ∷ after) ≡ c ∷ []
@@ -53,7 +53,7 @@ count_is b (n ∷ bytes) five =
 action_is : (bytes : List ℕ) → IfSome (action_at bytes) (IsAction bytes)
 action_is [] = tt
 action_is (b ∷ after) =
-    let P : Option (Action × ℕ) → Type 0 = λ o. IfSome o (IsAction (b ∷ after)) in
+    let P : Option (ItemAction × ℕ) → Type 0 = λ o. IfSome o (IsAction (b ∷ after)) in
     cond_both (eqb b 1) _ _ P (one b 1 after) (λ _.
     cond_both (eqb b 2) _ _ P (one b 2 after) (λ _.
     cond_both (eqb b 3) _ _ P (one b 3 after) (λ _.
@@ -70,7 +70,7 @@ four bytes are enough =
 abbrev HasBody : ℕ → List ℕ → Frame → Type 0
 HasBody t bytes f = (t ≡ tag f) × (body f ≡ bytes) × IsValid f
 
-file_is : (unit : ℕ) (a : Action) (before bytes : List ℕ) → AreBytes bytes → to_be_bytes w32 unit ++ (action_bytes a ++ bytes) ≡ before → IfSome (request_with unit a bytes) (HasBody 1 before)
+file_is : (unit : ℕ) (a : ItemAction) (before bytes : List ℕ) → AreBytes bytes → to_be_bytes w32 unit ++ (action_bytes a ++ bytes) ≡ before → IfSome (request_with unit a bytes) (HasBody 1 before)
 file_is unit a before bytes are whole =
     let P : Option Frame → Type 0 = λ o. IfSome o (HasBody 1 before) in
     cond_both (ltb (length bytes) 2) _ _ P (λ _. tt) (λ some.
@@ -90,7 +90,7 @@ request_is bytes are =
     unit : ℕ
     unit = from_be_bytes w32 (take 4 bytes)
 
-    after : (o : Option (Action × ℕ)) → to_be_bytes w32 unit ++ drop 4 bytes ≡ bytes → IfSome o (IsAction (drop 4 bytes)) → IfSome (request_after unit (drop 4 bytes) o) (HasBody 1 bytes)
+    after : (o : Option (ItemAction × ℕ)) → to_be_bytes w32 unit ++ drop 4 bytes ≡ bytes → IfSome o (IsAction (drop 4 bytes)) → IfSome (request_after unit (drop 4 bytes) o) (HasBody 1 bytes)
     after None whole is = tt
     after (Some a) whole is =
         file_is unit a.0 bytes (drop a.1 (drop 4 bytes)) (bytes_after a.1 (drop 4 bytes) (bytes_after 4 bytes are))
@@ -144,7 +144,7 @@ frame_is t bytes are known =
     third other another = grind (arith, nat_tests)
 
 -- where a frame stands, its bytes do
-abbrev StandsFor : List ℕ → Start → Type 0
+abbrev StandsFor : List ℕ → StreamStart → Type 0
 StandsFor bytes Unfinished = Unit {0}
 StandsFor bytes (Whole f n) = (n ≤ length bytes) × (take n bytes ≡ spelling f) × IsValid f
 StandsFor bytes (Refused flaw) = Unit {0}

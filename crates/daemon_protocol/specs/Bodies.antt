@@ -2,20 +2,20 @@
 use Rattle.std.specs.Prelude.{ℕ, ◌+◌, List, [], ◌∷◌, Option, None, Some, length, take, drop, ◌==◌, ◌&&◌, nat_le, nat_lt, if◌then◌else◌}
 use Rattle.std.specs.Int.{w16, w32, w64, from_be_bytes}
 use Rattle.item_actions.specs.Forms.{is_file_name}
-use Rattle.item_actions.specs.declared.actions.Action.{Action}
-use Rattle.item_actions.specs.declared.actions.Action.TheVariants as actions
+use Rattle.item_actions.specs.declared.actions.ItemAction.{ItemAction}
+use Rattle.item_actions.specs.declared.actions.ItemAction.TheVariants as actions
 use Rattle.item_actions.specs.declared.outcomes.Outcome.{Outcome}
 use Rattle.item_actions.specs.declared.outcomes.Outcome.TheVariants as outcomes
 use Rattle.daemon_protocol.specs.declared.frames.Frame.{Frame}
 use Rattle.daemon_protocol.specs.declared.frames.Frame.TheVariants.{Request, Reply, Stop}
 
 -- the needle's length, and the needle
-abbrev pub count_at : List ℕ → Option (Action × ℕ)
+abbrev pub count_at : List ℕ → Option (ItemAction × ℕ)
 count_at [] = None
 count_at (n ∷ after) = if nat_le 1 n && nat_le n 64 && nat_le n (length after) then Some (actions.Count (take n after), n + 2) else None
 
 -- the action at the start of the bytes, and how many bytes it takes up
-abbrev pub action_at : List ℕ → Option (Action × ℕ)
+abbrev pub action_at : List ℕ → Option (ItemAction × ℕ)
 action_at [] = None
 action_at (b ∷ after) =
     if b == 1 then Some (actions.Lines, 1)
@@ -26,13 +26,13 @@ action_at (b ∷ after) =
     else (if b == 6 then Some (actions.Sha256, 1) else None)))))
 
 -- the length of the file's name, and the name
-abbrev pub request_with : ℕ → Action → List ℕ → Option Frame
+abbrev pub request_with : ℕ → ItemAction → List ℕ → Option Frame
 request_with unit action bytes =
     if nat_lt (length bytes) 2 then None
     else (if from_be_bytes w16 (take 2 bytes) == length (drop 2 bytes) && is_file_name (drop 2 bytes)
     then Some (Request record { unit = unit; action = action; file = drop 2 bytes }) else None)
 
-abbrev pub request_after : ℕ → List ℕ → Option (Action × ℕ) → Option Frame
+abbrev pub request_after : ℕ → List ℕ → Option (ItemAction × ℕ) → Option Frame
 request_after unit bytes None = None
 request_after unit bytes (Some a) = request_with unit a.0 (drop a.1 bytes)
 

@@ -1,4 +1,4 @@
 pub mod Bodies
-pub mod Reading
+pub mod DecoderView
 pub mod Spelling
-pub mod Start
+pub mod StreamStart

@@ -2,14 +2,14 @@
 use Rattle.std.specs.Prelude.{◌≡◌, ◌≢◌, ℕ, ◌<◌, ◌≤◌, ◌^◌, List, [], ◌∷◌, ◌++◌, length, true}
 use Rattle.std.specs.Int.{w16, w32, w64, to_be_bytes}
 use Rattle.item_actions.specs.Forms.{is_file_name}
-use Rattle.item_actions.specs.declared.actions.Action.{Action}
-use Rattle.item_actions.specs.declared.actions.Action.TheVariants as actions
+use Rattle.item_actions.specs.declared.actions.ItemAction.{ItemAction}
+use Rattle.item_actions.specs.declared.actions.ItemAction.TheVariants as actions
 use Rattle.item_actions.specs.declared.outcomes.Outcome.{Outcome}
 use Rattle.item_actions.specs.declared.outcomes.Outcome.TheVariants as outcomes
 use Rattle.daemon_protocol.specs.declared.frames.Frame.{Frame}
 use Rattle.daemon_protocol.specs.declared.frames.Frame.TheVariants.{Request, Reply, Stop}
 
-abbrev pub action_bytes : Action → List ℕ
+abbrev pub action_bytes : ItemAction → List ℕ
 action_bytes actions.Lines = 1 ∷ []
 action_bytes actions.Words = 2 ∷ []
 action_bytes actions.Bytes = 3 ∷ []
@@ -47,7 +47,7 @@ IsValid (Reply r) = r.outcome ≢ outcomes.Skipped
 IsValid Stop = Unit {0}
 
 -- what the types of the fields hold
-abbrev pub ActionFits : Action → Type 0
+abbrev pub ActionFits : ItemAction → Type 0
 ActionFits (actions.Count needle) = (1 ≤ length needle) × (length needle ≤ 64)
 ActionFits _ = Unit {0}
 

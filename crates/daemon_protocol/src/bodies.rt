@@ -5,7 +5,7 @@ ghost use Rattle.item_actions.specs.declared.outcomes.Outcome.TheVariants.{Numbe
 ghost use Rattle.daemon_protocol.specs.Bodies.{frame_of, request_of, request_with, action_at, count_at, reply_of, outcome_of, cause_of, stop_of};
 
 use crate::frames::{Frame, Reply, Request};
-use item_actions::{Action, Needle, Outcome, Text, is_file_name};
+use item_actions::{ItemAction, Needle, Outcome, Text, is_file_name};
 use std::alloc::{AllocError, Global};
 use std::str;
 
@@ -39,7 +39,7 @@ pub(crate) fn request_of(alloc: Global, body: &[u8]) -> Result<Option<Frame>, Al
 fn request_with(
     alloc: Global,
     unit: u32,
-    action: Action,
+    action: ItemAction,
     bytes: &[u8],
 ) -> Result<Option<Frame>, AllocError>
     ensures { IfOk result (λ f. f ≡ request_with unit action bytes.now) }
@@ -71,22 +71,22 @@ fn file_of(alloc: Global, name: &[u8]) -> Result<Option<Text>, AllocError>
 
 // The action at the start of the bytes, and how many bytes it takes up.
 #[inline(always)]
-fn action_at(bytes: &[u8]) -> Option<(Action, usize)>
+fn action_at(bytes: &[u8]) -> Option<(ItemAction, usize)>
     ensures action { result ≡ action_at bytes.now }
     ensures within { IfSome result (λ a. a.1 ≤ length bytes.now) }
 {
     match bytes {
-        [1, ..] => Some((Action::Lines, 1)),
-        [2, ..] => Some((Action::Words, 1)),
-        [3, ..] => Some((Action::Bytes, 1)),
-        [4, ..] => Some((Action::Longest, 1)),
+        [1, ..] => Some((ItemAction::Lines, 1)),
+        [2, ..] => Some((ItemAction::Words, 1)),
+        [3, ..] => Some((ItemAction::Bytes, 1)),
+        [4, ..] => Some((ItemAction::Longest, 1)),
         [5, after @ ..] => count_at(after),
-        [6, ..] => Some((Action::Sha256, 1)),
+        [6, ..] => Some((ItemAction::Sha256, 1)),
         _ => None,
     }
 }
 
-fn count_at(bytes: &[u8]) -> Option<(Action, usize)>
+fn count_at(bytes: &[u8]) -> Option<(ItemAction, usize)>
     ensures action { result ≡ count_at bytes.now }
     ensures within { IfSome result (λ a. a.1 ≤ length bytes.now + 1) }
 {
@@ -98,7 +98,7 @@ fn count_at(bytes: &[u8]) -> Option<(Action, usize)>
         return None;
     }
     match Needle::of(&after[..len]) {
-        Some(needle) => Some((Action::Count(needle), len + 2)),
+        Some(needle) => Some((ItemAction::Count(needle), len + 2)),
         None => None,
     }
 }

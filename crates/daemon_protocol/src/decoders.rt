@@ -1,7 +1,7 @@
 ghost use Rattle.std.specs.Prelude.{◌≡◌, ◌+◌, ◌<◌, ◌≤◌, ◌^◌, ◌++◌, ℕ, List, [], length, drop, IfOk, OnErr, IsSome};
 ghost use Rattle.daemon_protocol.specs.declared.frames.Frame.{Frame};
-ghost use Rattle.daemon_protocol.specs.Start.{look, Cuts};
-ghost use Rattle.daemon_protocol.specs.Reading.{Reads, nothing_read, refusal_at, start_with, after_frames, IsPushed, ReadsOn};
+ghost use Rattle.daemon_protocol.specs.StreamStart.{look, Cuts};
+ghost use Rattle.daemon_protocol.specs.DecoderView.{Reads, nothing_read, refusal_at, start_with, after_frames, IsPushed, ReadsOn};
 ghost use Rattle.daemon_protocol.specs.Bodies.{frame_of};
 
 use crate::bodies::{reply_of, request_of, stop_of};
@@ -39,9 +39,9 @@ pub struct Decoder {
 }
 
 impl Model for Decoder {
-    ghost use Rattle.daemon_protocol.specs.Reading.{Reading};
+    ghost use Rattle.daemon_protocol.specs.DecoderView.{DecoderView};
 
-    ghost Value = { Reading };
+    ghost Value = { DecoderView };
 
     ghost view = { λ d. record { held = d.held.items; place = d.place; refusal = d.refusal } };
 }

@@ -2,7 +2,7 @@ ghost use Rattle.std.specs.Prelude.{◌≡◌, ◌≤◌, ◌++◌, length, IfOk
 ghost use Rattle.daemon_protocol.specs.Spelling.{action_bytes, outcome_bytes, body, tag, spelling, IsValid};
 
 use crate::frames::Frame;
-use item_actions::{Action, Outcome};
+use item_actions::{ItemAction, Outcome};
 use std::alloc::{AllocError, Global};
 
 /// How many bytes come before a frame's body: its tag, and the body's length.
@@ -43,12 +43,12 @@ fn body_len(frame: &Frame) -> usize
     }
 }
 
-fn action_len(action: &Action) -> usize
+fn action_len(action: &ItemAction) -> usize
     ensures len { result ≡ length (action_bytes action.now) }
     ensures few { result ≤ 66 }
 {
     match action {
-        Action::Count(needle) => 2 + needle.bytes().len(),
+        ItemAction::Count(needle) => 2 + needle.bytes().len(),
         _ => 1,
     }
 }
@@ -86,20 +86,20 @@ fn push_body(bytes: &mut Vec<u8>, frame: &Frame) -> Result<(), AllocError>
     Ok(())
 }
 
-fn push_action(bytes: &mut Vec<u8>, action: &Action) -> Result<(), AllocError>
+fn push_action(bytes: &mut Vec<u8>, action: &ItemAction) -> Result<(), AllocError>
     ensures { IfOk result (λ _. bytes.new.items ≡ bytes.old.items ++ action_bytes action.now) }
 {
     match action {
-        Action::Lines => bytes.push(1)?,
-        Action::Words => bytes.push(2)?,
-        Action::Bytes => bytes.push(3)?,
-        Action::Longest => bytes.push(4)?,
-        Action::Count(needle) => {
+        ItemAction::Lines => bytes.push(1)?,
+        ItemAction::Words => bytes.push(2)?,
+        ItemAction::Bytes => bytes.push(3)?,
+        ItemAction::Longest => bytes.push(4)?,
+        ItemAction::Count(needle) => {
             let needle = needle.bytes();
             bytes.extend_from_slice(&[5, needle.len() as u8])?;
             bytes.extend_from_slice(needle)?;
         }
-        Action::Sha256 => bytes.push(6)?,
+        ItemAction::Sha256 => bytes.push(6)?,
     }
     Ok(())
 }

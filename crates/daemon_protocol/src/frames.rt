@@ -1,10 +1,10 @@
-use item_actions::{Action, Outcome, Text};
+use item_actions::{ItemAction, Outcome, Text};
 
 /// A unit of work that a daemon is asked to do.
 #[derive(Debug, Drop)]
 pub struct Request {
     pub unit: u32,
-    pub action: Action,
+    pub action: ItemAction,
     /// The name of a file, of the form that `item_actions::is_file_name` tests.
     pub file: Text,
 }

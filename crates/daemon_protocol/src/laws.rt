@@ -1,9 +1,9 @@
 ghost use Rattle.std.specs.Prelude.{◌≡◌, ◌<◌, ◌≤◌, ◌++◌, ℕ, List, length, take, slice_index};
 ghost use Rattle.daemon_protocol.specs.declared.frames.Frame.{Frame};
-ghost use Rattle.daemon_protocol.specs.declared.starts.Start.TheVariants.{Whole};
+ghost use Rattle.daemon_protocol.specs.declared.starts.StreamStart.TheVariants.{Whole};
 ghost use Rattle.daemon_protocol.specs.Spelling.{spelling, IsValid, FrameFits};
-ghost use Rattle.daemon_protocol.specs.Reading.{Reading, Reads};
-ghost use Rattle.daemon_protocol.specs.Start.{look};
+ghost use Rattle.daemon_protocol.specs.DecoderView.{DecoderView, Reads};
+ghost use Rattle.daemon_protocol.specs.StreamStart.{look};
 
 /// The bytes of a valid frame are read as that frame, whatever follows. So each frame has bytes of its own, and
 /// no frame's bytes begin with those of another.
@@ -19,5 +19,5 @@ pub fn read_frames_are_spelled()
 
 /// A stream has one reading: its frames, and what follows them.
 pub fn streams_have_one_reading()
-    ensures { (stream : List ℕ) (frames others : List Frame) (r q : Reading) → Reads stream frames r → Reads stream others q → (frames ≡ others) × (r ≡ q) }
+    ensures { (stream : List ℕ) (frames others : List Frame) (r q : DecoderView) → Reads stream frames r → Reads stream others q → (frames ≡ others) × (r ≡ q) }
 {}

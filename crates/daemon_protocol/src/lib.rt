@@ -12,7 +12,7 @@ pub use decoders::{Decoder, Fed};
 pub use encoding::encode;
 pub use frames::{Frame, FrameRefusal, Reply, Request};
 pub use laws::{read_frames_are_spelled, spelled_frames_are_read, streams_have_one_reading};
-pub use starts::{Flaw, Start, lacking, look};
+pub use starts::{Flaw, StreamStart, lacking, look};
 
 #[cfg(test)]
 mod tests;

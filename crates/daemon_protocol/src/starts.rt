@@ -1,7 +1,7 @@
 ghost use Rattle.std.specs.Prelude.{◌≡◌, ◌<◌, ◌≤◌, ◌+◌, ◌^◌, ◌++◌, ℕ, List, length, IfOk};
-ghost use Rattle.daemon_protocol.specs.Start.{look, look_tag, look_length, look_body, look_field, start_of, FitsBehind};
+ghost use Rattle.daemon_protocol.specs.StreamStart.{look, look_tag, look_length, look_body, look_field, start_of, FitsBehind};
 ghost use Rattle.daemon_protocol.specs.declared.frames.Frame.{Frame};
-ghost use Rattle.daemon_protocol.specs.declared.starts.Start.TheVariants.{Unfinished, Whole};
+ghost use Rattle.daemon_protocol.specs.declared.starts.StreamStart.TheVariants.{Unfinished, Whole};
 
 use crate::bodies::{frame_of, number_of};
 use crate::encoding::HEAD;
@@ -9,7 +9,7 @@ use crate::frames::Frame;
 use std::alloc::{AllocError, Global};
 
 /// The most bytes of a body.
-const MOST_BYTES: usize = 65_536;
+const MAX_BODY_BYTES: usize = 65_536;
 
 /// What is wrong with bytes that begin no frame.
 #[derive(Clone, Copy, Debug, PartialEq, Eq)]
@@ -24,7 +24,7 @@ pub enum Flaw {
 
 /// What stands at the start of bytes.
 #[derive(Debug, Drop)]
-pub enum Start {
+pub enum StreamStart {
     /// Too few bytes to tell.
     Unfinished,
     /// A frame, and how many bytes it takes up.
@@ -44,16 +44,16 @@ pub(crate) enum Head<'a> {
 }
 
 /// What stands at the start of the bytes.
-pub fn look(alloc: Global, bytes: &[u8]) -> Result<Start, AllocError>
+pub fn look(alloc: Global, bytes: &[u8]) -> Result<StreamStart, AllocError>
     ensures { IfOk result (λ s. s ≡ look bytes.now) }
 {
     match head_of(bytes) {
-        Head::Unfinished => Ok(Start::Unfinished),
+        Head::Unfinished => Ok(StreamStart::Unfinished),
         Head::Whole(tag, body) => {
             let frame = frame_of(alloc, tag, body)?;
             Ok(look_field(body.len(), frame))
         }
-        Head::Refused(flaw) => Ok(Start::Refused(flaw)),
+        Head::Refused(flaw) => Ok(StreamStart::Refused(flaw)),
     }
 }
 
@@ -97,7 +97,7 @@ fn head_of_body(tag: u8, len: usize, bytes: &[u8]) -> Head<'_>
     ensures start { start_of result ≡ look_body tag len bytes.now }
     ensures fits { FitsBehind 0 result (length bytes.now) }
 {
-    if MOST_BYTES < len {
+    if MAX_BODY_BYTES < len {
         return Head::Refused(Flaw::Length);
     }
     if bytes.len() < len {
@@ -106,13 +106,13 @@ fn head_of_body(tag: u8, len: usize, bytes: &[u8]) -> Head<'_>
     Head::Whole(tag, &bytes[..len])
 }
 
-fn look_field(len: usize, frame: Option<Frame>) -> Start
+fn look_field(len: usize, frame: Option<Frame>) -> StreamStart
     requires { 5 + len < 2 ^ 64 }
     ensures { result ≡ look_field len frame }
 {
     match frame {
-        Some(frame) => Start::Whole(frame, HEAD + len),
-        None => Start::Refused(Flaw::Field),
+        Some(frame) => StreamStart::Whole(frame, HEAD + len),
+        None => StreamStart::Refused(Flaw::Field),
     }
 }
 

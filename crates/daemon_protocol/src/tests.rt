@@ -1,5 +1,5 @@
 use crate::{Decoder, Fed, Frame, FrameRefusal, Reply, Request, encode};
-use item_actions::{Action, Needle, Outcome, Text, is_file_name};
+use item_actions::{ItemAction, Needle, Outcome, Text, is_file_name};
 use std::alloc::Global;
 use std::process::Abort;
 use std::test::Fail;
@@ -212,15 +212,15 @@ fn a_refusal_after_frames(rt: HostRuntime) -> Result<(), Fail> {
 #[test]
 fn requests_of_each_action(rt: HostRuntime) -> Result<(), Fail> {
     let mut actions = vec![in rt.alloc();
-        Action::Lines,
-        Action::Words,
-        Action::Bytes,
-        Action::Longest,
-        Action::Sha256,
+        ItemAction::Lines,
+        ItemAction::Words,
+        ItemAction::Bytes,
+        ItemAction::Longest,
+        ItemAction::Sha256,
     ]?;
     for needle in [b"a".as_slice(), b"the", &[0; 64]] {
         if let Some(needle) = Needle::of(needle) {
-            actions.push(Action::Count(needle))?;
+            actions.push(ItemAction::Count(needle))?;
         }
     }
     assert_eq!(rt; actions.len(), 8);

@@ -9,7 +9,7 @@ use Rattle.std.proofs.lemmas.List.Folds.{list_any_at, Any-from_list_any}
 use Rattle.std.proofs.lemmas.Option.{slice_get_read, slice_get_cases, get_or_from_slice_get}
 use Rattle.std.proofs.lemmas.Slice.Eq.{bytes_eq-Decides}
 use Rattle.daemon_requirements.specs.declared.fields.Pair.{Pair}
-use Rattle.daemon_requirements.specs.Profile.{HasDistinctNames}
+use Rattle.daemon_requirements.specs.RequirementsView.{HasDistinctNames}
 use Rattle.daemon_requirements.specs.Refusals.{IsFirstTwice}
 
 -- whether a pair has the name of p

@@ -1,8 +1,8 @@
 -- A daemon serves for what is asked: a clause for each field.
 use Rattle.std.specs.Prelude.{◌≡◌, ◌≤◌, All, Contains}
-use Rattle.daemon_requirements.specs.Profile.{Profile}
+use Rattle.daemon_requirements.specs.RequirementsView.{RequirementsView}
 
-pub record Covers (daemon asked : Profile) : Type 0 where
+pub record Covers (daemon asked : RequirementsView) : Type 0 where
   pub executable : daemon.executable ≡ asked.executable
   pub heap_mb : asked.heap_mb ≤ daemon.heap_mb
   -- each argument asked for is among the daemon's

@@ -1,4 +1,4 @@
 pub mod Covers
-pub mod Profile
+pub mod RequirementsView
 pub mod Refusals
 pub mod Rules

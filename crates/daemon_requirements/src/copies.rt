@@ -1,5 +1,5 @@
 ghost use Rattle.std.specs.Prelude.{◌≡◌, IfOk};
-ghost use Rattle.daemon_requirements.specs.Profile.{profile_of};
+ghost use Rattle.daemon_requirements.specs.RequirementsView.{requirements_view};
 
 use crate::fields::{Pair, RequirementFields};
 use item_actions::Text;
@@ -10,7 +10,7 @@ pub(crate) fn copy_fields(
     alloc: Global,
     fields: &RequirementFields,
 ) -> Result<RequirementFields, AllocError>
-    ensures { IfOk result (λ f. profile_of f ≡ profile_of fields.now) }
+    ensures { IfOk result (λ f. requirements_view f ≡ requirements_view fields.now) }
 {
     Ok(RequirementFields {
         executable: fields.executable.copy(alloc)?,

@@ -1,7 +1,7 @@
 ghost use Rattle.std.specs.Prelude.{◌≡◌, MatchOption};
 ghost use Rattle.std.specs.List.{list_any};
 ghost use Rattle.std.specs.Str.{bytes_eq};
-ghost use Rattle.daemon_requirements.specs.Profile.{HasDistinctNames};
+ghost use Rattle.daemon_requirements.specs.RequirementsView.{HasDistinctNames};
 ghost use Rattle.daemon_requirements.specs.Refusals.{IsFirstTwice};
 
 use crate::fields::Pair;

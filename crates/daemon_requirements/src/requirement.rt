@@ -1,6 +1,6 @@
 ghost use Rattle.std.specs.Prelude.{◌≡◌, ◌↔◌, IsTrue, IfOk, IfErr};
 ghost use Rattle.std.specs.Result.{OkIff};
-ghost use Rattle.daemon_requirements.specs.Profile.{profile_of, IsProfile};
+ghost use Rattle.daemon_requirements.specs.RequirementsView.{requirements_view, IsRequirements};
 ghost use Rattle.daemon_requirements.specs.Covers.{Covers};
 ghost use Rattle.daemon_requirements.specs.Refusals.{IsCauseOf};
 
@@ -11,7 +11,7 @@ use crate::rules::{Field, REQUIREMENT_TABLE};
 use std::alloc::{AllocError, Global};
 use std::marker::Model;
 
-const MOST_HEAP_MB: u32 = 65536;
+const MAX_HEAP_MB: u32 = 65536;
 
 /// A list of pairs in `RequirementFields`.
 #[derive(Clone, Copy, Debug, PartialEq, Eq)]
@@ -40,13 +40,13 @@ pub struct Requirements {
 }
 
 impl Model for Requirements {
-    ghost use Rattle.daemon_requirements.specs.Profile.{Profile, profile_of, IsProfile};
+    ghost use Rattle.daemon_requirements.specs.RequirementsView.{RequirementsView, requirements_view, IsRequirements};
 
-    ghost Value = { Profile };
+    ghost Value = { RequirementsView };
 
-    ghost view = { λ r. profile_of r.fields };
+    ghost view = { λ r. requirements_view r.fields };
 
-    ghost invariant = { λ r. IsProfile (profile_of r.fields) };
+    ghost invariant = { λ r. IsRequirements (requirements_view r.fields) };
 }
 
 impl Requirements {
@@ -54,10 +54,10 @@ impl Requirements {
     /// outside 1 to 65,536 MB; then TwiceNamed for the properties, and then for the variables. Refused fields
     /// are dropped.
     pub fn of(fields: RequirementFields) -> Result<Requirements, RequirementRefusal>
-        ensures made { OkIff result (IsProfile (profile_of fields)) (profile_of fields) }
-        ensures refused { IfErr result (λ refusal. IsCauseOf refusal (profile_of fields)) }
+        ensures made { OkIff result (IsRequirements (requirements_view fields)) (requirements_view fields) }
+        ensures refused { IfErr result (λ refusal. IsCauseOf refusal (requirements_view fields)) }
     {
-        if fields.heap_mb < 1 || fields.heap_mb > MOST_HEAP_MB {
+        if fields.heap_mb < 1 || fields.heap_mb > MAX_HEAP_MB {
             return Err(RequirementRefusal::HeapRange);
         }
         if let Some(place) = first_twice(&fields.properties) {
@@ -93,8 +93,8 @@ impl Requirements {
 
     /// The fields.
     pub fn fields(&self) -> &RequirementFields
-        ensures value { profile_of result.now ≡ self.now }
-        ensures profile { IsProfile self.now }
+        ensures value { requirements_view result.now ≡ self.now }
+        ensures requirements { IsRequirements self.now }
     {
         &self.fields
     }

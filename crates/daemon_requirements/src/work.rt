@@ -1,5 +1,5 @@
 use crate::requirement::Requirements;
-use item_actions::{Action, Text};
+use item_actions::{ItemAction, Text};
 
 /// Where an item runs.
 #[derive(Debug, Drop)]
@@ -13,7 +13,7 @@ pub enum Isolation {
 /// An item: an action on a file.
 #[derive(Debug, Drop)]
 pub struct Work {
-    pub action: Action,
+    pub action: ItemAction,
     pub file: Text,
     pub isolation: Isolation,
 }

@@ -11,24 +11,24 @@ use Rattle.item_actions.specs.Files.{Folder}
 use Rattle.item_actions.specs.declared.outcomes.Outcome.{Outcome}
 use Rattle.item_actions.specs.declared.outcomes.Outcome.TheVariants as outcomes
 use Rattle.daemon_protocol.specs.Spelling.{spelling}
-use Rattle.daemon_protocol.specs.Start.{look, Cuts, nothing, first}
+use Rattle.daemon_protocol.specs.StreamStart.{look, Cuts, nothing, first}
 use Rattle.daemon_protocol.specs.declared.frames.Frame.TheVariants.{Request, Reply, Stop}
 use Rattle.daemon_protocol.specs.declared.frames.Request.{Request as Asked}
-use Rattle.daemon_protocol.specs.declared.starts.Start.{Start}
-use Rattle.daemon_protocol.specs.declared.starts.Start.TheVariants.{Unfinished, Whole, Refused}
+use Rattle.daemon_protocol.specs.declared.starts.StreamStart.{StreamStart}
+use Rattle.daemon_protocol.specs.declared.starts.StreamStart.TheVariants.{Unfinished, Whole, Refused}
 use Rattle.daemon_protocol.proofs.Settled.{cuts_longer, cuts_piece}
-use Rattle.worker_desk.specs.Sunk.{Sunk, Rises, Wrote, Broke}
-use Rattle.worker_desk.specs.Supply.{Supply}
+use Rattle.worker_desk.specs.SinkView.{SinkView, Rises, Wrote, Broke}
+use Rattle.worker_desk.specs.SourceView.{SourceView}
 use Rattle.worker_desk.proofs.Printing.{wrote_nothing, wrote_then, broke_then}
 use Rattle.daemon_worker.specs.Answer.{Answer, asked, reply, replies, IsHonest, is_fault, IsWorkedOut}
 use Rattle.daemon_worker.specs.Answering.{answer_of, AnswersAs}
 use Rattle.daemon_worker.specs.Taking.{Takes, IsTaken, TakesFrame}
-use Rattle.daemon_worker.specs.Serving.{Outside, most_taken, ending, IsOver, IsEnd, HasAnswered, HasServed, IsServing, ServesOn}
+use Rattle.daemon_worker.specs.Serving.{Outside, max_stream_bytes, ending, IsOver, IsEnd, HasAnswered, HasServed, IsServing, ServesOn}
 use Rattle.daemon_worker.specs.declared.serving.Served.{Served}
 use Rattle.daemon_worker.specs.declared.serving.Served.TheVariants.{Done, BadFrame, SourceFault, SinkFault, NoMemory}
 use Rattle.daemon_worker.proofs.Supplies.{takes_nothing}
 
-pub serving_nothing : (o : Outside) → IsServing o o most_taken
+pub serving_nothing : (o : Outside) → IsServing o o max_stream_bytes
 serving_nothing o = record {
   came = [];
   answers = [];
@@ -127,7 +127,7 @@ served_no_memory {old} {mid} {new} room held s takes faults sink = record {
   rest = held;
   answers = s.answers;
   answered = answered_rest room held s takes faults;
-  end = subst (λ (k : Sunk). Wrote old.sink k (replies s.answers)) (sym sink) s.wrote;
+  end = subst (λ (k : SinkView). Wrote old.sink k (replies s.answers)) (sym sink) s.wrote;
 }
 
 -- the source failed
@@ -139,21 +139,21 @@ served_source_fault {old} {mid} {new} room held s takes faults sink unfinished r
   rest = held;
   answers = s.answers;
   answered = answered_rest room held s takes faults;
-  end = (unfinished, omega (arith, rises, s.source_faults), subst (λ (k : Sunk). Wrote old.sink k (replies s.answers)) (sym sink) s.wrote);
+  end = (unfinished, omega (arith, rises, s.source_faults), subst (λ (k : SinkView). Wrote old.sink k (replies s.answers)) (sym sink) s.wrote);
 }
 
-at_ending : (P : Served → Type 0) → P Done → ((place : ℕ) → P (BadFrame place)) → (start : Start) (came rest : ℕ) → P (ending start came rest)
+at_ending : (P : Served → Type 0) → P Done → ((place : ℕ) → P (BadFrame place)) → (start : StreamStart) (came rest : ℕ) → P (ending start came rest)
 at_ending P done bad (Whole Stop n) came rest = done
 at_ending P done bad (Whole (Request r) n) came rest = bad _
 at_ending P done bad (Whole (Reply r) n) came rest = bad _
 at_ending P done bad (Refused flaw) came rest = bad _
 at_ending P done bad Unfinished came rest =
-    elim (came == most_taken) as (λ all. P (cond all (BadFrame most_taken) (cond (rest == 0) Done (BadFrame (came - rest))))) [
+    elim (came == max_stream_bytes) as (λ all. P (cond all (BadFrame max_stream_bytes) (cond (rest == 0) Done (BadFrame (came - rest))))) [
       | true ↦ bad _
       | false ↦ elim (rest == 0) as (λ none. P (cond none Done (BadFrame (came - rest)))) [ true ↦ done | false ↦ bad _ ]
     ]
 
-is_over : (start : Start) (room came held : ℕ) (left : Option (List ℕ)) → came + room ≡ most_taken → ((r : _) (n : ℕ) → start ≡ Whole (Request r) n → ⊥) → IsTaken start held room left → IsOver start (came + held) held left
+is_over : (start : StreamStart) (room came held : ℕ) (left : Option (List ℕ)) → came + room ≡ max_stream_bytes → ((r : _) (n : ℕ) → start ≡ Whole (Request r) n → ⊥) → IsTaken start held room left → IsOver start (came + held) held left
 is_over (Whole (Request r) n) room came held left all others taken = absurd (others r n refl)
 is_over (Whole (Reply r) n) room came held left all others taken = taken
 is_over (Whole Stop n) room came held left all others taken = taken
@@ -162,18 +162,18 @@ is_over Unfinished room came held left all others (inl full) = inl (omega (arith
 is_over Unfinished room came held left all others (inr end) = inr end
 
 -- no request came any more
-pub served_end : {old mid new : Outside} (room len : ℕ) (held : List ℕ) (start : Start) (served : Served) → len ≡ length held → (s : IsServing old mid room) → Takes mid.source new.source room held → mid.faults ≤ new.faults → new.sink ≡ mid.sink
+pub served_end : {old mid new : Outside} (room len : ℕ) (held : List ℕ) (start : StreamStart) (served : Served) → len ≡ length held → (s : IsServing old mid room) → Takes mid.source new.source room held → mid.faults ≤ new.faults → new.sink ≡ mid.sink
     → start ≡ look held → ((r : _) (n : ℕ) → start ≡ Whole (Request r) n → ⊥) → IsTaken start (length held) room new.source.left
-    → served ≡ ending start (most_taken - room + len) len
+    → served ≡ ending start (max_stream_bytes - room + len) len
     → HasServed old new served
 served_end {old} {mid} {new} room len held start served counted_as s takes faults sink looked others taken is =
     let came = s.came ++ held in
     let count : length came ≡ length s.came + length held = length-append s.came held in
-    let wrote : Wrote old.sink new.sink (replies s.answers) = subst (λ (k : Sunk). Wrote old.sink k (replies s.answers)) (sym sink) s.wrote in
+    let wrote : Wrote old.sink new.sink (replies s.answers) = subst (λ (k : SinkView). Wrote old.sink k (replies s.answers)) (sym sink) s.wrote in
     let over : IsOver (look held) (length came) (length held) new.source.left =
-    subst (λ (x : Start). IsOver x (length came) (length held) new.source.left) looked
+    subst (λ (x : StreamStart). IsOver x (length came) (length held) new.source.left) looked
     (subst (λ n. IsOver start n (length held) new.source.left) (sym count) (is_over start room (length s.came) (length held) new.source.left s.room others taken)) in
-    let place : most_taken - room + len ≡ length came = omega (arith, count, counted_as, s.room, takes.few) in
+    let place : max_stream_bytes - room + len ≡ length came = omega (arith, count, counted_as, s.room, takes.few) in
     let same : served ≡ ending (look held) (length came) (length held) = is ∙ (λ i. ending (looked i) (place i) (counted_as i)) in
     let ends : (x : Served) → x ≡ ending (look held) (length came) (length held) → IsEnd old new came held (replies s.answers) x =
     λ x e. subst (λ y. y ≡ ending (look held) (length came) (length held) → IsEnd old new came held (replies s.answers) y) (sym e)
@@ -187,7 +187,7 @@ served_end {old} {mid} {new} room len held start served counted_as s takes fault
     }
 
 -- no frame was taken
-pub served_untaken : {start old : Outside} {source : Supply} (room : ℕ) (held : List ℕ) (served : Served) → TakesFrame old.source source room held (Err served) → IsServing start old room
+pub served_untaken : {start old : Outside} {source : SourceView} (room : ℕ) (held : List ℕ) (served : Served) → TakesFrame old.source source room held (Err served) → IsServing start old room
     → HasServed start (record { source = source; sink = old.sink; files = old.files; faults = old.faults }) served
 served_untaken room held SourceFault took s = served_source_fault room took.0 s took.1 (omega arith) refl took.2 took.3
 served_untaken room held NoMemory took s = served_no_memory room took.0 s took.1 (omega arith) refl

@@ -4,21 +4,21 @@ use Rattle.std.proofs.Math.Seq.{take-add}
 use Rattle.std.proofs.lemmas.List.{take-append-le}
 use Rattle.std.proofs.KnownBytes.{Consumes-nil, Consumes-trans, Consumes-kept}
 use Rattle.std.specs.Io.KnownBytes.{Consumes, IsAtEnd, Keeps}
-use Rattle.daemon_protocol.specs.Start.{look}
+use Rattle.daemon_protocol.specs.StreamStart.{look}
 use Rattle.daemon_protocol.specs.declared.frames.Frame.{Frame}
-use Rattle.daemon_protocol.specs.declared.starts.Start.TheVariants.{Whole}
+use Rattle.daemon_protocol.specs.declared.starts.StreamStart.TheVariants.{Whole}
 use Rattle.daemon_protocol.proofs.Settled.{fits}
-use Rattle.worker_desk.specs.Supply.{Supply}
+use Rattle.worker_desk.specs.SourceView.{SourceView}
 use Rattle.daemon_worker.specs.Taking.{Takes, TakesBehind}
 
-pub takes_nothing : (a : Supply) (room : ℕ) → Takes a a room []
+pub takes_nothing : (a : SourceView) (room : ℕ) → Takes a a room []
 takes_nothing a room = record { taken = Consumes-nil a.left; faults = omega arith; few = omega arith }
 
 -- a take that failed
-pub takes_kept : (a b : Supply) (room : ℕ) → Keeps a.left b.left → a.faults ≤ b.faults → Takes a b room []
+pub takes_kept : (a b : SourceView) (room : ℕ) → Keeps a.left b.left → a.faults ≤ b.faults → Takes a b room []
 takes_kept a b room kept faults = record { taken = Consumes-kept a.left a.left b.left [] (Consumes-nil a.left) kept; faults = faults; few = omega arith }
 
-pub takes_then : {a b c : Supply} (room more : ℕ) (held piece : List ℕ) → Takes a b room held → Takes b c more piece → length held + more ≤ room → Takes a c room (held ++ piece)
+pub takes_then : {a b c : SourceView} (room more : ℕ) (held piece : List ℕ) → Takes a b room held → Takes b c more piece → length held + more ≤ room → Takes a c room (held ++ piece)
 takes_then {a} {b} {c} room more held piece one two within = record {
   taken = Consumes-trans a.left b.left c.left held piece one.taken two.taken;
   faults = omega (arith, one.faults, two.faults);
@@ -26,7 +26,7 @@ takes_then {a} {b} {c} room more held piece one two within = record {
 }
 
 -- a buffer was made longer, a take filled the front of what is new, and the rest was cut off
-pub takes_behind : {a b : Supply} (held held' zeros room new : List ℕ) (len most count : ℕ) → len ≡ length held → held' ≡ take (len + count) new → room ≡ take (len + most) held ++ zeros → take len new ≡ take len room
+pub takes_behind : {a b : SourceView} (held held' zeros room new : List ℕ) (len most count : ℕ) → len ≡ length held → held' ≡ take (len + count) new → room ≡ take (len + most) held ++ zeros → take len new ≡ take len room
     → length new ≤ len + most → len + count ≤ length new → Consumes a.left b.left (take count (drop len new)) → a.faults ≤ b.faults → (count ≡ 0 → IsAtEnd b.left)
     → TakesBehind a b held held' most count
 takes_behind {a} {b} held held' zeros room new len most count is cut longer front within fits taken faults end =

@@ -8,7 +8,7 @@ use Rattle.daemon_protocol.specs.declared.frames.Request.{Request}
 use Rattle.daemon_protocol.specs.declared.frames.Frame.{Frame}
 use Rattle.daemon_protocol.specs.declared.frames.Frame.TheVariants as frames
 use Rattle.daemon_protocol.specs.Spelling.{spelling}
-use Rattle.worker_desk.specs.Sunk.{Rises}
+use Rattle.worker_desk.specs.SinkView.{Rises}
 
 -- a request, and the outcome in its reply
 pub record Answer : Type 0 where
@@ -29,7 +29,7 @@ replies answers = flat_map (λ a. spelling (reply a)) answers
 abbrev pub value_on : Folder → Request → Outcome
 value_on files r = value_of (act_on r.action) (file_of files r.file)
 
--- where the files are told, a request is answered with its value, or with a fault or want of memory
+-- where the files are known, a request is answered with its value, or with a fault or want of memory
 abbrev pub IsHonest : Option Folder → Answer → Type 0
 IsHonest None a = a.outcome ≢ Skipped
 IsHonest (Some files) a = (a.outcome ≡ value_on files a.request) ⊎ ((a.outcome ≡ Fault) ⊎ (a.outcome ≡ NoMemory))
@@ -39,6 +39,6 @@ is_fault Fault = true
 is_fault _ = false
 
 -- A request was worked out while the count of the files' faults went from before to after.
-pub record IsWorkedOut (told : Option Folder) (before after : ℕ) (a : Answer) : Type 0 where
-  pub honest : IsHonest told a
+pub record IsWorkedOut (known : Option Folder) (before after : ℕ) (a : Answer) : Type 0 where
+  pub honest : IsHonest known a
   pub fault : a.outcome ≡ Fault → Rises before after

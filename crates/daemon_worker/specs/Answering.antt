@@ -4,7 +4,7 @@ use Rattle.item_actions.specs.Files.{Folder}
 use Rattle.item_actions.specs.declared.outcomes.Outcome.{Outcome}
 use Rattle.daemon_protocol.specs.declared.frames.Request.{Request}
 use Rattle.daemon_protocol.specs.Spelling.{spelling}
-use Rattle.worker_desk.specs.Sunk.{Sunk, Wrote, Broke}
+use Rattle.worker_desk.specs.SinkView.{SinkView, Wrote, Broke}
 use Rattle.daemon_worker.specs.Answer.{Answer, reply, IsWorkedOut}
 use Rattle.daemon_worker.specs.declared.serving.Served.{Served}
 use Rattle.daemon_worker.specs.declared.serving.Served.TheVariants.{SinkFault, NoMemory}
@@ -13,8 +13,8 @@ abbrev pub answer_of : Request → Outcome → Answer
 answer_of r outcome = record { request = r; outcome = outcome }
 
 -- the reply was written, or the sink failed in it, or there was no memory for it
-abbrev pub AnswersAs : {A : Type 0} → Option Folder → ℕ → ℕ → Sunk → Sunk → Request → Result A Served → Type 0
-AnswersAs told before after old new r (Ok _) = (o : Outcome) × IsWorkedOut told before after (answer_of r o) × Wrote old new (spelling (reply (answer_of r o)))
-AnswersAs told before after old new r (Err SinkFault) = (o : Outcome) × IsWorkedOut told before after (answer_of r o) × Broke old new (spelling (reply (answer_of r o)))
-AnswersAs told before after old new r (Err NoMemory) = new ≡ old
-AnswersAs told before after old new r (Err _) = ⊥
+abbrev pub AnswersAs : {A : Type 0} → Option Folder → ℕ → ℕ → SinkView → SinkView → Request → Result A Served → Type 0
+AnswersAs known before after old new r (Ok _) = (o : Outcome) × IsWorkedOut known before after (answer_of r o) × Wrote old new (spelling (reply (answer_of r o)))
+AnswersAs known before after old new r (Err SinkFault) = (o : Outcome) × IsWorkedOut known before after (answer_of r o) × Broke old new (spelling (reply (answer_of r o)))
+AnswersAs known before after old new r (Err NoMemory) = new ≡ old
+AnswersAs known before after old new r (Err _) = ⊥

@@ -5,7 +5,7 @@ ghost use Rattle.daemon_worker.specs.Answering.{answer_of, AnswersAs};
 
 use crate::serving::Served;
 use daemon_protocol::{Frame, Reply, Request, encode};
-use item_actions::{MOST_FILE_BYTES, Outcome, act};
+use item_actions::{MAX_FILE_BYTES, Outcome, act};
 use std::alloc::Global;
 use worker_desk::{DeskFail, Files, Read, Sink, put_all};
 
@@ -36,7 +36,7 @@ fn work_out<F: Files>(alloc: Global, request: &Request, files: &mut F) -> Outcom
     ensures ran { result ≢ outcomes.Skipped }
     ensures worked { IsWorkedOut (F.files files.old) (F.faults files.old) (F.faults files.new) (answer_of request.now result) }
 {
-    match files.read(alloc, &request.file, MOST_FILE_BYTES) {
+    match files.read(alloc, &request.file, MAX_FILE_BYTES) {
         Ok(Read::Bytes(bytes)) => act(&request.action, bytes.as_slice()),
         Ok(Read::NotThere) => Outcome::NotThere,
         Ok(Read::TooLong) => Outcome::TooLong,

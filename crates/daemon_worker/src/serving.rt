@@ -1,14 +1,14 @@
 ghost use Rattle.std.specs.Prelude.{◌≡◌, ◌<◌, ◌≤◌, ◌+◌, ◌-◌, IfOk};
-ghost use Rattle.daemon_worker.specs.Serving.{Outside, most_taken, IsRequestOf, IsServing, ServesOn, HasServed};
+ghost use Rattle.daemon_worker.specs.Serving.{Outside, max_stream_bytes, IsRequestOf, IsServing, ServesOn, HasServed};
 
 use crate::answering::answer;
 use crate::taking::take_frame;
-use daemon_protocol::{Frame, Request, Start};
+use daemon_protocol::{Frame, Request, StreamStart};
 use std::alloc::{AllocError, Global};
 use worker_desk::{Files, Sink, Source};
 
 /// The most bytes that are taken of a stream, 2^40.
-const MOST_TAKEN: u64 = 1_099_511_627_776;
+const MAX_STREAM_BYTES: u64 = 1_099_511_627_776;
 
 /// How serving ended.
 #[derive(Clone, Copy, Debug, PartialEq, Eq)]
@@ -52,7 +52,7 @@ pub fn serve<S: Source, K: Sink, F: Files>(
         result }
 {
     let mut held = Vec::new(alloc);
-    let mut room = MOST_TAKEN;
+    let mut room = MAX_STREAM_BYTES;
     loop {
         match serve_next(alloc, source, sink, files, &mut held, room) {
             Ok(len) => room -= len,
@@ -70,7 +70,7 @@ fn serve_next<S: Source, K: Sink, F: Files>(
     held: &mut Vec<u8>,
     room: u64,
 ) -> Result<u64, Served>
-    requires { room ≤ most_taken }
+    requires { room ≤ max_stream_bytes }
     ensures files { F.files files.new ≡ F.files files.old }
     ensures file_faults { F.faults files.old ≤ F.faults files.new }
     ensures source_faults { (S.seen source.old).faults ≤ (S.seen source.new).faults }
@@ -88,16 +88,16 @@ fn serve_next<S: Source, K: Sink, F: Files>(
 }
 
 // The request that stands at the start of the bytes held, or how serving ends where there is none.
-fn request_of(start: Start, held: u64, room: u64) -> Result<Request, Served>
-    requires room { room ≤ most_taken }
+fn request_of(start: StreamStart, held: u64, room: u64) -> Result<Request, Served>
+    requires room { room ≤ max_stream_bytes }
     requires held { held ≤ room }
-    ensures { IsRequestOf start (most_taken - room + held) held result }
+    ensures { IsRequestOf start (max_stream_bytes - room + held) held result }
 {
     match start {
-        Start::Whole(Frame::Request(request), _) => Ok(request),
-        Start::Whole(Frame::Stop, _) => Err(Served::Done),
-        Start::Unfinished if held == room => Err(Served::BadFrame(MOST_TAKEN)),
-        Start::Unfinished if held == 0 => Err(Served::Done),
-        _ => Err(Served::BadFrame(MOST_TAKEN - room)),
+        StreamStart::Whole(Frame::Request(request), _) => Ok(request),
+        StreamStart::Whole(Frame::Stop, _) => Err(Served::Done),
+        StreamStart::Unfinished if held == room => Err(Served::BadFrame(MAX_STREAM_BYTES)),
+        StreamStart::Unfinished if held == 0 => Err(Served::Done),
+        _ => Err(Served::BadFrame(MAX_STREAM_BYTES - room)),
     }
 }

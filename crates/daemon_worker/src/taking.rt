@@ -1,11 +1,11 @@
 ghost use Rattle.std.specs.Prelude.{◌≡◌, ◌<◌, ◌≤◌, ◌+◌, vec_len, take, drop, IfOk, IfErr, OnErr};
 ghost use Rattle.std.specs.Io.KnownBytes.{Consumes, IsAtEnd, Keeps};
-ghost use Rattle.worker_desk.specs.Sunk.{Rises};
+ghost use Rattle.worker_desk.specs.SinkView.{Rises};
 ghost use Rattle.daemon_worker.specs.Taking.{TakesFrame, TakesMore};
 ghost use Rattle.daemon_worker.specs.declared.serving.Served.TheVariants.{SourceFault};
 
 use crate::serving::Served;
-use daemon_protocol::{Start, lacking, look};
+use daemon_protocol::{StreamStart, lacking, look};
 use std::alloc::Global;
 use std::cmp::min;
 use worker_desk::Source;
@@ -19,13 +19,13 @@ pub(crate) fn take_frame<S: Source>(
     source: &mut S,
     held: &mut Vec<u8>,
     room: u64,
-) -> Result<Start, Served>
+) -> Result<StreamStart, Served>
     ensures { TakesFrame (S.seen source.old) (S.seen source.new) room held.new.items result }
 {
     held.clear();
     loop {
         let start = look(alloc, held)?;
-        let Start::Unfinished = start else {
+        let StreamStart::Unfinished = start else {
             return Ok(start);
         };
         let most = min(lacking(held) as u64, room - held.len() as u64);

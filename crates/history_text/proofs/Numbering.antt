@@ -4,8 +4,8 @@ use Rattle.std.specs.List.{slice_get}
 use Rattle.std.specs.Option.{option_map}
 use Rattle.std.proofs.lemmas.List.{take_more, length-take-le}
 use Rattle.std.proofs.lemmas.Option.{slice_get_within, get_or_from_slice_get, slice_get-map}
-use Rattle.worker_desk.specs.Sunk.{Sunk}
-use Rattle.worker_desk.specs.Paper.{Paper, Adds}
+use Rattle.worker_desk.specs.SinkView.{SinkView}
+use Rattle.worker_desk.specs.PageView.{PageView, Adds}
 use Rattle.worker_desk.proofs.Telling.{adds_as, adds_then}
 use Rattle.history_text.specs.Text.{numbered}
 
@@ -30,7 +30,7 @@ numbered-next line n xs i x is =
     ∙ ap (λ l. numbered line n (take i xs) ++ l) (append-nil (line (n + i) x))))
 
 -- one more line was told
-pub adds_next : {X : Type 0} {a b c : Sunk} {p q r : Paper} (line : ℕ → X → List ℕ) (n : ℕ) (xs : List X) (i m : ℕ) (x : X) → m ≡ n + i → slice_get xs i ≡ Some x
+pub adds_next : {X : Type 0} {a b c : SinkView} {p q r : PageView} (line : ℕ → X → List ℕ) (n : ℕ) (xs : List X) (i m : ℕ) (x : X) → m ≡ n + i → slice_get xs i ≡ Some x
     → Adds a p b q (numbered line n (take i xs)) → Adds b q c r (line m x) → Adds a p c r (numbered line n (take (i + 1) xs))
 adds_next line n xs i m x number is before one = adds_as (ap (λ k. numbered line n (take i xs) ++ line k x) number ∙ sym (numbered-next line n xs i x is)) (adds_then before one)
 

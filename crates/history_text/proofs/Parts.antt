@@ -7,10 +7,10 @@ use Rattle.std.proofs.lemmas.List.Folds.{length-flat_map-take}
 use Rattle.std.proofs.lemmas.Option.{slice_get_within, get_or_from_slice_get}
 use Rattle.item_actions.specs.declared.outcomes.Outcome.{Outcome}
 use Rattle.resource_lock.specs.declared.marks.Mark.{Mark}
-use Rattle.worker_desk.specs.Sunk.{Sunk}
-use Rattle.worker_desk.specs.Paper.{Paper, Adds}
+use Rattle.worker_desk.specs.SinkView.{SinkView}
+use Rattle.worker_desk.specs.PageView.{PageView, Adds}
 use Rattle.worker_desk.proofs.Telling.{adds_as, adds_then}
-use Rattle.plan_reader.specs.Plan.{TaskShape}
+use Rattle.plan_reader.specs.PlanView.{PlanTaskView}
 use Rattle.plan_reader.specs.Units.{task_units}
 use Rattle.history_text.specs.Text.{numbered}
 use Rattle.history_text.specs.Results.{task_text, tasks_text}
@@ -27,14 +27,14 @@ pub length-flat_map-next : {X Y : Type 0} (f : X → List Y) (xs : List X) (i : 
 length-flat_map-next f xs i x is = ap length (flat_map-next f xs i x is) ∙ length-append (flat_map f (take i xs)) (f x)
 
 -- the units of one more action were told
-pub adds_part : {X Y : Type 0} {a b c : Sunk} {p q r : Paper} (line : ℕ → Y → List ℕ) (f : X → List Y) (n m : ℕ) (xs : List X) (i : ℕ) (x : X) → m ≡ n + length (flat_map f (take i xs)) → slice_get xs i ≡ Some x
+pub adds_part : {X Y : Type 0} {a b c : SinkView} {p q r : PageView} (line : ℕ → Y → List ℕ) (f : X → List Y) (n m : ℕ) (xs : List X) (i : ℕ) (x : X) → m ≡ n + length (flat_map f (take i xs)) → slice_get xs i ≡ Some x
     → Adds a p b q (numbered line n (flat_map f (take i xs))) → Adds b q c r (numbered line m (f x)) → Adds a p c r (numbered line n (flat_map f (take (i + 1) xs)))
 adds_part line f n m xs i x number is before one =
     adds_as (ap (λ k. numbered line n (flat_map f (take i xs)) ++ numbered line k (f x)) number
     ∙ (sym (numbered-append line n (flat_map f (take i xs)) (f x)) ∙ ap (numbered line n) (sym (flat_map-next f xs i x is))))
     (adds_then before one)
 
-tasks_text-push : (marks : ℕ → Mark) (outcomes : ℕ → Outcome) (t u : ℕ) (xs : List TaskShape) (x : TaskShape)
+tasks_text-push : (marks : ℕ → Mark) (outcomes : ℕ → Outcome) (t u : ℕ) (xs : List PlanTaskView) (x : PlanTaskView)
     → tasks_text marks outcomes t u (xs ++ x ∷ []) ≡ tasks_text marks outcomes t u xs ++ task_text marks outcomes (t + length xs) (u + length (flat_map task_units xs)) x
 tasks_text-push marks outcomes t u [] x =
     let here : t ≡ t + 0 = omega arith in
@@ -51,7 +51,7 @@ tasks_text-push marks outcomes t u (y ∷ xs) x =
     ∙ sym (append_assoc (task_text marks outcomes t u y) rest (task_text marks outcomes (t + suc (length xs)) (u + length (task_units y ++ flat_map task_units xs)) x))
 
 -- one more task was told, with its units
-pub adds_task : {a b c : Sunk} {p q r : Paper} (marks : ℕ → Mark) (outcomes : ℕ → Outcome) (u : ℕ) (xs : List TaskShape) (i : ℕ) (x : TaskShape) → u ≡ length (flat_map task_units (take i xs)) → slice_get xs i ≡ Some x
+pub adds_task : {a b c : SinkView} {p q r : PageView} (marks : ℕ → Mark) (outcomes : ℕ → Outcome) (u : ℕ) (xs : List PlanTaskView) (i : ℕ) (x : PlanTaskView) → u ≡ length (flat_map task_units (take i xs)) → slice_get xs i ≡ Some x
     → Adds a p b q (tasks_text marks outcomes 0 0 (take i xs)) → Adds b q c r (task_text marks outcomes i u x) → Adds a p c r (tasks_text marks outcomes 0 0 (take (i + 1) xs))
 adds_task marks outcomes u xs i x first is before one =
     let within : i < length xs = slice_get_within xs i x is in

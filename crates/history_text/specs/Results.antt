@@ -2,22 +2,22 @@
 use Rattle.std.specs.Prelude.{ℕ, ◌+◌, List, [], ◌∷◌, ◌++◌, length, map, codes, decimal, Option, None, Some, Bool, true, false}
 use Rattle.std.specs.List.{flat_map, count_by, sum_by, range_with_len}
 use Rattle.item_actions.specs.Value.{passes}
-use Rattle.item_actions.specs.declared.actions.Action.{Action}
-use Rattle.item_actions.specs.declared.actions.Action.TheVariants.{Lines, Words, Bytes, Longest, Count, Sha256}
+use Rattle.item_actions.specs.declared.actions.ItemAction.{ItemAction}
+use Rattle.item_actions.specs.declared.actions.ItemAction.TheVariants.{Lines, Words, Bytes, Longest, Count, Sha256}
 use Rattle.item_actions.specs.declared.outcomes.Outcome.{Outcome}
 use Rattle.item_actions.specs.declared.outcomes.Outcome.TheVariants as outcomes
 use Rattle.resource_lock.specs.declared.marks.Mark.{Mark}
 use Rattle.resource_lock.specs.declared.marks.Mark.TheVariants.{Failed, Skipped}
 use Rattle.resource_lock.specs.declared.marks.MarkId.TheVariants.{Task as TaskOf}
-use Rattle.resource_lock.specs.Standing.{Standing, mark_of}
+use Rattle.resource_lock.specs.StateView.{StateView, mark_of}
 use Rattle.lock_journal.specs.Table.{has_passed}
-use Rattle.plan_reader.specs.Plan.{TaskShape, PlanShape}
+use Rattle.plan_reader.specs.PlanView.{PlanTaskView, PlanView}
 use Rattle.plan_reader.specs.Units.{PlannedUnit, task_units, plan_units}
 use Rattle.history_text.specs.Text.{mark_text, hex_text, numbered}
 use Rattle.history_text.specs.declared.counts.Counts.{Counts}
 
 -- the marks of a state's tasks
-abbrev pub task_marks : Standing → ℕ → Mark
+abbrev pub task_marks : StateView → ℕ → Mark
 task_marks s t = mark_of s (TaskOf t)
 
 abbrev pub value_text : Outcome → List ℕ
@@ -29,7 +29,7 @@ value_text outcomes.Fault = codes "fault"
 value_text outcomes.NoMemory = codes "no memory"
 value_text outcomes.Skipped = codes "skipped"
 
-abbrev pub action_word : Action → List ℕ
+abbrev pub action_word : ItemAction → List ℕ
 action_word Lines = codes "lines"
 action_word Words = codes "words"
 action_word Bytes = codes "bytes"
@@ -37,7 +37,7 @@ action_word Longest = codes "longest"
 action_word (Count needle) = codes "count"
 action_word Sha256 = codes "sha256"
 
-abbrev pub unit_word : Option Action → List ℕ
+abbrev pub unit_word : Option ItemAction → List ℕ
 unit_word None = codes "fetch"
 unit_word (Some action) = action_word action
 
@@ -53,11 +53,11 @@ abbrev pub task_line : List ℕ → Mark → List ℕ
 task_line name mark = codes "task " ++ name ++ codes " " ++ mark_text mark ++ codes "\n"
 
 -- task t, and its units, which are numbered from u on
-abbrev pub task_text : (ℕ → Mark) → (ℕ → Outcome) → ℕ → ℕ → TaskShape → List ℕ
+abbrev pub task_text : (ℕ → Mark) → (ℕ → Outcome) → ℕ → ℕ → PlanTaskView → List ℕ
 task_text marks outcomes t u task = task_line task.name (marks t) ++ numbered (unit_text outcomes) u (task_units task)
 
 -- tasks numbered from t on, and their units, numbered through from u on
-abbrev pub tasks_text : (ℕ → Mark) → (ℕ → Outcome) → ℕ → ℕ → List TaskShape → List ℕ
+abbrev pub tasks_text : (ℕ → Mark) → (ℕ → Outcome) → ℕ → ℕ → List PlanTaskView → List ℕ
 tasks_text marks outcomes t u [] = []
 tasks_text marks outcomes t u (task ∷ tasks) = task_text marks outcomes t u task ++ tasks_text marks outcomes (t + 1) (u + length (task_units task)) tasks
 
@@ -105,8 +105,8 @@ summary_of ms os =
 abbrev pub below : {X : Type 0} → ℕ → (ℕ → X) → List X
 below n f = map f (range_with_len 0 n)
 
-abbrev pub summary_text : PlanShape → (ℕ → Mark) → (ℕ → Outcome) → List ℕ
+abbrev pub summary_text : PlanView → (ℕ → Mark) → (ℕ → Outcome) → List ℕ
 summary_text p marks outcomes = summary_of (below (length p.tasks) marks) (below (length (plan_units p)) outcomes)
 
-abbrev pub results_text : PlanShape → (ℕ → Mark) → (ℕ → Outcome) → List ℕ
+abbrev pub results_text : PlanView → (ℕ → Mark) → (ℕ → Outcome) → List ℕ
 results_text p marks outcomes = tasks_text marks outcomes 0 0 p.tasks ++ summary_text p marks outcomes

@@ -97,10 +97,10 @@ parallel_text true = codes "yes"
 parallel_text false = codes "no"
 
 abbrev pub head_text : ℕ → ℕ → Bool → List ℕ
-head_text workers max parallel = codes "history 1\nworkers " ++ decimal workers ++ codes " max " ++ decimal max ++ codes " parallel " ++ parallel_text parallel ++ codes "\n"
+head_text workers max_leases parallel = codes "history 1\nworkers " ++ decimal workers ++ codes " max " ++ decimal max_leases ++ codes " parallel " ++ parallel_text parallel ++ codes "\n"
 
 abbrev pub end_text : ℕ → List ℕ
 end_text count = codes "end " ++ decimal count ++ codes "\n"
 
 abbrev pub history_text : ℕ → ℕ → Bool → List Entry → List ℕ
-history_text workers max parallel es = head_text workers max parallel ++ numbered entry_text 1 es ++ end_text (length es)
+history_text workers max_leases parallel es = head_text workers max_leases parallel ++ numbered entry_text 1 es ++ end_text (length es)

@@ -1,13 +1,13 @@
 ghost use Rattle.std.specs.Prelude.{◌++◌, codes, decimal, if◌then◌else◌, Some, None};
 ghost use Rattle.std.specs.List.{flat_map};
-ghost use Rattle.worker_desk.specs.Paper.{Adds};
+ghost use Rattle.worker_desk.specs.PageView.{Adds};
 ghost use Rattle.history_text.specs.Text.{mark_text, id_text, change_text, further_text, changes_text, effect_text};
 
 use resource_lock::{Change, Mark, MarkId};
 use worker_desk::{Page, Sink};
 
 /// Tells a word and a number.
-pub(crate) fn tell_numbered<K: Sink>(word: &[u8], number: u32, page: &mut Page, sink: &mut K)
+pub(crate) fn write_numbered<K: Sink>(word: &[u8], number: u32, page: &mut Page, sink: &mut K)
     ensures { Adds (K.seen sink.old) page.old (K.seen sink.new) page.new (word.now ++ decimal number) }
 {
     page.text(sink, word);
@@ -15,7 +15,7 @@ pub(crate) fn tell_numbered<K: Sink>(word: &[u8], number: u32, page: &mut Page, 
 }
 
 /// Tells a space and a mark.
-pub(crate) fn tell_mark<K: Sink>(mark: Mark, page: &mut Page, sink: &mut K)
+pub(crate) fn write_mark<K: Sink>(mark: Mark, page: &mut Page, sink: &mut K)
     ensures { Adds (K.seen sink.old) page.old (K.seen sink.new) page.new (codes " " ++ mark_text mark) }
 {
     match mark {
@@ -28,68 +28,68 @@ pub(crate) fn tell_mark<K: Sink>(mark: Mark, page: &mut Page, sink: &mut K)
     }
 }
 
-fn tell_id<K: Sink>(id: MarkId, page: &mut Page, sink: &mut K)
+fn write_id<K: Sink>(id: MarkId, page: &mut Page, sink: &mut K)
     ensures { Adds (K.seen sink.old) page.old (K.seen sink.new) page.new (id_text id) }
 {
     match id {
-        MarkId::Task(task) => tell_numbered(b"task ", task, page, sink),
-        MarkId::Action(action) => tell_numbered(b"action ", action, page, sink),
-        MarkId::Unit(unit) => tell_numbered(b"unit ", unit, page, sink),
+        MarkId::Task(task) => write_numbered(b"task ", task, page, sink),
+        MarkId::Action(action) => write_numbered(b"action ", action, page, sink),
+        MarkId::Unit(unit) => write_numbered(b"unit ", unit, page, sink),
     }
 }
 
-fn tell_move<K: Sink>(id: MarkId, from: Mark, to: Mark, page: &mut Page, sink: &mut K)
+fn write_move<K: Sink>(id: MarkId, from: Mark, to: Mark, page: &mut Page, sink: &mut K)
     ensures { Adds (K.seen sink.old) page.old (K.seen sink.new) page.new (change_text (Change.Move id from to)) }
 {
-    tell_id(id, page, sink);
-    tell_mark(from, page, sink);
-    tell_mark(to, page, sink);
+    write_id(id, page, sink);
+    write_mark(from, page, sink);
+    write_mark(to, page, sink);
 }
 
-fn tell_change<K: Sink>(change: Change, page: &mut Page, sink: &mut K)
+fn write_change<K: Sink>(change: Change, page: &mut Page, sink: &mut K)
     ensures { Adds (K.seen sink.old) page.old (K.seen sink.new) page.new (change_text change) }
 {
     match change {
-        Change::Lock(lock) => tell_numbered(b"lock ", lock.0, page, sink),
-        Change::Unlock(lock) => tell_numbered(b"unlock ", lock.0, page, sink),
+        Change::Lock(lock) => write_numbered(b"lock ", lock.0, page, sink),
+        Change::Unlock(lock) => write_numbered(b"unlock ", lock.0, page, sink),
         Change::Take => page.text(sink, b"take"),
         Change::Give => page.text(sink, b"give"),
-        Change::Move(id, from, to) => tell_move(id, from, to, page, sink),
-        Change::Park(lock) => tell_numbered(b"park ", lock.0, page, sink),
-        Change::Unpark(lock) => tell_numbered(b"unpark ", lock.0, page, sink),
+        Change::Move(id, from, to) => write_move(id, from, to, page, sink),
+        Change::Park(lock) => write_numbered(b"park ", lock.0, page, sink),
+        Change::Unpark(lock) => write_numbered(b"unpark ", lock.0, page, sink),
         Change::Enter => page.text(sink, b"enter"),
         Change::Leave => page.text(sink, b"leave"),
     }
 }
 
-fn tell_further<K: Sink>(changes: &[Change], page: &mut Page, sink: &mut K)
+fn write_further<K: Sink>(changes: &[Change], page: &mut Page, sink: &mut K)
     ensures { Adds (K.seen sink.old) page.old (K.seen sink.new) page.new (flat_map further_text changes.now) }
 {
     for change in changes {
         page.text(sink, b", ");
-        tell_change(*change, page, sink);
+        write_change(*change, page, sink);
     }
 }
 
-fn tell_changes<K: Sink>(changes: &[Change], page: &mut Page, sink: &mut K)
+fn write_changes<K: Sink>(changes: &[Change], page: &mut Page, sink: &mut K)
     ensures { Adds (K.seen sink.old) page.old (K.seen sink.new) page.new (changes_text changes.now) }
 {
     match changes {
         [] => page.text(sink, b"nothing"),
         [first, further @ ..] => {
-            tell_change(*first, page, sink);
-            tell_further(further, page, sink);
+            write_change(*first, page, sink);
+            write_further(further, page, sink);
         }
     }
 }
 
 /// Tells the changes that an entry made, or that it failed.
-pub(crate) fn tell_effect<K: Sink>(failed: bool, changes: &[Change], page: &mut Page, sink: &mut K)
+pub(crate) fn write_effect<K: Sink>(failed: bool, changes: &[Change], page: &mut Page, sink: &mut K)
     ensures { Adds (K.seen sink.old) page.old (K.seen sink.new) page.new (effect_text (if failed then None else Some changes.now)) }
 {
     if failed {
         page.text(sink, b"failed");
     } else {
-        tell_changes(changes, page, sink);
+        write_changes(changes, page, sink);
     }
 }

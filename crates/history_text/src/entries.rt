@@ -1,60 +1,60 @@
 ghost use Rattle.std.specs.Prelude.{◌++◌};
-ghost use Rattle.worker_desk.specs.Paper.{Adds};
+ghost use Rattle.worker_desk.specs.PageView.{Adds};
 ghost use Rattle.lock_journal.specs.Shown.{entry_shown};
 ghost use Rattle.history_text.specs.Text.{closed_text, kind_text, entry_text, numbered};
 
-use crate::changes::{tell_effect, tell_numbered};
-use crate::outcomes::tell_outcome;
+use crate::changes::{write_effect, write_numbered};
+use crate::outcomes::write_outcome;
 use lock_journal::{Book, Closed, Kind, Shown};
 use worker_desk::{Page, Sink};
 
-fn tell_closed<K: Sink>(word: &[u8], closed: &Closed, page: &mut Page, sink: &mut K)
+fn write_closed<K: Sink>(word: &[u8], closed: &Closed, page: &mut Page, sink: &mut K)
     ensures { Adds (K.seen sink.old) page.old (K.seen sink.new) page.new (word.now ++ closed_text closed.now) }
 {
-    tell_numbered(word, closed.unit, page, sink);
+    write_numbered(word, closed.unit, page, sink);
     page.text(sink, b" ");
-    tell_outcome(&closed.outcome, page, sink);
+    write_outcome(&closed.outcome, page, sink);
 }
 
-fn tell_kind<K: Sink>(kind: &Kind, page: &mut Page, sink: &mut K)
+fn write_kind<K: Sink>(kind: &Kind, page: &mut Page, sink: &mut K)
     ensures { Adds (K.seen sink.old) page.old (K.seen sink.new) page.new (kind_text kind.now) }
 {
     match kind {
-        Kind::Start(task) => tell_numbered(b"start ", *task, page, sink),
-        Kind::Skip(task) => tell_numbered(b"skip ", *task, page, sink),
-        Kind::Submit(action) => tell_numbered(b"submit ", *action, page, sink),
-        Kind::Park(action) => tell_numbered(b"park ", *action, page, sink),
-        Kind::Resume(action) => tell_numbered(b"resume ", *action, page, sink),
-        Kind::Claim(unit) => tell_numbered(b"claim ", *unit, page, sink),
-        Kind::Close(closed) => tell_closed(b"close ", closed, page, sink),
+        Kind::Start(task) => write_numbered(b"start ", *task, page, sink),
+        Kind::Skip(task) => write_numbered(b"skip ", *task, page, sink),
+        Kind::Submit(action) => write_numbered(b"submit ", *action, page, sink),
+        Kind::Park(action) => write_numbered(b"park ", *action, page, sink),
+        Kind::Resume(action) => write_numbered(b"resume ", *action, page, sink),
+        Kind::Claim(unit) => write_numbered(b"claim ", *unit, page, sink),
+        Kind::Close(closed) => write_closed(b"close ", closed, page, sink),
         Kind::Block(None) => page.text(sink, b"block -"),
-        Kind::Block(Some(unit)) => tell_numbered(b"block ", *unit, page, sink),
+        Kind::Block(Some(unit)) => write_numbered(b"block ", *unit, page, sink),
         Kind::Unblock(None) => page.text(sink, b"unblock -"),
-        Kind::Unblock(Some(closed)) => tell_closed(b"unblock ", closed, page, sink),
-        Kind::End(task) => tell_numbered(b"end ", *task, page, sink),
+        Kind::Unblock(Some(closed)) => write_closed(b"unblock ", closed, page, sink),
+        Kind::End(task) => write_numbered(b"end ", *task, page, sink),
         Kind::Acquire => page.text(sink, b"acquire"),
         Kind::HandBack => page.text(sink, b"handback"),
     }
 }
 
 /// Tells the line of an entry.
-pub(crate) fn tell_entry<K: Sink>(number: u64, entry: &Shown<'_>, page: &mut Page, sink: &mut K)
+pub(crate) fn write_entry<K: Sink>(number: u64, entry: &Shown<'_>, page: &mut Page, sink: &mut K)
     ensures { Adds (K.seen sink.old) page.old (K.seen sink.new) page.new (entry_text number (entry_shown entry.now)) }
 {
     page.number(sink, number);
-    tell_numbered(b" w", entry.worker.0, page, sink);
+    write_numbered(b" w", entry.worker.0, page, sink);
     page.text(sink, b" ");
-    tell_kind(&entry.kind, page, sink);
+    write_kind(&entry.kind, page, sink);
     page.text(sink, b" | ");
-    tell_effect(entry.failed, entry.changes, page, sink);
+    write_effect(entry.failed, entry.changes, page, sink);
     page.text(sink, b"\n");
 }
 
 /// Tells a line for each entry of a book, numbered from 1.
-pub(crate) fn tell_entries<K: Sink>(book: &Book, page: &mut Page, sink: &mut K)
+pub(crate) fn write_entries<K: Sink>(book: &Book, page: &mut Page, sink: &mut K)
     ensures { Adds (K.seen sink.old) page.old (K.seen sink.new) page.new (numbered entry_text 1 book.now.history) }
 {
     for place in 0..book.len() {
-        tell_entry(place + 1, &book.entry(place), page, sink);
+        write_entry(place + 1, &book.entry(place), page, sink);
     }
 }

@@ -15,9 +15,9 @@ mod results;
 mod summaries;
 mod units;
 
-pub use histories::{print_history, tell_history};
+pub use histories::{print_history, write_history};
 pub use laws::results_go_by_number;
-pub use results::{print_results, tell_results};
+pub use results::{print_results, write_results};
 
 #[cfg(test)]
 mod tests;

@@ -1,7 +1,7 @@
 ghost use Rattle.std.specs.Prelude.{◌≡◌, ◌<◌, ◌++◌, decimal, false};
 ghost use Rattle.std.specs.List.{flat_map};
 ghost use Rattle.std.specs.Fmt.{digit_glyph};
-ghost use Rattle.worker_desk.specs.Paper.{Adds};
+ghost use Rattle.worker_desk.specs.PageView.{Adds};
 ghost use Rattle.history_text.specs.Text.{hex_text, outcome_text};
 ghost use Rattle.history_text.specs.Results.{value_text};
 
@@ -9,7 +9,7 @@ use item_actions::Outcome;
 use worker_desk::{Page, Sink};
 
 /// Tells an outcome as the history text spells it.
-pub(crate) fn tell_outcome<K: Sink>(outcome: &Outcome, page: &mut Page, sink: &mut K)
+pub(crate) fn write_outcome<K: Sink>(outcome: &Outcome, page: &mut Page, sink: &mut K)
     ensures { Adds (K.seen sink.old) page.old (K.seen sink.new) page.new (outcome_text outcome.now) }
 {
     match outcome {
@@ -19,7 +19,7 @@ pub(crate) fn tell_outcome<K: Sink>(outcome: &Outcome, page: &mut Page, sink: &m
         }
         Outcome::Digest(digest) => {
             page.text(sink, b"digest ");
-            tell_digest(digest, page, sink);
+            write_digest(digest, page, sink);
         }
         Outcome::NotThere => page.text(sink, b"missing"),
         Outcome::TooLong => page.text(sink, b"too-long"),
@@ -30,12 +30,12 @@ pub(crate) fn tell_outcome<K: Sink>(outcome: &Outcome, page: &mut Page, sink: &m
 }
 
 /// Tells an outcome as the results text spells it.
-pub(crate) fn tell_value<K: Sink>(outcome: &Outcome, page: &mut Page, sink: &mut K)
+pub(crate) fn write_value<K: Sink>(outcome: &Outcome, page: &mut Page, sink: &mut K)
     ensures { Adds (K.seen sink.old) page.old (K.seen sink.new) page.new (value_text outcome.now) }
 {
     match outcome {
         Outcome::Number(number) => page.number(sink, *number),
-        Outcome::Digest(digest) => tell_digest(digest, page, sink),
+        Outcome::Digest(digest) => write_digest(digest, page, sink),
         Outcome::NotThere => page.text(sink, b"not there"),
         Outcome::TooLong => page.text(sink, b"too long"),
         Outcome::Fault => page.text(sink, b"fault"),
@@ -44,7 +44,7 @@ pub(crate) fn tell_value<K: Sink>(outcome: &Outcome, page: &mut Page, sink: &mut
     }
 }
 
-fn tell_digest<K: Sink>(digest: &[u8; 32], page: &mut Page, sink: &mut K)
+fn write_digest<K: Sink>(digest: &[u8; 32], page: &mut Page, sink: &mut K)
     ensures { Adds (K.seen sink.old) page.old (K.seen sink.new) page.new (flat_map hex_text digest.now) }
 {
     for byte in digest {

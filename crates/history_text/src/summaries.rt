@@ -1,6 +1,6 @@
 ghost use Rattle.std.specs.Prelude.{◌≡◌, ◌++◌, length, codes, decimal};
 ghost use Rattle.std.specs.List.{sum_by};
-ghost use Rattle.worker_desk.specs.Paper.{Adds};
+ghost use Rattle.worker_desk.specs.PageView.{Adds};
 ghost use Rattle.lock_journal.specs.Closings.{outcome_in};
 ghost use Rattle.run_laws.specs.Marks.{HasEnded};
 ghost use Rattle.history_text.specs.Results.{task_marks, number_in, task_counts, unit_counts, counts_text, summary_of, below};
@@ -54,7 +54,7 @@ fn number_in(outcome: &Outcome) -> u64
 }
 
 /// Tells what `tasks: ` or `units: ` stands before.
-pub(crate) fn tell_counts<K: Sink>(counts: Counts, page: &mut Page, sink: &mut K)
+pub(crate) fn write_counts<K: Sink>(counts: Counts, page: &mut Page, sink: &mut K)
     ensures { Adds (K.seen sink.old) page.old (K.seen sink.new) page.new (counts_text counts) }
 {
     page.number(sink, counts.passed);
@@ -65,24 +65,24 @@ pub(crate) fn tell_counts<K: Sink>(counts: Counts, page: &mut Page, sink: &mut K
     page.text(sink, b" skipped\n");
 }
 
-fn tell_tasks_line<K: Sink>(book: &Book, page: &mut Page, sink: &mut K)
+fn write_tasks_line<K: Sink>(book: &Book, page: &mut Page, sink: &mut K)
     ensures { Adds (K.seen sink.old) page.old (K.seen sink.new) page.new
         (codes "tasks: " ++ counts_text (task_counts (below (length book.now.graph.tasks) (task_marks book.now.state)))) }
 {
     page.text(sink, b"tasks: ");
-    tell_counts(count_tasks(book), page, sink);
+    write_counts(count_tasks(book), page, sink);
 }
 
-fn tell_units_line<K: Sink>(book: &Book, page: &mut Page, sink: &mut K)
+fn write_units_line<K: Sink>(book: &Book, page: &mut Page, sink: &mut K)
     requires { HasEnded book.now.state }
     ensures { Adds (K.seen sink.old) page.old (K.seen sink.new) page.new
         (codes "units: " ++ counts_text (unit_counts (below book.now.graph.units (outcome_in book.now.history)))) }
 {
     page.text(sink, b"units: ");
-    tell_counts(count_units(book), page, sink);
+    write_counts(count_units(book), page, sink);
 }
 
-fn tell_total_line<K: Sink>(book: &Book, page: &mut Page, sink: &mut K)
+fn write_total_line<K: Sink>(book: &Book, page: &mut Page, sink: &mut K)
     requires { HasEnded book.now.state }
     ensures { Adds (K.seen sink.old) page.old (K.seen sink.new) page.new
         (codes "total: " ++ decimal (sum_by number_in (below book.now.graph.units (outcome_in book.now.history))) ++ codes "\n") }
@@ -93,12 +93,12 @@ fn tell_total_line<K: Sink>(book: &Book, page: &mut Page, sink: &mut K)
 }
 
 /// Tells the three lines of summary of a book whose marks have ended.
-pub(crate) fn tell_summary<K: Sink>(book: &Book, page: &mut Page, sink: &mut K)
+pub(crate) fn write_summary<K: Sink>(book: &Book, page: &mut Page, sink: &mut K)
     requires { HasEnded book.now.state }
     ensures { Adds (K.seen sink.old) page.old (K.seen sink.new) page.new
         (summary_of (below (length book.now.graph.tasks) (task_marks book.now.state)) (below book.now.graph.units (outcome_in book.now.history))) }
 {
-    tell_tasks_line(book, page, sink);
-    tell_units_line(book, page, sink);
-    tell_total_line(book, page, sink);
+    write_tasks_line(book, page, sink);
+    write_units_line(book, page, sink);
+    write_total_line(book, page, sink);
 }

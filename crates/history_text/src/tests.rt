@@ -1,9 +1,9 @@
 use crate::counts::Counts;
-use crate::entries::tell_entry;
-use crate::histories::tell_head_lines;
-use crate::results::tell_task_line;
-use crate::summaries::tell_counts;
-use crate::units::tell_unit;
+use crate::entries::write_entry;
+use crate::histories::write_head_lines;
+use crate::results::write_task_line;
+use crate::summaries::write_counts;
+use crate::units::write_unit;
 use item_actions::{Outcome, Text};
 use lock_journal::{Closed, Kind, Shown};
 use resource_lock::{Change, LockId, Mark, MarkId, WorkerId};
@@ -41,10 +41,10 @@ fn head_and_entries_of_the_first_run(rt: HostRuntime) -> Result<(), Fail> {
         unit: 0,
         outcome: Outcome::Number(3),
     };
-    tell_head_lines(1, 1, false, &mut page, &mut sink);
-    tell_entry(1, &by(0, Kind::Start(0), &start), &mut page, &mut sink);
-    tell_entry(3, &by(0, Kind::Park(0), &park), &mut page, &mut sink);
-    tell_entry(5, &by(0, Kind::Close(closed), &close), &mut page, &mut sink);
+    write_head_lines(1, 1, false, &mut page, &mut sink);
+    write_entry(1, &by(0, Kind::Start(0), &start), &mut page, &mut sink);
+    write_entry(3, &by(0, Kind::Park(0), &park), &mut page, &mut sink);
+    write_entry(5, &by(0, Kind::Close(closed), &close), &mut page, &mut sink);
     assert!(rt; page.end(&mut sink).is_ok());
     let text = b"history 1\n\
         workers 1 max 1 parallel no\n\
@@ -71,16 +71,16 @@ fn entries_without_changes_and_without_units(rt: HostRuntime) -> Result<(), Fail
         outcome: Outcome::TooLong,
     };
     let back = [Change::Leave, Change::Unpark(LockId(2))];
-    tell_head_lines(32, 4, true, &mut page, &mut sink);
-    tell_entry(10, &by(1, Kind::Submit(7), &[]), &mut page, &mut sink);
-    tell_entry(11, &failed, &mut page, &mut sink);
-    tell_entry(
+    write_head_lines(32, 4, true, &mut page, &mut sink);
+    write_entry(10, &by(1, Kind::Submit(7), &[]), &mut page, &mut sink);
+    write_entry(11, &failed, &mut page, &mut sink);
+    write_entry(
         12,
         &by(1, Kind::Block(None), &blocked),
         &mut page,
         &mut sink,
     );
-    tell_entry(
+    write_entry(
         13,
         &by(1, Kind::Unblock(Some(closed)), &back),
         &mut page,
@@ -106,17 +106,17 @@ fn results_of_a_failed_task(rt: HostRuntime) -> Result<(), Fail> {
     let mut digest = [0u8; 32];
     digest[0] = 0xAB;
     digest[31] = 0x0F;
-    tell_task_line(&name, Mark::Failed, &mut page, &mut sink);
-    tell_unit(b"lines", &file, &Outcome::Number(3), &mut page, &mut sink);
-    tell_unit(
+    write_task_line(&name, Mark::Failed, &mut page, &mut sink);
+    write_unit(b"lines", &file, &Outcome::Number(3), &mut page, &mut sink);
+    write_unit(
         b"sha256",
         &file,
         &Outcome::Digest(digest),
         &mut page,
         &mut sink,
     );
-    tell_unit(b"fetch", &file, &Outcome::NotThere, &mut page, &mut sink);
-    tell_unit(b"lines", &file, &Outcome::Skipped, &mut page, &mut sink);
+    write_unit(b"fetch", &file, &Outcome::NotThere, &mut page, &mut sink);
+    write_unit(b"lines", &file, &Outcome::Skipped, &mut page, &mut sink);
     assert!(rt; page.end(&mut sink).is_ok());
     let text = b"task count failed\n\
         \x20 lines a.txt 3\n\
@@ -136,8 +136,8 @@ fn counts_of_tasks_and_of_units(rt: HostRuntime) -> Result<(), Fail> {
     units.add_unit(&Outcome::NotThere);
     units.add_unit(&Outcome::Skipped);
     units.add_unit(&Outcome::Fault);
-    tell_counts(Counts::NONE, &mut page, &mut sink);
-    tell_counts(units, &mut page, &mut sink);
+    write_counts(Counts::NONE, &mut page, &mut sink);
+    write_counts(units, &mut page, &mut sink);
     assert!(rt; page.end(&mut sink).is_ok());
     let text = b"0 passed, 0 failed, 0 skipped\n\
         1 passed, 2 failed, 1 skipped\n";

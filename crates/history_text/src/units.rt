@@ -1,43 +1,43 @@
 ghost use Rattle.std.specs.Prelude.{◌≡◌, ◌+◌, ◌<◌, ◌≤◌, ◌^◌, length, map};
 ghost use Rattle.std.specs.List.{flat_map};
-ghost use Rattle.worker_desk.specs.Paper.{Adds};
+ghost use Rattle.worker_desk.specs.PageView.{Adds};
 ghost use Rattle.lock_journal.specs.Closings.{outcome_in};
-ghost use Rattle.plan_reader.specs.Plan.{work_shape, action_shape};
+ghost use Rattle.plan_reader.specs.PlanView.{work_view, plan_action_view};
 ghost use Rattle.plan_reader.specs.Units.{item_unit, fetch_units, action_units};
 ghost use Rattle.run_laws.specs.Marks.{HasEnded};
 ghost use Rattle.history_text.specs.Text.{numbered};
 ghost use Rattle.history_text.specs.Results.{action_word, unit_line, unit_text};
 
 use crate::endings::outcome_of;
-use crate::outcomes::tell_value;
+use crate::outcomes::write_value;
 use daemon_requirements::Work;
-use item_actions::{Action, Outcome, Text};
+use item_actions::{ItemAction, Outcome, Text};
 use lock_journal::Book;
 use plan_reader::PlanAction;
 use worker_desk::{Page, Sink};
 
 /// Tells a task's name or a file.
-pub(crate) fn tell_name<K: Sink>(name: &Text, page: &mut Page, sink: &mut K)
+pub(crate) fn write_name<K: Sink>(name: &Text, page: &mut Page, sink: &mut K)
     ensures { Adds (K.seen sink.old) page.old (K.seen sink.new) page.new name.now }
 {
     page.text(sink, name.bytes());
 }
 
-fn word_of(action: &Action) -> &[u8]
+fn word_of(action: &ItemAction) -> &[u8]
     ensures { result.now ≡ action_word action.now }
 {
     match action {
-        Action::Lines => b"lines",
-        Action::Words => b"words",
-        Action::Bytes => b"bytes",
-        Action::Longest => b"longest",
-        Action::Count(_) => b"count",
-        Action::Sha256 => b"sha256",
+        ItemAction::Lines => b"lines",
+        ItemAction::Words => b"words",
+        ItemAction::Bytes => b"bytes",
+        ItemAction::Longest => b"longest",
+        ItemAction::Count(_) => b"count",
+        ItemAction::Sha256 => b"sha256",
     }
 }
 
 /// Tells the line of a unit: `fetch` or its action's word, its file and its outcome.
-pub(crate) fn tell_unit<K: Sink>(
+pub(crate) fn write_unit<K: Sink>(
     word: &[u8],
     file: &Text,
     outcome: &Outcome,
@@ -49,37 +49,37 @@ pub(crate) fn tell_unit<K: Sink>(
     page.text(sink, b"  ");
     page.text(sink, word);
     page.text(sink, b" ");
-    tell_name(file, page, sink);
+    write_name(file, page, sink);
     page.text(sink, b" ");
-    tell_value(outcome, page, sink);
+    write_value(outcome, page, sink);
     page.text(sink, b"\n");
 }
 
-fn tell_item<K: Sink>(work: &Work, number: u32, book: &Book, page: &mut Page, sink: &mut K)
+fn write_item<K: Sink>(work: &Work, number: u32, book: &Book, page: &mut Page, sink: &mut K)
     requires within { number < book.now.graph.units }
     requires ended { HasEnded book.now.state }
     ensures { Adds (K.seen sink.old) page.old (K.seen sink.new) page.new
-        (unit_text (outcome_in book.now.history) number (item_unit (work_shape work.now))) }
+        (unit_text (outcome_in book.now.history) number (item_unit (work_view work.now))) }
 {
     let outcome = outcome_of(book, number);
-    tell_unit(word_of(&work.action), &work.file, &outcome, page, sink);
+    write_unit(word_of(&work.action), &work.file, &outcome, page, sink);
 }
 
 // The lines of an action's items, whose units are numbered from the first on.
-fn tell_items<K: Sink>(items: &[Work], first: u32, book: &Book, page: &mut Page, sink: &mut K)
+fn write_items<K: Sink>(items: &[Work], first: u32, book: &Book, page: &mut Page, sink: &mut K)
     requires few { book.now.graph.units < 2 ^ 32 }
     requires within { first + length items.now ≤ book.now.graph.units }
     requires ended { HasEnded book.now.state }
     ensures { Adds (K.seen sink.old) page.old (K.seen sink.new) page.new
-        (numbered (unit_text (outcome_in book.now.history)) first (map item_unit (map work_shape items.now))) }
+        (numbered (unit_text (outcome_in book.now.history)) first (map item_unit (map work_view items.now))) }
 {
     for (index, work) in items.iter().enumerate() {
-        tell_item(work, first + index as u32, book, page, sink);
+        write_item(work, first + index as u32, book, page, sink);
     }
 }
 
 // The line of an action's fetch, where it has one. Returns the number of the unit that comes next.
-fn tell_fetch<K: Sink>(
+fn write_fetch<K: Sink>(
     fetch: &Option<Text>,
     first: u32,
     book: &Book,
@@ -97,7 +97,7 @@ fn tell_fetch<K: Sink>(
         None => first,
         Some(file) => {
             let outcome = outcome_of(book, first);
-            tell_unit(b"fetch", file, &outcome, page, sink);
+            write_unit(b"fetch", file, &outcome, page, sink);
             first + 1
         }
     }
@@ -105,7 +105,7 @@ fn tell_fetch<K: Sink>(
 
 // The lines of an action's units, which are numbered from the first on. Returns the number of the
 // unit that comes next.
-fn tell_action<K: Sink>(
+fn write_action<K: Sink>(
     action: &PlanAction,
     first: u32,
     book: &Book,
@@ -113,20 +113,20 @@ fn tell_action<K: Sink>(
     sink: &mut K,
 ) -> u32
     requires few { book.now.graph.units < 2 ^ 32 }
-    requires within { first + length (action_units (action_shape action.now)) ≤ book.now.graph.units }
+    requires within { first + length (action_units (plan_action_view action.now)) ≤ book.now.graph.units }
     requires ended { HasEnded book.now.state }
     ensures text { Adds (K.seen sink.old) page.old (K.seen sink.new) page.new
-        (numbered (unit_text (outcome_in book.now.history)) first (action_units (action_shape action.now))) }
-    ensures next { result ≡ first + length (action_units (action_shape action.now)) }
+        (numbered (unit_text (outcome_in book.now.history)) first (action_units (plan_action_view action.now))) }
+    ensures next { result ≡ first + length (action_units (plan_action_view action.now)) }
 {
-    let first_item = tell_fetch(&action.fetch, first, book, page, sink);
-    tell_items(&action.items, first_item, book, page, sink);
+    let first_item = write_fetch(&action.fetch, first, book, page, sink);
+    write_items(&action.items, first_item, book, page, sink);
     first_item + action.items.len() as u32
 }
 
 /// Tells the lines of a task's units, which are numbered from the first on. Returns the number of the
 /// unit that comes next.
-pub(crate) fn tell_actions<K: Sink>(
+pub(crate) fn write_actions<K: Sink>(
     actions: &[PlanAction],
     first: u32,
     book: &Book,
@@ -134,15 +134,15 @@ pub(crate) fn tell_actions<K: Sink>(
     sink: &mut K,
 ) -> u32
     requires few { book.now.graph.units < 2 ^ 32 }
-    requires within { first + length (flat_map action_units (map action_shape actions.now)) ≤ book.now.graph.units }
+    requires within { first + length (flat_map action_units (map plan_action_view actions.now)) ≤ book.now.graph.units }
     requires ended { HasEnded book.now.state }
     ensures text { Adds (K.seen sink.old) page.old (K.seen sink.new) page.new
-        (numbered (unit_text (outcome_in book.now.history)) first (flat_map action_units (map action_shape actions.now))) }
-    ensures next { result ≡ first + length (flat_map action_units (map action_shape actions.now)) }
+        (numbered (unit_text (outcome_in book.now.history)) first (flat_map action_units (map plan_action_view actions.now))) }
+    ensures next { result ≡ first + length (flat_map action_units (map plan_action_view actions.now)) }
 {
     let mut next = first;
     for action in actions {
-        next = tell_action(action, next, book, page, sink);
+        next = write_action(action, next, book, page, sink);
     }
     next
 }

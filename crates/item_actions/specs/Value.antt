@@ -1,14 +1,14 @@
 -- What an action gives on bytes, and what a unit gives by its file.
 use Rattle.std.specs.Prelude.{ℕ, ◌==◌, nat_lt, List, length, count_by, Option, None, Some, Bool, true, false, if◌then◌else◌}
-use Rattle.item_actions.specs.declared.actions.Action.{Action}
+use Rattle.item_actions.specs.declared.actions.ItemAction.{ItemAction}
 use Rattle.sha2.specs.Sha256.{sha256}
 use Rattle.item_actions.specs.Bytes.{words, longest, occurrences}
-use Rattle.item_actions.specs.declared.actions.Action.TheVariants.{Lines, Words, Bytes, Longest, Count, Sha256}
+use Rattle.item_actions.specs.declared.actions.ItemAction.TheVariants.{Lines, Words, Bytes, Longest, Count, Sha256}
 use Rattle.item_actions.specs.declared.outcomes.Outcome.{Outcome}
 use Rattle.item_actions.specs.declared.outcomes.Outcome.TheVariants.{Number, Digest, NotThere, TooLong}
 
 -- the value of an action on bytes
-abbrev pub act_on : Action → List ℕ → Outcome
+abbrev pub act_on : ItemAction → List ℕ → Outcome
 act_on Lines bytes = Number (count_by (λ b. b == 10) bytes)
 act_on Words bytes = Number (words bytes)
 act_on Bytes bytes = Number (length bytes)
@@ -17,13 +17,13 @@ act_on (Count needle) bytes = Number (occurrences needle bytes)
 act_on Sha256 bytes = Digest (sha256 bytes)
 
 -- the most bytes of a file or a plan
-abbrev pub most_bytes : ℕ
-most_bytes = 4194304
+abbrev pub max_file_bytes : ℕ
+max_file_bytes = 4194304
 
 -- the value by what there is under a file's name
 abbrev pub value_of : (List ℕ → Outcome) → Option (List ℕ) → Outcome
 value_of act None = NotThere
-value_of act (Some bytes) = if nat_lt most_bytes (length bytes) then TooLong else act bytes
+value_of act (Some bytes) = if nat_lt max_file_bytes (length bytes) then TooLong else act bytes
 
 -- an outcome that passes
 abbrev pub passes : Outcome → Bool

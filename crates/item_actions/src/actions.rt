@@ -13,7 +13,7 @@ const LINE_END: u8 = b'\n';
 
 /// What is worked out of a file's bytes.
 #[derive(Clone, Copy, Debug, PartialEq, Eq)]
-pub enum Action {
+pub enum ItemAction {
     /// How many bytes are line ends, 0x0A.
     Lines,
     /// How many maximal runs there are of bytes that aren't space bytes, 0x09 to 0x0D and 0x20.
@@ -29,15 +29,15 @@ pub enum Action {
 }
 
 /// The outcome of an action on bytes. It takes no memory.
-pub fn act(action: &Action, bytes: &[u8]) -> Outcome
+pub fn act(action: &ItemAction, bytes: &[u8]) -> Outcome
     ensures { result ≡ act_on action.now bytes.now }
 {
     match action {
-        Action::Lines => Outcome::Number(count_of_byte(bytes, LINE_END) as u64),
-        Action::Words => Outcome::Number(count_of_words(bytes) as u64),
-        Action::Bytes => Outcome::Number(bytes.len() as u64),
-        Action::Longest => Outcome::Number(longest_piece(bytes) as u64),
-        Action::Count(needle) => Outcome::Number(count_of_needle(bytes, needle) as u64),
-        Action::Sha256 => Outcome::Digest(Sha256::digest(bytes)),
+        ItemAction::Lines => Outcome::Number(count_of_byte(bytes, LINE_END) as u64),
+        ItemAction::Words => Outcome::Number(count_of_words(bytes) as u64),
+        ItemAction::Bytes => Outcome::Number(bytes.len() as u64),
+        ItemAction::Longest => Outcome::Number(longest_piece(bytes) as u64),
+        ItemAction::Count(needle) => Outcome::Number(count_of_needle(bytes, needle) as u64),
+        ItemAction::Sha256 => Outcome::Digest(Sha256::digest(bytes)),
     }
 }

@@ -3,7 +3,7 @@ ghost use Rattle.std.specs.Prelude.{◌≡◌};
 ghost use Rattle.item_actions.specs.Forms.{is_file_byte, is_file_name};
 
 /// The most bytes of a file's name.
-const LONGEST_FILE_NAME: usize = 255;
+const MAX_FILE_NAME_BYTES: usize = 255;
 
 // What has been seen of a part of a file's name. With `.` or `..` alone it names nothing of its own.
 #[derive(Clone, Copy)]
@@ -25,7 +25,7 @@ fn is_file_byte(b: u8) -> bool
 pub fn is_file_name(bytes: &[u8]) -> bool
     ensures { result ≡ is_file_name bytes.now }
 {
-    if LONGEST_FILE_NAME < bytes.len() {
+    if MAX_FILE_NAME_BYTES < bytes.len() {
         return false;
     }
     let mut part = Part::Empty;

@@ -15,10 +15,10 @@ mod places;
 mod texts;
 mod words;
 
-pub use actions::{Action, act};
+pub use actions::{ItemAction, act};
 pub use forms::is_file_name;
 pub use laws::{counting_goes_on_behind_the_first, longest_is_the_greatest_piece};
-pub use limits::MOST_FILE_BYTES;
+pub use limits::MAX_FILE_BYTES;
 pub use needles::Needle;
 pub use outcomes::Outcome;
 pub use texts::{Text, TextRefusal};

@@ -2,12 +2,12 @@ ghost use Rattle.std.specs.Prelude.{◌≡◌, ◌<◌, ◌≤◌, ◌⊎◌, le
 
 use std::marker::Model;
 
-const MOST_BYTES: usize = 64;
+const MAX_NEEDLE_BYTES: usize = 64;
 
 /// What is searched for: 1 to 64 bytes.
 #[derive(Clone, Copy, Debug, PartialEq, Eq)]
 pub struct Needle {
-    bytes: [u8; MOST_BYTES],
+    bytes: [u8; MAX_NEEDLE_BYTES],
     len: usize,
 }
 
@@ -33,10 +33,10 @@ impl Needle {
         ensures { MatchOption result (64 < length bytes.now ⊎ (length bytes.now ≡ 0)) (λ n. n ≡ bytes.now) }
     {
         let len = bytes.len();
-        if len == 0 || MOST_BYTES < len {
+        if len == 0 || MAX_NEEDLE_BYTES < len {
             return None;
         }
-        let mut kept = [0; MOST_BYTES];
+        let mut kept = [0; MAX_NEEDLE_BYTES];
         kept[..len].copy_from_slice(bytes);
         Some(Needle { bytes: kept, len })
     }

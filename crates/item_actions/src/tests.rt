@@ -1,10 +1,10 @@
 use crate::{
-    Action, Needle, Outcome, Text, TextRefusal, act, counting_goes_on_behind_the_first,
+    ItemAction, Needle, Outcome, Text, TextRefusal, act, counting_goes_on_behind_the_first,
     is_file_name, longest_is_the_greatest_piece,
 };
 use std::test::Fail;
 
-fn number_of(action: &Action, bytes: &[u8]) -> Option<u64> {
+fn number_of(action: &ItemAction, bytes: &[u8]) -> Option<u64> {
     match act(action, bytes) {
         Outcome::Number(number) => Some(number),
         _ => None,
@@ -12,7 +12,7 @@ fn number_of(action: &Action, bytes: &[u8]) -> Option<u64> {
 }
 
 fn count_of(needle: &[u8], bytes: &[u8]) -> Option<u64> {
-    number_of(&Action::Count(Needle::of(needle)?), bytes)
+    number_of(&ItemAction::Count(Needle::of(needle)?), bytes)
 }
 
 // The words of a digest as FIPS 180-4 prints them.
@@ -41,10 +41,10 @@ fn numbers_of_small_inputs(rt: HostRuntime) {
         (b"a\r\nbc\r\n", [2, 2, 7, 3]),
     ];
     for (bytes, [lines, words, length, longest]) in rows {
-        assert_eq!(rt; number_of(&Action::Lines, bytes), Some(lines));
-        assert_eq!(rt; number_of(&Action::Words, bytes), Some(words));
-        assert_eq!(rt; number_of(&Action::Bytes, bytes), Some(length));
-        assert_eq!(rt; number_of(&Action::Longest, bytes), Some(longest));
+        assert_eq!(rt; number_of(&ItemAction::Lines, bytes), Some(lines));
+        assert_eq!(rt; number_of(&ItemAction::Words, bytes), Some(words));
+        assert_eq!(rt; number_of(&ItemAction::Bytes, bytes), Some(length));
+        assert_eq!(rt; number_of(&ItemAction::Longest, bytes), Some(longest));
     }
 }
 
@@ -75,7 +75,7 @@ fn laws_on_a_few_bytes(rt: HostRuntime) {
     let rows: [&[u8]; 5] = [b"", b"\n", b"abcd\nab", b"ab\n\nabc\nd", b"\na\n\nbcd"];
     for bytes in rows {
         let lengths = bytes.split(|b| *b == b'\n').map(|piece| piece.len() as u64);
-        assert_eq!(rt; number_of(&Action::Longest, bytes), lengths.max());
+        assert_eq!(rt; number_of(&ItemAction::Longest, bytes), lengths.max());
     }
     counting_goes_on_behind_the_first();
     let bytes = b"banananan";
@@ -91,13 +91,13 @@ fn one_place_of_a_hundred(rt: HostRuntime) {
         bytes[place] = b'\n';
         let at_an_end = place == 0 || place == 99;
         let rest = 99 - place;
-        assert_eq!(rt; number_of(&Action::Lines, &bytes), Some(1));
+        assert_eq!(rt; number_of(&ItemAction::Lines, &bytes), Some(1));
         assert_eq!(rt;
-            number_of(&Action::Words, &bytes),
+            number_of(&ItemAction::Words, &bytes),
             Some(if at_an_end { 1 } else { 2 })
         );
         assert_eq!(rt;
-            number_of(&Action::Longest, &bytes),
+            number_of(&ItemAction::Longest, &bytes),
             Some(place.max(rest) as u64)
         );
         assert_eq!(rt; count_of(b"\n", &bytes), Some(1));
@@ -117,7 +117,7 @@ fn one_word_of_a_hundred_places(rt: HostRuntime) {
     for place in 0..100 {
         let mut bytes = [b' '; 100];
         bytes[place] = b'a';
-        assert_eq!(rt; number_of(&Action::Words, &bytes), Some(1));
+        assert_eq!(rt; number_of(&ItemAction::Words, &bytes), Some(1));
         assert_eq!(rt; count_of(b"a", &bytes), Some(1));
     }
 }
@@ -148,7 +148,7 @@ fn digests_of_the_standard(rt: HostRuntime) {
         ),
     ];
     for (bytes, words) in rows {
-        assert_eq!(rt; act(&Action::Sha256, bytes), digest_of(words));
+        assert_eq!(rt; act(&ItemAction::Sha256, bytes), digest_of(words));
     }
 }
 

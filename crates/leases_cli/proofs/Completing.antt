@@ -5,9 +5,9 @@ use Rattle.std.specs.List.{AllByRecursion}
 use Rattle.std.proofs.lemmas.List.Sums.{sum_by-cons}
 use Rattle.item_actions.specs.Files.{Folder}
 use Rattle.item_actions.specs.declared.outcomes.Outcome.{Outcome}
-use Rattle.lock_journal.specs.Journal.{Journal}
-use Rattle.worker_desk.specs.Sunk.{Sunk, Rises}
-use Rattle.plan_reader.specs.Plan.{PlanShape}
+use Rattle.lock_journal.specs.BookView.{BookView}
+use Rattle.worker_desk.specs.SinkView.{SinkView, Rises}
+use Rattle.plan_reader.specs.PlanView.{PlanView}
 use Rattle.run_laws.specs.ClosedBy.{faults_by}
 use Rattle.build_runner.specs.Phases.{first_worker}
 use Rattle.build_runner.specs.Run.{values_of}
@@ -34,14 +34,14 @@ not_risen before after calm rises = let same = calm.same in let below = calm.bel
 
 -- ---- a run
 
-module _ (once : FirstCycleOnce) (asked : RunWords) (files : Folder) (plan : PlanShape) (has : HasPlan asked files plan) where
-  same_plan : (found : PlanShape) → IsPlanAt (Some files) asked.plan found → found ≡ plan
+module _ (once : FirstCycleOnce) (asked : RunWords) (files : Folder) (plan : PlanView) (has : HasPlan asked files plan) where
+  same_plan : (found : PlanView) → IsPlanAt (Some files) asked.plan found → found ≡ plan
   same_plan found named =
       let bytes = some_is (sym named.1 ∙ has.file) in
       one_plan once has.bytes plan found has.reading (rw bytes at named.2)
 
-  module _ (before after : ℕ) (old new : Sunk) (calm : MetNoFault before after) (quiet : MetNoFault old.faults new.faults) where
-    ran : (found : PlanShape) (b : Journal) (passed : Bool) → IsNamedRun asked (Some files) before after found b → all_pass found b.graph (values_of found (Some files) b.history) ≡ passed → (faults_by first_worker b.history ≡ 0) × (status_by passed ≡ status_by (all_pass plan b.graph (values_of plan (Some files) b.history)))
+  module _ (before after : ℕ) (old new : SinkView) (calm : MetNoFault before after) (quiet : MetNoFault old.faults new.faults) where
+    ran : (found : PlanView) (b : BookView) (passed : Bool) → IsNamedRun asked (Some files) before after found b → all_pass found b.graph (values_of found (Some files) b.history) ≡ passed → (faults_by first_worker b.history ≡ 0) × (status_by passed ≡ status_by (all_pass plan b.graph (values_of plan (Some files) b.history)))
     ran found b passed run pass =
         let same = calm.same in
         let below = calm.below in
@@ -64,7 +64,7 @@ module _ (once : FirstCycleOnce) (asked : RunWords) (files : Folder) (plan : Pla
     no_cause SourceFault c = c
     no_cause NoMemory c = c
 
-    run_succeeds : (status : Status) (book : Option Journal) → RunAnswered asked (Some files) before after old new status book → HasSucceeded plan files status book
+    run_succeeds : (status : Status) (book : Option BookView) → RunAnswered asked (Some files) before after old new status book → HasSucceeded plan files status book
     run_succeeds Passed (Some b) a = ran a.0 b true a.1 a.2.0
     run_succeeds TaskFailed (Some b) a = ran a.0 b false a.1 a.2.0
     run_succeeds SinkFault (Some b) a = absurd (not_risen old.faults new.faults quiet a.2.faults)
@@ -102,7 +102,7 @@ by_frames old new came rest text ends.SourceFault source sink e = not_risen old.
 by_frames old new came rest text ends.SinkFault source sink e = not_risen old.sink.faults new.sink.faults sink e.1.faults
 
 worker_succeeds : (files : Folder) (old new : Outside) (status : Status) → old.files ≡ Some files → MetNoFault old.faults new.faults → MetNoFault old.sink.faults new.sink.faults → MetNoFault old.source.faults new.source.faults → HasWorked old new status → HasWorkedWell files old new status
-worker_succeeds files old new status told calm quiet source w =
+worker_succeeds files old new status known calm quiet source w =
     let same = calm.same in
     let below = calm.below in
     let served = w.1 in
@@ -110,7 +110,7 @@ worker_succeeds files old new status told calm quiet source w =
       w.0,
       record {
         served = served;
-        values = all_valued files served.answers (subst (λ (o : Option Folder). AllByRecursion (IsHonest o) served.answers) told served.answered.honest) (omega arith);
+        values = all_valued files served.answers (subst (λ (o : Option Folder). AllByRecursion (IsHonest o) served.answers) known served.answered.honest) (omega arith);
         by_frames = by_frames old new served.came served.rest (replies served.answers) w.0 source quiet served.end;
       },
       w.2,
@@ -118,12 +118,12 @@ worker_succeeds files old new status told calm quiet source w =
 
 -- ---- the call
 
-succeeds : (once : FirstCycleOnce) (command : Option Command) (files : Folder) (old new : Outside) (status : Status) (book : Option Journal) → old.files ≡ Some files → MetNoFault old.faults new.faults → MetNoFault old.sink.faults new.sink.faults → Answered command old new status book → Succeeds command files old new status book
-succeeds once None files old new status book told calm quiet a = tt
-succeeds once (Some (Run asked)) files old new status book told calm quiet a = λ plan has.
+succeeds : (once : FirstCycleOnce) (command : Option Command) (files : Folder) (old new : Outside) (status : Status) (book : Option BookView) → old.files ≡ Some files → MetNoFault old.faults new.faults → MetNoFault old.sink.faults new.sink.faults → Answered command old new status book → Succeeds command files old new status book
+succeeds once None files old new status book known calm quiet a = tt
+succeeds once (Some (Run asked)) files old new status book known calm quiet a = λ plan has.
     run_succeeds once asked files plan has old.faults new.faults old.sink new.sink calm quiet status book
-    (subst (λ (o : Option Folder). RunAnswered asked o old.faults new.faults old.sink new.sink status book) told a)
-succeeds once (Some Worker) files old new status book told calm quiet a = λ source. worker_succeeds files old new status told calm quiet source a.1
+    (subst (λ (o : Option Folder). RunAnswered asked o old.faults new.faults old.sink new.sink status book) known a)
+succeeds once (Some Worker) files old new status book known calm quiet a = λ source. worker_succeeds files old new status known calm quiet source a.1
 
-pub complete_of : (once : FirstCycleOnce) (command : Option Command) (old new : Outside) (status : Status) (book : Option Journal) → Answered command old new status book → IsComplete command old new status book
-complete_of once command old new status book a = λ files told calm quiet. succeeds once command files old new status book told calm quiet a
+pub complete_of : (once : FirstCycleOnce) (command : Option Command) (old new : Outside) (status : Status) (book : Option BookView) → Answered command old new status book → IsComplete command old new status book
+complete_of once command old new status book a = λ files known calm quiet. succeeds once command files old new status book known calm quiet a

@@ -2,7 +2,7 @@
 use Rattle.std.proofs.Common.{◌≡◌, Bool, true, false, List, ℕ, length, Option, None, Some, sym, ap, cond}
 use Rattle.std.specs.Prelude.{nat_lt, option_map, unwrap_or, Result, Ok, Err}
 use Rattle.std.specs.Option.{option_or}
-use Rattle.item_actions.specs.Value.{most_bytes}
+use Rattle.item_actions.specs.Value.{max_file_bytes}
 use Rattle.plan_table.specs.declared.refusals.Part.{Part}
 use Rattle.plan_table.specs.declared.refusals.Part.TheVariants as part
 use Rattle.plan_table.specs.declared.refusals.PlanRefusal.{PlanRefusal}
@@ -10,7 +10,7 @@ use Rattle.plan_table.specs.declared.refusals.PlanRefusal.TheVariants as refusal
 use Rattle.plan_table.specs.declared.refusals.Which.TheVariants.{Units}
 use Rattle.plan_table.specs.Document.{document_reading, document_of, document_or_not_toml}
 use Rattle.plan_table.specs.Search.{places, table_refusal}
-use Rattle.plan_reader.specs.Plan.{PlanShape}
+use Rattle.plan_reader.specs.PlanView.{PlanView}
 use Rattle.plan_reader.specs.Rows.{excess}
 use Rattle.plan_reader.specs.Search.{table_at, first_twice, twice_in, twice_refusal, refusal_before, refusal_behind, cycle_at, cycle_refusal}
 use Rattle.plan_reader.specs.Reading.{Reads, ReadsBy, AnswersBy, answer_to}
@@ -59,7 +59,7 @@ behind_cycle d =
 of_cycle : (first : Option ℕ) → Never (cycle_refusal first)
 of_cycle first = mapped cycle_at (λ t e. cc e) first
 
-answered : (found : Option PlanRefusal) (plan : PlanShape) → Never found → Err refusal.NotYet ≡ answer_to found plan → ⊥
+answered : (found : Option PlanRefusal) (plan : PlanView) → Never found → Err refusal.NotYet ≡ answer_to found plan → ⊥
 answered None plan h e = cc e
 answered (Some r) plan h e = h (cc e)
 
@@ -80,4 +80,4 @@ of_text bytes true e = cc e
 of_text bytes false e = of_document (document_of bytes) e
 
 pub never_not_yet : (bytes : List ℕ) → Reads bytes (Err refusal.NotYet) → ⊥
-never_not_yet bytes a = reads_by (document_reading bytes) (of_text bytes (nat_lt most_bytes (length bytes))) a
+never_not_yet bytes a = reads_by (document_reading bytes) (of_text bytes (nat_lt max_file_bytes (length bytes))) a

@@ -4,9 +4,9 @@ use Rattle.std.specs.Prelude.{nat_lt, Result, Ok, Err, replicate}
 use Rattle.std.specs.Option.{option_or}
 use Rattle.std.proofs.lemmas.List.{length-replicate}
 use Rattle.item_actions.specs.Files.{Folder, file_of}
-use Rattle.item_actions.specs.Value.{most_bytes}
+use Rattle.item_actions.specs.Value.{max_file_bytes}
 use Rattle.task_ranks.specs.Rank.{Dependencies, IsFirstCycle}
-use Rattle.worker_desk.specs.Reading.{reading, reading_of as read_as, Bytes, TooLong, ReadsFrom}
+use Rattle.worker_desk.specs.ReadView.{reading, reading_of as read_as, Bytes, TooLong, ReadsFrom}
 use Rattle.worker_desk.specs.declared.files.Read.{Read}
 use Rattle.worker_desk.specs.declared.files.Read.TheVariants as reads
 use Rattle.plan_table.specs.declared.refusals.PlanRefusal.{PlanRefusal}
@@ -15,7 +15,7 @@ use Rattle.plan_table.specs.declared.refusals.PlanFail.{PlanFail}
 use Rattle.plan_table.specs.declared.refusals.PlanFail.TheVariants as fail
 use Rattle.plan_table.specs.Document.{document_reading}
 use Rattle.plan_reader.specs.Names.{afters_of}
-use Rattle.plan_reader.specs.Plan.{PlanShape}
+use Rattle.plan_reader.specs.PlanView.{PlanView}
 use Rattle.plan_reader.specs.Planned.{plan_of}
 use Rattle.plan_reader.specs.Search.{refusal_before, refusal_behind, cycle_refusal}
 use Rattle.plan_reader.specs.Reading.{Reads, ReadsBy, AnswersBy, Answer, answer_to, Refuses}
@@ -25,16 +25,16 @@ use Rattle.leases_cli.specs.Causes.{HasBytes, IsRefusal, IsRefusedBy, IsRefusedA
 
 -- ---- a file that is too long
 
-long_by : (bytes : List ℕ) (b : Bool) → nat_lt most_bytes (length bytes) ≡ b → cond b TooLong (Bytes bytes) ≡ TooLong → Reads bytes (Err refusal.TooLong)
+long_by : (bytes : List ℕ) (b : Bool) → nat_lt max_file_bytes (length bytes) ≡ b → cond b TooLong (Bytes bytes) ≡ TooLong → Reads bytes (Err refusal.TooLong)
 long_by bytes true e long = rw e refl
 long_by bytes false e long = absurd (cc long)
 
-in_too_long : (files : Folder) (name : List ℕ) → TooLong ≡ reading (file_of files name) most_bytes → IsRefusedAt (Some files) name refusal.TooLong
+in_too_long : (files : Folder) (name : List ℕ) → TooLong ≡ reading (file_of files name) max_file_bytes → IsRefusedAt (Some files) name refusal.TooLong
 in_too_long files name e = at (file_of files name) refl e
   where
-    at : (found : Option (List ℕ)) → file_of files name ≡ found → TooLong ≡ reading found most_bytes → IsRefusedAt (Some files) name refusal.TooLong
+    at : (found : Option (List ℕ)) → file_of files name ≡ found → TooLong ≡ reading found max_file_bytes → IsRefusedAt (Some files) name refusal.TooLong
     at None f long = absurd (cc long)
-    at (Some bytes) f long = (bytes, f, inl (λ e. cc e, long_by bytes (nat_lt most_bytes (length bytes)) refl (sym long)))
+    at (Some bytes) f long = (bytes, f, inl (λ e. cc e, long_by bytes (nat_lt max_file_bytes (length bytes)) refl (sym long)))
 
 of_length : (bytes : List ℕ) → length bytes ≡ 4194305 → Reads bytes (Err refusal.TooLong)
 of_length bytes e = rw e refl
@@ -42,7 +42,7 @@ of_length bytes e = rw e refl
 untold : (n : ℕ) → n ≡ 4194305 → (name : List ℕ) → IsRefusedAt None name refusal.TooLong
 untold n e name = (replicate n 0, tt, inl (λ e. cc e, of_length (replicate n 0) (length-replicate n 0 ∙ e)))
 
-pub too_long_is_refused : (told : Option Folder) (name : List ℕ) (read : Read) → read ≡ reads.TooLong → ReadsFrom told name most_bytes (Ok read) → IsRefusedAt told name refusal.TooLong
+pub too_long_is_refused : (known : Option Folder) (name : List ℕ) (read : Read) → read ≡ reads.TooLong → ReadsFrom known name max_file_bytes (Ok read) → IsRefusedAt known name refusal.TooLong
 too_long_is_refused None name read e h = untold 4194305 refl name
 too_long_is_refused (Some files) name read e h = in_too_long files name (ap read_as (sym e) ∙ h)
 
@@ -52,13 +52,13 @@ bytes_by : (files : Folder) (name read bytes : List ℕ) (b : Bool) → file_of 
 bytes_by files name read bytes true f e = absurd (cc e)
 bytes_by files name read bytes false f e = f ∙ ap Some (let same : Bytes read ≡ Bytes bytes = e in cc same)
 
-has_bytes : (told : Option Folder) (name : List ℕ) (read : Read) (bytes : Vec ℕ Global) → read ≡ reads.Bytes bytes → ReadsFrom told name most_bytes (Ok read) → HasBytes told name bytes.items
+has_bytes : (known : Option Folder) (name : List ℕ) (read : Read) (bytes : Vec ℕ Global) → read ≡ reads.Bytes bytes → ReadsFrom known name max_file_bytes (Ok read) → HasBytes known name bytes.items
 has_bytes None name read bytes e h = tt
 has_bytes (Some files) name read bytes e h = at (file_of files name) refl (ap read_as (sym e) ∙ h)
   where
-    at : (found : Option (List ℕ)) → file_of files name ≡ found → Bytes bytes.items ≡ reading found most_bytes → file_of files name ≡ Some bytes.items
+    at : (found : Option (List ℕ)) → file_of files name ≡ found → Bytes bytes.items ≡ reading found max_file_bytes → file_of files name ≡ Some bytes.items
     at None f e = absurd (cc e)
-    at (Some found) f e = bytes_by files name bytes.items found (nat_lt most_bytes (length found)) f e
+    at (Some found) f e = bytes_by files name bytes.items found (nat_lt max_file_bytes (length found)) f e
 
 -- the refusal that was read
 read_refusal : (bytes : List ℕ) (r : PlanRefusal) → Reads bytes (Err r) → IsRefusal bytes r
@@ -68,9 +68,9 @@ pub refused_by : (bytes : List ℕ) (f : PlanFail) → Refuses (Reads bytes) f �
 refused_by bytes fail.NoMemory h = tt
 refused_by bytes (fail.Refused r) h = read_refusal bytes r h
 
-pub refused_at : (told : Option Folder) (name : List ℕ) (read : Read) (bytes : Vec ℕ Global) → read ≡ reads.Bytes bytes → ReadsFrom told name most_bytes (Ok read)
-    → (given : List ℕ) → given ≡ bytes.items → (f : PlanFail) (r : PlanRefusal) → f ≡ fail.Refused r → IsRefusedBy given f → IsRefusedAt told name r
-refused_at told name read bytes e h given same f r is refused = (bytes.items, has_bytes told name read bytes e h, subst (λ (x : List ℕ). IsRefusal x r) same (subst (IsRefusedBy given) is refused))
+pub refused_at : (known : Option Folder) (name : List ℕ) (read : Read) (bytes : Vec ℕ Global) → read ≡ reads.Bytes bytes → ReadsFrom known name max_file_bytes (Ok read)
+    → (given : List ℕ) → given ≡ bytes.items → (f : PlanFail) (r : PlanRefusal) → f ≡ fail.Refused r → IsRefusedBy given f → IsRefusedAt known name r
+refused_at known name read bytes e h given same f r is refused = (bytes.items, has_bytes known name read bytes e h, subst (λ (x : List ℕ). IsRefusal x r) same (subst (IsRefusedBy given) is refused))
 
 -- ---- a text has one answer
 
@@ -92,11 +92,11 @@ module _ (once : FirstCycleOnce) where
   reads_once : (bytes : List ℕ) (a b : Answer) → Reads bytes a → Reads bytes b → a ≡ b
   reads_once bytes a b x y = reads_by_once (document_reading bytes) a b x y
 
-  pub one_plan : (bytes : List ℕ) (plan found : PlanShape) → IsPlanToRun bytes plan → IsPlanToRun bytes found → found ≡ plan
+  pub one_plan : (bytes : List ℕ) (plan found : PlanView) → IsPlanToRun bytes plan → IsPlanToRun bytes found → found ≡ plan
   one_plan bytes plan found x y = let e = reads_once bytes (Ok found) (Ok plan) y.0 x.0 in cc e
 
   -- what can be run isn't refused
-  pub not_refused : (bytes : List ℕ) (plan : PlanShape) (r : PlanRefusal) → IsPlanToRun bytes plan → IsRefusal bytes r → ⊥
+  pub not_refused : (bytes : List ℕ) (plan : PlanView) (r : PlanRefusal) → IsPlanToRun bytes plan → IsRefusal bytes r → ⊥
   not_refused bytes plan r x (inl reads) = let e = reads_once bytes (Ok plan) (Err r) x.0 reads.1 in cc e
   not_refused bytes plan r x (inr later) =
       let same = reads_once bytes (Ok plan) (Ok later.1.0) x.0 later.1.1 in

@@ -5,16 +5,16 @@ use Rattle.std.specs.List.{list_all, range_with_len}
 use Rattle.item_actions.specs.Files.{Folder}
 use Rattle.item_actions.specs.declared.outcomes.Outcome.{Outcome}
 use Rattle.resource_lock.specs.Fits.{Fits}
-use Rattle.resource_lock.specs.Outline.{Outline}
-use Rattle.resource_lock.specs.Standing.{Standing, mark_of}
+use Rattle.resource_lock.specs.GraphView.{GraphView}
+use Rattle.resource_lock.specs.StateView.{StateView, mark_of}
 use Rattle.resource_lock.specs.declared.marks.Mark.{Mark}
 use Rattle.resource_lock.specs.declared.marks.MarkId.TheVariants.{Task as TaskOf}
 use Rattle.lock_journal.specs.Closings.{outcome_in}
 use Rattle.lock_journal.specs.Entry.{Entry}
-use Rattle.lock_journal.specs.Journal.{Journal}
+use Rattle.lock_journal.specs.BookView.{BookView}
 use Rattle.lock_journal.specs.Table.{has_passed}
 use Rattle.plan_reader.specs.Graph.{tasks_from}
-use Rattle.plan_reader.specs.Plan.{TaskShape, PlanShape}
+use Rattle.plan_reader.specs.PlanView.{PlanTaskView, PlanView}
 use Rattle.plan_reader.specs.Units.{plan_units}
 use Rattle.run_laws.specs.ByNumber.{outcome_by}
 use Rattle.run_laws.specs.Outcomes.{task_outcome}
@@ -23,7 +23,7 @@ use Rattle.build_runner.specs.Run.{IsRunOf, values_of, depth}
 use Rattle.build_runner.specs.declared.options.RunOptions.{RunOptions}
 use Rattle.command_words.specs.declared.commands.RunWords.{RunWords}
 use Rattle.history_text.specs.Results.{results_text, summary_text, task_marks}
-use Rattle.worker_desk.specs.Sunk.{Sunk}
+use Rattle.worker_desk.specs.SinkView.{SinkView}
 use Rattle.leases_cli.specs.Answered.{RunAnswered, IsNamedRun, all_pass, have_all_passed, history_asked, run_text, text_by_book}
 use Rattle.leases_cli.specs.Reported.{IsReported}
 use Rattle.leases_cli.specs.declared.status.Status.{Status}
@@ -31,17 +31,17 @@ use Rattle.leases_cli.specs.declared.status.Status.TheVariants.{Passed, TaskFail
 
 -- what the laws say that are called
 abbrev pub UnitsByNumber : Type 0
-UnitsByNumber = (g : Outline) (h : List Entry) (v : ℕ → Outcome) (n u : ℕ) → Fits g → ComesTo g h v n → u < g.units → outcome_in h u ≡ outcome_by g v n u
+UnitsByNumber = (g : GraphView) (h : List Entry) (v : ℕ → Outcome) (n u : ℕ) → Fits g → ComesTo g h v n → u < g.units → outcome_in h u ≡ outcome_by g v n u
 
 -- a text of the results goes by number
-abbrev pub ByNumber : (PlanShape → (ℕ → Mark) → (ℕ → Outcome) → List ℕ) → Type 0
-ByNumber text = (p : PlanShape) (marks marks' : ℕ → Mark) (outcomes outcomes' : ℕ → Outcome) → ((t : ℕ) → t < length p.tasks → marks t ≡ marks' t) → ((u : ℕ) → u < length (plan_units p) → outcomes u ≡ outcomes' u) → text p marks outcomes ≡ text p marks' outcomes'
+abbrev pub ByNumber : (PlanView → (ℕ → Mark) → (ℕ → Outcome) → List ℕ) → Type 0
+ByNumber text = (p : PlanView) (marks marks' : ℕ → Mark) (outcomes outcomes' : ℕ → Outcome) → ((t : ℕ) → t < length p.tasks → marks t ≡ marks' t) → ((u : ℕ) → u < length (plan_units p) → outcomes u ≡ outcomes' u) → text p marks outcomes ≡ text p marks' outcomes'
 
 either_by_number : (summary : Bool) → ByNumber results_text → ByNumber summary_text → ByNumber (if summary then summary_text else results_text)
 either_by_number true results summary = summary
 either_by_number false results summary = results
 
-tasks_in_all : (parallel : Bool) (first : ℕ) (ts : List TaskShape) → length (tasks_from parallel first ts) ≡ length ts
+tasks_in_all : (parallel : Bool) (first : ℕ) (ts : List PlanTaskView) → length (tasks_from parallel first ts) ≡ length ts
 tasks_in_all parallel first [] = refl
 tasks_in_all parallel first (t ∷ ts) = ap suc (tasks_in_all parallel (first + length t.actions) ts)
 
@@ -49,29 +49,29 @@ same_on_range : (f g : ℕ → Bool) (first n : ℕ) → ((t : ℕ) → t < firs
 same_on_range f g first zero h = refl
 same_on_range f g first (suc n) h = rw (h first (omega arith)) (ap (λ b. g first && b) (same_on_range f g (first + 1) n (λ t lt. h t (omega arith))))
 
-module _ (plan : PlanShape) (options : RunOptions) (told : Option Folder) (before after : ℕ) (b : Journal) (run : IsRunOf plan options told before after b) where
+module _ (plan : PlanView) (options : RunOptions) (known : Option Folder) (before after : ℕ) (b : BookView) (run : IsRunOf plan options known before after b) where
   pub tasks_in_graph : length b.graph.tasks ≡ length plan.tasks
-  tasks_in_graph = ap (λ (o : Outline). length o.tasks) run.graph ∙ tasks_in_all options.parallel 0 plan.tasks
+  tasks_in_graph = ap (λ (o : GraphView). length o.tasks) run.graph ∙ tasks_in_all options.parallel 0 plan.tasks
 
-  task_mark : (t : ℕ) → t < length b.graph.tasks → mark_of b.state (TaskOf t) ≡ task_outcome b.graph (values_of plan told b.history) (depth plan) t
-  task_mark t lt = ap (λ (s : Standing). mark_of s (TaskOf t)) run.replays ∙ run.results.tasks t lt
+  task_mark : (t : ℕ) → t < length b.graph.tasks → mark_of b.state (TaskOf t) ≡ task_outcome b.graph (values_of plan known b.history) (depth plan) t
+  task_mark t lt = ap (λ (s : StateView). mark_of s (TaskOf t)) run.replays ∙ run.results.tasks t lt
 
-  pub same_pass : have_all_passed b ≡ all_pass plan b.graph (values_of plan told b.history)
+  pub same_pass : have_all_passed b ≡ all_pass plan b.graph (values_of plan known b.history)
   same_pass =
-      same_on_range (λ t. has_passed (mark_of b.state (TaskOf t))) (λ t. has_passed (task_outcome b.graph (values_of plan told b.history) (depth plan) t)) 0 (length b.graph.tasks)
+      same_on_range (λ t. has_passed (mark_of b.state (TaskOf t))) (λ t. has_passed (task_outcome b.graph (values_of plan known b.history) (depth plan) t)) 0 (length b.graph.tasks)
       (λ t lt. ap has_passed (task_mark t (omega arith)))
 
-  pub same_text : (asked : RunWords) → UnitsByNumber → ByNumber results_text → ByNumber summary_text → Fits b.graph → text_by_book asked plan b ≡ run_text asked plan told b
+  pub same_text : (asked : RunWords) → UnitsByNumber → ByNumber results_text → ByNumber summary_text → Fits b.graph → text_by_book asked plan b ≡ run_text asked plan known b
   same_text asked units results summary fits =
-      let v = values_of plan told b.history in
+      let v = values_of plan known b.history in
       ap (λ text. text ++ history_asked asked b)
       (either_by_number asked.summary results summary plan (task_marks b.state) (task_outcome b.graph v (depth plan)) (outcome_in b.history) (outcome_by b.graph v (depth plan))
       (λ t lt. task_mark t (omega (arith, tasks_in_graph)))
-      (λ u lt. units b.graph b.history v (depth plan) u fits run.results (omega (arith, ap (λ (o : Outline). o.units) run.graph))))
+      (λ u lt. units b.graph b.history v (depth plan) u fits run.results (omega (arith, ap (λ (o : GraphView). o.units) run.graph))))
 
 -- a run within a call that began earlier
-pub earlier_start : (plan : PlanShape) (options : RunOptions) (told told' : Option Folder) (start before after : ℕ) (b : Journal) → told' ≡ told → start ≤ before → IsRunOf plan options told' before after b → IsRunOf plan options told start after b
-earlier_start plan options told told' start before after b e le run = record {
+pub earlier_start : (plan : PlanView) (options : RunOptions) (known known' : Option Folder) (start before after : ℕ) (b : BookView) → known' ≡ known → start ≤ before → IsRunOf plan options known' before after b → IsRunOf plan options known start after b
+earlier_start plan options known known' start before after b e le run = record {
   graph = run.graph;
   replays = run.replays;
   lawful = run.lawful;
@@ -85,10 +85,10 @@ earlier_start plan options told told' start before after b e le run = record {
 }
 
 -- what was reported of a run is its answer
-pub reported_answers : (asked : RunWords) (told : Option Folder) (before after : ℕ) (old new : Sunk) (plan : PlanShape) (b : Journal) (book : Option Journal) (status : Status) → book ≡ Some b → IsNamedRun asked told before after plan b → IsReported (all_pass plan b.graph (values_of plan told b.history)) old new (run_text asked plan told b) status → RunAnswered asked told before after old new status book
-reported_answers asked told before after old new plan b book status e run reported = subst (RunAnswered asked told before after old new status) (sym e) (by_status status reported)
+pub reported_answers : (asked : RunWords) (known : Option Folder) (before after : ℕ) (old new : SinkView) (plan : PlanView) (b : BookView) (book : Option BookView) (status : Status) → book ≡ Some b → IsNamedRun asked known before after plan b → IsReported (all_pass plan b.graph (values_of plan known b.history)) old new (run_text asked plan known b) status → RunAnswered asked known before after old new status book
+reported_answers asked known before after old new plan b book status e run reported = subst (RunAnswered asked known before after old new status) (sym e) (by_status status reported)
   where
-    by_status : (s : Status) → IsReported (all_pass plan b.graph (values_of plan told b.history)) old new (run_text asked plan told b) s → RunAnswered asked told before after old new s (Some b)
+    by_status : (s : Status) → IsReported (all_pass plan b.graph (values_of plan known b.history)) old new (run_text asked plan known b) s → RunAnswered asked known before after old new s (Some b)
     by_status Passed r = (plan, run, r)
     by_status TaskFailed r = (plan, run, r)
     by_status SinkFault r = (plan, run, r)

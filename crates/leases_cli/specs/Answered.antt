@@ -3,15 +3,15 @@ use Rattle.std.specs.Prelude.{ℕ, ◌≡◌, ◌⊎◌, Bool, true, false, if�
 use Rattle.std.specs.List.{list_all, range_with_len}
 use Rattle.item_actions.specs.Files.{Folder}
 use Rattle.item_actions.specs.declared.outcomes.Outcome.{Outcome}
-use Rattle.resource_lock.specs.Outline.{Outline}
-use Rattle.resource_lock.specs.Standing.{mark_of}
+use Rattle.resource_lock.specs.GraphView.{GraphView}
+use Rattle.resource_lock.specs.StateView.{mark_of}
 use Rattle.resource_lock.specs.declared.marks.Mark.{Mark}
 use Rattle.resource_lock.specs.declared.marks.MarkId.TheVariants.{Task as TaskOf}
 use Rattle.lock_journal.specs.Closings.{outcome_in}
-use Rattle.lock_journal.specs.Journal.{Journal}
+use Rattle.lock_journal.specs.BookView.{BookView}
 use Rattle.lock_journal.specs.Table.{has_passed}
-use Rattle.worker_desk.specs.Sunk.{Sunk, Wrote, Broke}
-use Rattle.plan_reader.specs.Plan.{PlanShape}
+use Rattle.worker_desk.specs.SinkView.{SinkView, Wrote, Broke}
+use Rattle.plan_reader.specs.PlanView.{PlanView}
 use Rattle.run_laws.specs.ByNumber.{outcome_by}
 use Rattle.run_laws.specs.Outcomes.{task_outcome}
 use Rattle.build_runner.specs.Run.{IsRunOf, values_of, depth}
@@ -29,77 +29,77 @@ use Rattle.leases_cli.specs.declared.status.Status.{Status}
 use Rattle.leases_cli.specs.declared.status.Status.TheVariants.{Passed, TaskFailed, BadWords, SinkFault, NoMemory}
 
 abbrev pub options_of : RunWords → RunOptions
-options_of run = record { workers = run.workers; max = run.max; parallel = run.parallel }
+options_of run = record { workers = run.workers; max_leases = run.max_leases; parallel = run.parallel }
 
 -- The book is that of a run of this plan, which stands under the name that is asked for, with the options asked for.
-pub record IsNamedRun (asked : RunWords) (told : Option Folder) (before after : ℕ) (plan : PlanShape) (b : Journal) : Type 0 where
-  pub named : IsPlanAt told asked.plan plan
-  pub run : IsRunOf plan (options_of asked) told before after b
+pub record IsNamedRun (asked : RunWords) (known : Option Folder) (before after : ℕ) (plan : PlanView) (b : BookView) : Type 0 where
+  pub named : IsPlanAt known asked.plan plan
+  pub run : IsRunOf plan (options_of asked) known before after b
 
 -- whether every task passes, by the plan and what its units give
-abbrev pub all_pass : PlanShape → Outline → (ℕ → Outcome) → Bool
+abbrev pub all_pass : PlanView → GraphView → (ℕ → Outcome) → Bool
 all_pass plan g v = list_all (λ t. has_passed (task_outcome g v (depth plan) t)) (range_with_len 0 (length g.tasks))
 
 -- whether every task has passed, by the book
-abbrev pub have_all_passed : Journal → Bool
+abbrev pub have_all_passed : BookView → Bool
 have_all_passed b = list_all (λ t. has_passed (mark_of b.state (TaskOf t))) (range_with_len 0 (length b.graph.tasks))
 
 -- ---- the text that the words ask for: the results or their summary, and the history where it is asked for
 
-abbrev pub results_asked : RunWords → PlanShape → (ℕ → Mark) → (ℕ → Outcome) → List ℕ
+abbrev pub results_asked : RunWords → PlanView → (ℕ → Mark) → (ℕ → Outcome) → List ℕ
 results_asked asked = if asked.summary then summary_text else results_text
 
-abbrev pub history_asked : RunWords → Journal → List ℕ
-history_asked asked b = if asked.history then history_text b.graph.workers b.graph.max asked.parallel b.history else []
+abbrev pub history_asked : RunWords → BookView → List ℕ
+history_asked asked b = if asked.history then history_text b.graph.workers b.graph.max_leases asked.parallel b.history else []
 
 -- by the plan and what its units give
-abbrev pub text_by_plan : RunWords → PlanShape → (ℕ → Outcome) → Journal → List ℕ
+abbrev pub text_by_plan : RunWords → PlanView → (ℕ → Outcome) → BookView → List ℕ
 text_by_plan asked plan v b = results_asked asked plan (task_outcome b.graph v (depth plan)) (outcome_by b.graph v (depth plan)) ++ history_asked asked b
 
 -- the same by what the book says
-abbrev pub text_by_book : RunWords → PlanShape → Journal → List ℕ
+abbrev pub text_by_book : RunWords → PlanView → BookView → List ℕ
 text_by_book asked plan b = results_asked asked plan (task_marks b.state) (outcome_in b.history) ++ history_asked asked b
 
-abbrev pub run_text : RunWords → PlanShape → Option Folder → Journal → List ℕ
-run_text asked plan told b = text_by_plan asked plan (values_of plan told b.history) b
+abbrev pub run_text : RunWords → PlanView → Option Folder → BookView → List ℕ
+run_text asked plan known b = text_by_plan asked plan (values_of plan known b.history) b
 
 -- ---- a refusal
 
 -- the line of a refusal was written, or the sink failed in it
-abbrev pub IsToldAs : Status → Sunk → Sunk → Status → Type 0
+abbrev pub IsToldAs : Status → SinkView → SinkView → Status → Type 0
 IsToldAs refusal old new status = ((status ≡ refusal) × Wrote old new (line_of refusal)) ⊎ ((status ≡ SinkFault) × Broke old new (line_of refusal))
 
--- there was no memory, and nothing was written; or a refusal was told that has its cause
-abbrev pub IsRefusedFor : (Status → Type 0) → Sunk → Sunk → Status → Type 0
+-- there was no memory, and nothing was written; or a refusal was known that has its cause
+abbrev pub IsRefusedFor : (Status → Type 0) → SinkView → SinkView → Status → Type 0
 IsRefusedFor IsCause old new status = ((status ≡ NoMemory) × Wrote old new []) ⊎ ((refusal : Status) × IsCause refusal × IsToldAs refusal old new status)
 
 -- ---- the answer
 
 -- of the run of some plan this holds
-abbrev pub OfRun : RunWords → Option Folder → ℕ → ℕ → Journal → (PlanShape → Type 0) → Type 0
-OfRun asked told before after b P = (plan : PlanShape) × IsNamedRun asked told before after plan b × P plan
+abbrev pub OfRun : RunWords → Option Folder → ℕ → ℕ → BookView → (PlanView → Type 0) → Type 0
+OfRun asked known before after b P = (plan : PlanView) × IsNamedRun asked known before after plan b × P plan
 
 -- whether all its tasks pass, and that its text was written
-abbrev pub RunWrote : Bool → RunWords → Option Folder → Sunk → Sunk → Journal → PlanShape → Type 0
-RunWrote passed asked told old new b plan = (all_pass plan b.graph (values_of plan told b.history) ≡ passed) × Wrote old new (run_text asked plan told b)
+abbrev pub RunWrote : Bool → RunWords → Option Folder → SinkView → SinkView → BookView → PlanView → Type 0
+RunWrote passed asked known old new b plan = (all_pass plan b.graph (values_of plan known b.history) ≡ passed) × Wrote old new (run_text asked plan known b)
 
--- How a run ended, by the files where told, the desk's count of faults before and after, and the sink before and after.
-abbrev pub RunEnded : RunWords → Option Folder → ℕ → ℕ → Sunk → Sunk → Journal → Status → Type 0
+-- How a run ended, by the files where known, the desk's count of faults before and after, and the sink before and after.
+abbrev pub RunEnded : RunWords → Option Folder → ℕ → ℕ → SinkView → SinkView → BookView → Status → Type 0
 -- every task passed, and all of the text was written
-RunEnded asked told before after old new b Passed = OfRun asked told before after b (RunWrote true asked told old new b)
+RunEnded asked known before after old new b Passed = OfRun asked known before after b (RunWrote true asked known old new b)
 -- some task didn't, and all of the text was written
-RunEnded asked told before after old new b TaskFailed = OfRun asked told before after b (RunWrote false asked told old new b)
+RunEnded asked known before after old new b TaskFailed = OfRun asked known before after b (RunWrote false asked known old new b)
 -- the sink failed, and has the beginning of the text
-RunEnded asked told before after old new b SinkFault = OfRun asked told before after b (λ plan. Broke old new (run_text asked plan told b))
-RunEnded asked told before after old new b _ = ⊥
+RunEnded asked known before after old new b SinkFault = OfRun asked known before after b (λ plan. Broke old new (run_text asked plan known b))
+RunEnded asked known before after old new b _ = ⊥
 
--- What `run` answers: a run ended; or there was no memory, or no plan was read, for a cause that was told.
-abbrev pub RunAnswered : RunWords → Option Folder → ℕ → ℕ → Sunk → Sunk → Status → Option Journal → Type 0
-RunAnswered asked told before after old new status (Some b) = RunEnded asked told before after old new b status
-RunAnswered asked told before after old new status None = IsRefusedFor (IsReadCause told before after asked.plan) old new status
+-- What `run` answers: a run ended; or there was no memory, or no plan was read, for a cause that was known.
+abbrev pub RunAnswered : RunWords → Option Folder → ℕ → ℕ → SinkView → SinkView → Status → Option BookView → Type 0
+RunAnswered asked known before after old new status (Some b) = RunEnded asked known before after old new b status
+RunAnswered asked known before after old new status None = IsRefusedFor (IsReadCause known before after asked.plan) old new status
 
 -- What a call answers, by the command, if the words are one, and the outside before and after.
-abbrev pub Answered : Option Command → Outside → Outside → Status → Option Journal → Type 0
+abbrev pub Answered : Option Command → Outside → Outside → Status → Option BookView → Type 0
 Answered None old new status book = (book ≡ None) × IsRefusedFor (λ refusal. refusal ≡ BadWords) old.sink new.sink status
 Answered (Some (Run asked)) old new status book = RunAnswered asked old.files old.faults new.faults old.sink new.sink status book
 Answered (Some Worker) old new status book = (book ≡ None) × HasWorked old new status

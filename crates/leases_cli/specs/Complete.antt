@@ -3,8 +3,8 @@ use Rattle.std.specs.Prelude.{ℕ, ◌≡◌, ◌-◌, ◌^◌, ◌<◌, ◌⊎�
 use Rattle.std.specs.List.{AllByRecursion}
 use Rattle.item_actions.specs.Files.{Folder, file_of}
 use Rattle.item_actions.specs.declared.outcomes.Outcome.TheVariants as outcome
-use Rattle.lock_journal.specs.Journal.{Journal}
-use Rattle.plan_reader.specs.Plan.{PlanShape}
+use Rattle.lock_journal.specs.BookView.{BookView}
+use Rattle.plan_reader.specs.PlanView.{PlanView}
 use Rattle.run_laws.specs.ClosedBy.{faults_by}
 use Rattle.build_runner.specs.Phases.{first_worker}
 use Rattle.build_runner.specs.Run.{values_of}
@@ -29,7 +29,7 @@ pub record MetNoFault (before after : ℕ) : Type 0 where
 -- ---- a run
 
 -- the files have this plan under the name that is asked for
-pub record HasPlan (asked : RunWords) (files : Folder) (plan : PlanShape) : Type 0 where
+pub record HasPlan (asked : RunWords) (files : Folder) (plan : PlanView) : Type 0 where
   pub bytes : List ℕ
   pub file : file_of files asked.plan ≡ Some bytes
   pub reading : IsPlanToRun bytes plan
@@ -39,7 +39,7 @@ status_by true = Passed
 status_by false = TaskFailed
 
 -- The run ended, no unit was closed with Fault, and the status is that of the results; or there was no memory.
-abbrev pub HasSucceeded : PlanShape → Folder → Status → Option Journal → Type 0
+abbrev pub HasSucceeded : PlanView → Folder → Status → Option BookView → Type 0
 HasSucceeded plan files status (Some b) = (faults_by first_worker b.history ≡ 0) × (status ≡ status_by (all_pass plan b.graph (values_of plan (Some files) b.history)))
 HasSucceeded plan files status None = status ≡ NoMemory
 
@@ -67,12 +67,12 @@ HasWorkedWell files old new status = (end : Served) × HasServedWell files old n
 -- ---- the call
 
 -- by the command, where these are the files, and neither the desk nor the sink met a fault
-abbrev pub Succeeds : Option Command → Folder → Outside → Outside → Status → Option Journal → Type 0
+abbrev pub Succeeds : Option Command → Folder → Outside → Outside → Status → Option BookView → Type 0
 Succeeds None files old new status book = Unit {0}
-Succeeds (Some (Run asked)) files old new status book = (plan : PlanShape) → HasPlan asked files plan → HasSucceeded plan files status book
+Succeeds (Some (Run asked)) files old new status book = (plan : PlanView) → HasPlan asked files plan → HasSucceeded plan files status book
 Succeeds (Some Worker) files old new status book = MetNoFault old.source.faults new.source.faults → HasWorkedWell files old new status
 
--- where the files are told
-abbrev pub IsComplete : Option Command → Outside → Outside → Status → Option Journal → Type 0
+-- where the files are known
+abbrev pub IsComplete : Option Command → Outside → Outside → Status → Option BookView → Type 0
 IsComplete command old new status book =
     (files : Folder) → old.files ≡ Some files → MetNoFault old.faults new.faults → MetNoFault old.sink.faults new.sink.faults → Succeeds command files old new status book

@@ -1,11 +1,11 @@
 -- How the printing of a run ends.
 use Rattle.std.specs.Prelude.{◌≡◌, ℕ, List, Bool, true, false}
-use Rattle.worker_desk.specs.Sunk.{Sunk, Wrote, Broke}
+use Rattle.worker_desk.specs.SinkView.{SinkView, Wrote, Broke}
 use Rattle.leases_cli.specs.declared.status.Status.{Status}
 use Rattle.leases_cli.specs.declared.status.Status.TheVariants.{Passed, TaskFailed, SinkFault}
 
 -- the whole text was written, or the sink failed
-abbrev pub IsReported : Bool → Sunk → Sunk → List ℕ → Status → Type 0
+abbrev pub IsReported : Bool → SinkView → SinkView → List ℕ → Status → Type 0
 IsReported passed old new text Passed = (passed ≡ true) × Wrote old new text
 IsReported passed old new text TaskFailed = (passed ≡ false) × Wrote old new text
 IsReported passed old new text SinkFault = Broke old new text

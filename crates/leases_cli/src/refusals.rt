@@ -2,8 +2,8 @@
 ghost use Rattle.leases_cli.specs.Lines.{bad_plan_line, excess_label, label_of, line_of, part_word, place_text};
 ghost use Rattle.plan_table.specs.First.{place_of};
 ghost use Rattle.std.specs.Prelude.{◌≡◌};
-ghost use Rattle.worker_desk.specs.Paper.{Adds};
-ghost use Rattle.worker_desk.specs.Sunk.{Prints};
+ghost use Rattle.worker_desk.specs.PageView.{Adds};
+ghost use Rattle.worker_desk.specs.SinkView.{Prints};
 
 use crate::status::Status;
 use plan_reader::{Part, Place, PlanRefusal, Which};
@@ -83,7 +83,7 @@ fn part_word(part: Part) -> &'static [u8]
     }
 }
 
-fn tell_place<K: Sink>(place: Place, page: &mut Page, sink: &mut K)
+fn write_place<K: Sink>(place: Place, page: &mut Page, sink: &mut K)
     ensures { Adds (K.seen sink.old) page.old (K.seen sink.new) page.new (place_text place) }
 {
     page.text(sink, part_word(place.part));
@@ -91,23 +91,23 @@ fn tell_place<K: Sink>(place: Place, page: &mut Page, sink: &mut K)
     page.number(sink, u64::from(place.number));
 }
 
-fn tell_bad_plan<K: Sink>(refusal: PlanRefusal, page: &mut Page, sink: &mut K)
+fn write_bad_plan<K: Sink>(refusal: PlanRefusal, page: &mut Page, sink: &mut K)
     ensures { Adds (K.seen sink.old) page.old (K.seen sink.new) page.new (bad_plan_line refusal) }
 {
     page.text(sink, b"bad plan ");
     page.text(sink, label_of(refusal));
     page.text(sink, b" at ");
-    tell_place(place_of(refusal), page, sink);
+    write_place(place_of(refusal), page, sink);
     page.text(sink, b"\n");
 }
 
 /// Tells the line of a refusal. The other statuses have none.
-fn tell_refusal<K: Sink>(refusal: &Status, page: &mut Page, sink: &mut K)
+fn write_refusal<K: Sink>(refusal: &Status, page: &mut Page, sink: &mut K)
     ensures { Adds (K.seen sink.old) page.old (K.seen sink.new) page.new (line_of refusal.now) }
 {
     match refusal {
         Status::BadWords => page.text(sink, b"bad words\n"),
-        Status::BadPlan(refusal) => tell_bad_plan(*refusal, page, sink),
+        Status::BadPlan(refusal) => write_bad_plan(*refusal, page, sink),
         Status::NoPlan => page.text(sink, b"no plan\n"),
         Status::PlanFault => page.text(sink, b"plan not read\n"),
         Status::Passed
@@ -124,6 +124,6 @@ pub(crate) fn print_refusal<K: Sink>(refusal: &Status, sink: &mut K) -> Result<(
     ensures { Prints (K.seen sink.old) (K.seen sink.new) (line_of refusal.now) result }
 {
     let mut page = Page::new();
-    tell_refusal(refusal, &mut page, sink);
+    write_refusal(refusal, &mut page, sink);
     page.end(sink)
 }

@@ -1,10 +1,10 @@
 ghost use Rattle.std.specs.Prelude.{◌≡◌, ◌≢◌, ◌≤◌, ℕ, true, [], List, Option, Some, None, IfOk, IfErr, length, drop, get_or, if◌then◌else◌};
 ghost use Rattle.std.specs.List.{list_all, range_with_len};
-ghost use Rattle.resource_lock.specs.Standing.{mark_of};
+ghost use Rattle.resource_lock.specs.StateView.{mark_of};
 ghost use Rattle.resource_lock.specs.declared.marks.MarkId.TheVariants as ids;
 ghost use Rattle.lock_journal.specs.Table.{has_passed};
-ghost use Rattle.worker_desk.specs.Paper.{Adds};
-ghost use Rattle.worker_desk.specs.Sunk.{Prints};
+ghost use Rattle.worker_desk.specs.PageView.{Adds};
+ghost use Rattle.worker_desk.specs.SinkView.{Prints};
 ghost use Rattle.plan_reader.specs.Units.{plan_units};
 ghost use Rattle.run_laws.specs.Marks.{HasEnded};
 ghost use Rattle.item_actions.specs.Files.{Folder};
@@ -21,8 +21,8 @@ use crate::status::Status;
 use crate::worker::serve_worker;
 use build_runner::{RunOptions, can_run, run_plan};
 use command_words::{Command, RunWords, WordsFail, read_command};
-use history_text::{results_go_by_number, tell_history, tell_results};
-use item_actions::{MOST_FILE_BYTES, Text};
+use history_text::{results_go_by_number, write_history, write_results};
+use item_actions::{MAX_FILE_BYTES, Text};
 use lock_journal::Book;
 use plan_reader::{Plan, PlanFail, PlanRefusal, read_plan};
 use resource_lock::{Mark, MarkId, State};
@@ -61,7 +61,7 @@ fn read<D: Files>(alloc: Global, name: &Text, desk: &mut D) -> Result<Plan, Stat
     ensures plan { IfOk result (λ plan. IsPlanAt (D.files desk.old) name.now plan) }
     ensures refused { IfErr result (λ status. OrNoMemory (IsReadCause (D.files desk.old) (D.faults desk.old) (D.faults desk.new) name.now status) status) }
 {
-    match desk.read(alloc, name, MOST_FILE_BYTES) {
+    match desk.read(alloc, name, MAX_FILE_BYTES) {
         Ok(Read::Bytes(bytes)) => match plan_to_run(alloc, bytes.as_slice()) {
             Ok(plan) => Ok(plan),
             Err(PlanFail::Refused(refusal)) => Err(Status::BadPlan(refusal)),
@@ -75,11 +75,11 @@ fn read<D: Files>(alloc: Global, name: &Text, desk: &mut D) -> Result<Plan, Stat
 }
 
 /// Tells the history of a run, where the words ask for it.
-fn tell_history_asked<O: Sink>(asked: &RunWords, book: &Book, page: &mut Page, out: &mut O)
+fn write_history_asked<O: Sink>(asked: &RunWords, book: &Book, page: &mut Page, out: &mut O)
     ensures { Adds (O.seen out.old) page.old (O.seen out.new) page.new (history_asked asked.now book.now) }
 {
     if asked.history {
-        tell_history(book, asked.parallel, page, out);
+        write_history(book, asked.parallel, page, out);
     }
 }
 
@@ -91,8 +91,8 @@ fn print_run<O: Sink>(asked: &RunWords, plan: &Plan, book: &Book, out: &mut O) -
     ensures { Prints (O.seen out.old) (O.seen out.new) (text_by_book asked.now plan.now book.now) result }
 {
     let mut page = Page::new();
-    tell_results(plan, book, asked.summary, &mut page, out);
-    tell_history_asked(asked, book, &mut page, out);
+    write_results(plan, book, asked.summary, &mut page, out);
+    write_history_asked(asked, book, &mut page, out);
     page.end(out)
 }
 
@@ -152,10 +152,10 @@ fn refuse<O: Sink>(refusal: Status, out: &mut O) -> Ended
 
 /// Prints a run of the plan, and says how it went by the plan.
 fn report_run<O: Sink>(asked: &RunWords, plan: &Plan, book: Book, out: &mut O) -> Ended
-    requires { (told : Option Folder) × (before : ℕ) × (after : ℕ) × IsRunOf plan.now (options_of asked.now) told before after book }
+    requires { (known : Option Folder) × (before : ℕ) × (after : ℕ) × IsRunOf plan.now (options_of asked.now) known before after book }
     ensures book { result.book ≡ Some book }
-    ensures status { (told : Option Folder) (before after : ℕ) → IsRunOf plan.now (options_of asked.now) told before after book
-        → IsReported (all_pass plan.now book.graph (values_of plan.now told book.history)) (O.seen out.old) (O.seen out.new) (run_text asked.now plan.now told book) result.status }
+    ensures status { (known : Option Folder) (before after : ℕ) → IsRunOf plan.now (options_of asked.now) known before after book
+        → IsReported (all_pass plan.now book.graph (values_of plan.now known book.history)) (O.seen out.old) (O.seen out.new) (run_text asked.now plan.now known book) result.status }
 {
     let _ = book.graph();
     outcomes_go_by_number();
@@ -177,7 +177,7 @@ fn run<D: Files, O: Sink>(alloc: Global, asked: &RunWords, desk: &mut D, out: &m
     };
     let options = RunOptions {
         workers: asked.workers,
-        max: asked.max,
+        max_leases: asked.max_leases,
         parallel: asked.parallel,
     };
     match run_plan(alloc, &plan, &options, desk) {

@@ -4,18 +4,18 @@ use Rattle.std.proofs.lemmas.Bool.{and_from, and_left, and_right, false≢true}
 use Rattle.std.specs.List.{range_with_len}
 use Rattle.std.proofs.lemmas.List.{append_assoc, length-append, length_push, take_more, take-append-drop}
 use Rattle.resource_lock.proofs.Runs.{belongs_along, same_shape-make_all, named_along, make_all-append, can_all-append}
-use Rattle.resource_lock.specs.Standing.{Standing}
-use Rattle.resource_lock.specs.Outline.{Outline}
+use Rattle.resource_lock.specs.StateView.{StateView}
+use Rattle.resource_lock.specs.GraphView.{GraphView}
 use Rattle.resource_lock.specs.Shape.{SameShape, BelongsTo}
 use Rattle.resource_lock.specs.Change.{can, make_all, can_all, NamesOnly}
 use Rattle.resource_lock.specs.declared.ids.WorkerId.{WorkerId}
 use Rattle.resource_lock.specs.declared.changes.Change.{Change}
-use Rattle.lock_journal.specs.Attempt.{Attempt, noted, Worked}
+use Rattle.lock_journal.specs.TentativeView.{TentativeView, noted, Worked}
 use Rattle.lock_journal.specs.Making.{MadeAll, Makes}
 use Rattle.lock_journal.proofs.Steps.{leads_none, leads_more}
 
 -- one change that can be made
-pub makes_one : (t : Attempt) (c : Change) → NamesOnly t.state c → can t.state t.worker c ≡ true → 0 < t.room → Makes t (noted t c) (c ∷ []) true
+pub makes_one : (t : TentativeView) (c : Change) → NamesOnly t.state c → can t.state t.worker c ≡ true → 0 < t.room → Makes t (noted t c) (c ∷ []) true
 makes_one t c named possible room =
     let longer : length (t.made ++ c ∷ []) ≡ length t.made + 1 = length_push t.made c in
     record {
@@ -29,12 +29,12 @@ makes_one t c named possible room =
     }
 
 -- a list, and then another
-pub makes_then : {a b c : Attempt} {cs ds : List Change} {all : Bool} → Makes a b cs true → Makes b c ds all → Makes a c (cs ++ ds) all
+pub makes_then : {a b c : TentativeView} {cs ds : List Change} {all : Bool} → Makes a b cs true → Makes b c ds all → Makes a c (cs ++ ds) all
 makes_then {a} {b} {c} {cs} {ds} {all} first second =
     let whole : MadeAll a b cs = first.whole refl in
     let split : can_all a.state a.worker (cs ++ ds) ≡ (can_all a.state a.worker cs && can_all b.state b.worker ds) =
     can_all-append a.state a.worker cs ds
-    ∙ ap (λ (s : Standing). can_all a.state a.worker cs && can_all s a.worker ds) (sym whole.state)
+    ∙ ap (λ (s : StateView). can_all a.state a.worker cs && can_all s a.worker ds) (sym whole.state)
     ∙ ap (λ (w : WorkerId). can_all a.state a.worker cs && can_all b.state w ds) (sym first.worker) in
     let long : length (cs ++ ds) ≡ length cs + length ds = length-append cs ds in
     record {
@@ -47,7 +47,7 @@ makes_then {a} {b} {c} {cs} {ds} {all} first second =
         made = rest.made ∙ ap (λ (made : List Change). made ++ ds) whole.made ∙ append_assoc a.made cs ds;
         state = rest.state
             ∙ ap (λ (w : WorkerId). make_all b.state w ds) first.worker
-            ∙ ap (λ (s : Standing). make_all s a.worker ds) whole.state
+            ∙ ap (λ (s : StateView). make_all s a.worker ds) whole.state
             ∙ sym (make_all-append a.state a.worker cs ds);
         possible = split ∙ and_from (can_all a.state a.worker cs) (can_all b.state b.worker ds) whole.possible rest.possible;
       };
@@ -55,7 +55,7 @@ makes_then {a} {b} {c} {cs} {ds} {all} first second =
     }
 
 -- a list that can't be made, and what would come behind it
-pub makes_stopped : {a b : Attempt} {cs : List Change} (ds : List Change) → Makes a b cs false → Makes a b (cs ++ ds) false
+pub makes_stopped : {a b : TentativeView} {cs : List Change} (ds : List Change) → Makes a b cs false → Makes a b (cs ++ ds) false
 makes_stopped {a} {b} {cs} ds first =
     let long : length (cs ++ ds) ≡ length cs + length ds = length-append cs ds in
     record {
@@ -69,20 +69,20 @@ makes_stopped {a} {b} {cs} ds first =
     }
 
 -- the numbers of a state stay its numbers
-pub same_shape-makes : {a b : Attempt} {cs : List Change} → Makes a b cs true → SameShape a.state b.state
+pub same_shape-makes : {a b : TentativeView} {cs : List Change} → Makes a b cs true → SameShape a.state b.state
 same_shape-makes {a} {b} {cs} made = subst (SameShape a.state) (sym (made.whole refl).state) (same_shape-make_all a.state a.worker cs)
 
-pub still_belongs : {a b : Attempt} {cs : List Change} → Makes a b cs true → BelongsTo a.graph a.state → BelongsTo b.graph b.state
-still_belongs {a} {b} made belongs = subst (λ (g : Outline). BelongsTo g b.state) (sym made.graph) (belongs_along a.graph a.state b.state (same_shape-makes made) belongs)
+pub still_belongs : {a b : TentativeView} {cs : List Change} → Makes a b cs true → BelongsTo a.graph a.state → BelongsTo b.graph b.state
+still_belongs {a} {b} made belongs = subst (λ (g : GraphView). BelongsTo g b.state) (sym made.graph) (belongs_along a.graph a.state b.state (same_shape-makes made) belongs)
 
-pub still_named : {a b : Attempt} {cs : List Change} (c : Change) → Makes a b cs true → NamesOnly a.state c → NamesOnly b.state c
+pub still_named : {a b : TentativeView} {cs : List Change} (c : Change) → Makes a b cs true → NamesOnly a.state c → NamesOnly b.state c
 still_named {a} {b} c made named = named_along a.state b.state c (same_shape-makes made) named
 
 -- a list up to a place, and the change there
-pub makes_next : {a b c : Attempt} {all : Bool} (cs : List Change) (i : ℕ) (d : Change) → i < length cs → Makes a b (take i cs) true → Makes b c (get_or cs i d ∷ []) all → Makes a c (take (i + 1) cs) all
+pub makes_next : {a b c : TentativeView} {all : Bool} (cs : List Change) (i : ℕ) (d : Change) → i < length cs → Makes a b (take i cs) true → Makes b c (get_or cs i d ∷ []) all → Makes a c (take (i + 1) cs) all
 makes_next {a} {c = c} {all} cs i d within front next = subst (λ (l : List Change). Makes a c l all) (sym (take_more cs i d within)) (makes_then front next)
 
-pub makes_front : {a b : Attempt} (cs : List Change) (i : ℕ) → Makes a b (take i cs) false → Makes a b cs false
+pub makes_front : {a b : TentativeView} (cs : List Change) (i : ℕ) → Makes a b (take i cs) false → Makes a b cs false
 makes_front {a} {b} cs i front = subst (λ (l : List Change). Makes a b l false) (take-append-drop i cs) (makes_stopped (drop i cs) front)
 
 -- a list of changes for each of some numbers, in order
@@ -97,7 +97,7 @@ range_split first (suc n) m =
     ap (range_with_len first) longer ∙ ap (λ l. first ∷ l) (range_split (first + 1) n m ∙ ap (λ k. range_with_len (first + 1) n ++ range_with_len k m) moved)
 
 -- the changes for the numbers from the first on, up to one, and those for it
-pub makes_more : {a b c : Attempt} {all : Bool} (list : List ℕ → List Change) → Joins list → (first k : ℕ) → first ≤ k
+pub makes_more : {a b c : TentativeView} {all : Bool} (list : List ℕ → List Change) → Joins list → (first k : ℕ) → first ≤ k
     → Makes a b (list (range_with_len first (k - first))) true → Makes b c (list (k ∷ [])) all → Makes a c (list (range_with_len first (k + 1 - first))) all
 makes_more {a} {c = c} {all} list joins first k from front next =
     let longer : k + 1 - first ≡ k - first + 1 = omega arith in
@@ -106,14 +106,14 @@ makes_more {a} {c = c} {all} list joins first k from front next =
     subst (λ (l : List Change). Makes a c l all) (sym (ap list split ∙ joins (range_with_len first (k - first)) (k ∷ []))) (makes_then front next)
 
 -- where the changes for some of the numbers can't be made, those for all can't
-pub makes_some : {a b : Attempt} (list : List ℕ → List Change) → Joins list → (first some count : ℕ) → some ≤ count → Makes a b (list (range_with_len first some)) false → Makes a b (list (range_with_len first count)) false
+pub makes_some : {a b : TentativeView} (list : List ℕ → List Change) → Joins list → (first some count : ℕ) → some ≤ count → Makes a b (list (range_with_len first some)) false → Makes a b (list (range_with_len first count)) false
 makes_some {a} {b} list joins first some count few front =
     let rest : some + (count - some) ≡ count = omega arith in
     let split : range_with_len first count ≡ range_with_len first some ++ range_with_len (first + some) (count - some) = ap (range_with_len first) (sym rest) ∙ range_split first some (count - some) in
     subst (λ (l : List Change). Makes a b l false) (sym (ap list split ∙ joins (range_with_len first some) (range_with_len (first + some) (count - some)))) (makes_stopped (list (range_with_len (first + some) (count - some))) front)
 
 -- there is room for the changes for one more number
-pub makes_room : {a b : Attempt} (list : List ℕ → List Change) → Joins list → (first k count : ℕ) → first ≤ k → k + 1 - first ≤ count
+pub makes_room : {a b : TentativeView} (list : List ℕ → List Change) → Joins list → (first k count : ℕ) → first ≤ k → k + 1 - first ≤ count
     → Makes a b (list (range_with_len first (k - first))) true → length (list (range_with_len first count)) ≤ a.room → length (list (k ∷ [])) ≤ b.room
 makes_room {a} {b} list joins first k count from within front room =
     let longer : k - first + 1 + (count - (k + 1 - first)) ≡ count = omega arith in
@@ -130,7 +130,7 @@ makes_room {a} {b} list joins first k count from within front room =
     omega (arith, front.room, front.few)
 
 -- what a transform leaves that made some of its changes
-pub worked_from : {old new : Attempt} {cs : List Change} {all : Bool} → old.made ≡ [] → Makes old new cs all → Worked old new
+pub worked_from : {old new : TentativeView} {cs : List Change} {all : Bool} → old.made ≡ [] → Makes old new cs all → Worked old new
 worked_from {old} {new} fresh makes = record {
   graph = makes.graph;
   worker = makes.worker;

@@ -7,7 +7,7 @@ use Rattle.resource_lock.specs.declared.changes.Change.{Change}
 use Rattle.lock_journal.specs.Entry.{entry}
 use Rattle.lock_journal.specs.StoredEntry.{entry_from, IsWithin}
 use Rattle.lock_journal.specs.Closings.{closing_of, where_finished, last_or, outcome_in}
-use Rattle.lock_journal.specs.History.{past_of, IsSound}
+use Rattle.lock_journal.specs.History.{history_view, IsSound}
 use Rattle.lock_journal.specs.declared.histories.StoredEntry.{StoredEntry}
 use Rattle.lock_journal.specs.declared.histories.History.TheInside.{Inside}
 use Rattle.item_actions.specs.declared.outcomes.Outcome.TheVariants as outcomes
@@ -59,7 +59,7 @@ pub record Adds (a b : Inside) (k : StoredEntry) (new : List Change) : Type 0 wh
       ≡ last_or (slice_index_or a.outcomes.items u outcomes.Skipped) (where_finished (cond k.failed None (Some new)) (closing_of u k.kind))
 
 pub entries_added : (a b : Inside) (k : StoredEntry) (new : List Change) → IsSound a → Adds a b k new
-    → (past_of b).entries ≡ (past_of a).entries ++ entry k.worker k.kind (cond k.failed None (Some new)) ∷ []
+    → (history_view b).entries ≡ (history_view a).entries ++ entry k.worker k.kind (cond k.failed None (Some new)) ∷ []
 entries_added a b k new sound adds =
     ap (λ cs. map (entry_from cs) b.stored.items) adds.changes
     ∙ ap (map (entry_from (a.changes.items ++ new))) adds.stored
@@ -72,6 +72,6 @@ sound_added a b k new sound adds = record {
   closed = λ u.
       adds.closed u
       ∙ ap (λ o. last_or o (where_finished (cond k.failed None (Some new)) (closing_of u k.kind))) (sound.closed u)
-      ∙ sym (outcome_in-push (past_of a).entries (entry k.worker k.kind (cond k.failed None (Some new))) u)
+      ∙ sym (outcome_in-push (history_view a).entries (entry k.worker k.kind (cond k.failed None (Some new))) u)
       ∙ ap (λ es. outcome_in es u) (sym (entries_added a b k new sound adds));
 }

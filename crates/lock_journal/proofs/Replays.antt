@@ -1,18 +1,18 @@
 -- A history with one more entry, what it leads to, and the book that has it.
 use Rattle.std.proofs.Common.{◌≡◌, List, [], ◌∷◌, ◌++◌, refl, sym, ◌∙◌, ap, subst}
-use Rattle.resource_lock.specs.Standing.{Standing}
-use Rattle.resource_lock.specs.Outline.{Outline}
+use Rattle.resource_lock.specs.StateView.{StateView}
+use Rattle.resource_lock.specs.GraphView.{GraphView}
 use Rattle.resource_lock.specs.Opening.{opening_of}
 use Rattle.lock_journal.specs.Entry.{Entry, effect, replay_from, replay}
 use Rattle.lock_journal.specs.Allowed.{Allowed, lawful_from, Lawful}
 use Rattle.lock_journal.specs.Book.{IsSound}
 use Rattle.lock_journal.specs.declared.books.Book.TheInside.{Inside}
 
-pub replay_from-push : (s : Standing) (h : List Entry) (e : Entry) → replay_from s (h ++ e ∷ []) ≡ effect (replay_from s h) e
+pub replay_from-push : (s : StateView) (h : List Entry) (e : Entry) → replay_from s (h ++ e ∷ []) ≡ effect (replay_from s h) e
 replay_from-push s [] e = refl
 replay_from-push s (f ∷ h) e = replay_from-push (effect s f) h e
 
-pub lawful_from-push : (g : Outline) (s : Standing) (h : List Entry) (e : Entry) → lawful_from g s h → Allowed g (replay_from s h) e → lawful_from g s (h ++ e ∷ [])
+pub lawful_from-push : (g : GraphView) (s : StateView) (h : List Entry) (e : Entry) → lawful_from g s h → Allowed g (replay_from s h) e → lawful_from g s (h ++ e ∷ [])
 lawful_from-push g s [] e law allowed = (allowed, tt)
 lawful_from-push g s (f ∷ h) e law allowed = (law.0, lawful_from-push g (effect s f) h e law.1 allowed)
 
@@ -27,15 +27,15 @@ pub record Extends (a b : Inside) (e : Entry) : Type 0 where
 
 pub sound_extended : (a b : Inside) (e : Entry) → IsSound a → Extends a b e → IsSound b
 sound_extended a b e sound more =
-    let allowed : Allowed a.tentative.graph (replay a.tentative.graph a.history.entries) e = subst (λ (s : Standing). Allowed a.tentative.graph s e) sound.replays more.allowed in
+    let allowed : Allowed a.tentative.graph (replay a.tentative.graph a.history.entries) e = subst (λ (s : StateView). Allowed a.tentative.graph s e) sound.replays more.allowed in
     let lawful : Lawful a.tentative.graph (a.history.entries ++ e ∷ []) = lawful_from-push a.tentative.graph (opening_of a.tentative.graph) a.history.entries e sound.lawful allowed in
     record {
       fresh = more.fresh;
-      units = more.units ∙ sound.units ∙ ap (λ (g : Outline). g.units) (sym more.graph);
-      lawful = subst (λ (g : Outline). Lawful g b.history.entries) (sym more.graph) (subst (Lawful a.tentative.graph) (sym more.entries) lawful);
+      units = more.units ∙ sound.units ∙ ap (λ (g : GraphView). g.units) (sym more.graph);
+      lawful = subst (λ (g : GraphView). Lawful g b.history.entries) (sym more.graph) (subst (Lawful a.tentative.graph) (sym more.entries) lawful);
       replays = more.state
-          ∙ ap (λ (s : Standing). effect s e) sound.replays
+          ∙ ap (λ (s : StateView). effect s e) sound.replays
           ∙ sym (replay_from-push (opening_of a.tentative.graph) a.history.entries e)
           ∙ ap (replay a.tentative.graph) (sym more.entries)
-          ∙ ap (λ (g : Outline). replay g b.history.entries) (sym more.graph);
+          ∙ ap (λ (g : GraphView). replay g b.history.entries) (sym more.graph);
     }

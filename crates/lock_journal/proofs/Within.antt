@@ -6,7 +6,7 @@ use Rattle.std.proofs.lemmas.List.{get_or_default, get_or_past, get_or-map, leng
 use Rattle.std.proofs.lemmas.List.Elements.{recursion_from_All}
 use Rattle.resource_lock.specs.declared.graphs.GraphTask.{GraphTask}
 use Rattle.resource_lock.specs.declared.graphs.GraphAction.{GraphAction}
-use Rattle.resource_lock.specs.Outline.{Outline, TaskOutline, outline_of, no_task, no_action, task_of, action_of}
+use Rattle.resource_lock.specs.GraphView.{GraphView, GraphTaskView, graph_view, no_task, no_action, task_of, action_of}
 use Rattle.resource_lock.specs.Ranges.{IsIn, IsActionOf, units_in}
 use Rattle.resource_lock.specs.Fits.{Follow, Fits}
 
@@ -37,38 +37,38 @@ few_follow first count n most (x ∷ xs) stop few f =
     let product : suc (length xs) * most ≡ length xs * most + most = suc-mul (length xs) most in
     omega (arith, few.0)
 
-pub actions_within : {g : Outline} → Fits g → (t : ℕ) → t < length g.tasks → (task_of g t).first_action + (task_of g t).actions ≤ length g.actions
+pub actions_within : {g : GraphView} → Fits g → (t : ℕ) → t < length g.tasks → (task_of g t).first_action + (task_of g t).actions ≤ length g.actions
 actions_within {g} fits t within = within_follow (λ t. t.first_action) (λ t. t.actions) 0 g.tasks (length g.actions) t no_task fits.actions_follow within
 
-pub units_within : {g : Outline} → Fits g → (a : ℕ) → a < length g.actions → (action_of g a).first_unit + units_in (action_of g a) ≤ g.units
+pub units_within : {g : GraphView} → Fits g → (a : ℕ) → a < length g.actions → (action_of g a).first_unit + units_in (action_of g a) ≤ g.units
 units_within {g} fits a within = within_follow (λ a. a.first_unit) units_in 0 g.actions g.units a no_action fits.units_follow within
 
-pub next_units : {g : Outline} → Fits g → (a : ℕ) → a + 1 < length g.actions → (action_of g a).first_unit + units_in (action_of g a) ≤ (action_of g (a + 1)).first_unit
+pub next_units : {g : GraphView} → Fits g → (a : ℕ) → a + 1 < length g.actions → (action_of g a).first_unit + units_in (action_of g a) ≤ (action_of g (a + 1)).first_unit
 next_units {g} fits a within = next_follow (λ a. a.first_unit) units_in 0 g.actions g.units a no_action fits.units_follow within
 
-pub few_actions : {g : Outline} → Fits g → length g.actions ≤ 16384
+pub few_actions : {g : GraphView} → Fits g → length g.actions ≤ 16384
 few_actions {g} fits =
     let most : length g.actions ≤ 0 + length g.tasks * 8 = few_follow (λ t. t.first_action) (λ t. t.actions) 0 8 g.tasks (length g.actions) (recursion_from_All (λ t. t.actions ≤ 8) g.tasks fits.few_actions) fits.actions_follow in
     omega (arith, fits.few_tasks)
 
 -- a task with an action is one of the graph's
-pub task_within : (g : Outline) (t a : ℕ) → IsActionOf g t a → t < length g.tasks
+pub task_within : (g : GraphView) (t a : ℕ) → IsActionOf g t a → t < length g.tasks
 task_within g t a h = elim (cases_lt t (length g.tasks)) [
   | inl within ↦ within
   | inr past ↦
-      let none : IsIn no_task.first_action no_task.actions a = subst (λ (z : TaskOutline). IsIn z.first_action z.actions a) (get_or_past g.tasks t no_task past) h in
+      let none : IsIn no_task.first_action no_task.actions a = subst (λ (z : GraphTaskView). IsIn z.first_action z.actions a) (get_or_past g.tasks t no_task past) h in
       absurd (omega (arith, none.1))
 ]
 
 -- What holds of a task of the graph.
-pub record IsTaskOf (g : Outline) (task : TaskOutline) : Type 0 where
+pub record IsTaskOf (g : GraphView) (task : GraphTaskView) : Type 0 where
   pub lock : task.lock.0 < g.locks
   pub after : All (λ p. p < length g.tasks) task.after
   pub actions : task.first_action + task.actions ≤ length g.actions
   pub few : task.actions ≤ 8
   pub fits : task.first_action + task.actions < 2 ^ 32
 
-pub task_fits : {g : Outline} → Fits g → (t : ℕ) → t < length g.tasks → IsTaskOf g (task_of g t)
+pub task_fits : {g : GraphView} → Fits g → (t : ℕ) → t < length g.tasks → IsTaskOf g (task_of g t)
 task_fits {g} fits t within = record {
   lock = fits.locks_within t no_task within;
   after = fits.after_within t no_task within;
@@ -78,17 +78,17 @@ task_fits {g} fits t within = record {
 }
 
 -- so of one that was read
-pub task_read : {g : Outline} {task : GraphTask} (tasks : List GraphTask) (i : ℕ) → Fits g → map outline_of tasks ≡ g.tasks → i < length g.tasks → task ≡ get_or tasks i task → IsTaskOf g (outline_of task)
+pub task_read : {g : GraphView} {task : GraphTask} (tasks : List GraphTask) (i : ℕ) → Fits g → map graph_view tasks ≡ g.tasks → i < length g.tasks → task ≡ get_or tasks i task → IsTaskOf g (graph_view task)
 task_read {g} {task} tasks i fits is within read =
-    let inside : i < length tasks = omega (arith, ap length is, length-map tasks outline_of) in
-    subst (IsTaskOf g) (ap (λ ts. get_or ts i no_task) (sym is) ∙ get_or-map outline_of tasks i task no_task inside ∙ ap outline_of (sym read)) (task_fits fits i within)
+    let inside : i < length tasks = omega (arith, ap length is, length-map tasks graph_view) in
+    subst (IsTaskOf g) (ap (λ ts. get_or ts i no_task) (sym is) ∙ get_or-map graph_view tasks i task no_task inside ∙ ap graph_view (sym read)) (task_fits fits i within)
 
 -- What holds of an action of the graph, by its number.
-pub record IsActionAt (g : Outline) (i : ℕ) (action : GraphAction) : Type 0 where
+pub record IsActionAt (g : GraphView) (i : ℕ) (action : GraphAction) : Type 0 where
   pub own : IsActionOf g action.task i
   pub units : action.first_unit + units_in action ≤ g.units
 
-pub action_read : {g : Outline} (actions : List GraphAction) (i : ℕ) (d : GraphAction) → Fits g → actions ≡ g.actions → i < length g.actions → IsActionAt g i (get_or actions i d)
+pub action_read : {g : GraphView} (actions : List GraphAction) (i : ℕ) (d : GraphAction) → Fits g → actions ≡ g.actions → i < length g.actions → IsActionAt g i (get_or actions i d)
 action_read {g} actions i d fits is within =
     subst (IsActionAt g i) (get_or_default g.actions i no_action d within ∙ ap (λ (as' : List GraphAction). get_or as' i d) (sym is)) record { own = fits.own_task i within; units = units_within fits i within }
 

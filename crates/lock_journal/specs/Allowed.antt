@@ -1,9 +1,9 @@
 -- Which entries may stand in a history.
 use Rattle.std.specs.Prelude.{◌≡◌, ◌≢◌, ◌<◌, true, List, [], ◌∷◌, length, None, Some, IfSome}
 use Rattle.std.specs.List.{AllByRecursion}
-use Rattle.resource_lock.specs.Standing.{Standing, holding_of}
+use Rattle.resource_lock.specs.StateView.{StateView, holding_of}
 use Rattle.resource_lock.specs.Change.{can_all, NamesOnly}
-use Rattle.resource_lock.specs.Outline.{Outline}
+use Rattle.resource_lock.specs.GraphView.{GraphView}
 use Rattle.resource_lock.specs.Opening.{opening_of}
 use Rattle.resource_lock.specs.declared.ids.WorkerId.{WorkerId}
 use Rattle.resource_lock.specs.declared.changes.Change.{Change}
@@ -15,11 +15,11 @@ use Rattle.lock_journal.specs.declared.entries.Kind.{Kind}
 use Rattle.lock_journal.specs.declared.entries.Kind.TheVariants.{Start, Skip, Submit, Park, Resume, Claim, Close, Block, Unblock, End, Acquire, HandBack}
 
 -- a unit of the graph, with an outcome of work that was done
-abbrev pub IsClosedOf : Outline → Closed → Type 0
+abbrev pub IsClosedOf : GraphView → Closed → Type 0
 IsClosedOf g c = (c.unit < g.units) × (c.outcome ≢ outcomes.Skipped)
 
 -- the numbers in the kind are in range, and it doesn't carry Skipped
-abbrev pub IsKindOf : Outline → Kind → Type 0
+abbrev pub IsKindOf : GraphView → Kind → Type 0
 IsKindOf g (Start t) = t < length g.tasks
 IsKindOf g (Skip t) = t < length g.tasks
 IsKindOf g (End t) = t < length g.tasks
@@ -36,27 +36,27 @@ IsKindOf g Acquire = Unit {0}
 IsKindOf g HandBack = Unit {0}
 
 -- the list of changes is the kind's
-abbrev pub IsListOf : Outline → Standing → WorkerId → Kind → List Change → Type 0
+abbrev pub IsListOf : GraphView → StateView → WorkerId → Kind → List Change → Type 0
 IsListOf g s w Acquire cs = acquires 0 (holding_of s w).lease cs ≡ true
 IsListOf g s w kind cs = cs ≡ list_of g s w kind
 
 -- The condition holds, the list is the kind's, and each change can be made in turn.
-pub record Finishes (g : Outline) (s : Standing) (w : WorkerId) (kind : Kind) (cs : List Change) : Type 0 where
+pub record Finishes (g : GraphView) (s : StateView) (w : WorkerId) (kind : Kind) (cs : List Change) : Type 0 where
   pub condition : condition g s w kind ≡ true
   pub list : IsListOf g s w kind cs
   pub named : AllByRecursion (NamesOnly s) cs
   pub possible : can_all s w cs ≡ true
 
 -- The entry is allowed in a state: its numbers are in range, and it failed, or finishes there.
-pub record Allowed (g : Outline) (s : Standing) (e : Entry) : Type 0 where
+pub record Allowed (g : GraphView) (s : StateView) (e : Entry) : Type 0 where
   pub worker : e.worker.0 < g.workers
   pub kind : IsKindOf g e.kind
   pub finished : IfSome e.changes (Finishes g s e.worker e.kind)
 
 -- each entry is allowed in the state that those before it lead to
-abbrev pub lawful_from : Outline → Standing → List Entry → Type 0
+abbrev pub lawful_from : GraphView → StateView → List Entry → Type 0
 lawful_from g s [] = Unit {0}
 lawful_from g s (e ∷ es) = Allowed g s e × lawful_from g (effect s e) es
 
-abbrev pub Lawful : Outline → List Entry → Type 0
+abbrev pub Lawful : GraphView → List Entry → Type 0
 Lawful g h = lawful_from g (opening_of g) h

@@ -2,11 +2,11 @@
 use Rattle.std.specs.Prelude.{◌≡◌, [], min}
 use Rattle.lock_journal.specs.Entry.{replay}
 use Rattle.lock_journal.specs.Allowed.{Lawful}
-use Rattle.lock_journal.specs.Journal.{Journal}
+use Rattle.lock_journal.specs.BookView.{BookView}
 use Rattle.lock_journal.specs.declared.books.Book.TheInside.{Inside}
 
-abbrev pub journal_of : Inside → Journal
-journal_of b = record {
+abbrev pub book_view : Inside → BookView
+book_view b = record {
   graph = b.tentative.graph;
   state = b.tentative.state;
   history = b.history.entries;

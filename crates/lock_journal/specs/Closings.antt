@@ -1,6 +1,6 @@
 -- What the closing entries of a history say of a unit.
 use Rattle.std.specs.Prelude.{ℕ, ◌<◌, ◌==◌, if◌then◌else◌, List, [], ◌∷◌, ◌++◌, Option, None, Some}
-use Rattle.resource_lock.specs.Standing.{Standing, mark_of}
+use Rattle.resource_lock.specs.StateView.{StateView, mark_of}
 use Rattle.resource_lock.specs.declared.changes.Change.{Change}
 use Rattle.resource_lock.specs.declared.marks.Mark.{Mark}
 use Rattle.resource_lock.specs.declared.marks.Mark.TheVariants.{Passed, Failed, Skipped}
@@ -47,5 +47,5 @@ outcome_where Skipped o = Some outcomes.Skipped
 outcome_where _ o = None
 
 -- a unit's outcome, or none where its mark hasn't ended
-abbrev pub outcome_of : Standing → List Entry → ℕ → Option Outcome
+abbrev pub outcome_of : StateView → List Entry → ℕ → Option Outcome
 outcome_of s h u = outcome_where (mark_of s (UnitOf u)) (outcome_in h u)

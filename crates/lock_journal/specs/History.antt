@@ -1,13 +1,13 @@
 -- What the fields of a `History` stand for, and what holds of them.
 use Rattle.std.specs.Prelude.{ℕ, ◌≡◌, ◌-◌, length, map, All, vec_capacity, vec_len, slice_index_or}
 use Rattle.item_actions.specs.declared.outcomes.Outcome.TheVariants as outcomes
-use Rattle.lock_journal.specs.Past.{Past}
+use Rattle.lock_journal.specs.HistoryView.{HistoryView}
 use Rattle.lock_journal.specs.Closings.{outcome_in}
 use Rattle.lock_journal.specs.StoredEntry.{entry_from, IsWithin}
 use Rattle.lock_journal.specs.declared.histories.History.TheInside.{Inside}
 
-abbrev pub past_of : Inside → Past
-past_of h = record {
+abbrev pub history_view : Inside → HistoryView
+history_view h = record {
   entries = map (entry_from h.changes.items) h.stored.items;
   units = vec_len h.outcomes;
   spare_entries = vec_capacity h.stored - vec_len h.stored;
@@ -17,4 +17,4 @@ past_of h = record {
 -- Each entry's changes are stored, and each unit's outcome is that of its closing entry.
 pub record IsSound (h : Inside) : Type 0 where
   pub within : All (IsWithin (length h.changes.items)) h.stored.items
-  pub closed : (u : ℕ) → slice_index_or h.outcomes.items u outcomes.Skipped ≡ outcome_in (past_of h).entries u
+  pub closed : (u : ℕ) → slice_index_or h.outcomes.items u outcomes.Skipped ≡ outcome_in (history_view h).entries u

@@ -2,13 +2,13 @@ pub mod Entry
 pub mod Table
 pub mod Allowed
 pub mod Closings
-pub mod Attempt
+pub mod TentativeView
 pub mod Tentative
 pub mod Shown
 pub mod StoredEntry
-pub mod Past
+pub mod HistoryView
 pub mod History
-pub mod Journal
+pub mod BookView
 pub mod Book
 pub mod Ran
 pub mod Making

@@ -1,9 +1,9 @@
 -- The kinds of entry: where each can stand, and the changes that it makes.
 use Rattle.std.specs.Prelude.{ℕ, ◌+◌, ◌==◌, nat_le, Bool, false, not, ◌&&◌, ◌||◌, List, [], ◌∷◌, ◌++◌, map, reverse, length, Option, None, Some, if◌then◌else◌}
 use Rattle.std.specs.List.{list_any, list_all, range_with_len}
-use Rattle.resource_lock.specs.Standing.{Standing, holding_of, is_owner, mark_of, runs_unit, is_parked, runs_any, owns_any, is_idle}
+use Rattle.resource_lock.specs.StateView.{StateView, holding_of, is_owner, mark_of, runs_unit, is_parked, runs_any, owns_any, is_idle}
 use Rattle.resource_lock.specs.Change.{same_mark, can_all}
-use Rattle.resource_lock.specs.Outline.{Outline, task_of, action_of}
+use Rattle.resource_lock.specs.GraphView.{GraphView, task_of, action_of}
 use Rattle.resource_lock.specs.Ranges.{actions_of, items_of, units_of, task_with, lock_with, earlier_actions, is_item}
 use Rattle.resource_lock.specs.declared.ids.LockId.{LockId}
 use Rattle.resource_lock.specs.declared.ids.WorkerId.{WorkerId}
@@ -33,7 +33,7 @@ has_fallen m = same_mark m Failed || same_mark m Skipped
 -- words on a worker
 
 -- w runs the task and works on it now
-abbrev pub works_on : Standing → WorkerId → ℕ → Bool
+abbrev pub works_on : StateView → WorkerId → ℕ → Bool
 works_on s w t = same_mark (mark_of s (TaskOf t)) (Running w) && (holding_of s w).lease && not (is_parked s w)
 
 -- the locks that a worker owns, from the lock numbered n on, in rising order
@@ -41,24 +41,24 @@ abbrev pub owned_from : ℕ → List (Option WorkerId) → WorkerId → List Loc
 owned_from n [] w = []
 owned_from n (o ∷ os) w = if is_owner o w then record { 0 = n } ∷ owned_from (n + 1) os w else owned_from (n + 1) os w
 
-abbrev pub owned : Standing → WorkerId → List LockId
+abbrev pub owned : StateView → WorkerId → List LockId
 owned s w = owned_from 0 s.owners w
 
 -- words on units and actions
 
-abbrev pub units_passed : Outline → Standing → ℕ → Bool
+abbrev pub units_passed : GraphView → StateView → ℕ → Bool
 units_passed g s a = list_all (λ u. has_passed (mark_of s (UnitOf u))) (units_of g a)
 
 -- each earlier action of the same task is Passed, and so are its units
-abbrev pub earlier_passed : Outline → Standing → ℕ → Bool
+abbrev pub earlier_passed : GraphView → StateView → ℕ → Bool
 earlier_passed g s a = list_all (λ b. has_passed (mark_of s (ActionOf b)) && units_passed g s b) (earlier_actions g a)
 
 -- a fetch, where there is one, has passed or failed
-abbrev pub fetch_closed : Outline → Standing → ℕ → Bool
+abbrev pub fetch_closed : GraphView → StateView → ℕ → Bool
 fetch_closed g s a = not (action_of g a).fetch || has_passed (mark_of s (UnitOf (action_of g a).first_unit)) || same_mark (mark_of s (UnitOf (action_of g a).first_unit)) Failed
 
 -- an action that never ran, after one of its task with a unit that failed
-abbrev pub never_ran : Outline → Standing → ℕ → Bool
+abbrev pub never_ran : GraphView → StateView → ℕ → Bool
 never_ran g s a =
     same_mark (mark_of s (ActionOf a)) Waiting
     && list_all (λ u. same_mark (mark_of s (UnitOf u)) Waiting) (units_of g a)
@@ -69,14 +69,14 @@ never_ran g s a =
 abbrev pub moved_units : List ℕ → Mark → Mark → List Change
 moved_units us from to = map (λ u. Move (UnitOf u) from to) us
 
-abbrev pub skipped_action : Outline → ℕ → List Change
+abbrev pub skipped_action : GraphView → ℕ → List Change
 skipped_action g a = Move (ActionOf a) Waiting Skipped ∷ moved_units (units_of g a) Waiting Skipped
 
-abbrev pub skipped_waiting : Outline → Standing → List ℕ → List Change
+abbrev pub skipped_waiting : GraphView → StateView → List ℕ → List Change
 skipped_waiting g s [] = []
 skipped_waiting g s (a ∷ rest) = (if same_mark (mark_of s (ActionOf a)) Waiting then skipped_action g a else []) ++ skipped_waiting g s rest
 
-abbrev pub skipped_actions : Outline → List ℕ → List Change
+abbrev pub skipped_actions : GraphView → List ℕ → List Change
 skipped_actions g [] = []
 skipped_actions g (a ∷ rest) = skipped_action g a ++ skipped_actions g rest
 
@@ -86,7 +86,7 @@ mark_from (outcomes.Number n) = Passed
 mark_from (outcomes.Digest d) = Passed
 mark_from _ = Failed
 
-abbrev pub end_mark : Outline → Standing → ℕ → Mark
+abbrev pub end_mark : GraphView → StateView → ℕ → Mark
 end_mark g s t = if list_all (units_passed g s) (actions_of g t) then Passed else Failed
 
 -- locks given back and parked, and taken again
@@ -99,10 +99,10 @@ abbrev pub taken_again : List LockId → List Change
 taken_again [] = []
 taken_again (l ∷ ls) = Unpark l ∷ Lock l ∷ taken_again ls
 
-abbrev pub set_down : Standing → WorkerId → List Change
+abbrev pub set_down : StateView → WorkerId → List Change
 set_down s w = Give ∷ parked_locks (owned s w) ++ Enter ∷ []
 
-abbrev pub taken_up : Standing → WorkerId → List Change
+abbrev pub taken_up : StateView → WorkerId → List Change
 taken_up s w = Leave ∷ taken_again (reverse (holding_of s w).parked) ++ Take ∷ []
 
 -- the lock is given back while the items are waited for
@@ -116,7 +116,7 @@ on_resume ReleaseAndReacquire l = Unpark l ∷ Lock l ∷ Take ∷ []
 on_resume Release l = Unpark l ∷ []
 
 -- The conditions.
-abbrev pub condition : Outline → Standing → WorkerId → Kind → Bool
+abbrev pub condition : GraphView → StateView → WorkerId → Kind → Bool
 condition g s w (Start t) = same_mark (mark_of s (TaskOf t)) Waiting && list_all (λ k. has_passed (mark_of s (TaskOf k))) (task_of g t).after && is_idle s w
 condition g s w (Skip t) = same_mark (mark_of s (TaskOf t)) Waiting && list_any (λ k. has_fallen (mark_of s (TaskOf k))) (task_of g t).after && is_idle s w
 condition g s w (Submit a) = works_on s w (task_with g a) && same_mark (mark_of s (ActionOf a)) Waiting && earlier_passed g s a && fetch_closed g s a
@@ -133,7 +133,7 @@ condition g s w Acquire = not (holding_of s w).blocked && not (runs_any s w)
 condition g s w HandBack = not (holding_of s w).blocked && not (runs_any s w) && (owns_any s w || (holding_of s w).lease)
 
 -- The changes, where the kind and the state fix them.
-abbrev pub list_of : Outline → Standing → WorkerId → Kind → List Change
+abbrev pub list_of : GraphView → StateView → WorkerId → Kind → List Change
 list_of g s w (Start t) = Lock (task_of g t).lock ∷ Take ∷ Move (TaskOf t) Waiting (Running w) ∷ []
 list_of g s w (Skip t) = Move (TaskOf t) Waiting Skipped ∷ skipped_actions g (actions_of g t)
 list_of g s w (Submit a) = Move (ActionOf a) Waiting Queued ∷ moved_units (items_of g a) Waiting Queued
@@ -150,7 +150,7 @@ list_of g s w Acquire = []
 list_of g s w HandBack = map Unlock (owned s w) ++ (if (holding_of s w).lease then Give ∷ [] else [])
 
 -- Whether an entry of the kind can finish: its condition holds and each of its changes can be made.
-abbrev pub is_enabled : Outline → Standing → WorkerId → Kind → Bool
+abbrev pub is_enabled : GraphView → StateView → WorkerId → Kind → Bool
 is_enabled g s w kind = condition g s w kind && can_all s w (list_of g s w kind)
 
 -- Locks from the number low on, in strictly rising order, and then a lease where there was none.

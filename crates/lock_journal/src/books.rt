@@ -27,19 +27,19 @@ pub struct Book {
 }
 
 impl Model for Book {
-    ghost use Rattle.lock_journal.specs.Journal.{Journal};
+    ghost use Rattle.lock_journal.specs.BookView.{BookView};
 
-    ghost Value = { Journal };
+    ghost Value = { BookView };
 
-    ghost use Rattle.lock_journal.specs.Book.{journal_of, IsSound};
+    ghost use Rattle.lock_journal.specs.Book.{book_view, IsSound};
 
-    ghost view = { journal_of };
+    ghost view = { book_view };
 
     ghost invariant = { IsSound };
 }
 
 impl Book {
-    ghost use Rattle.lock_journal.specs.Journal.{SameBook};
+    ghost use Rattle.lock_journal.specs.BookView.{SameBook};
 
     /// A book of the graph without entries, with room for at least so many entries and changes.
     pub fn opening(

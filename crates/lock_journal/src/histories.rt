@@ -2,7 +2,7 @@ ghost use Rattle.std.specs.Prelude.{◌≡◌, ◌<◌, ◌≤◌, ◌+◌, ◌�
 ghost use Rattle.lock_journal.specs.Entry.{entry};
 ghost use Rattle.lock_journal.specs.Shown.{entry_shown};
 ghost use Rattle.lock_journal.specs.Closings.{closing_of, last_or, outcome_in, ClosesWithin};
-ghost use Rattle.lock_journal.specs.Past.{SamePast};
+ghost use Rattle.lock_journal.specs.HistoryView.{SameHistory};
 ghost use Rattle.item_actions.specs.declared.outcomes.Outcome.TheVariants as outcomes;
 
 use crate::entries::{Kind, Shown};
@@ -30,13 +30,13 @@ pub(crate) struct History {
 }
 
 impl Model for History {
-    ghost use Rattle.lock_journal.specs.Past.{Past};
+    ghost use Rattle.lock_journal.specs.HistoryView.{HistoryView};
 
-    ghost Value = { Past };
+    ghost Value = { HistoryView };
 
-    ghost use Rattle.lock_journal.specs.History.{past_of, IsSound};
+    ghost use Rattle.lock_journal.specs.History.{history_view, IsSound};
 
-    ghost view = { past_of };
+    ghost view = { history_view };
 
     ghost invariant = { IsSound };
 }
@@ -84,7 +84,7 @@ impl History {
 
     /// Makes room for so many more entries and changes.
     pub(crate) fn reserve(&mut self, entries: usize, changes: usize) -> Result<(), AllocError>
-        ensures same { SamePast self.old self.new }
+        ensures same { SameHistory self.old self.new }
         ensures entries { OnOk result (entries ≤ self.new.spare_entries) }
         ensures changes { OnOk result (changes ≤ self.new.spare_changes) }
         ensures full { OnErr result ((self.old.spare_entries < entries) ⊎ (self.old.spare_changes < changes)) }

@@ -5,10 +5,10 @@ ghost use Rattle.resource_lock.specs.Good.{Good};
 ghost use Rattle.resource_lock.specs.Leading.{CameFrom};
 ghost use Rattle.resource_lock.specs.Opening.{opening_of};
 ghost use Rattle.resource_lock.specs.Shape.{BelongsTo};
-ghost use Rattle.resource_lock.specs.Standing.{Standing, IsLockOf, holding_of, has_parked};
+ghost use Rattle.resource_lock.specs.StateView.{StateView, IsLockOf, holding_of, has_parked};
 ghost use Rattle.resource_lock.specs.Trying.{can_own, can_lease};
 ghost use Rattle.lock_journal.specs.Allowed.{Allowed, IsKindOf};
-ghost use Rattle.lock_journal.specs.Attempt.{SameAttempt, noted, settled, taken_back, with_lease, with_lock, without_lease, without_lock};
+ghost use Rattle.lock_journal.specs.TentativeView.{SameTentative, noted, settled, taken_back, with_lease, with_lock, without_lease, without_lock};
 ghost use Rattle.lock_journal.specs.Entry.{entry};
 
 use crate::transforms::{Disposition, Transform};
@@ -27,13 +27,13 @@ pub struct Tentative {
 }
 
 impl Model for Tentative {
-    ghost use Rattle.lock_journal.specs.Attempt.{Attempt, IsSoundAttempt};
+    ghost use Rattle.lock_journal.specs.TentativeView.{TentativeView, IsSoundTentative};
 
-    ghost Value = { Attempt };
+    ghost Value = { TentativeView };
 
-    ghost use Rattle.lock_journal.specs.Tentative.{attempt_of, IsSound};
+    ghost use Rattle.lock_journal.specs.Tentative.{tentative_view, IsSound};
 
-    ghost view = { attempt_of };
+    ghost view = { tentative_view };
 
     ghost invariant = { IsSound };
 }
@@ -170,7 +170,7 @@ impl Tentative {
 
     /// Makes room for so many more changes. It fails only where there isn't room for them yet.
     pub(crate) fn reserve(&mut self, changes: usize) -> Result<(), AllocError>
-        ensures same { SameAttempt self.old self.new }
+        ensures same { SameTentative self.old self.new }
         ensures ok { OnOk result (changes ≤ self.new.room) }
         ensures full { OnErr result (self.old.room < changes) }
     {
@@ -215,8 +215,8 @@ impl Tentative {
 
     /// Takes back the changes made, from the last to the first.
     fn undo(&mut self)
-        requires { (before : Standing) × CameFrom before self.old.state self.old.worker self.old.made }
-        ensures { (before : Standing) → CameFrom before self.old.state self.old.worker self.old.made
+        requires { (before : StateView) × CameFrom before self.old.state self.old.worker self.old.made }
+        ensures { (before : StateView) → CameFrom before self.old.state self.old.worker self.old.made
             → self.new ≡ taken_back before self.old }
     {
         self.state.take_back(self.worker, &self.made);

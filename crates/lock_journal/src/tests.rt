@@ -1,5 +1,5 @@
 ghost use Rattle.std.specs.Prelude.{◌≡◌, ◌<◌, ◌≤◌, ◌+◌, length, true, false, IfOk};
-ghost use Rattle.lock_journal.specs.Attempt.{Attempt, Worked};
+ghost use Rattle.lock_journal.specs.TentativeView.{TentativeView, Worked};
 ghost use Rattle.lock_journal.specs.declared.entries.Kind.TheVariants as kinds;
 
 use crate::{Book, Disposition, Kind, Shown, Tentative, Transform};
@@ -99,7 +99,7 @@ impl Transform for Unfinished {
 /// Takes a step, where it can be taken.
 fn take_step(work: &mut Tentative, step: Step)
     requires { 0 < work.old.room }
-    ensures worked { (before : Attempt) → Worked before work.old → Worked before work.new }
+    ensures worked { (before : TentativeView) → Worked before work.old → Worked before work.new }
     ensures few { length work.new.made ≤ length work.old.made + 1 }
 {
     let worker = work.worker();

@@ -1,9 +1,9 @@
 ghost use Rattle.std.specs.Prelude.{◌≡◌, ◌≤◌, ℕ, [], length, Some};
-ghost use Rattle.resource_lock.specs.Standing.{Standing};
-ghost use Rattle.resource_lock.specs.Outline.{Outline};
+ghost use Rattle.resource_lock.specs.StateView.{StateView};
+ghost use Rattle.resource_lock.specs.GraphView.{GraphView};
 ghost use Rattle.resource_lock.specs.declared.ids.WorkerId.{WorkerId};
 ghost use Rattle.lock_journal.specs.declared.entries.Kind.{Kind};
-ghost use Rattle.lock_journal.specs.Attempt.{Worked};
+ghost use Rattle.lock_journal.specs.TentativeView.{Worked};
 ghost use Rattle.lock_journal.specs.Entry.{entry};
 ghost use Rattle.lock_journal.specs.Allowed.{Allowed, IsKindOf};
 
@@ -30,10 +30,10 @@ pub trait Transform {
     ghost most: { Self → ℕ };
 
     /// Where it may fail: a fact of the graph, the worker and the state before.
-    ghost fails_on: { Self → Outline → WorkerId → Standing → Type 0 };
+    ghost fails_on: { Self → GraphView → WorkerId → StateView → Type 0 };
 
     /// Where it may ask to be run again: a fact of the graph, the worker and the state before.
-    ghost retries_on: { Self → Outline → WorkerId → Standing → Type 0 };
+    ghost retries_on: { Self → GraphView → WorkerId → StateView → Type 0 };
 
     /// What its entries are for.
     fn kind(&self) -> Kind

@@ -21,12 +21,12 @@ use Rattle.plan_table.specs.Formed.{IsFormedAction}
 use Rattle.plan_table.proofs.Lists.{map_of_map}
 use Rattle.plan_table.proofs.FormedLaws.{is_formed}
 use Rattle.plan_reader.specs.declared.rows.Row.TheVariants.{NoSuchProject, ReleaseNotLast, ClassLoader, TooMany, BadRequirements}
-use Rattle.plan_reader.specs.Plan.{ActionShape}
+use Rattle.plan_reader.specs.PlanView.{PlanActionView}
 use Rattle.plan_reader.specs.Units.{fetch_units, item_unit, action_units, task_units, plan_units}
 use Rattle.plan_reader.specs.IsPlan.{HasFewLists, HasFileNames, ReleasesLast, IsPlan}
 use Rattle.plan_reader.specs.Names.{names_in, number_of, once, after_numbers, afters_of}
 use Rattle.plan_reader.specs.Rows.{releases, unit_count, task_unit_count, plan_unit_count, has_few_lists, excess_of_task, is_heap}
-use Rattle.plan_reader.specs.Planned.{pair_of, profile_of, profiles_of, work_of, retention_named, action_of, task_of, plan_of}
+use Rattle.plan_reader.specs.Planned.{pair_of, requirements_from, all_requirements, work_of, retention_named, action_of, task_of, plan_of}
 use Rattle.plan_reader.specs.Search.{row_refusal, twice_refusal, refusal_before, refusal_behind}
 use Rattle.plan_reader.proofs.Quiet.{neither, row_quiet, once_named, none_passes}
 use Rattle.plan_reader.proofs.Numbers.{number_within, some_name, numbers_within, length-once}
@@ -73,7 +73,7 @@ few_listed r h =
       | inr more ↦ absurd (true≢false (rw more at h))
     ]
 
-few_lists : (r : Data) → has_few_lists r ≡ true → HasFewLists (profile_of r)
+few_lists : (r : Data) → has_few_lists r ≡ true → HasFewLists (requirements_from r)
 few_lists r h =
     let b = and_parts (nat_le (length (args_of r)) 64 && nat_le (length (properties_of r)) 64) (nat_le (length (variables_of r)) 64) h in
     let c = and_parts (nat_le (length (args_of r)) 64) (nat_le (length (properties_of r)) 64) b.0 in
@@ -103,16 +103,16 @@ same_sums units count make each [] = refl
 same_sums units count make each (x ∷ xs) = omega (arith, length-append (units (make x)) (flat_map units (map make xs)), each x, same_sums units count make each xs, sum_by-cons count x xs)
 
 module _ (d : Data) where
-  units_of_action : (x : Data) → length (action_units (action_of (names_in d) (profiles_of d) x)) ≡ unit_count x
+  units_of_action : (x : Data) → length (action_units (action_of (names_in d) (all_requirements d) x)) ≡ unit_count x
   units_of_action x =
-      let work = work_of (names_in d) (profiles_of d) in
+      let work = work_of (names_in d) (all_requirements d) in
       omega (arith, length-append (fetch_units (fetch_of x)) (map item_unit (map work (items_of x))), length-map (map work (items_of x)) item_unit, length-map (items_of x) work, fetch_count (fetch_of x))
 
-  units_of_task : (t : Data) → length (task_units (task_of (names_in d) (profiles_of d) t)) ≡ task_unit_count t
-  units_of_task t = same_sums action_units unit_count (action_of (names_in d) (profiles_of d)) units_of_action (actions_of t)
+  units_of_task : (t : Data) → length (task_units (task_of (names_in d) (all_requirements d) t)) ≡ task_unit_count t
+  units_of_task t = same_sums action_units unit_count (action_of (names_in d) (all_requirements d)) units_of_action (actions_of t)
 
   pub units_of_plan : length (plan_units (plan_of d)) ≡ plan_unit_count d
-  units_of_plan = same_sums task_units task_unit_count (task_of (names_in d) (profiles_of d)) units_of_task (tasks_of d)
+  units_of_plan = same_sums task_units task_unit_count (task_of (names_in d) (all_requirements d)) units_of_task (tasks_of d)
 
 -- ---- releases
 
@@ -128,7 +128,7 @@ keeps word other same = by (bytes_eq word (codes "retain")) (rw other at same)
     by true e = false≢true (ap is_release e)
     by false e = false≢true (ap is_release e)
 
-last_releases : (make : Data → ActionShape) → ((x : Data) → (make x).retention ≡ retention_named (wait_of x)) → (xs : List Data) → list_any releases (take (length xs - 1) xs) ≡ false → ReleasesLast (map make xs)
+last_releases : (make : Data → PlanActionView) → ((x : Data) → (make x).retention ≡ retention_named (wait_of x)) → (xs : List Data) → list_any releases (take (length xs - 1) xs) ≡ false → ReleasesLast (map make xs)
 last_releases make waits [] none k e lt same = absurd (omega (arith, lt))
 last_releases make waits (x ∷ xs) none k e lt same =
     let all = x ∷ xs in
@@ -140,16 +140,16 @@ last_releases make waits (x ∷ xs) none k e lt same =
 
 -- ---- names
 
-after_in : (d t : Data) → 0 < length (tasks_of d) → All (λ m. m < length (map (task_of (names_in d) (profiles_of d)) (tasks_of d))) (after_numbers (names_in d).tasks t)
+after_in : (d t : Data) → 0 < length (tasks_of d) → All (λ m. m < length (map (task_of (names_in d) (all_requirements d)) (tasks_of d))) (after_numbers (names_in d).tasks t)
 after_in d t some =
-    let make = task_of (names_in d) (profiles_of d) in
+    let make = task_of (names_in d) (all_requirements d) in
     let names = length-map (tasks_of d) name_of in
     subst (λ m. All (λ u. u < m) (after_numbers (names_in d).tasks t)) (names ∙ sym (length-map (tasks_of d) make)) (numbers_within (names_in d).tasks (after_of t) (rw names some))
 
-files_named : (d x : Data) → IsFormedAction x → HasFileNames (action_of (names_in d) (profiles_of d) x)
+files_named : (d x : Data) → IsFormedAction x → HasFileNames (action_of (names_in d) (all_requirements d) x)
 files_named d x f = record {
   fetch = f.fetch;
-  items = All-map (λ w. is_file_name w.file ≡ true) (work_of (names_in d) (profiles_of d)) (items_of x) f.files;
+  items = All-map (λ w. is_file_name w.file ≡ true) (work_of (names_in d) (all_requirements d)) (items_of x) f.files;
 }
 
 -- ---- the whole
@@ -166,9 +166,9 @@ named_apart name xs apart i j e lt long same =
 pub is_plan : (d : Data) → Accepted d → IsPlan (plan_of d)
 is_plan d a =
     let n = names_in d in
-    let action = action_of n (profiles_of d) in
-    let work = work_of n (profiles_of d) in
-    let make = task_of n (profiles_of d) in
+    let action = action_of n (all_requirements d) in
+    let work = work_of n (all_requirements d) in
+    let make = task_of n (all_requirements d) in
     let ts = tasks_of d in
     let limits = row_quiet d TooMany (few d a) in
     let p = within 512 (length (projects_of d)) which.Projects _ (limits Plan 0 d (omega arith)) in
@@ -181,10 +181,10 @@ is_plan d a =
       few_projects = rw (length-map (projects_of d) name_of) p.0;
       few_tasks = rw (length-map ts make) q.0;
       few_units = rw (units_of_plan d) u.0;
-      few_requirements = rw (length-map (requirements_of d) profile_of) r.0;
+      few_requirements = rw (length-map (requirements_of d) requirements_from) r.0;
       few_actions = All-map (λ t. length t.actions ≤ 8) make ts (λ k e lt. rw (length-map (actions_of (get_or ts k e)) action) (actions_few k e lt).0);
       few_after = All-map (λ t. length t.after ≤ 64) make ts (λ k e lt. few_numbers n.tasks (after_of (get_or ts k e)) (actions_few k e lt).1);
-      few_lists = All-map HasFewLists profile_of (requirements_of d) (λ k e lt. few_lists (get_or (requirements_of d) k e) (few_listed (get_or (requirements_of d) k e) (limits Requirements k e lt)));
+      few_lists = All-map HasFewLists requirements_from (requirements_of d) (λ k e lt. few_lists (get_or (requirements_of d) k e) (few_listed (get_or (requirements_of d) k e) (limits Requirements k e lt)));
       project_names = All-map (λ m. is_name m ≡ true) name_of (projects_of d) formed.projects;
       task_names = All-map (λ t. is_name t.name ≡ true) make ts formed.tasks;
       own_projects = once_named d (twice d a) Project;

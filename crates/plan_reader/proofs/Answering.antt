@@ -12,7 +12,7 @@ use Rattle.plan_table.specs.Document as document
 use Rattle.plan_table.specs.Keys.{name_of, tasks_of, after_of}
 use Rattle.plan_table.specs.Search.{table_refusal}
 use Rattle.plan_reader.specs.Names.{names_in, after_numbers, afters_of}
-use Rattle.plan_reader.specs.Plan.{PlanShape}
+use Rattle.plan_reader.specs.PlanView.{PlanView}
 use Rattle.plan_reader.specs.Planned.{plan_of}
 use Rattle.plan_reader.specs.Search.{twice_in, twice_refusal, rows_refusal, rows_before, refusal_before, refusal_behind}
 use Rattle.plan_reader.specs.Reading.{Answer, answer_to, AnswersRanks, AnswersBy, ReadsBy, Refuses, Gives, RefusesBy, RefusesCycle}
@@ -37,7 +37,7 @@ none_before d a b c =
     ∙ ap (λ o. option_or o (rows_refusal rows_before d)) b
     ∙ c
 
-pub answers_by : (d : Data) (r : Result PlanShape PlanFail) → refusal_before d ≡ None → Gives (AnswersRanks d) r → Gives (AnswersBy (refusal_before d) d) r
+pub answers_by : (d : Data) (r : Result PlanView PlanFail) → refusal_before d ≡ None → Gives (AnswersRanks d) r → Gives (AnswersBy (refusal_before d) d) r
 answers_by d r none h = subst (λ o. Gives (AnswersBy o d) r) (sym none) h
 
 pub twice_task : (d : Data) (e : PlanFail) → twice_in d Project ≡ None → RefusesBy (twice_in d Task) e → RefusesBy (twice_refusal d) e
@@ -53,7 +53,7 @@ none_twice d p t r =
     ∙ ap (λ o. option_or o None) r
 
 -- the error of a step is handed on
-pub handed_on : (Is : Answer → Type 0) (r : Result PlanShape PlanFail) (e : PlanFail) → IsErrAnd r (λ f. f ≡ e) → Refuses Is e → Gives Is r
+pub handed_on : (Is : Answer → Type 0) (r : Result PlanView PlanFail) (e : PlanFail) → IsErrAnd r (λ f. f ≡ e) → Refuses Is e → Gives Is r
 handed_on Is (Ok p) e is h = absurd is
 handed_on Is (Err f) e is h = subst (Refuses Is) (sym is) h
 
@@ -80,7 +80,7 @@ pub behind_refused : (d : Data) (e : PlanFail) → IsFirstCycle (afters_of d) No
 behind_refused d NoMemory ranked h = tt
 behind_refused d (Refused r) ranked h = (None, ranked, ap (λ o. answer_to o (plan_of d)) (sym h))
 
-pub answered : (d : Data) (r : Result PlanShape PlanFail) → IsFirstCycle (afters_of d) None → refusal_behind d ≡ None → IfOk r (λ p. p ≡ plan_of d) → IfErr r (λ e. e ≡ NoMemory) → Gives (AnswersRanks d) r
+pub answered : (d : Data) (r : Result PlanView PlanFail) → IsFirstCycle (afters_of d) None → refusal_behind d ≡ None → IfOk r (λ p. p ≡ plan_of d) → IfErr r (λ e. e ≡ NoMemory) → Gives (AnswersRanks d) r
 answered d (Ok p) ranked none made memory = (None, ranked, ap Ok made ∙ ap (λ o. answer_to o (plan_of d)) (sym none))
 answered d (Err e) ranked none made memory = subst (Refuses (AnswersRanks d)) (sym memory) tt
 
@@ -90,5 +90,5 @@ pub text_refused : (reading : Result Data PlanRefusal) (e : PlanFail) → docume
 text_refused reading NoMemory h = tt
 text_refused reading (Refused r) h = subst (λ x. ReadsBy x (Err r)) (sym h) refl
 
-pub text_read : (reading : Result Data PlanRefusal) (d : Data) (r : Result PlanShape PlanFail) → reading ≡ Ok d → Gives (AnswersBy (refusal_before d) d) r → Gives (ReadsBy reading) r
+pub text_read : (reading : Result Data PlanRefusal) (d : Data) (r : Result PlanView PlanFail) → reading ≡ Ok d → Gives (AnswersBy (refusal_before d) d) r → Gives (ReadsBy reading) r
 text_read reading d r is h = subst (λ x. Gives (ReadsBy x) r) (sym is) h

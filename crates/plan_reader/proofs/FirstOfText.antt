@@ -3,7 +3,7 @@ use Rattle.std.proofs.Common.{◌≡◌, ℕ, ◌<◌, ◌≤◌, nat_lt, List, 
 use Rattle.std.proofs.lemmas.Bool.{cases_Bool, ltb-true, ltb-false}
 use Rattle.std.proofs.lemmas.Option.{none-some}
 use Rattle.toml.specs.Data.{Data}
-use Rattle.item_actions.specs.Value.{most_bytes}
+use Rattle.item_actions.specs.Value.{max_file_bytes}
 use Rattle.plan_table.specs.declared.refusals.PlanRefusal.{PlanRefusal}
 use Rattle.plan_table.specs.declared.refusals.PlanRefusal.TheVariants as refusal
 use Rattle.plan_table.specs.Document.{document_of, document_or_not_toml}
@@ -17,7 +17,7 @@ InDocument o s = MatchOption o ⊥ (λ d. DocumentHolds d s)
 
 -- the text is too long, or no document, or the refusal is one of its document
 data OfText (bytes : List ℕ) (s : PlanRefusal) : Type 0 where
-  too_long : most_bytes < length bytes → OfText bytes s
+  too_long : max_file_bytes < length bytes → OfText bytes s
   not_toml : document_of bytes ≡ None → 1 ≤ cause_number s → OfText bytes s
   in_document : InDocument (document_of bytes) s → 2 ≤ cause_number s → OfText bytes s
 
@@ -58,7 +58,7 @@ text_holds bytes d refusal.NotYet is h = absurd h
 
 module _ (bytes : List ℕ) where
   abbrev IsShort : Type 0
-  IsShort = length bytes ≤ most_bytes
+  IsShort = length bytes ≤ max_file_bytes
 
   -- ---- the text itself
 
@@ -68,7 +68,7 @@ module _ (bytes : List ℕ) where
   none_before_too_long s (inr (same, inl (inr (part, lt)))) = absurd (omega (arith, lt))
   none_before_too_long s (inr (same, inr (there, lt))) = absurd (omega (arith, lt))
 
-  too_long_first : most_bytes < length bytes → IsFirst (TextHolds bytes) refusal.TooLong
+  too_long_first : max_file_bytes < length bytes → IsFirst (TextHolds bytes) refusal.TooLong
   too_long_first long = record { here = long; before = λ s b h. none_before_too_long s b }
 
   before_not_toml : (s : PlanRefusal) → IsBefore s refusal.NotToml → cause_number s < 1
@@ -106,7 +106,7 @@ module _ (bytes : List ℕ) where
 
 pub first_of_text : (bytes : List ℕ) (answer : Answer) → Reads bytes answer → IsFirstOf (TextHolds bytes) (refusal_in answer)
 first_of_text bytes answer reads =
-    elim (cases_Bool (nat_lt most_bytes (length bytes))) [
+    elim (cases_Bool (nat_lt max_file_bytes (length bytes))) [
       | inl long ↦ subst (λ a. IsFirstOf (TextHolds bytes) (refusal_in a)) (sym (rw long at reads)) (too_long_first bytes (ltb-true _ _ long))
       | inr few ↦ document_first bytes answer (ltb-false _ _ few) (document_of bytes) refl (rw few at reads)
     ]

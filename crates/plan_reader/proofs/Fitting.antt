@@ -7,28 +7,28 @@ use Rattle.std.proofs.lemmas.List.Elements.{All-nil, All-cons, All-append}
 use Rattle.std.proofs.lemmas.List.Sums.{sum_by-cons, sum_by-append}
 use Rattle.resource_lock.specs.declared.graphs.GraphTask.{GraphTask}
 use Rattle.resource_lock.specs.declared.graphs.GraphAction.{GraphAction}
-use Rattle.resource_lock.specs.Outline.{TaskOutline, outline_of, no_task, no_action}
+use Rattle.resource_lock.specs.GraphView.{GraphTaskView, graph_view, no_task, no_action}
 use Rattle.resource_lock.specs.Made.{made_of}
 use Rattle.resource_lock.specs.Ranges.{fetches, units_in, IsIn}
 use Rattle.resource_lock.specs.Fits.{Follow, Fits}
-use Rattle.plan_reader.specs.Plan.{ActionShape, TaskShape, PlanShape}
+use Rattle.plan_reader.specs.PlanView.{PlanActionView, PlanTaskView, PlanView}
 use Rattle.plan_reader.specs.Units.{fetch_units, item_unit, action_units, task_units, plan_units}
 use Rattle.plan_reader.specs.IsPlan.{IsPlan}
 use Rattle.plan_reader.specs.Graph.{lock_of, locks_of, tasks_from, actions_from, units_in_all, all_actions_from, graph_of}
 
 -- ---- tasks
 
-abbrev pub task_outline : Bool → ℕ → TaskShape → TaskOutline
+abbrev pub task_outline : Bool → ℕ → PlanTaskView → GraphTaskView
 task_outline parallel first t = record { lock = lock_of parallel t.project; after = t.after; first_action = first; actions = length t.actions }
 
-each_task : (P : TaskOutline → Type 0) (parallel : Bool) (first : ℕ) (ts : List TaskShape)
-    → ((k : ℕ) (d : TaskShape) → k < length ts → (n : ℕ) → P (task_outline parallel n (get_or ts k d))) → All P (tasks_from parallel first ts)
+each_task : (P : GraphTaskView → Type 0) (parallel : Bool) (first : ℕ) (ts : List PlanTaskView)
+    → ((k : ℕ) (d : PlanTaskView) → k < length ts → (n : ℕ) → P (task_outline parallel n (get_or ts k d))) → All P (tasks_from parallel first ts)
 each_task P parallel first [] each = All-nil P
 each_task P parallel first (t ∷ ts) each =
     All-cons P (task_outline parallel first t) (tasks_from parallel (first + length t.actions) ts) (each 0 t (omega arith) first)
     (each_task P parallel (first + length t.actions) ts (λ k d within. each (suc k) d (omega arith)))
 
-length-tasks_from : (parallel : Bool) (first : ℕ) (ts : List TaskShape) → length (tasks_from parallel first ts) ≡ length ts
+length-tasks_from : (parallel : Bool) (first : ℕ) (ts : List PlanTaskView) → length (tasks_from parallel first ts) ≡ length ts
 length-tasks_from parallel first [] = refl
 length-tasks_from parallel first (t ∷ ts) = ap suc (length-tasks_from parallel (first + length t.actions) ts)
 
@@ -42,24 +42,24 @@ few_locks false projects few = omega (arith, few)
 
 -- ---- actions
 
-length-actions_from : (task first : ℕ) (as' : List ActionShape) → length (actions_from task first as') ≡ length as'
+length-actions_from : (task first : ℕ) (as' : List PlanActionView) → length (actions_from task first as') ≡ length as'
 length-actions_from task first [] = refl
 length-actions_from task first (a ∷ as') = ap suc (length-actions_from task (first + length (action_units a)) as')
 
-some_items : (task first : ℕ) (as' : List ActionShape) → All (λ a. 0 < length a.items) as' → All (λ a. 0 < a.items) (actions_from task first as')
+some_items : (task first : ℕ) (as' : List PlanActionView) → All (λ a. 0 < length a.items) as' → All (λ a. 0 < a.items) (actions_from task first as')
 some_items task first [] some = All-nil (λ a. 0 < a.items)
 some_items task first (a ∷ as') some =
     All-cons (λ a. 0 < a.items) _ (actions_from task (first + length (action_units a)) as') (some 0 a (omega arith))
     (some_items task (first + length (action_units a)) as' (λ k d within. some (suc k) d (omega arith)))
 
-all_some_items : (task first : ℕ) (ts : List TaskShape) → All (λ t. All (λ a. 0 < length a.items) t.actions) ts → All (λ a. 0 < a.items) (all_actions_from task first ts)
+all_some_items : (task first : ℕ) (ts : List PlanTaskView) → All (λ t. All (λ a. 0 < length a.items) t.actions) ts → All (λ a. 0 < a.items) (all_actions_from task first ts)
 all_some_items task first [] some = All-nil (λ a. 0 < a.items)
 all_some_items task first (t ∷ ts) some =
     All-append (λ a. 0 < a.items) (actions_from task first t.actions) (all_actions_from (task + 1) (first + units_in_all t.actions) ts)
     (some_items task first t.actions (some 0 t (omega arith)))
     (all_some_items (task + 1) (first + units_in_all t.actions) ts (λ k d within. some (suc k) d (omega arith)))
 
-actions_follow : (parallel : Bool) (n task first : ℕ) (ts : List TaskShape) (stop : ℕ) → n + length (all_actions_from task first ts) ≡ stop
+actions_follow : (parallel : Bool) (n task first : ℕ) (ts : List PlanTaskView) (stop : ℕ) → n + length (all_actions_from task first ts) ≡ stop
     → Follow (λ t. t.first_action) (λ t. t.actions) n (tasks_from parallel n ts) stop
 actions_follow parallel n task first [] stop e = omega arith
 actions_follow parallel n task first (t ∷ ts) stop e =
@@ -73,10 +73,10 @@ units_of_fetch : (fetch : Option (List ℕ)) → length (fetch_units fetch) ≡ 
 units_of_fetch None = refl
 units_of_fetch (Some file) = refl
 
-units_of_action : (a : ActionShape) → length (action_units a) ≡ length a.items + fetches (is_some a.fetch)
+units_of_action : (a : PlanActionView) → length (action_units a) ≡ length a.items + fetches (is_some a.fetch)
 units_of_action a = omega (arith, length-append (fetch_units a.fetch) (map item_unit a.items), length-map a.items item_unit, units_of_fetch a.fetch)
 
-pub units_in_all-task_units : (as' : List ActionShape) → units_in_all as' ≡ length (flat_map action_units as')
+pub units_in_all-task_units : (as' : List PlanActionView) → units_in_all as' ≡ length (flat_map action_units as')
 units_in_all-task_units [] = refl
 units_in_all-task_units (a ∷ as') = omega (arith, length-append (action_units a) (flat_map action_units as'), units_in_all-task_units as')
 
@@ -84,13 +84,13 @@ follow_append : {X : Type 0} (first count : X → ℕ) (n mid stop : ℕ) (xs ys
 follow_append first count n mid stop [] ys a b = subst (λ m. Follow first count m ys stop) (sym a) b
 follow_append first count n mid stop (x ∷ xs) ys a b = (a.0, follow_append first count (n + count x) mid stop xs ys a.1 b)
 
-units_follow : (task n : ℕ) (as' : List ActionShape) (stop : ℕ) → n + units_in_all as' ≡ stop → Follow (λ a. a.first_unit) units_in n (actions_from task n as') stop
+units_follow : (task n : ℕ) (as' : List PlanActionView) (stop : ℕ) → n + units_in_all as' ≡ stop → Follow (λ a. a.first_unit) units_in n (actions_from task n as') stop
 units_follow task n [] stop e = omega arith
 units_follow task n (a ∷ as') stop e =
     let rest = units_follow task (n + length (action_units a)) as' stop (omega arith) in
     (refl, subst (λ m. Follow (λ b. b.first_unit) units_in (n + m) (actions_from task (n + length (action_units a)) as') stop) (units_of_action a) rest)
 
-all_units_follow : (task n : ℕ) (ts : List TaskShape) (stop : ℕ) → n + length (flat_map task_units ts) ≡ stop → Follow (λ a. a.first_unit) units_in n (all_actions_from task n ts) stop
+all_units_follow : (task n : ℕ) (ts : List PlanTaskView) (stop : ℕ) → n + length (flat_map task_units ts) ≡ stop → Follow (λ a. a.first_unit) units_in n (all_actions_from task n ts) stop
 all_units_follow task n [] stop e = omega arith
 all_units_follow task n (t ∷ ts) stop e =
     let both = length-append (task_units t) (flat_map task_units ts) in
@@ -101,13 +101,13 @@ all_units_follow task n (t ∷ ts) stop e =
 
 -- ---- the task of an action
 
-task_of_action : (task first : ℕ) (as' : List ActionShape) (a : ℕ) → a < length as' → (get_or (actions_from task first as') a no_action).task ≡ task
+task_of_action : (task first : ℕ) (as' : List PlanActionView) (a : ℕ) → a < length as' → (get_or (actions_from task first as') a no_action).task ≡ task
 task_of_action task first [] a within = absurd (omega arith)
 task_of_action task first (x ∷ as') zero within = refl
 task_of_action task first (x ∷ as') (suc a) within = task_of_action task (first + length (action_units x)) as' a (omega arith)
 
 -- the action is one of the first task's, or one of a later one's
-own_or_later : (parallel : Bool) (n task : ℕ) (x : TaskShape) (ts : List TaskShape) (front back : List GraphAction) (a m t : ℕ) → length front ≡ length x.actions
+own_or_later : (parallel : Bool) (n task : ℕ) (x : PlanTaskView) (ts : List PlanTaskView) (front back : List GraphAction) (a m t : ℕ) → length front ≡ length x.actions
     → a < length (front ++ back) → m ≡ n + a → (get_or (front ++ back) a no_action).task ≡ t
     → (a < length x.actions → (get_or front a no_action).task ≡ task)
     → ((b : ℕ) → b < length back → m ≡ n + length x.actions + b → (u : ℕ) → (get_or back b no_action).task ≡ u
@@ -134,7 +134,7 @@ own_or_later parallel n task x ts front back a m t long within e is own later = 
         (omega (arith, r.0), others r.1 r.0)
 
 -- the task of the a-th action from this task on, and its range from n on
-own_task : (parallel : Bool) (n task first : ℕ) (ts : List TaskShape) (a m : ℕ) → a < length (all_actions_from task first ts) → m ≡ n + a
+own_task : (parallel : Bool) (n task first : ℕ) (ts : List PlanTaskView) (a m : ℕ) → a < length (all_actions_from task first ts) → m ≡ n + a
     → (t : ℕ) → (get_or (all_actions_from task first ts) a no_action).task ≡ t
     → (task ≤ t) × ((i : ℕ) → task + i ≡ t → IsIn (get_or (tasks_from parallel n ts) i no_task).first_action (get_or (tasks_from parallel n ts) i no_task).actions m)
 own_task parallel n task first [] a m within e t is = absurd (omega arith)
@@ -143,8 +143,8 @@ own_task parallel n task first (x ∷ ts) a m within e t is =
     (task_of_action task first x.actions a)
     (λ b lt. own_task parallel (n + length x.actions) (task + 1) (first + units_in_all x.actions) ts b m lt)
 
-pub graph_fits : (p : PlanShape) (workers max : ℕ) (parallel : Bool) → IsPlan p → 1 ≤ workers → workers ≤ 32 → 1 ≤ max → max ≤ 32 → Fits (graph_of p workers max parallel)
-graph_fits p workers max parallel h some_worker few_workers some_lease few_leases =
+pub graph_fits : (p : PlanView) (workers max_leases : ℕ) (parallel : Bool) → IsPlan p → 1 ≤ workers → workers ≤ 32 → 1 ≤ max_leases → max_leases ≤ 32 → Fits (graph_of p workers max_leases parallel)
+graph_fits p workers max_leases parallel h some_worker few_workers some_lease few_leases =
     let tasks : length (tasks_from parallel 0 p.tasks) ≡ length p.tasks = length-tasks_from parallel 0 p.tasks in
     record {
       some_worker = some_worker;
@@ -164,7 +164,7 @@ graph_fits p workers max parallel h some_worker few_workers some_lease few_lease
       some_item = all_some_items 0 0 p.tasks h.some_item;
     }
 
-units_made : (task first : ℕ) (as' : List ActionShape) → sum_by units_in (actions_from task first as') ≡ units_in_all as'
+units_made : (task first : ℕ) (as' : List PlanActionView) → sum_by units_in (actions_from task first as') ≡ units_in_all as'
 units_made task first [] = refl
 units_made task first (a ∷ as') =
     let more = actions_from task (first + length (action_units a)) as' in
@@ -172,7 +172,7 @@ units_made task first (a ∷ as') =
     ∙ ap (λ n. n + sum_by units_in more) (sym (units_of_action a))
     ∙ ap (λ n. length (action_units a) + n) (units_made task (first + length (action_units a)) as')
 
-all_units_made : (task first : ℕ) (ts : List TaskShape) → sum_by units_in (all_actions_from task first ts) ≡ length (flat_map task_units ts)
+all_units_made : (task first : ℕ) (ts : List PlanTaskView) → sum_by units_in (all_actions_from task first ts) ≡ length (flat_map task_units ts)
 all_units_made task first [] = refl
 all_units_made task first (t ∷ ts) =
     let more = all_actions_from (task + 1) (first + units_in_all t.actions) ts in
@@ -182,9 +182,9 @@ all_units_made task first (t ∷ ts) =
     ∙ sym (length-append (task_units t) (flat_map task_units ts))
 
 -- the parts make the graph
-pub same_graph : (p : PlanShape) (workers max locks : ℕ) (parallel : Bool) (tasks : List GraphTask) (actions : List GraphAction)
-    → locks ≡ locks_of parallel p → map outline_of tasks ≡ tasks_from parallel 0 p.tasks → actions ≡ all_actions_from 0 0 p.tasks
-    → made_of locks workers max tasks actions ≡ graph_of p workers max parallel
-same_graph p workers max locks parallel tasks actions a b c =
+pub same_graph : (p : PlanView) (workers max_leases locks : ℕ) (parallel : Bool) (tasks : List GraphTask) (actions : List GraphAction)
+    → locks ≡ locks_of parallel p → map graph_view tasks ≡ tasks_from parallel 0 p.tasks → actions ≡ all_actions_from 0 0 p.tasks
+    → made_of locks workers max_leases tasks actions ≡ graph_of p workers max_leases parallel
+same_graph p workers max_leases locks parallel tasks actions a b c =
     let units : sum_by units_in actions ≡ length (plan_units p) = ap (sum_by units_in) c ∙ all_units_made 0 0 p.tasks in
-    λ i. record { locks = a i; workers = workers; max = max; units = units i; tasks = b i; actions = c i }
+    λ i. record { locks = a i; workers = workers; max_leases = max_leases; units = units i; tasks = b i; actions = c i }

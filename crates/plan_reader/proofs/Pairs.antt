@@ -12,7 +12,7 @@ use Rattle.std.proofs.lemmas.Cmp.{nat_list_cmp_total}
 use Rattle.toml.proofs.Views.{Entry}
 use Rattle.toml.specs.View.{view}
 use Rattle.daemon_requirements.specs.declared.fields.Pair.{Pair}
-use Rattle.daemon_requirements.specs.Profile.{HasDistinctNames}
+use Rattle.daemon_requirements.specs.RequirementsView.{HasDistinctNames}
 use Rattle.plan_table.specs.Values.{text_of}
 use Rattle.plan_reader.specs.Planned.{pair_of}
 

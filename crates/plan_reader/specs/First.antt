@@ -1,7 +1,7 @@
 -- When each refusal of a text holds.
 use Rattle.std.specs.Prelude.{ℕ, ◌≡◌, ◌<◌, Bool, true, false, not, nat_lt, List, [], map, length, slice_index_or, Option, Some, None, MatchOption, Ok, Err}
 use Rattle.toml.specs.Data.{Data}
-use Rattle.item_actions.specs.Value.{most_bytes}
+use Rattle.item_actions.specs.Value.{max_file_bytes}
 use Rattle.task_ranks.specs.Rank.{Ranked}
 use Rattle.plan_table.specs.declared.refusals.Part.{Part}
 use Rattle.plan_table.specs.declared.refusals.Part.TheVariants as part
@@ -62,7 +62,7 @@ DocumentHolds d r = TableHolds d r
 
 -- of a text
 abbrev pub TextHolds : List ℕ → PlanRefusal → Type 0
-TextHolds bytes refusal.TooLong = most_bytes < length bytes
+TextHolds bytes refusal.TooLong = max_file_bytes < length bytes
 TextHolds bytes refusal.NotToml = document_of bytes ≡ None
 TextHolds bytes r = MatchOption (document_of bytes) ⊥ (λ d. DocumentHolds d r)
 

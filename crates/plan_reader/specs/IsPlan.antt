@@ -2,34 +2,34 @@
 use Rattle.std.specs.Prelude.{ℕ, ◌≡◌, ◌≢◌, ◌+◌, ◌<◌, ◌≤◌, true, List, map, length, slice_index_or}
 use Rattle.std.specs.List.{All, AllPairs}
 use Rattle.resource_lock.specs.declared.graphs.Retention.TheVariants.{Release}
-use Rattle.daemon_requirements.specs.Profile.{Profile}
+use Rattle.daemon_requirements.specs.RequirementsView.{RequirementsView}
 use Rattle.task_ranks.specs.Rank.{Ranked}
 use Rattle.item_actions.specs.Forms.{is_file_name}
 use Rattle.plan_table.specs.Forms.{is_name}
 use Rattle.plan_table.specs.Formed.{IsFetch}
-use Rattle.plan_reader.specs.Plan.{ActionShape, TaskShape, PlanShape}
+use Rattle.plan_reader.specs.PlanView.{PlanActionView, PlanTaskView, PlanView}
 use Rattle.plan_reader.specs.Units.{plan_units}
 
 -- the names of its files have their form
-pub record HasFileNames (a : ActionShape) : Type 0 where
+pub record HasFileNames (a : PlanActionView) : Type 0 where
   pub fetch : IsFetch a.fetch
   pub items : All (λ w. is_file_name w.file ≡ true) a.items
 
 -- an action that isn't the last keeps the project lock, or takes it again
-abbrev pub ReleasesLast : List ActionShape → Type 0
-ReleasesLast as' = (k : ℕ) (d : ActionShape) → k + 1 < length as' → (slice_index_or as' k d).retention ≢ Release
+abbrev pub ReleasesLast : List PlanActionView → Type 0
+ReleasesLast as' = (k : ℕ) (d : PlanActionView) → k + 1 < length as' → (slice_index_or as' k d).retention ≢ Release
 
 -- at most 64 arguments, properties and variables each
-pub record HasFewLists (p : Profile) : Type 0 where
+pub record HasFewLists (p : RequirementsView) : Type 0 where
   pub args : length p.args ≤ 64
   pub properties : length p.properties ≤ 64
   pub variables : length p.variables ≤ 64
 
 -- for each task the tasks that it stands after
-abbrev pub afters : List TaskShape → List (List ℕ)
+abbrev pub afters : List PlanTaskView → List (List ℕ)
 afters ts = map (λ t. t.after) ts
 
-pub record IsPlan (p : PlanShape) : Type 0 where
+pub record IsPlan (p : PlanView) : Type 0 where
   pub few_projects : length p.projects ≤ 512
   pub few_tasks : length p.tasks ≤ 2048
   pub few_units : length (plan_units p) ≤ 8192

@@ -1,4 +1,4 @@
-pub mod Plan
+pub mod PlanView
 pub mod Units
 pub mod IsPlan
 pub mod Graph

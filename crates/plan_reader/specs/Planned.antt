@@ -2,15 +2,15 @@
 use Rattle.std.specs.Prelude.{ℕ, ℤ, pos, negsuc, codes, if◌then◌else◌, List, map, Option, None, Some, unwrap_or, option_and_then, slice_get, position}
 use Rattle.std.specs.Str.{bytes_eq}
 use Rattle.toml.specs.Data.{Data, table, no_members}
-use Rattle.item_actions.specs.declared.actions.Action.{Action}
-use Rattle.item_actions.specs.declared.actions.Action.TheVariants.{Lines, Words, Bytes, Longest, Count, Sha256}
+use Rattle.item_actions.specs.declared.actions.ItemAction.{ItemAction}
+use Rattle.item_actions.specs.declared.actions.ItemAction.TheVariants.{Lines, Words, Bytes, Longest, Count, Sha256}
 use Rattle.resource_lock.specs.declared.graphs.Retention.{Retention}
 use Rattle.resource_lock.specs.declared.graphs.Retention.TheVariants.{Retain, Release, ReleaseAndReacquire}
 use Rattle.daemon_requirements.specs.declared.fields.Pair.{Pair}
-use Rattle.daemon_requirements.specs.Profile.{Profile}
+use Rattle.daemon_requirements.specs.RequirementsView.{RequirementsView}
 use Rattle.plan_table.specs.Forms.{Text, is_needle}
 use Rattle.plan_table.specs.Keys.{tasks_of, requirements_of, name_of, project_of, actions_of, wait_of, fetch_of, items_of, do_of, file_of, needle_of, isolation_of, requirements_name_of, executable_of, heap_of, args_of, properties_of, variables_of, debug_of, assertions_of, encoding_of}
-use Rattle.plan_reader.specs.Plan.{WorkShape, ActionShape, TaskShape, PlanShape}
+use Rattle.plan_reader.specs.PlanView.{WorkView, PlanActionView, PlanTaskView, PlanView}
 use Rattle.plan_reader.specs.Names.{NameLists, names_in, number_of, after_numbers}
 
 -- ---- requirements
@@ -23,8 +23,8 @@ abbrev pub heap_number : ℤ → ℕ
 heap_number (pos mb) = mb
 heap_number (negsuc n) = 0
 
-abbrev pub profile_of : Data → Profile
-profile_of r = record {
+abbrev pub requirements_from : Data → RequirementsView
+requirements_from r = record {
   executable = executable_of r;
   heap_mb = heap_number (heap_of r);
   args = args_of r;
@@ -36,24 +36,24 @@ profile_of r = record {
 }
 
 -- what a table without keys asks for
-abbrev pub default_profile : Profile
-default_profile = profile_of (table no_members)
+abbrev pub default_requirements : RequirementsView
+default_requirements = requirements_from (table no_members)
 
-abbrev pub profiles_of : Data → List Profile
-profiles_of d = map profile_of (requirements_of d)
+abbrev pub all_requirements : Data → List RequirementsView
+all_requirements d = map requirements_from (requirements_of d)
 
 -- the one of that name, and the default where no name is given
-abbrev pub profile_named : List Text → List Profile → Option Text → Profile
-profile_named names profiles None = default_profile
-profile_named names profiles (Some name) = unwrap_or (option_and_then (slice_get profiles) (position (bytes_eq name) names)) default_profile
+abbrev pub requirements_named : List Text → List RequirementsView → Option Text → RequirementsView
+requirements_named names profiles None = default_requirements
+requirements_named names profiles (Some name) = unwrap_or (option_and_then (slice_get profiles) (position (bytes_eq name) names)) default_requirements
 
 -- ---- items
 
 -- what is counted has the form of a needle
-abbrev pub count_of : Text → Action
+abbrev pub count_of : Text → ItemAction
 count_of needle = if is_needle needle then Count needle else Bytes
 
-abbrev pub action_named : Text → Text → Action
+abbrev pub action_named : Text → Text → ItemAction
 action_named word needle =
     if bytes_eq word (codes "lines") then Lines
     else if bytes_eq word (codes "words") then Words
@@ -62,10 +62,10 @@ action_named word needle =
     else if bytes_eq word (codes "count") then count_of needle
     else Sha256
 
-abbrev pub process_of : NameLists → List Profile → Data → Option Profile
-process_of names profiles item = if bytes_eq (isolation_of item) (codes "process") then Some (profile_named names.requirements profiles (requirements_name_of item)) else None
+abbrev pub process_of : NameLists → List RequirementsView → Data → Option RequirementsView
+process_of names profiles item = if bytes_eq (isolation_of item) (codes "process") then Some (requirements_named names.requirements profiles (requirements_name_of item)) else None
 
-abbrev pub work_of : NameLists → List Profile → Data → WorkShape
+abbrev pub work_of : NameLists → List RequirementsView → Data → WorkView
 work_of names profiles item = record {
   action = action_named (do_of item) (needle_of item);
   file = file_of item;
@@ -80,14 +80,14 @@ retention_named word =
     else if bytes_eq word (codes "release") then Release
     else ReleaseAndReacquire
 
-abbrev pub action_of : NameLists → List Profile → Data → ActionShape
+abbrev pub action_of : NameLists → List RequirementsView → Data → PlanActionView
 action_of names profiles action = record {
   fetch = fetch_of action;
   retention = retention_named (wait_of action);
   items = map (work_of names profiles) (items_of action);
 }
 
-abbrev pub task_of : NameLists → List Profile → Data → TaskShape
+abbrev pub task_of : NameLists → List RequirementsView → Data → PlanTaskView
 task_of names profiles t = record {
   name = name_of t;
   project = number_of names.projects (project_of t);
@@ -95,9 +95,9 @@ task_of names profiles t = record {
   actions = map (action_of names profiles) (actions_of t);
 }
 
-abbrev pub plan_of : Data → PlanShape
+abbrev pub plan_of : Data → PlanView
 plan_of d = record {
   projects = (names_in d).projects;
-  tasks = map (task_of (names_in d) (profiles_of d)) (tasks_of d);
-  requirements = profiles_of d;
+  tasks = map (task_of (names_in d) (all_requirements d)) (tasks_of d);
+  requirements = all_requirements d;
 }

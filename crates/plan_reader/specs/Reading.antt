@@ -8,14 +8,14 @@ use Rattle.plan_table.specs.declared.refusals.PlanFail.{PlanFail}
 use Rattle.plan_table.specs.declared.refusals.PlanFail.TheVariants as fail
 use Rattle.plan_table.specs.Document.{document_reading}
 use Rattle.plan_reader.specs.Names.{afters_of}
-use Rattle.plan_reader.specs.Plan.{PlanShape}
+use Rattle.plan_reader.specs.PlanView.{PlanView}
 use Rattle.plan_reader.specs.Planned.{plan_of}
 use Rattle.plan_reader.specs.Search.{refusal_before, refusal_behind, cycle_at, cycle_refusal}
 
 abbrev pub Answer : Type 0
-Answer = Result PlanShape PlanRefusal
+Answer = Result PlanView PlanRefusal
 
-abbrev pub answer_to : Option PlanRefusal → PlanShape → Answer
+abbrev pub answer_to : Option PlanRefusal → PlanView → Answer
 answer_to None plan = Ok plan
 answer_to (Some r) plan = Err r
 
@@ -41,7 +41,7 @@ Refuses Is fail.NoMemory = Unit {0}
 Refuses Is (fail.Refused r) = Is (Err r)
 
 -- the plan is the answer, or memory ran out, or the refusal is the answer
-abbrev pub Gives : (Answer → Type 0) → Result PlanShape PlanFail → Type 0
+abbrev pub Gives : (Answer → Type 0) → Result PlanView PlanFail → Type 0
 Gives Is (Ok plan) = Is (Ok plan)
 Gives Is (Err e) = Refuses Is e
 

@@ -3,35 +3,35 @@ use Rattle.std.specs.Prelude.{ℕ, List, [], ◌∷◌, ◌++◌, map, length, O
 use Rattle.std.specs.List.{flat_map}
 use Rattle.item_actions.specs.Files.{Folder, file_of}
 use Rattle.item_actions.specs.Value.{act_on, value_of}
-use Rattle.item_actions.specs.declared.actions.Action.{Action}
+use Rattle.item_actions.specs.declared.actions.ItemAction.{ItemAction}
 use Rattle.item_actions.specs.declared.outcomes.Outcome.{Outcome}
 use Rattle.item_actions.specs.declared.outcomes.Outcome.TheVariants.{Number, Skipped}
-use Rattle.plan_reader.specs.Plan.{WorkShape, ActionShape, TaskShape, PlanShape}
+use Rattle.plan_reader.specs.PlanView.{WorkView, PlanActionView, PlanTaskView, PlanView}
 
 -- a unit: a file, and an action on it, or none where the file is fetched
 pub record PlannedUnit : Type 0 where
-  pub action : Option Action
+  pub action : Option ItemAction
   pub file : List ℕ
 
 abbrev pub fetch_units : Option (List ℕ) → List PlannedUnit
 fetch_units None = []
 fetch_units (Some file) = record { action = None; file = file } ∷ []
 
-abbrev pub item_unit : WorkShape → PlannedUnit
+abbrev pub item_unit : WorkView → PlannedUnit
 item_unit w = record { action = Some w.action; file = w.file }
 
 -- an action's: the fetch before the items
-abbrev pub action_units : ActionShape → List PlannedUnit
+abbrev pub action_units : PlanActionView → List PlannedUnit
 action_units a = fetch_units a.fetch ++ map item_unit a.items
 
-abbrev pub task_units : TaskShape → List PlannedUnit
+abbrev pub task_units : PlanTaskView → List PlannedUnit
 task_units t = flat_map action_units t.actions
 
-abbrev pub plan_units : PlanShape → List PlannedUnit
+abbrev pub plan_units : PlanView → List PlannedUnit
 plan_units p = flat_map task_units p.tasks
 
 -- a fetch gives the number of bytes
-abbrev pub act_of : Option Action → List ℕ → Outcome
+abbrev pub act_of : Option ItemAction → List ℕ → Outcome
 act_of None bytes = Number (length bytes)
 act_of (Some action) bytes = act_on action bytes
 
@@ -40,5 +40,5 @@ value_in files None = Skipped
 value_in files (Some u) = value_of (act_of u.action) (file_of files u.file)
 
 -- the value of a unit, by its number
-abbrev pub unit_value : PlanShape → Folder → ℕ → Outcome
+abbrev pub unit_value : PlanView → Folder → ℕ → Outcome
 unit_value p files u = value_in files (slice_get (plan_units p) u)

@@ -1,8 +1,8 @@
 //! The graph of a plan.
 ghost use Rattle.std.specs.Prelude.{◌≡◌, ◌+◌, ◌<◌, ◌≤◌, ◌++◌, map, length, IfOk, All};
 ghost use Rattle.std.specs.List.{flat_map};
-ghost use Rattle.resource_lock.specs.Outline.{outline_of};
-ghost use Rattle.plan_reader.specs.Plan.{action_shape, task_shape};
+ghost use Rattle.resource_lock.specs.GraphView.{graph_view};
+ghost use Rattle.plan_reader.specs.PlanView.{plan_action_view, plan_task_view};
 ghost use Rattle.plan_reader.specs.Units.{task_units};
 ghost use Rattle.plan_reader.specs.Graph.{lock_of, locks_of, tasks_from, actions_from, units_in_all, all_actions_from, graph_of};
 
@@ -17,19 +17,19 @@ impl Plan {
         &self,
         alloc: Global,
         workers: u32,
-        max: u32,
+        max_leases: u32,
         parallel: bool,
     ) -> Result<Graph, AllocError>
         requires some_worker { 1 ≤ workers }
         requires few_workers { workers ≤ 32 }
-        requires some_lease { 1 ≤ max }
-        requires few_leases { max ≤ 32 }
-        ensures { IfOk result (λ g. g ≡ graph_of self.now workers max parallel) }
+        requires some_lease { 1 ≤ max_leases }
+        requires few_leases { max_leases ≤ 32 }
+        ensures { IfOk result (λ g. g ≡ graph_of self.now workers max_leases parallel) }
     {
         let tasks = graph_tasks(alloc, self.tasks(), parallel)?;
         let actions = graph_actions(alloc, self.tasks())?;
         let locks = self.locks(parallel);
-        Ok(Graph::new(locks, workers, max, tasks, actions))
+        Ok(Graph::new(locks, workers, max_leases, tasks, actions))
     }
 
     /// How many locks there are.
@@ -55,8 +55,8 @@ fn graph_tasks(
     parallel: bool,
 ) -> Result<Vec<GraphTask>, AllocError>
     requires few_tasks { length tasks.now ≤ 2048 }
-    requires few_actions { All (λ t. length t.actions ≤ 8) (map task_shape tasks.now) }
-    ensures { IfOk result (λ made. map outline_of made.items ≡ tasks_from parallel 0 (map task_shape tasks.now)) }
+    requires few_actions { All (λ t. length t.actions ≤ 8) (map plan_task_view tasks.now) }
+    ensures { IfOk result (λ made. map graph_view made.items ≡ tasks_from parallel 0 (map plan_task_view tasks.now)) }
 {
     let mut made = Vec::with_capacity(alloc, tasks.len())?;
     let mut first_action = 0;
@@ -80,9 +80,9 @@ fn push_actions(
     first_unit: u32,
     actions: &[PlanAction],
 ) -> Result<u32, AllocError>
-    requires { first_unit + units_in_all (map action_shape actions.now) ≤ 8192 }
-    ensures made { IfOk result (λ _. made.new.items ≡ made.old.items ++ actions_from task first_unit (map action_shape actions.now)) }
-    ensures next { IfOk result (λ next. next ≡ first_unit + units_in_all (map action_shape actions.now)) }
+    requires { first_unit + units_in_all (map plan_action_view actions.now) ≤ 8192 }
+    ensures made { IfOk result (λ _. made.new.items ≡ made.old.items ++ actions_from task first_unit (map plan_action_view actions.now)) }
+    ensures next { IfOk result (λ next. next ≡ first_unit + units_in_all (map plan_action_view actions.now)) }
 {
     let mut next = first_unit;
     for action in actions {
@@ -103,8 +103,8 @@ fn push_actions(
 /// The actions of the graph.
 fn graph_actions(alloc: Global, tasks: &[PlanTask]) -> Result<Vec<GraphAction>, AllocError>
     requires few_tasks { length tasks.now ≤ 2048 }
-    requires few_units { length (flat_map task_units (map task_shape tasks.now)) ≤ 8192 }
-    ensures { IfOk result (λ made. made.items ≡ all_actions_from 0 0 (map task_shape tasks.now)) }
+    requires few_units { length (flat_map task_units (map plan_task_view tasks.now)) ≤ 8192 }
+    ensures { IfOk result (λ made. made.items ≡ all_actions_from 0 0 (map plan_task_view tasks.now)) }
 {
     let mut made = Vec::with_capacity(alloc, tasks.len())?;
     let mut next = 0;

@@ -2,7 +2,7 @@
 ghost use Rattle.std.specs.Prelude.{◌≡◌, None, IfOk, option_map, option_and_then, slice_get, position};
 ghost use Rattle.std.specs.Str.{bytes_eq};
 ghost use Rattle.plan_reader.specs.Names.{texts};
-ghost use Rattle.plan_reader.specs.Planned.{default_profile, profile_named};
+ghost use Rattle.plan_reader.specs.Planned.{default_requirements, requirements_named};
 
 use crate::names::{Names, position_of};
 use daemon_requirements::Requirements;
@@ -33,8 +33,8 @@ impl Known<'_> {
         alloc: Global,
         name: Option<&str>,
     ) -> Result<Requirements, AllocError>
-        requires { self.now.default.now ≡ default_profile }
-        ensures { IfOk result (λ p. p ≡ profile_named (texts self.now.names.now.requirements.keys) self.now.profiles.now (option_map (λ s. s.now) name.entry)) }
+        requires { self.now.default.now ≡ default_requirements }
+        ensures { IfOk result (λ p. p ≡ requirements_named (texts self.now.names.now.requirements.keys) self.now.profiles.now (option_map (λ s. s.now) name.entry)) }
     {
         let named = match name {
             Some(name) => self.profile(name),

@@ -15,22 +15,22 @@ use plan_table::{
 };
 use toml::{Table, Value};
 
-const MOST_PROJECTS: usize = 512;
+const MAX_PROJECTS: usize = 512;
 
-const MOST_TASKS: usize = 2_048;
+const MAX_TASKS: usize = 2_048;
 
-const MOST_UNITS: usize = 8_192;
+const MAX_UNITS: usize = 8_192;
 
-const MOST_REQUIREMENTS: usize = 256;
+const MAX_REQUIREMENTS: usize = 256;
 
 /// Of one task.
-const MOST_ACTIONS: usize = 8;
+const MAX_ACTIONS: usize = 8;
 
 /// Of one task, as they are written.
-const MOST_AFTER: usize = 64;
+const MAX_AFTER: usize = 64;
 
 /// The most arguments, properties or variables of one requirements table.
-const MOST_LISTED: usize = 64;
+const MAX_LISTED: usize = 64;
 
 fn project_count(document: &Value) -> usize
     ensures { result ≡ length (projects_of (view document.now)) }
@@ -103,19 +103,19 @@ fn room_after_tasks(mut room: usize, tasks: &[Value]) -> Option<usize>
 fn has_many_units(document: &Value) -> bool
     ensures { result ≡ nat_lt 8192 (plan_unit_count (view document.now)) }
 {
-    room_after_tasks(MOST_UNITS, tasks_of(document)).is_none()
+    room_after_tasks(MAX_UNITS, tasks_of(document)).is_none()
 }
 
 fn excess_of_plan(document: &Value) -> Option<Which>
     ensures { result ≡ excess_of_plan (view document.now) }
 {
-    if project_count(document) > MOST_PROJECTS {
+    if project_count(document) > MAX_PROJECTS {
         Some(Which::Projects)
-    } else if task_count(document) > MOST_TASKS {
+    } else if task_count(document) > MAX_TASKS {
         Some(Which::Tasks)
     } else if has_many_units(document) {
         Some(Which::Units)
-    } else if requirements_count(document) > MOST_REQUIREMENTS {
+    } else if requirements_count(document) > MAX_REQUIREMENTS {
         Some(Which::Requirements)
     } else {
         None
@@ -125,9 +125,9 @@ fn excess_of_plan(document: &Value) -> Option<Which>
 fn excess_of_task(task: &Value) -> Option<Which>
     ensures { result ≡ excess_of_task (view task.now) }
 {
-    if action_count(task) > MOST_ACTIONS {
+    if action_count(task) > MAX_ACTIONS {
         Some(Which::Actions)
-    } else if after_count(task) > MOST_AFTER {
+    } else if after_count(task) > MAX_AFTER {
         Some(Which::After)
     } else {
         None
@@ -146,9 +146,9 @@ fn pair_count(pairs: Option<&Table>) -> usize
 fn has_few_lists(requirements: &Value) -> bool
     ensures { result ≡ has_few_lists (view requirements.now) }
 {
-    args_count(requirements) <= MOST_LISTED
-        && pair_count(properties_of(requirements)) <= MOST_LISTED
-        && pair_count(variables_of(requirements)) <= MOST_LISTED
+    args_count(requirements) <= MAX_LISTED
+        && pair_count(properties_of(requirements)) <= MAX_LISTED
+        && pair_count(variables_of(requirements)) <= MAX_LISTED
 }
 
 fn excess_of_requirements(requirements: &Value) -> Option<Which>

@@ -4,15 +4,15 @@ ghost use Rattle.std.specs.List.{list_all};
 ghost use Rattle.toml.specs.View.{view};
 ghost use Rattle.task_ranks.specs.Rank.{lists_of};
 ghost use Rattle.plan_table.specs.Keys.{projects_of, tasks_of, actions_of, items_of, fetch_of, name_of};
-ghost use Rattle.plan_reader.specs.Plan.{process_of as shown_process, work_shape, action_shape, task_shape};
+ghost use Rattle.plan_reader.specs.PlanView.{process_of as shown_process, work_view, plan_action_view, plan_task_view};
 ghost use Rattle.plan_reader.specs.Names.{names_in, name_lists, after_numbers, afters_of};
-ghost use Rattle.plan_reader.specs.Planned.{count_of, action_named, default_profile, process_of, work_of, retention_named, action_of, task_of, profiles_of};
+ghost use Rattle.plan_reader.specs.Planned.{count_of, action_named, default_requirements, process_of, work_of, retention_named, action_of, task_of, all_requirements};
 
 use crate::known::Known;
 use crate::names::{copy_numbers, number_of};
 use crate::plans::{PlanAction, PlanTask};
 use daemon_requirements::{Isolation, Work};
-use item_actions::{Action, Needle, Text};
+use item_actions::{ItemAction, Needle, Text};
 use plan_table::{
     actions_of, do_of, fetch_of, file_of, isolation_of, items_of, name_of, needle_of, project_of,
     projects_of, requirements_name_of, tasks_of, wait_of,
@@ -22,30 +22,30 @@ use std::alloc::{AllocError, Global};
 use toml::Value;
 
 /// What counts a needle. A document whose needle is out of form is refused before.
-fn count_of(needle: &str) -> Action
+fn count_of(needle: &str) -> ItemAction
     ensures { result ≡ count_of needle.now }
 {
     match Needle::of(needle.as_bytes()) {
-        Some(needle) => Action::Count(needle),
-        None => Action::Bytes,
+        Some(needle) => ItemAction::Count(needle),
+        None => ItemAction::Bytes,
     }
 }
 
-fn action_named(word: &str, needle: &str) -> Action
+fn action_named(word: &str, needle: &str) -> ItemAction
     ensures { result ≡ action_named word.now needle.now }
 {
     match word {
-        "lines" => Action::Lines,
-        "words" => Action::Words,
-        "bytes" => Action::Bytes,
-        "longest" => Action::Longest,
+        "lines" => ItemAction::Lines,
+        "words" => ItemAction::Words,
+        "bytes" => ItemAction::Bytes,
+        "longest" => ItemAction::Longest,
         "count" => count_of(needle),
-        _ => Action::Sha256,
+        _ => ItemAction::Sha256,
     }
 }
 
 fn isolation_in(alloc: Global, known: &Known, item: &Value) -> Result<Isolation, AllocError>
-    requires { known.now.default.now ≡ default_profile }
+    requires { known.now.default.now ≡ default_requirements }
     ensures { IfOk result (λ i. shown_process i ≡ process_of (name_lists known.now.names.now) known.now.profiles.now (view item.now)) }
 {
     if isolation_of(item) == "process" {
@@ -57,8 +57,8 @@ fn isolation_in(alloc: Global, known: &Known, item: &Value) -> Result<Isolation,
 }
 
 fn work_of(alloc: Global, known: &Known, item: &Value) -> Result<Work, AllocError>
-    requires { known.now.default.now ≡ default_profile }
-    ensures { IfOk result (λ w. work_shape w ≡ work_of (name_lists known.now.names.now) known.now.profiles.now (view item.now)) }
+    requires { known.now.default.now ≡ default_requirements }
+    ensures { IfOk result (λ w. work_view w ≡ work_of (name_lists known.now.names.now) known.now.profiles.now (view item.now)) }
 {
     Ok(Work {
         action: action_named(do_of(item), needle_of(item)),
@@ -68,8 +68,8 @@ fn work_of(alloc: Global, known: &Known, item: &Value) -> Result<Work, AllocErro
 }
 
 fn works_of(alloc: Global, known: &Known, items: &[Value]) -> Result<Vec<Work>, AllocError>
-    requires { known.now.default.now ≡ default_profile }
-    ensures { IfOk result (λ works. map work_shape works.items ≡ map (λ v. work_of (name_lists known.now.names.now) known.now.profiles.now (view v)) items.now) }
+    requires { known.now.default.now ≡ default_requirements }
+    ensures { IfOk result (λ works. map work_view works.items ≡ map (λ v. work_of (name_lists known.now.names.now) known.now.profiles.now (view v)) items.now) }
 {
     let mut works = Vec::with_capacity(alloc, items.len())?;
     for item in items {
@@ -79,8 +79,8 @@ fn works_of(alloc: Global, known: &Known, items: &[Value]) -> Result<Vec<Work>, 
 }
 
 fn items_of_action(alloc: Global, known: &Known, action: &Value) -> Result<Vec<Work>, AllocError>
-    requires { known.now.default.now ≡ default_profile }
-    ensures { IfOk result (λ items. map work_shape items.items ≡ map (work_of (name_lists known.now.names.now) known.now.profiles.now) (items_of (view action.now))) }
+    requires { known.now.default.now ≡ default_requirements }
+    ensures { IfOk result (λ items. map work_view items.items ≡ map (work_of (name_lists known.now.names.now) known.now.profiles.now) (items_of (view action.now))) }
 {
     let items = works_of(alloc, known, items_of(action))?;
     Ok(items)
@@ -106,8 +106,8 @@ fn fetched(alloc: Global, action: &Value) -> Result<Option<Text>, AllocError>
 }
 
 fn action_of(alloc: Global, known: &Known, action: &Value) -> Result<PlanAction, AllocError>
-    requires { known.now.default.now ≡ default_profile }
-    ensures { IfOk result (λ a. action_shape a ≡ action_of (name_lists known.now.names.now) known.now.profiles.now (view action.now)) }
+    requires { known.now.default.now ≡ default_requirements }
+    ensures { IfOk result (λ a. plan_action_view a ≡ action_of (name_lists known.now.names.now) known.now.profiles.now (view action.now)) }
 {
     Ok(PlanAction {
         fetch: fetched(alloc, action)?,
@@ -121,8 +121,8 @@ fn plan_actions_of(
     known: &Known,
     values: &[Value],
 ) -> Result<Vec<PlanAction>, AllocError>
-    requires { known.now.default.now ≡ default_profile }
-    ensures { IfOk result (λ actions. map action_shape actions.items ≡ map (λ v. action_of (name_lists known.now.names.now) known.now.profiles.now (view v)) values.now) }
+    requires { known.now.default.now ≡ default_requirements }
+    ensures { IfOk result (λ actions. map plan_action_view actions.items ≡ map (λ v. action_of (name_lists known.now.names.now) known.now.profiles.now (view v)) values.now) }
 {
     let mut actions = Vec::with_capacity(alloc, values.len())?;
     for value in values {
@@ -136,8 +136,8 @@ fn actions_of_task(
     known: &Known,
     task: &Value,
 ) -> Result<Vec<PlanAction>, AllocError>
-    requires { known.now.default.now ≡ default_profile }
-    ensures { IfOk result (λ actions. map action_shape actions.items ≡ map (action_of (name_lists known.now.names.now) known.now.profiles.now) (actions_of (view task.now))) }
+    requires { known.now.default.now ≡ default_requirements }
+    ensures { IfOk result (λ actions. map plan_action_view actions.items ≡ map (action_of (name_lists known.now.names.now) known.now.profiles.now) (actions_of (view task.now))) }
 {
     let actions = plan_actions_of(alloc, known, actions_of(task))?;
     Ok(actions)
@@ -150,9 +150,9 @@ fn task_of(
     task: &Value,
     after: &[u32],
 ) -> Result<PlanTask, AllocError>
-    requires default { known.now.default.now ≡ default_profile }
+    requires default { known.now.default.now ≡ default_requirements }
     requires after { after.now ≡ after_numbers (name_lists known.now.names.now).tasks (view task.now) }
-    ensures { IfOk result (λ t. task_shape t ≡ task_of (name_lists known.now.names.now) known.now.profiles.now (view task.now)) }
+    ensures { IfOk result (λ t. plan_task_view t ≡ task_of (name_lists known.now.names.now) known.now.profiles.now (view task.now)) }
 {
     Ok(PlanTask {
         name: Text::from_str(alloc, name_of(task))?,
@@ -168,9 +168,9 @@ fn plan_tasks_of(
     values: &[Value],
     afters: &[Vec<u32>],
 ) -> Result<Vec<PlanTask>, AllocError>
-    requires default { known.now.default.now ≡ default_profile }
+    requires default { known.now.default.now ≡ default_requirements }
     requires afters { lists_of afters.now ≡ map (λ v. after_numbers (name_lists known.now.names.now).tasks (view v)) values.now }
-    ensures { IfOk result (λ tasks. map task_shape tasks.items ≡ map (λ v. task_of (name_lists known.now.names.now) known.now.profiles.now (view v)) values.now) }
+    ensures { IfOk result (λ tasks. map plan_task_view tasks.items ≡ map (λ v. task_of (name_lists known.now.names.now) known.now.profiles.now (view v)) values.now) }
 {
     let mut tasks = Vec::with_capacity(alloc, values.len())?;
     for (number, value) in values.iter().enumerate() {
@@ -186,10 +186,10 @@ pub(crate) fn tasks_of_plan(
     document: &Value,
     afters: &[Vec<u32>],
 ) -> Result<Vec<PlanTask>, AllocError>
-    requires default { known.now.default.now ≡ default_profile }
+    requires default { known.now.default.now ≡ default_requirements }
     requires names { name_lists known.now.names.now ≡ names_in (view document.now) }
     requires afters { lists_of afters.now ≡ afters_of (view document.now) }
-    ensures { IfOk result (λ tasks. map task_shape tasks.items ≡ map (task_of (names_in (view document.now)) known.now.profiles.now) (tasks_of (view document.now))) }
+    ensures { IfOk result (λ tasks. map plan_task_view tasks.items ≡ map (task_of (names_in (view document.now)) known.now.profiles.now) (tasks_of (view document.now))) }
 {
     let tasks = plan_tasks_of(alloc, known, tasks_of(document), afters)?;
     Ok(tasks)

@@ -1,5 +1,5 @@
 ghost use Rattle.std.specs.Prelude.{◌≡◌, map};
-ghost use Rattle.plan_reader.specs.Plan.{task_shape, plan_shape};
+ghost use Rattle.plan_reader.specs.PlanView.{plan_task_view, plan_view};
 ghost use Rattle.plan_reader.specs.IsPlan.{IsPlan};
 
 use daemon_requirements::{Requirements, Work};
@@ -35,14 +35,14 @@ pub struct Plan {
 }
 
 impl Model for Plan {
-    ghost use Rattle.plan_reader.specs.Plan.{PlanShape, plan_shape};
+    ghost use Rattle.plan_reader.specs.PlanView.{PlanView, plan_view};
     ghost use Rattle.plan_reader.specs.IsPlan.{IsPlan};
 
-    ghost Value = { PlanShape };
+    ghost Value = { PlanView };
 
-    ghost view = { λ p. plan_shape p.projects.items p.tasks.items p.requirements.items };
+    ghost view = { λ p. plan_view p.projects.items p.tasks.items p.requirements.items };
 
-    ghost invariant = { λ p. IsPlan (plan_shape p.projects.items p.tasks.items p.requirements.items) };
+    ghost invariant = { λ p. IsPlan (plan_view p.projects.items p.tasks.items p.requirements.items) };
 }
 
 impl Plan {
@@ -51,8 +51,8 @@ impl Plan {
         tasks: Vec<PlanTask>,
         requirements: Vec<Requirements>,
     ) -> Plan
-        requires { IsPlan (plan_shape projects.items tasks.items requirements.items) }
-        ensures { result ≡ plan_shape projects.items tasks.items requirements.items }
+        requires { IsPlan (plan_view projects.items tasks.items requirements.items) }
+        ensures { result ≡ plan_view projects.items tasks.items requirements.items }
     {
         Plan {
             projects,
@@ -71,7 +71,7 @@ impl Plan {
 
     /// The tasks, by number.
     pub fn tasks(&self) -> &[PlanTask]
-        ensures value { map task_shape result.now ≡ self.now.tasks }
+        ensures value { map plan_task_view result.now ≡ self.now.tasks }
         ensures plan { IsPlan self.now }
     {
         &self.tasks

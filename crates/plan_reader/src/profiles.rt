@@ -3,12 +3,12 @@ ghost use Rattle.std.specs.Prelude.{string_bytes, ◌≡◌, [], true, map, None
 ghost use Rattle.std.specs.List.{list_all};
 ghost use Rattle.std.specs.Option.{option_map_or};
 ghost use Rattle.toml.specs.View.{view};
-ghost use Rattle.daemon_requirements.specs.Profile.{profile_of as fields_profile, HasDistinctNames};
+ghost use Rattle.daemon_requirements.specs.RequirementsView.{requirements_from as fields_profile, HasDistinctNames};
 ghost use Rattle.plan_table.specs.Keys.{requirements_of, heap_of};
 ghost use Rattle.plan_table.specs.Values.{text_of};
 ghost use Rattle.plan_reader.specs.Names.{texts, names_in};
 ghost use Rattle.plan_reader.specs.Rows.{is_heap};
-ghost use Rattle.plan_reader.specs.Planned.{pair_of, profile_of, default_profile, profiles_of, profile_named};
+ghost use Rattle.plan_reader.specs.Planned.{pair_of, requirements_from, default_requirements, all_requirements, requirements_named};
 
 use crate::names::position_of;
 use daemon_requirements::{Pair, RequirementFields, Requirements};
@@ -59,7 +59,7 @@ fn pairs_of(alloc: Global, table: Option<&Table>) -> Result<Vec<Pair>, AllocErro
 
 fn fields_of(alloc: Global, requirements: &Value) -> Result<RequirementFields, AllocError>
     requires { is_heap (heap_of (view requirements.now)) ≡ true }
-    ensures fields { IfOk result (λ f. fields_profile f ≡ profile_of (view requirements.now)) }
+    ensures fields { IfOk result (λ f. fields_profile f ≡ requirements_from (view requirements.now)) }
     ensures distinct { IfOk result (λ f. HasDistinctNames f.properties.items × HasDistinctNames f.variables.items) }
 {
     Ok(RequirementFields {
@@ -74,9 +74,9 @@ fn fields_of(alloc: Global, requirements: &Value) -> Result<RequirementFields, A
     })
 }
 
-fn profile_of(alloc: Global, requirements: &Value) -> Result<Requirements, AllocError>
+fn requirements_from(alloc: Global, requirements: &Value) -> Result<Requirements, AllocError>
     requires { is_heap (heap_of (view requirements.now)) ≡ true }
-    ensures { IfOk result (λ p. p ≡ profile_of (view requirements.now)) }
+    ensures { IfOk result (λ p. p ≡ requirements_from (view requirements.now)) }
 {
     let fields = fields_of(alloc, requirements)?;
     match Requirements::of(fields) {
@@ -86,28 +86,31 @@ fn profile_of(alloc: Global, requirements: &Value) -> Result<Requirements, Alloc
 }
 
 /// What an item asks for that names no requirements.
-pub(crate) fn default_profile(alloc: Global) -> Result<Requirements, AllocError>
-    ensures { IfOk result (λ p. p ≡ default_profile) }
+pub(crate) fn default_requirements(alloc: Global) -> Result<Requirements, AllocError>
+    ensures { IfOk result (λ p. p ≡ default_requirements) }
 {
     let empty = Value::Table(Table::new(alloc));
-    profile_of(alloc, &empty)
+    requirements_from(alloc, &empty)
 }
 
 fn profiles_in(alloc: Global, values: &[Value]) -> Result<Vec<Requirements>, AllocError>
     requires { list_all (λ v. is_heap (heap_of (view v))) values.now ≡ true }
-    ensures { IfOk result (λ profiles. profiles.items ≡ map (λ v. profile_of (view v)) values.now) }
+    ensures { IfOk result (λ profiles. profiles.items ≡ map (λ v. requirements_from (view v)) values.now) }
 {
     let mut profiles = Vec::with_capacity(alloc, values.len())?;
     for value in values {
-        profiles.push(profile_of(alloc, value)?)?;
+        profiles.push(requirements_from(alloc, value)?)?;
     }
     Ok(profiles)
 }
 
 /// The requirements of a document, by number.
-pub(crate) fn profiles_of(alloc: Global, document: &Value) -> Result<Vec<Requirements>, AllocError>
+pub(crate) fn all_requirements(
+    alloc: Global,
+    document: &Value,
+) -> Result<Vec<Requirements>, AllocError>
     requires { list_all (λ r. is_heap (heap_of r)) (requirements_of (view document.now)) ≡ true }
-    ensures { IfOk result (λ profiles. profiles.items ≡ profiles_of (view document.now)) }
+    ensures { IfOk result (λ profiles. profiles.items ≡ all_requirements (view document.now)) }
 {
     let profiles = profiles_in(alloc, requirements_of(document))?;
     Ok(profiles)

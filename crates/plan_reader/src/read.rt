@@ -14,7 +14,7 @@ use crate::names::{Names, afters_of, numbered_names};
 use crate::parts::{projects_of_plan, tasks_of_plan};
 use crate::places::place;
 use crate::plans::Plan;
-use crate::profiles::{default_profile, profiles_of};
+use crate::profiles::{all_requirements, default_requirements};
 use crate::rows::Row;
 use crate::search::row_refusal;
 use plan_table::{Part, PlanFail, PlanRefusal, read_document, table_refusal};
@@ -99,8 +99,8 @@ fn plan_of(
     ensures memory { IfErr result (λ e. e ≡ PlanFail.NoMemory) }
 {
     let projects = projects_of_plan(alloc, document)?;
-    let requirements = profiles_of(alloc, document)?;
-    let default = default_profile(alloc)?;
+    let requirements = all_requirements(alloc, document)?;
+    let default = default_requirements(alloc)?;
     let known = Known {
         names,
         profiles: &requirements,

@@ -1,6 +1,6 @@
 use crate::*;
 use daemon_requirements::{Isolation, Requirements};
-use item_actions::{Action, Needle};
+use item_actions::{ItemAction, Needle};
 use resource_lock::Retention;
 use std::alloc::{AllocError, Global};
 use std::test::Fail;
@@ -85,12 +85,12 @@ fn the_plan_has_what_is_written(rt: HostRuntime) -> Result<(), Fail> {
     assert_eq!(rt; kept.retention, Retention::Retain);
     assert!(rt; kept.fetch.is_none());
     assert_eq!(rt; kept.items.len(), 1);
-    assert_eq!(rt; kept.items[0].action, Action::Lines);
+    assert_eq!(rt; kept.items[0].action, ItemAction::Lines);
     assert_eq!(rt; kept.items[0].file.as_str(), "a.txt");
     assert_eq!(rt; released.retention, Retention::Release);
     assert_eq!(rt; released.items.len(), 1);
     let needle = Needle::of(b"one").expect(&rt, "a needle");
-    assert_eq!(rt; released.items[0].action, Action::Count(needle));
+    assert_eq!(rt; released.items[0].action, ItemAction::Count(needle));
     let second = &plan.tasks()[1];
     assert_eq!(rt; second.project, 1);
     assert_eq!(rt; second.after.as_slice(), [2, 0].as_slice());
@@ -99,7 +99,7 @@ fn the_plan_has_what_is_written(rt: HostRuntime) -> Result<(), Fail> {
     assert_eq!(rt; action.items.len(), 2);
     assert_eq!(rt; action.retention, Retention::ReleaseAndReacquire);
     assert!(rt; matches!(&action.fetch, Some(file) if file.as_str() == "b.txt"));
-    assert_eq!(rt; action.items[1].action, Action::Sha256);
+    assert_eq!(rt; action.items[1].action, ItemAction::Sha256);
     assert!(rt; plan.tasks()[2].actions.is_empty());
     Ok(())
 }
@@ -150,7 +150,7 @@ fn the_plan_gives_its_graph(rt: HostRuntime) -> Result<(), Fail> {
         let graph = plan.graph(rt.alloc(), 4, 2, parallel)?;
         assert_eq!(rt; graph.locks(), locks);
         assert_eq!(rt; graph.workers(), 4);
-        assert_eq!(rt; graph.max(), 2);
+        assert_eq!(rt; graph.max_leases(), 2);
         assert_eq!(rt; graph.units(), 5);
         assert_eq!(rt; graph.tasks().len(), 3);
         assert_eq!(rt; graph.actions().len(), 3);

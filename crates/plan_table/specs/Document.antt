@@ -5,7 +5,7 @@ use Rattle.toml.specs.Data.{Data, table}
 use Rattle.toml.specs.Parse.{parse_document}
 use Rattle.toml.specs.View.{view}
 use Rattle.toml.specs.declared.value.Value.{Value}
-use Rattle.item_actions.specs.Value.{most_bytes}
+use Rattle.item_actions.specs.Value.{max_file_bytes}
 use Rattle.plan_table.specs.declared.refusals.PlanRefusal.{PlanRefusal}
 use Rattle.plan_table.specs.declared.refusals.PlanRefusal.TheVariants.{TooLong, NotToml}
 use Rattle.plan_table.specs.declared.refusals.PlanFail.{PlanFail}
@@ -21,7 +21,7 @@ document_or_not_toml None = Err NotToml
 document_or_not_toml (Some d) = Ok d
 
 abbrev pub document_reading : List ℕ → Result Data PlanRefusal
-document_reading bytes = if nat_lt most_bytes (length bytes) then Err TooLong else document_or_not_toml (document_of bytes)
+document_reading bytes = if nat_lt max_file_bytes (length bytes) then Err TooLong else document_or_not_toml (document_of bytes)
 
 -- memory ran out, or this is the refusal
 abbrev pub Refuses : PlanFail → Result Data PlanRefusal → Type 0

@@ -6,7 +6,7 @@ ghost use Rattle.plan_table.specs.Document.{document_of, document_or_not_toml, d
 
 use crate::keys::{projects_of, requirements_of, tasks_of};
 use crate::refusals::{PlanFail, PlanRefusal};
-use item_actions::MOST_FILE_BYTES;
+use item_actions::MAX_FILE_BYTES;
 use std::alloc::Global;
 use toml::Value;
 
@@ -49,7 +49,7 @@ pub fn read_document(alloc: Global, bytes: &[u8]) -> Result<Value, PlanFail>
     ensures document { ReadsDocument result (document_reading bytes.now) }
     ensures numbered { IfOk result (λ v. is_numbered (view v) ≡ true) }
 {
-    if bytes.len() as u64 > MOST_FILE_BYTES {
+    if bytes.len() as u64 > MAX_FILE_BYTES {
         return Err(PlanFail::Refused(PlanRefusal::TooLong));
     }
     let document = parse_document(alloc, bytes)?;

@@ -5,12 +5,12 @@ use Rattle.std.specs.Vec.{vec_capacity}
 use Rattle.std.proofs.lemmas.Bool.{cases_lt}
 use Rattle.std.proofs.lemmas.List.{get_or-replicate, get_or_past, length-replicate}
 use Rattle.resource_lock.proofs.Counted.{none_counted, same_counts}
-use Rattle.resource_lock.specs.Standing.{Standing, Holding, empty_holding, holding_of, is_owner, leases_out, stands_in, each_once, runs_by}
+use Rattle.resource_lock.specs.StateView.{StateView, Holding, empty_holding, holding_of, is_owner, leases_out, stands_in, each_once, runs_by}
 use Rattle.resource_lock.specs.Good.{Good}
-use Rattle.resource_lock.specs.Outline.{Outline}
+use Rattle.resource_lock.specs.GraphView.{GraphView}
 use Rattle.resource_lock.specs.Opening.{opening_of}
 use Rattle.resource_lock.specs.Counting.{counts_of, no_counts}
-use Rattle.resource_lock.specs.State.{standing_of, IsSound}
+use Rattle.resource_lock.specs.State.{state_view, IsSound}
 use Rattle.resource_lock.specs.declared.marks.Mark.TheVariants.{Waiting}
 use Rattle.resource_lock.specs.declared.states.State.TheInside.{Inside}
 
@@ -20,7 +20,7 @@ all_same n i x = elim (cases_lt i n) [
   | inr past ↦ get_or_past (replicate n x) i x (omega (arith, length-replicate n x))
 ]
 
-pub good_opening : (g : Outline) → Good (opening_of g)
+pub good_opening : (g : GraphView) → Good (opening_of g)
 good_opening g = record {
   few_leases = omega (arith, none_counted (λ (h : Holding). h.lease) g.workers empty_holding refl);
   parked_not_owned = λ w l owned. ap (λ (h : Holding). stands_in l h.parked) (all_same g.workers w.0 empty_holding);
@@ -30,16 +30,16 @@ good_opening g = record {
 }
 
 -- a state is known by its parts
-pub same_standing : {s t : Standing} → s.max ≡ t.max → s.owners ≡ t.owners → s.holdings ≡ t.holdings → s.tasks ≡ t.tasks → s.actions ≡ t.actions → s.units ≡ t.units → s ≡ t
+pub same_standing : {s t : StateView} → s.max_leases ≡ t.max_leases → s.owners ≡ t.owners → s.holdings ≡ t.holdings → s.tasks ≡ t.tasks → s.actions ≡ t.actions → s.units ≡ t.units → s ≡ t
 same_standing {s} {t} a b c d e f =
-    ap (λ x. record s { max = x }) a
-    ∙ ap (λ x. record s { max = t.max; owners = x }) b
-    ∙ ap (λ x. record s { max = t.max; owners = t.owners; holdings = x }) c
+    ap (λ x. record s { max_leases = x }) a
+    ∙ ap (λ x. record s { max_leases = t.max_leases; owners = x }) b
+    ∙ ap (λ x. record s { max_leases = t.max_leases; owners = t.owners; holdings = x }) c
     ∙ ap (λ x. record t { tasks = x; actions = s.actions; units = s.units }) d
     ∙ ap (λ x. record t { actions = x; units = s.units }) e
     ∙ ap (λ x. record t { units = x }) f
 
-pub sound_opening : (a : Inside) (g : Outline) → standing_of a ≡ opening_of g → a.out ≡ 0 → map (λ h. h.counts) a.held.items ≡ replicate g.workers no_counts → All (λ h. length a.owners.items ≤ vec_capacity h.parked) a.held.items → IsSound a
+pub sound_opening : (a : Inside) (g : GraphView) → state_view a ≡ opening_of g → a.out ≡ 0 → map (λ h. h.counts) a.held.items ≡ replicate g.workers no_counts → All (λ h. length a.owners.items ≤ vec_capacity h.parked) a.held.items → IsSound a
 sound_opening a g view out counts room = record {
   good = subst Good (sym view) (good_opening g);
   leases = out ∙ sym (none_counted (λ (h : Holding). h.lease) g.workers empty_holding refl) ∙ ap leases_out (sym view);

@@ -8,7 +8,7 @@ use Rattle.std.proofs.lemmas.List.{length-set}
 use Rattle.resource_lock.proofs.Lists.{one_if, count_by-set}
 use Rattle.resource_lock.proofs.Undo.{same_mark_is, none_from, owner_from}
 use Rattle.resource_lock.proofs.Others.{not_running}
-use Rattle.resource_lock.specs.Standing.{Standing, owner_of, is_owner, mark_of, has_parked, runs_by}
+use Rattle.resource_lock.specs.StateView.{StateView, owner_of, is_owner, mark_of, has_parked, runs_by}
 use Rattle.resource_lock.specs.Change.{same_mark, names_only, can, make, NamesOnly}
 use Rattle.resource_lock.specs.Counting.{counts_of}
 use Rattle.resource_lock.specs.Holdings.{runs, counts_after, recounted, CanRecount}
@@ -64,23 +64,23 @@ unmoved : (marks : List Mark) (i : ℕ) (w : WorkerId) (from to : Mark) → i < 
 unmoved marks i w from to within at not_from not_to = omega (arith, count_by-set (runs_by w) marks i to Waiting within, ap (λ m. one_if (runs_by w m)) at, ap one_if not_from, ap one_if not_to)
 
 -- a move that can be made
-pub record Moves (s : Standing) (w : WorkerId) (m : MarkId) (from to : Mark) : Type 0 where
+pub record Moves (s : StateView) (w : WorkerId) (m : MarkId) (from to : Mark) : Type 0 where
   pub at : mark_of s m ≡ from
   pub from_own : names_only from w ≡ true
   pub to_own : names_only to w ≡ true
 
-pub moves : (s : Standing) (w : WorkerId) (m : MarkId) (from to : Mark) → can s w (Move m from to) ≡ true → Moves s w m from to
+pub moves : (s : StateView) (w : WorkerId) (m : MarkId) (from to : Mark) → can s w (Move m from to) ≡ true → Moves s w m from to
 moves s w m from to h =
     let first : ((same_mark (mark_of s m) from && not (same_mark from to) && names_only from w) ≡ true) × (names_only to w ≡ true) = and_parts _ (names_only to w) h in
     let second : ((same_mark (mark_of s m) from && not (same_mark from to)) ≡ true) × (names_only from w ≡ true) = and_parts _ (names_only from w) first.0 in
     record { at = same_mark_is (mark_of s m) from (and_parts (same_mark (mark_of s m) from) (not (same_mark from to)) second.0).0; from_own = second.1; to_own = first.1 }
 
 -- the owner of a lock before it is taken, and before it is given back
-nobody : (s : Standing) (v w : WorkerId) (l : LockId) → can s w (Lock l) ≡ true → is_owner (owner_of s l) v ≡ false
+nobody : (s : StateView) (v w : WorkerId) (l : LockId) → can s w (Lock l) ≡ true → is_owner (owner_of s l) v ≡ false
 nobody s v w l h = ap (λ o. is_owner o v) (none_from (owner_of s l) (and_parts (is_none (owner_of s l)) (not (has_parked s w l)) h).0)
 
 -- what the worker's own change leaves of its counts
-pub own_counts : (s : Standing) (w : WorkerId) (c : Change) → NamesOnly s c → can s w c ≡ true → counts_of (make s w c) w ≡ counts_after w (counts_of s w) c
+pub own_counts : (s : StateView) (w : WorkerId) (c : Change) → NamesOnly s c → can s w c ≡ true → counts_of (make s w c) w ≡ counts_after w (counts_of s w) c
 own_counts s w (Lock l) named h = same_counts (omega (arith, count_by-set (λ o. is_owner o w) s.owners l.0 (Some w) None named, ap one_if (nobody s w w l h), ap one_if (eq-eqb w.0 w.0 refl))) refl refl refl
 own_counts s w (Unlock l) named h = same_counts (omega (arith, count_by-set (λ o. is_owner o w) s.owners l.0 None None named, ap one_if h)) refl refl refl
 own_counts s w (Move (TaskOf t) from to) named h = same_counts refl (moved s.tasks t w from to named (moves s w (TaskOf t) from to h).at).1 refl refl
@@ -94,7 +94,7 @@ own_counts s w Enter named h = refl
 own_counts s w Leave named h = refl
 
 -- what another's change leaves of them: all
-pub other_counts : (s : Standing) (v w : WorkerId) (c : Change) → (w.0 ≡ v.0 → ⊥) → NamesOnly s c → can s v c ≡ true → counts_of (make s v c) w ≡ counts_of s w
+pub other_counts : (s : StateView) (v w : WorkerId) (c : Change) → (w.0 ≡ v.0 → ⊥) → NamesOnly s c → can s v c ≡ true → counts_of (make s v c) w ≡ counts_of s w
 other_counts s v w (Lock l) other named h = same_counts (omega (arith, count_by-set (λ o. is_owner o w) s.owners l.0 (Some v) None named, ap one_if (nobody s w v l h), ap one_if (ne_eqb v.0 w.0 (λ e. other (sym e))))) refl refl refl
 other_counts s v w (Unlock l) other named h = same_counts (omega (arith, count_by-set (λ o. is_owner o w) s.owners l.0 None None named, ap (λ o. one_if (is_owner o w)) (owner_from (owner_of s l) v h), ap one_if (ne_eqb v.0 w.0 (λ e. other (sym e))))) refl refl refl
 other_counts s v w (Move (TaskOf t) from to) other named h = let m : Moves s v (TaskOf t) from to = moves s v (TaskOf t) from to h in same_counts refl (unmoved s.tasks t w from to named m.at (not_running v w from other m.from_own) (not_running v w to other m.to_own)) refl refl

@@ -7,7 +7,7 @@ use Rattle.std.proofs.lemmas.Option.{slice_get-get_or}
 use Rattle.std.proofs.lemmas.List.Folds.{list_any-append}
 use Rattle.resource_lock.proofs.Lists.{get_or-set_cases, count_by-set, one_if, list_any-take_false, each_once-push, each_once-front}
 use Rattle.resource_lock.proofs.Undo.{same_worker, same_lock, same_mark_is, holding_now, last_from}
-use Rattle.resource_lock.specs.Standing.{Standing, Holding, empty_holding, holding_of, owner_of, owns, is_owner, leases_out, mark_of, stands_in, has_parked, each_once, IsWorkerOf, IsLockOf, IsMarkOf}
+use Rattle.resource_lock.specs.StateView.{StateView, Holding, empty_holding, holding_of, owner_of, owns, is_owner, leases_out, mark_of, stands_in, has_parked, each_once, IsWorkerOf, IsLockOf, IsMarkOf}
 use Rattle.resource_lock.specs.Change.{same_mark, names_only, is_lock, stands_last, without_last, can, make, holding_after, inverse_of, with_holding, with_owner, with_mark, NamesOnly}
 use Rattle.resource_lock.specs.Good.{Good}
 use Rattle.resource_lock.specs.declared.ids.LockId.{LockId}
@@ -20,21 +20,21 @@ use Rattle.resource_lock.specs.declared.changes.Change.{Change}
 use Rattle.resource_lock.specs.declared.changes.Change.TheVariants.{Lock, Unlock, Take, Give, Move, Park, Unpark, Enter, Leave}
 
 -- the leases out, after a write to one worker's holding
-pub leases-with_holding : (s : Standing) (w : WorkerId) (h : Holding) → IsWorkerOf s w → leases_out (with_holding s w h) + one_if (holding_of s w).lease ≡ leases_out s + one_if h.lease
+pub leases-with_holding : (s : StateView) (w : WorkerId) (h : Holding) → IsWorkerOf s w → leases_out (with_holding s w h) + one_if (holding_of s w).lease ≡ leases_out s + one_if h.lease
 leases-with_holding s w h within = count_by-set (λ x. x.lease) s.holdings w.0 h empty_holding within
 
-leases_same : (s : Standing) (w : WorkerId) (h : Holding) → IsWorkerOf s w → h.lease ≡ (holding_of s w).lease → leases_out (with_holding s w h) ≡ leases_out s
+leases_same : (s : StateView) (w : WorkerId) (h : Holding) → IsWorkerOf s w → h.lease ≡ (holding_of s w).lease → leases_out (with_holding s w h) ≡ leases_out s
 leases_same s w h within e = omega (arith, leases-with_holding s w h within, ap one_if e)
 
 -- what a new holding must meet
-record IsFit (s : Standing) (w : WorkerId) (h : Holding) : Type 0 where
-  pub few : leases_out (with_holding s w h) ≤ s.max
+record IsFit (s : StateView) (w : WorkerId) (h : Holding) : Type 0 where
+  pub few : leases_out (with_holding s w h) ≤ s.max_leases
   pub not_owned : (l : LockId) → owns s w l ≡ true → stands_in l h.parked ≡ false
   pub once : each_once h.parked ≡ true
   pub locks : (l : LockId) → stands_in l h.parked ≡ true → IsLockOf s l
   pub no_lease : h.blocked ≡ true → h.lease ≡ false
 
-good_holding : (s : Standing) (w : WorkerId) (h : Holding) → Good s → IsFit s w h → Good (with_holding s w h)
+good_holding : (s : StateView) (w : WorkerId) (h : Holding) → Good s → IsFit s w h → Good (with_holding s w h)
 good_holding s w h g fit = record {
   few_leases = fit.few;
   parked_not_owned = λ v l owned. elim (get_or-set_cases s.holdings w.0 v.0 h empty_holding) [
@@ -55,7 +55,7 @@ good_holding s w h g fit = record {
   ];
 }
 
-good_owner : (s : Standing) (l : LockId) (o : Option WorkerId) → Good s → ((v : WorkerId) → is_owner o v ≡ true → has_parked s v l ≡ false) → Good (with_owner s l o)
+good_owner : (s : StateView) (l : LockId) (o : Option WorkerId) → Good s → ((v : WorkerId) → is_owner o v ≡ true → has_parked s v l ≡ false) → Good (with_owner s l o)
 good_owner s l o g free = record {
   few_leases = g.few_leases;
   parked_not_owned = λ v k owned. elim (get_or-set_cases s.owners l.0 k.0 o None) [
@@ -67,7 +67,7 @@ good_owner s l o g free = record {
   blocked_no_lease = g.blocked_no_lease;
 }
 
-good_mark : (s : Standing) (m : MarkId) (a : Mark) → Good s → Good (with_mark s m a)
+good_mark : (s : StateView) (m : MarkId) (a : Mark) → Good s → Good (with_mark s m a)
 good_mark s (TaskOf t) a g = record { few_leases = g.few_leases; parked_not_owned = g.parked_not_owned; parked_once = g.parked_once; parked_locks = g.parked_locks; blocked_no_lease = g.blocked_no_lease }
 good_mark s (ActionOf t) a g = record { few_leases = g.few_leases; parked_not_owned = g.parked_not_owned; parked_once = g.parked_once; parked_locks = g.parked_locks; blocked_no_lease = g.blocked_no_lease }
 good_mark s (UnitOf t) a g = record { few_leases = g.few_leases; parked_not_owned = g.parked_not_owned; parked_once = g.parked_once; parked_locks = g.parked_locks; blocked_no_lease = g.blocked_no_lease }
@@ -83,15 +83,15 @@ stands_in-pushed l k locks h = elim (or_cases (stands_in l locks) (eqb k.0 l.0 |
   | inr new ↦ elim (or_cases (eqb k.0 l.0) false new) [ inl same ↦ inr (eqb-true k.0 l.0 same) | inr never ↦ absurd (false≢true never) ]
 ]
 
-pub kept : (s : Standing) (w : WorkerId) (c : Change) → IsWorkerOf s w → NamesOnly s c → Good s → can s w c ≡ true → Good (make s w c)
+pub kept : (s : StateView) (w : WorkerId) (c : Change) → IsWorkerOf s w → NamesOnly s c → Good s → can s w c ≡ true → Good (make s w c)
 kept s w (Lock l) within named g h =
     let absent : has_parked s w l ≡ false = not-true (has_parked s w l) (and_parts (is_none (owner_of s l)) (not (has_parked s w l)) h).1 in
     good_owner s l (Some w) g (λ v e. ap (λ x. has_parked s x l) (sym (same_worker w v (eqb-true w.0 v.0 e))) ∙ absent)
 kept s w (Unlock l) within named g h = good_owner s l None g (λ v e. cc)
 kept s w Take within named g h =
-    let parts : ((not (holding_of s w).lease && not (holding_of s w).blocked) ≡ true) × (ltb (leases_out s) s.max ≡ true) = and_parts (not (holding_of s w).lease && not (holding_of s w).blocked) (ltb (leases_out s) s.max) h in
+    let parts : ((not (holding_of s w).lease && not (holding_of s w).blocked) ≡ true) × (ltb (leases_out s) s.max_leases ≡ true) = and_parts (not (holding_of s w).lease && not (holding_of s w).blocked) (ltb (leases_out s) s.max_leases) h in
     let two : (not (holding_of s w).lease ≡ true) × (not (holding_of s w).blocked ≡ true) = and_parts (not (holding_of s w).lease) (not (holding_of s w).blocked) parts.0 in
-    let few : leases_out s < s.max = ltb-true (leases_out s) s.max parts.1 in
+    let few : leases_out s < s.max_leases = ltb-true (leases_out s) s.max_leases parts.1 in
     let count : leases_out (make s w Take) + one_if (holding_of s w).lease ≡ leases_out s + 1 = leases-with_holding s w (holding_after (holding_of s w) Take) within in
     good_holding s w (holding_after (holding_of s w) Take) g record {
       few = omega arith;
@@ -154,7 +154,7 @@ same_mark_self Passed = refl
 same_mark_self Failed = refl
 same_mark_self Skipped = refl
 
-mark_now : (s : Standing) (m : MarkId) (a : Mark) → IsMarkOf s m → mark_of (with_mark s m a) m ≡ a
+mark_now : (s : StateView) (m : MarkId) (a : Mark) → IsMarkOf s m → mark_of (with_mark s m a) m ≡ a
 mark_now s (TaskOf t) a within = get_or-set_same s.tasks t a Waiting within
 mark_now s (ActionOf t) a within = get_or-set_same s.actions t a Waiting within
 mark_now s (UnitOf t) a within = get_or-set_same s.units t a Waiting within
@@ -170,7 +170,7 @@ stands_in-last : (l : LockId) (locks : List LockId) → stands_in l (locks ++ l 
 stands_in-last l locks = list_any-append (λ x. eqb x.0 l.0) locks (l ∷ []) ∙ or_right (stands_in l locks) (eqb l.0 l.0 || false) (or_left (eqb l.0 l.0) false (eq-eqb l.0 l.0 refl))
 
 -- the inverse of a change can be made after it
-pub can_back : (s : Standing) (w : WorkerId) (c : Change) → IsWorkerOf s w → NamesOnly s c → Good s → can s w c ≡ true → can (make s w c) w (inverse_of c) ≡ true
+pub can_back : (s : StateView) (w : WorkerId) (c : Change) → IsWorkerOf s w → NamesOnly s c → Good s → can s w c ≡ true → can (make s w c) w (inverse_of c) ≡ true
 can_back s w (Lock l) within named g h = ap (λ o. is_owner o w) (get_or-set_same s.owners l.0 (Some w) None named) ∙ eq-eqb w.0 w.0 refl
 can_back s w (Unlock l) within named g h =
     and_from (is_none (owner_of (make s w (Unlock l)) l)) (not (has_parked s w l)) (ap is_none (get_or-set_same s.owners l.0 None None named)) (not_from_false (has_parked s w l) (g.parked_not_owned w l h))
@@ -180,10 +180,10 @@ can_back s w Give within named g h =
     let count : leases_out (make s w Give) + one_if (holding_of s w).lease ≡ leases_out s + 0 = leases-with_holding s w (holding_after (holding_of s w) Give) within in
     let one : one_if (holding_of s w).lease ≡ 1 = ap one_if h in
     let free : (holding_of s w).blocked ≡ false = false_from_ne_true (holding_of s w).blocked (λ b. both_ways (holding_of s w).lease (g.blocked_no_lease w b) h) in
-    let few : leases_out (make s w Give) < s.max = omega (arith, g.few_leases) in
-    and_from _ (ltb (leases_out (make s w Give)) s.max)
+    let few : leases_out (make s w Give) < s.max_leases = omega (arith, g.few_leases) in
+    and_from _ (ltb (leases_out (make s w Give)) s.max_leases)
     (and_from (not (holding_of (make s w Give) w).lease) (not (holding_of (make s w Give) w).blocked) (ap (λ x. not x.lease) now) (ap (λ x. not x.blocked) now ∙ not_from_false (holding_of s w).blocked free))
-    (lt-ltb (leases_out (make s w Give)) s.max few)
+    (lt-ltb (leases_out (make s w Give)) s.max_leases few)
 can_back s w (Move m from to) within named g h =
     let first : ((same_mark (mark_of s m) from && not (same_mark from to) && names_only from w) ≡ true) × (names_only to w ≡ true) = and_parts _ (names_only to w) h in
     let second : ((same_mark (mark_of s m) from && not (same_mark from to)) ≡ true) × (names_only from w ≡ true) = and_parts _ (names_only from w) first.0 in

@@ -9,7 +9,7 @@ use Rattle.std.proofs.lemmas.Map.Made.{length-le_from_is_member}
 use Rattle.std.specs.Cmp.{IsEquivalence, nat_eq_equiv}
 use Rattle.std.proofs.lemmas.Option.{slice_get_within, get_or_from_slice_get}
 use Rattle.std.proofs.lemmas.Bool.{cases_eq, cases_lt, or_parts, or_from, and_parts, and_from, not-true, not_from_false, eqb-false, ne_eqb}
-use Rattle.resource_lock.specs.Standing.{stands_in, each_once}
+use Rattle.resource_lock.specs.StateView.{stands_in, each_once}
 use Rattle.resource_lock.specs.declared.ids.LockId.{LockId}
 
 -- what stood at a place, put back over another value, gives the list again

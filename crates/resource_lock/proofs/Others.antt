@@ -5,7 +5,7 @@ use Rattle.std.proofs.lemmas.Bool.{and_parts, eqb-true, ne_eqb}
 use Rattle.std.proofs.lemmas.List.{get_or-set_other}
 use Rattle.resource_lock.proofs.Lists.{get_or-set_cases}
 use Rattle.resource_lock.proofs.Undo.{same_lock, same_mark_is, none_from, owner_from}
-use Rattle.resource_lock.specs.Standing.{Standing, Holding, empty_holding, holding_of, owner_of, owns, is_owner, mark_of, has_parked, runs_by}
+use Rattle.resource_lock.specs.StateView.{StateView, Holding, empty_holding, holding_of, owner_of, owns, is_owner, mark_of, has_parked, runs_by}
 use Rattle.resource_lock.specs.Change.{same_mark, names_only, can, make, holding_after, with_holding}
 use Rattle.resource_lock.specs.declared.ids.LockId.{LockId}
 use Rattle.resource_lock.specs.declared.ids.WorkerId.{WorkerId}
@@ -17,7 +17,7 @@ use Rattle.resource_lock.specs.declared.changes.Change.{Change}
 use Rattle.resource_lock.specs.declared.changes.Change.TheVariants.{Lock, Unlock, Take, Give, Move, Park, Unpark, Enter, Leave}
 
 -- what a worker has is the same in two states: its holding, its locks, and the marks that it runs
-pub record SameFor (w : WorkerId) (s t : Standing) : Type 0 where
+pub record SameFor (w : WorkerId) (s t : StateView) : Type 0 where
   pub holding : holding_of t w ≡ holding_of s w
   pub owns : (l : LockId) → owns t w l ≡ owns s w l
   pub runs : (m : MarkId) → runs_by w (mark_of t m) ≡ runs_by w (mark_of s m)
@@ -25,7 +25,7 @@ pub record SameFor (w : WorkerId) (s t : Standing) : Type 0 where
 apart : (v w : WorkerId) → (w.0 ≡ v.0 → ⊥) → eqb v.0 w.0 ≡ false
 apart v w other = ne_eqb v.0 w.0 (λ e. other (sym e))
 
-other_holding : (s : Standing) (v w : WorkerId) (h : Holding) → (w.0 ≡ v.0 → ⊥) → SameFor w s (with_holding s v h)
+other_holding : (s : StateView) (v w : WorkerId) (h : Holding) → (w.0 ≡ v.0 → ⊥) → SameFor w s (with_holding s v h)
 other_holding s v w h other = record { holding = get_or-set_other s.holdings v.0 w.0 h empty_holding other; owns = λ l. refl; runs = λ m. refl }
 
 -- a mark that is written, and was, doesn't run by another
@@ -45,7 +45,7 @@ marks_other marks i j v w from to other is old new = elim (get_or-set_cases mark
   | inr off ↦ ap (runs_by w) off
 ]
 
-moved_others : (s : Standing) (v w : WorkerId) (m : MarkId) (from to : Mark) → (w.0 ≡ v.0 → ⊥) → mark_of s m ≡ from → names_only from v ≡ true → names_only to v ≡ true → SameFor w s (make s v (Move m from to))
+moved_others : (s : StateView) (v w : WorkerId) (m : MarkId) (from to : Mark) → (w.0 ≡ v.0 → ⊥) → mark_of s m ≡ from → names_only from v ≡ true → names_only to v ≡ true → SameFor w s (make s v (Move m from to))
 moved_others s v w (TaskOf t) from to other is old new = record {
   holding = refl;
   owns = λ l. refl;
@@ -63,7 +63,7 @@ moved_others s v w (UnitOf t) from to other is old new = record {
 }
 
 -- a change of worker v keeps what worker w has
-pub others_keep : (s : Standing) (v w : WorkerId) (c : Change) → (w.0 ≡ v.0 → ⊥) → can s v c ≡ true → SameFor w s (make s v c)
+pub others_keep : (s : StateView) (v w : WorkerId) (c : Change) → (w.0 ≡ v.0 → ⊥) → can s v c ≡ true → SameFor w s (make s v c)
 others_keep s v w (Lock l) other h =
     let free : owner_of s l ≡ None = none_from (owner_of s l) (and_parts (is_none (owner_of s l)) (not (has_parked s v l)) h).0 in
     record {

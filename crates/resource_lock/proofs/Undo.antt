@@ -5,7 +5,7 @@ use Rattle.std.specs.List.{slice_get}
 use Rattle.std.proofs.lemmas.Bool.{and_parts, not-true, eqb-true}
 use Rattle.std.proofs.lemmas.List.{get_or-set_same, take_at, length_push}
 use Rattle.resource_lock.proofs.Lists.{set_back, last_back}
-use Rattle.resource_lock.specs.Standing.{Standing, Holding, empty_holding, holding_of, owner_of, is_owner, leases_out, mark_of, has_parked, IsWorkerOf}
+use Rattle.resource_lock.specs.StateView.{StateView, Holding, empty_holding, holding_of, owner_of, is_owner, leases_out, mark_of, has_parked, IsWorkerOf}
 use Rattle.resource_lock.specs.Change.{same_mark, names_only, is_lock, stands_last, without_last, can, make, holding_after, inverse_of, with_holding, with_owner, with_mark}
 use Rattle.resource_lock.specs.declared.ids.LockId.{LockId}
 use Rattle.resource_lock.specs.declared.ids.WorkerId.{WorkerId}
@@ -33,23 +33,23 @@ same_mark_is Skipped Skipped h = refl
 same_mark_is _ _ h = cc
 
 -- the holding of the worker that was written
-pub holding_now : (s : Standing) (w : WorkerId) (h : Holding) → IsWorkerOf s w → holding_of (with_holding s w h) w ≡ h
+pub holding_now : (s : StateView) (w : WorkerId) (h : Holding) → IsWorkerOf s w → holding_of (with_holding s w h) w ≡ h
 holding_now s w h within = get_or-set_same s.holdings w.0 h empty_holding within
 
 -- a worker's holding, put back
-holding_back : (s : Standing) (w : WorkerId) (h : Holding) → with_holding (with_holding s w h) w (holding_of s w) ≡ s
+holding_back : (s : StateView) (w : WorkerId) (h : Holding) → with_holding (with_holding s w h) w (holding_of s w) ≡ s
 holding_back s w h = ap (λ holdings. record s { holdings = holdings }) (set_back s.holdings w.0 empty_holding h (holding_of s w) refl)
 
-owner_back : (s : Standing) (l : LockId) (a b : Option WorkerId) → owner_of s l ≡ b → with_owner (with_owner s l a) l b ≡ s
+owner_back : (s : StateView) (l : LockId) (a b : Option WorkerId) → owner_of s l ≡ b → with_owner (with_owner s l a) l b ≡ s
 owner_back s l a b e = ap (λ owners. record s { owners = owners }) (set_back s.owners l.0 None a b e)
 
-mark_back : (s : Standing) (m : MarkId) (a b : Mark) → mark_of s m ≡ b → with_mark (with_mark s m a) m b ≡ s
+mark_back : (s : StateView) (m : MarkId) (a b : Mark) → mark_of s m ≡ b → with_mark (with_mark s m a) m b ≡ s
 mark_back s (TaskOf t) a b e = ap (λ marks. record s { tasks = marks }) (set_back s.tasks t Waiting a b e)
 mark_back s (ActionOf t) a b e = ap (λ marks. record s { actions = marks }) (set_back s.actions t Waiting a b e)
 mark_back s (UnitOf t) a b e = ap (λ marks. record s { units = marks }) (set_back s.units t Waiting a b e)
 
 -- a change of the worker's holding, and its inverse, in a state of which the worker is one
-holding_undone : (s : Standing) (w : WorkerId) (h' : Holding) (f : Holding → Holding) → IsWorkerOf s w → f h' ≡ holding_of s w → with_holding (with_holding s w h') w (f (holding_of (with_holding s w h') w)) ≡ s
+holding_undone : (s : StateView) (w : WorkerId) (h' : Holding) (f : Holding → Holding) → IsWorkerOf s w → f h' ≡ holding_of s w → with_holding (with_holding s w h') w (f (holding_of (with_holding s w h') w)) ≡ s
 holding_undone s w h' f within e =
     ap (λ h. with_holding (with_holding s w h') w (f h)) (holding_now s w h' within)
     ∙ ap (λ h. with_holding (with_holding s w h') w h) e
@@ -75,11 +75,11 @@ pub without_last-push : (locks : List LockId) (l : LockId) → without_last (loc
 without_last-push locks l = take_at locks (l ∷ []) (length (locks ++ l ∷ []) - 1) (omega (arith, length_push locks l))
 
 -- What a worker's change made, its inverse takes back.
-pub undone : (s : Standing) (w : WorkerId) (c : Change) → IsWorkerOf s w → can s w c ≡ true → make (make s w c) w (inverse_of c) ≡ s
+pub undone : (s : StateView) (w : WorkerId) (c : Change) → IsWorkerOf s w → can s w c ≡ true → make (make s w c) w (inverse_of c) ≡ s
 undone s w (Lock l) within h = owner_back s l (Some w) None (none_from (owner_of s l) (and_parts (is_none (owner_of s l)) (not (has_parked s w l)) h).0)
 undone s w (Unlock l) within h = owner_back s l None (Some w) (owner_from (owner_of s l) w h)
 undone s w Take within h =
-    let first : (not (holding_of s w).lease && not (holding_of s w).blocked) ≡ true = (and_parts _ (ltb (leases_out s) s.max) h).0 in
+    let first : (not (holding_of s w).lease && not (holding_of s w).blocked) ≡ true = (and_parts _ (ltb (leases_out s) s.max_leases) h).0 in
     let without : (holding_of s w).lease ≡ false = not-true (holding_of s w).lease (and_parts (not (holding_of s w).lease) (not (holding_of s w).blocked) first).0 in
     holding_undone s w (holding_after (holding_of s w) Take) (λ x. holding_after x Give) within (ap (λ b. record (holding_of s w) { lease = b }) (sym without))
 undone s w Give within h = holding_undone s w (holding_after (holding_of s w) Give) (λ x. holding_after x Take) within (ap (λ b. record (holding_of s w) { lease = b }) (sym h))

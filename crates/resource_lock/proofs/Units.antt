@@ -6,7 +6,7 @@ use Rattle.std.proofs.lemmas.List.{get_or_past}
 use Rattle.std.proofs.lemmas.List.Sums.{sum_by-le}
 use Rattle.std.proofs.lemmas.List.Folds.{list_any_at, list_any_none}
 use Rattle.std.proofs.lemmas.List.Elements.{All-from_get_or}
-use Rattle.resource_lock.specs.Outline.{Outline, action_of, no_action}
+use Rattle.resource_lock.specs.GraphView.{GraphView, action_of, no_action}
 use Rattle.resource_lock.specs.Ranges.{fetches, first_item, units_in, IsUnitOf, has_item, is_item}
 use Rattle.resource_lock.specs.Fits.{Fits, Follow}
 use Rattle.resource_lock.specs.declared.graphs.GraphAction.{GraphAction}
@@ -20,13 +20,13 @@ stop_is_nothing : (actions : List GraphAction) (stop : ℕ) → Follow (λ a. a.
 stop_is_nothing [] stop h none = omega (arith, h)
 stop_is_nothing (x ∷ xs) stop h none = absurd (omega arith)
 
-begins_by : (g : Outline) (u i : ℕ) → Fits g → i < length g.actions → IsPartitionPoint (λ a. leb (end_of a) u ≡ true) (λ a. leb (end_of a) u ≡ false) g.actions i → (action_of g i).first_unit ≤ u
+begins_by : (g : GraphView) (u i : ℕ) → Fits g → i < length g.actions → IsPartitionPoint (λ a. leb (end_of a) u ≡ true) (λ a. leb (end_of a) u ≡ false) g.actions i → (action_of g i).first_unit ≤ u
 begins_by g u zero fits inside point = omega (arith, first_range (λ a. a.first_unit) units_in 0 g.actions g.units no_action fits.units_follow inside)
 begins_by g u (suc i) fits inside point =
     omega (arith, next_range (λ a. a.first_unit) units_in 0 g.actions g.units i no_action fits.units_follow inside, leb-true _ _ (point.0 i no_action (omega arith) (omega arith)))
 
 -- the actions that end at the unit or before it come first, so the next one has it
-pub at_partition : (g : Outline) (u i : ℕ) → Fits g → u < g.units → i ≤ length g.actions → IsPartitionPoint (λ a. leb (end_of a) u ≡ true) (λ a. leb (end_of a) u ≡ false) g.actions i → (i < length g.actions) × ((action_of g i).first_unit ≤ u) × (u < end_of (action_of g i))
+pub at_partition : (g : GraphView) (u i : ℕ) → Fits g → u < g.units → i ≤ length g.actions → IsPartitionPoint (λ a. leb (end_of a) u ≡ true) (λ a. leb (end_of a) u ≡ false) g.actions i → (i < length g.actions) × ((action_of g i).first_unit ≤ u) × (u < end_of (action_of g i))
 at_partition g u i fits within least point =
     let some : 0 < length g.actions = elim (cases_lt 0 (length g.actions)) [
       | inl some ↦ some
@@ -39,7 +39,7 @@ at_partition g u i fits within least point =
     (inside, begins_by g u i fits inside point, leb-false _ _ (point.1 i no_action (omega arith) inside))
 
 -- a number in an action's range is its fetch or one of its items
-pub unit_from : (g : Outline) (a u : ℕ) → (action_of g a).first_unit ≤ u → u < end_of (action_of g a) → IsUnitOf g a u
+pub unit_from : (g : GraphView) (a u : ℕ) → (action_of g a).first_unit ≤ u → u < end_of (action_of g a) → IsUnitOf g a u
 unit_from g a u low high = elim (cases_Bool (action_of g a).fetch) [
   | inl fetch ↦ elim (cases_eq u (action_of g a).first_unit) [
     | inl first ↦ inl (fetch, first)
@@ -49,19 +49,19 @@ unit_from g a u low high = elim (cases_Bool (action_of g a).fetch) [
 ]
 
 -- a unit of an action is in its range
-pub range_of_unit : (g : Outline) (a u : ℕ) → IsUnitOf g a u → ((action_of g a).first_unit ≤ u) × (u < end_of (action_of g a))
+pub range_of_unit : (g : GraphView) (a u : ℕ) → IsUnitOf g a u → ((action_of g a).first_unit ≤ u) × (u < end_of (action_of g a))
 range_of_unit g a u (inl fetch) = (omega (arith, fetch.1), omega (arith, fetch.1, ap fetches fetch.0))
 range_of_unit g a u (inr item) = (omega (arith, item.0), omega (arith, item.1))
 
 -- there is an action of the number, if it has a unit
-pub action_there : (g : Outline) (a u : ℕ) → IsUnitOf g a u → a < length g.actions
+pub action_there : (g : GraphView) (a u : ℕ) → IsUnitOf g a u → a < length g.actions
 action_there g a u unit = elim (cases_lt a (length g.actions)) [
   | inl there ↦ there
   | inr past ↦ absurd (omega (arith, (range_of_unit g a u unit).0, (range_of_unit g a u unit).1, ap end_of (get_or_past g.actions a no_action past), ap (λ x. x.first_unit) (get_or_past g.actions a no_action past)))
 ]
 
 -- a unit belongs to one action
-pub one_action : (g : Outline) (a b u : ℕ) → Fits g → IsUnitOf g a u → IsUnitOf g b u → a ≡ b
+pub one_action : (g : GraphView) (a b u : ℕ) → Fits g → IsUnitOf g a u → IsUnitOf g b u → a ≡ b
 one_action g a b u fits ua ub = elim (cases_order a b) [
   | inl same ↦ same
   | inr (inl less) ↦ absurd (omega (arith, (range_of_unit g a u ua).1, (range_of_unit g b u ub).0, ends_before (λ x. x.first_unit) units_in 0 g.actions g.units a b no_action fits.units_follow less (action_there g b u ub)))
@@ -72,7 +72,7 @@ has_item_from : (a : GraphAction) (u : ℕ) → leb (first_item a) u ≡ true �
 has_item_from a u low high = and_from (leb (first_item a) u) (ltb u (first_item a + a.items)) low (lt-ltb u (first_item a + a.items) (omega (arith, high)))
 
 -- a unit of an action is an item where it isn't before the action's items
-pub is_item_from : (g : Outline) (a u : ℕ) → Fits g → IsUnitOf g a u → leb (first_item (action_of g a)) u ≡ is_item g u
+pub is_item_from : (g : GraphView) (a u : ℕ) → Fits g → IsUnitOf g a u → leb (first_item (action_of g a)) u ≡ is_item g u
 is_item_from g a u fits unit = elim (cases_Bool (leb (first_item (action_of g a)) u)) [
   | inl item ↦ item ∙ sym (list_any_at (has_item u) g.actions a no_action (action_there g a u unit) (has_item_from (action_of g a) u item (range_of_unit g a u unit).1))
   | inr before ↦ before ∙ sym (list_any_none (has_item u) g.actions (All-from_get_or (λ x. has_item u x ≡ false) g.actions no_action (λ k within. false_from_ne_true (has_item u (action_of g k)) (λ has.
@@ -82,5 +82,5 @@ is_item_from g a u fits unit = elim (cases_Bool (leb (first_item (action_of g a)
 ]
 
 -- a graph has at most 8 actions a task
-pub few_actions_in_all : (g : Outline) → Fits g → length g.actions ≤ 16384
+pub few_actions_in_all : (g : GraphView) → Fits g → length g.actions ≤ 16384
 few_actions_in_all g fits = omega (arith, stop_is (λ t. t.first_action) (λ t. t.actions) 0 g.tasks (length g.actions) fits.actions_follow, sum_by-le (λ t. t.actions) 8 g.tasks fits.few_actions, fits.few_tasks)

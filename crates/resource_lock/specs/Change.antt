@@ -1,6 +1,6 @@
 -- The table of changes: where each can be made, what it changes, and what undoes it.
 use Rattle.std.specs.Prelude.{◌-◌, ◌==◌, nat_lt, Bool, true, false, not, ◌&&◌, List, [], ◌∷◌, ◌++◌, length, take, Option, None, Some, is_none, slice_get, slice_set}
-use Rattle.resource_lock.specs.Standing.{Standing, Holding, holding_of, owner_of, owns, leases_out, mark_of, has_parked, IsLockOf, IsMarkOf}
+use Rattle.resource_lock.specs.StateView.{StateView, Holding, holding_of, owner_of, owns, leases_out, mark_of, has_parked, IsLockOf, IsMarkOf}
 use Rattle.resource_lock.specs.declared.ids.LockId.{LockId}
 use Rattle.resource_lock.specs.declared.ids.WorkerId.{WorkerId}
 use Rattle.resource_lock.specs.declared.marks.Mark.{Mark}
@@ -38,10 +38,10 @@ abbrev pub without_last : List LockId → List LockId
 without_last locks = take (length locks - 1) locks
 
 -- where worker w can make a change
-abbrev pub can : Standing → WorkerId → Change → Bool
+abbrev pub can : StateView → WorkerId → Change → Bool
 can s w (Lock l) = is_none (owner_of s l) && not (has_parked s w l)
 can s w (Unlock l) = owns s w l
-can s w Take = not (holding_of s w).lease && not (holding_of s w).blocked && nat_lt (leases_out s) s.max
+can s w Take = not (holding_of s w).lease && not (holding_of s w).blocked && nat_lt (leases_out s) s.max_leases
 can s w Give = (holding_of s w).lease
 can s w (Move m from to) = same_mark (mark_of s m) from && not (same_mark from to) && names_only from w && names_only to w
 can s w (Park l) = not (owns s w l) && not (has_parked s w l)
@@ -49,13 +49,13 @@ can s w (Unpark l) = stands_last l (holding_of s w).parked
 can s w Enter = not (holding_of s w).blocked && not (holding_of s w).lease
 can s w Leave = (holding_of s w).blocked
 
-abbrev pub with_owner : Standing → LockId → Option WorkerId → Standing
+abbrev pub with_owner : StateView → LockId → Option WorkerId → StateView
 with_owner s l owner = record s { owners = slice_set s.owners l.0 owner }
 
-abbrev pub with_holding : Standing → WorkerId → Holding → Standing
+abbrev pub with_holding : StateView → WorkerId → Holding → StateView
 with_holding s w holding = record s { holdings = slice_set s.holdings w.0 holding }
 
-abbrev pub with_mark : Standing → MarkId → Mark → Standing
+abbrev pub with_mark : StateView → MarkId → Mark → StateView
 with_mark s (TaskOf t) mark = record s { tasks = slice_set s.tasks t mark }
 with_mark s (ActionOf a) mark = record s { actions = slice_set s.actions a mark }
 with_mark s (UnitOf u) mark = record s { units = slice_set s.units u mark }
@@ -71,7 +71,7 @@ holding_after h Leave = record h { blocked = false }
 holding_after h _ = h
 
 -- the state that a change leaves
-abbrev pub make : Standing → WorkerId → Change → Standing
+abbrev pub make : StateView → WorkerId → Change → StateView
 make s w (Lock l) = with_owner s l (Some w)
 make s w (Unlock l) = with_owner s l None
 make s w (Move m from to) = with_mark s m to
@@ -90,17 +90,17 @@ inverse_of Enter = Leave
 inverse_of Leave = Enter
 
 -- changes made in order
-abbrev pub make_all : Standing → WorkerId → List Change → Standing
+abbrev pub make_all : StateView → WorkerId → List Change → StateView
 make_all s w [] = s
 make_all s w (c ∷ cs) = make_all (make s w c) w cs
 
 -- each change can be made in turn
-abbrev pub can_all : Standing → WorkerId → List Change → Bool
+abbrev pub can_all : StateView → WorkerId → List Change → Bool
 can_all s w [] = true
 can_all s w (c ∷ cs) = can s w c && can_all (make s w c) w cs
 
 -- the numbers in a change are the state's
-abbrev pub NamesOnly : Standing → Change → Type 0
+abbrev pub NamesOnly : StateView → Change → Type 0
 NamesOnly s (Lock l) = IsLockOf s l
 NamesOnly s (Unlock l) = IsLockOf s l
 NamesOnly s (Park l) = IsLockOf s l

@@ -1,11 +1,11 @@
 -- How many locks a worker owns, and how many marks run by it.
 use Rattle.std.specs.Prelude.{List, map, count_by, slice_index_or}
-use Rattle.resource_lock.specs.Standing.{Standing, is_owner, runs_by}
+use Rattle.resource_lock.specs.StateView.{StateView, is_owner, runs_by}
 use Rattle.resource_lock.specs.declared.ids.WorkerId.{WorkerId}
 use Rattle.resource_lock.specs.declared.states.held.Counts.{Counts}
 use Rattle.resource_lock.specs.declared.states.held.Held.{Held}
 
-abbrev pub counts_of : Standing → WorkerId → Counts
+abbrev pub counts_of : StateView → WorkerId → Counts
 counts_of s w = record {
   locks = count_by (λ o. is_owner o w) s.owners;
   tasks = count_by (runs_by w) s.tasks;

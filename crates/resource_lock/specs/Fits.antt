@@ -1,7 +1,7 @@
 -- Which graphs fit: all numbers are in range and within the limits, and the tasks' actions and the actions' units are ranges one behind the other.
 use Rattle.std.specs.Prelude.{ℕ, ◌≡◌, ◌+◌, ◌<◌, ◌≤◌, List, [], ◌∷◌, length}
 use Rattle.std.specs.List.{All}
-use Rattle.resource_lock.specs.Outline.{Outline, action_of}
+use Rattle.resource_lock.specs.GraphView.{GraphView, action_of}
 use Rattle.resource_lock.specs.Ranges.{units_in, IsActionOf}
 
 -- ranges one behind the other, from n on, the last of which ends before the stop
@@ -9,11 +9,11 @@ abbrev pub Follow : {X : Type 0} → (X → ℕ) → (X → ℕ) → ℕ → Lis
 Follow first count n [] stop = n ≡ stop
 Follow first count n (x ∷ xs) stop = (first x ≡ n) × Follow first count (n + count x) xs stop
 
-pub record Fits (g : Outline) : Type 0 where
+pub record Fits (g : GraphView) : Type 0 where
   pub some_worker : 1 ≤ g.workers
   pub few_workers : g.workers ≤ 32
-  pub some_lease : 1 ≤ g.max
-  pub few_leases : g.max ≤ 32
+  pub some_lease : 1 ≤ g.max_leases
+  pub few_leases : g.max_leases ≤ 32
   pub few_locks : g.locks ≤ 4096
   pub few_tasks : length g.tasks ≤ 2048
   pub few_units : g.units ≤ 8192

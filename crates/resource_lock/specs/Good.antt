@@ -1,13 +1,13 @@
 -- What holds of every state that is reached.
 use Rattle.std.specs.Prelude.{◌≡◌, ◌≤◌, true, false}
-use Rattle.resource_lock.specs.Standing.{Standing, holding_of, owns, leases_out, has_parked, each_once, IsLockOf}
+use Rattle.resource_lock.specs.StateView.{StateView, holding_of, owns, leases_out, has_parked, each_once, IsLockOf}
 use Rattle.resource_lock.specs.declared.ids.LockId.{LockId}
 use Rattle.resource_lock.specs.declared.ids.WorkerId.{WorkerId}
 
 -- At most max leases are out, no worker owns a lock that it has parked, and no blocked worker has a lease.
 -- No worker has parked a lock twice, and none but a lock of the state. (That a lock has at most one owner is the form of the state.)
-pub record Good (s : Standing) : Type 0 where
-  pub few_leases : leases_out s ≤ s.max
+pub record Good (s : StateView) : Type 0 where
+  pub few_leases : leases_out s ≤ s.max_leases
   pub parked_not_owned : (w : WorkerId) (l : LockId) → owns s w l ≡ true → has_parked s w l ≡ false
   pub parked_once : (w : WorkerId) → each_once (holding_of s w).parked ≡ true
   pub parked_locks : (w : WorkerId) (l : LockId) → has_parked s w l ≡ true → IsLockOf s l

@@ -1,6 +1,6 @@
 -- What a worker's entry in a `State` stands for, and what a change of the worker leaves in it.
 use Rattle.std.specs.Prelude.{ℕ, ◌≡◌, ◌+◌, ◌-◌, ◌<◌, ◌≤◌, ◌^◌, vec_len, vec_capacity, if◌then◌else◌}
-use Rattle.resource_lock.specs.Standing.{Holding, runs_by}
+use Rattle.resource_lock.specs.StateView.{Holding, runs_by}
 use Rattle.resource_lock.specs.Change.{holding_after}
 use Rattle.resource_lock.specs.declared.ids.WorkerId.{WorkerId}
 use Rattle.resource_lock.specs.declared.marks.Mark.{Mark}

@@ -1,9 +1,9 @@
-pub mod Standing
+pub mod StateView
 pub mod Change
 pub mod Good
 pub mod State
 pub mod Trying
-pub mod Outline
+pub mod GraphView
 pub mod Ranges
 pub mod Fits
 pub mod Made

@@ -1,17 +1,17 @@
 -- The graph that is made of these parts.
 use Rattle.std.specs.Prelude.{ℕ, List, map, sum_by}
-use Rattle.resource_lock.specs.Outline.{Outline, outline_of}
+use Rattle.resource_lock.specs.GraphView.{GraphView, graph_view}
 use Rattle.resource_lock.specs.Ranges.{units_in}
 use Rattle.resource_lock.specs.declared.graphs.GraphTask.{GraphTask}
 use Rattle.resource_lock.specs.declared.graphs.GraphAction.{GraphAction}
 
 -- its units are those that its actions have
-abbrev pub made_of : ℕ → ℕ → ℕ → List GraphTask → List GraphAction → Outline
-made_of locks workers max tasks actions = record {
+abbrev pub made_of : ℕ → ℕ → ℕ → List GraphTask → List GraphAction → GraphView
+made_of locks workers max_leases tasks actions = record {
   locks = locks;
   workers = workers;
-  max = max;
+  max_leases = max_leases;
   units = sum_by units_in actions;
-  tasks = map outline_of tasks;
+  tasks = map graph_view tasks;
   actions = actions;
 }

@@ -1,14 +1,14 @@
 -- Which tasks and actions fit in a graph.
 use Rattle.std.specs.Prelude.{ℕ, ◌<◌, ◌≤◌, List, length, slice_index_or}
 use Rattle.std.specs.List.{All}
-use Rattle.resource_lock.specs.Outline.{TaskOutline, no_task}
+use Rattle.resource_lock.specs.GraphView.{GraphTaskView, no_task}
 use Rattle.resource_lock.specs.Ranges.{IsIn}
 use Rattle.resource_lock.specs.declared.graphs.GraphAction.{GraphAction}
 
 -- In a graph of so many locks and tasks, a task's lock and the tasks that it comes after are there, and it has at most 8 actions and 64 such tasks.
-abbrev pub IsFitTask : ℕ → ℕ → TaskOutline → Type 0
+abbrev pub IsFitTask : ℕ → ℕ → GraphTaskView → Type 0
 IsFitTask locks tasks t = (t.actions ≤ 8) × (length t.after ≤ 64) × (t.lock.0 < locks) × All (λ p. p < tasks) t.after
 
 -- The action of this number has an item, and is in its task's range.
-abbrev pub IsFitAction : List TaskOutline → ℕ → GraphAction → Type 0
+abbrev pub IsFitAction : List GraphTaskView → ℕ → GraphAction → Type 0
 IsFitAction tasks n a = (0 < a.items) × IsIn (slice_index_or tasks a.task no_task).first_action (slice_index_or tasks a.task no_task).actions n

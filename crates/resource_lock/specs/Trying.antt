@@ -1,23 +1,23 @@
 -- What trying to take a lock or a lease answers and leaves.
 use Rattle.std.specs.Prelude.{nat_lt, Bool, not, ◌&&◌, ◌||◌, is_none, if◌then◌else◌}
-use Rattle.resource_lock.specs.Standing.{Standing, holding_of, owner_of, owns, leases_out}
+use Rattle.resource_lock.specs.StateView.{StateView, holding_of, owner_of, owns, leases_out}
 use Rattle.resource_lock.specs.Change.{make}
 use Rattle.resource_lock.specs.declared.ids.LockId.{LockId}
 use Rattle.resource_lock.specs.declared.ids.WorkerId.{WorkerId}
 use Rattle.resource_lock.specs.declared.changes.Change.TheVariants.{Lock, Take}
 
 -- false exactly where another worker owns the lock
-abbrev pub can_own : Standing → WorkerId → LockId → Bool
+abbrev pub can_own : StateView → WorkerId → LockId → Bool
 can_own s w l = is_none (owner_of s l) || owns s w l
 
 -- the lock is taken where nobody owns it
-abbrev pub locked : Standing → WorkerId → LockId → Standing
+abbrev pub locked : StateView → WorkerId → LockId → StateView
 locked s w l = if is_none (owner_of s l) then make s w (Lock l) else s
 
--- false exactly where the worker has no lease and max are out
-abbrev pub can_lease : Standing → WorkerId → Bool
-can_lease s w = (holding_of s w).lease || nat_lt (leases_out s) s.max
+-- false exactly where the worker has no lease and max_leases are out
+abbrev pub can_lease : StateView → WorkerId → Bool
+can_lease s w = (holding_of s w).lease || nat_lt (leases_out s) s.max_leases
 
--- a lease is taken where the worker has none and fewer than max are out
-abbrev pub leased : Standing → WorkerId → Standing
-leased s w = if not (holding_of s w).lease && nat_lt (leases_out s) s.max then make s w Take else s
+-- a lease is taken where the worker has none and fewer than max_leases are out
+abbrev pub leased : StateView → WorkerId → StateView
+leased s w = if not (holding_of s w).lease && nat_lt (leases_out s) s.max_leases then make s w Take else s

@@ -1,6 +1,6 @@
 //! Which numbers, tasks and actions a graph can be made of.
 ghost use Rattle.std.specs.Prelude.{◌≡◌, ◌≤◌, ◌<◌, ◌↔◌, ℕ, IsTrue, length, map, sum_by, All, slice_index_or};
-ghost use Rattle.resource_lock.specs.Outline.{outline_of, no_action};
+ghost use Rattle.resource_lock.specs.GraphView.{graph_view, no_action};
 ghost use Rattle.resource_lock.specs.Ranges.{IsIn, units_in};
 ghost use Rattle.resource_lock.specs.Parts.{IsFitTask, IsFitAction};
 ghost use Rattle.resource_lock.specs.Fits.{Fits, Follow};
@@ -33,37 +33,37 @@ impl Graph {
     pub fn fits(
         locks: u32,
         workers: u32,
-        max: u32,
+        max_leases: u32,
         tasks: &[GraphTask],
         actions: &[GraphAction],
     ) -> bool
-        ensures { IsTrue result ↔ Fits (made_of locks workers max tasks.now actions.now) }
+        ensures { IsTrue result ↔ Fits (made_of locks workers max_leases tasks.now actions.now) }
     {
-        numbers_fit(locks, workers, max, tasks.len())
+        numbers_fit(locks, workers, max_leases, tasks.len())
             && tasks_fit(locks, tasks)
             && ranges_fit(tasks, actions)
     }
 }
 
 /// Whether the counts are within the limits.
-fn numbers_fit(locks: u32, workers: u32, max: u32, tasks: usize) -> bool
-    ensures { IsTrue result ↔ ((1 ≤ workers) × (workers ≤ 32) × (1 ≤ max) × (max ≤ 32) × (locks ≤ 4096) × (tasks ≤ 2048)) }
+fn numbers_fit(locks: u32, workers: u32, max_leases: u32, tasks: usize) -> bool
+    ensures { IsTrue result ↔ ((1 ≤ workers) × (workers ≤ 32) × (1 ≤ max_leases) × (max_leases ≤ 32) × (locks ≤ 4096) × (tasks ≤ 2048)) }
 {
     (1..=MAX_WORKERS).contains(&workers)
-        && (1..=MAX_LEASES).contains(&max)
+        && (1..=MAX_LEASES).contains(&max_leases)
         && locks <= MAX_LOCKS
         && tasks <= MAX_TASKS
 }
 
 /// Whether each task's lock and the tasks that it comes after are in range, and within the limits.
 fn tasks_fit(locks: u32, tasks: &[GraphTask]) -> bool
-    ensures { IsTrue result ↔ All (λ t. IsFitTask locks (length tasks.now) (outline_of t)) tasks.now }
+    ensures { IsTrue result ↔ All (λ t. IsFitTask locks (length tasks.now) (graph_view t)) tasks.now }
 {
     tasks.iter().all(|task| task_fits(locks, tasks.len(), task))
 }
 
 fn task_fits(locks: u32, tasks: usize, task: &GraphTask) -> bool
-    ensures { IsTrue result ↔ IsFitTask locks tasks (outline_of task.now) }
+    ensures { IsTrue result ↔ IsFitTask locks tasks (graph_view task.now) }
 {
     task.actions <= MAX_ACTIONS_PER_TASK
         && task.after.len() <= MAX_AFTER
@@ -74,7 +74,7 @@ fn task_fits(locks: u32, tasks: usize, task: &GraphTask) -> bool
 /// Whether the tasks' actions and the actions' units are ranges, and within the limits.
 fn ranges_fit(tasks: &[GraphTask], actions: &[GraphAction]) -> bool
     ensures { IsTrue result ↔ ((Follow (λ t. t.first_action) (λ t. t.actions) 0 tasks.now (length actions.now))
-        × ((a : ℕ) → a < length actions.now → IsFitAction (map outline_of tasks.now) a (slice_index_or actions.now a no_action))
+        × ((a : ℕ) → a < length actions.now → IsFitAction (map graph_view tasks.now) a (slice_index_or actions.now a no_action))
         × (Follow (λ a. a.first_unit) units_in 0 actions.now (sum_by units_in actions.now))
         × (sum_by units_in actions.now ≤ 8192)) }
 {
@@ -100,7 +100,7 @@ fn actions_follow(tasks: &[GraphTask], stop: usize) -> bool
 
 /// Whether each action has an item, and is in the range of its task.
 fn actions_fit(tasks: &[GraphTask], actions: &[GraphAction]) -> bool
-    ensures { IsTrue result ↔ ((a : ℕ) → a < length actions.now → IsFitAction (map outline_of tasks.now) a (slice_index_or actions.now a no_action)) }
+    ensures { IsTrue result ↔ ((a : ℕ) → a < length actions.now → IsFitAction (map graph_view tasks.now) a (slice_index_or actions.now a no_action)) }
 {
     for (number, action) in actions.iter().enumerate() {
         if !action_fits(tasks, number as u64, action) {
@@ -111,7 +111,7 @@ fn actions_fit(tasks: &[GraphTask], actions: &[GraphAction]) -> bool
 }
 
 fn action_fits(tasks: &[GraphTask], number: u64, action: &GraphAction) -> bool
-    ensures { IsTrue result ↔ IsFitAction (map outline_of tasks.now) number action.now }
+    ensures { IsTrue result ↔ IsFitAction (map graph_view tasks.now) number action.now }
 {
     let task = tasks.get(action.task as usize);
     action.items > 0 && task.is_some_and(|task| has_action(task, number))

@@ -1,5 +1,5 @@
 ghost use Rattle.std.specs.Prelude.{◌≡◌, map};
-ghost use Rattle.resource_lock.specs.Outline.{outline_of};
+ghost use Rattle.resource_lock.specs.GraphView.{graph_view};
 ghost use Rattle.resource_lock.specs.Fits.{Fits};
 ghost use Rattle.resource_lock.specs.Made.{made_of};
 
@@ -63,7 +63,7 @@ impl GraphAction {
 pub struct Graph {
     locks: u32,
     workers: u32,
-    max: u32,
+    max_leases: u32,
     units: u32,
     tasks: Vec<GraphTask>,
     actions: Vec<GraphAction>,
@@ -71,26 +71,26 @@ pub struct Graph {
 
 impl Model for Graph {
     ghost use Rattle.std.specs.Prelude.{map};
-    ghost use Rattle.resource_lock.specs.Outline.{Outline, outline_of};
+    ghost use Rattle.resource_lock.specs.GraphView.{GraphView, graph_view};
     ghost use Rattle.resource_lock.specs.Fits.{Fits};
 
-    ghost Value = { Outline };
+    ghost Value = { GraphView };
 
     ghost view = { λ g. record {
       locks = g.locks;
       workers = g.workers;
-      max = g.max;
+      max_leases = g.max_leases;
       units = g.units;
-      tasks = map outline_of g.tasks.items;
+      tasks = map graph_view g.tasks.items;
       actions = g.actions.items;
     } };
 
     ghost invariant = { λ g. Fits (record {
       locks = g.locks;
       workers = g.workers;
-      max = g.max;
+      max_leases = g.max_leases;
       units = g.units;
-      tasks = map outline_of g.tasks.items;
+      tasks = map graph_view g.tasks.items;
       actions = g.actions.items;
     }) };
 }
@@ -100,18 +100,18 @@ impl Graph {
     pub fn new(
         locks: u32,
         workers: u32,
-        max: u32,
+        max_leases: u32,
         tasks: Vec<GraphTask>,
         actions: Vec<GraphAction>,
     ) -> Graph
-        requires { Fits (made_of locks workers max tasks.items actions.items) }
-        ensures { result ≡ made_of locks workers max tasks.items actions.items }
+        requires { Fits (made_of locks workers max_leases tasks.items actions.items) }
+        ensures { result ≡ made_of locks workers max_leases tasks.items actions.items }
     {
         let units = unit_count(&actions) as u32;
         Graph {
             locks,
             workers,
-            max,
+            max_leases,
             units,
             tasks,
             actions,
@@ -133,10 +133,10 @@ impl Graph {
     }
 
     /// How many leases may be out at once, from 1 to 32.
-    pub fn max(&self) -> u32
-        ensures { result ≡ self.now.max }
+    pub fn max_leases(&self) -> u32
+        ensures { result ≡ self.now.max_leases }
     {
-        self.max
+        self.max_leases
     }
 
     /// How many units there are, at most 8,192.
@@ -148,7 +148,7 @@ impl Graph {
 
     /// The tasks by number, at most 2,048.
     pub fn tasks(&self) -> &[GraphTask]
-        ensures value { map outline_of result.now ≡ self.now.tasks }
+        ensures value { map graph_view result.now ≡ self.now.tasks }
         ensures fits { Fits self.now }
     {
         &self.tasks

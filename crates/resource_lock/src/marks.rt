@@ -27,7 +27,7 @@ pub enum Mark {
 
 impl Mark {
     ghost use Rattle.std.specs.Prelude.{◌≡◌};
-    ghost use Rattle.resource_lock.specs.Standing.{runs_by};
+    ghost use Rattle.resource_lock.specs.StateView.{runs_by};
 
     /// Whether the mark is Running by the worker.
     pub fn runs_by(self, worker: WorkerId) -> bool

@@ -13,7 +13,7 @@ mod trying;
 /// Who owns each lock, what each worker has, and how far each task, action and unit has come.
 #[derive(Debug, Drop)]
 pub struct State {
-    max: u32,
+    max_leases: u32,
     owners: Vec<Option<WorkerId>>,
     held: Vec<Held>,
     out: u32,
@@ -23,12 +23,12 @@ pub struct State {
 }
 
 impl Model for State {
-    ghost use Rattle.resource_lock.specs.Standing.{Standing};
-    ghost use Rattle.resource_lock.specs.State.{standing_of, IsSound};
+    ghost use Rattle.resource_lock.specs.StateView.{StateView};
+    ghost use Rattle.resource_lock.specs.State.{state_view, IsSound};
 
-    ghost Value = { Standing };
+    ghost Value = { StateView };
 
-    ghost view = { standing_of };
+    ghost view = { state_view };
 
     ghost invariant = { IsSound };
 }

@@ -74,7 +74,7 @@ fn graph(rt: &impl Abort, alloc: Global) -> Result<Graph, AllocError>
 fn a_graph_gives_what_it_was_made_of(rt: HostRuntime) -> Result<(), Fail> {
     let graph = graph(&rt, rt.alloc())?;
     assert_eq!(rt;
-        (graph.locks(), graph.workers(), graph.max()),
+        (graph.locks(), graph.workers(), graph.max_leases()),
         (LOCKS, WORKERS, MAX)
     );
     assert_eq!(rt; (graph.tasks().len(), graph.actions().len()), (2, 3));
@@ -113,8 +113,8 @@ fn fits_refuses_each_fault(rt: HostRuntime) -> Result<(), Fail> {
         (1, WORKERS, MAX),
         (4097, WORKERS, MAX),
     ];
-    for (locks, workers, max) in numbers {
-        assert!(rt; !Graph::fits(locks, workers, max, &sound, &ACTIONS));
+    for (locks, workers, max_leases) in numbers {
+        assert!(rt; !Graph::fits(locks, workers, max_leases, &sound, &ACTIONS));
     }
 
     let [a, b, c] = ACTIONS;

@@ -1,7 +1,7 @@
 -- Each unit of a graph belongs to the action that is found by its number.
 use Rattle.std.proofs.Common.{◌≡◌, ℕ, zero, suc, ◌+◌, ◌<◌, ◌≤◌, Bool, true, false, List, [], ◌∷◌, length, get_or, refl, sym, ◌∙◌, ap, subst, arith, ◌⊎◌, inl, inr, cond}
 use Rattle.std.proofs.lemmas.Bool.{cases_lt, and_from, and_right, le-leb, lt-ltb, le-ltb}
-use Rattle.resource_lock.specs.Outline.{Outline, action_of, no_action}
+use Rattle.resource_lock.specs.GraphView.{GraphView, action_of, no_action}
 use Rattle.resource_lock.specs.Fits.{Fits, Follow}
 use Rattle.resource_lock.specs.Ranges.{IsIn, IsUnitOf, units_in, fetches, first_item, task_with}
 use Rattle.resource_lock.specs.declared.graphs.GraphAction.{GraphAction}
@@ -51,7 +51,7 @@ unit_in a u i = at a.fetch refl (cases_lt a.first_unit u)
     at true e (inl lt) = inr (behind_fetch a u e lt i)
     at true e (inr le) = let low = i.0 in inl (e, omega arith)
 
-pub action_found : (g : Outline) (u : ℕ) → Fits g → u < g.units → (action_with g u < length g.actions) × IsUnitOf g (action_with g u) u
+pub action_found : (g : GraphView) (u : ℕ) → Fits g → u < g.units → (action_with g u < length g.actions) × IsUnitOf g (action_with g u) u
 action_found g u fits lt =
     let r = found u 0 g.units 0 g.actions fits.units_follow (omega arith) lt in
     let e : action_with g u ≡ r.index = r.is ∙ omega arith in
@@ -59,5 +59,5 @@ action_found g u fits lt =
     (omega arith, subst (λ a. IsUnitOf g a u) (sym e) (unit_in (action_of g r.index) u r.has))
 
 -- a run that comes to its plan gives each unit this outcome
-pub outcomes_by_number : (g : Outline) (h : List Entry) (v : ℕ → Outcome) (n u : ℕ) → Fits g → ComesTo g h v n → u < g.units → outcome_in h u ≡ outcome_by g v n u
+pub outcomes_by_number : (g : GraphView) (h : List Entry) (v : ℕ → Outcome) (n u : ℕ) → Fits g → ComesTo g h v n → u < g.units → outcome_in h u ≡ outcome_by g v n u
 outcomes_by_number g h v n u fits c lt = let a = action_found g u fits lt in c.units (task_with g (action_with g u)) (action_with g u) u (fits.own_task (action_with g u) a.0) a.1

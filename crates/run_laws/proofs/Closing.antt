@@ -7,8 +7,8 @@ use Rattle.resource_lock.specs.declared.marks.Mark.TheVariants.{Waiting, Passed,
 use Rattle.resource_lock.specs.declared.marks.MarkId.TheVariants.{Unit as UnitOf}
 use Rattle.resource_lock.specs.Fits.{Fits}
 use Rattle.resource_lock.specs.Opening.{opening_of}
-use Rattle.resource_lock.specs.Outline.{Outline}
-use Rattle.resource_lock.specs.Standing.{Standing, mark_of}
+use Rattle.resource_lock.specs.GraphView.{GraphView}
+use Rattle.resource_lock.specs.StateView.{StateView, mark_of}
 use Rattle.item_actions.specs.declared.outcomes.Outcome.{Outcome}
 use Rattle.item_actions.specs.declared.outcomes.Outcome.TheVariants.{Number, Digest, Skipped as NotRun}
 use Rattle.item_actions.specs.Value.{passes}
@@ -32,16 +32,16 @@ ran_if : (b : Bool) (o : Outcome) → o ≢ NotRun → AllByRecursion Ran (cond 
 ran_if true o ran = (ran, tt)
 ran_if false o ran = tt
 
-kind_ran : (g : Outline) (u : ℕ) (k : Kind) → IsKindOf g k → AllByRecursion Ran (closing_of u k)
+kind_ran : (g : GraphView) (u : ℕ) (k : Kind) → IsKindOf g k → AllByRecursion Ran (closing_of u k)
 kind_ran g u (Close d) is = ran_if (d.unit == u) d.outcome is.1
 kind_ran g u (Unblock (Some d)) is = ran_if (d.unit == u) d.outcome is.1
 kind_ran g u _ is = tt
 
-entry_ran : (g : Outline) (u : ℕ) (k : Kind) (o : Option (List Change)) → IsKindOf g k → AllByRecursion Ran (where_finished o (closing_of u k))
+entry_ran : (g : GraphView) (u : ℕ) (k : Kind) (o : Option (List Change)) → IsKindOf g k → AllByRecursion Ran (where_finished o (closing_of u k))
 entry_ran g u k None is = tt
 entry_ran g u k (Some cs) is = kind_ran g u k is
 
-closings_ran : (g : Outline) (s : Standing) (h : List Entry) (u : ℕ) → lawful_from g s h → AllByRecursion Ran (closings h u)
+closings_ran : (g : GraphView) (s : StateView) (h : List Entry) (u : ℕ) → lawful_from g s h → AllByRecursion Ran (closings h u)
 closings_ran g s [] u lawful = tt
 closings_ran g s (e ∷ h) u lawful = each-append Ran (where_finished e.changes (closing_of u e.kind)) (closings h u) (entry_ran g u e.kind e.changes lawful.0.kind) (closings_ran g (effect s e) h u lawful.1)
 
@@ -55,7 +55,7 @@ mark_from_failing (Number n) e = absurd (cc)
 mark_from_failing (Digest d) e = absurd (cc)
 mark_from_failing _ e = refl
 
-closed_with : (g : Outline) (h : List Entry) (u : ℕ) (m : Mark) (o : Outcome) → Lawful g h → mark_of (replay g h) (UnitOf u) ≡ m → closings h u ≡ o ∷ [] → m ≡ mark_from o → has_passed m ≡ passes o → IsClosedOnce g h u
+closed_with : (g : GraphView) (h : List Entry) (u : ℕ) (m : Mark) (o : Outcome) → Lawful g h → mark_of (replay g h) (UnitOf u) ≡ m → closings h u ≡ o ∷ [] → m ≡ mark_from o → has_passed m ≡ passes o → IsClosedOnce g h u
 closed_with g h u m o lawful is closed from passed =
     let out : outcome_in h u ≡ o = ap (last_or NotRun) closed in
     record {
@@ -65,7 +65,7 @@ closed_with g h u m o lawful is closed from passed =
       passed = ap has_passed is ∙ (passed ∙ ap passes (sym out));
     }
 
-pub closed_once : (g : Outline) (h : List Entry) (u : ℕ) → Fits g → Lawful g h → IsDone (mark_of (replay g h) (UnitOf u)) → IsClosedOnce g h u
+pub closed_once : (g : GraphView) (h : List Entry) (u : ℕ) → Fits g → Lawful g h → IsDone (mark_of (replay g h) (UnitOf u)) → IsClosedOnce g h u
 closed_once g h u fits lawful done = at done ((holds_after g h (apart_of g fits) lawful).recorded.closed u)
   where
     at : IsDone (mark_of (replay g h) (UnitOf u)) → ClosedAs (closings h u) (mark_of (replay g h) (UnitOf u)) → IsClosedOnce g h u
@@ -78,5 +78,5 @@ none_closed os Failed c not_passed not_failed = absurd (not_failed refl)
 none_closed os Waiting c not_passed not_failed = c
 none_closed os _ c not_passed not_failed = c
 
-pub never_closed : (g : Outline) (h : List Entry) (u : ℕ) → Fits g → Lawful g h → mark_of (replay g h) (UnitOf u) ≢ Passed → mark_of (replay g h) (UnitOf u) ≢ Failed → closings h u ≡ []
+pub never_closed : (g : GraphView) (h : List Entry) (u : ℕ) → Fits g → Lawful g h → mark_of (replay g h) (UnitOf u) ≢ Passed → mark_of (replay g h) (UnitOf u) ≢ Failed → closings h u ≡ []
 never_closed g h u fits lawful not_passed not_failed = none_closed (closings h u) (mark_of (replay g h) (UnitOf u)) ((holds_after g h (apart_of g fits) lawful).recorded.closed u) not_passed not_failed

@@ -4,7 +4,7 @@ use Rattle.std.specs.List.{All, list_all, AllByRecursion}
 use Rattle.std.proofs.lemmas.Bool.{cases_lt}
 use Rattle.std.proofs.lemmas.List.{get_or_past}
 use Rattle.std.proofs.lemmas.List.Elements.{recursion_from_All}
-use Rattle.resource_lock.specs.Outline.{Outline, no_task, task_of}
+use Rattle.resource_lock.specs.GraphView.{GraphView, no_task, task_of}
 use Rattle.item_actions.specs.declared.outcomes.Outcome.{Outcome}
 use Rattle.lock_journal.specs.Table.{has_passed}
 use Rattle.run_laws.specs.Outcomes.{mark_by, task_passes, task_outcome, AreRanks}
@@ -13,7 +13,7 @@ same_tests : (f k : ℕ → Bool) (xs : List ℕ) → AllByRecursion (λ x. f x 
 same_tests f k [] h = refl
 same_tests f k (x ∷ xs) h = let a = h.0 in let b = same_tests f k xs h.1 in cc
 
-pub deep_enough : (g : Outline) (v : ℕ → Outcome) (rank : ℕ → ℕ) → AreRanks g rank → (n m t : ℕ) → rank t < n → rank t < m → task_outcome g v n t ≡ task_outcome g v m t
+pub deep_enough : (g : GraphView) (v : ℕ → Outcome) (rank : ℕ → ℕ) → AreRanks g rank → (n m t : ℕ) → rank t < n → rank t < m → task_outcome g v n t ≡ task_outcome g v m t
 deep_enough g v rank ranks zero m t a b = absurd (omega arith)
 deep_enough g v rank ranks (suc n) zero t a b = absurd (omega arith)
 deep_enough g v rank ranks (suc n) (suc m) t a b =
@@ -26,11 +26,11 @@ deep_enough g v rank ranks (suc n) (suc m) t a b =
     afters (p ∷ ps) h f = (ap has_passed (f p h.0), afters ps h.1 f)
 
 -- the rule of the outcomes: the bound is the same on both sides
-pub outcome_rule : (g : Outline) (v : ℕ → Outcome) (rank : ℕ → ℕ) → AreRanks g rank → (n t : ℕ) → rank t < n → task_outcome g v n t ≡ mark_by (list_all (λ p. has_passed (task_outcome g v n p)) (task_of g t).after) (task_passes g v t)
+pub outcome_rule : (g : GraphView) (v : ℕ → Outcome) (rank : ℕ → ℕ) → AreRanks g rank → (n t : ℕ) → rank t < n → task_outcome g v n t ≡ mark_by (list_all (λ p. has_passed (task_outcome g v n p)) (task_of g t).after) (task_passes g v t)
 outcome_rule g v rank ranks n t below = deep_enough g v rank ranks n (suc n) t below (omega arith)
 
 -- without `after` any rank serves
-pub no_after : (g : Outline) → All (λ t. t.after ≡ []) g.tasks → AreRanks g (λ t. 0)
+pub no_after : (g : GraphView) → All (λ t. t.after ≡ []) g.tasks → AreRanks g (λ t. 0)
 no_after g none = λ t. at t (cases_lt t (length g.tasks))
   where
     at : (t : ℕ) → (t < length g.tasks) ⊎ (length g.tasks ≤ t) → All (λ p. 0 < 0) (task_of g t).after

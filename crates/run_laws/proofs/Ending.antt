@@ -7,9 +7,9 @@ use Rattle.resource_lock.specs.declared.marks.Mark.{Mark}
 use Rattle.resource_lock.specs.declared.marks.Mark.TheVariants.{Waiting, Passed, Failed, Skipped}
 use Rattle.resource_lock.specs.declared.marks.MarkId.TheVariants.{Task as TaskOf, Action as ActionOf, Unit as UnitOf}
 use Rattle.resource_lock.specs.Fits.{Follow, Fits}
-use Rattle.resource_lock.specs.Outline.{Outline, no_action, action_of}
+use Rattle.resource_lock.specs.GraphView.{GraphView, no_action, action_of}
 use Rattle.resource_lock.specs.Ranges.{IsIn, units_in}
-use Rattle.resource_lock.specs.Standing.{Standing, mark_of}
+use Rattle.resource_lock.specs.StateView.{StateView, mark_of}
 use Rattle.lock_journal.specs.Allowed.{Lawful}
 use Rattle.lock_journal.specs.Entry.{Entry, replay}
 use Rattle.run_laws.specs.Marks.{IsEnded, HasEnded}
@@ -32,13 +32,13 @@ covers_follow first count low (x ∷ xs) stop d n f a b = at (cases_lt n (low + 
     at (inl lt) rest = let e = f.0 in record { place = 0; within = omega arith; inside = (omega arith, omega arith) }
     at (inr past) rest = let r = rest past b in let lt = r.within in record { place = suc r.place; within = omega arith; inside = r.inside }
 
-task_whole : (g : Outline) (s : Standing) (t : ℕ) (m : Mark) → IsEnded m → TaskFact g s t m → WholeEnded g s t
+task_whole : (g : GraphView) (s : StateView) (t : ℕ) (m : Mark) → IsEnded m → TaskFact g s t m → WholeEnded g s t
 task_whole g s t Passed e f = f.2
 task_whole g s t Failed e f = f.2
 task_whole g s t Skipped e f = f.2
 task_whole g s t _ e f = absurd e
 
-pub ended_by_tasks : (g : Outline) (h : List Entry) → Fits g → Lawful g h → All IsEnded (replay g h).tasks → HasEnded (replay g h)
+pub ended_by_tasks : (g : GraphView) (h : List Entry) → Fits g → Lawful g h → All IsEnded (replay g h).tasks → HasEnded (replay g h)
 ended_by_tasks g h fits lawful tasks = record {
   tasks = tasks;
   actions = All-from_get_or IsEnded (replay g h).actions Waiting (λ a lt. let e = kept.belongs.actions in action a (omega arith));

@@ -8,10 +8,10 @@ use Rattle.resource_lock.specs.declared.marks.Mark.TheVariants.{Waiting, Running
 use Rattle.resource_lock.specs.declared.marks.MarkId.{MarkId}
 use Rattle.resource_lock.specs.declared.marks.MarkId.TheVariants.{Task as TaskOf, Action as ActionOf, Unit as UnitOf}
 use Rattle.resource_lock.specs.Change.{same_mark, make_all, can_all}
-use Rattle.resource_lock.specs.Outline.{Outline, task_of}
+use Rattle.resource_lock.specs.GraphView.{GraphView, task_of}
 use Rattle.resource_lock.specs.Ranges.{actions_of, units_of, IsActionOf, IsUnitOf}
 use Rattle.resource_lock.specs.Shape.{BelongsTo}
-use Rattle.resource_lock.specs.Standing.{Standing, holding_of, mark_of, IsMarkOf}
+use Rattle.resource_lock.specs.StateView.{StateView, holding_of, mark_of, IsMarkOf}
 use Rattle.lock_journal.specs.declared.entries.Kind.{Kind}
 use Rattle.lock_journal.specs.declared.entries.Kind.TheVariants.{Start, Skip, Submit, Claim, Close, Unblock, End}
 use Rattle.lock_journal.specs.Allowed.{IsListOf, IsKindOf}
@@ -22,10 +22,10 @@ use Rattle.run_laws.proofs.Moves.{MayMove, moves_not_ended, list_moves}
 use Rattle.run_laws.proofs.Ranges.{Has, has_unit, has_action}
 
 -- a mark that has ended stays
-pub record IsFinal (s s' : Standing) : Type 0 where
+pub record IsFinal (s s' : StateView) : Type 0 where
   pub kept : (m : MarkId) → IsEnded (mark_of s m) → mark_of s' m ≡ mark_of s m
 
-pub final_by : (g : Outline) (s : Standing) (w : WorkerId) (k : Kind) (cs : List Change) → IsListOf g s w k cs → can_all s w cs ≡ true → IsFinal s (make_all s w cs)
+pub final_by : (g : GraphView) (s : StateView) (w : WorkerId) (k : Kind) (cs : List Change) → IsListOf g s w k cs → can_all s w cs ≡ true → IsFinal s (make_all s w cs)
 final_by g s w k cs l h = record { kept = λ m e. at m e (stays_or_moves (MayMove g s w k) cs s w (list_moves g s w k cs l) h m) }
   where
     at : (m : MarkId) → IsEnded (mark_of s m) → StaysOrMoves (MayMove g s w k) m (mark_of s m) (mark_of (make_all s w cs) m) → mark_of (make_all s w cs) m ≡ mark_of s m
@@ -37,15 +37,15 @@ units_named from to u [] h = absurd h
 units_named from to u (v ∷ us) (inl e) = inl (ap UnitOf e)
 units_named from to u (v ∷ us) (inr h) = inr (units_named from to u us h)
 
-action_named : (g : Outline) (a u : ℕ) → IsUnitOf g a u → Names (UnitOf u) (skipped_action g a)
+action_named : (g : GraphView) (a u : ℕ) → IsUnitOf g a u → Names (UnitOf u) (skipped_action g a)
 action_named g a u h = inr (units_named Waiting Skipped u (units_of g a) (has_unit g a u h))
 
-actions_named : (g : Outline) (a u : ℕ) (acts : List ℕ) → Has a acts → IsUnitOf g a u → Names (UnitOf u) (skipped_actions g acts)
+actions_named : (g : GraphView) (a u : ℕ) (acts : List ℕ) → Has a acts → IsUnitOf g a u → Names (UnitOf u) (skipped_actions g acts)
 actions_named g a u [] h i = absurd h
 actions_named g a u (b ∷ acts) (inl e) i = Names-append_left (UnitOf u) (skipped_action g b) (skipped_actions g acts) (subst (λ n. Names (UnitOf u) (skipped_action g n)) e (action_named g a u i))
 actions_named g a u (b ∷ acts) (inr h) i = Names-append_right (UnitOf u) (skipped_action g b) (skipped_actions g acts) (actions_named g a u acts h i)
 
-waiting_named : (g : Outline) (s : Standing) (a u : ℕ) (acts : List ℕ) → Has a acts → mark_of s (ActionOf a) ≡ Waiting → IsUnitOf g a u → Names (UnitOf u) (skipped_waiting g s acts)
+waiting_named : (g : GraphView) (s : StateView) (a u : ℕ) (acts : List ℕ) → Has a acts → mark_of s (ActionOf a) ≡ Waiting → IsUnitOf g a u → Names (UnitOf u) (skipped_waiting g s acts)
 waiting_named g s a u [] h e i = absurd h
 waiting_named g s a u (b ∷ acts) (inl same) e i =
     let waits : mark_of s (ActionOf b) ≡ Waiting = subst (λ n. mark_of s (ActionOf n) ≡ Waiting) same e in
@@ -55,12 +55,12 @@ waiting_named g s a u (b ∷ acts) (inl same) e i =
 waiting_named g s a u (b ∷ acts) (inr h) e i =
     Names-append_right (UnitOf u) (cond (same_mark (mark_of s (ActionOf b)) Waiting) (skipped_action g b) []) (skipped_waiting g s acts) (waiting_named g s a u acts h e i)
 
-actions_named_too : (g : Outline) (a : ℕ) (acts : List ℕ) → Has a acts → Names (ActionOf a) (skipped_actions g acts)
+actions_named_too : (g : GraphView) (a : ℕ) (acts : List ℕ) → Has a acts → Names (ActionOf a) (skipped_actions g acts)
 actions_named_too g a [] h = absurd h
 actions_named_too g a (b ∷ acts) (inl e) = inl (ap ActionOf e)
 actions_named_too g a (b ∷ acts) (inr h) = Names-append_right (ActionOf a) (skipped_action g b) (skipped_actions g acts) (actions_named_too g a acts h)
 
-waiting_named_too : (g : Outline) (s : Standing) (a : ℕ) (acts : List ℕ) → Has a acts → mark_of s (ActionOf a) ≡ Waiting → Names (ActionOf a) (skipped_waiting g s acts)
+waiting_named_too : (g : GraphView) (s : StateView) (a : ℕ) (acts : List ℕ) → Has a acts → mark_of s (ActionOf a) ≡ Waiting → Names (ActionOf a) (skipped_waiting g s acts)
 waiting_named_too g s a [] h e = absurd h
 waiting_named_too g s a (b ∷ acts) (inl same) e =
     let waits : mark_of s (ActionOf b) ≡ Waiting = subst (λ n. mark_of s (ActionOf n) ≡ Waiting) same e in
@@ -70,7 +70,7 @@ waiting_named_too g s a (b ∷ acts) (inr h) e =
     Names-append_right (ActionOf a) (cond (same_mark (mark_of s (ActionOf b)) Waiting) (skipped_action g b) []) (skipped_waiting g s acts) (waiting_named_too g s a acts h e)
 
 -- what is moved for certain
-abbrev pub HasMoved : Outline → Standing → WorkerId → Kind → Standing → Type 0
+abbrev pub HasMoved : GraphView → StateView → WorkerId → Kind → StateView → Type 0
 HasMoved g s w (Start t) s' = mark_of s' (TaskOf t) ≡ Running w
 HasMoved g s w (Skip t) s' = (mark_of s' (TaskOf t) ≡ Skipped) × ((a u : ℕ) → IsActionOf g t a → IsUnitOf g a u → u < g.units → mark_of s' (UnitOf u) ≡ Skipped) × ((a : ℕ) → IsActionOf g t a → a < length g.actions → mark_of s' (ActionOf a) ≡ Skipped)
 HasMoved g s w (Claim u) s' = mark_of s' (UnitOf u) ≡ Running w
@@ -80,13 +80,13 @@ HasMoved g s w (End t) s' = ((a u : ℕ) → IsActionOf g t a → mark_of s (Act
 HasMoved g s w _ s' = Unit {0}
 
 -- one mark
-one_moves_to : (g : Outline) (s : Standing) (w : WorkerId) (k : Kind) (cs : List Change) (m : MarkId) (r : Mark) → IsListOf g s w k cs → can_all s w cs ≡ true → ((from to : Mark) → MayMove g s w k m from to → to ≡ r) → IsMarkOf s m → Names m cs → mark_of (make_all s w cs) m ≡ r
+one_moves_to : (g : GraphView) (s : StateView) (w : WorkerId) (k : Kind) (cs : List Change) (m : MarkId) (r : Mark) → IsListOf g s w k cs → can_all s w cs ≡ true → ((from to : Mark) → MayMove g s w k m from to → to ≡ r) → IsMarkOf s m → Names m cs → mark_of (make_all s w cs) m ≡ r
 one_moves_to g s w k cs m r l h f within n =
     moves_to m r cs s w
     (AllMoves-weaker (MayMove g s w k) (GoesTo m r) (λ n from to p e. f from to (subst (λ z. MayMove g s w k z from to) e p)) cs (list_moves g s w k cs l))
     h within (inr n)
 
-pub has_moved : (g : Outline) (s : Standing) (w : WorkerId) (k : Kind) (cs : List Change) → BelongsTo g s → IsKindOf g k → IsListOf g s w k cs → can_all s w cs ≡ true → HasMoved g s w k (make_all s w cs)
+pub has_moved : (g : GraphView) (s : StateView) (w : WorkerId) (k : Kind) (cs : List Change) → BelongsTo g s → IsKindOf g k → IsListOf g s w k cs → can_all s w cs ≡ true → HasMoved g s w k (make_all s w cs)
 has_moved g s w (Start t) cs z i l h =
     one_moves_to g s w (Start t) cs (TaskOf t) (Running w) l h (λ from to p. p.2) (let e = z.tasks in omega arith)
     (subst (Names (TaskOf t)) (sym l) (inr (inr (inl refl))))

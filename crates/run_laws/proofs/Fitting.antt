@@ -4,12 +4,12 @@ use Rattle.std.specs.List.{All}
 use Rattle.std.proofs.lemmas.Bool.{cases_lt, cases_order}
 use Rattle.std.proofs.lemmas.List.{get_or_past}
 use Rattle.resource_lock.specs.Fits.{Follow, Fits}
-use Rattle.resource_lock.specs.Outline.{Outline, no_task, no_action, task_of, action_of}
+use Rattle.resource_lock.specs.GraphView.{GraphView, no_task, no_action, task_of, action_of}
 use Rattle.resource_lock.specs.Ranges.{IsIn, IsActionOf, IsUnitOf, units_in}
 use Rattle.run_laws.proofs.Ranges.{unit_range}
 
 -- the tasks' actions and the actions' units are ranges apart
-pub record RangesApart (g : Outline) : Type 0 where
+pub record RangesApart (g : GraphView) : Type 0 where
   pub own_task : (a : ℕ) → a < length g.actions → IsActionOf g (action_of g a).task a
   pub one_task : (t r a : ℕ) → IsActionOf g t a → IsActionOf g r a → t ≡ r
   pub one_action : (a b u : ℕ) → IsUnitOf g a u → IsUnitOf g b u → a ≡ b
@@ -44,21 +44,21 @@ one_follow first count xs stop i j a d f wi wj ini inj = at (cases_order i j)
     at (inr (inr lt)) = let r = apart_follow first count 0 xs stop j i d f lt wi in let b = inj.1 in let c = ini.0 in absurd (omega arith)
 
 -- past the end there is nothing
-task_within : (g : Outline) (t a : ℕ) → IsActionOf g t a → t < length g.tasks
+task_within : (g : GraphView) (t a : ℕ) → IsActionOf g t a → t < length g.tasks
 task_within g t a h = at (cases_lt t (length g.tasks))
   where
     at : (t < length g.tasks) ⊎ (length g.tasks ≤ t) → t < length g.tasks
     at (inl lt) = lt
     at (inr past) = let e = subst (λ z. IsIn z.first_action z.actions a) (get_or_past g.tasks t no_task past) h in let b = e.1 in absurd (omega arith)
 
-action_within : (g : Outline) (a u : ℕ) → IsUnitOf g a u → a < length g.actions
+action_within : (g : GraphView) (a u : ℕ) → IsUnitOf g a u → a < length g.actions
 action_within g a u h = at (cases_lt a (length g.actions))
   where
     at : (a < length g.actions) ⊎ (length g.actions ≤ a) → a < length g.actions
     at (inl lt) = lt
     at (inr past) = let e = subst (λ z. IsIn z.first_unit (units_in z) u) (get_or_past g.actions a no_action past) (unit_range (action_of g a) u h) in let b = e.1 in absurd (omega arith)
 
-pub apart_of : (g : Outline) → Fits g → RangesApart g
+pub apart_of : (g : GraphView) → Fits g → RangesApart g
 apart_of g h = record {
   own_task = h.own_task;
   one_task = λ t r a it ir. one_follow (λ t. t.first_action) (λ t. t.actions) g.tasks (length g.actions) t r a no_task h.actions_follow (task_within g t a it) (task_within g r a ir) it ir;

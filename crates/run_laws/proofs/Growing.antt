@@ -11,9 +11,9 @@ use Rattle.resource_lock.specs.declared.marks.Mark.TheVariants.{Waiting}
 use Rattle.resource_lock.specs.declared.marks.MarkId.{MarkId}
 use Rattle.resource_lock.specs.declared.marks.MarkId.TheVariants.{Task as TaskOf}
 use Rattle.resource_lock.specs.Opening.{opening_of}
-use Rattle.resource_lock.specs.Outline.{Outline}
+use Rattle.resource_lock.specs.GraphView.{GraphView}
 use Rattle.resource_lock.specs.Shape.{SameShape}
-use Rattle.resource_lock.specs.Standing.{Standing, mark_of}
+use Rattle.resource_lock.specs.StateView.{StateView, mark_of}
 use Rattle.resource_lock.proofs.Runs.{same_shape-make_all, same_shape-trans}
 use Rattle.item_actions.specs.declared.outcomes.Outcome.{Outcome}
 use Rattle.lock_journal.specs.declared.entries.Closed.{Closed}
@@ -28,50 +28,50 @@ use Rattle.run_laws.specs.Own.{NoneOf, SameFor}
 use Rattle.run_laws.proofs.Finished.{IsFinal, final_by}
 use Rattle.run_laws.proofs.Others.{others_after}
 
-replay_from-append : (s : Standing) (h later : List Entry) → replay_from s (h ++ later) ≡ replay_from (replay_from s h) later
+replay_from-append : (s : StateView) (h later : List Entry) → replay_from s (h ++ later) ≡ replay_from (replay_from s h) later
 replay_from-append s [] later = refl
 replay_from-append s (e ∷ h) later = replay_from-append (effect s e) h later
 
 -- a front of a lawful history is lawful, and so is what follows, from where the front leads
-pub lawful_from-append : (g : Outline) (s : Standing) (h later : List Entry) → lawful_from g s (h ++ later) → lawful_from g s h × lawful_from g (replay_from s h) later
+pub lawful_from-append : (g : GraphView) (s : StateView) (h later : List Entry) → lawful_from g s (h ++ later) → lawful_from g s h × lawful_from g (replay_from s h) later
 lawful_from-append g s [] later lawful = (tt, lawful)
 lawful_from-append g s (e ∷ h) later lawful = let rest = lawful_from-append g (effect s e) h later lawful.1 in ((lawful.0, rest.0), rest.1)
 
-pub lawful-front : (g : Outline) (h later : List Entry) → Lawful g (h ++ later) → Lawful g h
+pub lawful-front : (g : GraphView) (h later : List Entry) → Lawful g (h ++ later) → Lawful g h
 lawful-front g h later lawful = (lawful_from-append g (opening_of g) h later lawful).0
 
 -- the state of the whole history is, for a worker without entries in the later part, that of the first part
-pub same_by_own : (g : Outline) (own later : List Entry) (w : WorkerId) → Lawful g (own ++ later) → NoneOf w later → SameFor w (replay g own) (replay g (own ++ later))
+pub same_by_own : (g : GraphView) (own later : List Entry) (w : WorkerId) → Lawful g (own ++ later) → NoneOf w later → SameFor w (replay g own) (replay g (own ++ later))
 same_by_own g own later w lawful none =
     subst (SameFor w (replay g own)) (sym (replay_from-append (opening_of g) own later))
     (others_after g later (replay g own) w (lawful_from-append g (opening_of g) own later lawful).1 none)
 
 -- marks that have ended stay
-final_entry : (g : Outline) (s : Standing) (w : WorkerId) (k : Kind) (o : Option (List Change)) → IfSome o (Finishes g s w k) → IsFinal s (changed s w o)
+final_entry : (g : GraphView) (s : StateView) (w : WorkerId) (k : Kind) (o : Option (List Change)) → IfSome o (Finishes g s w k) → IsFinal s (changed s w o)
 final_entry g s w k None f = record { kept = λ m ended. refl }
 final_entry g s w k (Some cs) f = final_by g s w k cs f.list f.possible
 
-final_from : (g : Outline) (s : Standing) (h : List Entry) → lawful_from g s h → IsFinal s (replay_from s h)
+final_from : (g : GraphView) (s : StateView) (h : List Entry) → lawful_from g s h → IsFinal s (replay_from s h)
 final_from g s [] lawful = record { kept = λ m ended. refl }
 final_from g s (e ∷ h) lawful = record { kept = λ m ended. at m ended (final_entry g s e.worker e.kind e.changes lawful.0.finished) (final_from g (effect s e) h lawful.1) }
   where
     at : (m : MarkId) → IsEnded (mark_of s m) → IsFinal s (effect s e) → IsFinal (effect s e) (replay_from (effect s e) h) → mark_of (replay_from (effect s e) h) m ≡ mark_of s m
     at m ended first rest = let same = first.kept m ended in rest.kept m (subst IsEnded (sym same) ended) ∙ same
 
-pub marks_stay : (g : Outline) (h later : List Entry) (m : MarkId) → Lawful g (h ++ later) → IsEnded (mark_of (replay g h) m) → mark_of (replay g (h ++ later)) m ≡ mark_of (replay g h) m
+pub marks_stay : (g : GraphView) (h later : List Entry) (m : MarkId) → Lawful g (h ++ later) → IsEnded (mark_of (replay g h) m) → mark_of (replay g (h ++ later)) m ≡ mark_of (replay g h) m
 marks_stay g h later m lawful ended =
     ap (λ s. mark_of s m) (replay_from-append (opening_of g) h later)
     ∙ (final_from g (replay g h) later (lawful_from-append g (opening_of g) h later lawful).1).kept m ended
 
-same_shape-changed : (s : Standing) (w : WorkerId) (o : Option (List Change)) → SameShape s (changed s w o)
+same_shape-changed : (s : StateView) (w : WorkerId) (o : Option (List Change)) → SameShape s (changed s w o)
 same_shape-changed s w None = same_shape-make_all s w []
 same_shape-changed s w (Some cs) = same_shape-make_all s w cs
 
-same_shape-replay_from : (s : Standing) (h : List Entry) → SameShape s (replay_from s h)
+same_shape-replay_from : (s : StateView) (h : List Entry) → SameShape s (replay_from s h)
 same_shape-replay_from s [] = same_shape-make_all s record { 0 = 0 } []
 same_shape-replay_from s (e ∷ h) = same_shape-trans s (effect s e) (replay_from (effect s e) h) (same_shape-changed s e.worker e.changes) (same_shape-replay_from (effect s e) h)
 
-pub tasks_stay : (g : Outline) (h later : List Entry) → Lawful g (h ++ later) → All IsEnded (replay g h).tasks → All IsEnded (replay g (h ++ later)).tasks
+pub tasks_stay : (g : GraphView) (h later : List Entry) → Lawful g (h ++ later) → All IsEnded (replay g h).tasks → All IsEnded (replay g (h ++ later)).tasks
 tasks_stay g h later lawful ended =
     let first = (same_shape-replay_from (opening_of g) h).tasks in
     let whole = (same_shape-replay_from (opening_of g) (h ++ later)).tasks in
@@ -80,10 +80,10 @@ tasks_stay g h later lawful ended =
     subst IsEnded (sym (marks_stay g h later (TaskOf t) lawful there)) there)
 
 -- one entry more
-pub lawful-push : (g : Outline) (h : List Entry) (e : Entry) → Lawful g h → Allowed g (replay g h) e → Lawful g (h ++ e ∷ [])
+pub lawful-push : (g : GraphView) (h : List Entry) (e : Entry) → Lawful g h → Allowed g (replay g h) e → Lawful g (h ++ e ∷ [])
 lawful-push g h e lawful allowed = lawful_from-push g (opening_of g) h e lawful allowed
 
-pub replay-push : (g : Outline) (h : List Entry) (e : Entry) → replay g (h ++ e ∷ []) ≡ effect (replay g h) e
+pub replay-push : (g : GraphView) (h : List Entry) (e : Entry) → replay g (h ++ e ∷ []) ≡ effect (replay g h) e
 replay-push g h e = replay_from-push (opening_of g) h e
 
 pub closings-push : (h : List Entry) (e : Entry) (u : ℕ) → closings (h ++ e ∷ []) u ≡ closings h u ++ where_finished e.changes (closing_of u e.kind)

@@ -8,9 +8,9 @@ use Rattle.resource_lock.specs.declared.marks.Mark.{Mark}
 use Rattle.resource_lock.specs.declared.marks.Mark.TheVariants.{Waiting, Queued, Running, Passed, Failed, Skipped}
 use Rattle.resource_lock.specs.declared.marks.MarkId.{MarkId}
 use Rattle.resource_lock.specs.declared.marks.MarkId.TheVariants.{Task as TaskOf, Unit as UnitOf}
-use Rattle.resource_lock.specs.Outline.{Outline, action_of}
+use Rattle.resource_lock.specs.GraphView.{GraphView, action_of}
 use Rattle.resource_lock.specs.Ranges.{IsItemOf, IsFetchOf, IsItem, first_item}
-use Rattle.resource_lock.specs.Standing.{Standing, mark_of}
+use Rattle.resource_lock.specs.StateView.{StateView, mark_of}
 use Rattle.item_actions.specs.declared.outcomes.Outcome.{Outcome}
 use Rattle.item_actions.specs.declared.outcomes.Outcome.TheVariants.{Number, Digest, NotThere, TooLong, Fault, NoMemory, Skipped as NotRun}
 use Rattle.item_actions.specs.Value.{passes}
@@ -44,7 +44,7 @@ ClosedAs os Passed = (o : Outcome) × (os ≡ o ∷ []) × (passes o ≡ true)
 ClosedAs os Failed = (o : Outcome) × (os ≡ o ∷ []) × (passes o ≡ false)
 ClosedAs os _ = os ≡ []
 
-pub record IsRecorded (g : Outline) (h : List Entry) (s : Standing) : Type 0 where
+pub record IsRecorded (g : GraphView) (h : List Entry) (s : StateView) : Type 0 where
   pub started : (t : ℕ) → times (starts t) h ≡ times_begun (mark_of s (TaskOf t))
   pub skipped : (t : ℕ) → times (skips t) h ≡ times_skipped (mark_of s (TaskOf t))
   pub claimed : (u : ℕ) → IsItem g u → times (claims u) h ≡ times_begun (mark_of s (UnitOf u))
@@ -57,14 +57,14 @@ one b = cond b 1 0
 same_count : (f : Mark → ℕ) (old new : Mark) → new ≡ old → f new ≡ f old + 0
 same_count f old new e = let a = ap f e in omega arith
 
-end_begun : (g : Outline) (s : Standing) (t : ℕ) → times_begun (end_mark g s t) ≡ 1
+end_begun : (g : GraphView) (s : StateView) (t : ℕ) → times_begun (end_mark g s t) ≡ 1
 end_begun g s t = at (all_passed g s t)
   where
     at : (b : Bool) → times_begun (cond b Passed Failed) ≡ 1
     at true = refl
     at false = refl
 
-end_dropped : (g : Outline) (s : Standing) (t : ℕ) → times_skipped (end_mark g s t) ≡ 0
+end_dropped : (g : GraphView) (s : StateView) (t : ℕ) → times_skipped (end_mark g s t) ≡ 0
 end_dropped g s t = at (all_passed g s t)
   where
     at : (b : Bool) → times_skipped (cond b Passed Failed) ≡ 0
@@ -89,7 +89,7 @@ moved_count f P m old new from to (inr moved) as' e =
     let b = as' moved.last_from new moved.last in
     counts f old new from to 0 a.0 b.1 (omega arith)
 
-begun_step : (g : Outline) (s : Standing) (w : WorkerId) (k : Kind) (s' : Standing) → IsStep g s w k s' → (t : ℕ) → times_begun (mark_of s' (TaskOf t)) ≡ times_begun (mark_of s (TaskOf t)) + one (starts t k)
+begun_step : (g : GraphView) (s : StateView) (w : WorkerId) (k : Kind) (s' : StateView) → IsStep g s w k s' → (t : ℕ) → times_begun (mark_of s' (TaskOf t)) ≡ times_begun (mark_of s (TaskOf t)) + one (starts t k)
 begun_step g s w (Start n) s' h t = at (cases_eq n t) (h.stays_or_moves (TaskOf t))
   where
     at : (n ≡ t) ⊎ (n ≡ t → ⊥) → StaysOrMoves (MayMove g s w (Start n)) (TaskOf t) (mark_of s (TaskOf t)) (mark_of s' (TaskOf t)) → times_begun (mark_of s' (TaskOf t)) ≡ times_begun (mark_of s (TaskOf t)) + one (n == t)
@@ -104,7 +104,7 @@ begun_step g s w (Block None) s' h t = same_count times_begun _ _ (stays_if (May
 begun_step g s w (Unblock None) s' h t = same_count times_begun _ _ (stays_if (MayMove g s w (Unblock None)) (TaskOf t) _ _ (h.stays_or_moves (TaskOf t)) (λ x y p. p))
 begun_step g s w k s' h t = same_count times_begun _ _ (stays_if (MayMove g s w k) (TaskOf t) _ _ (h.stays_or_moves (TaskOf t)) (λ x y p. p))
 
-dropped_step : (g : Outline) (s : Standing) (w : WorkerId) (k : Kind) (s' : Standing) → IsStep g s w k s' → (t : ℕ) → times_skipped (mark_of s' (TaskOf t)) ≡ times_skipped (mark_of s (TaskOf t)) + one (skips t k)
+dropped_step : (g : GraphView) (s : StateView) (w : WorkerId) (k : Kind) (s' : StateView) → IsStep g s w k s' → (t : ℕ) → times_skipped (mark_of s' (TaskOf t)) ≡ times_skipped (mark_of s (TaskOf t)) + one (skips t k)
 dropped_step g s w (Skip n) s' h t = at (cases_eq n t) (h.stays_or_moves (TaskOf t))
   where
     at : (n ≡ t) ⊎ (n ≡ t → ⊥) → StaysOrMoves (MayMove g s w (Skip n)) (TaskOf t) (mark_of s (TaskOf t)) (mark_of s' (TaskOf t)) → times_skipped (mark_of s' (TaskOf t)) ≡ times_skipped (mark_of s (TaskOf t)) + one (n == t)
@@ -129,7 +129,7 @@ mark_from_begun NoMemory = refl
 mark_from_begun NotRun = refl
 
 -- a fetch is no item
-no_item : (g : Outline) (a b u : ℕ) → RangesApart g → IsFetchOf g a u → IsItemOf g b u → ⊥
+no_item : (g : GraphView) (a b u : ℕ) → RangesApart g → IsFetchOf g a u → IsItemOf g b u → ⊥
 no_item g a b u apart f i =
     let same : a ≡ b = apart.one_action a b u (inl f) (inr i) in
     let here : IsItemOf g a u = subst (λ z. IsItemOf g z u) (sym same) i in
@@ -138,7 +138,7 @@ no_item g a b u apart f i =
     let is = f.1 in
     omega arith
 
-claimed_step : (g : Outline) (s : Standing) (w : WorkerId) (k : Kind) (s' : Standing) → IsStep g s w k s' → (u : ℕ) → IsItem g u → times_begun (mark_of s' (UnitOf u)) ≡ times_begun (mark_of s (UnitOf u)) + one (claims u k)
+claimed_step : (g : GraphView) (s : StateView) (w : WorkerId) (k : Kind) (s' : StateView) → IsStep g s w k s' → (u : ℕ) → IsItem g u → times_begun (mark_of s' (UnitOf u)) ≡ times_begun (mark_of s (UnitOf u)) + one (claims u k)
 claimed_step g s w (Claim n) s' h u i = at (cases_eq n u) (h.stays_or_moves (UnitOf u))
   where
     at : (n ≡ u) ⊎ (n ≡ u → ⊥) → StaysOrMoves (MayMove g s w (Claim n)) (UnitOf u) (mark_of s (UnitOf u)) (mark_of s' (UnitOf u)) → times_begun (mark_of s' (UnitOf u)) ≡ times_begun (mark_of s (UnitOf u)) + one (n == u)
@@ -184,7 +184,7 @@ closes os o old new w p q h =
     let none : os ≡ [] = subst (ClosedAs os) p h in
     subst (λ z. ClosedAs (z ++ o ∷ []) new) (sym none) (subst (ClosedAs (o ∷ [])) (sym q) (mark_from_closed o))
 
-closed_step : (g : Outline) (s : Standing) (w : WorkerId) (k : Kind) (s' : Standing) → IsStep g s w k s' → (u : ℕ) (os : List Outcome) → ClosedAs os (mark_of s (UnitOf u)) → ClosedAs (os ++ closing_of u k) (mark_of s' (UnitOf u))
+closed_step : (g : GraphView) (s : StateView) (w : WorkerId) (k : Kind) (s' : StateView) → IsStep g s w k s' → (u : ℕ) (os : List Outcome) → ClosedAs os (mark_of s (UnitOf u)) → ClosedAs (os ++ closing_of u k) (mark_of s' (UnitOf u))
 closed_step g s w (Close d) s' h u os c = at (cases_eq d.unit u) (h.stays_or_moves (UnitOf u))
   where
     at : (d.unit ≡ u) ⊎ (d.unit ≡ u → ⊥) → StaysOrMoves (MayMove g s w (Close d)) (UnitOf u) (mark_of s (UnitOf u)) (mark_of s' (UnitOf u)) → ClosedAs (os ++ cond (d.unit == u) (d.outcome ∷ []) []) (mark_of s' (UnitOf u))
@@ -216,7 +216,7 @@ finished w k cs = record { worker = w; kind = k; changes = Some cs }
 abbrev pub failed : WorkerId → Kind → Entry
 failed w k = record { worker = w; kind = k; changes = None }
 
-pub recorded_finished : (g : Outline) (s : Standing) (w : WorkerId) (k : Kind) (cs : List Change) (s' : Standing) (h : List Entry) → IsStep g s w k s' → IsRecorded g h s → IsRecorded g (h ++ finished w k cs ∷ []) s'
+pub recorded_finished : (g : GraphView) (s : StateView) (w : WorkerId) (k : Kind) (cs : List Change) (s' : StateView) (h : List Entry) → IsStep g s w k s' → IsRecorded g h s → IsRecorded g (h ++ finished w k cs ∷ []) s'
 recorded_finished g s w k cs s' h step recorded = record {
   started = λ t. times-push (starts t) h (finished w k cs) ∙ (ap (λ n. n + one (starts t k)) (recorded.started t) ∙ sym (begun_step g s w k s' step t));
   skipped = λ t. times-push (skips t) h (finished w k cs) ∙ (ap (λ n. n + one (skips t k)) (recorded.skipped t) ∙ sym (dropped_step g s w k s' step t));
@@ -224,7 +224,7 @@ recorded_finished g s w k cs s' h step recorded = record {
   closed = λ u. subst (λ os. ClosedAs os (mark_of s' (UnitOf u))) (sym (closings-push h (finished w k cs) u)) (closed_step g s w k s' step u (closings h u) (recorded.closed u));
 }
 
-pub recorded_failed : (g : Outline) (s : Standing) (w : WorkerId) (k : Kind) (h : List Entry) → IsRecorded g h s → IsRecorded g (h ++ failed w k ∷ []) s
+pub recorded_failed : (g : GraphView) (s : StateView) (w : WorkerId) (k : Kind) (h : List Entry) → IsRecorded g h s → IsRecorded g (h ++ failed w k ∷ []) s
 recorded_failed g s w k h recorded = record {
   started = λ t. let a = times-push (starts t) h (failed w k) in let b = recorded.started t in omega arith;
   skipped = λ t. let a = times-push (skips t) h (failed w k) in let b = recorded.skipped t in omega arith;

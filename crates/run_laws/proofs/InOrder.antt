@@ -2,7 +2,7 @@
 use Rattle.std.proofs.Common.{◌≡◌, ℕ, zero, suc, ◌+◌, ◌-◌, Bool, true, false, not, cond, ◌&&◌, List, [], ◌∷◌, ◌++◌, map, refl, sym, ap, ap₂, ◌∙◌, subst, arith}
 use Rattle.std.specs.List.{list_all, range_with_len, AllByRecursion}
 use Rattle.std.proofs.lemmas.List.Folds.{list_all-append}
-use Rattle.resource_lock.specs.Outline.{Outline, task_of}
+use Rattle.resource_lock.specs.GraphView.{GraphView, task_of}
 use Rattle.resource_lock.specs.Ranges.{IsIn, actions_of, units_of, IsActionOf, IsUnitOf}
 use Rattle.item_actions.specs.declared.outcomes.Outcome.{Outcome}
 use Rattle.item_actions.specs.declared.outcomes.Outcome.TheVariants.{Skipped as NotRun}
@@ -17,7 +17,7 @@ range_more first (suc n) =
     ap (λ z. first ∷ z) (range_more (first + 1) n ∙ ap (λ k. range_with_len (first + 1) n ++ k ∷ []) e)
 
 -- the test of an action's units, one action more
-before_more : (g : Outline) (v : ℕ → Outcome) (t n : ℕ) → earlier_pass g v t ((task_of g t).first_action + suc n) ≡ (earlier_pass g v t ((task_of g t).first_action + n) && action_passes g v ((task_of g t).first_action + n))
+before_more : (g : GraphView) (v : ℕ → Outcome) (t n : ℕ) → earlier_pass g v t ((task_of g t).first_action + suc n) ≡ (earlier_pass g v t ((task_of g t).first_action + n) && action_passes g v ((task_of g t).first_action + n))
 before_more g v t n =
     let first : ℕ = (task_of g t).first_action in
     let test : ℕ → Bool = action_passes g v in
@@ -56,7 +56,7 @@ unit_is true before o = refl
 unit_is false true o = refl
 unit_is false false o = refl
 
-from_here : (g : Outline) (f : ℕ → Outcome) (v : ℕ → Outcome) (n t k count : ℕ) → ((a u : ℕ) → IsIn ((task_of g t).first_action + k) count a → IsUnitOf g a u → f u ≡ unit_outcome g v n t a u) → map f (units_of_actions g (range_with_len ((task_of g t).first_action + k) count)) ≡ outcomes_of_actions g v (not (is_skipped (task_outcome g v n t)) && earlier_pass g v t ((task_of g t).first_action + k)) (range_with_len ((task_of g t).first_action + k) count)
+from_here : (g : GraphView) (f : ℕ → Outcome) (v : ℕ → Outcome) (n t k count : ℕ) → ((a u : ℕ) → IsIn ((task_of g t).first_action + k) count a → IsUnitOf g a u → f u ≡ unit_outcome g v n t a u) → map f (units_of_actions g (range_with_len ((task_of g t).first_action + k) count)) ≡ outcomes_of_actions g v (not (is_skipped (task_outcome g v n t)) && earlier_pass g v t ((task_of g t).first_action + k)) (range_with_len ((task_of g t).first_action + k) count)
 from_here g f v n t k zero h = refl
 from_here g f v n t k (suc count) h =
     let a : ℕ = (task_of g t).first_action + k in
@@ -71,7 +71,7 @@ from_here g f v n t k (suc count) h =
     map-append f (units_of g a) (units_of_actions g (range_with_len ((task_of g t).first_action + k + 1) count)) ∙ ap₂ ◌++◌ here tail
 
 -- A task's outcomes, read unit by unit, are those that its actions give in order.
-pub outcomes_in_order : (g : Outline) (f : ℕ → Outcome) (v : ℕ → Outcome) (n t : ℕ) → ((a u : ℕ) → IsActionOf g t a → IsUnitOf g a u → f u ≡ unit_outcome g v n t a u) → map f (units_of_actions g (actions_of g t)) ≡ outcomes_of_task g v n t
+pub outcomes_in_order : (g : GraphView) (f : ℕ → Outcome) (v : ℕ → Outcome) (n t : ℕ) → ((a u : ℕ) → IsActionOf g t a → IsUnitOf g a u → f u ≡ unit_outcome g v n t a u) → map f (units_of_actions g (actions_of g t)) ≡ outcomes_of_task g v n t
 outcomes_in_order g f v n t h =
     let e : (task_of g t).first_action + 0 ≡ (task_of g t).first_action = omega arith in
     let z : (task_of g t).first_action - (task_of g t).first_action ≡ 0 = omega arith in

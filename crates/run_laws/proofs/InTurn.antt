@@ -7,8 +7,8 @@ use Rattle.resource_lock.specs.declared.marks.Mark.TheVariants.{Waiting}
 use Rattle.resource_lock.specs.declared.marks.MarkId.{MarkId}
 use Rattle.resource_lock.specs.declared.marks.MarkId.TheVariants.{Action as ActionOf}
 use Rattle.resource_lock.specs.Change.{make_all, can_all}
-use Rattle.resource_lock.specs.Outline.{Outline}
-use Rattle.resource_lock.specs.Standing.{Standing, mark_of}
+use Rattle.resource_lock.specs.GraphView.{GraphView}
+use Rattle.resource_lock.specs.StateView.{StateView, mark_of}
 use Rattle.lock_journal.specs.Table.{skipped_waiting}
 use Rattle.run_laws.proofs.Marks.{AllMoves, StaysOrMoves, stays_or_moves}
 use Rattle.run_laws.proofs.Moves.{waiting_move, SkipsAction}
@@ -19,7 +19,7 @@ abbrev OfOthers : ℕ → MarkId → Mark → Mark → Type 0
 OfOthers b (ActionOf a) from to = a < b
 OfOthers b _ from to = Unit {0}
 
-pub not_reached : (g : Outline) (s : Standing) (w : WorkerId) (first n : ℕ) → can_all s w (skipped_waiting g s (range_with_len first n)) ≡ true → mark_of (make_all s w (skipped_waiting g s (range_with_len first n))) (ActionOf (first + n)) ≡ mark_of s (ActionOf (first + n))
+pub not_reached : (g : GraphView) (s : StateView) (w : WorkerId) (first n : ℕ) → can_all s w (skipped_waiting g s (range_with_len first n)) ≡ true → mark_of (make_all s w (skipped_waiting g s (range_with_len first n))) (ActionOf (first + n)) ≡ mark_of s (ActionOf (first + n))
 not_reached g s w first n h = at (stays_or_moves (OfOthers (first + n)) (skipped_waiting g s (range_with_len first n)) s w moves h (ActionOf (first + n)))
   where
     moves : AllMoves (OfOthers (first + n)) (skipped_waiting g s (range_with_len first n))

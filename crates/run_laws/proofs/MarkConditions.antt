@@ -8,9 +8,9 @@ use Rattle.resource_lock.specs.declared.marks.Mark.{Mark}
 use Rattle.resource_lock.specs.declared.marks.Mark.TheVariants.{Waiting, Queued, Running, Passed, Failed, Skipped}
 use Rattle.resource_lock.specs.declared.marks.MarkId.TheVariants.{Task as TaskOf, Action as ActionOf, Unit as UnitOf}
 use Rattle.resource_lock.specs.Change.{same_mark}
-use Rattle.resource_lock.specs.Outline.{Outline, task_of, action_of}
+use Rattle.resource_lock.specs.GraphView.{GraphView, task_of, action_of}
 use Rattle.resource_lock.specs.Ranges.{earlier_actions, task_with, actions_of, items_of, units_of, IsIn, IsActionOf, IsUnitOf}
-use Rattle.resource_lock.specs.Standing.{Standing, mark_of}
+use Rattle.resource_lock.specs.StateView.{StateView, mark_of}
 use Rattle.resource_lock.proofs.Undo.{same_mark_is}
 use Rattle.lock_journal.specs.declared.entries.Kind.{Kind}
 use Rattle.lock_journal.specs.declared.entries.Kind.TheVariants.{Start, Skip, Submit, Park, Resume, Claim, Close, Block, Unblock, End, Acquire, HandBack}
@@ -68,7 +68,7 @@ ended_of Failed h = tt
 ended_of Skipped h = tt
 ended_of _ h = absurd (cc)
 
-earlier_of : (g : Outline) (s : Standing) (a : ℕ) → earlier_passed g s a ≡ true → EarlierPassed g s (action_of g a).task a
+earlier_of : (g : GraphView) (s : StateView) (a : ℕ) → earlier_passed g s a ≡ true → EarlierPassed g s (action_of g a).task a
 earlier_of g s a h = λ b ib lt.
     let low = ib.0 in
     let has : Has b (earlier_actions g a) = has_in_range (task_of g (action_of g a).task).first_action (a - (task_of g (action_of g a).task).first_action) b (omega arith, omega arith) in
@@ -77,7 +77,7 @@ earlier_of g s a h = λ b ib lt.
       λ u iu. same_mark_is (mark_of s (UnitOf u)) Passed (of_all (λ u. has_passed (mark_of s (UnitOf u))) (units_of g b) u one.1 (has_unit g b u iu)),
     )
 
-fetch_of : (g : Outline) (s : Standing) (a : ℕ) → fetch_closed g s a ≡ true → FetchDone g s a
+fetch_of : (g : GraphView) (s : StateView) (a : ℕ) → fetch_closed g s a ≡ true → FetchDone g s a
 fetch_of g s a h = λ u i. subst (λ n. IsDone (mark_of s (UnitOf n))) (sym i.1) (at i.0 (or_cases _ _ h))
   where
     done : (m : Mark) → (same_mark m Passed ≡ true) ⊎ (same_mark m Failed ≡ true) → IsDone m
@@ -98,7 +98,7 @@ fetch_of g s a h = λ u i. subst (λ n. IsDone (mark_of s (UnitOf n))) (sym i.1)
     at e (inl k) = passed e (or_cases (not (action_of g a).fetch) (has_passed first) k)
     at e (inr k) = done first (inr k)
 
-failed_of : (g : Outline) (s : Standing) (a : ℕ) → IsActionOf g (action_of g a).task a → list_any (λ b. list_any (λ u. same_mark (mark_of s (UnitOf u)) Failed) (units_of g b)) (earlier_actions g a) ≡ true → EarlierFailed g s (action_of g a).task a
+failed_of : (g : GraphView) (s : StateView) (a : ℕ) → IsActionOf g (action_of g a).task a → list_any (λ b. list_any (λ u. same_mark (mark_of s (UnitOf u)) Failed) (units_of g b)) (earlier_actions g a) ≡ true → EarlierFailed g s (action_of g a).task a
 failed_of g s a ia h =
     let first : ℕ = (task_of g (action_of g a).task).first_action in
     let o = list_any-true (λ b. list_any (λ u. same_mark (mark_of s (UnitOf u)) Failed) (units_of g b)) (earlier_actions g a) h in
@@ -110,7 +110,7 @@ failed_of g s a ia h =
     let top = ia.1 in
     (o.it, i.it, (omega arith, omega arith), omega arith, each_has (IsUnitOf g o.it) i.it (units_of g o.it) (each_unit (IsUnitOf g o.it) g o.it (λ u iu. iu)) i.has, same_mark_is (mark_of s (UnitOf i.it)) Failed i.passes)
 
-through_of : (g : Outline) (s : Standing) (t a : ℕ) → RangesApart g → IsActionOf g t a → (has_passed (mark_of s (ActionOf a)) || never_ran g s a) ≡ true → IsThrough g s t a
+through_of : (g : GraphView) (s : StateView) (t a : ℕ) → RangesApart g → IsActionOf g t a → (has_passed (mark_of s (ActionOf a)) || never_ran g s a) ≡ true → IsThrough g s t a
 through_of g s t a apart ia h = at (or_cases (has_passed (mark_of s (ActionOf a))) (never_ran g s a) h)
   where
     task : (action_of g a).task ≡ t
@@ -123,7 +123,7 @@ through_of g s t a apart ia h = at (or_cases (has_passed (mark_of s (ActionOf a)
         let q = and_parts _ _ p.0 in
         inr (same_mark_is (mark_of s (ActionOf a)) Waiting q.0, subst (λ z. EarlierFailed g s z a) task (failed_of g s a (apart.own_task a (apart.action_within t a ia)) p.1))
 
-pub mark_condition : (g : Outline) (s : Standing) (w : WorkerId) (k : Kind) → RangesApart g → condition g s w k ≡ true → MarkCondition g s w k
+pub mark_condition : (g : GraphView) (s : StateView) (w : WorkerId) (k : Kind) → RangesApart g → condition g s w k ≡ true → MarkCondition g s w k
 mark_condition g s w (Start t) apart h =
     let p = and_parts _ _ (and_parts _ _ h).0 in
     (same_mark_is (mark_of s (TaskOf t)) Waiting p.0, all_by (λ p. mark_of s (TaskOf p) ≡ Passed) (λ p. has_passed (mark_of s (TaskOf p))) (λ x e. same_mark_is (mark_of s (TaskOf x)) Passed e) (task_of g t).after p.1)

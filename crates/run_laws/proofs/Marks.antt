@@ -11,7 +11,7 @@ use Rattle.resource_lock.specs.declared.marks.MarkId.{MarkId}
 use Rattle.resource_lock.specs.declared.marks.MarkId.TheVariants.{Task as TaskOf, Action as ActionOf, Unit as UnitOf}
 use Rattle.resource_lock.specs.Change.{with_mark, can, make, make_all, can_all}
 use Rattle.resource_lock.specs.Shape.{SameShape}
-use Rattle.resource_lock.specs.Standing.{Standing, Holding, mark_of, IsMarkOf}
+use Rattle.resource_lock.specs.StateView.{StateView, Holding, mark_of, IsMarkOf}
 use Rattle.resource_lock.proofs.Lists.{get_or-set_cases}
 use Rattle.resource_lock.proofs.Runs.{same_shape-make}
 use Rattle.resource_lock.proofs.Undo.{same_mark_is}
@@ -46,12 +46,12 @@ moved_here P k m from to old new p e o n =
     let q : P m from to = subst (λ z. P z from to) e p in
     record { first_to = to; first = subst (λ z. P m z to) (sym o) q; last_from = from; last = subst (λ z. P m from z) (sym n) q }
 
-owners_stay : (s : Standing) (os : List (Option WorkerId)) (m : MarkId) → mark_of (record s { owners = os }) m ≡ mark_of s m
+owners_stay : (s : StateView) (os : List (Option WorkerId)) (m : MarkId) → mark_of (record s { owners = os }) m ≡ mark_of s m
 owners_stay s os (TaskOf t) = refl
 owners_stay s os (ActionOf a) = refl
 owners_stay s os (UnitOf u) = refl
 
-holdings_stay : (s : Standing) (hs : List Holding) (m : MarkId) → mark_of (record s { holdings = hs }) m ≡ mark_of s m
+holdings_stay : (s : StateView) (hs : List Holding) (m : MarkId) → mark_of (record s { holdings = hs }) m ≡ mark_of s m
 holdings_stay s hs (TaskOf t) = refl
 holdings_stay s hs (ActionOf a) = refl
 holdings_stay s hs (UnitOf u) = refl
@@ -63,7 +63,7 @@ list_stays_or_moves P name xs k m from to p e = elim (get_or-set_cases xs k m to
   | inr same ↦ inl same
 ]
 
-move_stays_or_moves : (P : MarkId → Mark → Mark → Type 0) (s : Standing) (k m : MarkId) (from to : Mark) → P k from to → mark_of s k ≡ from → StaysOrMoves P m (mark_of s m) (mark_of (with_mark s k to) m)
+move_stays_or_moves : (P : MarkId → Mark → Mark → Type 0) (s : StateView) (k m : MarkId) (from to : Mark) → P k from to → mark_of s k ≡ from → StaysOrMoves P m (mark_of s m) (mark_of (with_mark s k to) m)
 move_stays_or_moves P s (TaskOf k) (TaskOf m) from to p e = list_stays_or_moves P TaskOf s.tasks k m from to p e
 move_stays_or_moves P s (ActionOf k) (ActionOf m) from to p e = list_stays_or_moves P ActionOf s.actions k m from to p e
 move_stays_or_moves P s (UnitOf k) (UnitOf m) from to p e = list_stays_or_moves P UnitOf s.units k m from to p e
@@ -75,10 +75,10 @@ move_stays_or_moves P s (UnitOf k) (TaskOf m) from to p e = inl refl
 move_stays_or_moves P s (UnitOf k) (ActionOf m) from to p e = inl refl
 
 -- what a move that can be made goes from
-moves_from : (s : Standing) (w : WorkerId) (m : MarkId) (from to : Mark) → can s w (Move m from to) ≡ true → mark_of s m ≡ from
+moves_from : (s : StateView) (w : WorkerId) (m : MarkId) (from to : Mark) → can s w (Move m from to) ≡ true → mark_of s m ≡ from
 moves_from s w m from to h = same_mark_is (mark_of s m) from (and_parts _ _ (and_parts _ _ (and_parts _ _ h).0).0).0
 
-step_stays_or_moves : (P : MarkId → Mark → Mark → Type 0) (s : Standing) (w : WorkerId) (c : Change) → MoveIs P c → can s w c ≡ true → (m : MarkId) → StaysOrMoves P m (mark_of s m) (mark_of (make s w c) m)
+step_stays_or_moves : (P : MarkId → Mark → Mark → Type 0) (s : StateView) (w : WorkerId) (c : Change) → MoveIs P c → can s w c ≡ true → (m : MarkId) → StaysOrMoves P m (mark_of s m) (mark_of (make s w c) m)
 step_stays_or_moves P s w (Lock l) p h m = inl (owners_stay s (make s w (Lock l)).owners m)
 step_stays_or_moves P s w (Unlock l) p h m = inl (owners_stay s (make s w (Unlock l)).owners m)
 step_stays_or_moves P s w Take p h m = inl (holdings_stay s (make s w Take).holdings m)
@@ -89,7 +89,7 @@ step_stays_or_moves P s w (Unpark l) p h m = inl (holdings_stay s (make s w (Unp
 step_stays_or_moves P s w Enter p h m = inl (holdings_stay s (make s w Enter).holdings m)
 step_stays_or_moves P s w Leave p h m = inl (holdings_stay s (make s w Leave).holdings m)
 
-pub stays_or_moves : (P : MarkId → Mark → Mark → Type 0) (cs : List Change) (s : Standing) (w : WorkerId) → AllMoves P cs → can_all s w cs ≡ true → (m : MarkId) → StaysOrMoves P m (mark_of s m) (mark_of (make_all s w cs) m)
+pub stays_or_moves : (P : MarkId → Mark → Mark → Type 0) (cs : List Change) (s : StateView) (w : WorkerId) → AllMoves P cs → can_all s w cs ≡ true → (m : MarkId) → StaysOrMoves P m (mark_of s m) (mark_of (make_all s w cs) m)
 stays_or_moves P [] s w p h m = inl refl
 stays_or_moves P (c ∷ cs) s w p h m =
     let hs = and_parts (can s w c) (can_all (make s w c) w cs) h in
@@ -104,12 +104,12 @@ abbrev pub Names : MarkId → List Change → Type 0
 Names m [] = ⊥
 Names m (c ∷ cs) = IsMoveOf m c ⊎ Names m cs
 
-within_shape : (s s' : Standing) → SameShape s s' → (m : MarkId) → IsMarkOf s m → IsMarkOf s' m
+within_shape : (s s' : StateView) → SameShape s s' → (m : MarkId) → IsMarkOf s m → IsMarkOf s' m
 within_shape s s' e (TaskOf t) h = let a = e.tasks in omega arith
 within_shape s s' e (ActionOf t) h = let a = e.actions in omega arith
 within_shape s s' e (UnitOf t) h = let a = e.units in omega arith
 
-move_moves_to : (s : Standing) (m : MarkId) (to : Mark) → IsMarkOf s m → mark_of (with_mark s m to) m ≡ to
+move_moves_to : (s : StateView) (m : MarkId) (to : Mark) → IsMarkOf s m → mark_of (with_mark s m to) m ≡ to
 move_moves_to s (TaskOf t) to h = get_or-set_same s.tasks t to Waiting h
 move_moves_to s (ActionOf t) to h = get_or-set_same s.actions t to Waiting h
 move_moves_to s (UnitOf t) to h = get_or-set_same s.units t to Waiting h
@@ -118,13 +118,13 @@ move_moves_to s (UnitOf t) to h = get_or-set_same s.units t to Waiting h
 abbrev pub GoesTo : MarkId → Mark → MarkId → Mark → Mark → Type 0
 GoesTo m r k from to = k ≡ m → to ≡ r
 
-step_moves_to : (m : MarkId) (r : Mark) (s : Standing) (w : WorkerId) (c : Change) → MoveIs (GoesTo m r) c → IsMarkOf s m → IsMoveOf m c → mark_of (make s w c) m ≡ r
+step_moves_to : (m : MarkId) (r : Mark) (s : StateView) (w : WorkerId) (c : Change) → MoveIs (GoesTo m r) c → IsMarkOf s m → IsMoveOf m c → mark_of (make s w c) m ≡ r
 step_moves_to m r s w (Move k from to) p within e = subst (λ z. mark_of (with_mark s z to) m ≡ r) e (move_moves_to s m to within ∙ p (sym e))
 step_moves_to m r s w (Lock l) p within e = absurd e
 step_moves_to m r s w _ p within e = absurd e
 
 -- a mark that is moved, each time to the same, is that afterwards
-pub moves_to : (m : MarkId) (r : Mark) (cs : List Change) (s : Standing) (w : WorkerId) → AllMoves (GoesTo m r) cs → can_all s w cs ≡ true → IsMarkOf s m → (mark_of s m ≡ r) ⊎ Names m cs → mark_of (make_all s w cs) m ≡ r
+pub moves_to : (m : MarkId) (r : Mark) (cs : List Change) (s : StateView) (w : WorkerId) → AllMoves (GoesTo m r) cs → can_all s w cs ≡ true → IsMarkOf s m → (mark_of s m ≡ r) ⊎ Names m cs → mark_of (make_all s w cs) m ≡ r
 moves_to m r [] s w p h within (inl e) = e
 moves_to m r [] s w p h within (inr n) = absurd n
 moves_to m r (c ∷ cs) s w p h within d =

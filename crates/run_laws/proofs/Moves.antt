@@ -14,9 +14,9 @@ use Rattle.resource_lock.specs.declared.marks.Mark.TheVariants.{Waiting, Queued,
 use Rattle.resource_lock.specs.declared.marks.MarkId.{MarkId}
 use Rattle.resource_lock.specs.declared.marks.MarkId.TheVariants.{Task as TaskOf, Action as ActionOf, Unit as UnitOf}
 use Rattle.resource_lock.specs.Change.{same_mark}
-use Rattle.resource_lock.specs.Outline.{Outline, task_of, action_of}
+use Rattle.resource_lock.specs.GraphView.{GraphView, task_of, action_of}
 use Rattle.resource_lock.specs.Ranges.{actions_of, items_of, units_of, IsActionOf, IsItemOf, IsUnitOf, lock_with}
-use Rattle.resource_lock.specs.Standing.{Standing, holding_of, mark_of}
+use Rattle.resource_lock.specs.StateView.{StateView, holding_of, mark_of}
 use Rattle.resource_lock.proofs.Undo.{same_mark_is}
 use Rattle.lock_journal.specs.declared.entries.Kind.{Kind}
 use Rattle.lock_journal.specs.declared.entries.Kind.TheVariants.{Start, Skip, Submit, Park, Resume, Claim, Close, Block, Unblock, End, Acquire, HandBack}
@@ -26,7 +26,7 @@ use Rattle.run_laws.specs.Marks.{IsEnded}
 use Rattle.run_laws.proofs.Marks.{AllMoves, AllMoves-append}
 use Rattle.run_laws.proofs.Ranges.{each_unit, each_item, each_action}
 
-abbrev pub MayMove : Outline → Standing → WorkerId → Kind → MarkId → Mark → Mark → Type 0
+abbrev pub MayMove : GraphView → StateView → WorkerId → Kind → MarkId → Mark → Mark → Type 0
 MayMove g s w (Start t) (TaskOf n) from to = (n ≡ t) × (from ≡ Waiting) × (to ≡ Running w)
 MayMove g s w (Skip t) (TaskOf n) from to = (n ≡ t) × (from ≡ Waiting) × (to ≡ Skipped)
 MayMove g s w (Skip t) (ActionOf a) from to = IsActionOf g t a × (from ≡ Waiting) × (to ≡ Skipped)
@@ -45,7 +45,7 @@ MayMove g s w (End t) (UnitOf u) from to = ((a : ℕ) × IsActionOf g t a × (ma
 MayMove _ _ _ _ _ _ _ = ⊥
 
 -- no move goes from a mark that has ended
-pub moves_not_ended : (g : Outline) (s : Standing) (w : WorkerId) (k : Kind) (m : MarkId) (from to : Mark) → MayMove g s w k m from to → IsEnded from → ⊥
+pub moves_not_ended : (g : GraphView) (s : StateView) (w : WorkerId) (k : Kind) (m : MarkId) (from to : Mark) → MayMove g s w k m from to → IsEnded from → ⊥
 moves_not_ended g s w (Start t) (TaskOf n) from to p e = subst IsEnded p.1 e
 moves_not_ended g s w (Skip t) (TaskOf n) from to p e = subst IsEnded p.1 e
 moves_not_ended g s w (Skip t) (ActionOf n) from to p e = subst IsEnded p.1 e
@@ -68,13 +68,13 @@ units_move P from to [] p = tt
 units_move P from to (u ∷ us) p = (p.0, units_move P from to us p.1)
 
 -- a whole action is skipped
-abbrev pub SkipsAction : (MarkId → Mark → Mark → Type 0) → Outline → ℕ → Type 0
+abbrev pub SkipsAction : (MarkId → Mark → Mark → Type 0) → GraphView → ℕ → Type 0
 SkipsAction P g a = P (ActionOf a) Waiting Skipped × ((u : ℕ) → IsUnitOf g a u → P (UnitOf u) Waiting Skipped)
 
-action_moves : (P : MarkId → Mark → Mark → Type 0) (g : Outline) (a : ℕ) → SkipsAction P g a → AllMoves P (skipped_action g a)
+action_moves : (P : MarkId → Mark → Mark → Type 0) (g : GraphView) (a : ℕ) → SkipsAction P g a → AllMoves P (skipped_action g a)
 action_moves P g a p = (p.0, units_move P Waiting Skipped (units_of g a) (each_unit (λ u. P (UnitOf u) Waiting Skipped) g a p.1))
 
-actions_move : (P : MarkId → Mark → Mark → Type 0) (g : Outline) (acts : List ℕ) → AllByRecursion (SkipsAction P g) acts → AllMoves P (skipped_actions g acts)
+actions_move : (P : MarkId → Mark → Mark → Type 0) (g : GraphView) (acts : List ℕ) → AllByRecursion (SkipsAction P g) acts → AllMoves P (skipped_actions g acts)
 actions_move P g [] p = tt
 actions_move P g (a ∷ acts) p = AllMoves-append P (skipped_action g a) (skipped_actions g acts) (action_moves P g a p.0) (actions_move P g acts p.1)
 
@@ -82,7 +82,7 @@ where_moves : (P : MarkId → Mark → Mark → Type 0) (b : Bool) (cs : List Ch
 where_moves P true cs f = f refl
 where_moves P false cs f = tt
 
-pub waiting_move : (P : MarkId → Mark → Mark → Type 0) (g : Outline) (s : Standing) (acts : List ℕ) → AllByRecursion (λ a. mark_of s (ActionOf a) ≡ Waiting → SkipsAction P g a) acts → AllMoves P (skipped_waiting g s acts)
+pub waiting_move : (P : MarkId → Mark → Mark → Type 0) (g : GraphView) (s : StateView) (acts : List ℕ) → AllByRecursion (λ a. mark_of s (ActionOf a) ≡ Waiting → SkipsAction P g a) acts → AllMoves P (skipped_waiting g s acts)
 waiting_move P g s [] p = tt
 waiting_move P g s (a ∷ acts) p =
     AllMoves-append P (cond (same_mark (mark_of s (ActionOf a)) Waiting) (skipped_action g a) []) (skipped_waiting g s acts)
@@ -109,10 +109,10 @@ acquires_none P low lease (Take ∷ []) h = (tt, tt)
 acquires_none P low lease (Take ∷ (c ∷ cs)) h = absurd (cc)
 acquires_none P low lease (c ∷ cs) h = absurd (cc)
 
-set_down_none : (P : MarkId → Mark → Mark → Type 0) (s : Standing) (w : WorkerId) → AllMoves P (set_down s w)
+set_down_none : (P : MarkId → Mark → Mark → Type 0) (s : StateView) (w : WorkerId) → AllMoves P (set_down s w)
 set_down_none P s w = (tt, AllMoves-append P (parked_locks (owned s w)) (Enter ∷ []) (parked_none P (owned s w)) (tt, tt))
 
-taken_up_none : (P : MarkId → Mark → Mark → Type 0) (s : Standing) (w : WorkerId) → AllMoves P (taken_up s w)
+taken_up_none : (P : MarkId → Mark → Mark → Type 0) (s : StateView) (w : WorkerId) → AllMoves P (taken_up s w)
 taken_up_none P s w = (tt, AllMoves-append P (taken_again (reverse (holding_of s w).parked)) (Take ∷ []) (taken_again_none P (reverse (holding_of s w).parked)) (tt, tt))
 
 on_park_none : (P : MarkId → Mark → Mark → Type 0) (r : Retention) (l : LockId) → AllMoves P (on_park r l)
@@ -133,7 +133,7 @@ give_none : (P : MarkId → Mark → Mark → Type 0) (b : Bool) → AllMoves P 
 give_none P true = (tt, tt)
 give_none P false = tt
 
-kind_moves : (g : Outline) (s : Standing) (w : WorkerId) (k : Kind) → AllMoves (MayMove g s w k) (list_of g s w k)
+kind_moves : (g : GraphView) (s : StateView) (w : WorkerId) (k : Kind) → AllMoves (MayMove g s w k) (list_of g s w k)
 kind_moves g s w (Start t) = (tt, (tt, ((refl, refl, refl), tt)))
 kind_moves g s w (Skip t) = ((refl, refl, refl), actions_move _ g (actions_of g t) (each_action _ g t (λ a h. ((h, refl, refl), λ u i. ((a, h, i), refl, refl)))))
 kind_moves g s w (Submit a) = ((refl, refl, refl), units_move _ Waiting Queued (items_of g a) (each_item _ g a (λ u i. (i, refl, refl))))
@@ -153,7 +153,7 @@ kind_moves g s w Acquire = tt
 kind_moves g s w HandBack = AllMoves-append _ (map Unlock (owned s w)) _ (unlocks_none _ (owned s w)) (give_none _ (holding_of s w).lease)
 
 -- the changes of an entry move only marks that its kind may move
-pub list_moves : (g : Outline) (s : Standing) (w : WorkerId) (k : Kind) (cs : List Change) → IsListOf g s w k cs → AllMoves (MayMove g s w k) cs
+pub list_moves : (g : GraphView) (s : StateView) (w : WorkerId) (k : Kind) (cs : List Change) → IsListOf g s w k cs → AllMoves (MayMove g s w k) cs
 list_moves g s w Acquire cs h = acquires_none (MayMove g s w Acquire) 0 (holding_of s w).lease cs h
 list_moves g s w (Start t) cs h = subst (AllMoves (MayMove g s w (Start t))) (sym h) (kind_moves g s w (Start t))
 list_moves g s w (Skip t) cs h = subst (AllMoves (MayMove g s w (Skip t))) (sym h) (kind_moves g s w (Skip t))

@@ -10,8 +10,8 @@ use Rattle.resource_lock.specs.Good.{Good}
 use Rattle.resource_lock.specs.Shape.{BelongsTo}
 use Rattle.resource_lock.specs.Change.{can, can_all, make, make_all, names_only}
 use Rattle.resource_lock.specs.Opening.{opening_of}
-use Rattle.resource_lock.specs.Outline.{Outline}
-use Rattle.resource_lock.specs.Standing.{Standing}
+use Rattle.resource_lock.specs.GraphView.{GraphView}
+use Rattle.resource_lock.specs.StateView.{StateView}
 use Rattle.resource_lock.specs.declared.changes.Change.{Change}
 use Rattle.resource_lock.specs.declared.changes.Change.TheVariants.{Lock, Unlock, Take, Give, Move, Park, Unpark, Enter, Leave}
 use Rattle.resource_lock.specs.declared.ids.WorkerId.{WorkerId}
@@ -35,7 +35,7 @@ marked marks i j n v w to low own old is = elim (get_or-set_cases marks i j to W
 ]
 
 module _ (n : ℕ) (v : WorkerId) (low : v.0 < n) where
-  change_names : (s : Standing) (c : Change) → can s v c ≡ true → NamesWorkers n s → NamesWorkers n (make s v c)
+  change_names : (s : StateView) (c : Change) → can s v c ≡ true → NamesWorkers n s → NamesWorkers n (make s v c)
   change_names s (Lock l) h old = record {
     owners = λ k w is. elim (get_or-set_cases s.owners l.0 k.0 (Some v) None) [
       | inl at ↦ let same : Some v ≡ Some w = sym at.1 ∙ is in subst (λ (x : WorkerId). x.0 < n) (cc) low
@@ -81,17 +81,17 @@ module _ (n : ℕ) (v : WorkerId) (low : v.0 < n) where
   change_names s Enter h old = record { owners = old.owners; runners = old.runners }
   change_names s Leave h old = record { owners = old.owners; runners = old.runners }
 
-  changes_name : (cs : List Change) (s : Standing) → can_all s v cs ≡ true → NamesWorkers n s → NamesWorkers n (make_all s v cs)
+  changes_name : (cs : List Change) (s : StateView) → can_all s v cs ≡ true → NamesWorkers n s → NamesWorkers n (make_all s v cs)
   changes_name [] s h old = old
   changes_name (c ∷ cs) s h old =
       let p = and_parts (can s v c) (can_all (make s v c) v cs) h in
       changes_name cs (make s v c) p.1 (change_names s c p.0 old)
 
-  entry_names : (g : Outline) (s : Standing) (k : Kind) (o : Option (List Change)) → IfSome o (Finishes g s v k) → NamesWorkers n s → NamesWorkers n (changed s v o)
+  entry_names : (g : GraphView) (s : StateView) (k : Kind) (o : Option (List Change)) → IfSome o (Finishes g s v k) → NamesWorkers n s → NamesWorkers n (changed s v o)
   entry_names g s k None f old = old
   entry_names g s k (Some cs) f old = changes_name cs s f.possible old
 
-entries_name : (g : Outline) (h : List Entry) (s : Standing) → lawful_from g s h → NamesWorkers g.workers s → NamesWorkers g.workers (replay_from s h)
+entries_name : (g : GraphView) (h : List Entry) (s : StateView) → lawful_from g s h → NamesWorkers g.workers s → NamesWorkers g.workers (replay_from s h)
 entries_name g [] s lawful old = old
 entries_name g (e ∷ h) s lawful old = entries_name g h (effect s e) lawful.1 (entry_names g.workers e.worker lawful.0.worker g s e.kind e.changes lawful.0.finished old)
 
@@ -100,7 +100,7 @@ all_same zero k x = refl
 all_same (suc n) zero x = refl
 all_same (suc n) (suc k) x = all_same n k x
 
-none_named : (g : Outline) → NamesWorkers g.workers (opening_of g)
+none_named : (g : GraphView) → NamesWorkers g.workers (opening_of g)
 none_named g = record {
   owners = λ l w is. let not : None ≡ Some w = sym (all_same g.locks l.0 None) ∙ is in absurd (cc);
   runners = elim [
@@ -110,23 +110,23 @@ none_named g = record {
   ];
 }
 
-pub named : (g : Outline) (h : List Entry) → Lawful g h → NamesWorkers g.workers (replay g h)
+pub named : (g : GraphView) (h : List Entry) → Lawful g h → NamesWorkers g.workers (replay g h)
 named g h lawful = entries_name g h (opening_of g) lawful (none_named g)
 
 -- the state is a good one of the graph
-entry_good : (g : Outline) (s : Standing) (v : WorkerId) (k : Kind) (o : Option (List Change)) → v.0 < g.workers → IfSome o (Finishes g s v k) → BelongsTo g s × Good s → BelongsTo g (changed s v o) × Good (changed s v o)
+entry_good : (g : GraphView) (s : StateView) (v : WorkerId) (k : Kind) (o : Option (List Change)) → v.0 < g.workers → IfSome o (Finishes g s v k) → BelongsTo g s × Good s → BelongsTo g (changed s v o) × Good (changed s v o)
 entry_good g s v k None low f old = old
 entry_good g s v k (Some cs) low f old = (
   belongs_along g s (make_all s v cs) (same_shape-make_all s v cs) old.0,
   kept_all s v cs (worker_from g s v old.0 low) f.named old.1 f.possible,
 )
 
-entries_good : (g : Outline) (h : List Entry) (s : Standing) → lawful_from g s h → BelongsTo g s × Good s → BelongsTo g (replay_from s h) × Good (replay_from s h)
+entries_good : (g : GraphView) (h : List Entry) (s : StateView) → lawful_from g s h → BelongsTo g s × Good s → BelongsTo g (replay_from s h) × Good (replay_from s h)
 entries_good g [] s lawful old = old
 entries_good g (e ∷ h) s lawful old = entries_good g h (effect s e) lawful.1 (entry_good g s e.worker e.kind e.changes lawful.0.worker lawful.0.finished old)
 
-pub belongs : (g : Outline) (h : List Entry) → Lawful g h → BelongsTo g (replay g h)
+pub belongs : (g : GraphView) (h : List Entry) → Lawful g h → BelongsTo g (replay g h)
 belongs g h lawful = (entries_good g h (opening_of g) lawful (belongs_opening g, good_opening g)).0
 
-pub good : (g : Outline) (h : List Entry) → Lawful g h → Good (replay g h)
+pub good : (g : GraphView) (h : List Entry) → Lawful g h → Good (replay g h)
 good g h lawful = (entries_good g h (opening_of g) lawful (belongs_opening g, good_opening g)).1

@@ -2,7 +2,7 @@
 use Rattle.std.proofs.Common.{◌≡◌, ℕ, zero, suc, ◌+◌, ◌<◌, length, Bool, true, false, not, cond, ltb, lt-ltb, List, [], ◌∷◌, ◌++◌, map, get_or, set, Option, None, Some, refl, sym, ap, ◌∙◌, arith, append-nil}
 use Rattle.std.proofs.lemmas.Bool.{and_parts, eq-eqb, le-ltb}
 use Rattle.resource_lock.specs.Change.{can, can_all, make, make_all, holding_after, same_mark, names_only, NamesOnly}
-use Rattle.resource_lock.specs.Standing.{Holding, Standing, holding_of, has_parked, is_owner, owner_of, mark_of, runs_by, IsWorkerOf}
+use Rattle.resource_lock.specs.StateView.{Holding, StateView, holding_of, has_parked, is_owner, owner_of, mark_of, runs_by, IsWorkerOf}
 use Rattle.resource_lock.specs.declared.changes.Change.{Change}
 use Rattle.resource_lock.specs.declared.changes.Change.TheVariants.{Lock, Unlock, Take, Give, Move, Park, Unpark, Enter, Leave}
 use Rattle.resource_lock.specs.declared.ids.LockId.{LockId}
@@ -182,7 +182,7 @@ unit_less true u ts qs us =
     (less_after mark_before (UnitOf u) action_at qs (map unit_at us) (λ j. refl) ∙ ap (λ l. map action_at qs ++ l) (less_last mark_before unit_at u us (λ j. refl) (λ j. refl))))
 
 -- a mark doesn't go from Running by the worker to the same
-not_both : (s : Standing) (w : WorkerId) (m : MarkId) (from to : Mark) → can s w (Move m from to) ≡ true → runs_by w from ≡ true → runs_by w to ≡ true → ⊥
+not_both : (s : StateView) (w : WorkerId) (m : MarkId) (from to : Mark) → can s w (Move m from to) ≡ true → runs_by w from ≡ true → runs_by w to ≡ true → ⊥
 not_both s w m from to h was is =
     let first = and_parts _ (names_only to w) h in
     let second = and_parts _ (names_only from w) first.0 in
@@ -190,7 +190,7 @@ not_both s w m from to h was is =
     let same : same_mark from to ≡ true = (λ i. same_mark (running_of w from was i) (running_of w to is i)) ∙ eq-eqb w.0 w.0 refl in
     absurd (cc)
 
-pub own_claimed : (s : Standing) (w : WorkerId) (c : Change) → NamesOnly s c → can s w c ≡ true → claimed (make s w c) w ≡ claimed_after w (claimed s w) c
+pub own_claimed : (s : StateView) (w : WorkerId) (c : Change) → NamesOnly s c → can s w c ≡ true → claimed (make s w c) w ≡ claimed_after w (claimed s w) c
 own_claimed s w (Move (TaskOf t) from to) named h =
     let ts = places_from (runs_by w) 0 s.tasks in
     let qs = places_from (runs_by w) 0 s.actions in
@@ -236,7 +236,7 @@ owned_places n (o ∷ os) w =
     at true rest = ap (λ (l : List LockId). lock_at n ∷ l) rest
     at false rest = rest
 
-pub own_locks : (s : Standing) (w : WorkerId) (c : Change) → NamesOnly s c → can s w c ≡ true → owned (make s w c) w ≡ locks_after (owned s w) c
+pub own_locks : (s : StateView) (w : WorkerId) (c : Change) → NamesOnly s c → can s w c ≡ true → owned (make s w c) w ≡ locks_after (owned s w) c
 own_locks s w (Lock l) named h =
     let mine : Option WorkerId → Bool = λ o. is_owner o w in
     let ps = places_from mine 0 s.owners in
@@ -260,7 +260,7 @@ own_locks s w (Unpark l) named h = refl
 own_locks s w Enter named h = refl
 own_locks s w Leave named h = refl
 
-pub own_holding : (s : Standing) (w : WorkerId) (c : Change) → IsWorkerOf s w → holding_of (make s w c) w ≡ holding_after (holding_of s w) c
+pub own_holding : (s : StateView) (w : WorkerId) (c : Change) → IsWorkerOf s w → holding_of (make s w c) w ≡ holding_after (holding_of s w) c
 own_holding s w (Lock l) worker = refl
 own_holding s w (Unlock l) worker = refl
 own_holding s w (Move (TaskOf t) from to) worker = refl
@@ -274,21 +274,21 @@ own_holding s w Enter worker = holding_now s w _ worker
 own_holding s w Leave worker = holding_now s w _ worker
 
 -- the same of changes in order, as an entry has them
-pub own_claimed_all : (s : Standing) (w : WorkerId) (cs : List Change) → AllByRecursion (NamesOnly s) cs → can_all s w cs ≡ true → claimed (make_all s w cs) w ≡ after_all (claimed_after w) (claimed s w) cs
+pub own_claimed_all : (s : StateView) (w : WorkerId) (cs : List Change) → AllByRecursion (NamesOnly s) cs → can_all s w cs ≡ true → claimed (make_all s w cs) w ≡ after_all (claimed_after w) (claimed s w) cs
 own_claimed_all s w [] named h = refl
 own_claimed_all s w (c ∷ cs) named h =
     let p = and_parts (can s w c) (can_all (make s w c) w cs) h in
     own_claimed_all (make s w c) w cs (all_named_along s (make s w c) cs (same_shape-make s w c) named.1) p.1
     ∙ ap (λ (ms : List MarkId). after_all (claimed_after w) ms cs) (own_claimed s w c named.0 p.0)
 
-pub own_locks_all : (s : Standing) (w : WorkerId) (cs : List Change) → AllByRecursion (NamesOnly s) cs → can_all s w cs ≡ true → owned (make_all s w cs) w ≡ after_all locks_after (owned s w) cs
+pub own_locks_all : (s : StateView) (w : WorkerId) (cs : List Change) → AllByRecursion (NamesOnly s) cs → can_all s w cs ≡ true → owned (make_all s w cs) w ≡ after_all locks_after (owned s w) cs
 own_locks_all s w [] named h = refl
 own_locks_all s w (c ∷ cs) named h =
     let p = and_parts (can s w c) (can_all (make s w c) w cs) h in
     own_locks_all (make s w c) w cs (all_named_along s (make s w c) cs (same_shape-make s w c) named.1) p.1
     ∙ ap (λ (ls : List LockId). after_all locks_after ls cs) (own_locks s w c named.0 p.0)
 
-pub own_holding_all : (s : Standing) (w : WorkerId) (cs : List Change) → IsWorkerOf s w → holding_of (make_all s w cs) w ≡ after_all holding_after (holding_of s w) cs
+pub own_holding_all : (s : StateView) (w : WorkerId) (cs : List Change) → IsWorkerOf s w → holding_of (make_all s w cs) w ≡ after_all holding_after (holding_of s w) cs
 own_holding_all s w [] worker = refl
 own_holding_all s w (c ∷ cs) worker =
     own_holding_all (make s w c) w cs (worker_along s (make s w c) w (same_shape-make s w c) worker) ∙ ap (λ (x : Holding). after_all holding_after x cs) (own_holding s w c worker)

@@ -3,7 +3,7 @@ use Rattle.std.proofs.Common.{◌≡◌, ℕ, zero, suc, ◌+◌, ◌⊎◌, Boo
 use Rattle.std.specs.List.{AllByRecursion, range_with_len}
 use Rattle.std.proofs.lemmas.Bool.{cases_eq}
 use Rattle.resource_lock.specs.declared.graphs.GraphAction.{GraphAction}
-use Rattle.resource_lock.specs.Outline.{Outline, task_of, action_of}
+use Rattle.resource_lock.specs.GraphView.{GraphView, task_of, action_of}
 use Rattle.resource_lock.specs.Ranges.{IsIn, first_item, actions_of, items_of, fetches, units_of, IsActionOf, IsItemOf, IsUnitOf}
 
 -- the number stands in the list
@@ -50,17 +50,17 @@ unit_of_range a u h = at a.fetch refl (cases_eq u a.first_unit)
     at true e (inr ne) = let g = rw e at h in let b = g.0 in let c = g.1 in inr (rw e (omega arith, omega arith))
     at false e _ = let g = rw e at h in let b = g.0 in let c = g.1 in inr (rw e (omega arith, omega arith))
 
-pub each_unit : (P : ℕ → Type 0) (g : Outline) (a : ℕ) → ((u : ℕ) → IsUnitOf g a u → P u) → AllByRecursion P (units_of g a)
+pub each_unit : (P : ℕ → Type 0) (g : GraphView) (a : ℕ) → ((u : ℕ) → IsUnitOf g a u → P u) → AllByRecursion P (units_of g a)
 each_unit P g a f = each_in_range P (action_of g a).first_unit ((action_of g a).items + fetches (action_of g a).fetch) (λ u h. f u (unit_of_range (action_of g a) u h))
 
-pub has_unit : (g : Outline) (a u : ℕ) → IsUnitOf g a u → Has u (units_of g a)
+pub has_unit : (g : GraphView) (a u : ℕ) → IsUnitOf g a u → Has u (units_of g a)
 has_unit g a u h = has_in_range (action_of g a).first_unit ((action_of g a).items + fetches (action_of g a).fetch) u (unit_range (action_of g a) u h)
 
-pub each_item : (P : ℕ → Type 0) (g : Outline) (a : ℕ) → ((u : ℕ) → IsItemOf g a u → P u) → AllByRecursion P (items_of g a)
+pub each_item : (P : ℕ → Type 0) (g : GraphView) (a : ℕ) → ((u : ℕ) → IsItemOf g a u → P u) → AllByRecursion P (items_of g a)
 each_item P g a f = each_in_range P (first_item (action_of g a)) (action_of g a).items f
 
-pub each_action : (P : ℕ → Type 0) (g : Outline) (t : ℕ) → ((a : ℕ) → IsActionOf g t a → P a) → AllByRecursion P (actions_of g t)
+pub each_action : (P : ℕ → Type 0) (g : GraphView) (t : ℕ) → ((a : ℕ) → IsActionOf g t a → P a) → AllByRecursion P (actions_of g t)
 each_action P g t f = each_in_range P (task_of g t).first_action (task_of g t).actions f
 
-pub has_action : (g : Outline) (t a : ℕ) → IsActionOf g t a → Has a (actions_of g t)
+pub has_action : (g : GraphView) (t a : ℕ) → IsActionOf g t a → Has a (actions_of g t)
 has_action g t a h = has_in_range (task_of g t).first_action (task_of g t).actions a h

@@ -2,7 +2,7 @@
 use Rattle.std.proofs.Common.{◌≡◌, ℕ, ◌+◌, ◌<◌, suc, length, Bool, List, [], ◌∷◌, get_or, refl, sym, ap, ap₂, ◌∙◌, arith, ◌&&◌}
 use Rattle.std.specs.List.{list_all, range_with_len}
 use Rattle.resource_lock.specs.declared.marks.Mark.TheVariants.{Waiting}
-use Rattle.resource_lock.specs.Outline.{Outline}
+use Rattle.resource_lock.specs.GraphView.{GraphView}
 use Rattle.item_actions.specs.declared.outcomes.Outcome.{Outcome}
 use Rattle.lock_journal.specs.Entry.{Entry, replay}
 use Rattle.lock_journal.specs.Table.{has_passed}
@@ -17,7 +17,7 @@ all_places test at d n (x ∷ xs) same =
     ap₂ ◌&&◌ (same 0 (omega arith) ∙ ap at here)
     (all_places test at d (n + 1) xs (λ i within. let e : n + suc i ≡ n + 1 + i = omega arith in same (suc i) (omega arith) ∙ ap at e))
 
-pub all_passed_by_plan : (g : Outline) (h : List Entry) (v : ℕ → Outcome) (n : ℕ) → length (replay g h).tasks ≡ length g.tasks → ComesTo g h v n
+pub all_passed_by_plan : (g : GraphView) (h : List Entry) (v : ℕ → Outcome) (n : ℕ) → length (replay g h).tasks ≡ length g.tasks → ComesTo g h v n
     → list_all has_passed (replay g h).tasks ≡ list_all (λ t. has_passed (task_outcome g v n t)) (range_with_len 0 (length g.tasks))
 all_passed_by_plan g h v n long comes =
     all_places has_passed (λ t. has_passed (task_outcome g v n t)) Waiting 0 (replay g h).tasks

@@ -5,10 +5,10 @@ use Rattle.resource_lock.specs.declared.marks.Mark.{Mark}
 use Rattle.resource_lock.specs.declared.marks.Mark.TheVariants.{Waiting, Queued, Running, Passed, Failed, Skipped}
 use Rattle.resource_lock.specs.declared.marks.MarkId.{MarkId}
 use Rattle.resource_lock.specs.declared.marks.MarkId.TheVariants.{Task as TaskOf, Action as ActionOf, Unit as UnitOf}
-use Rattle.resource_lock.specs.Outline.{Outline, action_of}
+use Rattle.resource_lock.specs.GraphView.{GraphView, action_of}
 use Rattle.resource_lock.specs.Ranges.{IsActionOf, IsFetchOf, IsUnitOf}
 use Rattle.resource_lock.specs.Shape.{SameShape}
-use Rattle.resource_lock.specs.Standing.{Standing, mark_of}
+use Rattle.resource_lock.specs.StateView.{StateView, mark_of}
 use Rattle.resource_lock.proofs.Runs.{belongs_along}
 use Rattle.item_actions.specs.declared.outcomes.Outcome.{Outcome}
 use Rattle.item_actions.specs.declared.outcomes.Outcome.TheVariants.{Number, Digest, NotThere, TooLong, Fault, NoMemory, Skipped as NotRun}
@@ -25,7 +25,7 @@ use Rattle.run_laws.proofs.Marks.{StaysOrMoves}
 use Rattle.run_laws.proofs.Moves.{MayMove}
 
 -- a finished entry of worker w, of kind k, between two states
-pub record IsStep (g : Outline) (s : Standing) (w : WorkerId) (k : Kind) (s' : Standing) : Type 0 where
+pub record IsStep (g : GraphView) (s : StateView) (w : WorkerId) (k : Kind) (s' : StateView) : Type 0 where
   pub apart : RangesApart g
   pub before : IsKept g s
   pub condition : MarkCondition g s w k
@@ -34,10 +34,10 @@ pub record IsStep (g : Outline) (s : Standing) (w : WorkerId) (k : Kind) (s' : S
   pub stays_or_moves : (m : MarkId) → StaysOrMoves (MayMove g s w k) m (mark_of s m) (mark_of s' m)
 
 -- A task's mark.
-after_of_running : (g : Outline) (s : Standing) (t : ℕ) (w : WorkerId) → IsKept g s → mark_of s (TaskOf t) ≡ Running w → AfterPassed g s t
+after_of_running : (g : GraphView) (s : StateView) (t : ℕ) (w : WorkerId) → IsKept g s → mark_of s (TaskOf t) ≡ Running w → AfterPassed g s t
 after_of_running g s t w h e = subst (TaskFact g s t) e (h.tasks t)
 
-fallen_of_unpassed : (g : Outline) (s : Standing) (w : WorkerId) (t : ℕ) (s' : Standing) → IsStep g s w (End t) s' → HasUnpassed g s t → HasFallenUnit g s' t
+fallen_of_unpassed : (g : GraphView) (s : StateView) (w : WorkerId) (t : ℕ) (s' : StateView) → IsStep g s w (End t) s' → HasUnpassed g s t → HasFallenUnit g s' t
 fallen_of_unpassed g s w t s' h u = record { action = u.action; unit = u.unit; of_task = u.of_task; of_action = u.of_action; fallen = at (h.condition.1 u.action u.of_task) }
   where
     at : IsThrough g s t u.action → HasFallen (mark_of s' (UnitOf u.unit))
@@ -46,7 +46,7 @@ fallen_of_unpassed g s w t s' h u = record { action = u.action; unit = u.unit; o
         fallen_stays s s' h.final (UnitOf u.unit) (ended_not_passed (mark_of s (UnitOf u.unit)) (ended.each u.unit u.of_action) u.unpassed)
     at (inr waits) = inr (h.moves_to.0 u.action u.unit u.of_task waits.0 u.of_action (h.apart.unit_within u.action u.unit u.of_action).1)
 
-ended_whole : (g : Outline) (s : Standing) (w : WorkerId) (t : ℕ) (s' : Standing) → IsStep g s w (End t) s' → WholeEnded g s' t
+ended_whole : (g : GraphView) (s : StateView) (w : WorkerId) (t : ℕ) (s' : StateView) → IsStep g s w (End t) s' → WholeEnded g s' t
 ended_whole g s w t s' h = record { actions = λ a ia. action a ia (h.condition.1 a ia); units = λ a u ia iu. unit a u ia iu (h.condition.1 a ia) }
   where
     action : (a : ℕ) → IsActionOf g t a → IsThrough g s t a → IsEnded (mark_of s' (ActionOf a))
@@ -59,7 +59,7 @@ ended_whole g s w t s' h = record { actions = λ a ia. action a ia (h.condition.
         ended_stays s s' h.final (UnitOf u) (ended.each u iu)
     unit a u ia iu (inr waits) = subst IsEnded (sym (h.moves_to.0 a u ia waits.0 iu (h.apart.unit_within a u iu).1)) tt
 
-end_fact : (g : Outline) (s : Standing) (w : WorkerId) (t : ℕ) (s' : Standing) → IsStep g s w (End t) s' → TaskFact g s' t (end_mark g s t)
+end_fact : (g : GraphView) (s : StateView) (w : WorkerId) (t : ℕ) (s' : StateView) → IsStep g s w (End t) s' → TaskFact g s' t (end_mark g s t)
 end_fact g s w t s' h = at (all_passed g s t) refl
   where
     after : AfterPassed g s' t
@@ -69,7 +69,7 @@ end_fact g s w t s' h = at (all_passed g s t) refl
     at true e = (after, units_are_stays g s s' h.final t Passed tt (all_passed-true g s t e), ended_whole g s w t s' h)
     at false e = (after, fallen_of_unpassed g s w t s' h (all_passed-false g s t e), ended_whole g s w t s' h)
 
-task_moves : (g : Outline) (s : Standing) (w : WorkerId) (k : Kind) (s' : Standing) → IsStep g s w k s' → (n : ℕ) (from new : Mark) → MayMove g s w k (TaskOf n) from new → TaskFact g s' n new
+task_moves : (g : GraphView) (s : StateView) (w : WorkerId) (k : Kind) (s' : StateView) → IsStep g s w k s' → (n : ℕ) (from new : Mark) → MayMove g s w k (TaskOf n) from new → TaskFact g s' n new
 task_moves g s w (Start t) s' h n from new p =
     subst (TaskFact g s' n) (sym p.2) (subst (AfterPassed g s') (sym p.0) (after_passed_stays g s s' h.final t h.condition.1))
 task_moves g s w (Skip t) s' h n from new p =
@@ -84,7 +84,7 @@ task_moves g s w (Unblock None) s' h n from new p = absurd p
 task_moves g s w _ s' h n from new p = absurd p
 
 -- An action's mark.
-resumed : (g : Outline) (s : Standing) (w : WorkerId) (a : ℕ) (s' : Standing) → IsStep g s w (Resume a) s' → UnitsEnded g s' a
+resumed : (g : GraphView) (s : StateView) (w : WorkerId) (a : ℕ) (s' : StateView) → IsStep g s w (Resume a) s' → UnitsEnded g s' a
 resumed g s w a s' h = units_ended_stays g s s' h.final a (record { each = λ u i. at u i })
   where
     ended : (m : Mark) → IsDone m → IsEnded m
@@ -98,7 +98,7 @@ resumed g s w a s' h = units_ended_stays g s s' h.final a (record { each = λ u 
     at u (inl i) = ended (mark_of s (UnitOf u)) (fetched u i)
     at u (inr i) = h.condition.1 u i
 
-action_moves : (g : Outline) (s : Standing) (w : WorkerId) (k : Kind) (s' : Standing) → IsStep g s w k s' → (n : ℕ) (from new : Mark) → MayMove g s w k (ActionOf n) from new → ActionFact g s' n new
+action_moves : (g : GraphView) (s : StateView) (w : WorkerId) (k : Kind) (s' : StateView) → IsStep g s w k s' → (n : ℕ) (from new : Mark) → MayMove g s w k (ActionOf n) from new → ActionFact g s' n new
 action_moves g s w (Skip t) s' h n from new p = subst (ActionFact g s' n) (sym p.2) tt
 action_moves g s w (End t) s' h n from new p = subst (ActionFact g s' n) (sym p.2) tt
 action_moves g s w (Submit a) s' h n from new p =
@@ -113,7 +113,7 @@ action_moves g s w (Unblock None) s' h n from new p = absurd p
 action_moves g s w _ s' h n from new p = absurd p
 
 -- A unit's mark.
-before_of_earlier : (g : Outline) (s : Standing) (w : WorkerId) (k : Kind) (s' : Standing) → IsStep g s w k s' → (t a b u : ℕ) → IsActionOf g t a → IsUnitOf g a u → IsUnitOf g b u → EarlierPassed g s (action_of g b).task b → UnitsBefore g s' t a
+before_of_earlier : (g : GraphView) (s : StateView) (w : WorkerId) (k : Kind) (s' : StateView) → IsStep g s w k s' → (t a b u : ℕ) → IsActionOf g t a → IsUnitOf g a u → IsUnitOf g b u → EarlierPassed g s (action_of g b).task b → UnitsBefore g s' t a
 before_of_earlier g s w k s' h t a b u ia iu ib earlier =
     let same : a ≡ b = h.apart.one_action a b u iu ib in
     let own : IsActionOf g (action_of g b).task b = h.apart.own_task b (h.apart.unit_within b u ib).0 in
@@ -122,11 +122,11 @@ before_of_earlier g s w k s' h t a b u ia iu ib earlier =
     let moved : UnitsBefore g s t b = subst (λ z. UnitsBefore g s z b) (sym task) there in
     units_before_stays g s s' h.final t a (subst (UnitsBefore g s t) (sym same) moved)
 
-fact_of_old : (g : Outline) (s : Standing) (w : WorkerId) (k : Kind) (s' : Standing) → IsStep g s w k s' → (t a n u : ℕ) (m : Mark) → IsActionOf g t a → IsUnitOf g a n → n ≡ u → mark_of s (UnitOf u) ≡ m → UnitFact g s t a m
+fact_of_old : (g : GraphView) (s : StateView) (w : WorkerId) (k : Kind) (s' : StateView) → IsStep g s w k s' → (t a n u : ℕ) (m : Mark) → IsActionOf g t a → IsUnitOf g a n → n ≡ u → mark_of s (UnitOf u) ≡ m → UnitFact g s t a m
 fact_of_old g s w k s' h t a n u m ia iu e is =
     subst (UnitFact g s t a) (ap (λ z. mark_of s (UnitOf z)) e ∙ is) (h.before.units t a n ia iu)
 
-mark_from_fact : (g : Outline) (s : Standing) (t a : ℕ) (o : Outcome) → UnitsBefore g s t a → UnitFact g s t a (mark_from o)
+mark_from_fact : (g : GraphView) (s : StateView) (t a : ℕ) (o : Outcome) → UnitsBefore g s t a → UnitFact g s t a (mark_from o)
 mark_from_fact g s t a (Number n) h = h
 mark_from_fact g s t a (Digest n) h = h
 mark_from_fact g s t a NotThere h = h
@@ -135,7 +135,7 @@ mark_from_fact g s t a Fault h = h
 mark_from_fact g s t a NoMemory h = h
 mark_from_fact g s t a NotRun h = h
 
-unit_moves : (g : Outline) (s : Standing) (w : WorkerId) (k : Kind) (s' : Standing) → IsStep g s w k s' → (t a n : ℕ) (from new : Mark) → IsActionOf g t a → IsUnitOf g a n → MayMove g s w k (UnitOf n) from new → UnitFact g s' t a new
+unit_moves : (g : GraphView) (s : StateView) (w : WorkerId) (k : Kind) (s' : StateView) → IsStep g s w k s' → (t a n : ℕ) (from new : Mark) → IsActionOf g t a → IsUnitOf g a n → MayMove g s w k (UnitOf n) from new → UnitFact g s' t a new
 unit_moves g s w (Skip r) s' h t a n from new ia iu p =
     let same : a ≡ p.0.0 = h.apart.one_action a p.0.0 n iu p.0.2 in
     let task : r ≡ t = h.apart.one_task r t a (subst (IsActionOf g r) (sym same) p.0.1) ia in
@@ -167,7 +167,7 @@ unit_moves g s w (End r) s' h t a n from new ia iu p =
 unit_moves g s w (Start r) s' h t a n from new ia iu p = absurd p
 unit_moves g s w _ s' h t a n from new ia iu p = absurd p
 
-pub kept_by_step : (g : Outline) (s : Standing) (w : WorkerId) (k : Kind) (s' : Standing) → SameShape s s' → IsStep g s w k s' → IsKept g s'
+pub kept_by_step : (g : GraphView) (s : StateView) (w : WorkerId) (k : Kind) (s' : StateView) → SameShape s s' → IsStep g s w k s' → IsKept g s'
 kept_by_step g s w k s' z h = record {
   belongs = belongs_along g s s' z h.before.belongs;
   tasks = λ t. task t (h.stays_or_moves (TaskOf t));

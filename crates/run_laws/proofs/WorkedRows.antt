@@ -9,9 +9,9 @@ use Rattle.resource_lock.specs.declared.ids.WorkerId.{WorkerId}
 use Rattle.resource_lock.specs.declared.marks.Mark.TheVariants.{Passed, Failed, Skipped}
 use Rattle.resource_lock.specs.Change.{can_all, NamesOnly}
 use Rattle.resource_lock.specs.Fits.{Fits}
-use Rattle.resource_lock.specs.Outline.{Outline, action_of}
+use Rattle.resource_lock.specs.GraphView.{GraphView, action_of}
 use Rattle.resource_lock.specs.Ranges.{IsActionOf}
-use Rattle.resource_lock.specs.Standing.{Standing}
+use Rattle.resource_lock.specs.StateView.{StateView}
 use Rattle.item_actions.specs.declared.outcomes.Outcome.TheVariants.{Number, NotThere, Skipped as NotRun}
 use Rattle.lock_journal.specs.declared.entries.Kind.{Kind}
 use Rattle.lock_journal.specs.Allowed.{Allowed, IsKindOf, IsListOf, Lawful}
@@ -50,7 +50,7 @@ one_task_fits retention fetch items some few = record {
     own (suc a) lt = absurd (omega arith)
 
 -- an entry with the list of its kind, where the kind can finish
-by_list : {g : Outline} {s : Standing} {w : WorkerId} {k : Kind} → w.0 < g.workers → IsKindOf g k → is_enabled g s w k ≡ true → IsListOf g s w k (list_of g s w k) → AllByRecursion (NamesOnly s) (list_of g s w k) → Allowed g s (entry w k (Some (list_of g s w k)))
+by_list : {g : GraphView} {s : StateView} {w : WorkerId} {k : Kind} → w.0 < g.workers → IsKindOf g k → is_enabled g s w k ≡ true → IsListOf g s w k (list_of g s w k) → AllByRecursion (NamesOnly s) (list_of g s w k) → Allowed g s (entry w k (Some (list_of g s w k)))
 by_list {g = g} {s = s} {w = w} {k = k} worker kind enabled list named =
     let parts = and_parts (condition g s w k) (can_all s w (list_of g s w k)) enabled in
     record { worker = worker; kind = kind; finished = record { condition = parts.0; list = list; named = named; possible = parts.1 } }

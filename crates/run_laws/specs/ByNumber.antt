@@ -1,6 +1,6 @@
 -- The outcomes of units by the plan, each by its number alone.
 use Rattle.std.specs.Prelude.{ℕ, ◌+◌, nat_le, nat_lt, Bool, ◌&&◌, List, [], ◌∷◌, if◌then◌else◌}
-use Rattle.resource_lock.specs.Outline.{Outline}
+use Rattle.resource_lock.specs.GraphView.{GraphView}
 use Rattle.resource_lock.specs.Ranges.{units_in, task_with}
 use Rattle.resource_lock.specs.declared.graphs.GraphAction.{GraphAction}
 use Rattle.item_actions.specs.declared.outcomes.Outcome.{Outcome}
@@ -16,9 +16,9 @@ first_with test n [] = n
 first_with test n (a ∷ rest) = if test a then n else first_with test (n + 1) rest
 
 -- the action that a unit belongs to
-abbrev pub action_with : Outline → ℕ → ℕ
+abbrev pub action_with : GraphView → ℕ → ℕ
 action_with g u = first_with (has_unit u) 0 g.actions
 
 -- a unit's outcome by the plan
-abbrev pub outcome_by : Outline → (ℕ → Outcome) → ℕ → ℕ → Outcome
+abbrev pub outcome_by : GraphView → (ℕ → Outcome) → ℕ → ℕ → Outcome
 outcome_by g v n u = unit_outcome g v n (task_with g (action_with g u)) (action_with g u) u

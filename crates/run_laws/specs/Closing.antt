@@ -3,8 +3,8 @@ use Rattle.std.specs.Prelude.{ℕ, ◌≡◌, ◌≢◌, ◌⊎◌, List, [], �
 use Rattle.resource_lock.specs.declared.marks.Mark.{Mark}
 use Rattle.resource_lock.specs.declared.marks.Mark.TheVariants.{Passed, Failed}
 use Rattle.resource_lock.specs.declared.marks.MarkId.TheVariants.{Unit as UnitOf}
-use Rattle.resource_lock.specs.Outline.{Outline}
-use Rattle.resource_lock.specs.Standing.{mark_of}
+use Rattle.resource_lock.specs.GraphView.{GraphView}
+use Rattle.resource_lock.specs.StateView.{mark_of}
 use Rattle.item_actions.specs.declared.outcomes.Outcome.TheVariants.{Skipped as NotRun}
 use Rattle.item_actions.specs.Value.{passes}
 use Rattle.lock_journal.specs.Closings.{closings, outcome_in}
@@ -16,7 +16,7 @@ abbrev pub IsDone : Mark → Type 0
 IsDone m = (m ≡ Passed) ⊎ (m ≡ Failed)
 
 -- One entry closed the unit, with an outcome of work that was done, and this gave the mark.
-pub record IsClosedOnce (g : Outline) (h : List Entry) (u : ℕ) : Type 0 where
+pub record IsClosedOnce (g : GraphView) (h : List Entry) (u : ℕ) : Type 0 where
   pub once : closings h u ≡ outcome_in h u ∷ []
   pub ran : outcome_in h u ≢ NotRun
   pub mark : mark_of (replay g h) (UnitOf u) ≡ mark_from (outcome_in h u)

@@ -5,7 +5,7 @@ use Rattle.resource_lock.specs.declared.ids.WorkerId.{WorkerId}
 use Rattle.resource_lock.specs.declared.marks.Mark.TheVariants.{Running}
 use Rattle.resource_lock.specs.declared.marks.MarkId.{MarkId}
 use Rattle.resource_lock.specs.declared.marks.MarkId.TheVariants.{Task as TaskOf, Action as ActionOf, Unit as UnitOf}
-use Rattle.resource_lock.specs.Standing.{Standing, holding_of, owner_of, owns, mark_of, runs_by, runs_task, is_parked, runs_unit, is_idle}
+use Rattle.resource_lock.specs.StateView.{StateView, holding_of, owner_of, owns, mark_of, runs_by, runs_task, is_parked, runs_unit, is_idle}
 use Rattle.lock_journal.specs.Entry.{Entry}
 use Rattle.lock_journal.specs.Table.{owned}
 
@@ -28,11 +28,11 @@ abbrev pub marks_in : List ℕ → List ℕ → List ℕ → List MarkId
 marks_in tasks actions units = map task_at tasks ++ (map action_at actions ++ map unit_at units)
 
 -- the marks that are Running by a worker: tasks, actions, units, each by rising number
-abbrev pub claimed : Standing → WorkerId → List MarkId
+abbrev pub claimed : StateView → WorkerId → List MarkId
 claimed s w = marks_in (places_from (runs_by w) 0 s.tasks) (places_from (runs_by w) 0 s.actions) (places_from (runs_by w) 0 s.units)
 
 -- the worker has, owns and runs the same in both states
-pub record SameFor (w : WorkerId) (s s' : Standing) : Type 0 where
+pub record SameFor (w : WorkerId) (s s' : StateView) : Type 0 where
   pub holding : holding_of s' w ≡ holding_of s w
   pub owns : (l : LockId) → owns s' w l ≡ owns s w l
   pub owned : owned s' w ≡ owned s w
@@ -44,7 +44,7 @@ pub record SameFor (w : WorkerId) (s s' : Standing) : Type 0 where
   pub is_idle : is_idle s' w ≡ is_idle s w
 
 -- whoever owns a lock or runs a mark is one of the first n workers
-pub record NamesWorkers (n : ℕ) (s : Standing) : Type 0 where
+pub record NamesWorkers (n : ℕ) (s : StateView) : Type 0 where
   pub owners : (l : LockId) (w : WorkerId) → owner_of s l ≡ Some w → w.0 < n
   pub runners : (m : MarkId) (w : WorkerId) → mark_of s m ≡ Running w → w.0 < n
 

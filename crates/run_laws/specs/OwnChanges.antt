@@ -1,6 +1,6 @@
 -- What a change of a worker's own leaves of the locks that it owns and of the marks that it runs.
 use Rattle.std.specs.Prelude.{nat_lt, Bool, true, false, List, [], ◌∷◌, if◌then◌else◌}
-use Rattle.resource_lock.specs.Standing.{runs_by}
+use Rattle.resource_lock.specs.StateView.{runs_by}
 use Rattle.resource_lock.specs.declared.changes.Change.{Change}
 use Rattle.resource_lock.specs.declared.changes.Change.TheVariants.{Lock, Unlock, Move}
 use Rattle.resource_lock.specs.declared.ids.LockId.{LockId}

@@ -3,9 +3,9 @@ use Rattle.std.specs.Prelude.{ℕ, ◌≡◌, ◌<◌, ◌==◌, Bool, true, fal
 use Rattle.std.specs.List.{count_by}
 use Rattle.resource_lock.specs.declared.marks.Mark.TheVariants.{Skipped}
 use Rattle.resource_lock.specs.declared.marks.MarkId.TheVariants.{Task as TaskOf, Unit as UnitOf}
-use Rattle.resource_lock.specs.Outline.{Outline}
+use Rattle.resource_lock.specs.GraphView.{GraphView}
 use Rattle.resource_lock.specs.Ranges.{IsActionOf, IsUnitOf, IsItem}
-use Rattle.resource_lock.specs.Standing.{mark_of}
+use Rattle.resource_lock.specs.StateView.{mark_of}
 use Rattle.item_actions.specs.declared.outcomes.Outcome.{Outcome}
 use Rattle.lock_journal.specs.declared.entries.Kind.{Kind}
 use Rattle.lock_journal.specs.declared.entries.Kind.TheVariants.{Start, Skip, Claim}
@@ -38,7 +38,7 @@ abbrev pub Agrees : (ℕ → Outcome) → List Entry → Type 0
 Agrees v h = (u : ℕ) (o : Outcome) → closings h u ≡ o ∷ [] → v u ≡ o
 
 -- The marks and outcomes of a history are those of the plan.
-pub record ComesTo (g : Outline) (h : List Entry) (v : ℕ → Outcome) (n : ℕ) : Type 0 where
+pub record ComesTo (g : GraphView) (h : List Entry) (v : ℕ → Outcome) (n : ℕ) : Type 0 where
   pub tasks : (t : ℕ) → t < length g.tasks → mark_of (replay g h) (TaskOf t) ≡ task_outcome g v n t
   pub units : (t a u : ℕ) → IsActionOf g t a → IsUnitOf g a u → outcome_in h u ≡ unit_outcome g v n t a u
 
@@ -55,11 +55,11 @@ abbrev pub Closes : Entry → ℕ → Outcome → Type 0
 Closes e u o = where_finished e.changes (closing_of u e.kind) ≡ o ∷ []
 
 -- a unit never ran and is Skipped, or was closed by one entry
-abbrev pub NeverOrOnceClosed : Outline → List Entry → ℕ → Type 0
+abbrev pub NeverOrOnceClosed : GraphView → List Entry → ℕ → Type 0
 NeverOrOnceClosed g h u = ((mark_of (replay g h) (UnitOf u) ≡ Skipped) × (closings h u ≡ [])) ⊎ ((o : Outcome) × (closings h u ≡ o ∷ []))
 
 -- Each task was started once, after those that it comes after had passed, or skipped once; each closed item was claimed once, before it was closed.
-pub record IsOrderly (g : Outline) (h : List Entry) : Type 0 where
+pub record IsOrderly (g : GraphView) (h : List Entry) : Type 0 where
   pub once : (t : ℕ) → t < length g.tasks → OnceStartedOrSkipped h t
   pub started_after : (before later : List Entry) (e : Entry) (t : ℕ) → StandsIn h before e later → e.kind ≡ Start t → is_some e.changes ≡ true → AfterPassed g (replay g before) t
   pub claimed_before : (before later : List Entry) (e : Entry) (u : ℕ) (o : Outcome) → IsItem g u → StandsIn h before e later → Closes e u o → times (claims u) before ≡ 1

@@ -11,7 +11,7 @@ use Rattle.resource_lock.specs.declared.marks.Mark.{Mark}
 use Rattle.resource_lock.specs.declared.marks.Mark.TheVariants.{Waiting, Queued, Running, Passed, Failed, Skipped}
 use Rattle.resource_lock.specs.declared.marks.MarkId.TheVariants.{Task as TaskOf, Action as ActionOf, Unit as UnitOf}
 use Rattle.resource_lock.specs.Fits.{Fits}
-use Rattle.resource_lock.specs.Outline.{Outline}
+use Rattle.resource_lock.specs.GraphView.{GraphView}
 use Rattle.resource_lock.specs.Ranges.{fetches}
 use Rattle.item_actions.specs.declared.outcomes.Outcome.{Outcome}
 use Rattle.item_actions.specs.declared.outcomes.Outcome.TheVariants.{Number, NotThere}
@@ -52,30 +52,30 @@ abbrev pub closed : ℕ → Outcome → Closed
 closed u outcome = record { unit = u; outcome = outcome }
 
 -- one worker, one lease, and one task with one action of so many items, behind a fetch or none
-abbrev pub one_task : Retention → Bool → ℕ → Outline
+abbrev pub one_task : Retention → Bool → ℕ → GraphView
 one_task retention fetch items = record {
   locks = 1;
   workers = 1;
-  max = 1;
+  max_leases = 1;
   units = items + fetches fetch;
   tasks = record { lock = lock_zero; after = []; first_action = 0; actions = 1 } ∷ [];
   actions = record { task = 0; retention = retention; fetch = fetch; first_unit = 0; items = items } ∷ [];
 }
 
 -- one worker, one lease, and two tasks, the second after the first, each with one action of one item
-abbrev pub two_tasks : Outline
+abbrev pub two_tasks : GraphView
 two_tasks = record {
   locks = 1;
   workers = 1;
-  max = 1;
+  max_leases = 1;
   units = 2;
   tasks = record { lock = lock_zero; after = []; first_action = 0; actions = 1 } ∷ record { lock = lock_zero; after = 0 ∷ []; first_action = 1; actions = 1 } ∷ [];
   actions = record { task = 0; retention = Retain; fetch = false; first_unit = 0; items = 1 } ∷ record { task = 1; retention = Retain; fetch = false; first_unit = 1; items = 1 } ∷ [];
 }
 
 -- two workers, two leases and a lock, and no task
-abbrev pub no_tasks : Outline
-no_tasks = record { locks = 1; workers = 2; max = 2; units = 0; tasks = []; actions = [] }
+abbrev pub no_tasks : GraphView
+no_tasks = record { locks = 1; workers = 2; max_leases = 2; units = 0; tasks = []; actions = [] }
 
 -- one item
 abbrev pub first_run : List Entry
@@ -157,7 +157,7 @@ abbrev pub start_too_early : List Entry
 start_too_early = finished (Start 1) (Lock lock_zero ∷ Take ∷ task 1 Waiting running ∷ []) ∷ []
 
 -- The graph fits, the history is lawful, and in the end the tasks have these marks, the units these outcomes, and nobody owns the lock.
-pub record IsWorkedRun (g : Outline) (h : List Entry) (marks : List Mark) (outcomes : List Outcome) : Type 0 where
+pub record IsWorkedRun (g : GraphView) (h : List Entry) (marks : List Mark) (outcomes : List Outcome) : Type 0 where
   pub fits : Fits g
   pub lawful : Lawful g h
   pub tasks : (replay g h).tasks ≡ marks

@@ -10,10 +10,10 @@ ghost use Rattle.lock_journal.specs.Table.{has_passed, owned, skipped_waiting};
 ghost use Rattle.resource_lock.specs.Change.{can_all, holding_after, make_all, NamesOnly};
 ghost use Rattle.resource_lock.specs.Fits.{Fits};
 ghost use Rattle.resource_lock.specs.Good.{Good};
-ghost use Rattle.resource_lock.specs.Outline.{Outline, task_of};
+ghost use Rattle.resource_lock.specs.GraphView.{GraphView, task_of};
 ghost use Rattle.resource_lock.specs.Ranges.{IsActionOf, IsUnitOf, actions_of};
 ghost use Rattle.resource_lock.specs.Shape.{BelongsTo};
-ghost use Rattle.resource_lock.specs.Standing.{IsWorkerOf, Standing, holding_of, mark_of};
+ghost use Rattle.resource_lock.specs.StateView.{IsWorkerOf, StateView, holding_of, mark_of};
 ghost use Rattle.resource_lock.specs.declared.changes.Change.{Change};
 ghost use Rattle.resource_lock.specs.declared.graphs.Retention.TheVariants.{Release, ReleaseAndReacquire, Retain};
 ghost use Rattle.resource_lock.specs.declared.ids.WorkerId.{WorkerId};
@@ -37,36 +37,36 @@ ghost use Rattle.std.specs.Prelude.{List, [], length, map, false, true, ◌+◌,
 /// Where a lawful history brought every task to its end, every action and unit has ended too, marks and outcomes are
 /// those of the plan alone, and each task was started or skipped once and each item claimed and closed once.
 pub fn every_run_comes_to_its_plan()
-    ensures ended { (g : Outline) (h : List Entry) → Fits g → Lawful g h → All IsEnded (replay g h).tasks → HasEnded (replay g h) }
-    ensures plan { (g : Outline) (h : List Entry) (v : ℕ → Outcome) (rank : ℕ → ℕ) (n : ℕ) → Fits g → AreRanks g rank → ((t : ℕ) → t < length g.tasks → rank t < n) → Lawful g h → All IsEnded (replay g h).tasks → Agrees v h → ComesTo g h v n }
-    ensures status { (g : Outline) (h : List Entry) (v : ℕ → Outcome) (rank : ℕ → ℕ) (n : ℕ) → Fits g → AreRanks g rank → ((t : ℕ) → t < length g.tasks → rank t < n) → Lawful g h → All IsEnded (replay g h).tasks → Agrees v h → list_all has_passed (replay g h).tasks ≡ list_all (λ t. has_passed (task_outcome g v n t)) (range_with_len 0 (length g.tasks)) }
-    ensures order { (g : Outline) (h : List Entry) → Fits g → Lawful g h → All IsEnded (replay g h).tasks → IsOrderly g h }
+    ensures ended { (g : GraphView) (h : List Entry) → Fits g → Lawful g h → All IsEnded (replay g h).tasks → HasEnded (replay g h) }
+    ensures plan { (g : GraphView) (h : List Entry) (v : ℕ → Outcome) (rank : ℕ → ℕ) (n : ℕ) → Fits g → AreRanks g rank → ((t : ℕ) → t < length g.tasks → rank t < n) → Lawful g h → All IsEnded (replay g h).tasks → Agrees v h → ComesTo g h v n }
+    ensures status { (g : GraphView) (h : List Entry) (v : ℕ → Outcome) (rank : ℕ → ℕ) (n : ℕ) → Fits g → AreRanks g rank → ((t : ℕ) → t < length g.tasks → rank t < n) → Lawful g h → All IsEnded (replay g h).tasks → Agrees v h → list_all has_passed (replay g h).tasks ≡ list_all (λ t. has_passed (task_outcome g v n t)) (range_with_len 0 (length g.tasks)) }
+    ensures order { (g : GraphView) (h : List Entry) → Fits g → Lawful g h → All IsEnded (replay g h).tasks → IsOrderly g h }
 {}
 
 /// A unit that has passed or failed was closed by one entry, whose outcome gave the mark. Any other was never closed.
 pub fn closing_entries_give_the_marks()
-    ensures once { (g : Outline) (h : List Entry) (u : ℕ) → Fits g → Lawful g h → IsDone (mark_of (replay g h) (UnitOf u)) → IsClosedOnce g h u }
-    ensures never { (g : Outline) (h : List Entry) (u : ℕ) → Fits g → Lawful g h → mark_of (replay g h) (UnitOf u) ≢ Passed → mark_of (replay g h) (UnitOf u) ≢ Failed → closings h u ≡ [] }
+    ensures once { (g : GraphView) (h : List Entry) (u : ℕ) → Fits g → Lawful g h → IsDone (mark_of (replay g h) (UnitOf u)) → IsClosedOnce g h u }
+    ensures never { (g : GraphView) (h : List Entry) (u : ℕ) → Fits g → Lawful g h → mark_of (replay g h) (UnitOf u) ≢ Passed → mark_of (replay g h) (UnitOf u) ≢ Failed → closings h u ≡ [] }
 {}
 
 /// What a worker has, owns, runs and closed is said by the list that its own last entry ends: entries of others change nothing of it.
 pub fn own_entries_say_all()
-    ensures state { (g : Outline) (own later : List Entry) (w : WorkerId) → Lawful g (own ++ later) → NoneOf w later → SameFor w (replay g own) (replay g (own ++ later)) }
+    ensures state { (g : GraphView) (own later : List Entry) (w : WorkerId) → Lawful g (own ++ later) → NoneOf w later → SameFor w (replay g own) (replay g (own ++ later)) }
     ensures closings { (own later : List Entry) (w : WorkerId) → NoneOf w later → closed_by w (own ++ later) ≡ closed_by w own }
 {}
 
 /// A lawful history leads to a good state of its graph, in which whoever owns a lock or runs a mark is a worker of the graph.
 pub fn lawful_histories_lead_to_good_states()
-    ensures good { (g : Outline) (h : List Entry) → Lawful g h → Good (replay g h) }
-    ensures belongs { (g : Outline) (h : List Entry) → Lawful g h → BelongsTo g (replay g h) }
-    ensures workers { (g : Outline) (h : List Entry) → Lawful g h → NamesWorkers g.workers (replay g h) }
+    ensures good { (g : GraphView) (h : List Entry) → Lawful g h → Good (replay g h) }
+    ensures belongs { (g : GraphView) (h : List Entry) → Lawful g h → BelongsTo g (replay g h) }
+    ensures workers { (g : GraphView) (h : List Entry) → Lawful g h → NamesWorkers g.workers (replay g h) }
 {}
 
 /// What a worker's own entry leaves of what it has, owns and runs is said by the entry's changes alone.
 pub fn own_changes_say_all()
-    ensures holding { (s : Standing) (w : WorkerId) (changes : List Change) → IsWorkerOf s w → holding_of (make_all s w changes) w ≡ after_all holding_after (holding_of s w) changes }
-    ensures locks { (s : Standing) (w : WorkerId) (changes : List Change) → AllByRecursion (NamesOnly s) changes → can_all s w changes ≡ true → owned (make_all s w changes) w ≡ after_all locks_after (owned s w) changes }
-    ensures claimed { (s : Standing) (w : WorkerId) (changes : List Change) → AllByRecursion (NamesOnly s) changes → can_all s w changes ≡ true → claimed (make_all s w changes) w ≡ after_all (claimed_after w) (claimed s w) changes }
+    ensures holding { (s : StateView) (w : WorkerId) (changes : List Change) → IsWorkerOf s w → holding_of (make_all s w changes) w ≡ after_all holding_after (holding_of s w) changes }
+    ensures locks { (s : StateView) (w : WorkerId) (changes : List Change) → AllByRecursion (NamesOnly s) changes → can_all s w changes ≡ true → owned (make_all s w changes) w ≡ after_all locks_after (owned s w) changes }
+    ensures claimed { (s : StateView) (w : WorkerId) (changes : List Change) → AllByRecursion (NamesOnly s) changes → can_all s w changes ≡ true → claimed (make_all s w changes) w ≡ after_all (claimed_after w) (claimed s w) changes }
 {}
 
 /// Where each worker closed units with their values alone, but for faults and want of memory, the closing entries are the answers.
@@ -76,15 +76,15 @@ pub fn honest_workers_give_the_answers()
 
 /// The front of a lawful history is lawful, and what has ended there has the same mark ever after.
 pub fn histories_go_on()
-    ensures front { (g : Outline) (h later : List Entry) → Lawful g (h ++ later) → Lawful g h }
-    ensures marks { (g : Outline) (h later : List Entry) (m : MarkId) → Lawful g (h ++ later) → IsEnded (mark_of (replay g h) m) → mark_of (replay g (h ++ later)) m ≡ mark_of (replay g h) m }
-    ensures ended { (g : Outline) (h later : List Entry) → Lawful g (h ++ later) → All IsEnded (replay g h).tasks → All IsEnded (replay g (h ++ later)).tasks }
+    ensures front { (g : GraphView) (h later : List Entry) → Lawful g (h ++ later) → Lawful g h }
+    ensures marks { (g : GraphView) (h later : List Entry) (m : MarkId) → Lawful g (h ++ later) → IsEnded (mark_of (replay g h) m) → mark_of (replay g (h ++ later)) m ≡ mark_of (replay g h) m }
+    ensures ended { (g : GraphView) (h later : List Entry) → Lawful g (h ++ later) → All IsEnded (replay g h).tasks → All IsEnded (replay g (h ++ later)).tasks }
 {}
 
 /// What one entry more at the end changes.
 pub fn one_entry_more()
-    ensures lawful { (g : Outline) (h : List Entry) (e : Entry) → Lawful g h → Allowed g (replay g h) e → Lawful g (h ++ e ∷ []) }
-    ensures replay { (g : Outline) (h : List Entry) (e : Entry) → replay g (h ++ e ∷ []) ≡ effect (replay g h) e }
+    ensures lawful { (g : GraphView) (h : List Entry) (e : Entry) → Lawful g h → Allowed g (replay g h) e → Lawful g (h ++ e ∷ []) }
+    ensures replay { (g : GraphView) (h : List Entry) (e : Entry) → replay g (h ++ e ∷ []) ≡ effect (replay g h) e }
     ensures closings { (h : List Entry) (e : Entry) (u : ℕ) → closings (h ++ e ∷ []) u ≡ closings h u ++ where_finished e.changes (closing_of u e.kind) }
     ensures outcome { (h : List Entry) (e : Entry) (u : ℕ) → outcome_in (h ++ e ∷ []) u ≡ last_or (outcome_in h u) (where_finished e.changes (closing_of u e.kind)) }
     ensures closed { (h : List Entry) (e : Entry) (w : WorkerId) → closed_by w (h ++ e ∷ []) ≡ closed_by w h ++ closed_at w e }
@@ -93,19 +93,19 @@ pub fn one_entry_more()
 
 /// Where no task comes after another, the rank 0 serves for each.
 pub fn tasks_without_after_have_rank_zero()
-    ensures { (g : Outline) → All (λ t. t.after ≡ []) g.tasks → AreRanks g (λ t. 0) }
+    ensures { (g : GraphView) → All (λ t. t.after ≡ []) g.tasks → AreRanks g (λ t. 0) }
 {}
 
 /// The outcomes by the plan follow their rule, however far above a task's rank one begins, and those of a task are what its actions give in order.
 pub fn outcomes_follow_their_rule()
-    ensures rule { (g : Outline) (v : ℕ → Outcome) (rank : ℕ → ℕ) (n t : ℕ) → AreRanks g rank → rank t < n → task_outcome g v n t ≡ mark_by (list_all (λ p. has_passed (task_outcome g v n p)) (task_of g t).after) (task_passes g v t) }
-    ensures depth { (g : Outline) (v : ℕ → Outcome) (rank : ℕ → ℕ) (n m t : ℕ) → AreRanks g rank → rank t < n → rank t < m → task_outcome g v n t ≡ task_outcome g v m t }
-    ensures in_order { (g : Outline) (v f : ℕ → Outcome) (n t : ℕ) → ((a u : ℕ) → IsActionOf g t a → IsUnitOf g a u → f u ≡ unit_outcome g v n t a u) → map f (units_of_actions g (actions_of g t)) ≡ outcomes_of_task g v n t }
+    ensures rule { (g : GraphView) (v : ℕ → Outcome) (rank : ℕ → ℕ) (n t : ℕ) → AreRanks g rank → rank t < n → task_outcome g v n t ≡ mark_by (list_all (λ p. has_passed (task_outcome g v n p)) (task_of g t).after) (task_passes g v t) }
+    ensures depth { (g : GraphView) (v : ℕ → Outcome) (rank : ℕ → ℕ) (n m t : ℕ) → AreRanks g rank → rank t < n → rank t < m → task_outcome g v n t ≡ task_outcome g v m t }
+    ensures in_order { (g : GraphView) (v f : ℕ → Outcome) (n t : ℕ) → ((a u : ℕ) → IsActionOf g t a → IsUnitOf g a u → f u ≡ unit_outcome g v n t a u) → map f (units_of_actions g (actions_of g t)) ≡ outcomes_of_task g v n t }
 {}
 
 /// Skipping the waiting actions before an action leaves that action's mark, so whether it waits may be read as one goes.
 pub fn skipping_leaves_later_actions()
-    ensures { (g : Outline) (s : Standing) (w : WorkerId) (first n : ℕ) → can_all s w (skipped_waiting g s (range_with_len first n)) ≡ true → mark_of (make_all s w (skipped_waiting g s (range_with_len first n))) (ActionOf (first + n)) ≡ mark_of s (ActionOf (first + n)) }
+    ensures { (g : GraphView) (s : StateView) (w : WorkerId) (first n : ℕ) → can_all s w (skipped_waiting g s (range_with_len first n)) ≡ true → mark_of (make_all s w (skipped_waiting g s (range_with_len first n))) (ActionOf (first + n)) ≡ mark_of s (ActionOf (first + n)) }
 {}
 
 /// Histories worked out by hand: a task with one item, retentions that release the project lock, a fetch, a missing file, and locks taken by turns.
@@ -125,5 +125,5 @@ pub fn early_start_is_unlawful()
 
 /// Where a run comes to its plan, the outcome of each unit is that of the plan by the unit's number alone.
 pub fn outcomes_go_by_number()
-    ensures { (g : Outline) (h : List Entry) (v : ℕ → Outcome) (n u : ℕ) → Fits g → ComesTo g h v n → u < g.units → outcome_in h u ≡ outcome_by g v n u }
+    ensures { (g : GraphView) (h : List Entry) (v : ℕ → Outcome) (n u : ℕ) → Fits g → ComesTo g h v n → u < g.units → outcome_in h u ≡ outcome_by g v n u }
 {}

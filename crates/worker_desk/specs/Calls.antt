@@ -3,7 +3,7 @@ use Rattle.std.specs.Prelude.{ℕ, ◌+◌, ◌-◌, ◌^◌, ◌==◌, nat_lt, 
 use Rattle.std.specs.List.{list_any}
 
 -- how many calls were made, the numbers of those that fail, and how many failed
-pub record CallLog : Type 0 where
+pub record CallsView : Type 0 where
   pub failing : List ℕ
   pub made : ℕ
   pub faults : ℕ
@@ -12,13 +12,13 @@ pub record CallLog : Type 0 where
 abbrev pub next : ℕ → ℕ
 next count = if nat_lt count (2 ^ 64 - 1) then count + 1 else count
 
-abbrev pub no_calls : List ℕ → CallLog
+abbrev pub no_calls : List ℕ → CallsView
 no_calls failing = record { failing = failing; made = 0; faults = 0 }
 
 -- calls are numbered from 0, and the next one is named
-abbrev pub next_fails : CallLog → Bool
+abbrev pub next_fails : CallsView → Bool
 next_fails log = list_any (λ number. number == log.made) log.failing
 
 -- the log after one more call
-abbrev pub after_call : Bool → CallLog → CallLog
+abbrev pub after_call : Bool → CallsView → CallsView
 after_call failed log = record log { made = next log.made; faults = if failed then next log.faults else log.faults }

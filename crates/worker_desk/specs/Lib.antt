@@ -1,8 +1,8 @@
 pub mod Calls
 pub mod Folders
-pub mod Gathered
+pub mod ReadBufferView
 pub mod Memory
-pub mod Paper
-pub mod Reading
-pub mod Sunk
-pub mod Supply
+pub mod PageView
+pub mod ReadView
+pub mod SinkView
+pub mod SourceView

@@ -12,9 +12,9 @@ pub(crate) struct Calls {
 }
 
 impl Model for Calls {
-    ghost use Rattle.worker_desk.specs.Calls.{CallLog};
+    ghost use Rattle.worker_desk.specs.Calls.{CallsView};
 
-    ghost Value = { CallLog };
+    ghost Value = { CallsView };
 
     ghost view = { λ c. record { failing = c.failing.items; made = c.made; faults = c.faults } };
 }

@@ -1,8 +1,8 @@
 ghost use Rattle.std.specs.Prelude.{◌≡◌, ℕ, ◌≤◌, Option, IfOk};
 ghost use Rattle.std.specs.Result.{IsErrOf};
 ghost use Rattle.item_actions.specs.Files.{Folder};
-ghost use Rattle.worker_desk.specs.Sunk.{Rises};
-ghost use Rattle.worker_desk.specs.Reading.{IsWithin, ReadsFrom, reading_of};
+ghost use Rattle.worker_desk.specs.SinkView.{Rises};
+ghost use Rattle.worker_desk.specs.ReadView.{IsWithin, ReadsFrom, read_view};
 
 use item_actions::Text;
 use std::alloc::{AllocError, Global};
@@ -50,6 +50,6 @@ pub trait Files {
         ensures files { files self.new ≡ files self.old }
         ensures kept { faults self.old ≤ faults self.new }
         ensures failed { IsErrOf result DeskFail.Failed → Rises (faults self.old) (faults self.new) }
-        ensures within { IfOk result (λ read. IsWithin limit (reading_of read)) }
+        ensures within { IfOk result (λ read. IsWithin limit (read_view read)) }
         ensures told { ReadsFrom (files self.old) name.now limit result };
 }

@@ -1,5 +1,5 @@
 ghost use Rattle.std.specs.Prelude.{◌≡◌, Some, IfOk, IfSome};
-ghost use Rattle.worker_desk.specs.Reading.{IsWithin, reading, reading_of};
+ghost use Rattle.worker_desk.specs.ReadView.{IsWithin, reading, read_view};
 
 use crate::files::{DeskFail, Files, Read};
 use crate::read_buffers::ReadBuffer;
@@ -59,7 +59,7 @@ impl<R: rt::Files + Drop> Files for FolderDesk<R> {
 }
 
 fn read_named<R: rt::Files>(rt: &R, alloc: Global, name: &str, limit: u64) -> Result<Read, DeskFail>
-    ensures { IfOk result (λ read. IsWithin limit (reading_of read)) }
+    ensures { IfOk result (λ read. IsWithin limit (read_view read)) }
 {
     let mut retries = Retries::new();
     match open(rt, name, &mut retries) {
@@ -85,9 +85,9 @@ fn read_open<F: io::Read + OpenFile>(
     limit: u64,
     retries: &mut Retries,
 ) -> Result<Read, DeskFail>
-    ensures within { IfOk result (λ read. IsWithin limit (reading_of read)) }
+    ensures within { IfOk result (λ read. IsWithin limit (read_view read)) }
     ensures told { IfSome (F.remaining file.old) (λ bytes.
-        IfOk result (λ read. reading_of read ≡ reading (Some bytes) limit)) }
+        IfOk result (λ read. read_view read ≡ reading (Some bytes) limit)) }
 {
     let mut buffer = ReadBuffer::new(alloc, limit);
     while !buffer.is_over() {

@@ -2,7 +2,7 @@ ghost use Rattle.std.specs.Prelude.{◌≡◌, ◌↔◌, Some, IfOk, IsTrue};
 ghost use Rattle.std.specs.Result.{IsErrOf};
 ghost use Rattle.worker_desk.specs.Calls.{no_calls, next_fails};
 ghost use Rattle.worker_desk.specs.Memory.{after_read};
-ghost use Rattle.worker_desk.specs.Reading.{ReadsFrom};
+ghost use Rattle.worker_desk.specs.ReadView.{ReadsFrom};
 
 use crate::calls::Calls;
 use crate::file_map::FileMap;
@@ -19,9 +19,9 @@ pub struct MemoryDesk {
 }
 
 impl Model for MemoryDesk {
-    ghost use Rattle.worker_desk.specs.Memory.{DeskStore};
+    ghost use Rattle.worker_desk.specs.Memory.{MemoryDeskView};
 
-    ghost Value = { DeskStore };
+    ghost Value = { MemoryDeskView };
 
     ghost view = { λ d. record { files = d.files; log = d.calls } };
 }

@@ -18,9 +18,9 @@ pub struct MemorySink {
 
 impl Model for MemorySink {
     ghost use Rattle.std.specs.Prelude.{◌≤◌, vec_capacity, length};
-    ghost use Rattle.worker_desk.specs.Memory.{SinkStore};
+    ghost use Rattle.worker_desk.specs.Memory.{MemorySinkView};
 
-    ghost Value = { SinkStore };
+    ghost Value = { MemorySinkView };
 
     ghost view = { λ s. record { bytes = s.bytes.items; room = s.room; log = s.calls } };
 

@@ -1,7 +1,7 @@
 ghost use Rattle.std.specs.Prelude.{◌≡◌, ◌↔◌, Some, IfOk, IsErr, IsTrue, length, min, take};
 ghost use Rattle.std.specs.Io.KnownBytes.{ReadConsumes};
 ghost use Rattle.worker_desk.specs.Calls.{no_calls, next_fails};
-ghost use Rattle.worker_desk.specs.Supply.{after_take};
+ghost use Rattle.worker_desk.specs.SourceView.{after_take};
 
 use crate::calls::Calls;
 use crate::sinks::Failed;
@@ -19,9 +19,9 @@ pub struct MemorySource {
 
 impl Model for MemorySource {
     ghost use Rattle.std.specs.Prelude.{◌≤◌, drop, length};
-    ghost use Rattle.worker_desk.specs.Supply.{SourceStore};
+    ghost use Rattle.worker_desk.specs.SourceView.{MemorySourceView};
 
-    ghost Value = { SourceStore };
+    ghost Value = { MemorySourceView };
 
     ghost view = { λ s. record { left = drop s.taken s.bytes.items; log = s.calls } };
 

@@ -1,6 +1,6 @@
 ghost use Rattle.std.specs.Prelude.{◌≡◌, ◌⊎◌, ℕ, ◌+◌, ◌≤◌, List, [], ◌++◌, length, decimal};
-ghost use Rattle.worker_desk.specs.Sunk.{Sunk, Prints};
-ghost use Rattle.worker_desk.specs.Paper.{blank, Adds, Told};
+ghost use Rattle.worker_desk.specs.SinkView.{SinkView, Prints};
+ghost use Rattle.worker_desk.specs.PageView.{blank, Adds, Printed};
 
 use crate::sinks::{Failed, Sink, put_all};
 use itoa::Buffer;
@@ -20,9 +20,9 @@ pub struct Page {
 
 impl Model for Page {
     ghost use Rattle.std.specs.Prelude.{◌≤◌, take};
-    ghost use Rattle.worker_desk.specs.Paper.{Paper};
+    ghost use Rattle.worker_desk.specs.PageView.{PageView};
 
-    ghost Value = { Paper };
+    ghost Value = { PageView };
 
     ghost view = { λ p. record { waiting = take p.len p.bytes; failed = p.failed } };
 
@@ -119,8 +119,8 @@ impl Page {
     /// Sends the rest. It is Failed where the sink failed at any of the texts, of which it then took
     /// a front.
     pub fn end<K: Sink>(mut self, sink: &mut K) -> Result<(), Failed>
-        ensures { (start : Sunk) (text : List ℕ) →
-            Told start (K.seen sink.old) self text → Prints start (K.seen sink.new) text result }
+        ensures { (start : SinkView) (text : List ℕ) →
+            Printed start (K.seen sink.old) self text → Prints start (K.seen sink.new) text result }
     {
         self.flush(sink);
         if self.failed { Err(Failed) } else { Ok(()) }

@@ -1,6 +1,6 @@
 ghost use Rattle.std.specs.Prelude.{◌≡◌, ◌≤◌, ◌<◌, ◌+◌, ◌^◌, [], length, take, drop, vec_len, IfOk, OnOk, OnErr, IsTrue, ◌↔◌};
 ghost use Rattle.std.specs.Io.KnownBytes.{Consumes, IsAtEnd, Keeps};
-ghost use Rattle.worker_desk.specs.Gathered.{ReadGathers};
+ghost use Rattle.worker_desk.specs.ReadBufferView.{ReadGathers};
 
 use std::alloc::{AllocError, Global};
 use std::fs::OpenFile;
@@ -21,9 +21,9 @@ pub(crate) struct ReadBuffer {
 
 impl Model for ReadBuffer {
     ghost use Rattle.std.specs.Prelude.{◌≤◌, ◌+◌, vec_len, take};
-    ghost use Rattle.worker_desk.specs.Gathered.{Gathered};
+    ghost use Rattle.worker_desk.specs.ReadBufferView.{ReadBufferView};
 
-    ghost Value = { Gathered };
+    ghost Value = { ReadBufferView };
 
     ghost view = { λ b. record { bytes = take b.filled b.room.items; limit = b.limit } };
 

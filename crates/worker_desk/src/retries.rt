@@ -4,7 +4,7 @@ ghost use Rattle.std.specs.IoError.{error_kind};
 use std::io::{Error, ErrorKind};
 
 // How often an interrupted call is made again, within one call of a sink or a desk.
-const MOST_RETRIES: u32 = 1000;
+const MAX_RETRIES: u32 = 1000;
 
 /// The retries that are left.
 #[derive(Clone, Copy, Debug)]
@@ -16,7 +16,7 @@ impl Retries {
     pub fn new() -> Retries
         ensures { result.left ≡ 1000 }
     {
-        Retries { left: MOST_RETRIES }
+        Retries { left: MAX_RETRIES }
     }
 
     /// Uses up one retry where the error is an interrupted call and a retry is left.

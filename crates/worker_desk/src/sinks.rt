@@ -1,6 +1,6 @@
 ghost use Rattle.std.specs.Prelude.{◌≤◌, ◌<◌, length, IfOk, OnErr};
 ghost use Rattle.std.specs.Io.KnownBytes.{WriteAppends};
-ghost use Rattle.worker_desk.specs.Sunk.{Sunk, Rises, Prints};
+ghost use Rattle.worker_desk.specs.SinkView.{SinkView, Rises, Prints};
 
 /// The outside failed, and the count of its faults rose.
 #[derive(Clone, Copy, Debug, PartialEq, Eq)]
@@ -10,7 +10,7 @@ pub struct Failed;
 pub trait Sink {
     /// The bytes taken, where they are told, and how often the outside failed. That count stands
     /// still at 2^64 - 1.
-    ghost seen: { Self → Sunk };
+    ghost seen: { Self → SinkView };
 
     /// Takes bytes from the front of a piece, at least one unless the piece is empty, and answers
     /// how many. Failed takes none.

@@ -1,8 +1,8 @@
 ghost use Rattle.std.specs.Prelude.{◌≤◌, OnErr};
 ghost use Rattle.std.specs.Io.{ReadsAtMost};
 ghost use Rattle.std.specs.Io.KnownBytes.{ReadConsumes};
-ghost use Rattle.worker_desk.specs.Sunk.{Rises};
-ghost use Rattle.worker_desk.specs.Supply.{Supply};
+ghost use Rattle.worker_desk.specs.SinkView.{Rises};
+ghost use Rattle.worker_desk.specs.SourceView.{SourceView};
 
 use crate::sinks::Failed;
 
@@ -10,7 +10,7 @@ use crate::sinks::Failed;
 pub trait Source {
     /// The bytes left, where they are told, and how often the outside failed. That count stands
     /// still at 2^64 - 1.
-    ghost seen: { Self → Supply };
+    ghost seen: { Self → SourceView };
 
     /// Takes bytes from the front of what is left into the front of the buffer, and answers how many.
     /// None come only at the end, or into an empty buffer. Failed takes none.

@@ -13,9 +13,9 @@ pub struct StdSink<W: Write> {
 }
 
 impl<W: Write> Model for StdSink<W> {
-    ghost use Rattle.worker_desk.specs.Sunk.{Sunk};
+    ghost use Rattle.worker_desk.specs.SinkView.{SinkView};
 
-    ghost Value = { Sunk };
+    ghost Value = { SinkView };
 
     ghost view = { λ s. record { taken = W.contents s.writer; faults = s.faults } };
 }

@@ -14,9 +14,9 @@ pub struct StdSource<R: Read> {
 }
 
 impl<R: Read> Model for StdSource<R> {
-    ghost use Rattle.worker_desk.specs.Supply.{Supply};
+    ghost use Rattle.worker_desk.specs.SourceView.{SourceView};
 
-    ghost Value = { Supply };
+    ghost Value = { SourceView };
 
     ghost view = { λ s. record { left = R.remaining s.reader; faults = s.faults } };
 }

@@ -1,5 +1,5 @@
 ghost use Rattle.std.specs.Prelude.{◌≡◌, ◌≢◌, ◌<◌, false};
-ghost use Rattle.resource_lock.specs.Standing.{mark_of};
+ghost use Rattle.resource_lock.specs.StateView.{mark_of};
 ghost use Rattle.lock_journal.specs.Table.{is_enabled};
 ghost use Rattle.lock_journal.specs.declared.entries.Kind.TheVariants as kinds;
 ghost use Rattle.resource_lock.specs.declared.marks.MarkId.TheVariants as ids;

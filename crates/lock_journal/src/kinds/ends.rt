@@ -1,10 +1,10 @@
 ghost use Rattle.std.specs.Prelude.{◌≡◌, ◌≤◌, ◌<◌, ◌+◌, ◌||◌, ◌∷◌, [], false, length, if◌then◌else◌};
 ghost use Rattle.std.specs.List.{list_all, list_any, range_with_len};
 ghost use Rattle.resource_lock.specs.Change.{same_mark};
-ghost use Rattle.resource_lock.specs.Outline.{task_of};
+ghost use Rattle.resource_lock.specs.GraphView.{task_of};
 ghost use Rattle.resource_lock.specs.Ranges.{actions_of, earlier_actions, units_of};
 ghost use Rattle.resource_lock.specs.Shape.{BelongsTo};
-ghost use Rattle.resource_lock.specs.Standing.{mark_of};
+ghost use Rattle.resource_lock.specs.StateView.{mark_of};
 ghost use Rattle.lock_journal.specs.Allowed.{IsKindOf};
 ghost use Rattle.lock_journal.specs.Making.{Makes};
 ghost use Rattle.lock_journal.specs.Table.{end_mark, has_passed, is_enabled, never_ran, units_passed};

@@ -2,7 +2,7 @@
 ghost use Rattle.std.specs.Prelude.{◌≡◌, ◌<◌, ◌≤◌, ◌↔◌, ℕ, IsTrue, [], false, length, Some};
 ghost use Rattle.resource_lock.specs.Shape.{BelongsTo};
 ghost use Rattle.lock_journal.specs.Allowed.{Allowed, IsKindOf, IsListOf};
-ghost use Rattle.lock_journal.specs.Attempt.{Worked};
+ghost use Rattle.lock_journal.specs.TentativeView.{Worked};
 ghost use Rattle.lock_journal.specs.Entry.{entry};
 ghost use Rattle.lock_journal.specs.Making.{Makes};
 ghost use Rattle.lock_journal.specs.Table.{condition, list_of, is_enabled};

@@ -2,7 +2,7 @@
 ghost use Rattle.std.specs.Prelude.{◌≡◌, ◌<◌, ◌≤◌, ◌+◌, length};
 ghost use Rattle.std.specs.List.{list_all, range_with_len};
 ghost use Rattle.resource_lock.specs.Shape.{BelongsTo};
-ghost use Rattle.resource_lock.specs.Standing.{mark_of};
+ghost use Rattle.resource_lock.specs.StateView.{mark_of};
 ghost use Rattle.lock_journal.specs.Table.{earlier_passed, has_passed, units_passed, works_on};
 ghost use Rattle.resource_lock.specs.declared.marks.MarkId.TheVariants as ids;
 

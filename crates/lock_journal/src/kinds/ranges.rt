@@ -1,7 +1,7 @@
 //! What a graph says of a task or an action, as ranges of numbers.
 ghost use Rattle.std.specs.Prelude.{◌≡◌, ◌<◌, ◌≤◌, ◌+◌, ◌-◌, ◌^◌, All, length};
 ghost use Rattle.resource_lock.specs.Fits.{Fits};
-ghost use Rattle.resource_lock.specs.Outline.{task_of, action_of};
+ghost use Rattle.resource_lock.specs.GraphView.{task_of, action_of};
 ghost use Rattle.resource_lock.specs.Ranges.{IsActionOf, units_in, first_item, task_with};
 
 use resource_lock::{Graph, GraphAction, LockId};

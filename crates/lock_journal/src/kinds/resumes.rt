@@ -1,6 +1,6 @@
 ghost use Rattle.std.specs.Prelude.{◌≡◌, ◌≤◌, ◌+◌, false, length};
 ghost use Rattle.std.specs.List.{list_all, range_with_len};
-ghost use Rattle.resource_lock.specs.Standing.{mark_of};
+ghost use Rattle.resource_lock.specs.StateView.{mark_of};
 ghost use Rattle.lock_journal.specs.Allowed.{IsKindOf};
 ghost use Rattle.lock_journal.specs.Table.{has_ended, is_enabled};
 ghost use Rattle.lock_journal.specs.declared.entries.Kind.TheVariants as kinds;

@@ -1,6 +1,6 @@
 ghost use Rattle.std.specs.Prelude.{◌≡◌, ◌≤◌, ◌<◌, All, false, length};
 ghost use Rattle.std.specs.List.{list_all};
-ghost use Rattle.resource_lock.specs.Standing.{mark_of};
+ghost use Rattle.resource_lock.specs.StateView.{mark_of};
 ghost use Rattle.lock_journal.specs.Table.{has_passed, is_enabled};
 ghost use Rattle.lock_journal.specs.declared.entries.Kind.TheVariants as kinds;
 ghost use Rattle.resource_lock.specs.declared.marks.MarkId.TheVariants as ids;

@@ -1,6 +1,6 @@
 //! The changes that a worker can make, and how they are taken back.
 ghost use Rattle.std.specs.Prelude.{◌≡◌, IsTrue};
-ghost use Rattle.resource_lock.specs.Standing.{Standing, IsWorkerOf};
+ghost use Rattle.resource_lock.specs.StateView.{StateView, IsWorkerOf};
 ghost use Rattle.resource_lock.specs.Change.{can, make, names_only, NamesOnly};
 ghost use Rattle.resource_lock.specs.Leading.{CameFrom};
 
@@ -20,7 +20,7 @@ impl State {
         match change {
             Change::Lock(lock) => self.owner(lock).is_none() && !self.has_parked(worker, lock),
             Change::Unlock(lock) => self.owns(worker, lock),
-            Change::Take => !held.lease && !held.blocked && self.out < self.max,
+            Change::Take => !held.lease && !held.blocked && self.out < self.max_leases,
             Change::Give => held.lease,
             Change::Move(id, from, to) => {
                 self.mark(id) == from
@@ -63,8 +63,8 @@ impl State {
     /// Takes back changes of a worker that led to this state, given in the order in which they were
     /// made. What is left is the state before them. It takes no memory.
     pub fn take_back(&mut self, worker: WorkerId, changes: &[Change])
-        requires { (before : Standing) × CameFrom before self.old worker changes.now }
-        ensures { (before : Standing) → CameFrom before self.old worker changes.now → self.new ≡ before }
+        requires { (before : StateView) × CameFrom before self.old worker changes.now }
+        ensures { (before : StateView) → CameFrom before self.old worker changes.now → self.new ≡ before }
     {
         for change in changes.iter().rev() {
             self.make(worker, change.inverse());

@@ -3,7 +3,7 @@ ghost use Rattle.std.specs.Prelude.{◌≡◌, ◌≤◌, IfOk, replicate, map, 
 ghost use Rattle.resource_lock.specs.Opening.{opening_of};
 ghost use Rattle.resource_lock.specs.Holdings.{holding_from};
 ghost use Rattle.resource_lock.specs.Counting.{no_counts};
-ghost use Rattle.resource_lock.specs.Standing.{empty_holding};
+ghost use Rattle.resource_lock.specs.StateView.{empty_holding};
 
 use super::State;
 use super::held::{Counts, Held};
@@ -25,7 +25,7 @@ impl State {
         let actions = filled(alloc, Mark::Waiting, graph.actions().len())?;
         let units = filled(alloc, Mark::Waiting, graph.units() as usize)?;
         Ok(State {
-            max: graph.max(),
+            max_leases: graph.max_leases(),
             owners,
             held,
             out: 0,

@@ -3,7 +3,7 @@
 
 ghost use Rattle.std.specs.Prelude.{◌≡◌};
 ghost use Rattle.resource_lock.specs.Counting.{counts_of};
-ghost use Rattle.resource_lock.specs.Standing.{IsWorkerOf, runs_task, runs_unit, is_parked, runs_any, owns_any, is_idle};
+ghost use Rattle.resource_lock.specs.StateView.{IsWorkerOf, runs_task, runs_unit, is_parked, runs_any, owns_any, is_idle};
 
 use super::State;
 use super::held::Counts;

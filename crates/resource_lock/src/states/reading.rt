@@ -1,7 +1,7 @@
 //! Who owns what, who has what, and how far each task, action and unit has come.
 ghost use Rattle.std.specs.Prelude.{◌≡◌};
 ghost use Rattle.resource_lock.specs.Good.{Good};
-ghost use Rattle.resource_lock.specs.Standing.{IsWorkerOf, IsLockOf, IsMarkOf, owner_of, holding_of, leases_out, mark_of, owns, is_owner, stands_in, has_parked};
+ghost use Rattle.resource_lock.specs.StateView.{IsWorkerOf, IsLockOf, IsMarkOf, owner_of, holding_of, leases_out, mark_of, owns, is_owner, stands_in, has_parked};
 
 use super::State;
 use crate::ids::{LockId, WorkerId};

@@ -1,6 +1,6 @@
 //! Locks and leases, taken where they can be and given back where they are there.
 ghost use Rattle.std.specs.Prelude.{◌≡◌, false, if◌then◌else◌};
-ghost use Rattle.resource_lock.specs.Standing.{IsWorkerOf, IsLockOf, holding_of, owns, has_parked};
+ghost use Rattle.resource_lock.specs.StateView.{IsWorkerOf, IsLockOf, holding_of, owns, has_parked};
 ghost use Rattle.resource_lock.specs.Trying.{can_own, locked, can_lease, leased};
 ghost use Rattle.resource_lock.specs.Change.{make};
 
@@ -38,7 +38,7 @@ impl State {
         if self.has_lease(worker) {
             return true;
         }
-        if self.out == self.max {
+        if self.out == self.max_leases {
             return false;
         }
         self.make(worker, Change::Take);

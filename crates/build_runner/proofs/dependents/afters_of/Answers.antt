@@ -1,7 +1,7 @@
 use Rattle.std.proofs.Common.{◌++◌, ◌∷◌, [], map, take, sym, ap, ◌∙◌, arith}
 use Rattle.std.specs.List.{each_same}
 use Rattle.std.proofs.lemmas.List.{map-append, map_more, take_all}
-use Rattle.resource_lock.specs.Outline.{TaskOutline}
+use Rattle.resource_lock.specs.GraphView.{GraphTaskView}
 use Rattle.resource_lock.specs.declared.graphs.GraphTask.{GraphTask}
 use Rattle.task_ranks.specs.Rank.{lists_of}
 use Rattle.build_runner.proofs.Ranks.{afters_read}
@@ -20,4 +20,4 @@ returns-clause-rows c =
     c.loop-task.invariant
     ∙ ap (map (λ (t : GraphTask). t.after.items)) (take_all c.loop-task.task-index c.tasks-task-items.result.now (omega (arith, c.loop-task-test.false)))
     ∙ afters_read c.tasks-task-items.result.now
-    ∙ ap (map (λ (t : TaskOutline). t.after)) c.tasks-task-items.ensures.value
+    ∙ ap (map (λ (t : GraphTaskView). t.after)) c.tasks-task-items.ensures.value

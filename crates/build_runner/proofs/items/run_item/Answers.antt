@@ -1,7 +1,7 @@
 use Rattle.std.proofs.Common.{◌∷◌, [], ◌+◌, sym, subst}
 use Rattle.std.proofs.lemmas.Result.{on_ok_weaker}
 use Rattle.lock_journal.specs.declared.entries.Closed.{Closed}
-use Rattle.resource_lock.specs.Outline.{Outline}
+use Rattle.resource_lock.specs.GraphView.{GraphView}
 use Rattle.build_runner.specs.Phases.{HasParked, HasClaimed}
 use Rattle.build_runner.proofs.Keeping.{closed_then, keeps_closed, counted, planned_honest}
 use Rattle.build_runner.proofs.items.run_item.Goals as goal
@@ -10,8 +10,8 @@ use Rattle.build_runner.proofs.items.run_item.Goals as goal
 pub returns-clause-parked : goal.returns-clause-parked
 returns-clause-parked g c = λ r parked.
     let claim = c.in_ok-claim.ensures in
-    on_ok_weaker c.close.result (λ closed. subst (λ (o : Outline). HasParked o r c.args.task (c.args.unit + 1) c.close.new.book.state) claim.graph closed)
-    (c.close.ensures.parked r (subst (λ (o : Outline). HasClaimed o r c.args.task c.args.unit c.claim.new.book.state) (sym claim.graph) (claim.claimed r parked)))
+    on_ok_weaker c.close.result (λ closed. subst (λ (o : GraphView). HasParked o r c.args.task (c.args.unit + 1) c.close.new.book.state) claim.graph closed)
+    (c.close.ensures.parked r (subst (λ (o : GraphView). HasClaimed o r c.args.task c.args.unit c.claim.new.book.state) (sym claim.graph) (claim.claimed r parked)))
 
 pub returns-clause-keeps : goal.returns-clause-keeps
 returns-clause-keeps g c = λ plan planned. on_ok_weaker c.close.result (λ closed.

@@ -1,9 +1,9 @@
 use Rattle.std.proofs.Common.{◌≡◌, ◌+◌, length, Some, Option, sym, ◌∙◌, ap, subst, arith}
 use Rattle.std.specs.Prelude.{slice_get}
 use Rattle.item_actions.specs.Files.{Folder}
-use Rattle.resource_lock.specs.Outline.{Outline}
+use Rattle.resource_lock.specs.GraphView.{GraphView}
 use Rattle.resource_lock.specs.Ranges.{IsItemOf}
-use Rattle.plan_reader.specs.Plan.{work_shape}
+use Rattle.plan_reader.specs.PlanView.{work_view}
 use Rattle.plan_reader.specs.Units.{plan_units, item_unit}
 use Rattle.daemon_requirements.specs.declared.work.Work.{Work}
 use Rattle.build_runner.specs.Phases.{only_action, HasParked}
@@ -14,7 +14,7 @@ use Rattle.build_runner.proofs.items.run_items.Goals as goal
 pub run_item-requires-clause-item : goal.run_item-requires-clause-item
 run_item-requires-clause-item g c =
     let here = c.loop-work.invariant in
-    subst (λ (o : Outline). IsItemOf o (only_action o c.args.task) c.loop-work.unit) (sym here.graph) (c.requires.items c.loop-work.unit (omega (arith, here.unit)) (omega (arith, here.unit, c.loop-work-test.true)))
+    subst (λ (o : GraphView). IsItemOf o (only_action o c.args.task) c.loop-work.unit) (sym here.graph) (c.requires.items c.loop-work.unit (omega (arith, here.unit)) (omega (arith, here.unit, c.loop-work-test.true)))
 
 pub loop-work-preserved : goal.loop-work-preserved
 loop-work-preserved g c =
@@ -25,9 +25,9 @@ loop-work-preserved g c =
       unit = omega (arith, here.unit);
       files = ran.files ∙ here.files;
       count = omega (arith, here.count, ran.count);
-      parked = λ r p. subst (λ (o : Outline). HasParked o r c.args.task (c.loop-work.unit + 1) c.run_item.new.book.state) here.graph (ran.parked r (subst (λ (o : Outline). HasParked o r c.args.task c.loop-work.unit c.loop-work.book.state) (sym here.graph) (here.parked r p)));
+      parked = λ r p. subst (λ (o : GraphView). HasParked o r c.args.task (c.loop-work.unit + 1) c.run_item.new.book.state) here.graph (ran.parked r (subst (λ (o : GraphView). HasParked o r c.args.task c.loop-work.unit c.loop-work.book.state) (sym here.graph) (here.parked r p)));
       keeps = λ plan planned.
-          let unit : slice_get (plan_units plan) c.loop-work.unit ≡ Some (item_unit (work_shape c.work-item.result)) = ap (slice_get (plan_units plan)) here.unit ∙ planned c.loop-work.work-index c.work-item.result c.loop-work-test.true ∙ ap (λ (w : Work). Some (item_unit (work_shape w))) (sym c.work-item.is) in
+          let unit : slice_get (plan_units plan) c.loop-work.unit ≡ Some (item_unit (work_view c.work-item.result)) = ap (slice_get (plan_units plan)) here.unit ∙ planned c.loop-work.work-index c.work-item.result c.loop-work-test.true ∙ ap (λ (w : Work). Some (item_unit (work_view w))) (sym c.work-item.is) in
           keeps_then (g.D.Files.files c.args.desk.now) plan _ _ _ c.args.book.now.history c.loop-work.book.history c.run_item.new.book.history (here.keeps plan planned)
           (subst (λ (o : Option Folder). Keeps o plan (g.D.Files.faults c.loop-work.desk) (g.D.Files.faults c.run_item.new.desk) c.loop-work.book.history c.run_item.new.book.history) here.files (ran.keeps plan unit));
     }

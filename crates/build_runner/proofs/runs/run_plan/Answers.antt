@@ -1,6 +1,6 @@
 use Rattle.std.proofs.Common.{List, [], arith, sym, subst, ◌∙◌}
 use Rattle.std.specs.List.{All}
-use Rattle.resource_lock.specs.Standing.{Standing}
+use Rattle.resource_lock.specs.StateView.{StateView}
 use Rattle.lock_journal.specs.Entry.{Entry}
 use Rattle.plan_reader.specs.IsPlan.{afters}
 use Rattle.run_laws.specs.Marks.{IsEnded, HasEnded}
@@ -32,7 +32,7 @@ pub returns-clause-run : goal.returns-clause-run
 returns-clause-run g c =
     let p = c.args.plan.now in
     let b = c.run_tasks.new.book in
-    let told = g.D.Files.files c.args.desk.now in
+    let known = g.D.Files.files c.args.desk.now in
     let before = g.D.Files.faults c.args.desk.now in
     let after = g.D.Files.faults c.run_tasks.new.desk in
     let known = c.state.ensures in
@@ -41,8 +41,8 @@ returns-clause-run g c =
     let graph = c.run_tasks.ensures.graph ∙ c.in_ok-book.ensures.graph ∙ c.in_ok-graph.ensures in
     let is = is_graph_of p b.graph _ _ _ graph in
     let fits = c.graph-2.ensures.fits in
-    let ended = subst (λ (s : Standing). All IsEnded s.tasks) known.replays ran.ended in
-    let keeps : Keeps told p before after [] b.history = subst (λ (h : List Entry). Keeps told p before after h b.history) c.in_ok-book.ensures.history ran.keeps in
+    let ended = subst (λ (s : StateView). All IsEnded s.tasks) known.replays ran.ended in
+    let keeps : Keeps known p before after [] b.history = subst (λ (h : List Entry). Keeps known p before after h b.history) c.in_ok-book.ensures.history ran.keeps in
     let plan = c.tasks.ensures.plan in
     let numbering = c.ranks_give_a_numbering.ensures (afters p.tasks) (in_range p plan) (no_cycle p plan) in
     record {
@@ -53,9 +53,9 @@ returns-clause-run g c =
       free = free_at_end b.state ran.rest;
       ended = subst HasEnded (sym known.replays) (every.ended b.graph b.history fits known.lawful ended);
       order = every.order b.graph b.history fits known.lawful ended;
-      results = every.plan b.graph b.history (values_of p told b.history) numbering.0 (depth p) fits (ranks_of p b.graph numbering.0 is numbering.1)
+      results = every.plan b.graph b.history (values_of p known b.history) numbering.0 (depth p) fits (ranks_of p b.graph numbering.0 is numbering.1)
           (λ t lt. let low = numbering.1.below t (omega (arith, lt, task_count p b.graph is, afters_count p)) in omega (arith, low, afters_count p))
-          known.lawful ended (values_agree told p before after b.history c.honest_workers_give_the_answers.ensures keeps);
+          known.lawful ended (values_agree known p before after b.history c.honest_workers_give_the_answers.ensures keeps);
       faults = λ lt. let f = keeps.faults lt in omega (arith, f);
       others = keeps.others;
     }

@@ -2,7 +2,7 @@ use Rattle.std.proofs.Common.{◌≡◌, subst, sym, arith, true}
 use Rattle.std.proofs.lemmas.Result.{on_ok_weaker}
 use Rattle.lock_journal.specs.declared.entries.Kind.TheVariants as kinds
 use Rattle.resource_lock.specs.Change.{make_all}
-use Rattle.resource_lock.specs.Outline.{action_of}
+use Rattle.resource_lock.specs.GraphView.{action_of}
 use Rattle.resource_lock.specs.Ranges.{first_item}
 use Rattle.lock_journal.specs.Table.{is_enabled, list_of}
 use Rattle.build_runner.specs.Phases.{first_worker, HasParked}

@@ -1,7 +1,7 @@
 use Rattle.std.proofs.Common.{◌≡◌, ◌+◌, subst, sym, arith, true}
 use Rattle.std.proofs.lemmas.Result.{on_ok_weaker}
 use Rattle.resource_lock.specs.Ranges.{first_item}
-use Rattle.resource_lock.specs.Outline.{action_of}
+use Rattle.resource_lock.specs.GraphView.{action_of}
 use Rattle.resource_lock.specs.declared.marks.Mark.TheVariants as marks
 use Rattle.resource_lock.specs.Change.{make_all}
 use Rattle.lock_journal.specs.Table.{is_enabled, list_of}

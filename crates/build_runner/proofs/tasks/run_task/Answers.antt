@@ -1,8 +1,8 @@
 use Rattle.std.proofs.Common.{◌≡◌, ◌<◌, length, arith, sym, ap, subst, ◌∙◌}
 use Rattle.std.proofs.lemmas.List.{length-map}
-use Rattle.resource_lock.specs.Outline.{action_of}
+use Rattle.resource_lock.specs.GraphView.{action_of}
 use Rattle.resource_lock.specs.Ranges.{first_item}
-use Rattle.plan_reader.specs.Plan.{work_shape}
+use Rattle.plan_reader.specs.PlanView.{work_view}
 use Rattle.build_runner.specs.Planned.{ArePlanned, units_before}
 use Rattle.build_runner.proofs.PlainGraph.{are_plain, task_count, items_of_action, first_item_of, planned_items}
 use Rattle.build_runner.proofs.Within.{few_items, action_in_range}
@@ -19,7 +19,7 @@ run_entries-requires-clause-form g c = are_plain c.args.plan.now c.args.book.now
 
 pub run_entries-requires-clause-items : goal.run_entries-requires-clause-items
 run_entries-requires-clause-items g c =
-    sym (length-map c.items_of-items.result.now work_shape)
+    sym (length-map c.items_of-items.result.now work_view)
     ∙ ap length c.items_of-items.ensures.items
     ∙ sym (items_of_action c.args.plan.now c.args.book.now.graph c.requires.graph c.requires.form c.args.task (omega (arith, c.requires.ready.within, task_count c.args.plan.now c.args.book.now.graph c.requires.graph)))
     ∙ ap (λ a. (action_of c.args.book.now.graph a).items) (sym c.numbers_of-numbers.ensures.action)

@@ -1,8 +1,8 @@
 use Rattle.std.proofs.Common.{length, drop, arith, sym, ap, ◌∙◌, subst}
 use Rattle.std.proofs.lemmas.List.{length-drop}
 use Rattle.daemon_protocol.specs.Bodies.{frame_of}
-use Rattle.daemon_protocol.specs.Start.{look, Cuts, nothing}
-use Rattle.daemon_protocol.specs.Reading.{start_with}
+use Rattle.daemon_protocol.specs.StreamStart.{look, Cuts, nothing}
+use Rattle.daemon_protocol.specs.DecoderView.{start_with}
 use Rattle.daemon_protocol.proofs.Pushing.{pushed, not_pushed}
 use Rattle.daemon_protocol.proofs.Starting.{rest}
 use Rattle.daemon_protocol.proofs.decoders.front_of.Goals.{in-Unfinished, in-Whole+in_ok-push_frame-in-Whole+else-branch, in-Refused}

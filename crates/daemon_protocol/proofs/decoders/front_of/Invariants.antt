@@ -1,5 +1,5 @@
 use Rattle.std.proofs.Common.{◌-◌, ◌≤◌, length, drop}
-use Rattle.daemon_protocol.specs.Start.{Cuts}
+use Rattle.daemon_protocol.specs.StreamStart.{Cuts}
 use Rattle.daemon_protocol.proofs.decoders.front_of.Given as goal
 
 abbrev pub invariant-loop-tag : goal.invariant-loop-tag

@@ -1,5 +1,5 @@
 use Rattle.std.proofs.Common.{take_all, subst, ◌∙◌, sym}
-use Rattle.daemon_requirements.specs.Profile.{HasDistinctNames}
+use Rattle.daemon_requirements.specs.RequirementsView.{HasDistinctNames}
 use Rattle.daemon_requirements.proofs.Twice.{distinct_more, first_place}
 use Rattle.daemon_requirements.proofs.names.first_twice.Goals as goal
 

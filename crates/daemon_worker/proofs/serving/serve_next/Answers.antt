@@ -1,5 +1,5 @@
 use Rattle.std.proofs.Common.{◌≡◌, length, refl, rules, sym, subst, ◌∙◌}
-use Rattle.daemon_protocol.specs.declared.starts.Start.{Start}
+use Rattle.daemon_protocol.specs.declared.starts.StreamStart.{StreamStart}
 use Rattle.daemon_worker.specs.Answering.{answer_of}
 use Rattle.daemon_worker.specs.Taking.{IsTaken}
 use Rattle.daemon_worker.proofs.Services.{serving_more, ended, served_end, served_untaken, served_unanswered}
@@ -23,7 +23,7 @@ returns-in_err-answer-clause-serves g c = λ start serving.
     let asks = c.in_ok-request.ensures in
     let did = c.in_err-answer.ensures in
     let held = c.take_frame.new.held.items in
-    let whole : asks.0 ≡ length held = subst (λ (s : Start). IsTaken s (length held) c.args.room (g.S.Source.seen c.take_frame.new.source).left) asks.1 took.2 in
+    let whole : asks.0 ≡ length held = subst (λ (s : StreamStart). IsTaken s (length held) c.args.room (g.S.Source.seen c.take_frame.new.source).left) asks.1 took.2 in
     ended c.args.room c.from_residual-in_err-answer.result _ c.from_residual-in_err-answer.ensures.1
     (served_unanswered c.args.room asks.0 held c.in_ok-request.request _ did.answers serving took.0 did.count (sym took.1 ∙ asks.1) whole)
 
@@ -33,5 +33,5 @@ returns-clause-serves g c = λ start serving.
     let asks = c.in_ok-request.ensures in
     let did = c.in_ok-answer.ensures in
     let held = c.take_frame.new.held.items in
-    let whole : asks.0 ≡ length held = subst (λ (s : Start). IsTaken s (length held) c.args.room (g.S.Source.seen c.take_frame.new.source).left) asks.1 took.2 in
+    let whole : asks.0 ≡ length held = subst (λ (s : StreamStart). IsTaken s (length held) c.args.room (g.S.Source.seen c.take_frame.new.source).left) asks.1 took.2 in
     serving_more c.args.room asks.0 _ held (answer_of c.in_ok-request.request did.answers.0) (search rules) serving took.0 did.count did.files (sym took.1 ∙ asks.1) whole did.answers.1 did.answers.2

@@ -1,7 +1,7 @@
 use Rattle.std.proofs.Common.{◌≡◌, ℕ, ◌-◌, length}
-use Rattle.daemon_protocol.specs.Start.{look}
+use Rattle.daemon_protocol.specs.StreamStart.{look}
 use Rattle.daemon_protocol.specs.declared.frames.Frame.{Frame}
-use Rattle.daemon_protocol.specs.declared.starts.Start.TheVariants.{Whole}
+use Rattle.daemon_protocol.specs.declared.starts.StreamStart.TheVariants.{Whole}
 use Rattle.daemon_worker.specs.Taking.{Takes}
 use Rattle.daemon_worker.proofs.taking.take_frame.Given as goal
 

@@ -8,7 +8,7 @@ pub report-requires-clause-tasks : goal.report-requires-clause-tasks
 report-requires-clause-tasks g c = tasks_in_graph c.args.plan.now (options_of c.args.asked.now) c.requires.0 c.requires.1 c.requires.2 c.args.book c.requires.3
 
 pub returns-clause-status : goal.returns-clause-status
-returns-clause-status g c = λ told before after run.
+returns-clause-status g c = λ known before after run.
     let asked = c.args.asked.now in
     let plan = c.args.plan.now in
     let b = c.args.book in
@@ -16,7 +16,7 @@ returns-clause-status g c = λ told before after run.
     let new = g.O.Sink.seen c.report.new.out in
     let status = c.report.result.status in
     let laws = c.results_go_by_number.ensures in
-    subst (λ (passed : Bool). IsReported passed old new (run_text asked plan told b) status) (same_pass plan (options_of asked) told before after b run)
+    subst (λ (passed : Bool). IsReported passed old new (run_text asked plan known b) status) (same_pass plan (options_of asked) known before after b run)
     (subst (λ (text : List ℕ). IsReported (have_all_passed b) old new text status)
-    (same_text plan (options_of asked) told before after b run asked c.outcomes_go_by_number.ensures laws.results laws.summary c.graph.ensures.fits)
+    (same_text plan (options_of asked) known before after b run asked c.outcomes_go_by_number.ensures laws.results laws.summary c.graph.ensures.fits)
     c.report.ensures.status)

@@ -1,6 +1,6 @@
 use Rattle.std.proofs.Common.{◌≡◌, ◌++◌, map, ap, sym, subst, ◌∙◌}
 use Rattle.std.proofs.lemmas.List.{append-nil}
-use Rattle.daemon_requirements.specs.Profile.{HasDistinctNames}
+use Rattle.daemon_requirements.specs.RequirementsView.{HasDistinctNames}
 use Rattle.plan_reader.proofs.Pairs.{pair_shown, distinct_names}
 use Rattle.plan_reader.proofs.profiles.pairs_of_table.Goals as goal
 

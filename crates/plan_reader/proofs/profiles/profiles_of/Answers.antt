@@ -2,12 +2,12 @@ use Rattle.std.proofs.Common.{sym, ◌∙◌}
 use Rattle.plan_table.specs.Keys.{heap_of}
 use Rattle.plan_table.proofs.Lists.{all_of_elements}
 use Rattle.plan_reader.specs.Rows.{is_heap}
-use Rattle.plan_reader.specs.Planned.{profile_of}
+use Rattle.plan_reader.specs.Planned.{requirements_from}
 use Rattle.plan_reader.proofs.Lists.{map_of_elements}
-use Rattle.plan_reader.proofs.profiles.profiles_of.Goals as goal
+use Rattle.plan_reader.proofs.profiles.all_requirements.Goals as goal
 
 pub profiles_in-requires : goal.profiles_in-requires
 profiles_in-requires c = sym (all_of_elements (λ r. is_heap (heap_of r)) _ _ c.requirements_of.ensures) ∙ c.requires
 
 pub returns : goal.returns
-returns c = c.in_ok-profiles.ensures ∙ sym (map_of_elements profile_of _ _ c.requirements_of.ensures)
+returns c = c.in_ok-profiles.ensures ∙ sym (map_of_elements requirements_from _ _ c.requirements_of.ensures)

@@ -2,8 +2,8 @@ use Rattle.toml.specs.View.{view}
 use Rattle.plan_reader.proofs.Accepted.{heaps_fit, is_plan}
 use Rattle.plan_reader.proofs.read.plan_of.Goals as goal
 
-pub profiles_of-requires : goal.profiles_of-requires
-profiles_of-requires c = heaps_fit (view c.args.document.now) c.requires.behind
+pub all_requirements-requires : goal.all_requirements-requires
+all_requirements-requires c = heaps_fit (view c.args.document.now) c.requires.behind
 
 pub new-requires : goal.new-requires
 new-requires c =

@@ -1,5 +1,5 @@
 use Rattle.std.proofs.Common.{◌≡◌, ℕ, List, ◌++◌, length}
-use Rattle.worker_desk.specs.Sunk.{Wrote}
+use Rattle.worker_desk.specs.SinkView.{Wrote}
 use Rattle.worker_desk.proofs.sinks.put_all.Given as goal
 
 abbrev pub invariant-loop-rest : goal.invariant-loop-rest

@@ -1,7 +1,7 @@
 use Rattle.std.proofs.Common.{rules, Some, None, refl, sym, ap, ◌∙◌, subst}
 use Rattle.resource_lock.specs.declared.ids.WorkerId.{WorkerId}
 use Rattle.coordination.specs.Calls.{AskedInVain, HasLooked}
-use Rattle.coordination.specs.Passes.{Seated}
+use Rattle.coordination.specs.Passes.{PassView}
 use Rattle.coordination.proofs.Looks.{at_answer, answered_on, in_vain_on, looked_not, no_answer_on, same_halt}
 use Rattle.coordination.proofs.services.Coordination.ask.Goals as goal
 use Rattle.coordination.proofs.services.Coordination.ask.Goals.{in-Some-None+in_default, in-None-attempt_ask}
@@ -22,14 +22,14 @@ loop-preserved g c = elim c.match-attempt_ask.branch [
   | in-Some-None+in_default w ↦ (
     tt,
     tt,
-    ap (λ (p : Seated). p.service) w.pass-is ∙ (w.hear.ensures.same ∙ (c.attempt_ask.ensures.same ∙ c.loop.invariant.2)),
-    subst (λ (p : Seated). HasLooked c.args.pass.now.sight p.sight) (sym w.pass-is)
+    ap (λ (p : PassView). p.service) w.pass-is ∙ (w.hear.ensures.same ∙ (c.attempt_ask.ensures.same ∙ c.loop.invariant.2)),
+    subst (λ (p : PassView). HasLooked c.args.pass.now.sight p.sight) (sym w.pass-is)
         (subst (HasLooked c.args.pass.now.sight) (sym w.in_default.ensures.none) (no_answer_on _ _ _ _ _ c.loop.invariant.3 (at_answer _ _ _ _ _ None (search rules) w.in-Some-None.ensures.some))),
   )
   | in-None-attempt_ask w ↦ (
     tt,
     tt,
-    ap (λ (p : Seated). p.service) w.pass-is ∙ (c.attempt_ask.ensures.same ∙ c.loop.invariant.2),
-    subst (λ (p : Seated). HasLooked c.args.pass.now.sight p.sight) (sym w.pass-is) (subst (HasLooked c.args.pass.now.sight) (sym w.in-None-attempt_ask.ensures.none) c.loop.invariant.3),
+    ap (λ (p : PassView). p.service) w.pass-is ∙ (c.attempt_ask.ensures.same ∙ c.loop.invariant.2),
+    subst (λ (p : PassView). HasLooked c.args.pass.now.sight p.sight) (sym w.pass-is) (subst (HasLooked c.args.pass.now.sight) (sym w.in-None-attempt_ask.ensures.none) c.loop.invariant.3),
   )
 ]

@@ -2,7 +2,7 @@ use Rattle.std.proofs.Common.{rules, Ok, Err, refl, sym, ap, ◌∙◌, subst}
 use Rattle.resource_lock.specs.declared.ids.WorkerId.{WorkerId}
 use Rattle.lock_journal.specs.declared.transforms.Disposition.TheVariants.{Finished, Failed, Retry}
 use Rattle.coordination.specs.Calls.{HasLooked, WasStopped}
-use Rattle.coordination.specs.Passes.{Seated}
+use Rattle.coordination.specs.Passes.{PassView}
 use Rattle.coordination.proofs.Looks.{at_result, failed_on, finished_on, looked_not, looked_on, retry_on, same_halt, stopped_on}
 use Rattle.coordination.proofs.services.Coordination.with_state_lock.Goals as goal
 use Rattle.coordination.proofs.services.Coordination.with_state_lock.Goals.{in-Some-Ok-Retry-default+in_default, in-None-attempt}
@@ -29,14 +29,14 @@ loop-preserved g c = elim c.match-attempt.branch [
   | in-Some-Ok-Retry-default+in_default w ↦ (
     tt,
     tt,
-    ap (λ (p : Seated). p.service) w.pass-is ∙ (w.hear.ensures.same ∙ (c.attempt.ensures.same ∙ c.loop.invariant.2)),
-    subst (λ (p : Seated). HasLooked c.args.pass.now.sight p.sight) (sym w.pass-is)
+    ap (λ (p : PassView). p.service) w.pass-is ∙ (w.hear.ensures.same ∙ (c.attempt.ensures.same ∙ c.loop.invariant.2)),
+    subst (λ (p : PassView). HasLooked c.args.pass.now.sight p.sight) (sym w.pass-is)
         (subst (HasLooked c.args.pass.now.sight) (sym w.in_default.ensures.none) (retry_on _ _ _ _ _ _ c.loop.invariant.3 (at_result _ _ _ _ _ _ (Ok Retry) (search rules) w.in-Some-Ok-Retry-default.ensures.some))),
   )
   | in-None-attempt w ↦ (
     tt,
     tt,
-    ap (λ (p : Seated). p.service) w.pass-is ∙ (c.attempt.ensures.same ∙ c.loop.invariant.2),
-    subst (λ (p : Seated). HasLooked c.args.pass.now.sight p.sight) (sym w.pass-is) (subst (HasLooked c.args.pass.now.sight) (sym w.in-None-attempt.ensures.none) c.loop.invariant.3),
+    ap (λ (p : PassView). p.service) w.pass-is ∙ (c.attempt.ensures.same ∙ c.loop.invariant.2),
+    subst (λ (p : PassView). HasLooked c.args.pass.now.sight p.sight) (sym w.pass-is) (subst (HasLooked c.args.pass.now.sight) (sym w.in-None-attempt.ensures.none) c.loop.invariant.3),
   )
 ]

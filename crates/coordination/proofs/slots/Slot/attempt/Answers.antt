@@ -27,7 +27,7 @@ invariant_of-pass-2 g c =
       closes_pass c.pass.inside.worker c.run-ran.new.part c.put_back.new.seat.me (seeing (sight_of c.run-ran.new.seat.me.0) new) (seeing (sight_of c.pass.inside.seat.me.0) new) c.put_back.ensures.view is worker_is
           (subst (λ (w : WorkerId). IsPartOf new w c.run-ran.new.part) worker_is c.run-ran.ensures.part) c.run-ran.ensures.room,
       c.pass.invariant.1 ∙ sym (ap (λ (k : Sight). k.stopped) is),
-      c.pass.invariant.2 ∙ sym (ap (λ (k : Sight). k.told) is),
+      c.pass.invariant.2 ∙ sym (ap (λ (k : Sight). k.stopped_by) is),
     )
 
 pub run-ran-requires-clause-sound : goal.run-ran-requires-clause-sound

@@ -3,11 +3,11 @@ use Rattle.std.specs.List.{All}
 use Rattle.std.proofs.lemmas.List.Elements.{All-push}
 use Rattle.std.proofs.lemmas.List.{map-append}
 use Rattle.atomic_table.specs.Table.{Splits}
-use Rattle.lock_journal.specs.Journal.{Journal}
+use Rattle.lock_journal.specs.BookView.{BookView}
 use Rattle.coordination.specs.declared.rule.Sight.{Sight}
 use Rattle.coordination.specs.declared.rule.SeatView.{SeatView}
 use Rattle.coordination.specs.Parts.{HasRoom, IsPartOf, marks_of}
-use Rattle.coordination.specs.Passes.{Seated}
+use Rattle.coordination.specs.Passes.{PassView}
 use Rattle.coordination.specs.Rule.{M, Orderly, first_sight, other_sights}
 use Rattle.coordination.specs.Sights.{sight, sight_of, all_of, one, sights_from}
 use Rattle.coordination.proofs.Nothing.{resting_part}
@@ -27,7 +27,7 @@ split_seat-own-requires c =
     let view : c.loop-worker.seat.me.0 ≡ all_of (sights_from w (suc m) book) = ap (λ (x : M). x.0) inv.1 ∙ ap (λ (k : ℕ). all_of (sights_from w k book)) more in
     (search rules, search rules, subst (λ (v : SeatView). Splits (Orderly book.graph) id v (other_sights v) (first_sight v)) (sym view) (splits_it book.graph id w m book))
 
-module _ (book : Journal) (w n : ℕ) (low : w < n) where
+module _ (book : BookView) (w n : ℕ) (low : w < n) where
   more : n - w ≡ suc (n - (w + 1))
   more = omega arith
 
@@ -70,7 +70,7 @@ invariant_of-push c =
             (subst (λ (x : ℕ × ℕ). HasRoom x.0 x.1 c.in_ok-part.part) (λ i. (c.requires.room.locks i, c.requires.room.marks i)) c.in_ok-part.ensures.has_room);
       },
       sym (ap (λ (k : Sight). k.stopped) s),
-      sym (ap (λ (k : Sight). k.told) s),
+      sym (ap (λ (k : Sight). k.stopped_by) s),
     )
 
 pub loop-worker-preserved : goal.loop-worker-preserved
@@ -83,11 +83,11 @@ loop-worker-preserved c =
     let e = c.split_seat-own.ensures in
     let items = c.in_ok-push.ensures.items in
     let is = part book w n low c.loop-worker.seat.me c.split_seat-own.result.me (ap (λ (x : M). x.0) inv.1) e.4 in
-    let f : Seated → Sight = λ p. p.sight in
-    let mine : Seated → Type 0 = λ p. p.service ≡ c.args.self.now.table.shared.table_id in (
+    let f : PassView → Sight = λ p. p.sight in
+    let mine : PassView → Type 0 = λ p. p.service ≡ c.args.self.now.table.shared.table_id in (
       e.0 ∙ inv.0,
       left book w n low c.loop-worker.seat.me c.split_seat-own.new.seat.me inv.1 e.2,
-      row book w n low (map f c.loop-worker.passes.items) (map f c.push.new.self.items) (sight_of c.split_seat-own.result.me.0) (ap (λ (l : List Seated). map f l) items ∙ map-append f c.loop-worker.passes.items _)
+      row book w n low (map f c.loop-worker.passes.items) (map f c.push.new.self.items) (sight_of c.split_seat-own.result.me.0) (ap (λ (l : List PassView). map f l) items ∙ map-append f c.loop-worker.passes.items _)
           (ap (λ (x : M). sight_of x.0) is) inv.2,
       subst (All mine) (sym items) (All-push mine c.loop-worker.passes.items _ inv.3 (e.3 ∙ (inv.0 ∙ c.requires.id))),
     )

@@ -1,6 +1,6 @@
 use Rattle.std.proofs.Common.{rules, subst, ◌≡◌, ◌∷◌, ◌∙◌, ap, sym}
 use Rattle.atomic_table.specs.Table.{rest}
-use Rattle.lock_journal.specs.Journal.{Journal}
+use Rattle.lock_journal.specs.BookView.{BookView}
 use Rattle.coordination.specs.Attempts.{Ran}
 use Rattle.coordination.specs.Rule.{carried_book}
 use Rattle.coordination.proofs.Tries.{ran_of}
@@ -16,5 +16,5 @@ returns-clause-ran g c =
     let fails = g.T.Transform.fails_on c.args.transform.now in
     let retries = g.T.Transform.retries_on c.args.transform.now in
     let found : c.slot_mut-book.result.now ≡ carried_book c.args.seat.now.me.1 = search rules in
-    subst (λ (b : Journal). Ran kind fails retries c.args.worker b c.run-ran.new.self c.run-ran.result) found
+    subst (λ (b : BookView). Ran kind fails retries c.args.worker b c.run-ran.new.self c.run-ran.result) found
     (ran_of kind fails retries c.args.worker c.slot_mut-book.result.now c.run-ran.new.self c.run-ran.result e.finished e.failed e.retry (λ x is. search rules))

@@ -1,5 +1,5 @@
 use Rattle.std.proofs.Common.{[], sym, subst, None}
-use Rattle.daemon_protocol.specs.Reading.{Reads}
+use Rattle.daemon_protocol.specs.DecoderView.{Reads}
 use Rattle.daemon_protocol.proofs.Readings.{reads_nothing}
 use Rattle.daemon_protocol.proofs.decoders.Decoder.new.Goals as goal
 

@@ -1,5 +1,5 @@
 use Rattle.std.proofs.Common.{refl}
-use Rattle.daemon_requirements.specs.Profile.{profile_of}
+use Rattle.daemon_requirements.specs.RequirementsView.{requirements_view}
 use Rattle.daemon_requirements.specs.Covers.{Covers}
 use Rattle.daemon_requirements.proofs.Coverings.{not_served}
 use Rattle.daemon_requirements.proofs.requirement.Requirements.covers.Goals as goal
@@ -15,7 +15,7 @@ returns-then-not-serves-5 c = rw (← c.self.view_is, ← c.asked.view_is) (not_
 
 pub returns : goal.returns
 returns c =
-    let covers : Covers (profile_of c.self.inside.fields) (profile_of c.asked.inside.fields) = record {
+    let covers : Covers (requirements_view c.self.inside.fields) (requirements_view c.asked.inside.fields) = record {
       executable = c.serves.ensures.0 c.if-not-serves.false;
       heap_mb = c.serves-2.ensures.0 c.if-not-serves-2.false;
       args = c.serves-3.ensures.0 c.if-not-serves-3.false;

@@ -1,13 +1,13 @@
 use Rattle.std.proofs.Common.{◌≡◌, ◌≢◌, List, [], ◌∷◌, ◌++◌, Some, None, ◌∙◌, ap, subst, arith}
-use Rattle.resource_lock.specs.Outline.{Outline}
-use Rattle.resource_lock.specs.Standing.{Standing}
+use Rattle.resource_lock.specs.GraphView.{GraphView}
+use Rattle.resource_lock.specs.StateView.{StateView}
 use Rattle.resource_lock.specs.declared.changes.Change.{Change}
 use Rattle.lock_journal.specs.declared.entries.Kind.{Kind}
 use Rattle.lock_journal.specs.declared.transforms.Disposition.TheVariants.{Finished}
 use Rattle.lock_journal.specs.Entry.{Entry, entry, effect}
 use Rattle.lock_journal.specs.Allowed.{Allowed}
-use Rattle.lock_journal.specs.Attempt.{Attempt}
-use Rattle.lock_journal.specs.Journal.{Journal}
+use Rattle.lock_journal.specs.TentativeView.{TentativeView}
+use Rattle.lock_journal.specs.BookView.{BookView}
 use Rattle.lock_journal.proofs.Replays.{Extends, sound_extended}
 use Rattle.lock_journal.proofs.books.Book.run.Given.{Over}
 use Rattle.lock_journal.proofs.books.Book.run.Goals as goal
@@ -16,13 +16,13 @@ use Rattle.lock_journal.proofs.books.Book.run.Goals as goal
 extended : (g : Over) (c : goal.After-settle g) → Extends c.self.inside (record { tentative = c.settle.new.self; history = c.push_finished.new.self }) (entry c.args.worker (g.T.Transform.kind_of c.args.transform.now) (Some c.attempt-disposition.new.self.made))
 extended g c =
     record {
-      fresh = ap (λ (t : Attempt). t.made) c.settle.ensures;
-      graph = ap (λ (t : Attempt). t.graph) c.settle.ensures ∙ c.attempt-disposition.ensures.graph;
+      fresh = ap (λ (t : TentativeView). t.made) c.settle.ensures;
+      graph = ap (λ (t : TentativeView). t.graph) c.settle.ensures ∙ c.attempt-disposition.ensures.graph;
       units = c.push_finished.ensures.units;
       entries = c.push_finished.ensures.entries
           ∙ ap (λ (k : Kind). c.self.inside.history.entries ++ entry c.args.worker k (Some c.made.result.now) ∷ []) c.kind.ensures
           ∙ ap (λ (cs : List Change). c.self.inside.history.entries ++ entry c.args.worker (g.T.Transform.kind_of c.args.transform.now) (Some cs) ∷ []) c.made.ensures;
-      state = ap (λ (t : Attempt). t.state) c.settle.ensures ∙ c.attempt-disposition.ensures.made c.in-Finished.is;
+      state = ap (λ (t : TentativeView). t.state) c.settle.ensures ∙ c.attempt-disposition.ensures.made c.in-Finished.is;
       allowed = c.attempt-disposition.ensures.allowed c.in-Finished.is;
     }
 
@@ -32,7 +32,7 @@ invariant_of-self g c = sound_extended c.self.inside _ _ c.self.invariant (exten
 pub invariant_of-self-in-Failed : goal.invariant_of-self-in-Failed
 invariant_of-self-in-Failed g c =
     let unfinished : c.attempt-disposition.result ≢ Finished = λ e. let f = c.in-Failed.is in cc in
-    let graph : c.self.inside.tentative.graph ≡ c.args.self.now.graph = ap (λ (l : Journal). l.graph) c.self.view_is ∙ c.in_ok-reserve.ensures.same.graph in
+    let graph : c.self.inside.tentative.graph ≡ c.args.self.now.graph = ap (λ (l : BookView). l.graph) c.self.view_is ∙ c.in_ok-reserve.ensures.same.graph in
     let more : Extends c.self.inside (record { tentative = c.attempt-disposition.new.self; history = c.push_failed.new.self }) (entry c.args.worker (g.T.Transform.kind_of c.args.transform.now) None) = record {
       fresh = c.attempt-disposition.ensures.fresh unfinished;
       graph = c.attempt-disposition.ensures.graph;
@@ -40,21 +40,21 @@ invariant_of-self-in-Failed g c =
       entries = c.push_failed.ensures.entries
           ∙ ap (λ (k : Kind). c.self.inside.history.entries ++ entry c.args.worker k None ∷ []) c.kind-in-Failed.ensures;
       state = c.attempt-disposition.ensures.undone unfinished;
-      allowed = record { worker = omega (arith, c.requires, ap (λ (o : Outline). o.workers) graph); kind = c.attempt-disposition.ensures.kind c.in-Failed.is; finished = tt };
+      allowed = record { worker = omega (arith, c.requires, ap (λ (o : GraphView). o.workers) graph); kind = c.attempt-disposition.ensures.kind c.in-Failed.is; finished = tt };
     } in
     sound_extended c.self.inside _ _ c.self.invariant more
 
 pub returns-in-Finished-clause-finished : goal.returns-in-Finished-clause-finished
 returns-in-Finished-clause-finished g c = λ _.
     let more = extended g c in
-    let graph : c.self.inside.tentative.graph ≡ c.args.self.now.graph = ap (λ (l : Journal). l.graph) c.self.view_is ∙ c.in_ok-reserve.ensures.same.graph in
-    let history : c.self.inside.history.entries ≡ c.args.self.now.history = ap (λ (l : Journal). l.history) c.self.view_is ∙ c.in_ok-reserve.ensures.same.history in
-    let state : c.self.inside.tentative.state ≡ c.args.self.now.state = ap (λ (l : Journal). l.state) c.self.view_is ∙ c.in_ok-reserve.ensures.same.state in (
+    let graph : c.self.inside.tentative.graph ≡ c.args.self.now.graph = ap (λ (l : BookView). l.graph) c.self.view_is ∙ c.in_ok-reserve.ensures.same.graph in
+    let history : c.self.inside.history.entries ≡ c.args.self.now.history = ap (λ (l : BookView). l.history) c.self.view_is ∙ c.in_ok-reserve.ensures.same.history in
+    let state : c.self.inside.tentative.state ≡ c.args.self.now.state = ap (λ (l : BookView). l.state) c.self.view_is ∙ c.in_ok-reserve.ensures.same.state in (
       c.attempt-disposition.new.self.made,
       record {
-        allowed = subst (λ (o : Outline). Allowed o c.args.self.now.state (entry c.args.worker (g.T.Transform.kind_of c.args.transform.now) (Some c.attempt-disposition.new.self.made))) graph
-            (subst (λ (s : Standing). Allowed c.self.inside.tentative.graph s (entry c.args.worker (g.T.Transform.kind_of c.args.transform.now) (Some c.attempt-disposition.new.self.made))) state more.allowed);
+        allowed = subst (λ (o : GraphView). Allowed o c.args.self.now.state (entry c.args.worker (g.T.Transform.kind_of c.args.transform.now) (Some c.attempt-disposition.new.self.made))) graph
+            (subst (λ (s : StateView). Allowed c.self.inside.tentative.graph s (entry c.args.worker (g.T.Transform.kind_of c.args.transform.now) (Some c.attempt-disposition.new.self.made))) state more.allowed);
         history = more.entries ∙ ap (λ (h : List Entry). h ++ entry c.args.worker (g.T.Transform.kind_of c.args.transform.now) (Some c.attempt-disposition.new.self.made) ∷ []) history;
-        state = more.state ∙ ap (λ (s : Standing). effect s (entry c.args.worker (g.T.Transform.kind_of c.args.transform.now) (Some c.attempt-disposition.new.self.made))) state;
+        state = more.state ∙ ap (λ (s : StateView). effect s (entry c.args.worker (g.T.Transform.kind_of c.args.transform.now) (Some c.attempt-disposition.new.self.made))) state;
       },
     )

@@ -5,14 +5,14 @@ use Rattle.std.proofs.lemmas.List.{length-append, with_items_is}
 use Rattle.item_actions.specs.declared.outcomes.Outcome.TheVariants as outcomes
 use Rattle.lock_journal.specs.Closings.{closing_of, last_or}
 use Rattle.lock_journal.specs.Entry.{entry}
-use Rattle.lock_journal.specs.Past.{Past}
+use Rattle.lock_journal.specs.HistoryView.{HistoryView}
 use Rattle.lock_journal.proofs.Pushes.{Adds, entries_added, sound_added}
 use Rattle.lock_journal.proofs.histories.History.push_finished.Goals as goal
 
 adds : (c : goal.After-push_reserved) → Adds c.self.inside (record { stored = c.push_reserved.new.self; changes = c.extend_from_slice.new.self; outcomes = with_items c.self.inside.outcomes c.set_outcome.new.all }) (record { worker = c.args.worker; kind = c.args.kind; failed = false; start = c.len-start.result; end = c.len.result }) c.args.changes.now
 adds c =
     let spare : length c.args.changes.now ≤ c.args.self.now.spare_changes = c.requires.some_changes in
-    let view : vec_capacity c.self.inside.changes - vec_len c.self.inside.changes ≡ c.args.self.now.spare_changes = ap (λ (p : Past). p.spare_changes) c.self.view_is in
+    let view : vec_capacity c.self.inside.changes - vec_len c.self.inside.changes ≡ c.args.self.now.spare_changes = ap (λ (p : HistoryView). p.spare_changes) c.self.view_is in
     let fits : vec_len c.self.inside.changes + length c.args.changes.now ≤ vec_capacity c.self.inside.changes = omega arith in
     let ok : is_ok c.extend_from_slice.result ≡ true = c.extend_from_slice.ensures.succeeds fits in
     let changes : c.extend_from_slice.new.self.items ≡ c.self.inside.changes.items ++ c.args.changes.now =
@@ -32,4 +32,4 @@ pub invariant_of-self : goal.invariant_of-self
 invariant_of-self c = sound_added c.self.inside _ _ c.args.changes.now c.self.invariant (adds c)
 
 pub returns-clause-entries : goal.returns-clause-entries
-returns-clause-entries c = entries_added c.self.inside _ _ c.args.changes.now c.self.invariant (adds c) ∙ ap (λ (p : Past). p.entries ++ entry c.args.worker c.args.kind (Some c.args.changes.now) ∷ []) c.self.view_is
+returns-clause-entries c = entries_added c.self.inside _ _ c.args.changes.now c.self.invariant (adds c) ∙ ap (λ (p : HistoryView). p.entries ++ entry c.args.worker c.args.kind (Some c.args.changes.now) ∷ []) c.self.view_is

@@ -1,6 +1,6 @@
 use Rattle.std.proofs.Common.{◌+◌, ◌-◌, ◌≤◌, List, [], ◌∷◌, length, sym, ◌∙◌, ap, subst, arith}
 use Rattle.std.proofs.lemmas.List.{append-nil}
-use Rattle.resource_lock.specs.Outline.{Outline}
+use Rattle.resource_lock.specs.GraphView.{GraphView}
 use Rattle.resource_lock.specs.declared.changes.Change.{Change}
 use Rattle.lock_journal.specs.Table.{skipped_action, skipped_actions}
 use Rattle.lock_journal.proofs.Makings.{makes_more, makes_room, makes_some, still_belongs}
@@ -13,7 +13,7 @@ skip_action-requires-clause-belongs c = still_belongs c.loop-action.invariant c.
 pub skip_action-requires-clause-room : goal.skip_action-requires-clause-room
 skip_action-requires-clause-room c =
     let room : length (skipped_actions c.args.work.now.graph (c.loop-action.action ∷ [])) ≤ c.loop-action.work.room = makes_room (skipped_actions c.args.work.now.graph) (skipped_actions-append c.args.work.now.graph) c.args.actions.first c.loop-action.action c.args.actions.count (omega arith) (omega arith) c.loop-action.invariant c.requires.room in
-    subst (λ (l : List Change). length l ≤ c.loop-action.work.room) (append-nil (skipped_action c.args.work.now.graph c.loop-action.action) ∙ ap (λ (g : Outline). skipped_action g c.loop-action.action) (sym c.loop-action.invariant.graph)) room
+    subst (λ (l : List Change). length l ≤ c.loop-action.work.room) (append-nil (skipped_action c.args.work.now.graph c.loop-action.action) ∙ ap (λ (g : GraphView). skipped_action g c.loop-action.action) (sym c.loop-action.invariant.graph)) room
 
 pub returns-then-not-skip_action : goal.returns-then-not-skip_action
 returns-then-not-skip_action c = makes_some (skipped_actions c.args.work.now.graph) (skipped_actions-append c.args.work.now.graph) c.args.actions.first (c.loop-action.action + 1 - c.args.actions.first) c.args.actions.count (omega arith)

@@ -1,5 +1,5 @@
 use Rattle.std.proofs.Common.{◌≤◌, length}
-use Rattle.lock_journal.specs.Attempt.{Worked}
+use Rattle.lock_journal.specs.TentativeView.{Worked}
 use Rattle.lock_journal.proofs.tests.UnfinishedTransform.apply.Given as goal
 
 abbrev pub invariant-loop-step : goal.invariant-loop-step

@@ -7,12 +7,12 @@ use Rattle.plan_reader.proofs.plans.Plan.graph.Goals as goal
 pub new-requires : goal.new-requires
 new-requires c =
     subst Fits
-    (sym (same_graph c.args.self.now c.args.workers c.args.max c.locks-locks.result c.args.parallel c.in_ok-tasks.tasks.items c.in_ok-actions.actions.items c.locks-locks.ensures
+    (sym (same_graph c.args.self.now c.args.workers c.args.max_leases c.locks-locks.result c.args.parallel c.in_ok-tasks.tasks.items c.in_ok-actions.actions.items c.locks-locks.ensures
     (c.in_ok-tasks.ensures ∙ ap (tasks_from c.args.parallel 0) c.tasks.ensures.value) (c.in_ok-actions.ensures ∙ ap (all_actions_from 0 0) c.tasks-2.ensures.value)))
-    (graph_fits c.args.self.now c.args.workers c.args.max c.args.parallel c.tasks.ensures.plan c.requires.some_worker c.requires.few_workers c.requires.some_lease c.requires.few_leases)
+    (graph_fits c.args.self.now c.args.workers c.args.max_leases c.args.parallel c.tasks.ensures.plan c.requires.some_worker c.requires.few_workers c.requires.some_lease c.requires.few_leases)
 
 pub returns : goal.returns
 returns c =
     c.new.ensures
-    ∙ same_graph c.args.self.now c.args.workers c.args.max c.locks-locks.result c.args.parallel c.in_ok-tasks.tasks.items c.in_ok-actions.actions.items c.locks-locks.ensures
+    ∙ same_graph c.args.self.now c.args.workers c.args.max_leases c.locks-locks.result c.args.parallel c.in_ok-tasks.tasks.items c.in_ok-actions.actions.items c.locks-locks.ensures
     (c.in_ok-tasks.ensures ∙ ap (tasks_from c.args.parallel 0) c.tasks.ensures.value) (c.in_ok-actions.ensures ∙ ap (all_actions_from 0 0) c.tasks-2.ensures.value)

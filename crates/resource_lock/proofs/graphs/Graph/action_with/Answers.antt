@@ -1,7 +1,7 @@
 use Rattle.std.proofs.Common.{◌≡◌, ◌<◌, ◌≤◌, length, leb, true, false, rules, sym, ap, subst, arith}
 use Rattle.std.specs.List.Sorted.{IsPartitionPoint, IsNonDecreasingBy}
 use Rattle.std.proofs.lemmas.List.Sorted.{IsPartitionPoint-from_clause, IsPartitionedBy-leb}
-use Rattle.resource_lock.specs.Outline.{action_of}
+use Rattle.resource_lock.specs.GraphView.{action_of}
 use Rattle.resource_lock.specs.Ranges.{units_in}
 use Rattle.resource_lock.proofs.Follows.{ends_rise}
 use Rattle.resource_lock.proofs.Units.{end_of, at_partition, unit_from, few_actions_in_all}

@@ -2,10 +2,10 @@ use Rattle.std.proofs.Common.{◌+◌, map, set, refl, sym, ◌∙◌, ap, arith
 use Rattle.std.proofs.lemmas.List.{length-set}
 use Rattle.resource_lock.proofs.Lists.{one_if}
 use Rattle.resource_lock.proofs.Holding.{has_room, view_made, sound_left, lease_free, some_out, quiet}
-use Rattle.resource_lock.specs.Standing.{Standing, holding_of, leases_out}
+use Rattle.resource_lock.specs.StateView.{StateView, holding_of, leases_out}
 use Rattle.resource_lock.specs.Change.{can}
 use Rattle.resource_lock.specs.Holdings.{holding_from}
-use Rattle.resource_lock.specs.State.{standing_of}
+use Rattle.resource_lock.specs.State.{state_view}
 use Rattle.resource_lock.specs.declared.changes.Change.TheVariants.{Lock, Unlock, Take, Give, Move}
 use Rattle.resource_lock.specs.declared.marks.MarkId.TheVariants.{Task as TaskOf, Action as ActionOf, Unit as UnitOf}
 use Rattle.resource_lock.proofs.states.State.make.Goals as goal
@@ -63,7 +63,7 @@ invariant_of-self-in-Unit c = sound_left {a = c.self.inside} {k = Move (UnitOf c
     (record { is = c.in-Move.is ∙ ap (λ m. Move m c.in-Move.field-1 c.in-Move.to) c.in-Unit.is; held = refl; owners = refl; view = refl; out = refl })
 
 pub returns-in-Park : goal.returns-in-Park
-returns-in-Park c = ap (λ (s : Standing). record s { holdings = map holding_from (set c.self.inside.held.items c.args.worker.0 c.note.new.self) }) ((quiet c.args.change c.in-Park.is).rest (standing_of c.self.inside) c.args.worker)
+returns-in-Park c = ap (λ (s : StateView). record s { holdings = map holding_from (set c.self.inside.held.items c.args.worker.0 c.note.new.self) }) ((quiet c.args.change c.in-Park.is).rest (state_view c.self.inside) c.args.worker)
     ∙ view_made {a = c.self.inside} c.args.change (record { reads = record { view_is = c.self.view_is; worker = c.requires.worker_in_range; named = c.requires.change_in_range; possible = c.requires.possible; read = c.index_mut.ensures.value }; after = c.note.ensures; sound = c.self.invariant }) refl
 
 pub invariant_of-self-in-Park : goal.invariant_of-self-in-Park
@@ -72,6 +72,6 @@ invariant_of-self-in-Park c = sound_left {a = c.self.inside} {k = c.args.change}
       is = refl;
       held = refl;
       owners = refl;
-      view = ap (λ (s : Standing). record s { holdings = map holding_from (set c.self.inside.held.items c.args.worker.0 c.note.new.self) }) ((quiet c.args.change c.in-Park.is).rest (standing_of c.self.inside) c.args.worker);
+      view = ap (λ (s : StateView). record s { holdings = map holding_from (set c.self.inside.held.items c.args.worker.0 c.note.new.self) }) ((quiet c.args.change c.in-Park.is).rest (state_view c.self.inside) c.args.worker);
       out = ap (λ b. c.self.inside.out + one_if b) ((quiet c.args.change c.in-Park.is).lease (holding_of c.args.self.now c.args.worker));
     })

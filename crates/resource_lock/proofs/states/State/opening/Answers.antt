@@ -1,9 +1,9 @@
 use Rattle.std.proofs.Common.{length, replicate, Option, None, refl, ◌∙◌, ap, arith, sym}
 use Rattle.std.proofs.lemmas.List.{length-map, length-replicate}
 use Rattle.resource_lock.proofs.Begins.{same_standing, sound_opening}
-use Rattle.resource_lock.specs.Standing.{empty_holding}
+use Rattle.resource_lock.specs.StateView.{empty_holding}
 use Rattle.resource_lock.specs.Counting.{no_counts}
-use Rattle.resource_lock.specs.Outline.{outline_of}
+use Rattle.resource_lock.specs.GraphView.{graph_view}
 use Rattle.resource_lock.specs.declared.ids.WorkerId.{WorkerId}
 use Rattle.resource_lock.specs.declared.marks.Mark.TheVariants.{Waiting}
 use Rattle.resource_lock.proofs.states.State.opening.Goals as goal
@@ -11,10 +11,10 @@ use Rattle.resource_lock.proofs.states.State.opening.Goals as goal
 pub invariant_of-result : goal.invariant_of-result
 invariant_of-result c = sound_opening _ c.args.graph.now
     (same_standing
-    c.max.ensures
+    c.max_leases.ensures
     (c.in_ok-owners.ensures ∙ ap (λ n. replicate n None) c.locks.ensures)
     (c.in_ok-held.ensures.empty ∙ ap (λ n. replicate n empty_holding) c.workers.ensures)
-    (c.in_ok-tasks.ensures ∙ ap (λ n. replicate n Waiting) (sym (length-map c.tasks.result.now outline_of) ∙ ap length c.tasks.ensures.value))
+    (c.in_ok-tasks.ensures ∙ ap (λ n. replicate n Waiting) (sym (length-map c.tasks.result.now graph_view) ∙ ap length c.tasks.ensures.value))
     (c.in_ok-actions.ensures ∙ ap (λ actions. replicate (length actions) Waiting) c.actions.ensures.value)
     (c.in_ok-units.ensures ∙ ap (λ n. replicate n Waiting) c.units.ensures))
     refl

@@ -1,7 +1,7 @@
 use Rattle.std.proofs.Common.{◌≡◌, ◌≤◌, replicate, map, All, vec_capacity}
 use Rattle.resource_lock.specs.Holdings.{holding_from}
 use Rattle.resource_lock.specs.Counting.{no_counts}
-use Rattle.resource_lock.specs.Standing.{empty_holding}
+use Rattle.resource_lock.specs.StateView.{empty_holding}
 use Rattle.resource_lock.proofs.states.opening.empty_holdings.Given as goal
 
 abbrev pub invariant-loop : goal.invariant-loop

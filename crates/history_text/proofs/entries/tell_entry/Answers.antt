@@ -1,6 +1,0 @@
-use Rattle.std.proofs.Common.{append_assoc}
-use Rattle.worker_desk.proofs.Telling.{adds_as, adds_then}
-use Rattle.history_text.proofs.entries.tell_entry.Goals as goal
-
-pub returns : goal.returns
-returns g c = adds_as (simp append_assoc) (adds_then (adds_then (adds_then (adds_then (adds_then (adds_then c.number.ensures c.tell_numbered.ensures) c.text.ensures) c.tell_kind.ensures) c.text-2.ensures) c.tell_effect.ensures) c.text-3.ensures)

@@ -1,0 +1,7 @@
+use Rattle.std.proofs.Common.{take}
+use Rattle.worker_desk.specs.PageView.{Adds}
+use Rattle.history_text.specs.Text.{entry_text, numbered}
+use Rattle.history_text.proofs.entries.write_entries.Given as goal
+
+abbrev pub invariant-loop-place : goal.invariant-loop-place
+invariant-loop-place g l = Adds (g.K.Sink.seen l.fn.sink) l.fn.page (g.K.Sink.seen l.sink) l.page (numbered entry_text 1 (take l.place l.book.history))

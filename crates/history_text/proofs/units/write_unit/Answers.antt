@@ -1,0 +1,6 @@
+use Rattle.std.proofs.Common.{append_assoc}
+use Rattle.worker_desk.proofs.Telling.{adds_as, adds_then}
+use Rattle.history_text.proofs.units.write_unit.Goals as goal
+
+pub returns : goal.returns
+returns g c = adds_as (simp append_assoc) (adds_then (adds_then (adds_then (adds_then (adds_then (adds_then c.text.ensures c.text-2.ensures) c.text-3.ensures) c.write_name.ensures) c.text-4.ensures) c.write_value.ensures) c.text-5.ensures)

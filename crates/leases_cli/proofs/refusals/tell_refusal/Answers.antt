@@ -1,4 +1,0 @@
-use Rattle.leases_cli.proofs.refusals.tell_refusal.Goals as goal
-
-pub returns-in-PlanFault : goal.returns-in-PlanFault
-returns-in-PlanFault g c = rw c.in-PlanFault.is c.text-in-PlanFault.ensures

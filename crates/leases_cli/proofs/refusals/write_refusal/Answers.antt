@@ -1,0 +1,4 @@
+use Rattle.leases_cli.proofs.refusals.write_refusal.Goals as goal
+
+pub returns-in-PlanFault : goal.returns-in-PlanFault
+returns-in-PlanFault g c = rw c.in-PlanFault.is c.text-in-PlanFault.ensures
