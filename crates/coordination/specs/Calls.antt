@@ -35,7 +35,7 @@ pub record HasLooked (old new : Sight) : Type 0 where
   pub agrees : Agrees old.worker old.seen book
   pub sight : new ≡ seeing old book
 
--- The transform asked to be run again on a book that agrees with the pass, and the pass was stopped_by who has stopped the service.
+-- The transform asked to be run again on a book that agrees with the pass, and the pass heard who has stopped the service.
 pub record WasStopped (retries : Cause) (by : WorkerId) (old new : Sight) : Type 0 where
   pub book : BookView
   pub agrees : Agrees old.worker old.seen book
@@ -49,13 +49,13 @@ pub record IsAnswered {A : Type 0} (answers : WorkerId → BookView → A → Ty
   pub answer : answers old.worker book a
   pub sight : new ≡ seeing old book
 
--- The question had no answer of a book that agrees with the pass, and the pass was stopped_by who has stopped the service.
+-- The question had no answer of a book that agrees with the pass, and the pass heard who has stopped the service.
 pub record AskedInVain (waits : WorkerId → BookView → Type 0) (by : WorkerId) (old new : Sight) : Type 0 where
   pub book : BookView
   pub agrees : Agrees old.worker old.seen book
   pub cause : waits old.worker book
   pub sight : new ≡ hearing (seeing old book) by
 
--- The worker has stopped the service, or was stopped_by who did so before.
+-- The worker has stopped the service, or heard who did so before.
 abbrev pub HasStopped : Sight → Sight → Type 0
 HasStopped old new = (new ≡ stopping old) ⊎ ((by : WorkerId) × (new ≡ hearing old by))

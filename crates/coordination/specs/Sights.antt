@@ -18,7 +18,7 @@ seeing s book = record { worker = s.worker; seen = book; stopped = s.stopped; st
 abbrev pub stopping : Sight → Sight
 stopping s = record { worker = s.worker; seen = s.seen; stopped = true; stopped_by = s.stopped_by }
 
--- the worker was stopped_by who has stopped the service
+-- the worker heard who has stopped the service
 abbrev pub hearing : Sight → WorkerId → Sight
 hearing s w = record { worker = s.worker; seen = s.seen; stopped = s.stopped; stopped_by = Some w }
 

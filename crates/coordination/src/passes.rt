@@ -91,7 +91,7 @@ impl Pass {
         self.stopped
     }
 
-    /// The worker that has stopped the service, once this one was stopped_by.
+    /// The worker that has stopped the service, once this one heard of it.
     pub fn stopped_by(&self) -> Option<WorkerId>
         ensures { result ≡ self.now.sight.stopped_by }
     {

@@ -15,7 +15,7 @@ pub struct Sight {
     pub seen: Book,
     /// Whether the worker has stopped the service.
     pub stopped: bool,
-    /// Who has stopped the service, once the worker was stopped_by.
+    /// Who has stopped the service, once the worker heard of it.
     pub stopped_by: Option<WorkerId>,
 }
 

@@ -135,7 +135,7 @@ impl Coordination {
     ///
     /// Where it has no answer yet, the call asks again after an entry, failed ones too, or answers
     /// that the service was stopped. It never gives `NoMemory`. After `Stopped` the pass is as before,
-    /// but that it is stopped_by by whom.
+    /// but that it shows by whom.
     pub fn ask<Q: Question, R: Wait>(
         &self,
         rt: &R,
@@ -191,7 +191,7 @@ impl Coordination {
     }
 
     /// Stops the service with this pass, and wakes all that wait. Where it was stopped before,
-    /// the pass is stopped_by by whom.
+    /// the pass shows by whom.
     pub fn stop_all<R: Wait>(&self, rt: &R, pass: &mut Pass)
         requires { pass.old.service ≡ self.now.service }
         ensures service { pass.new.service ≡ pass.old.service }

@@ -30,7 +30,7 @@ pub fn is_file_name(bytes: &[u8]) -> bool
     }
     let mut part = Part::Empty;
     for byte in bytes {
-        // Most bytes of names are small letters, so these are told first.
+        // Most bytes of names are small letters, so these are tested first.
         part = match *byte {
             letter if letter.is_ascii_lowercase() => Part::Name,
             b'.' => match part {

@@ -16,7 +16,7 @@ use Rattle.leases_cli.specs.Answered.{Answered, IsToldAs}
 use Rattle.leases_cli.specs.declared.status.Status.{Status}
 use Rattle.leases_cli.specs.declared.status.Status.TheVariants.{BadWords, NoMemory}
 
--- what was known instead of a command is no want of memory
+-- what was written instead of a command is no want of memory
 no_command : (P : Type 0) (f : WordsFail) → f ≡ NoCommand → NoMemoryOr P f → P
 no_command P f is h = subst (NoMemoryOr P) is h
 

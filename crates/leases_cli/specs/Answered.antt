@@ -69,7 +69,7 @@ run_text asked plan known b = text_by_plan asked plan (values_of plan known b.hi
 abbrev pub IsToldAs : Status → SinkView → SinkView → Status → Type 0
 IsToldAs refusal old new status = ((status ≡ refusal) × Wrote old new (line_of refusal)) ⊎ ((status ≡ SinkFault) × Broke old new (line_of refusal))
 
--- there was no memory, and nothing was written; or a refusal was known that has its cause
+-- there was no memory, and nothing was written; or a refusal was written that has its cause
 abbrev pub IsRefusedFor : (Status → Type 0) → SinkView → SinkView → Status → Type 0
 IsRefusedFor IsCause old new status = ((status ≡ NoMemory) × Wrote old new []) ⊎ ((refusal : Status) × IsCause refusal × IsToldAs refusal old new status)
 
@@ -93,7 +93,7 @@ RunEnded asked known before after old new b TaskFailed = OfRun asked known befor
 RunEnded asked known before after old new b SinkFault = OfRun asked known before after b (λ plan. Broke old new (run_text asked plan known b))
 RunEnded asked known before after old new b _ = ⊥
 
--- What `run` answers: a run ended; or there was no memory, or no plan was read, for a cause that was known.
+-- What `run` answers: a run ended; or there was no memory, or no plan was read, for a cause that was written.
 abbrev pub RunAnswered : RunWords → Option Folder → ℕ → ℕ → SinkView → SinkView → Status → Option BookView → Type 0
 RunAnswered asked known before after old new status (Some b) = RunEnded asked known before after old new b status
 RunAnswered asked known before after old new status None = IsRefusedFor (IsReadCause known before after asked.plan) old new status

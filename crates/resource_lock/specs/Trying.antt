@@ -14,10 +14,10 @@ can_own s w l = is_none (owner_of s l) || owns s w l
 abbrev pub locked : StateView → WorkerId → LockId → StateView
 locked s w l = if is_none (owner_of s l) then make s w (Lock l) else s
 
--- false exactly where the worker has no lease and max_leases are out
+-- false exactly where the worker has no lease and as many as may be are out
 abbrev pub can_lease : StateView → WorkerId → Bool
 can_lease s w = (holding_of s w).lease || nat_lt (leases_out s) s.max_leases
 
--- a lease is taken where the worker has none and fewer than max_leases are out
+-- a lease is taken where the worker has none and fewer than may be are out
 abbrev pub leased : StateView → WorkerId → StateView
 leased s w = if not (holding_of s w).lease && nat_lt (leases_out s) s.max_leases then make s w Take else s

@@ -1,35 +1,35 @@
--- Texts that were told one after another are one text.
+-- Texts that were printed one after another are one text.
 use Rattle.std.proofs.Common.{Result, Ok, Err, ◌≡◌, ℕ, List, [], ◌++◌, Bool, true, false, refl, sym, ap, subst, ◌∙◌, append_assoc, append-nil}
 use Rattle.std.specs.Result.{is_err}
 use Rattle.worker_desk.specs.SinkView.{SinkView, Wrote, Broke, Prints}
 use Rattle.worker_desk.specs.PageView.{PageView, PrintedAs, Printed, Adds, blank}
 use Rattle.worker_desk.proofs.Printing.{broke_early, broke_then, wrote_then, wrote_nothing}
 
-told_along : (start seen : SinkView) (page_view : PageView) {x y : List ℕ} → x ≡ y → Printed start seen page_view x → Printed start seen page_view y
-told_along start seen page_view e h = subst (Printed start seen page_view) e h
+printed_along : (start seen : SinkView) (page_view : PageView) {x y : List ℕ} → x ≡ y → Printed start seen page_view x → Printed start seen page_view y
+printed_along start seen page_view e h = subst (Printed start seen page_view) e h
 
 pub adds_nothing : (seen : SinkView) (page_view : PageView) → Adds seen page_view seen page_view []
-adds_nothing seen page_view = record { told = λ start before h. told_along start seen page_view (sym (append-nil before)) h }
+adds_nothing seen page_view = record { printed = λ start before h. printed_along start seen page_view (sym (append-nil before)) h }
 
 pub adds_then : {a b c : SinkView} {p q r : PageView} {x y : List ℕ} → Adds a p b q x → Adds b q c r y → Adds a p c r (x ++ y)
 adds_then {a} {b} {c} {p} {q} {r} {x} {y} one two = record {
-  told = λ start before h. told_along start c r (append_assoc before x y) (two.told start (before ++ x) (one.told start before h));
+  printed = λ start before h. printed_along start c r (append_assoc before x y) (two.printed start (before ++ x) (one.printed start before h));
 }
 
 -- what waits, and then the piece
 pub adds_waiting : (seen : SinkView) (waiting piece : List ℕ) (failed : Bool) → Adds seen (record { waiting = waiting; failed = failed }) seen (record { waiting = waiting ++ piece; failed = failed }) piece
-adds_waiting seen waiting piece false = record { told = λ start before h. (h.0, ap (λ l. l ++ piece) h.1 ∙ append_assoc h.0 waiting piece, h.2) }
-adds_waiting seen waiting piece true = record { told = λ start before h. broke_early piece h }
+adds_waiting seen waiting piece false = record { printed = λ start before h. (h.0, ap (λ l. l ++ piece) h.1 ∙ append_assoc h.0 waiting piece, h.2) }
+adds_waiting seen waiting piece true = record { printed = λ start before h. broke_early piece h }
 
 -- what waited was put
 pub adds_sent : {A E : Type 0} (a b : SinkView) (waiting : List ℕ) (failed : Bool) (r : Result A E) → failed ≡ false → Prints a b waiting r → Adds a (record { waiting = waiting; failed = failed }) b (record { waiting = []; failed = is_err r }) []
 adds_sent a b waiting failed (Ok x) e p = record {
-  told = λ start before h.
+  printed = λ start before h.
       let h' = subst (λ (f : Bool). PrintedAs f start a waiting before) e h in
       (before, refl, subst (Wrote start b) (sym h'.1) (wrote_then h'.2 p));
 }
 adds_sent a b waiting failed (Err x) e p = record {
-  told = λ start before h.
+  printed = λ start before h.
       let h' = subst (λ (f : Bool). PrintedAs f start a waiting before) e h in
       subst (Broke start b) (sym h'.1 ∙ sym (append-nil before)) (broke_then h'.2 p);
 }
@@ -37,22 +37,22 @@ adds_sent a b waiting failed (Err x) e p = record {
 -- the piece was put, with nothing waiting
 pub adds_put : {A E : Type 0} (a b : SinkView) (waiting piece : List ℕ) (failed : Bool) (r : Result A E) → failed ≡ false → waiting ≡ [] → Prints a b piece r → Adds a (record { waiting = waiting; failed = failed }) b (record { waiting = waiting; failed = is_err r }) piece
 adds_put a b waiting piece failed (Ok x) e none p = record {
-  told = λ start before h.
+  printed = λ start before h.
       let h' = subst (λ (f : Bool). PrintedAs f start a waiting before) e h in
       let whole : before ≡ h'.0 = h'.1 ∙ (ap (λ l. h'.0 ++ l) none ∙ append-nil h'.0) in
       (before ++ piece, sym (ap (λ l. (before ++ piece) ++ l) none ∙ append-nil (before ++ piece)), subst (λ (l : List ℕ). Wrote start b (l ++ piece)) (sym whole) (wrote_then h'.2 p));
 }
 adds_put a b waiting piece failed (Err x) e none p = record {
-  told = λ start before h.
+  printed = λ start before h.
       let h' = subst (λ (f : Bool). PrintedAs f start a waiting before) e h in
       let whole : before ≡ h'.0 = h'.1 ∙ (ap (λ l. h'.0 ++ l) none ∙ append-nil h'.0) in
       subst (λ (l : List ℕ). Broke start b (l ++ piece)) (sym whole) (broke_then h'.2 p);
 }
 
--- once failed nothing more is told
+-- once failed nothing more is printed
 pub adds_failed : (a : SinkView) (waiting waiting' : List ℕ) (piece : List ℕ) (failed : Bool) → failed ≡ true → Adds a (record { waiting = waiting; failed = failed }) a (record { waiting = waiting'; failed = failed }) piece
 adds_failed a waiting waiting' piece failed e = record {
-  told = λ start before h.
+  printed = λ start before h.
       subst (λ (f : Bool). PrintedAs f start a waiting' (before ++ piece)) (sym e) (broke_early piece (subst (λ (f : Bool). PrintedAs f start a waiting before) e h));
 }
 
@@ -75,9 +75,9 @@ adds_failed_as a b p waiting waiting' piece failed f view e same is =
     (subst (λ (x : SinkView). Adds a (record { waiting = waiting; failed = failed }) x (record { waiting = waiting'; failed = f }) piece) (sym same)
     (subst (λ (x : Bool). Adds a (record { waiting = waiting; failed = failed }) a (record { waiting = waiting'; failed = x }) piece) (sym is) (adds_failed a waiting waiting' piece failed e)))
 
--- on a page that begins blank the text that was added was told
-pub told_from_blank : (a b : SinkView) (p q : PageView) (text : List ℕ) → p ≡ blank → Adds a p b q text → Printed a b q text
-told_from_blank a b p q text e adds = adds.told a [] (subst (λ (r : PageView). Printed a a r []) (sym e) ([], refl, wrote_nothing a))
+-- on a page that begins blank the text that was added was printed
+pub printed_from_blank : (a b : SinkView) (p q : PageView) (text : List ℕ) → p ≡ blank → Adds a p b q text → Printed a b q text
+printed_from_blank a b p q text e adds = adds.printed a [] (subst (λ (r : PageView). Printed a a r []) (sym e) ([], refl, wrote_nothing a))
 
 pub adds_as : {a b : SinkView} {p q : PageView} {x y : List ℕ} → x ≡ y → Adds a p b q x → Adds a p b q y
 adds_as {a} {b} {p} {q} e adds = subst (Adds a p b q) e adds

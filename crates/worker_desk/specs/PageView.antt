@@ -14,10 +14,10 @@ abbrev pub PrintedAs : Bool → SinkView → SinkView → List ℕ → List ℕ 
 PrintedAs false start seen waiting text = (front : List ℕ) × (text ≡ front ++ waiting) × Wrote start seen front
 PrintedAs true start seen waiting text = Broke start seen text
 
--- from the start on the text was told to the page and the sink
+-- from the start on the text was printed on the page and the sink
 abbrev pub Printed : SinkView → SinkView → PageView → List ℕ → Type 0
 Printed start seen page_view text = PrintedAs page_view.failed start seen page_view.waiting text
 
--- the text was told after what was told before
+-- the text was printed after what was printed before
 pub record Adds (old : SinkView) (page_view : PageView) (new : SinkView) (page_view' : PageView) (text : List ℕ) : Type 0 where
-  pub told : (start : SinkView) (before : List ℕ) → Printed start old page_view before → Printed start new page_view' (before ++ text)
+  pub printed : (start : SinkView) (before : List ℕ) → Printed start old page_view before → Printed start new page_view' (before ++ text)

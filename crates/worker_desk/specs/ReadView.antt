@@ -26,7 +26,7 @@ abbrev pub IsWithin : ℕ → ReadView → Type 0
 IsWithin limit (Bytes bytes) = length bytes ≤ limit
 IsWithin limit _ = Unit
 
--- where the files are told, an answer other than a failure is the reading of the name
+-- where the files are known, an answer other than a failure is the reading of the name
 abbrev pub ReadsFrom : Option Folder → List ℕ → ℕ → Result Read DeskFail → Type 0
 ReadsFrom (Some files) name limit (Ok read) = read_view read ≡ reading (file_of files name) limit
 ReadsFrom _ name limit _ = Unit

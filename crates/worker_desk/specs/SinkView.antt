@@ -2,7 +2,7 @@
 use Rattle.std.specs.Prelude.{◌≡◌, ℕ, ◌+◌, ◌≤◌, List, ◌++◌, Option, Result, Ok, Err, min, ◌-◌, ◌^◌}
 use Rattle.std.specs.Io.KnownBytes.{Appends}
 
--- the bytes taken, where they are told, and the count of faults
+-- the bytes taken, where they are known, and the count of faults
 pub record SinkView : Type 0 where
   pub taken : Option (List ℕ)
   pub faults : ℕ

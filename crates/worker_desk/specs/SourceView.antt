@@ -2,7 +2,7 @@
 use Rattle.std.specs.Prelude.{ℕ, List, drop, Option, if◌then◌else◌}
 use Rattle.worker_desk.specs.Calls.{CallsView, next_fails, after_call}
 
--- the bytes left, where they are told, and the count of faults
+-- the bytes left, where they are known, and the count of faults
 pub record SourceView : Type 0 where
   pub left : Option (List ℕ)
   pub faults : ℕ

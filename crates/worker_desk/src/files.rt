@@ -39,7 +39,7 @@ impl From<AllocError> for DeskFail {
 
 /// Files that are read whole, by their names.
 pub trait Files {
-    /// The files by name, where told. No call changes them.
+    /// The files by name, where known. No call changes them.
     ghost files: { Self → Option Folder };
 
     /// How often the outside failed; it stands still at 2^64 - 1.
@@ -51,5 +51,5 @@ pub trait Files {
         ensures kept { faults self.old ≤ faults self.new }
         ensures failed { IsErrOf result DeskFail.Failed → Rises (faults self.old) (faults self.new) }
         ensures within { IfOk result (λ read. IsWithin limit (read_view read)) }
-        ensures told { ReadsFrom (files self.old) name.now limit result };
+        ensures known { ReadsFrom (files self.old) name.now limit result };
 }

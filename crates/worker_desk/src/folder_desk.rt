@@ -86,7 +86,7 @@ fn read_open<F: io::Read + OpenFile>(
     retries: &mut Retries,
 ) -> Result<Read, DeskFail>
     ensures within { IfOk result (λ read. IsWithin limit (read_view read)) }
-    ensures told { IfSome (F.remaining file.old) (λ bytes.
+    ensures known { IfSome (F.remaining file.old) (λ bytes.
         IfOk result (λ read. read_view read ≡ reading (Some bytes) limit)) }
 {
     let mut buffer = ReadBuffer::new(alloc, limit);

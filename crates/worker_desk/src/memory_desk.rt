@@ -11,7 +11,7 @@ use item_actions::Text;
 use std::alloc::{AllocError, Global};
 use std::marker::Model;
 
-/// A desk whose files are in memory, and told.
+/// A desk whose files are in memory, and known to contracts.
 #[derive(Debug, Drop)]
 pub struct MemoryDesk {
     files: FileMap,
@@ -55,7 +55,7 @@ impl Files for MemoryDesk {
     fn read(&mut self, alloc: Global, name: &Text, limit: u64) -> Result<Read, DeskFail>
         ensures failed { IsErrOf result DeskFail.Failed ↔ IsTrue (next_fails self.old.log) }
         ensures after { self.new ≡ after_read self.old }
-        ensures told { ReadsFrom (Some self.old.files) name.now limit result }
+        ensures known { ReadsFrom (Some self.old.files) name.now limit result }
     {
         let fails = self.calls.next_fails();
         self.calls.add(fails);

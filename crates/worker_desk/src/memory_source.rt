@@ -9,7 +9,7 @@ use crate::sources::Source;
 use std::cmp::min;
 use std::marker::Model;
 
-/// A source whose bytes are in memory, and told.
+/// A source whose bytes are in memory, and known to contracts.
 #[derive(Debug, Drop)]
 pub struct MemorySource {
     bytes: Vec<u8>,

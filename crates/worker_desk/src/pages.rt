@@ -10,7 +10,7 @@ const SIZE: usize = 4096;
 
 /// Text that is gathered before it goes to a sink, so that many short texts cost few calls of it.
 ///
-/// A page takes no memory. Once the sink failed, what is told after that goes nowhere.
+/// A page takes no memory. Once the sink failed, what is written on it after that goes nowhere.
 #[derive(Drop)]
 pub struct Page {
     bytes: [u8; SIZE],

@@ -8,7 +8,7 @@ pub struct Failed;
 
 /// Something of the outside that takes bytes.
 pub trait Sink {
-    /// The bytes taken, where they are told, and how often the outside failed. That count stands
+    /// The bytes taken, where they are known, and how often the outside failed. That count stands
     /// still at 2^64 - 1.
     ghost seen: { Self → SinkView };
 

@@ -8,7 +8,7 @@ use crate::sinks::Failed;
 
 /// Something of the outside that gives bytes.
 pub trait Source {
-    /// The bytes left, where they are told, and how often the outside failed. That count stands
+    /// The bytes left, where they are known, and how often the outside failed. That count stands
     /// still at 2^64 - 1.
     ghost seen: { Self → SourceView };
 

@@ -21,7 +21,7 @@ impl<W: Write> Model for StdSink<W> {
 }
 
 impl<W: Write> StdSink<W> {
-    /// A sink that writes to `writer`. What it took is told where the writer tells its contents.
+    /// A sink that writes to `writer`. What it took is known where the contents of the writer are.
     pub fn new(writer: W) -> StdSink<W>
         ensures { result ≡ record { taken = W.contents writer; faults = 0 } }
     {

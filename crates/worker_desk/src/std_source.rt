@@ -22,7 +22,7 @@ impl<R: Read> Model for StdSource<R> {
 }
 
 impl<R: Read> StdSource<R> {
-    /// A source that reads from `reader`. What is left is told where the reader tells it.
+    /// A source that reads from `reader`. What is left is known where the contents of the reader are.
     pub fn new(reader: R) -> StdSource<R>
         ensures { result ≡ record { left = R.remaining reader; faults = 0 } }
     {

@@ -1,5 +1,5 @@
-use Rattle.worker_desk.proofs.Telling.{adds_then, told_from_blank}
+use Rattle.worker_desk.proofs.Telling.{adds_then, printed_from_blank}
 use Rattle.leases_cli.proofs.top.print_run.Goals as goal
 
 pub returns : goal.returns
-returns g c = c.end.ensures _ _ (told_from_blank _ _ _ _ _ c.new-page.ensures (adds_then c.write_results.ensures c.write_history_asked.ensures))
+returns g c = c.end.ensures _ _ (printed_from_blank _ _ _ _ _ c.new-page.ensures (adds_then c.write_results.ensures c.write_history_asked.ensures))
