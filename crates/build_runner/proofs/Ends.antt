@@ -19,7 +19,7 @@ use Rattle.plan_reader.specs.PlanView.{PlanView}
 use Rattle.plan_reader.specs.Units.{unit_value}
 use Rattle.run_laws.specs.Answers.{IsHonest, IsHonestWorker, answers}
 use Rattle.run_laws.specs.ClosedBy.{closed_by}
-use Rattle.run_laws.specs.Runs.{Agrees}
+use Rattle.run_laws.specs.Runs.{GivesClosedOutcomes}
 use Rattle.build_runner.specs.Phases.{first_worker, only_action, IsResting, AreSettled}
 use Rattle.build_runner.specs.Kept.{Keeps}
 use Rattle.build_runner.specs.Run.{IsFree, values_of}
@@ -69,8 +69,8 @@ honest_workers value h others honest w = at w (cases_eq w.0 0)
     at w (inr ne) = subst (AllByRecursion (λ d. IsHonest d.outcome (value d.unit))) (sym (others w ne)) tt
 
 abbrev pub HonestAnswers : Type 0
-HonestAnswers = (value : ℕ → Outcome) (h : List Entry) → ((w : WorkerId) → IsHonestWorker value h w) → Agrees (answers value h) h
+HonestAnswers = (value : ℕ → Outcome) (h : List Entry) → ((w : WorkerId) → IsHonestWorker value h w) → GivesClosedOutcomes (answers value h) h
 
-pub values_agree : (known : Option Folder) (plan : PlanView) (before after : ℕ) (h : List Entry) → HonestAnswers → Keeps known plan before after [] h → Agrees (values_of plan known h) h
+pub values_agree : (known : Option Folder) (plan : PlanView) (before after : ℕ) (h : List Entry) → HonestAnswers → Keeps known plan before after [] h → GivesClosedOutcomes (values_of plan known h) h
 values_agree None plan before after h give keeps = λ u o e. ap (last_or outcomes.Skipped) e
 values_agree (Some files) plan before after h give keeps = give (unit_value plan files) h (honest_workers (unit_value plan files) h keeps.others (keeps.honest tt))

@@ -12,7 +12,7 @@ use Rattle.lock_journal.specs.BookView.{BookView}
 use Rattle.lock_journal.specs.Table.{owned, owned_from}
 use Rattle.run_laws.specs.Own.{action_at, claimed, marks_in, places_from, task_at, unit_at}
 use Rattle.run_laws.proofs.Others.{running_of}
-use Rattle.coordination.specs.AtRest.{IsAtRest}
+use Rattle.resource_lock.specs.AtRest.{IsAtRest}
 use Rattle.coordination.specs.Lasts.{last_of}
 use Rattle.coordination.specs.Parts.{IsPartOf, IsResting}
 use Rattle.coordination.specs.declared.parts.Part.{Part}

@@ -17,7 +17,8 @@ use Rattle.run_laws.specs.Own.{NamesWorkers, claimed}
 use Rattle.run_laws.proofs.Named.{named}
 use Rattle.coordination.specs.declared.rule.Sight.{Sight}
 use Rattle.coordination.specs.Agrees.{Agrees, IsSound}
-use Rattle.coordination.specs.AtRest.{HoldsNothing, IsAtRest}
+use Rattle.resource_lock.specs.AtRest.{IsAtRest}
+use Rattle.coordination.specs.Holds.{HoldsNothing}
 use Rattle.coordination.specs.Passes.{PassView}
 use Rattle.coordination.specs.Sights.{no_book, sight, workers_from}
 use Rattle.coordination.proofs.Closing.{there_is}

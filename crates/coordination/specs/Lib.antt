@@ -1,6 +1,6 @@
 pub mod Lasts
 pub mod Agrees
-pub mod AtRest
+pub mod Holds
 pub mod Sights
 pub mod Wakes
 pub mod Rule

@@ -2,7 +2,8 @@
 ghost use Rattle.std.specs.Prelude.{◌≡◌, ◌<◌, ◌^◌, [], ◌∷◌, All, IfOk, Some, ℕ, length, map, slice_index, true};
 ghost use Rattle.resource_lock.specs.declared.ids.WorkerId.{WorkerId};
 ghost use Rattle.coordination.specs.Agrees.{Agrees, IsSound};
-ghost use Rattle.coordination.specs.AtRest.{HoldsNothing, IsAtRest};
+ghost use Rattle.resource_lock.specs.AtRest.{IsAtRest};
+ghost use Rattle.coordination.specs.Holds.{HoldsNothing};
 ghost use Rattle.coordination.specs.Lasts.{last_of};
 ghost use Rattle.coordination.specs.Parts.{IsRoomOf};
 ghost use Rattle.coordination.specs.Sights.{sights_from, starting, workers_from};

@@ -1,7 +1,8 @@
 ghost use Rattle.std.specs.Prelude.{◌≡◌, ◌≢◌, ◌<◌, [], All, IfOk, Ok, Err, Some, ℕ, length, map, slice_index, true, false};
 ghost use Rattle.resource_lock.specs.declared.ids.WorkerId.{WorkerId};
 ghost use Rattle.coordination.specs.Agrees.{Agrees};
-ghost use Rattle.coordination.specs.AtRest.{HoldsNothing, IsAtRest};
+ghost use Rattle.resource_lock.specs.AtRest.{IsAtRest};
+ghost use Rattle.coordination.specs.Holds.{HoldsNothing};
 ghost use Rattle.coordination.specs.Calls.{AskedInVain, HasFailed, HasFinished, HasLooked, HasStopped, IsAnswered, WasStopped};
 ghost use Rattle.coordination.specs.Sights.{sights_from, workers_from};
 

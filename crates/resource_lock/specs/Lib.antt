@@ -1,3 +1,4 @@
+pub mod AtRest
 pub mod StateView
 pub mod Change
 pub mod Good

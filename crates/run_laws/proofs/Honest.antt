@@ -13,7 +13,7 @@ use Rattle.lock_journal.specs.Closings.{closing_of, where_finished, closings}
 use Rattle.lock_journal.specs.Entry.{Entry}
 use Rattle.run_laws.specs.Answers.{answer_by, answers, IsHonest, IsHonestWorker}
 use Rattle.run_laws.specs.ClosedBy.{closed_of, closed_in, closed_by}
-use Rattle.run_laws.specs.Runs.{Agrees}
+use Rattle.run_laws.specs.Runs.{GivesClosedOutcomes}
 use Rattle.run_laws.proofs.Ranges.{each-append}
 
 -- each closed unit was closed honestly
@@ -27,7 +27,7 @@ answer_is _ value (inl e) = sym e
 answer_is _ value (inr (inl e)) = cc e
 answer_is _ value (inr (inr e)) = cc e
 
-pub answers_agree : (value : ℕ → Outcome) (h : List Entry) → AreHonest value h → Agrees (answers value h) h
+pub answers_agree : (value : ℕ → Outcome) (h : List Entry) → AreHonest value h → GivesClosedOutcomes (answers value h) h
 answers_agree value h honest = λ u o e. ap (λ os. answer_by os (value u)) e ∙ answer_is o (value u) (honest u o e)
 
 left_of : {X : Type 0} (P : X → Type 0) (xs ys : List X) → AllByRecursion P (xs ++ ys) → AllByRecursion P xs

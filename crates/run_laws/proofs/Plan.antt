@@ -18,7 +18,7 @@ use Rattle.lock_journal.specs.Entry.{Entry, replay}
 use Rattle.lock_journal.specs.Table.{has_passed}
 use Rattle.run_laws.specs.Marks.{IsEnded, HasEnded}
 use Rattle.run_laws.specs.Outcomes.{action_passes, task_passes, task_outcome, earlier_pass, is_skipped, unit_outcome, AreRanks}
-use Rattle.run_laws.specs.Runs.{Agrees, ComesTo}
+use Rattle.run_laws.specs.Runs.{GivesClosedOutcomes, ComesTo}
 use Rattle.run_laws.proofs.Conditions.{HasFallen, EarlierFailed}
 use Rattle.run_laws.proofs.Fitting.{RangesApart}
 use Rattle.run_laws.proofs.History.{IsRecorded, ClosedAs}
@@ -42,12 +42,12 @@ has_at (y ∷ xs) zero x h e = inl (sym e)
 has_at (y ∷ xs) (suc k) x h e = inr (has_at xs k x (omega arith) e)
 
 -- what v says of a unit by its mark
-passes_of : (v : ℕ → Outcome) (h : List Entry) (u : ℕ) (m : Mark) → Agrees v h → ClosedAs (closings h u) m → m ≡ Passed → passes (v u) ≡ true
+passes_of : (v : ℕ → Outcome) (h : List Entry) (u : ℕ) (m : Mark) → GivesClosedOutcomes v h → ClosedAs (closings h u) m → m ≡ Passed → passes (v u) ≡ true
 passes_of v h u m agrees c e =
     let p = subst (ClosedAs (closings h u)) e c in
     ap passes (agrees u p.0 p.1) ∙ p.2
 
-fails_of : (v : ℕ → Outcome) (h : List Entry) (u : ℕ) (m : Mark) → Agrees v h → ClosedAs (closings h u) m → m ≡ Failed → passes (v u) ≡ false
+fails_of : (v : ℕ → Outcome) (h : List Entry) (u : ℕ) (m : Mark) → GivesClosedOutcomes v h → ClosedAs (closings h u) m → m ≡ Failed → passes (v u) ≡ false
 fails_of v h u m agrees c e =
     let p = subst (ClosedAs (closings h u)) e c in
     ap passes (agrees u p.0 p.1) ∙ p.2
@@ -58,7 +58,7 @@ record Ended (g : GraphView) (h : List Entry) (s : StateView) (v : ℕ → Outco
   ranks : AreRanks g rank
   kept : IsKept g s
   recorded : IsRecorded g h s
-  agrees : Agrees v h
+  agrees : GivesClosedOutcomes v h
   ended : HasEnded s
 
 task_ended : (g : GraphView) (h : List Entry) (s : StateView) (v : ℕ → Outcome) (rank : ℕ → ℕ) → Ended g h s v rank → (t : ℕ) → t < length g.tasks → IsEnded (mark_of s (TaskOf t))
@@ -172,7 +172,7 @@ one_unit g h s v rank x n t a u ia iu is Waiting e ended fact c = absurd ended
 one_unit g h s v rank x n t a u ia iu is _ e ended fact c = absurd ended
 
 -- The marks and outcomes of a lawful history in which every mark has ended are those of the plan.
-pub comes_to : (g : GraphView) (h : List Entry) (v : ℕ → Outcome) (rank : ℕ → ℕ) (n : ℕ) → RangesApart g → AreRanks g rank → ((t : ℕ) → t < length g.tasks → rank t < n) → Lawful g h → HasEnded (replay g h) → Agrees v h → ComesTo g h v n
+pub comes_to : (g : GraphView) (h : List Entry) (v : ℕ → Outcome) (rank : ℕ → ℕ) (n : ℕ) → RangesApart g → AreRanks g rank → ((t : ℕ) → t < length g.tasks → rank t < n) → Lawful g h → HasEnded (replay g h) → GivesClosedOutcomes v h → ComesTo g h v n
 comes_to g h v rank n apart ranks deep lawful ended agrees = record {
   tasks = tasks;
   units = λ t a u ia iu. one_unit g h (replay g h) v rank x n t a u ia iu (tasks t (apart.task_within t a ia)) (mark_of (replay g h) (UnitOf u)) refl (unit_ended g h (replay g h) v rank x a u iu) (x.kept.units t a u ia iu) (x.recorded.closed u);

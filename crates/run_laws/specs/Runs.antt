@@ -34,8 +34,8 @@ claims u (Claim n) = n == u
 claims u _ = false
 
 -- v gives each closed unit the outcome of its closing entry
-abbrev pub Agrees : (ℕ → Outcome) → List Entry → Type 0
-Agrees v h = (u : ℕ) (o : Outcome) → closings h u ≡ o ∷ [] → v u ≡ o
+abbrev pub GivesClosedOutcomes : (ℕ → Outcome) → List Entry → Type 0
+GivesClosedOutcomes v h = (u : ℕ) (o : Outcome) → closings h u ≡ o ∷ [] → v u ≡ o
 
 -- The marks and outcomes of a history are those of the plan.
 pub record ComesTo (g : GraphView) (h : List Entry) (v : ℕ → Outcome) (n : ℕ) : Type 0 where

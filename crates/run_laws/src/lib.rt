@@ -29,7 +29,7 @@ ghost use Rattle.run_laws.specs.Marks.{HasEnded, IsEnded};
 ghost use Rattle.run_laws.specs.Outcomes.{AreRanks, mark_by, task_outcome, task_passes, unit_outcome};
 ghost use Rattle.run_laws.specs.Own.{NamesWorkers, NoneOf, SameFor, claimed};
 ghost use Rattle.run_laws.specs.OwnChanges.{after_all, claimed_after, locks_after};
-ghost use Rattle.run_laws.specs.Runs.{Agrees, ComesTo, IsOrderly};
+ghost use Rattle.run_laws.specs.Runs.{GivesClosedOutcomes, ComesTo, IsOrderly};
 ghost use Rattle.run_laws.specs.WorkedRows.{IsWorkedRun, first_run, locks_by_turns, no_tasks, one_task, run_that_fails, run_that_fetches, run_that_reacquires, run_that_releases, start_too_early, two_tasks};
 ghost use Rattle.std.specs.List.{All, AllByRecursion, list_all, range_with_len};
 ghost use Rattle.std.specs.Prelude.{List, [], length, map, false, true, ◌+◌, ◌++◌, ◌<◌, ◌≡◌, ◌≢◌, ◌∷◌, ℕ};
@@ -38,8 +38,8 @@ ghost use Rattle.std.specs.Prelude.{List, [], length, map, false, true, ◌+◌,
 /// those of the plan alone, and each task was started or skipped once and each item claimed and closed once.
 pub fn every_run_comes_to_its_plan()
     ensures ended { (g : GraphView) (h : List Entry) → Fits g → Lawful g h → All IsEnded (replay g h).tasks → HasEnded (replay g h) }
-    ensures plan { (g : GraphView) (h : List Entry) (v : ℕ → Outcome) (rank : ℕ → ℕ) (n : ℕ) → Fits g → AreRanks g rank → ((t : ℕ) → t < length g.tasks → rank t < n) → Lawful g h → All IsEnded (replay g h).tasks → Agrees v h → ComesTo g h v n }
-    ensures status { (g : GraphView) (h : List Entry) (v : ℕ → Outcome) (rank : ℕ → ℕ) (n : ℕ) → Fits g → AreRanks g rank → ((t : ℕ) → t < length g.tasks → rank t < n) → Lawful g h → All IsEnded (replay g h).tasks → Agrees v h → list_all has_passed (replay g h).tasks ≡ list_all (λ t. has_passed (task_outcome g v n t)) (range_with_len 0 (length g.tasks)) }
+    ensures plan { (g : GraphView) (h : List Entry) (v : ℕ → Outcome) (rank : ℕ → ℕ) (n : ℕ) → Fits g → AreRanks g rank → ((t : ℕ) → t < length g.tasks → rank t < n) → Lawful g h → All IsEnded (replay g h).tasks → GivesClosedOutcomes v h → ComesTo g h v n }
+    ensures status { (g : GraphView) (h : List Entry) (v : ℕ → Outcome) (rank : ℕ → ℕ) (n : ℕ) → Fits g → AreRanks g rank → ((t : ℕ) → t < length g.tasks → rank t < n) → Lawful g h → All IsEnded (replay g h).tasks → GivesClosedOutcomes v h → list_all has_passed (replay g h).tasks ≡ list_all (λ t. has_passed (task_outcome g v n t)) (range_with_len 0 (length g.tasks)) }
     ensures order { (g : GraphView) (h : List Entry) → Fits g → Lawful g h → All IsEnded (replay g h).tasks → IsOrderly g h }
 {}
 
@@ -71,7 +71,7 @@ pub fn own_changes_say_all()
 
 /// Where each worker closed units with their values alone, but for faults and want of memory, the closing entries are the answers.
 pub fn honest_workers_give_the_answers()
-    ensures { (value : ℕ → Outcome) (h : List Entry) → ((w : WorkerId) → IsHonestWorker value h w) → Agrees (answers value h) h }
+    ensures { (value : ℕ → Outcome) (h : List Entry) → ((w : WorkerId) → IsHonestWorker value h w) → GivesClosedOutcomes (answers value h) h }
 {}
 
 /// The front of a lawful history is lawful, and what has ended there has the same mark ever after.

@@ -4,7 +4,7 @@ use Rattle.std.proofs.Math.Seq.{get_or-append_seam}
 use Rattle.std.proofs.lemmas.Grind.{common_steps}
 use Rattle.resource_lock.specs.GraphView.{GraphView}
 use Rattle.coordination.specs.Agrees.{Agrees}
-use Rattle.coordination.specs.AtRest.{HoldsNothing}
+use Rattle.coordination.specs.Holds.{HoldsNothing}
 use Rattle.coordination.specs.Passes.{PassView}
 use Rattle.coordination.specs.Sights.{all_of, workers_from}
 use Rattle.coordination.specs.Rule.{M}
