@@ -1,23 +1,23 @@
 #!/usr/bin/env python3
 """Counts instructions and memory of `leases run` on plans of the first form.
 
-Makes its own plans and files in a temporary folder, runs the program under valgrind's callgrind, and
-prints one line a plan. Not part of the gate. Skips, with status 0, where valgrind is missing.
+Makes its own plans and files in a temporary folder, and prints one line a plan. Not part of the gate. Skips, with status
+0, where valgrind or GNU time is missing.
 
-    bench/first_form.py [PROGRAM]
+    bench/first_form.py [PROGRAM [ITEMS..]]
 """
 
-import os
 import pathlib
 import re
-import shutil
 import subprocess
 import sys
 import tempfile
 
+import measure
+
 ITEMS = [1024, 2048, 4096, 8192]
 TASKS = 2048
-WORDS = ["--max-workers", "1", "--threads", "1", "--history"]
+RUN = ["run", "plan.toml", "--max-workers", "1", "--threads", "1", "--history"]
 
 # The goals: instructions a unit with the plan's reading, those of a transform of the run without the reading
 # of files, growth from 2,048 to 8,192 items, and peak memory.
@@ -25,6 +25,10 @@ MOST_A_UNIT = 15_000
 MOST_A_TRANSFORM = 1_500
 MOST_GROWTH = 4.3
 MOST_KILOBYTES = 40 * 1024
+
+# The functions whose difference is a run without the reading of its files. The plan is read by another function.
+RUN_OF_A_PLAN = "build_runner::runs::run_plan"
+READING_OF_FILES = "FolderDeskFiles::read"
 
 
 def plan_text(items: int) -> str:
@@ -44,79 +48,43 @@ def make_folder(folder: pathlib.Path, items: int) -> None:
     (folder / "plan.toml").write_text(plan_text(items))
 
 
-class Counts:
-    """What callgrind counted of one run: all instructions, and those of the transforms, with their number."""
-
-    def __init__(self, program: str, folder: pathlib.Path) -> None:
-        profile = folder / "callgrind.out"
-        call = ["valgrind", "--tool=callgrind", f"--callgrind-out-file={profile}", program, "run", "plan.toml", *WORDS]
-        run = subprocess.run(call, cwd=folder, capture_output=True, text=True)
-        if run.returncode != 0:
-            sys.exit(f"the program ended with {run.returncode}:\n{run.stderr}")
-        found = re.search(r"Collected\s*:\s*(\d+)", run.stderr)
-        if found is None:
-            sys.exit(f"callgrind printed no count:\n{run.stderr}")
-        self.all = int(found.group(1))
-        self.entries = int(run.stdout.split()[-1])
-        parts = inclusive(profile)
-        # A run without the reading of its files; the plan is read by another function.
-        files = parts.get("FolderDeskFiles::read", 0)
-        self.transforms = parts.get("build_runner::runs::run_plan", 0) - files
-
-
-def inclusive(profile: pathlib.Path) -> dict[str, int]:
-    """The instructions of the functions that the count of transforms needs, with all that they call."""
+def inclusive(profile: pathlib.Path, name: str) -> int:
+    """The instructions of a function with all that it calls."""
     call = ["callgrind_annotate", "--inclusive=yes", str(profile)]
-    lines = subprocess.run(call, capture_output=True, text=True).stdout.splitlines()
-    parts = {}
-    for line in lines:
-        for name in ("FolderDeskFiles::read", "build_runner::runs::run_plan"):
-            found = re.match(r"\s*([\d,]+) .*" + re.escape(name), line)
-            if found is not None and name not in parts:
-                parts[name] = int(found.group(1).replace(",", ""))
-    return parts
+    table = subprocess.run(call, capture_output=True, text=True).stdout
+    found = re.search(r"^\s*([\d,]+) .*" + re.escape(name), table, re.MULTILINE)
+    return int(found.group(1).replace(",", "")) if found is not None else 0
 
 
-def peak_kilobytes(program: str, folder: pathlib.Path) -> int:
-    child = os.fork()
-    if child == 0:
-        os.chdir(folder)
-        out = os.open(os.devnull, os.O_WRONLY)
-        os.dup2(out, 1)
-        os.execv(program, [program, "run", "plan.toml", *WORDS])
-    _, status, usage = os.wait4(child, 0)
-    if status != 0:
-        sys.exit(f"the program ended with {status}")
-    return usage.ru_maxrss
-
-
-def measure(program: str, items: int) -> tuple[Counts, int]:
+def measure_plan(program: str, items: int) -> int:
+    """Prints the figures of a plan of so many items. Its instructions are given back."""
+    words = [program, *RUN]
     with tempfile.TemporaryDirectory() as name:
         folder = pathlib.Path(name)
         make_folder(folder, items)
-        return Counts(program, folder), peak_kilobytes(program, folder)
+        profile = folder / "callgrind.out"
+        count, output = measure.count_instructions(words, profile=str(profile), folder=folder)
+        transforms = inclusive(profile, RUN_OF_A_PLAN) - inclusive(profile, READING_OF_FILES)
+        used = measure.usage_of(words, folder)
+    if used.status != 0:
+        sys.exit(f"the program ended with {used.status}")
+    entries = int(output.split()[-1])
+    print(
+        f"{items:5} items in {min(items, TASKS):4} tasks: {count:12} instructions,"
+        f" {count // items:6} a unit (goal {MOST_A_UNIT}),"
+        f" {transforms // entries:5} a transform (goal {MOST_A_TRANSFORM}),"
+        f" peak {used.kilobytes} KB (goal {MOST_KILOBYTES})"
+    )
+    return count
 
 
 def main() -> None:
-    top = pathlib.Path(__file__).resolve().parent.parent
-    program = str(pathlib.Path(sys.argv[1]).resolve()) if len(sys.argv) > 1 else str(top / "crates/leases/out/leases")
-    if shutil.which("valgrind") is None:
-        print("skipped: there is no valgrind here")
-        return
-    if not os.access(program, os.X_OK):
-        sys.exit("the program isn't built: run ./leases once")
-    totals = {}
-    for items in ITEMS:
-        counts, kilobytes = measure(program, items)
-        totals[items] = counts.all
-        print(
-            f"{items:5} items in {min(items, TASKS):4} tasks: {counts.all:12} instructions,"
-            f" {counts.all // items:6} a unit (goal {MOST_A_UNIT}),"
-            f" {counts.transforms // counts.entries:5} a transform (goal {MOST_A_TRANSFORM}),"
-            f" peak {kilobytes} KB (goal {MOST_KILOBYTES})"
-        )
-    growth = totals[8192] / totals[2048]
-    print(f"growth from 2048 to 8192 items: {growth:.2f} (goal {MOST_GROWTH})")
+    measure.skip_without("valgrind", "time")
+    program = measure.leases_program()
+    sizes = [int(word) for word in sys.argv[2:]] or ITEMS
+    totals = {items: measure_plan(program, items) for items in sizes}
+    if {2048, 8192} <= totals.keys():
+        print(f"growth from 2048 to 8192 items: {totals[8192] / totals[2048]:.2f} (goal {MOST_GROWTH})")
 
 
 if __name__ == "__main__":
