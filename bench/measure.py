@@ -54,8 +54,8 @@ class Workshop:
         shutil.copy(TOP / "HANDLES", folder)
         subprocess.run(["git", "init", "-q"], cwd=folder, check=True)
 
-    def add(self, name: str, *libraries: str) -> pathlib.Path:
-        """Adds the program of this name over these libraries. Its folder is given back."""
+    def add(self, name: str, *libraries: str) -> None:
+        """Adds the program of this name over these libraries."""
         crate = self.folder / "crates" / name
         for source in sorted(path for path in (PROGRAMS / name).rglob("*") if path.is_file()):
             place = crate / source.relative_to(PROGRAMS / name).with_suffix(ENDINGS[source.suffix])
@@ -63,7 +63,6 @@ class Workshop:
             shutil.copy(source, place)
         self.lines.append(f"{name}: {' '.join(libraries)}")
         (self.folder / "crates.txt").write_text("\n".join(self.lines) + "\n")
-        return crate
 
     def build(self, name: str, *flags: str) -> str:
         """Proves and builds a program as the gate does, and gives back a copy of it."""
