@@ -4,7 +4,7 @@
 Makes its own plans and files in a temporary folder, and prints one line a plan. Not part of the gate. Skips, with status
 0, where valgrind or GNU time is missing.
 
-    bench/first_form.py [PROGRAM [ITEMS..]]
+    bench/runs.py [PROGRAM [ITEMS..]]
 """
 
 import pathlib
