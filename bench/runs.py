@@ -1,5 +1,5 @@
 #!/usr/bin/env python3
-"""Counts instructions and memory of `leases run` on plans of the first form.
+"""Counts instructions and memory of `leases run` on plans whose tasks have an action each.
 
 Makes its own plans and files in a temporary folder, and prints one line a plan. Not part of the gate. Skips, with status
 0, where valgrind or GNU time is missing.
