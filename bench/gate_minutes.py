@@ -1,7 +1,7 @@
 #!/usr/bin/env python3
 """Runs the gate, and prints how many minutes of a processor each crate took: its proof, its tests and its edits.
 
-Starts `rt ci` with the given words in the current folder, passes its output through, and looks five times a second at the
+Starts `rt ci` with the given words in the current folder, passes its output through, and looks twice a second at the
 processes below it, each of which works for one crate. At the end it prints a table, the longest crate first, and ends
 with the status of `rt ci`. What an earlier run passed is kept on this machine and takes no time: with --anew all is done.
 Not part of the gate. Works on Linux alone.
@@ -18,7 +18,7 @@ import subprocess
 import sys
 import time
 
-INTERVAL = 0.2
+INTERVAL = 0.5
 KINDS = ["proof", "tests", "edits"]
 TICKS = os.sysconf("SC_CLK_TCK")
 
