@@ -7,3 +7,4 @@ pub mod Within
 pub mod Skipped
 pub mod NoMore
 pub mod Disabled
+pub mod Waits
