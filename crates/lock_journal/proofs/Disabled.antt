@@ -176,9 +176,9 @@ module _ {w : WorkerId} {s t : StateView} (n : NoMore w s t) (g : GraphView) whe
   waits_is a h = elim (either_true (has_passed (mark_of t (ActionOf a))) (never_ran g t a) h) [
     | inl passed ↦ ap (λ m. same_mark m Waiting) (same_mark_is (mark_of t (ActionOf a)) Passed passed) ∙ sym (ap (λ m. same_mark m Waiting) (same_mark_is (mark_of s (ActionOf a)) Passed (passed_still (ActionOf a) passed)))
     | inr never ↦
-      let first = and_parts (same_mark (mark_of t (ActionOf a)) Waiting && list_all (λ u. same_mark (mark_of t (UnitOf u)) Waiting) (units_of g a)) _ never in
-      let waits = and_parts (same_mark (mark_of t (ActionOf a)) Waiting) _ first.0 in
-      waits.0 ∙ sym (waiting_still (ActionOf a) waits.0)
+        let first = and_parts (same_mark (mark_of t (ActionOf a)) Waiting && list_all (λ u. same_mark (mark_of t (UnitOf u)) Waiting) (units_of g a)) _ never in
+        let waits = and_parts (same_mark (mark_of t (ActionOf a)) Waiting) _ first.0 in
+        waits.0 ∙ sym (waiting_still (ActionOf a) waits.0)
   ]
 
   skipped_is : (xs : List ℕ) → list_all (λ a. has_passed (mark_of t (ActionOf a)) || never_ran g t a) xs ≡ true → skipped_waiting g t xs ≡ skipped_waiting g s xs
