@@ -2,6 +2,7 @@ pub mod Entry
 pub mod Table
 pub mod Allowed
 pub mod Closings
+pub mod Bounds
 pub mod TentativeView
 pub mod Tentative
 pub mod Shown
@@ -11,4 +12,5 @@ pub mod History
 pub mod BookView
 pub mod Book
 pub mod Ran
+pub mod Waiting
 pub mod Making

@@ -1,5 +1,5 @@
 ghost use Rattle.std.specs.Prelude.{◌≡◌, false};
-ghost use Rattle.lock_journal.specs.Allowed.{IsKindOf};
+ghost use Rattle.lock_journal.specs.Allowed.{IsDisabled, IsFixedList};
 ghost use Rattle.lock_journal.specs.Table.{is_enabled};
 ghost use Rattle.lock_journal.specs.declared.entries.Kind.TheVariants as kinds;
 
@@ -29,9 +29,11 @@ impl Transform for Park {
 
     ghost most = { λ _. 4 };
 
+    ghost makes = { λ t. IsFixedList (kinds.Park t.action) };
+
     ghost fails_on = { λ t g w s. ⊥ };
 
-    ghost retries_on = { λ t g w s. IsKindOf g (kinds.Park t.action) → is_enabled g s w (kinds.Park t.action) ≡ false };
+    ghost retries_on = { λ t. IsDisabled (kinds.Park t.action) };
 
     fn kind(&self) -> Kind {
         Kind::Park(self.action)
@@ -47,6 +49,8 @@ impl Transform for Park {
             Progress::NotEnabled | Progress::OutOfRange => Disposition::Retry,
         }
     }
+
+    fn waits_for_news(&self) {}
 }
 
 impl FixedKind for Park {

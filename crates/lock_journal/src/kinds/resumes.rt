@@ -1,7 +1,7 @@
 ghost use Rattle.std.specs.Prelude.{◌≡◌, ◌≤◌, ◌+◌, false, length};
 ghost use Rattle.std.specs.List.{list_all, range_with_len};
 ghost use Rattle.resource_lock.specs.StateView.{mark_of};
-ghost use Rattle.lock_journal.specs.Allowed.{IsKindOf};
+ghost use Rattle.lock_journal.specs.Allowed.{IsDisabled, IsFixedList};
 ghost use Rattle.lock_journal.specs.Table.{has_ended, is_enabled};
 ghost use Rattle.lock_journal.specs.declared.entries.Kind.TheVariants as kinds;
 ghost use Rattle.resource_lock.specs.declared.marks.MarkId.TheVariants as ids;
@@ -32,9 +32,11 @@ impl Transform for Resume {
 
     ghost most = { λ _. 4 };
 
+    ghost makes = { λ t. IsFixedList (kinds.Resume t.action) };
+
     ghost fails_on = { λ t g w s. ⊥ };
 
-    ghost retries_on = { λ t g w s. IsKindOf g (kinds.Resume t.action) → is_enabled g s w (kinds.Resume t.action) ≡ false };
+    ghost retries_on = { λ t. IsDisabled (kinds.Resume t.action) };
 
     fn kind(&self) -> Kind {
         Kind::Resume(self.action)
@@ -50,6 +52,8 @@ impl Transform for Resume {
             Progress::NotEnabled | Progress::OutOfRange => Disposition::Retry,
         }
     }
+
+    fn waits_for_news(&self) {}
 }
 
 impl FixedKind for Resume {
@@ -94,12 +98,5 @@ fn all_ended(state: &State, units: Span) -> bool
     requires { units.first + units.count ≤ length state.now.units }
     ensures { result ≡ list_all (λ u. has_ended (mark_of state.now (ids.Unit u))) (range_with_len units.first units.count) }
 {
-    (units.first..units.first + units.count).all(|unit| has_ended(state.mark(MarkId::Unit(unit))))
-}
-
-/// Whether a mark has ended.
-fn has_ended(mark: Mark) -> bool
-    ensures { result ≡ has_ended mark }
-{
-    matches!(mark, Mark::Passed | Mark::Failed | Mark::Skipped)
+    (units.first..units.first + units.count).all(|unit| state.mark(MarkId::Unit(unit)).has_ended())
 }
