@@ -12,7 +12,7 @@ use std::test::Fail;
 
 /// Takes lock 0 and a lease, or asks to be run again.
 #[derive(Clone, Copy, Debug)]
-struct TakeFirst;
+pub struct TakeFirst;
 
 impl Transform for TakeFirst {
     ghost kind_of = { λ _. kinds.Acquire };
@@ -89,7 +89,7 @@ impl Question for EntriesFrom {
 }
 
 /// A service with one lock, two workers and two leases, without tasks.
-fn open_service(rt: &impl Abort, alloc: Global) -> Result<Opened, Fail>
+pub fn open_service(rt: &impl Abort, alloc: Global) -> Result<Opened, Fail>
     ensures locks { IfOk result (λ opened. opened.service.book.graph.locks ≡ 1) }
     ensures workers { IfOk result (λ opened. opened.service.book.graph.workers ≡ 2) }
     ensures all { IfOk result (λ opened. map (λ p. p.sight.worker.0) opened.passes.items ≡ 0 ∷ 1 ∷ []) }
@@ -106,7 +106,11 @@ fn open_service(rt: &impl Abort, alloc: Global) -> Result<Opened, Fail>
 }
 
 /// Takes lock 0 and a lease. Where memory is wanting, the pass is as before.
-fn take_first<R: Wait + Abort>(rt: &R, service: &Coordination, pass: &mut Pass) -> Result<(), Fail>
+pub fn take_first<R: Wait + Abort>(
+    rt: &R,
+    service: &Coordination,
+    pass: &mut Pass,
+) -> Result<(), Fail>
     requires { pass.old.service ≡ service.now.service }
     ensures service { pass.new.service ≡ pass.old.service }
     ensures worker { pass.new.sight.worker ≡ pass.old.sight.worker }
@@ -156,7 +160,7 @@ fn a_finished_transform_shows_in_its_pass(rt: HostRuntime) -> Result<(), Fail> {
 }
 
 #[test]
-fn a_retry_after_a_stop_is_told_by_whom(rt: HostRuntime) -> Result<(), Fail> {
+fn a_retry_after_a_stop_shows_by_whom(rt: HostRuntime) -> Result<(), Fail> {
     let Opened {
         service,
         mut passes,

@@ -1,0 +1,81 @@
+//! What a caller can prove of the book that its call found.
+ghost use Rattle.std.specs.Prelude.{◌≡◌, ◌≢◌, [], ◌∷◌, ◌++◌, List, None, Ok, Some, true, false};
+ghost use Rattle.resource_lock.specs.Good.{Good};
+ghost use Rattle.resource_lock.specs.StateView.{IsWorkerOf, owner_of};
+ghost use Rattle.resource_lock.specs.declared.ids.WorkerId.{WorkerId};
+ghost use Rattle.lock_journal.specs.Entry.{Entry, entry, replay};
+ghost use Rattle.lock_journal.specs.declared.entries.Kind.TheVariants as kinds;
+
+use crate::tests::{TakeFirst, open_service, take_first};
+use crate::{Coordination, Halt, Opened, Pass, sound_books_have_good_states};
+use lock_journal::{Disposition, Kind, Tentative, Transform};
+use resource_lock::LockId;
+use std::process::Abort;
+use std::sync::Wait;
+use std::test::Fail;
+
+/// Takes lock 0 and a lease. It fails exactly where another worker has the lock.
+#[derive(Clone, Copy, Debug)]
+struct TryFirst;
+
+impl Transform for TryFirst {
+    ghost use Rattle.std.specs.Prelude.{◌≡◌, ◌≢◌, Some};
+    ghost use Rattle.resource_lock.specs.StateView.{owner_of};
+    ghost use Rattle.resource_lock.specs.declared.ids.WorkerId.{WorkerId};
+    ghost use Rattle.lock_journal.specs.declared.entries.Kind.TheVariants as kinds;
+
+    ghost kind_of = { λ _. kinds.Acquire };
+
+    ghost most = { λ _. 2 };
+
+    ghost fails_on = { λ _ g w s. (by : WorkerId) × (by ≢ w) × (owner_of s (record { 0 = 0 }) ≡ Some by) };
+
+    ghost retries_on = { λ _ g w s. (by : WorkerId) → by ≢ w → owner_of s (record { 0 = 0 }) ≢ Some by };
+
+    fn kind(&self) -> Kind {
+        Kind::Acquire
+    }
+
+    fn most_changes(&self) -> u64 {
+        2
+    }
+
+    fn apply(&self, work: &mut Tentative) -> Disposition {
+        if work.graph().locks() > 0 {
+            if let Some(owner) = work.state().owner(LockId(0)) {
+                if owner != work.worker() {
+                    return Disposition::Failed;
+                }
+            }
+        }
+        TakeFirst.apply(work)
+    }
+}
+
+/// Tries for lock 0 and a lease. False says that another worker had the lock.
+fn try_first<R: Wait + Abort>(rt: &R, service: &Coordination, pass: &mut Pass) -> Result<bool, Halt>
+    requires { pass.old.service ≡ service.now.service }
+    ensures service { pass.new.service ≡ pass.old.service }
+    ensures worker { pass.new.sight.worker ≡ pass.old.sight.worker }
+    ensures good { result ≡ Ok true → Good pass.new.sight.seen.state }
+    ensures known { result ≡ Ok true → IsWorkerOf pass.new.sight.seen.state pass.new.sight.worker }
+    // The history without the failed entry leads to a state in which the lock is another's.
+    ensures refused { result ≡ Ok false → (h : List Entry) × (pass.new.sight.seen.history ≡ h ++ entry pass.new.sight.worker kinds.Acquire None ∷ [])
+        × (by : WorkerId) × (by ≢ pass.new.sight.worker) × (owner_of (replay pass.new.sight.seen.graph h) (record { 0 = 0 }) ≡ Some by) }
+{
+    sound_books_have_good_states();
+    service.with_state_lock(rt, pass, &TryFirst)
+}
+
+#[test]
+fn a_failed_try_names_the_lock_of_another(rt: HostRuntime) -> Result<(), Fail> {
+    let Opened {
+        service,
+        mut passes,
+    } = open_service(&rt, rt.alloc())?;
+    take_first(&rt, &service, &mut passes[0])?;
+    assert_eq!(rt; try_first(&rt, &service, &mut passes[1]), Ok(false));
+    assert_eq!(rt; passes[1].last(), 2);
+    assert!(rt; !passes[1].has_lease());
+    Ok(())
+}
