@@ -12,14 +12,14 @@ use Rattle.coordination.specs.declared.rule.Sight.{Sight}
 use Rattle.coordination.specs.declared.halts.Halt.{Halt}
 use Rattle.coordination.specs.declared.halts.Halt.TheVariants.{Stopped}
 use Rattle.coordination.specs.Agrees.{Agrees, Finds, IsSound}
-use Rattle.coordination.specs.Attempts.{Asked, Attempted, Cause}
+use Rattle.coordination.specs.Attempts.{Asked, Attempted, Cause, Making}
 use Rattle.coordination.specs.Calls.{AskedInVain, HasFailed, HasFinished, HasLooked, IsAnswered, WasStopped}
 use Rattle.coordination.specs.Sights.{hearing, seeing}
 use Rattle.coordination.proofs.Growing.{agrees_same, agrees_self, agrees_then}
 
 -- at a result that is known by an equation
-pub at_result : {E : Type 0} (kind : Kind) (fails retries : Cause) (s s' : Sight) (r r' : Result Disposition E) → r ≡ r' → Attempted kind fails retries s s' r → Attempted kind fails retries s s' r'
-at_result kind fails retries s s' r r' is a = subst (Attempted kind fails retries s s') is a
+pub at_result : {E : Type 0} (kind : Kind) (makes : Making) (fails retries : Cause) (s s' : Sight) (r r' : Result Disposition E) → r ≡ r' → Attempted kind makes fails retries s s' r → Attempted kind makes fails retries s s' r'
+at_result kind makes fails retries s s' r r' is a = subst (Attempted kind makes fails retries s s') is a
 
 pub at_answer : {A : Type 0} (answers : WorkerId → BookView → A → Type 0) (waits : WorkerId → BookView → Type 0) (s s' : Sight) (r r' : Option A) → r ≡ r' → Asked answers waits s s' r → Asked answers waits s s' r'
 at_answer answers waits s s' r r' is a = subst (Asked answers waits s s') is a
@@ -62,20 +62,20 @@ finds_left w seen before after f graph state history sound = record {
   known = subst (λ (g : GraphView). w.0 < g.workers) (sym graph) f.known;
 }
 
-module _ {E : Type 0} (kind : Kind) (fails retries : Cause) (s s' s'' : Sight) (look : OnlyLooked s s') where
-  pub finished_on : Attempted {E = E} kind fails retries s' s'' (Ok Finished) → HasFinished kind s s''
+module _ {E : Type 0} (kind : Kind) (makes : Making) (fails retries : Cause) (s s' s'' : Sight) (look : OnlyLooked s s') where
+  pub finished_on : Attempted {E = E} kind makes fails retries s' s'' (Ok Finished) → HasFinished kind makes s s''
   finished_on a = record {
     before = a.before;
     after = a.after;
     changes = a.ran.0;
     found = finds_on s s' look a.before a.found;
     graph = a.graph;
-    finished = subst (λ (w : WorkerId). journal.HasFinished a.before a.after w kind a.ran.0) (worker_on s s' look) a.ran.1;
+    finished = subst (λ (w : WorkerId). journal.HasFinished makes a.before a.after w kind a.ran.0) (worker_on s s' look) a.ran.1;
     left = a.left;
     sight = a.is ∙ seeing_on s s' look a.after;
   }
 
-  pub failed_on : Attempted {E = E} kind fails retries s' s'' (Ok Failed) → HasFailed kind fails s s''
+  pub failed_on : Attempted {E = E} kind makes fails retries s' s'' (Ok Failed) → HasFailed kind fails s s''
   failed_on a = record {
     before = a.before;
     after = a.after;
@@ -86,17 +86,17 @@ module _ {E : Type 0} (kind : Kind) (fails retries : Cause) (s s' s'' : Sight) (
     sight = a.is ∙ seeing_on s s' look a.after;
   }
 
-  pub looked_on : (e : E) → Attempted {E = E} kind fails retries s' s'' (Err e) → HasLooked s s''
+  pub looked_on : (e : E) → Attempted {E = E} kind makes fails retries s' s'' (Err e) → HasLooked s s''
   looked_on e a = looks_on s s' look s'' a.after (finds_left s'.worker s'.seen a.before a.after a.found a.graph a.ran.state a.ran.history a.left) a.is
 
   -- the transform is to be run again on the book that it found
-  found_again : (a : Attempted {E = E} kind fails retries s' s'' (Ok Retry)) → Finds s'.worker s'.seen a.after
+  found_again : (a : Attempted {E = E} kind makes fails retries s' s'' (Ok Retry)) → Finds s'.worker s'.seen a.after
   found_again a = finds_left s'.worker s'.seen a.before a.after a.found a.graph a.ran.state a.ran.history a.left
 
-  pub retry_on : Attempted {E = E} kind fails retries s' s'' (Ok Retry) → HasLooked s s''
+  pub retry_on : Attempted {E = E} kind makes fails retries s' s'' (Ok Retry) → HasLooked s s''
   retry_on a = looks_on s s' look s'' a.after (found_again a) a.is
 
-  pub stopped_on : (by : WorkerId) (t : Sight) → Attempted {E = E} kind fails retries s' s'' (Ok Retry) → by.0 < s''.seen.graph.workers → t ≡ hearing s'' by → WasStopped retries by s t
+  pub stopped_on : (by : WorkerId) (t : Sight) → Attempted {E = E} kind makes fails retries s' s'' (Ok Retry) → by.0 < s''.seen.graph.workers → t ≡ hearing s'' by → WasStopped retries by s t
   stopped_on by t a low stopped_by = record {
     book = a.after;
     found = finds_on s s' look a.after (found_again a);

@@ -7,17 +7,17 @@ use Rattle.lock_journal.specs.Ran as journal
 use Rattle.lock_journal.specs.declared.entries.Kind.{Kind}
 use Rattle.coordination.specs.declared.rule.Sight.{Sight}
 use Rattle.coordination.specs.Agrees.{Finds, IsSound}
-use Rattle.coordination.specs.Attempts.{Cause}
+use Rattle.coordination.specs.Attempts.{Cause, Making}
 use Rattle.coordination.specs.Sights.{seeing, stopping, hearing}
 
 -- The transform found a book (`Finds`), and finished. The pass has seen the book with its entry, which is sound again.
-pub record HasFinished (kind : Kind) (old new : Sight) : Type 0 where
+pub record HasFinished (kind : Kind) (makes : Making) (old new : Sight) : Type 0 where
   pub before : BookView
   pub after : BookView
   pub changes : List Change
   pub found : Finds old.worker old.seen before
   pub graph : after.graph ≡ before.graph
-  pub finished : journal.HasFinished before after old.worker kind changes
+  pub finished : journal.HasFinished makes before after old.worker kind changes
   pub left : IsSound after
   pub sight : new ≡ seeing old after
 

@@ -1,7 +1,8 @@
 //! What a caller can prove of the book that its call found.
 ghost use Rattle.std.specs.Prelude.{◌≡◌, ◌≢◌, [], ◌∷◌, ◌++◌, List, None, Ok, Some, true, false};
 ghost use Rattle.resource_lock.specs.Good.{Good};
-ghost use Rattle.resource_lock.specs.StateView.{IsWorkerOf, owner_of};
+ghost use Rattle.resource_lock.specs.StateView.{holding_of, owner_of};
+ghost use Rattle.resource_lock.specs.declared.changes.Change.TheVariants as changes;
 ghost use Rattle.resource_lock.specs.declared.ids.WorkerId.{WorkerId};
 ghost use Rattle.lock_journal.specs.Entry.{Entry, entry, replay};
 ghost use Rattle.lock_journal.specs.declared.entries.Kind.TheVariants as kinds;
@@ -10,6 +11,7 @@ use crate::tests::{TakeFirst, open_service, take_first};
 use crate::{Coordination, Halt, Opened, Pass, sound_books_have_good_states};
 use lock_journal::{Disposition, Kind, Tentative, Transform};
 use resource_lock::LockId;
+use run_laws::own_changes_say_all;
 use std::process::Abort;
 use std::sync::Wait;
 use std::test::Fail;
@@ -19,14 +21,11 @@ use std::test::Fail;
 struct TryFirst;
 
 impl Transform for TryFirst {
-    ghost use Rattle.std.specs.Prelude.{◌≡◌, ◌≢◌, Some};
-    ghost use Rattle.resource_lock.specs.StateView.{owner_of};
-    ghost use Rattle.resource_lock.specs.declared.ids.WorkerId.{WorkerId};
-    ghost use Rattle.lock_journal.specs.declared.entries.Kind.TheVariants as kinds;
-
     ghost kind_of = { λ _. kinds.Acquire };
 
     ghost most = { λ _. 2 };
+
+    ghost makes = { λ _ _ _ _ cs. cs ≡ changes.Lock (record { 0 = 0 }) ∷ changes.Take ∷ [] };
 
     ghost fails_on = { λ _ g w s. (by : WorkerId) × (by ≢ w) × (owner_of s (record { 0 = 0 }) ≡ Some by) };
 
@@ -58,12 +57,13 @@ fn try_first<R: Wait + Abort>(rt: &R, service: &Coordination, pass: &mut Pass) -
     ensures service { pass.new.service ≡ pass.old.service }
     ensures worker { pass.new.sight.worker ≡ pass.old.sight.worker }
     ensures good { result ≡ Ok true → Good pass.new.sight.seen.state }
-    ensures known { result ≡ Ok true → IsWorkerOf pass.new.sight.seen.state pass.new.sight.worker }
+    ensures lease { result ≡ Ok true → (holding_of pass.new.sight.seen.state pass.new.sight.worker).lease ≡ true }
     // The history without the failed entry leads to a state in which the lock is another's.
     ensures refused { result ≡ Ok false → (h : List Entry) × (pass.new.sight.seen.history ≡ h ++ entry pass.new.sight.worker kinds.Acquire None ∷ [])
         × (by : WorkerId) × (by ≢ pass.new.sight.worker) × (owner_of (replay pass.new.sight.seen.graph h) (record { 0 = 0 }) ≡ Some by) }
 {
     sound_books_have_good_states();
+    own_changes_say_all();
     service.with_state_lock(rt, pass, &TryFirst)
 }
 

@@ -1,9 +1,12 @@
-use Rattle.std.proofs.Common.{◌≡◌, ◌<◌, List, [], ◌∷◌, ◌++◌, None, Some, sym, ap, ◌∙◌, subst}
+use Rattle.std.proofs.Common.{◌≡◌, true, List, [], ◌∷◌, ◌++◌, None, Some, sym, ap, ◌∙◌, subst}
 use Rattle.resource_lock.specs.Good.{Good}
 use Rattle.resource_lock.specs.GraphView.{GraphView}
-use Rattle.resource_lock.specs.StateView.{IsWorkerOf, StateView, owner_of}
+use Rattle.resource_lock.specs.StateView.{Holding, StateView, holding_of, owner_of}
+use Rattle.resource_lock.specs.Change.{holding_after, make_all}
+use Rattle.resource_lock.specs.declared.changes.Change.{Change}
 use Rattle.resource_lock.specs.declared.ids.WorkerId.{WorkerId}
 use Rattle.lock_journal.specs.Entry.{Entry, entry, replay}
+use Rattle.run_laws.specs.OwnChanges.{after_all}
 use Rattle.coordination.specs.declared.rule.Sight.{Sight}
 use Rattle.coordination.proofs.caller_tests.try_first.Goals as goal
 
@@ -12,12 +15,15 @@ returns-clause-good g c = λ is.
     let f = c.with_state_lock.ensures.finished is in
     subst (λ (s : Sight). Good s.seen.state) (sym f.sight) (c.sound_books_have_good_states.ensures.good f.after f.left)
 
-pub returns-clause-known : goal.returns-clause-known
-returns-clause-known g c = λ is.
+pub returns-clause-lease : goal.returns-clause-lease
+returns-clause-lease g c = λ is.
     let f = c.with_state_lock.ensures.finished is in
     let w = c.args.pass.now.sight.worker in
-    subst (λ (s : Sight). IsWorkerOf s.seen.state s.worker) (sym f.sight)
-    (c.sound_books_have_good_states.ensures.known f.after w f.left (subst (λ (h : GraphView). w.0 < h.workers) (sym f.graph) f.found.known))
+    let known = c.sound_books_have_good_states.ensures.known f.before w f.found.sound f.found.known in
+    let holding : holding_of (make_all f.before.state w f.changes) w ≡ after_all holding_after (holding_of f.before.state w) f.changes = c.own_changes_say_all.ensures.holding f.before.state w f.changes known in
+    let taken = ap (λ (cs : List Change). (after_all holding_after (holding_of f.before.state w) cs).lease) f.finished.made in
+    subst (λ (s : Sight). (holding_of s.seen.state s.worker).lease ≡ true) (sym f.sight)
+    (ap (λ (s : StateView). (holding_of s w).lease) f.finished.state ∙ (ap (λ (h : Holding). h.lease) holding ∙ taken))
 
 pub returns-clause-refused : goal.returns-clause-refused
 returns-clause-refused g c = λ is.
