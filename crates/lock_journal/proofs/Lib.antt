@@ -5,3 +5,6 @@ pub mod Outcomes
 pub mod Makings
 pub mod Within
 pub mod Skipped
+pub mod NoMore
+pub mod Disabled
+pub mod Waits
