@@ -6,10 +6,10 @@ use Rattle.resource_lock.specs.Change.{holding_after, make_all}
 use Rattle.resource_lock.specs.declared.changes.Change.{Change}
 use Rattle.resource_lock.specs.declared.ids.WorkerId.{WorkerId}
 use Rattle.lock_journal.specs.Entry.{Entry, entry, replay}
-use Rattle.lock_journal.specs.declared.entries.Kind.TheVariants.{Acquire}
+use Rattle.lock_journal.specs.declared.entries.Kind.TheVariants.{Start}
 use Rattle.run_laws.specs.OwnChanges.{after_all}
 use Rattle.coordination.specs.declared.rule.Sight.{Sight}
-use Rattle.coordination.proofs.caller_tests.try_first.Goals as goal
+use Rattle.coordination.proofs.caller_tests.try_start.Goals as goal
 
 pub returns-clause-good : goal.returns-clause-good
 returns-clause-good g c = λ is.
@@ -32,11 +32,11 @@ returns-clause-refused g c = λ is.
     let h : List Entry = f.before.history in
     let worker : c.with_state_lock.new.pass.sight.worker ≡ c.args.pass.now.sight.worker = ap (λ (s : Sight). s.worker) f.sight in
     let graph : c.with_state_lock.new.pass.sight.seen.graph ≡ f.before.graph = ap (λ (s : Sight). s.seen.graph) f.sight ∙ f.graph in
-    let by : WorkerId = f.failed.cause.0 in (
+    let by : WorkerId = f.failed.cause.1 in (
       h,
-      ap (λ (s : Sight). s.seen.history) f.sight ∙ (f.failed.history ∙ ap (λ (w : WorkerId). h ++ entry w Acquire None ∷ []) (sym worker)),
+      ap (λ (s : Sight). s.seen.history) f.sight ∙ (f.failed.history ∙ ap (λ (w : WorkerId). h ++ entry w (Start c.args.attempt.now.wait.start.task) None ∷ []) (sym worker)),
       by,
-      (λ (same : by ≡ c.with_state_lock.new.pass.sight.worker). f.failed.cause.1 (same ∙ worker)),
-      subst (λ (k : GraphView). owner_of (replay k h) (record { 0 = 0 }) ≡ Some by) (sym graph)
-          (ap (λ (s : StateView). owner_of s (record { 0 = 0 })) (sym f.found.sound.replays) ∙ f.failed.cause.2),
+      (λ (same : by ≡ c.with_state_lock.new.pass.sight.worker). f.failed.cause.2 (same ∙ worker)),
+      subst (λ (k : GraphView). owner_of (replay k h) c.args.attempt.now.lock ≡ Some by) (sym graph)
+          (ap (λ (s : StateView). owner_of s c.args.attempt.now.lock) (sym f.found.sound.replays) ∙ f.failed.cause.3),
     )
