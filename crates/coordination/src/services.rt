@@ -208,9 +208,11 @@ impl Coordination {
         self.wake_after_entry(guard, true);
     }
 
-    /// Takes the book out for good. Every pass agrees with it, and each of its entries is of a worker
-    /// with a pass, so that its closings are those of the passes. Where every pass holds nothing,
-    /// nobody in the book owns a lock, has a lease, has parked a lock, is blocked or runs anything.
+    /// Takes the book out for good. Every pass agrees with it, and together their entries and closings
+    /// are the book's. No lock stands in two passes, and no more of them have a lease than may. Whoever
+    /// a pass shows as having stopped the service has a pass, which shows that too. Where every pass
+    /// holds nothing, nobody in the book owns a lock, has a lease, has parked a lock, is blocked or runs
+    /// anything.
     pub fn finish(self, passes: Vec<Pass>) -> Book
         requires service { All (λ p. p.service ≡ self.service) passes.items }
         requires all { map (λ p. p.sight.worker.0) passes.items ≡ workers_from 0 self.book.graph.workers }
