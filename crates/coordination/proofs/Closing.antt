@@ -1,12 +1,13 @@
--- What the last state tells.
-use Rattle.std.proofs.Common.{◌≡◌, ℕ, zero, suc, ◌+◌, ◌<◌, true, List, [], ◌∷◌, map, length, get_or, Option, Some, None, refl, sym, ap, ◌∙◌, subst, arith}
-use Rattle.std.specs.List.{All}
-use Rattle.std.proofs.lemmas.List.{get_or-map}
+-- What the last state says.
+use Rattle.std.proofs.Common.{◌≡◌, ℕ, zero, suc, ◌+◌, ◌<◌, ◌≤◌, true, List, [], ◌∷◌, map, length, get_or, Option, Some, None, refl, sym, ap, ◌∙◌, subst, arith}
+use Rattle.std.specs.List.{All, Any}
+use Rattle.std.proofs.lemmas.List.{get_or-map, get_or_default}
 use mathlib.Core.Option.{some, some-injective}
 use lib.ListN.{get_elem?}
 use Rattle.atomic_table.specs.Table.{Final, Seen}
 use Rattle.resource_lock.specs.GraphView.{GraphView}
 use Rattle.resource_lock.specs.declared.ids.WorkerId.{WorkerId}
+use Rattle.resource_lock.proofs.Undo.{same_worker}
 use Rattle.lock_journal.specs.BookView.{BookView}
 use Rattle.coordination.specs.declared.rule.Sight.{Sight}
 use Rattle.coordination.specs.declared.rule.SeatView.{SeatView}
@@ -20,6 +21,7 @@ use Rattle.coordination.proofs.Moves.{S}
 pub record Closes (g : GraphView) (ss : List Sight) (xs : List BookView) : Type 0 where
   pub book : BookView
   pub mark : ℕ
+  pub named : mark ≤ g.workers
   pub graph : book.graph ≡ g
   pub sound : IsSound book
   pub slot : get_elem? xs 0 ≡ some book
@@ -58,6 +60,7 @@ closing g id ss xs all s o at keeps None is =
     let mine = (o.fits id (all_of ss) at).0 in record {
       book = o.book;
       mark = o.mark;
+      named = o.named;
       graph = o.graph;
       sound = o.sound;
       slot = keeps 0 o.book (o.home ∙ ap (λ (k : Option ℕ). some (home_of k o.book)) is);
@@ -96,9 +99,11 @@ workers_of w (suc n) book = ap (λ (l : List ℕ). w ∷ l) (workers_of (suc w) 
 pub workers_first : (ps : List PassView) (n : ℕ) (book : BookView) → map (λ p. p.sight) ps ≡ sights_from 0 n book → map (λ p. p.sight.worker.0) ps ≡ workers_from 0 n
 workers_first ps n book is = sym (workers_all ps) ∙ (ap (λ (l : List Sight). map (λ s. s.worker.0) l) is ∙ workers_of 0 n book)
 
+pub how_many : (ps : List PassView) (n : ℕ) → map (λ p. p.sight.worker.0) ps ≡ workers_from 0 n → length ps ≡ n
+how_many ps n all = sym (length_map (λ (p : PassView). p.sight.worker.0) ps) ∙ (ap (λ (l : List ℕ). length l) all ∙ length_workers 0 n)
+
 pub length_first : (ps : List PassView) (n : ℕ) (book : BookView) → map (λ p. p.sight) ps ≡ sights_from 0 n book → length ps ≡ n
-length_first ps n book is =
-    sym (length_map (λ (p : PassView). p.sight.worker.0) ps) ∙ (ap (λ (l : List ℕ). length l) (workers_first ps n book is) ∙ length_workers 0 n)
+length_first ps n book is = how_many ps n (workers_first ps n book is)
 
 -- a fact of each sight is one of each pass
 of_passes : (P : Sight → Type 0) (ps : List PassView) → All P (map (λ p. p.sight) ps) → (k : ℕ) (d : PassView) → k < length ps → P (get_or ps k d).sight
@@ -122,8 +127,19 @@ module _ (g : GraphView) (ps : List PassView) (xs : List BookView) (result : Boo
   pub passes_agree : All (λ p. Agrees p.sight.worker p.sight.seen result) ps
   passes_agree = λ k d h. subst (Agrees (get_or ps k d).sight.worker (get_or ps k d).sight.seen) same (of_passes (λ (s : Sight). Agrees s.worker s.seen z.book) ps z.agrees k d h)
 
-pub passes_told : (g : GraphView) (ps : List PassView) (xs : List BookView) → Closes g (map (λ p. p.sight) ps) xs
-    → All (λ p. (by : WorkerId) → p.sight.stopped_by ≡ Some by → All (λ q. q.sight.worker ≡ by → q.sight.stopped ≡ true) ps) ps
-passes_told g ps xs z = λ k d h w stopped_by k' d' h' worker.
-    let mark : z.mark ≡ suc w.0 = of_passes (λ (s : Sight). (w : WorkerId) → s.stopped_by ≡ Some w → z.mark ≡ suc w.0) ps z.stopped_by k d h w stopped_by in
-    of_passes (λ (s : Sight). z.mark ≡ suc s.worker.0 → s.stopped ≡ true) ps z.stops k' d' h' (mark ∙ ap (λ (v : WorkerId). suc v.0) (sym worker))
+-- the passes stand in the order of their workers
+pub worker_at : (ps : List PassView) (n : ℕ) → map (λ p. p.sight.worker.0) ps ≡ workers_from 0 n → (k : ℕ) (d : PassView) → k < length ps → (get_or ps k d).sight.worker.0 ≡ k
+worker_at ps n all k d within =
+    let f : PassView → ℕ = λ p. p.sight.worker.0 in
+    let low : k < n = omega (arith, how_many ps n all) in
+    sym (get_or-map f ps k d 0 within) ∙ (ap (λ (l : List ℕ). get_or l k 0) all ∙ (workers_at 0 n k 0 low ∙ omega arith))
+
+-- whoever a pass heard of is a worker with a pass, which has stopped the service
+pub passes_stopped : (g : GraphView) (ps : List PassView) (xs : List BookView) → map (λ p. p.sight.worker.0) ps ≡ workers_from 0 g.workers → Closes g (map (λ p. p.sight) ps) xs
+    → All (λ p. (by : WorkerId) → p.sight.stopped_by ≡ Some by → Any (λ q. (q.sight.worker ≡ by) × (q.sight.stopped ≡ true)) ps) ps
+passes_stopped g ps xs all z = λ k d h by heard.
+    let mark : z.mark ≡ suc by.0 = of_passes (λ (s : Sight). (w : WorkerId) → s.stopped_by ≡ Some w → z.mark ≡ suc w.0) ps z.stopped_by k d h by heard in
+    let within : by.0 < length ps = omega (arith, z.named, how_many ps g.workers all) in
+    let worker = worker_at ps g.workers all by.0 d within in
+    let stopped = of_passes (λ (s : Sight). z.mark ≡ suc s.worker.0 → s.stopped ≡ true) ps z.stops by.0 d within (mark ∙ ap suc (sym worker)) in
+    (by.0, get_or ps by.0 d, within, get_or_default ps by.0 (get_or ps by.0 d) d within, (same_worker (get_or ps by.0 d).sight.worker by worker, stopped))

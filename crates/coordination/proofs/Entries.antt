@@ -31,6 +31,9 @@ follows_at w old new r s part is f = subst (λ t. Follows w old new t part) is f
 pub belongs_sound : (book : BookView) → IsSound book → BelongsTo book.graph book.state
 belongs_sound book sound = subst (BelongsTo book.graph) (sym sound.replays) (belongs book.graph book.history sound.lawful)
 
+pub good_sound : (book : BookView) → IsSound book → Good book.state
+good_sound book sound = subst Good (sym sound.replays) (good book.graph book.history sound.lawful)
+
 -- the room of the graph is that of its states
 room_in : (g : GraphView) (s : StateView) (part : Part) → BelongsTo g s → HasRoom g.locks (marks_of g) part → HasRoom (length s.owners) (mark_count s) part
 room_in g s part b room = record {
@@ -67,7 +70,7 @@ module _ {E : Type 0} (w : WorkerId) (old new : BookView) (part : Part) (f : Fol
   leads_from n =
       let b = belongs_sound old f.sound in
       let finishes = f.grew.2.allowed in record {
-        good = subst Good (sym f.sound.replays) (good old.graph old.history f.sound.lawful);
+        good = good_sound old f.sound;
         worker = worker_from old.graph old.state w b finishes.worker;
         named = finishes.finished.named;
         possible = finishes.finished.possible;

@@ -11,3 +11,5 @@ pub mod Following
 pub mod Entries
 pub mod Nothing
 pub mod Rests
+pub mod Totals
+pub mod Together

@@ -1,5 +1,5 @@
 -- Each step keeps the rule.
-use Rattle.std.proofs.Common.{◌≡◌, ◌≢◌, ℕ, zero, suc, eqb, ◌+◌, ◌-◌, ◌<◌, ◌^◌, List, [], ◌∷◌, ◌++◌, length, get_or, set, Option, Some, None, refl, sym, ap, ◌∙◌, subst, ⊎_elim, arith, length-set, get_or-set_same, eq-eqb, ne_eqb}
+use Rattle.std.proofs.Common.{◌≡◌, ◌≢◌, ℕ, zero, suc, eqb, ◌+◌, ◌-◌, ◌<◌, ◌≤◌, ◌^◌, List, [], ◌∷◌, ◌++◌, length, get_or, set, Option, Some, None, refl, sym, ap, ◌∙◌, subst, ⊎_elim, arith, length-set, get_or-set_same, eq-eqb, ne_eqb}
 use Rattle.std.specs.List.{All}
 use Rattle.std.proofs.lemmas.List.{get_or-set_other}
 use Rattle.std.proofs.lemmas.List.Elements.{All-nil, All-cons, All-head, All-weaker}
@@ -65,7 +65,7 @@ same_views g s o ws id v at wide first second = record {
   deep = o.deep;
   busy = first ∙ o.busy;
   mark_is = second ∙ o.mark_is;
-  low = o.low;
+  named = o.named;
   small = o.small;
   home = o.home;
   inside = λ j e. let p = o.inside j e in let long = length-set s.views id v in omega arith;
@@ -94,7 +94,7 @@ takes_at g slots id h s o None is at =
         deep = length-set s.homes 0 none ∙ o.deep;
         busy = get_or-set_same s.words 0 1 0 (let p = o.wide in omega arith);
         mark_is = get_or-set_other s.words 0 1 1 0 (λ (e : 1 ≡ 0). absurd (omega arith)) ∙ o.mark_is;
-        low = o.low;
+        named = o.named;
         small = o.small;
         home = set_here s.homes 0 none (let p = o.deep in omega arith);
         inside = inside_of s.views id (holding new) (there s.views id (one h) at);
@@ -104,7 +104,7 @@ takes_at g slots id h s o None is at =
               ((λ _. (refl, omega arith)), (λ ne. absurd (ne refl))),
             );
       },
-      ((λ _. record { book = o.book; agrees = fit.agrees; sound = o.sound; known = subst (λ (x : GraphView). h.worker.0 < x.workers) (sym o.graph) fit.known; is = refl }), (λ ne. absurd (ne free))),
+      ((λ _. record { book = o.book; found = record { agrees = fit.agrees; sound = o.sound; known = subst (λ (x : GraphView). h.worker.0 < x.workers) (sym o.graph) fit.known }; is = refl }), (λ ne. absurd (ne free))),
     )
 takes_at g slots id h s o (Some k) is at =
     let out : get_or s.words 0 0 ≡ 1 = o.busy ∙ ap busy_of is in (
@@ -161,7 +161,7 @@ puts_it g slots id h book adds s o deep at small =
         deep = length-set s.homes 0 (some book) ∙ o.deep;
         busy = get_or-set_same s.words 0 0 0 (let p = o.wide in omega arith);
         mark_is = get_or-set_other s.words 0 1 0 0 (λ (e : 1 ≡ 0). absurd (omega arith)) ∙ o.mark_is;
-        low = o.low;
+        named = o.named;
         small = o.small;
         home = set_here s.homes 0 (some book) (let p = o.deep in omega arith);
         inside = λ k e. absurd (cc);
@@ -185,9 +185,9 @@ puts_it g slots id h book adds s o deep at small =
     )
 
 -- a worker that holds nothing changes its own word on the stop, and the mark
-marks : (g : GraphView) (s : S) (o : Orderly g s) (mark id : ℕ) (h h' : Sight) → get_elem? s.views id ≡ some (one h) → mark < 2 ^ 32 → FitsSight g.workers mark o.book o.owner id h'
+marks : (g : GraphView) (s : S) (o : Orderly g s) (mark id : ℕ) (h h' : Sight) → get_elem? s.views id ≡ some (one h) → mark ≤ g.workers → FitsSight g.workers mark o.book o.owner id h'
     → ((j : ℕ) (k : Sight) → j ≢ id → FitsSight g.workers o.mark o.book o.owner j k → FitsSight g.workers mark o.book o.owner j k) → Orderly g (stepped s 1 mark id [] (one h') keeps)
-marks g s o mark id h h' at low mine others = record {
+marks g s o mark id h h' at named mine others = record {
   book = o.book;
   mark = mark;
   owner = o.owner;
@@ -198,7 +198,7 @@ marks g s o mark id h h' at low mine others = record {
   deep = o.deep;
   busy = get_or-set_other s.words 1 0 mark 0 (λ (e : 0 ≡ 1). absurd (omega arith)) ∙ o.busy;
   mark_is = get_or-set_same s.words 1 mark 0 (let p = o.wide in omega arith);
-  low = low;
+  named = named;
   small = o.small;
   home = o.home;
   inside = λ j e. let p = o.inside j e in let long = length-set s.views id (one h') in omega arith;
@@ -225,13 +225,24 @@ hears_it g s o id h at was =
     let is : o.mark ≡ x = sym o.mark_is in
     let next : o.mark ≡ suc (x - 1) = omega arith in
     subst (λ m. Orderly g (stepped s 1 m id [] (one (hearing h (marked x))) keeps)) is
-    (marks g s o o.mark id h (hearing h (marked x)) at o.low (hears g.workers o.mark o.book o.owner id h (marked x) next (fits_at g s o id h at)) (λ j k _ fit. fit))
+    (marks g s o o.mark id h (hearing h (marked x)) at o.named (hears g.workers o.mark o.book o.owner id h (marked x) next (fits_at g s o id h at)) (λ j k _ fit. fit))
+
+-- the mark fits its word, and names a worker where it isn't 0
+little_mark : (g : GraphView) (s : S) (o : Orderly g s) → get_or s.words 1 0 < 2 ^ 32
+little_mark g s o = let is : get_or s.words 1 0 ≡ o.mark = o.mark_is in let p = o.named in let q = o.small in omega arith
+
+stopper_of : (g : GraphView) (s : S) (o : Orderly g s) (id : ℕ) (h : Sight) → get_elem? s.views id ≡ some (one h) → get_or s.words 1 0 ≢ 0 → (marked (get_or s.words 1 0)).0 < h.seen.graph.workers
+stopper_of g s o id h at was =
+    let x : ℕ = get_or s.words 1 0 in
+    let is : x ≡ o.mark = o.mark_is in
+    let low : x - 1 < g.workers = let p = o.named in omega arith in
+    subst (λ (y : GraphView). x - 1 < y.workers) (sym o.graph ∙ (fits_at g s o id h at).agrees.graph) low
 
 pub stops_it : (g : GraphView) (slots id : ℕ) (h : Sight) → Allows (Orderly g) slots id (one h, []) 1 (λ x. either (eqb x 0) (h.worker.0 + 1) x) (stopped_at (step slots 1 0 (h.worker.0 + 1) none) (one h, []))
 stops_it g slots id h s o deep at small =
     let x : ℕ = get_or s.words 1 0 in
     let fit = fits_at g s o id h at in
-    let little : x < 2 ^ 32 = subst (λ m. m < 2 ^ 32) (sym o.mark_is) o.low in
+    let little = little_mark g s o in
     dite (ℕ_discrete x 0)
     (λ none_yet.
     let free : o.mark ≡ 0 = sym o.mark_is ∙ none_yet in (
@@ -239,7 +250,7 @@ stops_it g slots id h s o deep at small =
       keeps,
       tt,
       subst (λ b. Orderly g (stepped s 1 (either b (h.worker.0 + 1) x) id [] (one (stopping h)) keeps)) (sym (eq-eqb x 0 none_yet))
-          (marks g s o (h.worker.0 + 1) id h (stopping h) at (let p = fit.known in let q = o.small in omega arith)
+          (marks g s o (h.worker.0 + 1) id h (stopping h) at (let p = fit.known in omega arith)
           (record { known = fit.known; agrees = fit.agrees; seated = fit.seated; stopped = λ _. omega arith; stops = λ _. refl; stopped_by = λ w e. let f = fit.stopped_by w e in absurd (omega arith) })
           (λ j k apart f. record {
             known = f.known;
@@ -256,13 +267,13 @@ stops_it g slots id h s o deep at small =
       keeps,
       tt,
       subst (λ b. Orderly g (stepped s 1 (either b (h.worker.0 + 1) x) id [] (one (hearing h (marked x))) keeps)) (sym (ne_eqb x 0 was)) (hears_it g s o id h at was),
-      (little, (λ e. absurd (was e)), (λ _. refl)),
+      (little, (λ e. absurd (was e)), (λ _. record { stopper = stopper_of g s o id h at was; is = refl })),
     ))
 
 pub looks_it : (g : GraphView) (slots id : ℕ) (h : Sight) → Allows (Orderly g) slots id (one h, []) 1 (λ x. x) (heard (step slots 1 0 0 none) (one h, []))
 looks_it g slots id h s o deep at small =
     let x : ℕ = get_or s.words 1 0 in
-    let little : x < 2 ^ 32 = subst (λ m. m < 2 ^ 32) (sym o.mark_is) o.low in
+    let little = little_mark g s o in
     dite (ℕ_discrete x 0)
     (λ none_yet. (
       one h,
@@ -272,4 +283,4 @@ looks_it g slots id h s o deep at small =
           (get_or-set_same s.words 1 x 0 (let p = o.wide in omega arith)),
       (little, (λ _. refl), (λ ne. absurd (ne none_yet))),
     ))
-    (λ was. (one (hearing h (marked x)), keeps, tt, hears_it g s o id h at was, (little, (λ e. absurd (was e)), (λ _. refl))))
+    (λ was. (one (hearing h (marked x)), keeps, tt, hears_it g s o id h at was, (little, (λ e. absurd (was e)), (λ _. record { stopper = stopper_of g s o id h at was; is = refl }))))

@@ -14,7 +14,7 @@ use Rattle.run_laws.specs.Own.{action_at, claimed, marks_in, places_from, task_a
 use Rattle.run_laws.proofs.Others.{running_of}
 use Rattle.resource_lock.specs.AtRest.{IsAtRest}
 use Rattle.coordination.specs.Lasts.{last_of}
-use Rattle.coordination.specs.Parts.{IsPartOf, IsResting}
+use Rattle.coordination.specs.Parts.{IsPartOf, IsFreshPart}
 use Rattle.coordination.specs.declared.parts.Part.{Part}
 use Rattle.coordination.specs.declared.parts.Room.{Room}
 
@@ -84,9 +84,9 @@ runs_none s w nothing =
       | UnitOf u ↦ still_not w (get_or s.units u Waiting) (none_passes (runs_by w) Waiting 0 s.units refl (empty_map unit_at us second.1) u)
     ]
 
--- a part that has nothing is that of any worker of a state at rest
-pub resting_part : (book : BookView) (room : Room) (w : WorkerId) (last : ℕ) (part : Part) → IsAtRest book.state → IsResting room last part → last ≡ last_of w book.history → IsPartOf book w part
-resting_part book room w last part rest r is =
+-- a fresh part is that of any worker of a state at rest
+pub fresh_part : (book : BookView) (room : Room) (w : WorkerId) (last : ℕ) (part : Part) → IsAtRest book.state → IsFreshPart room last part → last ≡ last_of w book.history → IsPartOf book w part
+fresh_part book room w last part rest r is =
     let s : StateView = book.state in
     let owner : (i : ℕ) → is_owner (get_or s.owners i None) w ≡ false = λ i. ap (λ o. is_owner o w) (rest.owners (record { 0 = i })) in
     let tasks = no_places (runs_by w) Waiting 0 s.tasks (λ i. not_by w (get_or s.tasks i Waiting) (rest.marks w (TaskOf i))) in

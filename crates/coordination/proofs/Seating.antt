@@ -41,7 +41,7 @@ begins book sound small =
       deep = refl;
       busy = refl;
       mark_is = refl;
-      low = omega arith;
+      named = omega arith;
       small = small;
       home = refl;
       inside = λ k e. absurd (cc);
@@ -66,7 +66,7 @@ sits_it g slots s o deep small = (
     deep = o.deep;
     busy = o.busy;
     mark_is = o.mark_is;
-    low = o.low;
+    named = o.named;
     small = o.small;
     home = o.home;
     inside = λ k e. let p = o.inside k e in let long = length-append s.views (nobody ∷ []) in omega arith;
@@ -109,7 +109,7 @@ splits_it g id w m book s o at =
       deep = o.deep;
       busy = o.busy;
       mark_is = o.mark_is;
-      low = o.low;
+      named = o.named;
       small = o.small;
       home = o.home;
       inside = λ k e. let p = o.inside k e in let long = length-append (set s.views id left) (right ∷ []) in let same = length-set s.views id left in omega arith;
@@ -166,7 +166,7 @@ joins_it g id other v w not s o at apart at_other =
       deep = o.deep;
       busy = o.busy;
       mark_is = o.mark_is;
-      low = o.low;
+      named = o.named;
       small = o.small;
       home = o.home;
       inside = λ k e. let p = o.inside k e in let one = length-set s.views id both in let two = length-set (set s.views id both) other nobody in omega arith;

@@ -72,20 +72,20 @@ pub taken_book : (m m' : M) (t : Taken m m') → carried_book m'.1 ≡ t.book
 taken_book m m' t = ap (λ (x : M). carried_book x.1) t.is
 
 pub known_in : (m m' : M) (t : Taken m m') (worker : WorkerId) → worker ≡ (sight_of m.0).worker → worker.0 < (carried_book m'.1).graph.workers
-known_in m m' t worker is = subst (λ (p : WorkerId × BookView). p.0.0 < p.1.graph.workers) (λ i. (sym is i, sym (taken_book m m' t) i)) t.known
+known_in m m' t worker is = subst (λ (p : WorkerId × BookView). p.0.0 < p.1.graph.workers) (λ i. (sym is i, sym (taken_book m m' t) i)) t.found.known
 
 -- the book that was taken is sound, and the worker's part is that of it
 pub sound_in : (m m' : M) (t : Taken m m') → IsSound (carried_book m'.1)
-sound_in m m' t = subst IsSound (sym (taken_book m m' t)) t.sound
+sound_in m m' t = subst IsSound (sym (taken_book m m' t)) t.found.sound
 
 pub part_in : (m m' : M) (t : Taken m m') (worker : WorkerId) (part : Part) → worker ≡ (sight_of m.0).worker → IsPartOf (sight_of m.0).seen (sight_of m.0).worker part → IsPartOf (carried_book m'.1) worker part
 part_in m m' t worker part is p =
-    subst (λ (x : WorkerId × BookView). IsPartOf x.1 x.0 part) (λ i. (sym is i, sym (taken_book m m' t) i)) (part_on (sight_of m.0).worker (sight_of m.0).seen t.book part t.agrees p)
+    subst (λ (x : WorkerId × BookView). IsPartOf x.1 x.0 part) (λ i. (sym is i, sym (taken_book m m' t) i)) (part_on (sight_of m.0).worker (sight_of m.0).seen t.book part t.found.agrees p)
 
 pub room_in : (m m' : M) (t : Taken m m') (part : Part) → HasRoom (sight_of m.0).seen.graph.locks (marks_of (sight_of m.0).seen.graph) part
     → HasRoom (carried_book m'.1).graph.locks (marks_of (carried_book m'.1).graph) part
 room_in m m' t part room =
-    subst (λ (b : BookView). HasRoom b.graph.locks (marks_of b.graph) part) (sym (taken_book m m' t)) (room_on (sight_of m.0).worker (sight_of m.0).seen t.book part t.agrees room)
+    subst (λ (b : BookView). HasRoom b.graph.locks (marks_of b.graph) part) (sym (taken_book m m' t)) (room_on (sight_of m.0).worker (sight_of m.0).seen t.book part t.found.agrees room)
 
 -- what a transform left of a book is what a part can follow
 grew : {E : Type 0} (kind : Kind) (makes : Making) (fails retries : Cause) (w : WorkerId) (old new : BookView) (r : Result Disposition E) → Ran kind makes fails retries w old new r → Grew w old new r
@@ -106,15 +106,18 @@ module _ {E : Type 0} (kind : Kind) (makes : Making) (fails retries : Cause) (r 
   same_graph : (carried_book m''.1).graph ≡ t.book.graph
   same_graph = graph ∙ ap (λ (b : BookView). b.graph) (taken_book m m' t)
 
+  adds : AddsOwn (seeing (sight_of m.0) t.book) (carried_book m''.1)
+  adds = adds_own kind makes fails retries r (seeing (sight_of m.0) t.book) (carried_book m''.1) same_graph found
+
   pub owns : AddsOwn (sight_of m''.0) (carried_book m''.1)
-  owns = subst (λ (k : Sight). AddsOwn k (carried_book m''.1)) (sym (taken_sight m m' m'' t same)) (adds_own kind makes fails retries r (seeing (sight_of m.0) t.book) (carried_book m''.1) same_graph found)
+  owns = subst (λ (k : Sight). AddsOwn k (carried_book m''.1)) (sym (taken_sight m m' m'' t same)) adds
 
   -- the view afterwards
   pub after : (n : M) → n ≡ (one (seeing (sight_of m''.0) (carried_book m''.1)), []) → sight_of n.0 ≡ seeing (sight_of m.0) (carried_book m''.1)
   after n back = ap (λ (x : M). sight_of x.0) back ∙ ap (λ (k : Sight). seeing k (carried_book m''.1)) (taken_sight m m' m'' t same)
 
   pub attempted : (n : M) → n ≡ (one (seeing (sight_of m''.0) (carried_book m''.1)), []) → Attempted kind makes fails retries (sight_of m.0) (sight_of n.0) r
-  attempted n back = record { before = t.book; after = carried_book m''.1; agrees = t.agrees; graph = same_graph; ran = found; is = after n back }
+  attempted n back = record { before = t.book; after = carried_book m''.1; found = t.found; graph = same_graph; ran = found; left = adds.sound t.found.sound; is = after n back }
 
 -- the same of a question
 module _ {A : Type 0} (answers : WorkerId → BookView → A → Type 0) (waits : WorkerId → BookView → Type 0) (r : Option A) (m m' m'' : M) (t : Taken m m') (same : m'' ≡ m') (worker : WorkerId)
@@ -130,4 +133,4 @@ module _ {A : Type 0} (answers : WorkerId → BookView → A → Type 0) (waits 
   after_ask n back = ap (λ (x : M). sight_of x.0) back ∙ (λ i. seeing (taken_sight m m' m'' t (ap (λ (x : M). x.0) same) i) (book_is i))
 
   pub asked : Answers answers waits worker (carried_book m'.1) r → (n : M) → n ≡ (one (seeing (sight_of m''.0) (carried_book m''.1)), []) → Asked answers waits (sight_of m.0) (sight_of n.0) r
-  asked a n back = record { book = t.book; agrees = t.agrees; answer = subst (λ (p : WorkerId × BookView). Answers answers waits p.0 p.1 r) (λ i. (is i, taken_book m m' t i)) a; is = after_ask n back }
+  asked a n back = record { book = t.book; found = t.found; answer = subst (λ (p : WorkerId × BookView). Answers answers waits p.0 p.1 r) (λ i. (is i, taken_book m m' t i)) a; is = after_ask n back }

@@ -1,5 +1,5 @@
 -- What a worker saw agrees with a book.
-use Rattle.std.specs.Prelude.{◌≡◌, List, ◌++◌}
+use Rattle.std.specs.Prelude.{◌≡◌, ◌<◌, List, ◌++◌}
 use Rattle.resource_lock.specs.declared.ids.WorkerId.{WorkerId}
 use Rattle.lock_journal.specs.Entry.{Entry, replay}
 use Rattle.lock_journal.specs.Allowed.{Lawful}
@@ -23,3 +23,9 @@ pub record Agrees (w : WorkerId) (seen book : BookView) : Type 0 where
 pub record IsSound (book : BookView) : Type 0 where
   pub lawful : Lawful book.graph book.history
   pub replays : book.state ≡ replay book.graph book.history
+
+-- The worker finds a sound book that agrees with what it saw, and is one of the workers of its graph.
+pub record Finds (w : WorkerId) (seen book : BookView) : Type 0 where
+  pub agrees : Agrees w seen book
+  pub sound : IsSound book
+  pub known : w.0 < book.graph.workers

@@ -10,7 +10,7 @@ use Rattle.lock_journal.specs.declared.entries.Kind.{Kind}
 use Rattle.lock_journal.specs.declared.transforms.Disposition.{Disposition}
 use Rattle.lock_journal.specs.declared.transforms.Disposition.TheVariants.{Finished, Failed, Retry}
 use Rattle.coordination.specs.declared.rule.Sight.{Sight}
-use Rattle.coordination.specs.Agrees.{Agrees}
+use Rattle.coordination.specs.Agrees.{Finds, IsSound}
 use Rattle.coordination.specs.Sights.{seeing}
 
 -- where a transform may fail, or ask to be run again
@@ -28,13 +28,14 @@ Ran kind makes fails retries w old new (Ok Failed) = HasFailed fails old new w k
 Ran kind makes fails retries w old new (Ok Retry) = IsToRetry retries old new w
 Ran kind makes fails retries w old new (Err e) = SameBook old new
 
--- The transform found a book that agrees with the worker's sight, and the worker saw what it left.
+-- The transform found a sound book that agrees with the worker's sight, and left a sound one, which the worker saw.
 pub record Attempted {E : Type 0} (kind : Kind) (makes : Making) (fails retries : Cause) (s s' : Sight) (r : Result Disposition E) : Type 0 where
   pub before : BookView
   pub after : BookView
-  pub agrees : Agrees s.worker s.seen before
+  pub found : Finds s.worker s.seen before
   pub graph : after.graph ≡ before.graph
   pub ran : Ran kind makes fails retries s.worker before after r
+  pub left : IsSound after
   pub is : s' ≡ seeing s after
 
 -- what a question may answer
@@ -42,9 +43,9 @@ abbrev pub Answers : {A : Type 0} → (WorkerId → BookView → A → Type 0) �
 Answers answers waits w book (Some a) = answers w book a
 Answers answers waits w book None = waits w book
 
--- The question was asked of a book that agrees with the worker's sight, and the worker saw it.
+-- The question was asked of a sound book that agrees with the worker's sight, and the worker saw it.
 pub record Asked {A : Type 0} (answers : WorkerId → BookView → A → Type 0) (waits : WorkerId → BookView → Type 0) (s s' : Sight) (r : Option A) : Type 0 where
   pub book : BookView
-  pub agrees : Agrees s.worker s.seen book
+  pub found : Finds s.worker s.seen book
   pub answer : Answers answers waits s.worker book r
   pub is : s' ≡ seeing s book

@@ -9,3 +9,4 @@ pub mod Calls
 pub mod Rising
 pub mod Parts
 pub mod Passes
+pub mod Together

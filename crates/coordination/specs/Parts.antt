@@ -53,8 +53,8 @@ pub record HasRoom (locks marks : ℕ) (part : Part) : Type 0 where
   pub mark_room : marks ≤ vec_capacity part.claimed
   pub park_room : locks ≤ vec_capacity part.parked
 
--- it has nothing, and room for all
-pub record IsResting (room : Room) (last : ℕ) (part : Part) : Type 0 where
+-- the part of a worker that has nothing, with room for all
+pub record IsFreshPart (room : Room) (last : ℕ) (part : Part) : Type 0 where
   pub lease : part.lease ≡ false
   pub blocked : part.blocked ≡ false
   pub locks : part.locks.items ≡ []

@@ -1,5 +1,5 @@
 -- The rule of the table. Word 0 is 1 while a pass holds the book, and slot 0 has it while none does. Word 1 is 1 more than the worker that stopped the service, or 0.
-use Rattle.std.specs.Prelude.{◌≡◌, ◌≢◌, ℕ, suc, ◌-◌, ◌<◌, ◌^◌, true, List, [], ◌∷◌, ◌++◌, Option, Some, None, length, slice_index}
+use Rattle.std.specs.Prelude.{◌≡◌, ◌≢◌, ℕ, suc, ◌-◌, ◌<◌, ◌≤◌, ◌^◌, true, List, [], ◌∷◌, ◌++◌, Option, Some, None, length, slice_index}
 use Rattle.std.specs.List.{All}
 use mathlib.Core.Option.{some, none}
 use mathlib.Core.Option as maybe
@@ -12,7 +12,7 @@ use Rattle.lock_journal.specs.BookView.{BookView}
 use Rattle.run_laws.specs.Own.{NoneOf}
 use Rattle.coordination.specs.declared.rule.Sight.{Sight}
 use Rattle.coordination.specs.declared.rule.SeatView.{SeatView}
-use Rattle.coordination.specs.Agrees.{Agrees, IsSound}
+use Rattle.coordination.specs.Agrees.{Agrees, Finds, IsSound}
 use Rattle.coordination.specs.Sights.{seeing, stopping, hearing, one, holding, all_of, no_book, sight_of}
 
 -- what is so of each worker of the view at a seat
@@ -36,7 +36,7 @@ abbrev pub home_of : Option ℕ → BookView → maybe.Option BookView
 home_of None book = some book
 home_of (Some k) book = none
 
--- One sound book of the graph, with which each worker's sight agrees. Each worker sits at one seat, and one seat at most holds the book.
+-- One sound book of the graph, with which each worker's sight agrees. Each worker sits at one seat, and one seat at most holds the book. The mark names a worker, or nobody.
 pub record Orderly (g : GraphView) (s : State BookView SeatView) : Type 0 where
   pub book : BookView
   pub mark : ℕ
@@ -48,7 +48,7 @@ pub record Orderly (g : GraphView) (s : State BookView SeatView) : Type 0 where
   pub deep : length s.homes ≡ 1
   pub busy : slice_index s.words 0 ≡ busy_of holder
   pub mark_is : slice_index s.words 1 ≡ mark
-  pub low : mark < 2 ^ 32
+  pub named : mark ≤ g.workers
   pub small : g.workers < 2 ^ 32
   pub home : get_elem? s.homes 0 ≡ some (home_of holder book)
   pub inside : (k : ℕ) → holder ≡ Some k → k < length s.views
@@ -57,12 +57,10 @@ pub record Orderly (g : GraphView) (s : State BookView SeatView) : Type 0 where
 abbrev pub M : Type 0
 M = Me BookView SeatView
 
--- The book was found and taken. It is sound and agrees with what the worker saw, and the worker is one of its graph.
+-- The book was found and taken.
 pub record Taken (m m' : M) : Type 0 where
   pub book : BookView
-  pub agrees : Agrees (sight_of m.0).worker (sight_of m.0).seen book
-  pub sound : IsSound book
-  pub known : (sight_of m.0).worker.0 < book.graph.workers
+  pub found : Finds (sight_of m.0).worker (sight_of m.0).seen book
   pub is : m' ≡ (holding (seeing (sight_of m.0) book), (0, book) ∷ [])
 
 abbrev pub taken : Step BookView → M → ℕ → M → Type 0
@@ -80,13 +78,18 @@ put_back st m r m' = m' ≡ (one (seeing (sight_of m.0) (carried_book m.1)), [])
 abbrev pub marked : ℕ → WorkerId
 marked r = record { 0 = r - 1 }
 
+-- the worker hears which worker has stopped the service
+pub record Hears (m : M) (by : WorkerId) (m' : M) : Type 0 where
+  pub stopper : by.0 < (sight_of m.0).seen.graph.workers
+  pub is : m' ≡ (one (hearing (sight_of m.0) by), [])
+
 -- the worker has stopped the service, or hears who did
 abbrev pub stopped_at : Step BookView → M → ℕ → M → Type 0
-stopped_at st m r m' = (r < 2 ^ 32) × (r ≡ 0 → m' ≡ (one (stopping (sight_of m.0)), [])) × (r ≢ 0 → m' ≡ (one (hearing (sight_of m.0) (marked r)), []))
+stopped_at st m r m' = (r < 2 ^ 32) × (r ≡ 0 → m' ≡ (one (stopping (sight_of m.0)), [])) × (r ≢ 0 → Hears m (marked r) m')
 
 -- the worker hears who has stopped the service, if somebody has
 abbrev pub heard : Step BookView → M → ℕ → M → Type 0
-heard st m r m' = (r < 2 ^ 32) × (r ≡ 0 → m' ≡ m) × (r ≢ 0 → m' ≡ (one (hearing (sight_of m.0) (marked r)), []))
+heard st m r m' = (r < 2 ^ 32) × (r ≡ 0 → m' ≡ m) × (r ≢ 0 → Hears m (marked r) m')
 
 abbrev pub heads : List Sight → List Sight
 heads [] = []

@@ -1,26 +1,9 @@
 -- Which entries can let another worker go on.
-use Rattle.std.specs.Prelude.{◌-◌, Bool, true, false, List, length, Option, None, Some, slice_get}
+use Rattle.std.specs.Prelude.{◌-◌, Bool, false, List, length, Option, None, Some, slice_get}
 use Rattle.std.specs.List.{list_any}
-use Rattle.resource_lock.specs.declared.marks.Mark.{Mark}
-use Rattle.resource_lock.specs.declared.marks.Mark.TheVariants.{Queued, Passed, Failed, Skipped}
 use Rattle.resource_lock.specs.declared.changes.Change.{Change}
-use Rattle.resource_lock.specs.declared.changes.Change.TheVariants.{Unlock, Give, Move}
 use Rattle.lock_journal.specs.Entry.{Entry}
-
--- a mark of what can be taken up, or has ended
-abbrev pub is_news : Mark → Bool
-is_news Queued = true
-is_news Passed = true
-is_news Failed = true
-is_news Skipped = true
-is_news _ = false
-
--- a lock or a lease is given back, or a mark is queued or has ended
-abbrev pub lets_go_on : Change → Bool
-lets_go_on (Unlock l) = true
-lets_go_on Give = true
-lets_go_on (Move m from to) = is_news to
-lets_go_on _ = false
+use Rattle.lock_journal.specs.Waiting.{lets_go_on}
 
 -- one of the changes does so; a failed entry has none
 abbrev pub any_lets_go_on : Option (List Change) → Bool

@@ -1,5 +1,5 @@
 //! One try under the lock. Nothing here waits.
-ghost use Rattle.std.specs.Prelude.{◌≡◌, IfNone, IfSome};
+ghost use Rattle.std.specs.Prelude.{◌≡◌, ◌<◌, IfNone, IfSome};
 ghost use Rattle.coordination.specs.Attempts.{Asked, Attempted};
 ghost use Rattle.coordination.specs.Sights.{hearing};
 ghost use Rattle.coordination.specs.Wakes.{last_lets_go_on};
@@ -52,12 +52,13 @@ impl Slot {
         Some(answer)
     }
 
-    // Tells the pass who has stopped the service.
+    // Has the pass hear who has stopped the service.
     pub fn hear(&self, pass: &mut Pass) -> Option<WorkerId>
         requires { pass.old.service ≡ self.now.table.shared.table_id }
         ensures same { pass.new.service ≡ pass.old.service }
         ensures none { IfNone result (pass.new.sight ≡ pass.old.sight) }
-        ensures some { IfSome result (λ w. pass.new.sight ≡ hearing pass.old.sight w) }
+        ensures some { IfSome result (λ by. pass.new.sight ≡ hearing pass.old.sight by) }
+        ensures stopper { IfSome result (λ by. by.0 < pass.old.sight.seen.graph.workers) }
     {
         let by = self.marked(&mut pass.seat)?;
         pass.stopped_by = Some(by);

@@ -16,7 +16,7 @@ mod slots;
 mod wakes;
 
 pub use halts::Halt;
-pub use laws::openings_are_at_rest;
+pub use laws::{openings_are_at_rest, sound_books_have_good_states};
 pub use passes::Pass;
 pub use questions::Question;
 pub use rule::Sight;
@@ -24,8 +24,6 @@ pub use services::{Coordination, Opened};
 pub use wakes::lets_go_on;
 
 #[cfg(test)]
-mod pass_tests;
-#[cfg(test)]
-mod tests;
+mod caller_tests;
 #[cfg(test)]
 mod thread_tests;

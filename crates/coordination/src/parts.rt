@@ -4,7 +4,7 @@ ghost use Rattle.resource_lock.specs.Change.{make_all};
 ghost use Rattle.resource_lock.specs.StateView.{StateView, runs_by};
 ghost use Rattle.lock_journal.specs.BookView.{BookView};
 ghost use Rattle.run_laws.specs.OwnChanges.{mark_before, with_if, without_if};
-ghost use Rattle.coordination.specs.Parts.{Follows, HasRoom, HasRoomFor, IsAfter, IsPartOf, IsResting, IsRoomOf, LeadsOn, marks_of};
+ghost use Rattle.coordination.specs.Parts.{Follows, HasRoom, HasRoomFor, IsAfter, IsPartOf, IsFreshPart, IsRoomOf, LeadsOn, marks_of};
 
 use crate::rising::{add, remove};
 use lock_journal::{Book, Disposition};
@@ -42,8 +42,8 @@ pub struct Part {
 
 impl Part {
     // The part of a worker that has nothing, with room for all that it can ever have.
-    pub fn resting(alloc: Global, room: Room, last: u64) -> Result<Part, AllocError>
-        ensures { IfOk result (IsResting room last) }
+    pub fn fresh(alloc: Global, room: Room, last: u64) -> Result<Part, AllocError>
+        ensures { IfOk result (IsFreshPart room last) }
     {
         let locks = Vec::with_capacity(alloc, room.locks)?;
         let claimed = Vec::with_capacity(alloc, room.marks)?;

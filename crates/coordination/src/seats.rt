@@ -1,5 +1,5 @@
 //! The seats of the passes: cut off in `open`, joined in `finish`.
-ghost use Rattle.std.specs.Prelude.{◌≡◌, ◌<◌, ◌^◌, [], ◌∷◌, All, IfOk, Some, ℕ, length, map, slice_index, true};
+ghost use Rattle.std.specs.Prelude.{◌≡◌, ◌<◌, ◌^◌, [], ◌∷◌, All, Any, IfOk, Some, ℕ, length, map, slice_index, true};
 ghost use Rattle.resource_lock.specs.declared.ids.WorkerId.{WorkerId};
 ghost use Rattle.coordination.specs.Agrees.{Agrees, IsSound};
 ghost use Rattle.resource_lock.specs.AtRest.{IsAtRest};
@@ -7,6 +7,7 @@ ghost use Rattle.coordination.specs.Holds.{HoldsNothing};
 ghost use Rattle.coordination.specs.Lasts.{last_of};
 ghost use Rattle.coordination.specs.Parts.{IsRoomOf};
 ghost use Rattle.coordination.specs.Sights.{sights_from, starting, workers_from};
+ghost use Rattle.coordination.specs.Together.{ComeTo};
 
 use crate::parts::{Part, Room};
 use crate::passes::Pass;
@@ -60,7 +61,7 @@ impl Slot {
     {
         let mut passes = Vec::new(alloc);
         for worker in 0..workers {
-            let part = Part::resting(alloc, room, lasts[worker as usize])?;
+            let part = Part::fresh(alloc, room, lasts[worker as usize])?;
             let own = self.table.shared.split_seat::<OneWorker>(&mut seat);
             passes.push(Pass {
                 worker: WorkerId(worker),
@@ -81,7 +82,8 @@ impl Slot {
         ensures agrees { All (λ p. Agrees p.sight.worker p.sight.seen result) passes.items }
         ensures rest { All (λ p. HoldsNothing p.sight) passes.items → IsAtRest result.state }
         ensures entries { All (λ e. e.worker.0 < result.graph.workers) result.history }
-        ensures stopped_by { All (λ p. (by : WorkerId) → p.sight.stopped_by ≡ Some by → All (λ q. q.sight.worker ≡ by → q.sight.stopped ≡ true) passes.items) passes.items }
+        ensures together { ComeTo passes.items result }
+        ensures stopped_by { All (λ p. (by : WorkerId) → p.sight.stopped_by ≡ Some by → Any (λ q. (q.sight.worker ≡ by) × (q.sight.stopped ≡ true)) passes.items) passes.items }
     {
         let Slot { table } = self;
         let (_, mut seat) = table.shared.load_new_seat::<Sit>(0);

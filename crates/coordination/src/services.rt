@@ -1,10 +1,11 @@
-ghost use Rattle.std.specs.Prelude.{◌≡◌, ◌≢◌, ◌<◌, [], All, IfOk, Ok, Err, Some, ℕ, length, map, slice_index, true, false};
+ghost use Rattle.std.specs.Prelude.{◌≡◌, ◌≢◌, ◌<◌, [], All, Any, IfOk, Ok, Err, Some, ℕ, length, map, slice_index, true, false};
 ghost use Rattle.resource_lock.specs.declared.ids.WorkerId.{WorkerId};
 ghost use Rattle.coordination.specs.Agrees.{Agrees};
 ghost use Rattle.resource_lock.specs.AtRest.{IsAtRest};
 ghost use Rattle.coordination.specs.Holds.{HoldsNothing};
 ghost use Rattle.coordination.specs.Calls.{AskedInVain, HasFailed, HasFinished, HasLooked, HasStopped, IsAnswered, WasStopped};
 ghost use Rattle.coordination.specs.Sights.{sights_from, workers_from};
+ghost use Rattle.coordination.specs.Together.{ComeTo};
 
 use crate::halts::Halt;
 use crate::lasts::last_numbers;
@@ -92,7 +93,7 @@ impl Coordination {
     /// True means that it finished, and false that it failed. Where it asks to be run again, the call
     /// runs it again after an entry with a change that can let another worker go on (`lets_go_on`),
     /// or answers that the service was stopped. After `NoMemory` and `Stopped` the pass is as before,
-    /// but that `Stopped` tells it by whom.
+    /// but that after `Stopped` it shows by whom.
     pub fn with_state_lock<T: Transform, R: Wait>(
         &self,
         rt: &R,
@@ -111,11 +112,11 @@ impl Coordination {
         for _ in rt.forever() {
             match self.slot.attempt(pass, transform) {
                 Some((Ok(Disposition::Finished), frees)) => {
-                    self.tell_entry(guard, frees);
+                    self.wake_after_entry(guard, frees);
                     return Ok(true);
                 }
                 Some((Ok(Disposition::Failed), frees)) => {
-                    self.tell_entry(guard, frees);
+                    self.wake_after_entry(guard, frees);
                     return Ok(false);
                 }
                 Some((Err(_), _)) => return Err(Halt::NoMemory),
@@ -178,7 +179,7 @@ impl Coordination {
 
     // Lets the gate go after an entry, and wakes the questions, and the transforms too where the entry
     // can let them go on. It touches no Condvar on which nobody sleeps.
-    fn tell_entry(&self, mut guard: MutexGuard<'_, Sleepers>, frees: bool) {
+    fn wake_after_entry(&self, mut guard: MutexGuard<'_, Sleepers>, frees: bool) {
         let asleep = *guard;
         guard.questions = false;
         guard.transforms = asleep.transforms && !frees;
@@ -204,12 +205,14 @@ impl Coordination {
             None => pass.stopped = true,
             Some(by) => pass.stopped_by = Some(by),
         }
-        self.tell_entry(guard, true);
+        self.wake_after_entry(guard, true);
     }
 
-    /// Takes the book out for good. Every pass agrees with it, and each of its entries is of a worker
-    /// with a pass, so that its closings are those of the passes. Where every pass holds nothing,
-    /// nobody in the book owns a lock, has a lease, has parked a lock, is blocked or runs anything.
+    /// Takes the book out for good. Every pass agrees with it, and together their entries and closings
+    /// are the book's. No lock stands in two passes, and no more of them have a lease than may. Whoever
+    /// a pass shows as having stopped the service has a pass, which shows that too. Where every pass
+    /// holds nothing, nobody in the book owns a lock, has a lease, has parked a lock, is blocked or runs
+    /// anything.
     pub fn finish(self, passes: Vec<Pass>) -> Book
         requires service { All (λ p. p.service ≡ self.service) passes.items }
         requires all { map (λ p. p.sight.worker.0) passes.items ≡ workers_from 0 self.book.graph.workers }
@@ -217,7 +220,8 @@ impl Coordination {
         ensures agrees { All (λ p. Agrees p.sight.worker p.sight.seen result) passes.items }
         ensures rest { All (λ p. HoldsNothing p.sight) passes.items → IsAtRest result.state }
         ensures entries { All (λ e. e.worker.0 < result.graph.workers) result.history }
-        ensures stopped_by { All (λ p. (by : WorkerId) → p.sight.stopped_by ≡ Some by → All (λ q. q.sight.worker ≡ by → q.sight.stopped ≡ true) passes.items) passes.items }
+        ensures together { ComeTo passes.items result }
+        ensures stopped_by { All (λ p. (by : WorkerId) → p.sight.stopped_by ≡ Some by → Any (λ q. (q.sight.worker ≡ by) × (q.sight.stopped ≡ true)) passes.items) passes.items }
     {
         let Coordination {
             slot,

@@ -3,8 +3,8 @@ ghost use Rattle.std.specs.Prelude.{◌≡◌, ◌≢◌, ◌<◌, ◌+◌, ◌-
 ghost use Rattle.coordination.specs.Attempts.{Answers, Ran};
 ghost use Rattle.coordination.specs.Agrees.{IsSound};
 ghost use Rattle.coordination.specs.Parts.{HasRoom, IsPartOf, marks_of};
-ghost use Rattle.coordination.specs.Rule.{AddsOwn, Taken, carried_book};
-ghost use Rattle.coordination.specs.Sights.{hearing, holding, one, seeing, sight_of, stopping};
+ghost use Rattle.coordination.specs.Rule.{AddsOwn, Hears, Taken, carried_book};
+ghost use Rattle.coordination.specs.Sights.{holding, one, seeing, sight_of, stopping};
 ghost use Rattle.coordination.specs.Wakes.{last_lets_go_on};
 
 use crate::parts::Part;
@@ -100,7 +100,7 @@ impl Slot {
         requires worker { worker ≡ (sight_of seat.old.me.0).worker }
         ensures same { (seat.new.table_id ≡ seat.old.table_id) × (seat.new.id ≡ seat.old.id) }
         ensures none { IfNone result (seat.new.me ≡ (one (stopping (sight_of seat.old.me.0)), [])) }
-        ensures some { IfSome result (λ w. seat.new.me ≡ (one (hearing (sight_of seat.old.me.0) w), [])) }
+        ensures some { IfSome result (λ by. Hears seat.old.me by seat.new.me) }
     {
         let found = self
             .table
@@ -119,7 +119,7 @@ impl Slot {
         requires lone { seat.old.me ≡ (one (sight_of seat.old.me.0), []) }
         ensures same { (seat.new.table_id ≡ seat.old.table_id) × (seat.new.id ≡ seat.old.id) }
         ensures none { IfNone result (seat.new.me ≡ seat.old.me) }
-        ensures some { IfSome result (λ w. seat.new.me ≡ (one (hearing (sight_of seat.old.me.0) w), [])) }
+        ensures some { IfSome result (λ by. Hears seat.old.me by seat.new.me) }
     {
         let found = self.table.shared.load::<Hear>(seat, 1);
         if found == 0 {

@@ -1,11 +1,10 @@
 //! Workers in threads of their own. Each test ends after a number of turns.
 ghost use Rattle.std.specs.Prelude.{◌≡◌, ◌<◌, ℕ, All, IfOk, length, map, slice_index_or};
-ghost use Rattle.lock_journal.specs.Allowed.{IsFixedList};
+ghost use Rattle.lock_journal.specs.Allowed.{IsDisabled, IsFixedList};
 ghost use Rattle.lock_journal.specs.declared.entries.Kind.TheVariants as kinds;
 ghost use Rattle.coordination.specs.Sights.{workers_from};
 
-use crate::tests::EntriesFrom;
-use crate::{Coordination, Halt, Opened, Pass, openings_are_at_rest};
+use crate::{Coordination, Halt, Opened, Pass, Question, openings_are_at_rest};
 use lock_journal::kinds::{End, Start};
 use lock_journal::{Book, Disposition, Kind, Tentative, Transform};
 use resource_lock::{Graph, GraphTask, LockId, Mark, MarkId, WorkerId};
@@ -18,8 +17,8 @@ use std::thread::Threads;
 
 /// Starts a task, and is run again where it can't be started yet.
 #[derive(Clone, Copy, Debug)]
-struct Await {
-    start: Start,
+pub struct Await {
+    pub start: Start,
 }
 
 impl Transform for Await {
@@ -31,7 +30,7 @@ impl Transform for Await {
 
     ghost fails_on = { λ _ _ _ _. ⊥ };
 
-    ghost retries_on = { λ _ _ _ _. Unit {0} };
+    ghost retries_on = { λ t. IsDisabled (kinds.Start t.start.task) };
 
     fn kind(&self) -> Kind {
         self.start.kind()
@@ -47,6 +46,8 @@ impl Transform for Await {
             Disposition::Failed | Disposition::Retry => Disposition::Retry,
         }
     }
+
+    fn waits_for_news(&self) {}
 }
 
 /// Fails, with an entry.
@@ -74,6 +75,30 @@ impl Transform for FailAtOnce {
 
     fn apply(&self, _work: &mut Tentative) -> Disposition {
         Disposition::Failed
+    }
+
+    fn waits_for_news(&self) {}
+}
+
+/// How many entries there are, once there are so many.
+#[derive(Clone, Copy, Debug)]
+struct EntriesFrom {
+    least: u64,
+}
+
+impl Question for EntriesFrom {
+    type Answer = u64;
+
+    ghost answers = { λ _ _ book entries. entries ≡ length book.history };
+
+    ghost waits_on = { λ q _ book. length book.history < q.least };
+
+    fn ask(&self, _worker: WorkerId, book: &Book) -> Option<u64> {
+        let entries = book.len();
+        if entries < self.least {
+            return None;
+        }
+        Some(entries)
     }
 }
 

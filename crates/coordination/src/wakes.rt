@@ -1,21 +1,22 @@
 //! Which entries can let another worker go on.
 ghost use Rattle.std.specs.Prelude.{◌≡◌};
 ghost use Rattle.std.specs.List.{list_any};
-ghost use Rattle.coordination.specs.Wakes.{last_lets_go_on, lets_go_on};
+ghost use Rattle.lock_journal.specs.Waiting.{lets_go_on};
+ghost use Rattle.coordination.specs.Wakes.{last_lets_go_on};
 
 use lock_journal::Book;
 use resource_lock::{Change, Mark};
 
-/// Whether a change can let another worker go on: it gives a lock or a lease back, or it queues or
-/// ends a task, an action or a unit.
+/// Whether a change can let another worker go on: it gives a lock or a lease back, or it leaves a
+/// task, an action or a unit that isn't under way.
 pub fn lets_go_on(change: Change) -> bool
     ensures { result ≡ lets_go_on change }
 {
     match change {
         Change::Unlock(_) | Change::Give => true,
         Change::Move(_, _, to) => match to {
-            Mark::Queued | Mark::Passed | Mark::Failed | Mark::Skipped => true,
-            Mark::Waiting | Mark::Running(_) => false,
+            Mark::Waiting | Mark::Queued | Mark::Passed | Mark::Failed | Mark::Skipped => true,
+            Mark::Running(_) => false,
         },
         Change::Lock(_)
         | Change::Take

@@ -1,9 +1,9 @@
 use Rattle.std.proofs.Common.{rules, Ok, Err, refl, sym, ap, ◌∙◌, subst}
 use Rattle.resource_lock.specs.declared.ids.WorkerId.{WorkerId}
 use Rattle.lock_journal.specs.declared.transforms.Disposition.TheVariants.{Finished, Failed, Retry}
-use Rattle.coordination.specs.Calls.{HasLooked, WasStopped}
+use Rattle.coordination.specs.Calls.{WasStopped}
 use Rattle.coordination.specs.Passes.{PassView}
-use Rattle.coordination.proofs.Looks.{at_result, failed_on, finished_on, looked_not, looked_on, retry_on, same_halt, stopped_on}
+use Rattle.coordination.proofs.Looks.{OnlyLooked, at_result, failed_on, finished_on, looked_not, looked_on, only_looked, retry_on, same_halt, stopped_on}
 use Rattle.coordination.proofs.services.Coordination.with_state_lock.Goals as goal
 use Rattle.coordination.proofs.services.Coordination.with_state_lock.Goals.{in-Some-Ok-Retry-default+in_default, in-None-attempt}
 
@@ -22,7 +22,7 @@ returns-in-Some-Err-default-clause-no_memory g c = λ _. looked_on _ _ _ _ _ _ _
 pub returns-in-Some-hear-clause-stopped : goal.returns-in-Some-hear-clause-stopped
 returns-in-Some-hear-clause-stopped g c = λ by is.
     subst (λ (w : WorkerId). WasStopped (g.T.Transform.retries_on c.args.transform.now) w c.args.pass.now.sight c.hear.new.pass.sight) (same_halt c.in-Some-hear.by by is)
-    (stopped_on _ _ _ _ _ _ _ c.loop.invariant.3 c.in-Some-hear.by _ (at_result _ _ _ _ _ _ _ (Ok Retry) (search rules) c.in-Some-Ok-Retry-default.ensures.some) c.in-Some-hear.ensures.some)
+    (stopped_on _ _ _ _ _ _ _ c.loop.invariant.3 c.in-Some-hear.by _ (at_result _ _ _ _ _ _ _ (Ok Retry) (search rules) c.in-Some-Ok-Retry-default.ensures.some) c.in-Some-hear.ensures.stopper c.in-Some-hear.ensures.some)
 
 pub loop-preserved : goal.loop-preserved
 loop-preserved g c = elim c.match-attempt.branch [
@@ -30,13 +30,13 @@ loop-preserved g c = elim c.match-attempt.branch [
     tt,
     tt,
     ap (λ (p : PassView). p.service) w.pass-is ∙ (w.hear.ensures.same ∙ (c.attempt.ensures.same ∙ c.loop.invariant.2)),
-    subst (λ (p : PassView). HasLooked c.args.pass.now.sight p.sight) (sym w.pass-is)
-        (subst (HasLooked c.args.pass.now.sight) (sym w.in_default.ensures.none) (retry_on _ _ _ _ _ _ _ c.loop.invariant.3 (at_result _ _ _ _ _ _ _ (Ok Retry) (search rules) w.in-Some-Ok-Retry-default.ensures.some))),
+    subst (λ (p : PassView). OnlyLooked c.args.pass.now.sight p.sight) (sym w.pass-is)
+        (subst (OnlyLooked c.args.pass.now.sight) (sym w.in_default.ensures.none) (only_looked _ _ (retry_on _ _ _ _ _ _ _ c.loop.invariant.3 (at_result _ _ _ _ _ _ _ (Ok Retry) (search rules) w.in-Some-Ok-Retry-default.ensures.some)))),
   )
   | in-None-attempt w ↦ (
     tt,
     tt,
     ap (λ (p : PassView). p.service) w.pass-is ∙ (c.attempt.ensures.same ∙ c.loop.invariant.2),
-    subst (λ (p : PassView). HasLooked c.args.pass.now.sight p.sight) (sym w.pass-is) (subst (HasLooked c.args.pass.now.sight) (sym w.in-None-attempt.ensures.none) c.loop.invariant.3),
+    subst (λ (p : PassView). OnlyLooked c.args.pass.now.sight p.sight) (sym w.pass-is) (subst (OnlyLooked c.args.pass.now.sight) (sym w.in-None-attempt.ensures.none) c.loop.invariant.3),
   )
 ]

@@ -1,10 +1,12 @@
 use Rattle.std.proofs.Common.{◌≡◌, ap, sym, ◌∙◌, subst}
 use Rattle.resource_lock.specs.declared.ids.WorkerId.{WorkerId}
 use Rattle.coordination.specs.declared.rule.Sight.{Sight}
+use Rattle.coordination.specs.Attempts.{Attempted}
+use Rattle.coordination.specs.Passes.{PassView}
 use Rattle.coordination.specs.Sights.{sight_of, seeing}
 use Rattle.coordination.specs.Rule.{carried_book}
 use Rattle.coordination.specs.Parts.{IsPartOf}
-use Rattle.coordination.proofs.Tries.{after, owns, part_in, room_in, sound_in}
+use Rattle.coordination.proofs.Tries.{after, attempted, owns, part_in, room_in, sound_in}
 use Rattle.coordination.proofs.PassSteps.{closes_pass}
 use Rattle.coordination.proofs.slots.Slot.attempt.Goals as goal
 
@@ -40,3 +42,13 @@ run-ran-requires-clause-part g c =
 
 pub run-ran-requires-clause-room : goal.run-ran-requires-clause-room
 run-ran-requires-clause-room g c = room_in c.pass.inside.seat.me c.try_take.new.seat.me (c.try_take.ensures.taken c.if-not-try_take.false) c.pass.inside.part c.pass.invariant.0.room
+
+pub returns-clause-some : goal.returns-clause-some
+returns-clause-some g c =
+    let kind = g.T.Transform.kind_of c.args.transform.now in
+    let makes = g.T.Transform.makes c.args.transform.now in
+    let fails = g.T.Transform.fails_on c.args.transform.now in
+    let retries = g.T.Transform.retries_on c.args.transform.now in
+    subst (λ (p : PassView). Attempted kind makes fails retries p.sight (sight_of c.put_back.new.seat.me.0) c.run-ran.result.0) c.pass.view_is
+    (attempted kind makes fails retries c.run-ran.result.0 c.pass.inside.seat.me c.try_take.new.seat.me c.run-ran.new.seat.me (c.try_take.ensures.taken c.if-not-try_take.false) c.run-ran.ensures.same.2 c.pass.inside.worker
+    c.pass.invariant.0.worker_is c.run-ran.ensures.graph c.run-ran.ensures.ran c.put_back.new.seat.me c.put_back.ensures.view)

@@ -20,7 +20,7 @@ invariant_of-pass-2 g c =
     after_ask answers waits c.put-answer.result c.pass.inside.seat.me c.try_take.new.seat.me c.put-answer.new.seat.me t c.put-answer.ensures.same.2 c.pass.inside.worker c.pass.invariant.0.worker_is c.put_back.new.seat.me
     c.put_back.ensures.view in (
       closes_pass c.pass.inside.worker c.pass.inside.part c.put_back.new.seat.me (seeing (sight_of c.put-answer.new.seat.me.0) (carried_book c.put-answer.new.seat.me.1)) (seeing (sight_of c.pass.inside.seat.me.0) t.book)
-          c.put_back.ensures.view is c.pass.invariant.0.worker_is (part_on _ _ t.book c.pass.inside.part t.agrees c.pass.invariant.0.part_is) (room_on _ _ t.book c.pass.inside.part t.agrees c.pass.invariant.0.room),
+          c.put_back.ensures.view is c.pass.invariant.0.worker_is (part_on _ _ t.book c.pass.inside.part t.found.agrees c.pass.invariant.0.part_is) (room_on _ _ t.book c.pass.inside.part t.found.agrees c.pass.invariant.0.room),
       c.pass.invariant.1 ∙ sym (ap (λ (k : Sight). k.stopped) is),
       c.pass.invariant.2 ∙ sym (ap (λ (k : Sight). k.stopped_by) is),
     )

@@ -9,7 +9,8 @@ use Rattle.coordination.specs.Passes.{PassView}
 use Rattle.coordination.specs.Sights.{all_of, workers_from}
 use Rattle.coordination.specs.Rule.{M}
 use Rattle.coordination.proofs.Seating.{sits_it, joins_it}
-use Rattle.coordination.proofs.Closing.{closes, graph_is, passes_agree, passes_told, sound_is, workers_all}
+use Rattle.coordination.proofs.Closing.{closes, graph_is, passes_agree, passes_stopped, sound_is, workers_all}
+use Rattle.coordination.proofs.Together.{come_to}
 use Rattle.coordination.proofs.Rests.{known_entries, rests_with, to_sights}
 use Rattle.coordination.proofs.slots.Slot.close.Goals as goal
 
@@ -59,7 +60,7 @@ returns-clause-stopped_by c =
     let all : c.loop-pass.yielded ≡ c.args.passes.items = first_of (search rules, grind (arith, common_steps)) in
     let view = ap (λ (m : M). m.0) c.loop-pass.invariant.2 ∙ ap (λ (l : List PassView). all_of (map (λ p. p.sight) l)) all in
     let z = closes g c.loop-pass.seat.id c.loop-pass.seat.me.0 (map (λ p. p.sight) ps) _ _ view (workers_all ps ∙ c.requires.all) c.close_with-closed.ensures.values.2 in
-    passes_told g ps _ z
+    passes_stopped g ps _ c.requires.all z
 
 pub returns-clause-rest : goal.returns-clause-rest
 returns-clause-rest c = λ nothing.
@@ -81,3 +82,14 @@ returns-clause-entries c =
     let view = ap (λ (m : M). m.0) c.loop-pass.invariant.2 ∙ ap (λ (l : List PassView). all_of (map (λ p. p.sight) l)) all in
     let z = closes g c.loop-pass.seat.id c.loop-pass.seat.me.0 (map (λ p. p.sight) ps) _ _ view (workers_all ps ∙ c.requires.all) c.close_with-closed.ensures.values.2 in
     known_entries c.take-book.result (sound_is g ps _ c.take-book.result z c.take-book.ensures.value)
+
+pub returns-clause-together : goal.returns-clause-together
+returns-clause-together c =
+    let ps : List PassView = c.args.passes.items in
+    let g = c.args.self.table.shared.key.book.value.graph in
+    let all : c.loop-pass.yielded ≡ c.args.passes.items = first_of (search rules, grind (arith, common_steps)) in
+    let view = ap (λ (m : M). m.0) c.loop-pass.invariant.2 ∙ ap (λ (l : List PassView). all_of (map (λ p. p.sight) l)) all in
+    let z = closes g c.loop-pass.seat.id c.loop-pass.seat.me.0 (map (λ p. p.sight) ps) _ _ view (workers_all ps ∙ c.requires.all) c.close_with-closed.ensures.values.2 in
+    let graph = graph_is g ps _ c.take-book.result z c.take-book.ensures.value in
+    come_to ps c.take-book.result (sound_is g ps _ c.take-book.result z c.take-book.ensures.value) (passes_agree g ps _ c.take-book.result z c.take-book.ensures.value)
+    (c.requires.all ∙ ap (λ (h : GraphView). workers_from 0 h.workers) (sym graph))

@@ -10,7 +10,7 @@ use Rattle.coordination.specs.Parts.{HasRoom, IsPartOf, marks_of}
 use Rattle.coordination.specs.Passes.{PassView}
 use Rattle.coordination.specs.Rule.{M, Orderly, first_sight, other_sights}
 use Rattle.coordination.specs.Sights.{sight, sight_of, all_of, one, sights_from}
-use Rattle.coordination.proofs.Nothing.{resting_part}
+use Rattle.coordination.proofs.Nothing.{fresh_part}
 use Rattle.coordination.proofs.Seating.{splits_it}
 use Rattle.coordination.proofs.slots.Slot.passes.Goals as goal
 
@@ -65,7 +65,7 @@ invariant_of-push c =
         lone = is ∙ ap (λ (k : Sight). (one k, [])) (sym s);
         worker_is = sym (ap (λ (k : Sight). k.worker) s);
         part_is = subst (λ (k : Sight). IsPartOf k.seen k.worker c.in_ok-part.part) (sym s)
-            (resting_part book c.args.room (record { 0 = w }) _ c.in_ok-part.part c.requires.rest c.in_ok-part.ensures (c.requires.each w low));
+            (fresh_part book c.args.room (record { 0 = w }) _ c.in_ok-part.part c.requires.rest c.in_ok-part.ensures (c.requires.each w low));
         room = subst (λ (k : Sight). HasRoom k.seen.graph.locks (marks_of k.seen.graph) c.in_ok-part.part) (sym s)
             (subst (λ (x : ℕ × ℕ). HasRoom x.0 x.1 c.in_ok-part.part) (λ i. (c.requires.room.locks i, c.requires.room.marks i)) c.in_ok-part.ensures.has_room);
       },
