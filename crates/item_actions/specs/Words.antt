@@ -1,5 +1,5 @@
 -- The words of actions and of outcomes.
-use Rattle.std.specs.Prelude.{ℕ, List, [], ◌∷◌, Option, codes}
+use Rattle.std.specs.Prelude.{ℕ, List, Option, codes}
 use Rattle.std.specs.List.{find}
 use Rattle.std.specs.Str.{bytes_eq}
 use Rattle.item_actions.specs.declared.actions.ItemAction.{ItemAction}

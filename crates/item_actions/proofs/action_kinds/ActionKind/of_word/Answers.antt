@@ -1,4 +1,4 @@
-use Rattle.std.proofs.Common.{sym, ap, ◌∙◌, arith}
+use Rattle.std.proofs.Common.{sym, ap, ◌∙◌}
 use Rattle.std.specs.Str.{bytes_eq}
 use Rattle.item_actions.specs.Words.{action_word}
 use Rattle.item_actions.specs.declared.action_kinds.TheConstants.ActionKind.{ALL}
