@@ -29,8 +29,8 @@ abbrev pub once : List ℕ → List ℕ
 once ns = insert_all (λ m n. m == n) [] ns
 
 -- the numbers of the tasks that a task comes after
-abbrev pub after_numbers : List Text → Data → List ℕ
-after_numbers names t = once (map (number_of names) (after_of t))
+abbrev pub dependency_numbers : List Text → Data → List ℕ
+dependency_numbers names t = once (map (number_of names) (after_of t))
 
-abbrev pub afters_of : Data → List (List ℕ)
-afters_of d = map (after_numbers (names_in d).tasks) (tasks_of d)
+abbrev pub dependencies_of : Data → List (List ℕ)
+dependencies_of d = map (dependency_numbers (names_in d).tasks) (tasks_of d)

@@ -7,7 +7,7 @@ ghost use Rattle.plan_table.specs.Keys.{name_of, after_of};
 ghost use Rattle.plan_table.specs.Search.{places};
 ghost use Rattle.plan_table.specs.Values.{text_of};
 ghost use Rattle.plan_reader.specs.NameNumbers.{texts, has_name, first_repeat, number_of};
-ghost use Rattle.plan_reader.specs.Names.{after_numbers, afters_of, once};
+ghost use Rattle.plan_reader.specs.Names.{dependency_numbers, dependencies_of, once};
 ghost use Rattle.plan_reader.specs.Search.{first_twice, twice_in};
 ghost use Rattle.plan_reader.specs.Reading.{RefusesBy};
 ghost use Rattle.task_ranks.specs.Rank.{lists_of};
@@ -84,32 +84,36 @@ fn numbers_of(alloc: Global, names: &NameTable, values: &[Value]) -> Result<Vec<
     copy_numbers(alloc, numbers.as_slice())
 }
 
-fn after_numbers(alloc: Global, names: &NameTable, task: &Value) -> Result<Vec<u32>, AllocError>
-    ensures { IfOk result (λ numbers. numbers.items ≡ after_numbers (names.now) (view task.now)) }
+fn dependency_numbers(
+    alloc: Global,
+    names: &NameTable,
+    task: &Value,
+) -> Result<Vec<u32>, AllocError>
+    ensures { IfOk result (λ numbers. numbers.items ≡ dependency_numbers (names.now) (view task.now)) }
 {
     let numbers = numbers_of(alloc, names, after_of(task))?;
     Ok(numbers)
 }
 
 fn rows_of(alloc: Global, names: &NameTable, tasks: &[Value]) -> Result<Vec<Vec<u32>>, AllocError>
-    ensures { IfOk result (λ rows. lists_of rows.items ≡ map (λ v. after_numbers (names.now) (view v)) tasks.now) }
+    ensures { IfOk result (λ rows. lists_of rows.items ≡ map (λ v. dependency_numbers (names.now) (view v)) tasks.now) }
 {
     let mut rows = Vec::with_capacity(alloc, tasks.len())?;
     for task in tasks {
-        rows.push(after_numbers(alloc, names, task)?)?;
+        rows.push(dependency_numbers(alloc, names, task)?)?;
     }
     Ok(rows)
 }
 
 /// For each task the numbers of the tasks that it comes after, each once, in the order in which they are first
 /// written.
-pub(crate) fn afters_of(
+pub(crate) fn dependencies_of(
     alloc: Global,
     names: &NameTable,
     document: &Value,
 ) -> Result<Vec<Vec<u32>>, AllocError>
     requires { names.now ≡ map name_of (places (view document.now) Part.Task) }
-    ensures { IfOk result (λ rows. lists_of rows.items ≡ afters_of (view document.now)) }
+    ensures { IfOk result (λ rows. lists_of rows.items ≡ dependencies_of (view document.now)) }
 {
     let rows = rows_of(alloc, names, tasks_of(document))?;
     Ok(rows)

@@ -4,7 +4,7 @@ use Rattle.plan_table.specs.Values.{text_of}
 use Rattle.plan_table.proofs.Lists.{map_of_map}
 use Rattle.plan_reader.specs.NameNumbers.{texts, number_of}
 use Rattle.plan_reader.specs.Names.{once}
-use Rattle.plan_reader.proofs.names.after_numbers.Goals as goal
+use Rattle.plan_reader.proofs.names.dependency_numbers.Goals as goal
 
 pub returns : goal.returns
 returns c =
