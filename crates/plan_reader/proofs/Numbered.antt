@@ -1,5 +1,5 @@
 -- Names that are numbered in their order, over plain lists.
-use Rattle.std.proofs.Common.{◌≡◌, ◌==◌, ℕ, ◌+◌, ◌<◌, Bool, true, false, cond, is_some, Option, Some, None, List, [], ◌∷◌, ◌++◌, map, length, take, get_or, Bor, Vec, Global, refl, ap, sym, subst, ◌∙◌, inl, inr, position, bytes_eq, arith}
+use Rattle.std.proofs.Common.{◌≡◌, ◌==◌, ℕ, ◌+◌, ◌<◌, true, false, cond, is_some, Option, Some, None, List, [], ◌∷◌, ◌++◌, map, length, take, get_or, Bor, Vec, Global, refl, ap, sym, subst, ◌∙◌, inl, inr, position, bytes_eq, arith}
 use Rattle.std.proofs.lemmas.Bool.{cases_Bool, true≢false}
 use Rattle.std.proofs.lemmas.List.{length-map, get_or-map, map_more, take_more, length-take}
 use Rattle.std.proofs.lemmas.List.Sums.{fold_push}

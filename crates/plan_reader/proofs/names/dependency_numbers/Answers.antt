@@ -2,7 +2,7 @@ use Rattle.std.proofs.Common.{map, ap, sym, ◌∙◌}
 use Rattle.toml.specs.View.{view}
 use Rattle.plan_table.specs.Values.{text_of}
 use Rattle.plan_table.proofs.Lists.{map_of_map}
-use Rattle.plan_reader.specs.NameNumbers.{texts, number_of}
+use Rattle.plan_reader.specs.NameNumbers.{number_of}
 use Rattle.plan_reader.specs.Names.{once}
 use Rattle.plan_reader.proofs.names.dependency_numbers.Goals as goal
 

@@ -1,7 +1,7 @@
 use Rattle.std.proofs.Common.{ap, ◌∙◌}
 use Rattle.toml.specs.View.{view}
 use Rattle.plan_table.specs.Values.{text_of}
-use Rattle.plan_reader.specs.NameNumbers.{texts, number_of}
+use Rattle.plan_reader.specs.NameNumbers.{number_of}
 use Rattle.plan_reader.proofs.Numbered.{once_more}
 use Rattle.plan_reader.proofs.names.numbers_of.Goals as goal
 

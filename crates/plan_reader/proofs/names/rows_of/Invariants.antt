@@ -1,7 +1,6 @@
 use Rattle.std.proofs.Common.{◌≡◌, map, take}
 use Rattle.toml.specs.View.{view}
 use Rattle.task_ranks.specs.Rank.{lists_of}
-use Rattle.plan_reader.specs.NameNumbers.{texts}
 use Rattle.plan_reader.specs.Names.{dependency_numbers}
 use Rattle.plan_reader.proofs.names.rows_of.Given as goal
 

@@ -1,6 +1,5 @@
 use Rattle.std.proofs.Common.{◌∙◌}
 use Rattle.toml.specs.View.{view}
-use Rattle.plan_reader.specs.NameNumbers.{texts}
 use Rattle.plan_reader.specs.Names.{dependency_numbers}
 use Rattle.plan_reader.proofs.Numbered.{row_at}
 use Rattle.plan_reader.proofs.parts.plan_tasks_of.Goals as goal

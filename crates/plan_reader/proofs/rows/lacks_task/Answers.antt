@@ -3,7 +3,7 @@ use Rattle.std.specs.List.{list_any}
 use Rattle.toml.specs.View.{view}
 use Rattle.plan_table.specs.Values.{text_of}
 use Rattle.plan_table.proofs.Lists.{any_of_map}
-use Rattle.plan_reader.specs.NameNumbers.{texts, has_name}
+use Rattle.plan_reader.specs.NameNumbers.{has_name}
 use Rattle.plan_reader.proofs.rows.lacks_task.Goals as goal
 
 pub returns : goal.returns
