@@ -15,7 +15,7 @@ use crate::tasks::run_task;
 use lock_journal::Book;
 use plan_reader::Plan;
 use std::alloc::{AllocError, Global};
-use task_ranks::users_at;
+use task_ranks::dependents_at;
 use worker_desk::Files;
 
 /// Skips a task, or runs it from its start to its end.
@@ -71,7 +71,7 @@ pub(crate) fn run_tasks<D: Files>(
     while let Some(choice) = ready.first() {
         make_choice(alloc, plan, book, choice, desk)?;
         let task = choice.task();
-        ready.go_on(book, task, users_at(&dependents, task as usize))?;
+        ready.go_on(book, task, dependents_at(&dependents, task as usize))?;
     }
     Ok(())
 }

@@ -14,7 +14,7 @@ use Rattle.plan_table.specs.declared.refusals.PlanRefusal.TheVariants as refusal
 use Rattle.plan_table.specs.declared.refusals.PlanFail.{PlanFail}
 use Rattle.plan_table.specs.declared.refusals.PlanFail.TheVariants as fail
 use Rattle.plan_table.specs.Document.{document_reading}
-use Rattle.plan_reader.specs.Names.{afters_of}
+use Rattle.plan_reader.specs.Names.{dependencies_of}
 use Rattle.plan_reader.specs.PlanView.{PlanView}
 use Rattle.plan_reader.specs.Planned.{plan_of}
 use Rattle.plan_reader.specs.Search.{refusal_before, refusal_behind, cycle_refusal}
@@ -82,7 +82,7 @@ module _ (once : FirstCycleOnce) where
   answers_once : (found : Option PlanRefusal) (d : _) (a b : Answer) → AnswersBy found d a → AnswersBy found d b → a ≡ b
   answers_once (Some r) d a b x y = x ∙ sym y
   answers_once None d a b x y =
-      let same = once (afters_of d) x.0 y.0 x.1 y.1 in
+      let same = once (dependencies_of d) x.0 y.0 x.1 y.1 in
       x.2 ∙ (ap (λ (first : Option ℕ). answer_to (option_or (cycle_refusal first) (refusal_behind d)) (plan_of d)) same ∙ sym y.2)
 
   reads_by_once : (read : Result _ PlanRefusal) (a b : Answer) → ReadsBy read a → ReadsBy read b → a ≡ b

@@ -1,4 +1,5 @@
 -- The plan of a document that nothing refuses is a plan.
+use Rattle.std.specs.Prelude.{unwrap_or}
 use Rattle.std.proofs.Common.{◌≡◌, ◌≢◌, ℕ, ◌+◌, ◌-◌, ◌<◌, ◌≤◌, Bool, true, false, ◌&&◌, if◌then◌else◌, codes, nat_lt, nat_le, is_some, List, [], ◌∷◌, map, take, length, get_or, Option, Some, None, refl, ap, sym, subst, ◌∙◌, arith, inl, inr, length-append}
 use Rattle.std.specs.List.{All, AllPairs, list_any, list_all, flat_map, sum_by}
 use Rattle.std.specs.Str.{bytes_eq}
@@ -24,7 +25,8 @@ use Rattle.plan_reader.specs.declared.rows.Row.TheVariants.{NoSuchProject, Relea
 use Rattle.plan_reader.specs.PlanView.{PlanActionView}
 use Rattle.plan_reader.specs.Units.{fetch_units, item_unit, action_units, task_units, plan_units}
 use Rattle.plan_reader.specs.IsPlan.{HasFewLists, HasFileNames, ReleasesLast, IsPlan}
-use Rattle.plan_reader.specs.Names.{names_in, number_of, once, after_numbers, afters_of}
+use Rattle.plan_reader.specs.NameNumbers.{number_of}
+use Rattle.plan_reader.specs.Names.{names_in, once, dependency_numbers, dependencies_of}
 use Rattle.plan_reader.specs.Rows.{releases, unit_count, task_unit_count, plan_unit_count, has_few_lists, excess_of_task, is_heap}
 use Rattle.plan_reader.specs.Planned.{pair_of, requirements_from, all_requirements, work_of, retention_named, action_of, task_of, plan_of}
 use Rattle.plan_reader.specs.Search.{row_refusal, twice_refusal, refusal_before, refusal_behind}
@@ -34,7 +36,7 @@ use Rattle.plan_reader.proofs.Numbers.{number_within, some_name, numbers_within,
 -- nothing is refused
 pub record Accepted (d : Data) : Type 0 where
   pub before : refusal_before d ≡ None
-  pub ranked : IsFirstCycle (afters_of d) None
+  pub ranked : IsFirstCycle (dependencies_of d) None
   pub behind : refusal_behind d ≡ None
 
 module _ (d : Data) (a : Accepted d) where
@@ -122,11 +124,12 @@ is_release _ = false
 
 keeps : (word : Text) → bytes_eq word (codes "release") ≡ false → retention_named word ≢ Release
 unfolding is_release
-keeps word other same = by (bytes_eq word (codes "retain")) (rw other at same)
+keeps word other same = by (bytes_eq word (codes "retain")) (bytes_eq word (codes "release_and_reacquire")) (rw other at same)
   where
-    by : (b : Bool) → (if b then Retain else ReleaseAndReacquire) ≡ Release → ⊥
-    by true e = false≢true (ap is_release e)
-    by false e = false≢true (ap is_release e)
+    by : (a b : Bool) → unwrap_or (if a then Some Retain else if b then Some ReleaseAndReacquire else None) ReleaseAndReacquire ≡ Release → ⊥
+    by true b e = false≢true (ap is_release e)
+    by false true e = false≢true (ap is_release e)
+    by false false e = false≢true (ap is_release e)
 
 last_releases : (make : Data → PlanActionView) → ((x : Data) → (make x).retention ≡ retention_named (wait_of x)) → (xs : List Data) → list_any releases (take (length xs - 1) xs) ≡ false → ReleasesLast (map make xs)
 last_releases make waits [] none k e lt same = absurd (omega (arith, lt))
@@ -140,11 +143,11 @@ last_releases make waits (x ∷ xs) none k e lt same =
 
 -- ---- names
 
-after_in : (d t : Data) → 0 < length (tasks_of d) → All (λ m. m < length (map (task_of (names_in d) (all_requirements d)) (tasks_of d))) (after_numbers (names_in d).tasks t)
+after_in : (d t : Data) → 0 < length (tasks_of d) → All (λ m. m < length (map (task_of (names_in d) (all_requirements d)) (tasks_of d))) (dependency_numbers (names_in d).tasks t)
 after_in d t some =
     let make = task_of (names_in d) (all_requirements d) in
     let names = length-map (tasks_of d) name_of in
-    subst (λ m. All (λ u. u < m) (after_numbers (names_in d).tasks t)) (names ∙ sym (length-map (tasks_of d) make)) (numbers_within (names_in d).tasks (after_of t) (rw names some))
+    subst (λ m. All (λ u. u < m) (dependency_numbers (names_in d).tasks t)) (names ∙ sym (length-map (tasks_of d) make)) (numbers_within (names_in d).tasks (after_of t) (rw names some))
 
 files_named : (d x : Data) → IsFormedAction x → HasFileNames (action_of (names_in d) (all_requirements d) x)
 files_named d x f = record {
@@ -191,7 +194,7 @@ is_plan d a =
       own_tasks = named_apart (λ t. t.name) (map make ts) (rw (map_of_map (λ t. t.name) make ts) (once_named d (twice d a) Task));
       project_within = All-map (λ t. t.project < length n.projects) make ts (λ k e lt. number_within n.projects _ (some_name n.projects _ (row_quiet d NoSuchProject (projects_there d a) Task k e lt)));
       after_within = All-map (λ t. All (λ m. m < length (map make ts)) t.after) make ts (λ k e lt. after_in d (get_or ts k e) (omega (arith, lt)));
-      ranked = λ t lt. subst (λ g. Ranked g t) (sym (map_of_map (λ x. x.after) make ts)) (a.ranked t (rw (length-map ts (after_numbers n.tasks)) (rw (length-map ts make) at lt)));
+      ranked = λ t lt. subst (λ g. Ranked g t) (sym (map_of_map (λ x. x.after) make ts)) (a.ranked t (rw (length-map ts (dependency_numbers n.tasks)) (rw (length-map ts make) at lt)));
       some_item = All-map (λ t. All (λ x. 0 < length x.items) t.actions) make ts (λ k e lt. All-map (λ x. 0 < length x.items) action (actions_of (get_or ts k e)) (λ m f short.
           rw (length-map (items_of (get_or (actions_of (get_or ts k e)) m f)) work) (formed.actions k e lt m f short).some_item));
       release_last = All-map (λ t. ReleasesLast t.actions) make ts (λ k e lt. last_releases action (λ x. refl) (actions_of (get_or ts k e)) (row_quiet d ReleaseNotLast (releases_last d a) Task k e lt));

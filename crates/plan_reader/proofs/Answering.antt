@@ -11,7 +11,7 @@ use Rattle.plan_table.specs.declared.refusals.PlanFail.TheVariants.{Refused, NoM
 use Rattle.plan_table.specs.Document as document
 use Rattle.plan_table.specs.Keys.{name_of, tasks_of, after_of}
 use Rattle.plan_table.specs.Search.{table_refusal}
-use Rattle.plan_reader.specs.Names.{names_in, after_numbers, afters_of}
+use Rattle.plan_reader.specs.Names.{names_in, dependency_numbers, dependencies_of}
 use Rattle.plan_reader.specs.PlanView.{PlanView}
 use Rattle.plan_reader.specs.Planned.{plan_of}
 use Rattle.plan_reader.specs.Search.{twice_in, twice_refusal, rows_refusal, rows_before, refusal_before, refusal_behind}
@@ -59,28 +59,28 @@ handed_on Is (Err f) e is h = subst (Refuses Is) (sym is) h
 
 -- ---- ranks
 
-pub in_range : (d : Data) → InRange (afters_of d)
+pub in_range : (d : Data) → InRange (dependencies_of d)
 in_range d t k within short =
     let names = (names_in d).tasks in
-    let tasks : length (afters_of d) ≡ length (tasks_of d) = length-map (tasks_of d) (after_numbers names) in
+    let tasks : length (dependencies_of d) ≡ length (tasks_of d) = length-map (tasks_of d) (dependency_numbers names) in
     let named : length names ≡ length (tasks_of d) = length-map (tasks_of d) name_of in
     omega (arith, tasks, named, numbers_in names (tasks_of d) t k (omega (arith, within, tasks)) (omega (arith, named, within, tasks)) short)
   where
-    numbers_in : (names : _) (ts : List Data) (t k : ℕ) → t < length ts → 0 < length names → k < length (after (map (after_numbers names) ts) t) → slice_index_or (after (map (after_numbers names) ts) t) k 0 < length names
+    numbers_in : (names : _) (ts : List Data) (t k : ℕ) → t < length ts → 0 < length names → k < length (after (map (dependency_numbers names) ts) t) → slice_index_or (after (map (dependency_numbers names) ts) t) k 0 < length names
     numbers_in names [] t k within some short = absurd (omega (arith, within))
     numbers_in names (x ∷ ts) t k within some short =
-        let there : after (map (after_numbers names) (x ∷ ts)) t ≡ after_numbers names (slice_index_or (x ∷ ts) t x) = get_or-map (after_numbers names) (x ∷ ts) t x [] within in
+        let there : after (map (dependency_numbers names) (x ∷ ts)) t ≡ dependency_numbers names (slice_index_or (x ∷ ts) t x) = get_or-map (dependency_numbers names) (x ∷ ts) t x [] within in
         subst (λ ns. k < length ns → slice_index_or ns k 0 < length names) (sym there) (numbers_within names (after_of (slice_index_or (x ∷ ts) t x)) some k 0) short
 
-pub cycle_refused : (d : Data) (g : Dependencies) (e : PlanFail) → g ≡ afters_of d → RefusesCycle g e → Refuses (AnswersRanks d) e
+pub cycle_refused : (d : Data) (g : Dependencies) (e : PlanFail) → g ≡ dependencies_of d → RefusesCycle g e → Refuses (AnswersRanks d) e
 cycle_refused d g NoMemory same h = tt
 cycle_refused d g (Refused r) same (first, cycle, is) = (Some first, subst (λ x. IsFirstCycle x (Some first)) same cycle, ap Err is)
 
-pub behind_refused : (d : Data) (e : PlanFail) → IsFirstCycle (afters_of d) None → RefusesBy (refusal_behind d) e → Refuses (AnswersRanks d) e
+pub behind_refused : (d : Data) (e : PlanFail) → IsFirstCycle (dependencies_of d) None → RefusesBy (refusal_behind d) e → Refuses (AnswersRanks d) e
 behind_refused d NoMemory ranked h = tt
 behind_refused d (Refused r) ranked h = (None, ranked, ap (λ o. answer_to o (plan_of d)) (sym h))
 
-pub answered : (d : Data) (r : Result PlanView PlanFail) → IsFirstCycle (afters_of d) None → refusal_behind d ≡ None → IfOk r (λ p. p ≡ plan_of d) → IfErr r (λ e. e ≡ NoMemory) → Gives (AnswersRanks d) r
+pub answered : (d : Data) (r : Result PlanView PlanFail) → IsFirstCycle (dependencies_of d) None → refusal_behind d ≡ None → IfOk r (λ p. p ≡ plan_of d) → IfErr r (λ e. e ≡ NoMemory) → Gives (AnswersRanks d) r
 answered d (Ok p) ranked none made memory = (None, ranked, ap Ok made ∙ ap (λ o. answer_to o (plan_of d)) (sym none))
 answered d (Err e) ranked none made memory = subst (Refuses (AnswersRanks d)) (sym memory) tt
 

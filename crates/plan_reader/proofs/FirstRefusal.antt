@@ -20,7 +20,7 @@ use Rattle.plan_table.proofs.FirstPlaces.{spot, FirstAt}
 use Rattle.plan_reader.specs.declared.rows.Row.{Row}
 use Rattle.plan_reader.specs.declared.rows.Row.TheVariants.{NoSuchProject, NoSuchTask, ReleaseNotLast, ClassLoader, TooMany, BadRequirements}
 use Rattle.plan_reader.specs.First.{HasTwice, HasNoRank, passes_limit, DocumentHolds, refusal_in}
-use Rattle.plan_reader.specs.Names.{names_in, after_numbers, afters_of}
+use Rattle.plan_reader.specs.Names.{names_in, dependency_numbers, dependencies_of}
 use Rattle.plan_reader.specs.Planned.{plan_of}
 use Rattle.plan_reader.specs.Reading.{Answer, answer_to, AnswersRanks, AnswersBy}
 use Rattle.plan_reader.specs.Search.{refusal_of, table_at, row_refusal, rows_before, rows_behind, rows_refusal, twice_refusal, refusal_before, refusal_behind, cycle_at}
@@ -149,20 +149,20 @@ module _ (d : Data) where
   rank_says : Says d 9 (HasNoRank d)
   rank_says s same h = rank_seen d s same (seen d s h)
 
-  task_count : length (afters_of d) ≡ length (tasks_of d)
-  task_count = length-map (tasks_of d) (after_numbers (names_in d).tasks)
+  task_count : length (dependencies_of d) ≡ length (tasks_of d)
+  task_count = length-map (tasks_of d) (dependency_numbers (names_in d).tasks)
 
-  ranks_clear : IsFirstCycle (afters_of d) None → Clear d 9 → Clear d 10
+  ranks_clear : IsFirstCycle (dependencies_of d) None → Clear d 9 → Clear d 10
   ranks_clear ranked = one_more 9 (HasNoRank d) rank_says (λ p h. h.2 (ranked p.number (omega (arith, h.1, task_count))))
 
-  first_cycle_at : (t : ℕ) → IsFirstCycle (afters_of d) (Some t) → FirstAt (HasNoRank d) (spot Task t)
+  first_cycle_at : (t : ℕ) → IsFirstCycle (dependencies_of d) (Some t) → FirstAt (HasNoRank d) (spot Task t)
   first_cycle_at t (within, unranked, others) = record { here = (refl, omega (arith, within, task_count), unranked); before = before }
     where
       before : (q : Place) → IsEarlier q (spot Task t) → HasNoRank d q → ⊥
       before q (inl lt) h = absurd (omega (arith, subst (λ p. part_number p < 2) h.0 lt))
       before q (inr (same, lt)) h = h.2 (others q.number lt)
 
-  ranks_first : (t : ℕ) → IsFirstCycle (afters_of d) (Some t) → Clear d 9 → IsFirst (DocumentHolds d) (cycle_at t)
+  ranks_first : (t : ℕ) → IsFirstCycle (dependencies_of d) (Some t) → Clear d 9 → IsFirst (DocumentHolds d) (cycle_at t)
   ranks_first t cycle clear =
       let first = first_cycle_at t cycle in
       first_placed 9 (HasNoRank d) (cycle_at t) (spot Task t) refl refl refl first.here rank_says clear first

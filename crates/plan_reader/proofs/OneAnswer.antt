@@ -4,7 +4,7 @@ use Rattle.std.specs.Option.{option_or}
 use Rattle.toml.specs.Data.{Data}
 use Rattle.task_ranks.specs.Rank.{Dependencies, IsFirstCycle}
 use Rattle.plan_table.specs.declared.refusals.PlanRefusal.{PlanRefusal}
-use Rattle.plan_reader.specs.Names.{afters_of}
+use Rattle.plan_reader.specs.Names.{dependencies_of}
 use Rattle.plan_reader.specs.Planned.{plan_of}
 use Rattle.plan_reader.specs.Search.{refusal_before, refusal_behind, cycle_refusal}
 use Rattle.plan_reader.specs.Reading.{Answer, answer_to, AnswersRanks, AnswersBy, ReadsBy}
@@ -15,7 +15,7 @@ OneCycle = (g : Dependencies) (a b : Option ℕ) → IsFirstCycle g a → IsFirs
 by_ranks : OneCycle → (d : Data) (a b : Answer) → AnswersRanks d a → AnswersRanks d b → a ≡ b
 by_ranks unique d a b (first, cycle, e) (second, other, h) =
     e
-    ∙ ap (λ o. answer_to (option_or (cycle_refusal o) (refusal_behind d)) (plan_of d)) (unique (afters_of d) first second cycle other)
+    ∙ ap (λ o. answer_to (option_or (cycle_refusal o) (refusal_behind d)) (plan_of d)) (unique (dependencies_of d) first second cycle other)
     ∙ sym h
 
 by_refusal : OneCycle → (o : Option PlanRefusal) (d : Data) (a b : Answer) → AnswersBy o d a → AnswersBy o d b → a ≡ b

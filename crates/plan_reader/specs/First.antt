@@ -17,7 +17,7 @@ use Rattle.plan_table.specs.Keys.{projects_of, tasks_of, requirements_of, name_o
 use Rattle.plan_table.specs.Search.{places}
 use Rattle.plan_reader.specs.declared.rows.Row.{Row}
 use Rattle.plan_reader.specs.declared.rows.Row.TheVariants as row
-use Rattle.plan_reader.specs.Names.{names_in, afters_of}
+use Rattle.plan_reader.specs.Names.{names_in, dependencies_of}
 use Rattle.plan_reader.specs.Reading.{Answer}
 use Rattle.plan_reader.specs.Rows.{plan_unit_count, has_few_lists, holds}
 
@@ -31,7 +31,7 @@ HasTwice d p = IsTwice (map name_of (places d p.part)) p.number
 
 -- the task at the place has no rank
 abbrev pub HasNoRank : Data → Place → Type 0
-HasNoRank d p = (p.part ≡ part.Task) × (p.number < length (tasks_of d)) × (Ranked (afters_of d) p.number → ⊥)
+HasNoRank d p = (p.part ≡ part.Task) × (p.number < length (tasks_of d)) × (Ranked (dependencies_of d) p.number → ⊥)
 
 -- the row's test holds of the table at the place
 abbrev pub row_holds : Data → Row → Place → Bool

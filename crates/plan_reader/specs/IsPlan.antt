@@ -26,8 +26,8 @@ pub record HasFewLists (p : RequirementsView) : Type 0 where
   pub variables : length p.variables ≤ 64
 
 -- for each task the tasks that it stands after
-abbrev pub afters : List PlanTaskView → List (List ℕ)
-afters ts = map (λ t. t.after) ts
+abbrev pub dependencies : List PlanTaskView → List (List ℕ)
+dependencies ts = map (λ t. t.after) ts
 
 pub record IsPlan (p : PlanView) : Type 0 where
   pub few_projects : length p.projects ≤ 512
@@ -43,7 +43,7 @@ pub record IsPlan (p : PlanView) : Type 0 where
   pub own_tasks : AllPairs (λ t u. t.name ≢ u.name) p.tasks
   pub project_within : All (λ t. t.project < length p.projects) p.tasks
   pub after_within : All (λ t. All (λ u. u < length p.tasks) t.after) p.tasks
-  pub ranked : (t : ℕ) → t < length p.tasks → Ranked (afters p.tasks) t
+  pub ranked : (t : ℕ) → t < length p.tasks → Ranked (dependencies p.tasks) t
   pub some_item : All (λ t. All (λ a. 0 < length a.items) t.actions) p.tasks
   pub release_last : All (λ t. ReleasesLast t.actions) p.tasks
   pub file_names : All (λ t. All HasFileNames t.actions) p.tasks

@@ -1,8 +1,12 @@
 -- The plan of a document that nothing refuses.
 use Rattle.std.specs.Prelude.{ℕ, ℤ, pos, negsuc, codes, if◌then◌else◌, List, map, Option, None, Some, unwrap_or, option_and_then, slice_get, position}
+use Rattle.std.specs.Option.{option_map_or}
 use Rattle.std.specs.Str.{bytes_eq}
 use Rattle.toml.specs.Data.{Data, table, no_members}
 use Rattle.item_actions.specs.declared.actions.ItemAction.{ItemAction}
+use Rattle.item_actions.specs.declared.action_kinds.ActionKind.{ActionKind}
+use Rattle.item_actions.specs.declared.action_kinds.ActionKind.TheVariants as kind
+use Rattle.item_actions.specs.Words.{action_kind_of}
 use Rattle.item_actions.specs.declared.actions.ItemAction.TheVariants.{Lines, Words, Bytes, Longest, Count, Sha256}
 use Rattle.resource_lock.specs.declared.graphs.Retention.{Retention}
 use Rattle.resource_lock.specs.declared.graphs.Retention.TheVariants.{Retain, Release, ReleaseAndReacquire}
@@ -11,7 +15,8 @@ use Rattle.daemon_requirements.specs.RequirementsView.{RequirementsView}
 use Rattle.plan_table.specs.Forms.{Text, is_needle}
 use Rattle.plan_table.specs.Keys.{tasks_of, requirements_of, name_of, project_of, actions_of, wait_of, fetch_of, items_of, do_of, file_of, needle_of, isolation_of, requirements_name_of, executable_of, heap_of, args_of, properties_of, variables_of, debug_of, assertions_of, encoding_of}
 use Rattle.plan_reader.specs.PlanView.{WorkView, PlanActionView, PlanTaskView, PlanView}
-use Rattle.plan_reader.specs.Names.{NameLists, names_in, number_of, after_numbers}
+use Rattle.plan_reader.specs.NameNumbers.{number_of}
+use Rattle.plan_reader.specs.Names.{NameLists, names_in, dependency_numbers}
 
 -- ---- requirements
 
@@ -53,14 +58,17 @@ requirements_named names profiles (Some name) = unwrap_or (option_and_then (slic
 abbrev pub count_of : Text → ItemAction
 count_of needle = if is_needle needle then Count needle else Bytes
 
+abbrev pub action_of_kind : ActionKind → Text → ItemAction
+action_of_kind kind.Lines needle = Lines
+action_of_kind kind.Words needle = Words
+action_of_kind kind.Bytes needle = Bytes
+action_of_kind kind.Longest needle = Longest
+action_of_kind kind.Count needle = count_of needle
+action_of_kind kind.Sha256 needle = Sha256
+
+-- a document with a word of no action is refused
 abbrev pub action_named : Text → Text → ItemAction
-action_named word needle =
-    if bytes_eq word (codes "lines") then Lines
-    else if bytes_eq word (codes "words") then Words
-    else if bytes_eq word (codes "bytes") then Bytes
-    else if bytes_eq word (codes "longest") then Longest
-    else if bytes_eq word (codes "count") then count_of needle
-    else Sha256
+action_named word needle = option_map_or (λ kind. action_of_kind kind needle) (action_kind_of word) Bytes
 
 abbrev pub process_of : NameLists → List RequirementsView → Data → Option RequirementsView
 process_of names profiles item = if bytes_eq (isolation_of item) (codes "process") then Some (requirements_named names.requirements profiles (requirements_name_of item)) else None
@@ -74,11 +82,16 @@ work_of names profiles item = record {
 
 -- ---- actions and tasks
 
+abbrev pub retention_of_word : Text → Option Retention
+retention_of_word word =
+    if bytes_eq word (codes "retain") then Some Retain
+    else if bytes_eq word (codes "release") then Some Release
+    else if bytes_eq word (codes "release_and_reacquire") then Some ReleaseAndReacquire
+    else None
+
+-- a document with a word of no retention is refused
 abbrev pub retention_named : Text → Retention
-retention_named word =
-    if bytes_eq word (codes "retain") then Retain
-    else if bytes_eq word (codes "release") then Release
-    else ReleaseAndReacquire
+retention_named word = unwrap_or (retention_of_word word) ReleaseAndReacquire
 
 abbrev pub action_of : NameLists → List RequirementsView → Data → PlanActionView
 action_of names profiles action = record {
@@ -91,7 +104,7 @@ abbrev pub task_of : NameLists → List RequirementsView → Data → PlanTaskVi
 task_of names profiles t = record {
   name = name_of t;
   project = number_of names.projects (project_of t);
-  after = after_numbers names.tasks t;
+  after = dependency_numbers names.tasks t;
   actions = map (action_of names profiles) (actions_of t);
 }
 

@@ -7,7 +7,7 @@ use Rattle.plan_table.specs.declared.refusals.PlanRefusal.{PlanRefusal}
 use Rattle.plan_table.specs.declared.refusals.PlanFail.{PlanFail}
 use Rattle.plan_table.specs.declared.refusals.PlanFail.TheVariants as fail
 use Rattle.plan_table.specs.Document.{document_reading}
-use Rattle.plan_reader.specs.Names.{afters_of}
+use Rattle.plan_reader.specs.Names.{dependencies_of}
 use Rattle.plan_reader.specs.PlanView.{PlanView}
 use Rattle.plan_reader.specs.Planned.{plan_of}
 use Rattle.plan_reader.specs.Search.{refusal_before, refusal_behind, cycle_at, cycle_refusal}
@@ -21,7 +21,7 @@ answer_to (Some r) plan = Err r
 
 -- nothing is refused before Cycle, which is where the first task without a rank stands
 abbrev pub AnswersRanks : Data → Answer → Type 0
-AnswersRanks d answer = (first : Option ℕ) × IsFirstCycle (afters_of d) first × (answer ≡ answer_to (option_or (cycle_refusal first) (refusal_behind d)) (plan_of d))
+AnswersRanks d answer = (first : Option ℕ) × IsFirstCycle (dependencies_of d) first × (answer ≡ answer_to (option_or (cycle_refusal first) (refusal_behind d)) (plan_of d))
 
 abbrev pub AnswersBy : Option PlanRefusal → Data → Answer → Type 0
 AnswersBy (Some r) d answer = answer ≡ Err r

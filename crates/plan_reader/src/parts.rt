@@ -5,14 +5,14 @@ ghost use Rattle.toml.specs.View.{view};
 ghost use Rattle.task_ranks.specs.Rank.{lists_of};
 ghost use Rattle.plan_table.specs.Keys.{projects_of, tasks_of, actions_of, items_of, fetch_of, name_of};
 ghost use Rattle.plan_reader.specs.PlanView.{process_of as shown_process, work_view, plan_action_view, plan_task_view};
-ghost use Rattle.plan_reader.specs.Names.{names_in, name_lists, after_numbers, afters_of};
-ghost use Rattle.plan_reader.specs.Planned.{count_of, action_named, default_requirements, process_of, work_of, retention_named, action_of, task_of, all_requirements};
+ghost use Rattle.plan_reader.specs.Names.{names_in, name_lists, dependency_numbers, dependencies_of};
+ghost use Rattle.plan_reader.specs.Planned.{count_of, action_of_kind, action_named, default_requirements, process_of, work_of, retention_of_word, retention_named, action_of, task_of, all_requirements};
 
 use crate::known::Known;
-use crate::names::{copy_numbers, number_of};
+use crate::names::copy_numbers;
 use crate::plans::{PlanAction, PlanTask};
 use daemon_requirements::{Isolation, Work};
-use item_actions::{ItemAction, Needle, Text};
+use item_actions::{ActionKind, ItemAction, Needle, Text};
 use plan_table::{
     actions_of, do_of, fetch_of, file_of, isolation_of, items_of, name_of, needle_of, project_of,
     projects_of, requirements_name_of, tasks_of, wait_of,
@@ -31,16 +31,26 @@ fn count_of(needle: &str) -> ItemAction
     }
 }
 
+fn action_of_kind(kind: ActionKind, needle: &str) -> ItemAction
+    ensures { result ≡ action_of_kind kind needle.now }
+{
+    match kind {
+        ActionKind::Lines => ItemAction::Lines,
+        ActionKind::Words => ItemAction::Words,
+        ActionKind::Bytes => ItemAction::Bytes,
+        ActionKind::Longest => ItemAction::Longest,
+        ActionKind::Count => count_of(needle),
+        ActionKind::Sha256 => ItemAction::Sha256,
+    }
+}
+
+/// The action of a word. A document with a word of no action is refused before.
 fn action_named(word: &str, needle: &str) -> ItemAction
     ensures { result ≡ action_named word.now needle.now }
 {
-    match word {
-        "lines" => ItemAction::Lines,
-        "words" => ItemAction::Words,
-        "bytes" => ItemAction::Bytes,
-        "longest" => ItemAction::Longest,
-        "count" => count_of(needle),
-        _ => ItemAction::Sha256,
+    match ActionKind::of_word(word) {
+        Some(kind) => action_of_kind(kind, needle),
+        None => ItemAction::Bytes,
     }
 }
 
@@ -86,14 +96,22 @@ fn items_of_action(alloc: Global, known: &Known, action: &Value) -> Result<Vec<W
     Ok(items)
 }
 
+fn retention_of_word(word: &str) -> Option<Retention>
+    ensures { result ≡ retention_of_word word.now }
+{
+    match word {
+        "retain" => Some(Retention::Retain),
+        "release" => Some(Retention::Release),
+        "release_and_reacquire" => Some(Retention::ReleaseAndReacquire),
+        _ => None,
+    }
+}
+
+/// The retention of a word. A document with a word of no retention is refused before.
 fn retention_named(word: &str) -> Retention
     ensures { result ≡ retention_named word.now }
 {
-    match word {
-        "retain" => Retention::Retain,
-        "release" => Retention::Release,
-        _ => Retention::ReleaseAndReacquire,
-    }
+    retention_of_word(word).unwrap_or(Retention::ReleaseAndReacquire)
 }
 
 fn fetched(alloc: Global, action: &Value) -> Result<Option<Text>, AllocError>
@@ -151,12 +169,12 @@ fn task_of(
     after: &[u32],
 ) -> Result<PlanTask, AllocError>
     requires default { known.now.default.now ≡ default_requirements }
-    requires after { after.now ≡ after_numbers (name_lists known.now.names.now).tasks (view task.now) }
+    requires after { after.now ≡ dependency_numbers (name_lists known.now.names.now).tasks (view task.now) }
     ensures { IfOk result (λ t. plan_task_view t ≡ task_of (name_lists known.now.names.now) known.now.profiles.now (view task.now)) }
 {
     Ok(PlanTask {
         name: Text::from_str(alloc, name_of(task))?,
-        project: number_of(&known.names.projects, project_of(task))?,
+        project: known.names.projects.number_of(project_of(task))?,
         after: copy_numbers(alloc, after)?,
         actions: actions_of_task(alloc, known, task)?,
     })
@@ -166,15 +184,15 @@ fn plan_tasks_of(
     alloc: Global,
     known: &Known,
     values: &[Value],
-    afters: &[Vec<u32>],
+    dependencies: &[Vec<u32>],
 ) -> Result<Vec<PlanTask>, AllocError>
     requires default { known.now.default.now ≡ default_requirements }
-    requires afters { lists_of afters.now ≡ map (λ v. after_numbers (name_lists known.now.names.now).tasks (view v)) values.now }
+    requires dependencies { lists_of dependencies.now ≡ map (λ v. dependency_numbers (name_lists known.now.names.now).tasks (view v)) values.now }
     ensures { IfOk result (λ tasks. map plan_task_view tasks.items ≡ map (λ v. task_of (name_lists known.now.names.now) known.now.profiles.now (view v)) values.now) }
 {
     let mut tasks = Vec::with_capacity(alloc, values.len())?;
     for (number, value) in values.iter().enumerate() {
-        tasks.push(task_of(alloc, known, value, &afters[number])?)?;
+        tasks.push(task_of(alloc, known, value, &dependencies[number])?)?;
     }
     Ok(tasks)
 }
@@ -184,14 +202,14 @@ pub(crate) fn tasks_of_plan(
     alloc: Global,
     known: &Known,
     document: &Value,
-    afters: &[Vec<u32>],
+    dependencies: &[Vec<u32>],
 ) -> Result<Vec<PlanTask>, AllocError>
     requires default { known.now.default.now ≡ default_requirements }
     requires names { name_lists known.now.names.now ≡ names_in (view document.now) }
-    requires afters { lists_of afters.now ≡ afters_of (view document.now) }
+    requires dependencies { lists_of dependencies.now ≡ dependencies_of (view document.now) }
     ensures { IfOk result (λ tasks. map plan_task_view tasks.items ≡ map (task_of (names_in (view document.now)) known.now.profiles.now) (tasks_of (view document.now))) }
 {
-    let tasks = plan_tasks_of(alloc, known, tasks_of(document), afters)?;
+    let tasks = plan_tasks_of(alloc, known, tasks_of(document), dependencies)?;
     Ok(tasks)
 }
 

@@ -4,13 +4,13 @@ ghost use Rattle.toml.specs.View.{view};
 ghost use Rattle.task_ranks.specs.Rank.{lists_of, InRange, IsFirstCycle};
 ghost use Rattle.plan_table.specs.Document.{is_numbered};
 ghost use Rattle.plan_table.specs.Search.{places, table_refusal};
-ghost use Rattle.plan_reader.specs.Names.{name_lists, names_in, afters_of};
+ghost use Rattle.plan_reader.specs.Names.{name_lists, names_in, dependencies_of};
 ghost use Rattle.plan_reader.specs.Planned.{plan_of};
 ghost use Rattle.plan_reader.specs.Search.{twice_refusal, row_refusal, rows_refusal, rows_before, rows_behind, refusal_before, refusal_behind};
 ghost use Rattle.plan_reader.specs.Reading.{AnswersRanks, AnswersBy, Reads, Gives, RefusesBy, RefusesCycle};
 
 use crate::known::Known;
-use crate::names::{Names, afters_of, numbered_names};
+use crate::names::{Names, dependencies_of, numbered_names};
 use crate::parts::{projects_of_plan, tasks_of_plan};
 use crate::places::place;
 use crate::plans::Plan;
@@ -57,13 +57,13 @@ fn check_behind(names: &Names, document: &Value) -> Result<(), PlanFail>
 }
 
 /// Each task has a rank, by the numbers of the tasks that it comes after.
-fn check_ranks(alloc: Global, afters: &[Vec<u32>]) -> Result<(), PlanFail>
-    requires in_range { InRange (lists_of afters.now) }
-    requires numbered { length afters.now ≤ 4294967295 }
-    ensures ok { IfOk result (λ _. IsFirstCycle (lists_of afters.now) None) }
-    ensures err { IfErr result (RefusesCycle (lists_of afters.now)) }
+fn check_ranks(alloc: Global, dependencies: &[Vec<u32>]) -> Result<(), PlanFail>
+    requires in_range { InRange (lists_of dependencies.now) }
+    requires numbered { length dependencies.now ≤ 4294967295 }
+    ensures ok { IfOk result (λ _. IsFirstCycle (lists_of dependencies.now) None) }
+    ensures err { IfErr result (RefusesCycle (lists_of dependencies.now)) }
 {
-    match first_cycle(alloc, afters)? {
+    match first_cycle(alloc, dependencies)? {
         Some(number) => {
             let place = place(Part::Task, number);
             Err(PlanFail::Refused(PlanRefusal::Cycle(place)))
@@ -87,13 +87,13 @@ fn check_table(document: &Value) -> Result<(), PlanFail>
 fn plan_of(
     alloc: Global,
     names: &Names,
-    afters: &[Vec<u32>],
+    dependencies: &[Vec<u32>],
     document: &Value,
 ) -> Result<Plan, PlanFail>
     requires names { name_lists names.now ≡ names_in (view document.now) }
-    requires afters { lists_of afters.now ≡ afters_of (view document.now) }
+    requires dependencies { lists_of dependencies.now ≡ dependencies_of (view document.now) }
     requires before { refusal_before (view document.now) ≡ None }
-    requires ranked { IsFirstCycle (afters_of (view document.now)) None }
+    requires ranked { IsFirstCycle (dependencies_of (view document.now)) None }
     requires behind { refusal_behind (view document.now) ≡ None }
     ensures plan { IfOk result (λ plan. plan ≡ plan_of (view document.now)) }
     ensures memory { IfErr result (λ e. e ≡ PlanFail.NoMemory) }
@@ -106,7 +106,7 @@ fn plan_of(
         profiles: &requirements,
         default: &default,
     };
-    let tasks = tasks_of_plan(alloc, &known, document, afters)?;
+    let tasks = tasks_of_plan(alloc, &known, document, dependencies)?;
     Ok(Plan::new(projects, tasks, requirements))
 }
 
@@ -117,10 +117,10 @@ fn read_ranked(alloc: Global, names: &Names, document: &Value) -> Result<Plan, P
     requires before { refusal_before (view document.now) ≡ None }
     ensures { Gives (AnswersRanks (view document.now)) result }
 {
-    let afters = afters_of(alloc, &names.tasks, document)?;
-    check_ranks(alloc, &afters)?;
+    let dependencies = dependencies_of(alloc, &names.tasks, document)?;
+    check_ranks(alloc, &dependencies)?;
     check_behind(names, document)?;
-    plan_of(alloc, names, &afters, document)
+    plan_of(alloc, names, &dependencies, document)
 }
 
 /// The plan of a document whose names are these, or the first refusal.

@@ -1,5 +1,5 @@
 -- The keys that each table of a plan may have, and what may stand under them.
-use Rattle.std.specs.Prelude.{codes, Bool, true, false, ◌&&◌, List, [], ◌∷◌, Some}
+use Rattle.std.specs.Prelude.{codes, Bool, true, false, ◌&&◌, List, [], ◌∷◌, Some, is_some}
 use Rattle.std.specs.List.{list_all}
 use Rattle.toml.specs.Data.{Data}
 use Rattle.plan_table.specs.declared.rules.TableKind.{TableKind}
@@ -8,6 +8,7 @@ use Rattle.plan_table.specs.declared.rules.ValueForm.{ValueForm}
 use Rattle.plan_table.specs.declared.rules.ValueForm.TheVariants.{Name, Names, FileName, Needle, Executable, Encoding, Arguments, Settings, Wait, Do, Isolation, Integer, Boolean, Tables}
 use Rattle.plan_table.specs.declared.rules.KeyRule.{KeyRule}
 use Rattle.item_actions.specs.Forms.{is_file_name}
+use Rattle.item_actions.specs.Words.{action_kind_of}
 use Rattle.plan_table.specs.Forms.{Text, is_name, is_needle, is_executable, is_encoding, is_value, is_key}
 use Rattle.plan_table.specs.Values.{text_of, texts_of, table_pairs, is_text, is_integer, is_boolean, is_array, is_array_of_texts, is_table_of_texts, is_word}
 
@@ -68,9 +69,6 @@ rules Requirements =
 abbrev pub waits : List Text
 waits = codes "retain" ∷ codes "release" ∷ codes "release_and_reacquire" ∷ []
 
-abbrev pub deeds : List Text
-deeds = codes "lines" ∷ codes "words" ∷ codes "bytes" ∷ codes "longest" ∷ codes "count" ∷ codes "sha256" ∷ []
-
 abbrev pub isolations : List Text
 isolations = codes "none" ∷ codes "process" ∷ codes "classloader" ∷ []
 
@@ -86,7 +84,7 @@ has_type Encoding d = is_text d
 has_type Arguments d = is_array_of_texts d
 has_type Settings d = is_table_of_texts d
 has_type Wait d = is_word waits d
-has_type Do d = is_word deeds d
+has_type Do d = is_some (action_kind_of (text_of d))
 has_type Isolation d = is_word isolations d
 has_type Integer d = is_integer d
 has_type Boolean d = is_boolean d

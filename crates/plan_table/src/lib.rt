@@ -6,6 +6,8 @@ mod document;
 mod forms;
 mod keys;
 mod laws;
+mod messages;
+mod places;
 mod refusals;
 mod rules;
 mod search;

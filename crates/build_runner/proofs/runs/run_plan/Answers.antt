@@ -2,7 +2,7 @@ use Rattle.std.proofs.Common.{List, [], arith, sym, subst, ◌∙◌}
 use Rattle.std.specs.List.{All}
 use Rattle.resource_lock.specs.StateView.{StateView}
 use Rattle.lock_journal.specs.Entry.{Entry}
-use Rattle.plan_reader.specs.IsPlan.{afters}
+use Rattle.plan_reader.specs.IsPlan.{dependencies}
 use Rattle.run_laws.specs.Marks.{IsEnded, HasEnded}
 use Rattle.build_runner.specs.Kept.{Keeps}
 use Rattle.build_runner.specs.Phases.{IsResting, AreSettled}
@@ -19,7 +19,7 @@ pub run_tasks-requires-clause-ranks : goal.run_tasks-requires-clause-ranks
 run_tasks-requires-clause-ranks g c =
     let p = c.args.plan.now in
     let plan = c.tasks.ensures.plan in
-    let numbering = c.ranks_give_a_numbering.ensures (afters p.tasks) (in_range p plan) (no_cycle p plan) in
+    let numbering = c.ranks_give_a_numbering.ensures (dependencies p.tasks) (in_range p plan) (no_cycle p plan) in
     (numbering.0, ranks_of p c.in_ok-book.book.graph numbering.0 (run_tasks-requires-clause-graph g c) numbering.1)
 
 pub run_tasks-requires-clause-rest : goal.run_tasks-requires-clause-rest
@@ -44,7 +44,7 @@ returns-clause-run g c =
     let ended = subst (λ (s : StateView). All IsEnded s.tasks) known.replays ran.ended in
     let keeps : Keeps known p before after [] b.history = subst (λ (h : List Entry). Keeps known p before after h b.history) c.in_ok-book.ensures.history ran.keeps in
     let plan = c.tasks.ensures.plan in
-    let numbering = c.ranks_give_a_numbering.ensures (afters p.tasks) (in_range p plan) (no_cycle p plan) in
+    let numbering = c.ranks_give_a_numbering.ensures (dependencies p.tasks) (in_range p plan) (no_cycle p plan) in
     record {
       graph = graph;
       replays = known.replays;
