@@ -10,7 +10,6 @@ use Rattle.worker_desk.specs.SinkView.{SinkView, Rises}
 use Rattle.plan_reader.specs.PlanView.{PlanView}
 use Rattle.run_laws.specs.ClosedBy.{faults_by}
 use Rattle.build_runner.specs.Phases.{first_worker}
-use Rattle.build_runner.specs.Run.{values_of}
 use Rattle.command_words.specs.declared.commands.Command.{Command}
 use Rattle.command_words.specs.declared.commands.Command.TheVariants.{Run, Worker}
 use Rattle.command_words.specs.declared.commands.RunWords.{RunWords}
@@ -18,7 +17,7 @@ use Rattle.daemon_worker.specs.Answer.{Answer, replies, IsHonest, is_fault}
 use Rattle.daemon_worker.specs.Serving.{Outside, IsEnd}
 use Rattle.daemon_worker.specs.declared.serving.Served.{Served}
 use Rattle.daemon_worker.specs.declared.serving.Served.TheVariants as ends
-use Rattle.leases_cli.specs.Answered.{Answered, RunAnswered, IsNamedRun, all_pass}
+use Rattle.leases_cli.specs.Answered.{Answered, RunAnswered, IsNamedRun, all_pass, values_or_closings}
 use Rattle.leases_cli.specs.Causes.{IsPlanAt, IsReadCause}
 use Rattle.leases_cli.specs.Complete.{MetNoFault, HasPlan, HasSucceeded, HasValue, IsByFrames, HasWorkedWell, Succeeds, IsComplete, status_by}
 use Rattle.leases_cli.specs.Worker.{HasWorked}
@@ -41,13 +40,13 @@ module _ (once : FirstCycleOnce) (asked : RunWords) (files : Folder) (plan : Pla
       one_plan once has.bytes plan found has.reading (rw bytes at named.2)
 
   module _ (before after : ℕ) (old new : SinkView) (calm : MetNoFault before after) (quiet : MetNoFault old.faults new.faults) where
-    ran : (found : PlanView) (b : BookView) (passed : Bool) → IsNamedRun asked (Some files) before after found b → all_pass found b.graph (values_of found (Some files) b.history) ≡ passed → (faults_by first_worker b.history ≡ 0) × (status_by passed ≡ status_by (all_pass plan b.graph (values_of plan (Some files) b.history)))
+    ran : (found : PlanView) (b : BookView) (passed : Bool) → IsNamedRun asked (Some files) before after found b → all_pass found b.graph (values_or_closings found (Some files) b.history) ≡ passed → (faults_by first_worker b.history ≡ 0) × (status_by passed ≡ status_by (all_pass plan b.graph (values_or_closings plan (Some files) b.history)))
     ran found b passed run pass =
         let same = calm.same in
         let below = calm.below in
         let faults = run.run.faults (omega arith) in (
           omega arith,
-          ap status_by (sym pass ∙ ap (λ p. all_pass p b.graph (values_of p (Some files) b.history)) (same_plan found run.named)),
+          ap status_by (sym pass ∙ ap (λ p. all_pass p b.graph (values_or_closings p (Some files) b.history)) (same_plan found run.named)),
         )
 
     no_cause : (refusal : Status) → IsReadCause (Some files) before after asked.plan refusal → ⊥

@@ -58,7 +58,7 @@ loop-choice-preserved g c =
     record {
       graph = same;
       belongs = subst (λ (o : GraphView). BelongsTo o s) same c.go_on.ensures.belongs;
-      rest = run.resting;
+      rest = run.rest;
       settled = settled_after old r s t c.of.ensures.fits (are_plain c.args.plan.now old c.requires.graph c.requires.form) (open_within old r c.in-Some.choice is_open) run here.settled;
       ready = subst (λ (o : GraphView). AreReady o s NoTask c.go_on.new.self) same (c.in_ok-go_on.ensures.ready r ends (subst (λ (o : GraphView). AreReady o r NoTask c.loop-choice.ready) (sym same) here.ready));
       files = c.make_choice.ensures.files ∙ here.files;
