@@ -11,4 +11,5 @@ pub mod History
 pub mod BookView
 pub mod Book
 pub mod Ran
+pub mod Waiting
 pub mod Making
