@@ -3,5 +3,5 @@ pub mod Marking
 pub mod Ordering
 pub mod Popping
 pub mod Ranges
-pub mod Telling
-pub mod UserLists
+pub mod Listed
+pub mod DependentLists

@@ -106,7 +106,7 @@ module _ (d : Dependencies) (old new : Search) (t p : ℕ) (range : InRange d) (
     waits = λ h. absurd (both_ways (is_marked new t) h marked_here);
     others = λ u ne. (next_other u ne, marked_other u ne);
     stack = λ u found. rw m.stack (Contains-append_left old.stack.items (t ∷ []) u found);
-    told = λ a b. rw m.stack (length old.stack.items, omega (arith, length-append old.stack.items (t ∷ [])), get_or-append_seam old.stack.items t [] t);
+    pushed = λ a b. rw m.stack (length old.stack.items, omega (arith, length-append old.stack.items (t ∷ [])), get_or-append_seam old.stack.items t [] t);
     work = work;
   }
 

@@ -1,4 +1,4 @@
 pub mod Rank
 pub mod Numbering
 pub mod Search
-pub mod Users
+pub mod Dependents

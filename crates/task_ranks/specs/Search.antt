@@ -22,7 +22,7 @@ pub record IsSound (d : Dependencies) (s : Search) : Type 0 where
   pub within : (t : ℕ) → t < length d → next_of s t ≤ length (after d t)
   pub passed : (t k : ℕ) → t < length d → k < next_of s t → is_marked s (slice_index_or (after d t) k 0) ≡ true
 
--- the task waits for one that has no mark, or whose mark isn't told on yet
+-- the task waits for one that has no mark, or that stands on the stack
 abbrev pub Waits : Dependencies → Search → ℕ → Type 0
 Waits d s t = (next_of s t < length (after d t)) × ((is_marked s (awaited d s t) ≡ false) ⊎ Contains s.stack.items (awaited d s t))
 
@@ -36,7 +36,7 @@ pub record LooksAt (d : Dependencies) (t : ℕ) (old new : Search) : Type 0 wher
   pub waits : is_marked new t ≡ false → Waits d new t
   pub others : (u : ℕ) → u ≢ t → (next_of new u ≡ next_of old u) × (is_marked new u ≡ is_marked old u)
   pub stack : (u : ℕ) → Contains old.stack.items u → Contains new.stack.items u
-  pub told : is_marked old t ≡ false → is_marked new t ≡ true → Contains new.stack.items t
+  pub pushed : is_marked old t ≡ false → is_marked new t ≡ true → Contains new.stack.items t
   pub work : work_left new ≤ work_left old
 
 -- each task without a mark waits, up to task n

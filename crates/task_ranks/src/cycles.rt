@@ -2,7 +2,7 @@
 ghost use Rattle.std.specs.Prelude.{false, length, slice_index_or, true, IfOk, MatchOption, ◌<◌, ◌≡◌, ℕ};
 ghost use Rattle.task_ranks.specs.Rank.{InRange, IsFirstCycle, MarksRanked, lists_of};
 
-use crate::users::{users_at, users_of};
+use crate::dependents::{dependents_at, dependents_of};
 use crate::waiting::Search;
 use std::alloc::{AllocError, Global};
 
@@ -11,11 +11,11 @@ fn ranked_marks(alloc: Global, rows: &[Vec<u32>]) -> Result<Vec<bool>, AllocErro
     requires { InRange (lists_of rows.now) }
     ensures { IfOk result (λ marks. MarksRanked (lists_of rows.now) marks.items) }
 {
-    let users = users_of(alloc, rows)?;
+    let dependents = dependents_of(alloc, rows)?;
     let mut search = Search::new(alloc, rows)?;
     search.look_at_all(rows)?;
-    while let Some(told) = search.stack.pop() {
-        search.look_at_listed(rows, told, users_at(users.as_slice(), told))?;
+    while let Some(popped) = search.stack.pop() {
+        search.look_at_listed(rows, popped, dependents_at(dependents.as_slice(), popped))?;
     }
     let Search { ranked, .. } = search;
     Ok(ranked)

@@ -6,11 +6,11 @@ ghost use Rattle.task_ranks.specs.Numbering.{IsNumbering};
 ghost use Rattle.task_ranks.specs.Rank.{Dependencies, InRange, IsFirstCycle};
 
 mod cycles;
-mod users;
+mod dependents;
 mod waiting;
 
 pub use cycles::first_cycle;
-pub use users::{users_at, users_of};
+pub use dependents::{dependents_at, dependents_of};
 
 /// There is one first task without a rank at most.
 pub fn first_cycle_is_unique()

@@ -6,7 +6,7 @@ ghost use Rattle.task_ranks.specs.Search.{IsSound, LooksAt, WaitBelow, WaitOrLis
 use std::alloc::{AllocError, Global};
 
 /// A task has a mark once it is known to have a rank. `next` is the place of the name that it
-/// waits for, and `stack` has the tasks with a mark of which their users weren't told yet.
+/// waits for, and `stack` has the tasks with a mark of which their dependents weren't looked at since.
 #[derive(Drop)]
 pub(crate) struct Search {
     pub(crate) ranked: Vec<bool>,
@@ -75,13 +75,13 @@ impl Search {
     pub(crate) fn look_at_listed(
         &mut self,
         rows: &[Vec<u32>],
-        told: usize,
+        popped: usize,
         list: &[usize],
     ) -> Result<(), AllocError>
         requires range { InRange (lists_of rows.now) }
         requires tasks { (k : ℕ) → k < length list.now → slice_index_or list.now k 0 < length rows.now }
         requires sound { IsSound (lists_of rows.now) self.old }
-        requires waits { WaitOrListed (lists_of rows.now) self.old told list.now }
+        requires waits { WaitOrListed (lists_of rows.now) self.old popped list.now }
         ensures sound { OnOk result (IsSound (lists_of rows.now) self.new) }
         ensures waits { OnOk result (WaitBelow (length rows.now) (lists_of rows.now) self.new) }
         ensures work { OnOk result (work_left self.new ≤ work_left self.old) }

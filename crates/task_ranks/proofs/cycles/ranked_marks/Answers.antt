@@ -2,27 +2,27 @@ use Rattle.std.proofs.Common.{◌≡◌, List, ℕ, length, sym, subst, vec_len}
 use Rattle.std.proofs.lemmas.List.{length-map}
 use Rattle.task_ranks.specs.Rank.{lists_of}
 use Rattle.task_ranks.specs.Search.{WaitOrListed}
-use Rattle.task_ranks.proofs.Popping.{nothing_left, popped, popped_sound, popped_waits, users_low, finished}
+use Rattle.task_ranks.proofs.Popping.{nothing_left, with_stack, popped_sound, popped_waits, dependents_low, finished}
 use Rattle.task_ranks.proofs.cycles.ranked_marks.Goals as goal
 
 pub look_at_listed-requires-clause-tasks : goal.look_at_listed-requires-clause-tasks
 look_at_listed-requires-clause-tasks c = λ k lt.
     let size : length c.args.rows.now ≡ length (lists_of c.args.rows.now) = sym (length-map c.args.rows.now (λ row. row.items)) in
-    let e = rw c.as_slice.ensures.value at c.users_at.ensures in
-    rw e (users_low (lists_of c.args.rows.now) (lists_of c.in_ok-users.users.items) (length c.args.rows.now) c.in-Some.told k size c.in_ok-users.ensures (rw e at lt))
+    let e = rw c.as_slice.ensures.value at c.dependents_at.ensures in
+    rw e (dependents_low (lists_of c.args.rows.now) (lists_of c.in_ok-dependents.dependents.items) (length c.args.rows.now) c.in-Some.popped k size c.in_ok-dependents.ensures (rw e at lt))
 
 pub look_at_listed-requires-clause-sound : goal.look_at_listed-requires-clause-sound
-look_at_listed-requires-clause-sound c = popped_sound (lists_of c.args.rows.now) c.loop-told.search c.pop.new.self c.in-Some.told c.in-Some.ensures.items c.loop-told.invariant.0
+look_at_listed-requires-clause-sound c = popped_sound (lists_of c.args.rows.now) c.loop-popped.search c.pop.new.self c.in-Some.popped c.in-Some.ensures.items c.loop-popped.invariant.0
 
 pub look_at_listed-requires-clause-waits : goal.look_at_listed-requires-clause-waits
 look_at_listed-requires-clause-waits c =
     let size : length c.args.rows.now ≡ length (lists_of c.args.rows.now) = sym (length-map c.args.rows.now (λ row. row.items)) in
-    let e = rw c.as_slice.ensures.value at c.users_at.ensures in
-    subst (λ (list : List ℕ). WaitOrListed (lists_of c.args.rows.now) (popped c.loop-told.search c.pop.new.self) c.in-Some.told list) (sym e)
-    (popped_waits (lists_of c.args.rows.now) c.loop-told.search c.pop.new.self c.in-Some.told c.in-Some.ensures.items (lists_of c.in_ok-users.users.items) (length c.args.rows.now) size c.in_ok-users.ensures c.loop-told.invariant.1)
+    let e = rw c.as_slice.ensures.value at c.dependents_at.ensures in
+    subst (λ (list : List ℕ). WaitOrListed (lists_of c.args.rows.now) (with_stack c.loop-popped.search c.pop.new.self) c.in-Some.popped list) (sym e)
+    (popped_waits (lists_of c.args.rows.now) c.loop-popped.search c.pop.new.self c.in-Some.popped c.in-Some.ensures.items (lists_of c.in_ok-dependents.dependents.items) (length c.args.rows.now) size c.in_ok-dependents.ensures c.loop-popped.invariant.1)
 
 pub returns : goal.returns
 returns c =
     let size : length c.args.rows.now ≡ length (lists_of c.args.rows.now) = sym (length-map c.args.rows.now (λ row. row.items)) in
-    finished (lists_of c.args.rows.now) c.loop-told.search (length c.args.rows.now) size c.requires c.loop-told.invariant.0 c.loop-told.invariant.1
-    (nothing_left _ _ c.in_default.ensures.items (let l : vec_len c.loop-told.search.stack ≡ 0 = c.in_default.ensures.cases.0 in rw l at c.in_default.ensures.rest))
+    finished (lists_of c.args.rows.now) c.loop-popped.search (length c.args.rows.now) size c.requires c.loop-popped.invariant.0 c.loop-popped.invariant.1
+    (nothing_left _ _ c.in_default.ensures.items (let l : vec_len c.loop-popped.search.stack ≡ 0 = c.in_default.ensures.cases.0 in rw l at c.in_default.ensures.rest))

@@ -7,12 +7,12 @@ use Rattle.task_ranks.specs.Rank.{Dependencies, after, Ranked, ranked}
 use Rattle.task_ranks.specs.Search.{is_marked, next_of, awaited, LooksAt, Waits, WaitBelow, WaitOrListed}
 
 module _ (d : Dependencies) (s : ℕ) (old new : Search) (look : LooksAt d s old new) where
-  -- the task that a task waits for isn't told on yet, after the look as before it
+  -- the task that a task waits for has no mark or stands on the stack, after the look as before it
   still_open : (v : ℕ) → (is_marked old v ≡ false) ⊎ Contains old.stack.items v → (is_marked new v ≡ false) ⊎ Contains new.stack.items v
   still_open v (inr found) = inr (look.stack v found)
   still_open v (inl open_old) = elim (cases_eq v s) [
     | inl same ↦ elim (cases_Bool (is_marked new v)) [
-      | inl told ↦ inr (rw same (look.told (rw same at open_old) (rw same at told)))
+      | inl marked ↦ inr (rw same (look.pushed (rw same at open_old) (rw same at marked)))
       | inr still ↦ inl still
     ]
     | inr other ↦ inl ((look.others v other).1 ∙ open_old)
@@ -34,9 +34,9 @@ first_or_rest list i t lt found =
     let cons : Contains (get_or list i 0 ∷ drop (i + 1) list) t = subst (λ (xs : List ℕ). Contains xs t) (drop_more list i 0 lt) found in
     in_cons (get_or list i 0) (drop (i + 1) list) t cons.0 cons.1 cons.2
 
-pub listed_step : (d : Dependencies) (told : ℕ) (list : List ℕ) (i : ℕ) (old new : Search) → i < length list → LooksAt d (get_or list i 0) old new
-    → WaitOrListed d old told (drop i list) → WaitOrListed d new told (drop (i + 1) list)
-listed_step d told list i old new lt look before = λ t low unmarked.
+pub listed_step : (d : Dependencies) (popped : ℕ) (list : List ℕ) (i : ℕ) (old new : Search) → i < length list → LooksAt d (get_or list i 0) old new
+    → WaitOrListed d old popped (drop i list) → WaitOrListed d new popped (drop (i + 1) list)
+listed_step d popped list i old new lt look before = λ t low unmarked.
     elim (cases_eq t (get_or list i 0)) [
       | inl same ↦ inl (rw same (look.waits (rw same at unmarked)))
       | inr other ↦
@@ -50,14 +50,14 @@ listed_step d told list i old new lt look before = λ t low unmarked.
           ]
     ]
 
-pub none_listed : (d : Dependencies) (told n : ℕ) (list : List ℕ) (i : ℕ) (s : Search) → n ≡ length d → length list ≤ i → WaitOrListed d s told (drop i list) → WaitBelow n d s
-none_listed d told n list i s size end waits = λ t low unmarked.
+pub none_listed : (d : Dependencies) (popped n : ℕ) (list : List ℕ) (i : ℕ) (s : Search) → n ≡ length d → length list ≤ i → WaitOrListed d s popped (drop i list) → WaitBelow n d s
+none_listed d popped n list i s size end waits = λ t low unmarked.
     elim (waits t (rw size at low) unmarked) [
       | inl w ↦ w
       | inr l ↦ absurd (omega (arith, l.listed.1, length-drop i list, end))
     ]
 
--- where nothing is left to tell, each task with a rank has its mark
+-- where the stack is empty, each task with a rank has its mark
 pub all_marked : (d : Dependencies) (s : Search) → s.stack.items ≡ [] → WaitBelow (length d) d s → ((t k : ℕ) → t < length d → k < length (after d t) → get_or (after d t) k 0 < length d)
     → (t : ℕ) → Ranked d t → t < length d → is_marked s t ≡ true
 all_marked d s empty waits range t (ranked _ below) low =
