@@ -8,6 +8,8 @@ use Rattle.clap.specs.Simple.{matches_of}
 use Rattle.clap.specs.Faults.{fault_of}
 use Rattle.command_words.specs.Numbers.{count_of}
 use Rattle.command_words.specs.Rules.{run_app}
+use Rattle.command_words.specs.declared.numbers.TheConstants.{MAX_COUNT}
+use Rattle.command_words.specs.declared.reading.TheConstants.{MAX_PLAN_NAME_BYTES, DEFAULT_MAX_LEASES}
 use Rattle.command_words.specs.declared.commands.Command.{Command}
 use Rattle.command_words.specs.declared.commands.Command.TheVariants.{Run, Worker}
 use Rattle.command_words.specs.declared.commands.RunWords.{RunWords}
@@ -21,28 +23,28 @@ abbrev pub count_or : Option Text → ℕ → Option ℕ
 count_or None default = Some default
 count_or (Some t) default = count_of t
 
--- 1 to 255 bytes, none of them zero
+-- at least one byte, not too many, and none of them zero
 abbrev pub is_plan_name : Text → Bool
-is_plan_name t = (nat_le 1 (length t) && nat_le (length t) 255) && not (list_any (λ b. b == 0) t)
+is_plan_name t = (nat_le 1 (length t) && nat_le (length t) MAX_PLAN_NAME_BYTES) && not (list_any (λ b. b == 0) t)
 
 abbrev pub plan_of : List Row → Text
 plan_of rows = unwrap_or (first_of (codes "PLAN") rows) []
 
 abbrev pub asked : List Row → ℕ → ℕ → RunWords
-asked rows max_leases workers = record {
+asked rows max_leases threads = record {
   plan = plan_of rows;
-  workers = workers;
+  threads = threads;
   max_leases = max_leases;
   parallel = is_on (codes "parallel") rows;
   history = is_on (codes "history") rows;
   summary = is_on (codes "summary") rows;
 }
 
--- at most two leases are out where the words don't say otherwise, and as many threads work as leases may be out
+-- the default where the words don't say how many leases may be out, and then as many threads
 abbrev pub run_of_rows : List Row → Option RunWords
 run_of_rows rows =
     if is_plan_name (plan_of rows)
-    then option_and_then (λ max_leases. option_map (asked rows max_leases) (count_or (first_of (codes "threads") rows) max_leases)) (count_or (first_of (codes "max-workers") rows) 2)
+    then option_and_then (λ max_leases. option_map (asked rows max_leases) (count_or (first_of (codes "threads") rows) max_leases)) (count_or (first_of (codes "max-workers") rows) DEFAULT_MAX_LEASES)
     else None
 
 -- what the words after `run` ask for: the parser finds no fault with them
@@ -58,10 +60,10 @@ command_of (name ∷ words) =
 
 -- the numbers that a command may have
 pub record HasBounds (run : RunWords) : Type 0 where
-  pub some_worker : 1 ≤ run.workers
-  pub few_workers : run.workers ≤ 32
+  pub some_thread : 1 ≤ run.threads
+  pub few_threads : run.threads ≤ MAX_COUNT
   pub some_lease : 1 ≤ run.max_leases
-  pub few_leases : run.max_leases ≤ 32
+  pub few_leases : run.max_leases ≤ MAX_COUNT
 
 abbrev pub IsBounded : Command → Type 0
 IsBounded (Run run) = HasBounds run

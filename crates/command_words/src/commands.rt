@@ -1,7 +1,8 @@
 ghost use Rattle.std.specs.Prelude.{◌≡◌};
 
 use item_actions::Text;
-use std::alloc::{AllocError, AllocFailed};
+use std::alloc::AllocError;
+use thiserror::Error;
 
 /// A command.
 #[derive(Debug, Drop)]
@@ -17,9 +18,9 @@ pub enum Command {
 pub struct RunWords {
     /// The name of the plan's file: 1 to 255 bytes, none of them zero.
     pub plan: Text,
-    /// How many threads work, 1 to 32.
-    pub workers: u32,
-    /// The most leases that may be out, 1 to 32.
+    /// How many threads work, 1 to `MAX_COUNT`.
+    pub threads: u32,
+    /// The most leases that may be out, 1 to `MAX_COUNT`.
     pub max_leases: u32,
     /// Whether each project has a lock of its own.
     pub parallel: bool,
@@ -30,11 +31,13 @@ pub struct RunWords {
 }
 
 /// Why words give no command.
-#[derive(Clone, Copy, Debug, PartialEq, Eq)]
+#[derive(Clone, Copy, Debug, PartialEq, Eq, Error)]
 pub enum WordsFail {
     /// They are none.
+    #[error("the words are no command")]
     NoCommand,
     /// There was no memory to read them.
+    #[error("there is no memory to read the words")]
     NoMemory,
 }
 

@@ -7,6 +7,7 @@ mod parser;
 mod reading;
 
 pub use commands::{Command, RunWords, WordsFail};
+pub use numbers::MAX_COUNT;
 pub use reading::read_command;
 
 #[cfg(test)]

@@ -9,7 +9,7 @@ ghost use Rattle.std.specs.Str.Parse.{digits_value};
 const MAX_DIGITS: usize = 10;
 
 /// The greatest number of threads, and of leases.
-const MAX_COUNT: u64 = 32;
+pub const MAX_COUNT: u32 = 32;
 
 fn are_digits(bytes: &[u8]) -> bool
     ensures { result ≡ list_all is_ascii_digit bytes.now }
@@ -36,20 +36,20 @@ fn value_of(text: &str) -> u64
 fn in_bounds(value: u64) -> Option<u32>
     ensures value { result ≡ in_bounds value }
     ensures some { IfSome result (λ n. 1 ≤ n) }
-    ensures few { IfSome result (λ n. n ≤ 32) }
+    ensures few { IfSome result (λ n. n ≤ MAX_COUNT) }
 {
-    if 1 <= value && value <= MAX_COUNT {
+    if 1 <= value && value <= MAX_COUNT as u64 {
         Some(value as u32)
     } else {
         None
     }
 }
 
-/// The number, 1 to 32, that a text writes with 1 to 10 digits.
+/// The number, 1 to `MAX_COUNT`, that a text writes with 1 to `MAX_DIGITS` digits.
 pub(crate) fn count_of(text: &str) -> Option<u32>
     ensures value { result ≡ count_of text.now }
     ensures some { IfSome result (λ n. 1 ≤ n) }
-    ensures few { IfSome result (λ n. n ≤ 32) }
+    ensures few { IfSome result (λ n. n ≤ MAX_COUNT) }
 {
     if is_numeral(text) {
         in_bounds(value_of(text))

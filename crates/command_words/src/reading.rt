@@ -5,6 +5,7 @@ ghost use Rattle.clap.specs.Walk.{first_of, rows_of};
 ghost use Rattle.command_words.specs.Failing.{NoMemoryOr};
 ghost use Rattle.command_words.specs.Reading.{HasBounds, IsBounded, command_of, count_or, is_on, is_plan_name, run_of, run_of_rows};
 ghost use Rattle.command_words.specs.Rules.{run_app};
+ghost use Rattle.command_words.specs.declared.numbers.TheConstants.{MAX_COUNT};
 ghost use Rattle.std.specs.List.{list_any};
 ghost use Rattle.std.specs.Prelude.{codes, map, option_map, IfErr, IfOk, IfSome, None, Some, [], ◌==◌, ◌≡◌, ◌≤◌};
 
@@ -58,10 +59,10 @@ fn is_on(matches: &ArgMatches<'_>, id: &str) -> bool
 /// The number that an option gives, or the default where the option isn't there.
 fn count_at(matches: &ArgMatches<'_>, id: &str, default: u32) -> Option<u32>
     requires some { 1 ≤ default }
-    requires few { default ≤ 32 }
+    requires few { default ≤ MAX_COUNT }
     ensures value { result ≡ count_or (first_of id.now (rows_of (found_of matches.now))) default }
     ensures some { IfSome result (λ n. 1 ≤ n) }
-    ensures few { IfSome result (λ n. n ≤ 32) }
+    ensures few { IfSome result (λ n. n ≤ MAX_COUNT) }
 {
     match text_at(matches, id) {
         Some(text) => count_of(text),
@@ -94,12 +95,12 @@ fn run_words(alloc: Global, matches: &ArgMatches<'_>) -> Result<RunWords, WordsF
     let Some(max_leases) = count_at(matches, "max-workers", DEFAULT_MAX_LEASES) else {
         return Err(WordsFail::NoCommand);
     };
-    let Some(workers) = count_at(matches, "threads", max_leases) else {
+    let Some(threads) = count_at(matches, "threads", max_leases) else {
         return Err(WordsFail::NoCommand);
     };
     Ok(RunWords {
         plan: Text::from_str(alloc, plan)?,
-        workers,
+        threads,
         max_leases,
         parallel: is_on(matches, "parallel"),
         history: is_on(matches, "history"),

@@ -1,8 +1,9 @@
 -- What stands at the start of a stream, and the frames that it begins with.
-use Rattle.std.specs.Prelude.{◌≡◌, ℕ, ◌+◌, ◌≤◌, List, [], ◌∷◌, Option, None, Some, length, take, drop, ◌==◌, ◌||◌, nat_lt, if◌then◌else◌}
+use Rattle.std.specs.Prelude.{◌≡◌, ℕ, ◌+◌, ◌-◌, ◌≤◌, List, [], ◌∷◌, Option, None, Some, length, take, drop, ◌==◌, ◌||◌, nat_lt, if◌then◌else◌}
 use Rattle.std.specs.Int.{w32, from_be_bytes}
 use Rattle.daemon_protocol.specs.Bodies.{frame_of}
 use Rattle.daemon_protocol.specs.declared.frames.Frame.{Frame}
+use Rattle.daemon_protocol.specs.declared.limits.TheConstants.{HEAD_BYTES, MAX_BODY_BYTES}
 use Rattle.daemon_protocol.specs.declared.starts.Head.{Head}
 use Rattle.daemon_protocol.specs.declared.starts.Head.TheVariants as heads
 use Rattle.daemon_protocol.specs.declared.starts.Flaw.TheVariants.{Tag, Length, Field}
@@ -12,11 +13,11 @@ use Rattle.daemon_protocol.specs.declared.starts.StreamStart.TheVariants.{Unfini
 -- a body of n bytes is one of its tag's bodies, or isn't
 abbrev pub look_field : ℕ → Option Frame → StreamStart
 look_field n None = Refused Field
-look_field n (Some f) = Whole f (5 + n)
+look_field n (Some f) = Whole f (HEAD_BYTES + n)
 
 abbrev pub look_body : ℕ → ℕ → List ℕ → StreamStart
 look_body tag n bytes =
-    if nat_lt 65536 n then Refused Length
+    if nat_lt MAX_BODY_BYTES n then Refused Length
     else (if nat_lt (length bytes) n then Unfinished else look_field n (frame_of tag (take n bytes)))
 
 -- four bytes of the body's length, and the body
@@ -30,6 +31,14 @@ look_tag tag bytes = if tag == 1 || tag == 2 || tag == 3 then look_length tag by
 abbrev pub look : List ℕ → StreamStart
 look [] = Unfinished
 look (tag ∷ bytes) = look_tag tag bytes
+
+-- how long the frame is, by its head: the tag is followed by four bytes of the body's length
+abbrev pub frame_len : List ℕ → ℕ
+frame_len bytes = HEAD_BYTES + from_be_bytes w32 (take 4 (drop 1 bytes))
+
+-- what is lacking of the head, and of the frame where the head is there
+abbrev pub lacking : List ℕ → ℕ
+lacking bytes = if nat_lt (length bytes) HEAD_BYTES then HEAD_BYTES - length bytes else frame_len bytes - length bytes
 
 -- what stands where a head does
 abbrev pub start_of : Head → StreamStart

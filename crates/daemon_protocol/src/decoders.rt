@@ -5,8 +5,8 @@ ghost use Rattle.daemon_protocol.specs.DecoderView.{Reads, nothing_read, refusal
 ghost use Rattle.daemon_protocol.specs.Bodies.{frame_of};
 
 use crate::bodies::{reply_of, request_of, stop_of};
-use crate::encoding::HEAD;
 use crate::frames::{Frame, FrameRefusal};
+use crate::limits::HEAD_BYTES;
 use crate::starts::{Flaw, Head, head_of};
 use std::alloc::{AllocError, Global};
 use std::marker::Model;
@@ -166,7 +166,7 @@ fn front_of(alloc: Global, bytes: &[u8]) -> Result<Front, AllocError>
             Head::Unfinished => None,
             Head::Whole(tag, body) => {
                 if push_frame(alloc, &mut frames, tag, body)? {
-                    len += HEAD + body.len();
+                    len += HEAD_BYTES + body.len();
                     continue;
                 }
                 Some(Flaw::Field)

@@ -2,11 +2,9 @@ ghost use Rattle.std.specs.Prelude.{◌≡◌, ◌≤◌, ◌++◌, length, IfOk
 ghost use Rattle.daemon_protocol.specs.Spelling.{action_bytes, outcome_bytes, body, tag, spelling, IsValid};
 
 use crate::frames::Frame;
+use crate::limits::HEAD_BYTES;
 use item_actions::{ItemAction, Outcome};
 use std::alloc::{AllocError, Global};
-
-/// How many bytes come before a frame's body: its tag, and the body's length.
-pub(crate) const HEAD: usize = 5;
 
 /// The bytes of a frame. A request's file has the form of a file's name, and a reply's outcome isn't Skipped.
 pub fn encode(alloc: Global, frame: &Frame) -> Result<Vec<u8>, AllocError>
@@ -14,7 +12,7 @@ pub fn encode(alloc: Global, frame: &Frame) -> Result<Vec<u8>, AllocError>
     ensures { IfOk result (λ bytes. bytes.items ≡ spelling frame.now) }
 {
     let len = body_len(frame);
-    let mut bytes = Vec::with_capacity(alloc, HEAD + len)?;
+    let mut bytes = Vec::with_capacity(alloc, HEAD_BYTES + len)?;
     bytes.push(tag_of(frame))?;
     bytes.extend_from_slice(&(len as u32).to_be_bytes())?;
     push_body(&mut bytes, frame)?;

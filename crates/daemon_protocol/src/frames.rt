@@ -1,4 +1,5 @@
 use item_actions::{ItemAction, Outcome, Text};
+use thiserror::Error;
 
 /// A unit of work that a daemon is asked to do.
 #[derive(Debug, Drop)]
@@ -29,12 +30,15 @@ pub enum Frame {
 }
 
 /// Why the bytes of a stream go on with no frame, each with the place of the first byte that is in no frame.
-#[derive(Clone, Copy, Debug, PartialEq, Eq)]
+#[derive(Clone, Copy, Debug, PartialEq, Eq, Error)]
 pub enum FrameRefusal {
     /// That byte is no frame's tag.
+    #[error("the byte at place {0} is no frame's tag")]
     BadTag(u64),
-    /// The length of the body is over 65,536.
+    /// The length of the body is over `MAX_BODY_BYTES`.
+    #[error("the frame at place {0} is longer than any frame")]
     BadLength(u64),
     /// The body isn't one of its tag's bodies.
+    #[error("the frame at place {0} has none of its tag's bodies")]
     BadField(u64),
 }

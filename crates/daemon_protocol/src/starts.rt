@@ -1,24 +1,26 @@
 ghost use Rattle.std.specs.Prelude.{◌≡◌, ◌<◌, ◌≤◌, ◌+◌, ◌^◌, ◌++◌, ℕ, List, length, IfOk};
-ghost use Rattle.daemon_protocol.specs.StreamStart.{look, look_tag, look_length, look_body, look_field, start_of, FitsBehind};
+ghost use Rattle.daemon_protocol.specs.StreamStart.{look, lacking, look_tag, look_length, look_body, look_field, start_of, FitsBehind};
 ghost use Rattle.daemon_protocol.specs.declared.frames.Frame.{Frame};
+ghost use Rattle.daemon_protocol.specs.declared.limits.TheConstants.{MAX_FRAME_BYTES};
 ghost use Rattle.daemon_protocol.specs.declared.starts.StreamStart.TheVariants.{Unfinished, Whole};
 
 use crate::bodies::{frame_of, number_of};
-use crate::encoding::HEAD;
 use crate::frames::Frame;
+use crate::limits::{HEAD_BYTES, MAX_BODY_BYTES};
 use std::alloc::{AllocError, Global};
-
-/// The most bytes of a body.
-const MAX_BODY_BYTES: usize = 65_536;
+use thiserror::Error;
 
 /// What is wrong with bytes that begin no frame.
-#[derive(Clone, Copy, Debug, PartialEq, Eq)]
+#[derive(Clone, Copy, Debug, PartialEq, Eq, Error)]
 pub enum Flaw {
     /// The first byte is no frame's tag.
+    #[error("the first byte is no frame's tag")]
     Tag,
-    /// The length of the body is over 65,536.
+    /// The length of the body is over `MAX_BODY_BYTES`.
+    #[error("the body is longer than any body")]
     Length,
     /// The body isn't one of its tag's bodies.
+    #[error("the body is none of its tag")]
     Field,
 }
 
@@ -61,7 +63,7 @@ pub fn look(alloc: Global, bytes: &[u8]) -> Result<StreamStart, AllocError>
 #[inline(always)]
 pub(crate) fn head_of(bytes: &[u8]) -> Head<'_>
     ensures start { start_of result ≡ look bytes.now }
-    ensures fits { FitsBehind 5 result (length bytes.now) }
+    ensures fits { FitsBehind HEAD_BYTES result (length bytes.now) }
 {
     match bytes {
         [] => Head::Unfinished,
@@ -107,24 +109,26 @@ fn head_of_body(tag: u8, len: usize, bytes: &[u8]) -> Head<'_>
 }
 
 fn look_field(len: usize, frame: Option<Frame>) -> StreamStart
-    requires { 5 + len < 2 ^ 64 }
+    requires { HEAD_BYTES + len < 2 ^ 64 }
     ensures { result ≡ look_field len frame }
 {
     match frame {
-        Some(frame) => StreamStart::Whole(frame, HEAD + len),
+        Some(frame) => StreamStart::Whole(frame, HEAD_BYTES + len),
         None => StreamStart::Refused(Flaw::Field),
     }
 }
 
-/// How many bytes at least are lacking until bytes that are no whole frame yet begin one.
+/// How many bytes are lacking where bytes begin no whole frame yet: of the head, where it isn't there, or else of the
+/// frame, whose length the head says.
 pub fn lacking(bytes: &[u8]) -> usize
     requires { look bytes.now ≡ Unfinished }
+    ensures exact { result ≡ lacking bytes.now }
     ensures some { 0 < result }
     ensures least { (more : List ℕ) (f : Frame) (n : ℕ) → look (bytes.now ++ more) ≡ Whole f n → length bytes.now + result ≤ n }
-    ensures few { length bytes.now + result ≤ 65541 }
+    ensures few { length bytes.now + result ≤ MAX_FRAME_BYTES }
 {
-    if bytes.len() < HEAD {
-        return HEAD - bytes.len();
+    if bytes.len() < HEAD_BYTES {
+        return HEAD_BYTES - bytes.len();
     }
-    HEAD + number_of(&bytes[1..HEAD]) as usize - bytes.len()
+    HEAD_BYTES + number_of(&bytes[1..HEAD_BYTES]) as usize - bytes.len()
 }

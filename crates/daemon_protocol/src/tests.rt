@@ -1,5 +1,8 @@
-use crate::{Decoder, Fed, Frame, FrameRefusal, Reply, Request, encode};
-use item_actions::{ItemAction, Needle, Outcome, Text, is_file_name};
+use crate::{
+    Decoder, Fed, Frame, FrameRefusal, encode, read_frames_are_spelled, spelled_frames_are_read,
+    streams_have_one_reading,
+};
+use item_actions::{Outcome, is_file_name};
 use std::alloc::Global;
 use std::process::Abort;
 use std::test::Fail;
@@ -99,6 +102,9 @@ fn framed(alloc: Global, tag: u8, body: &[u8]) -> Result<Vec<u8>, Fail> {
 
 #[test]
 fn a_stream_in_pieces_of_each_size(rt: HostRuntime) -> Result<(), Fail> {
+    spelled_frames_are_read();
+    read_frames_are_spelled();
+    streams_have_one_reading();
     for size in 1..=STREAM.len() {
         let given = read(&rt, rt.alloc(), STREAM, size)?;
         assert_eq!(rt; given.frames.len(), 3);
@@ -205,70 +211,6 @@ fn a_refusal_after_frames(rt: HostRuntime) -> Result<(), Fail> {
         assert_eq!(rt; given.refusal, Some(FrameRefusal::BadField(5)));
         assert_eq!(rt; given.rest, 0);
         assert_eq!(rt; given.place, 5);
-    }
-    Ok(())
-}
-
-#[test]
-fn requests_of_each_action(rt: HostRuntime) -> Result<(), Fail> {
-    let mut actions = vec![in rt.alloc();
-        ItemAction::Lines,
-        ItemAction::Words,
-        ItemAction::Bytes,
-        ItemAction::Longest,
-        ItemAction::Sha256,
-    ]?;
-    for needle in [b"a".as_slice(), b"the", &[0; 64]] {
-        if let Some(needle) = Needle::of(needle) {
-            actions.push(ItemAction::Count(needle))?;
-        }
-    }
-    assert_eq!(rt; actions.len(), 8);
-    for action in &actions {
-        let file = Text::from_str(rt.alloc(), "src/a.txt")?;
-        let request = Request {
-            unit: 0x0102_0304,
-            action: *action,
-            file,
-        };
-        let bytes = bytes_of(&rt, rt.alloc(), &Frame::Request(request))?;
-        let given = read(&rt, rt.alloc(), &bytes, 1)?;
-        match given.frames.as_slice() {
-            [Frame::Request(request)] => {
-                assert_eq!(rt; request.unit, 0x0102_0304);
-                assert_eq!(rt; request.action, *action);
-                assert_eq!(rt; request.file.as_str(), "src/a.txt");
-            }
-            _ => assert!(rt; false, "no request"),
-        }
-        assert_eq!(rt; given.rest, 0);
-    }
-    Ok(())
-}
-
-#[test]
-fn replies_of_each_outcome(rt: HostRuntime) -> Result<(), Fail> {
-    let outcomes = [
-        Outcome::Number(0),
-        Outcome::Number(u64::MAX),
-        Outcome::Digest([0xab; 32]),
-        Outcome::NotThere,
-        Outcome::TooLong,
-        Outcome::Fault,
-        Outcome::NoMemory,
-    ];
-    for outcome in outcomes {
-        let reply = Reply {
-            unit: u32::MAX,
-            outcome,
-        };
-        let bytes = bytes_of(&rt, rt.alloc(), &Frame::Reply(reply))?;
-        let given = read(&rt, rt.alloc(), &bytes, 1)?;
-        match given.frames.as_slice() {
-            [Frame::Reply(read)] => assert_eq!(rt; *read, reply),
-            _ => assert!(rt; false, "no reply"),
-        }
-        assert_eq!(rt; given.rest, 0);
     }
     Ok(())
 }

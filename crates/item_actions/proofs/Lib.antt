@@ -8,3 +8,4 @@ mod NoOverlap
 mod OneByte
 mod Padding
 mod Vectors
+mod Finding

@@ -2,6 +2,7 @@
 use Rattle.std.specs.Prelude.{ℕ, Bool, not, ◌&&◌, ◌||◌, ◌==◌, List, length, nat_le, codes}
 use Rattle.std.specs.List.{list_any, list_all, slice_split}
 use Rattle.std.specs.Str.{bytes_eq}
+use Rattle.item_actions.specs.declared.limits.TheConstants.{MAX_FILE_NAME_BYTES}
 
 -- an ASCII letter or digit, `_`, `-`, `.`, or `/`, which stands between the parts
 abbrev pub is_file_byte : ℕ → Bool
@@ -16,6 +17,6 @@ is_no_part t = length t == 0 || bytes_eq t (codes ".") || bytes_eq t (codes ".."
 abbrev pub parts : List ℕ → List (List ℕ)
 parts t = slice_split (λ b. b == 47) t
 
--- 1 to 255 bytes
+-- a name with at least one byte
 abbrev pub is_file_name : List ℕ → Bool
-is_file_name t = nat_le 1 (length t) && nat_le (length t) 255 && list_all is_file_byte t && not (list_any is_no_part (parts t))
+is_file_name t = nat_le 1 (length t) && nat_le (length t) MAX_FILE_NAME_BYTES && list_all is_file_byte t && not (list_any is_no_part (parts t))

@@ -4,3 +4,4 @@ pub mod Forms
 pub mod Needles
 pub mod Pieces
 pub mod Value
+pub mod Words

@@ -2,8 +2,7 @@
 ghost use Rattle.std.specs.Prelude.{◌≡◌};
 ghost use Rattle.item_actions.specs.Forms.{is_file_byte, is_file_name};
 
-/// The most bytes of a file's name.
-const MAX_FILE_NAME_BYTES: usize = 255;
+use crate::limits::MAX_FILE_NAME_BYTES;
 
 // What has been seen of a part of a file's name. With `.` or `..` alone it names nothing of its own.
 #[derive(Clone, Copy)]

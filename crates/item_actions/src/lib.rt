@@ -1,6 +1,7 @@
 //! What is done with the files of a build: texts, actions on bytes, and the outcomes of units.
 #![tactic(auto)]
 
+mod action_kinds;
 mod actions;
 mod counting;
 mod forms;
@@ -9,17 +10,23 @@ mod laws;
 mod limits;
 mod needles;
 mod occurrences;
+mod outcome_kinds;
 mod outcomes;
 mod pieces;
 mod places;
 mod texts;
 mod words;
 
+pub use action_kinds::ActionKind;
 pub use actions::{ItemAction, act};
 pub use forms::is_file_name;
-pub use laws::{counting_goes_on_behind_the_first, longest_is_the_greatest_piece};
-pub use limits::MAX_FILE_BYTES;
+pub use laws::{
+    actions_have_words_of_their_own, counting_goes_on_behind_the_first,
+    longest_is_the_greatest_piece, outcomes_have_words_of_their_own,
+};
+pub use limits::{MAX_FILE_BYTES, MAX_FILE_NAME_BYTES, MAX_NEEDLE_BYTES};
 pub use needles::Needle;
+pub use outcome_kinds::OutcomeKind;
 pub use outcomes::Outcome;
 pub use texts::{Text, TextRefusal};
 

@@ -1,8 +1,7 @@
 ghost use Rattle.std.specs.Prelude.{◌≡◌, ◌<◌, ◌≤◌, ◌⊎◌, length, MatchOption};
 
+use crate::limits::MAX_NEEDLE_BYTES;
 use std::marker::Model;
-
-const MAX_NEEDLE_BYTES: usize = 64;
 
 /// What is searched for: 1 to 64 bytes.
 #[derive(Clone, Copy, Debug, PartialEq, Eq)]
@@ -30,7 +29,7 @@ impl Model for Needle {
 impl Needle {
     /// A needle of these bytes; None exactly where their number is outside 1 to 64.
     pub fn of(bytes: &[u8]) -> Option<Needle>
-        ensures { MatchOption result (64 < length bytes.now ⊎ (length bytes.now ≡ 0)) (λ n. n ≡ bytes.now) }
+        ensures { MatchOption result (MAX_NEEDLE_BYTES < length bytes.now ⊎ (length bytes.now ≡ 0)) (λ n. n ≡ bytes.now) }
     {
         let len = bytes.len();
         if len == 0 || MAX_NEEDLE_BYTES < len {
@@ -45,7 +44,7 @@ impl Needle {
     pub fn bytes(&self) -> &[u8]
         ensures bytes { result.now ≡ self.now }
         ensures some { 1 ≤ length result.now }
-        ensures few { length result.now ≤ 64 }
+        ensures few { length result.now ≤ MAX_NEEDLE_BYTES }
     {
         &self.bytes[..self.len]
     }

@@ -1,6 +1,7 @@
 use crate::{
-    ItemAction, Needle, Outcome, Text, TextRefusal, act, counting_goes_on_behind_the_first,
-    is_file_name, longest_is_the_greatest_piece,
+    ActionKind, ItemAction, Needle, Outcome, OutcomeKind, Text, TextRefusal, act,
+    actions_have_words_of_their_own, counting_goes_on_behind_the_first, is_file_name,
+    longest_is_the_greatest_piece, outcomes_have_words_of_their_own,
 };
 use std::test::Fail;
 
@@ -113,16 +114,6 @@ fn one_place_of_a_hundred(rt: HostRuntime) {
 }
 
 #[test]
-fn one_word_of_a_hundred_places(rt: HostRuntime) {
-    for place in 0..100 {
-        let mut bytes = [b' '; 100];
-        bytes[place] = b'a';
-        assert_eq!(rt; number_of(&ItemAction::Words, &bytes), Some(1));
-        assert_eq!(rt; count_of(b"a", &bytes), Some(1));
-    }
-}
-
-#[test]
 fn digests_of_the_standard(rt: HostRuntime) {
     let rows: [(&[u8], [u32; 8]); 3] = [
         (
@@ -214,19 +205,38 @@ fn names_of_files(rt: HostRuntime) {
     assert!(rt; !is_file_name(&[b'a'; 256]));
 }
 
+// Each kind's word, and that of an action or outcome of that kind.
 #[test]
-fn only_values_pass(rt: HostRuntime) {
-    assert!(rt; Outcome::Number(0).passes());
-    assert!(rt; Outcome::Digest([0; 32]).passes());
-    for outcome in [
-        Outcome::NotThere,
-        Outcome::TooLong,
-        Outcome::Fault,
-        Outcome::NoMemory,
-        Outcome::Skipped,
-    ] {
-        assert!(rt; !outcome.passes());
+fn words_of_actions_and_outcomes(rt: HostRuntime) {
+    actions_have_words_of_their_own();
+    let words = ["lines", "words", "bytes", "longest", "count", "sha256"];
+    for (kind, word) in ActionKind::ALL.iter().zip(words.iter()) {
+        assert_eq!(rt; kind.word(), *word);
+        assert_eq!(rt; ActionKind::of_word(word), Some(*kind));
     }
+    for word in ["", "line", "liness", "Lines", "fetch"] {
+        assert_eq!(rt; ActionKind::of_word(word), None);
+    }
+    assert_eq!(rt; ItemAction::Longest.kind(), ActionKind::Longest);
+    outcomes_have_words_of_their_own();
+    let words = [
+        "number",
+        "digest",
+        "missing",
+        "too-long",
+        "fault",
+        "no-memory",
+        "skipped",
+    ];
+    for (kind, word) in OutcomeKind::ALL.iter().zip(words.iter()) {
+        assert_eq!(rt; kind.word(), *word);
+        assert_eq!(rt; OutcomeKind::of_word(word), Some(*kind));
+    }
+    assert_eq!(rt; OutcomeKind::of_word("too long"), None);
+    assert_eq!(rt; OutcomeKind::TooLong.phrase(), "too long");
+    assert_eq!(rt; Outcome::Number(3).kind(), OutcomeKind::Number);
+    assert!(rt; Outcome::Number(3).passes());
+    assert!(rt; !Outcome::Fault.passes());
 }
 
 #[test]

@@ -3,13 +3,16 @@ ghost use Rattle.std.specs.Result.{IsErrOf};
 
 use std::alloc::{AllocError, Global};
 use std::marker::Model;
+use thiserror::Error;
 
 /// Why bytes are no text.
-#[derive(Clone, Copy, Debug, PartialEq, Eq)]
+#[derive(Clone, Copy, Debug, PartialEq, Eq, Error)]
 pub enum TextRefusal {
     /// The bytes aren't UTF-8.
+    #[error("the bytes are not UTF-8")]
     NotUtf8,
     /// There was no memory for a copy of the bytes.
+    #[error("there is no memory for a copy of the bytes")]
     NoMemory,
 }
 

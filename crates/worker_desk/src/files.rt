@@ -6,6 +6,7 @@ ghost use Rattle.worker_desk.specs.ReadView.{IsWithin, ReadsFrom, read_view};
 
 use item_actions::Text;
 use std::alloc::{AllocError, Global};
+use thiserror::Error;
 
 /// What there is under a file's name.
 #[derive(Debug, Drop)]
@@ -19,11 +20,13 @@ pub enum Read {
 }
 
 /// Why a call on the outside gave no answer.
-#[derive(Clone, Copy, Debug, PartialEq, Eq)]
+#[derive(Clone, Copy, Debug, PartialEq, Eq, Error)]
 pub enum DeskFail {
     /// The outside failed, and the count of its faults rose.
+    #[error("the outside failed")]
     Failed,
     /// There was no memory.
+    #[error("there is no memory")]
     NoMemory,
 }
 

@@ -15,6 +15,7 @@ mod sinks;
 mod sources;
 mod std_sink;
 mod std_source;
+mod work;
 
 pub use file_map::{FileEntry, FileMap};
 pub use files::{DeskFail, Files, Read};
@@ -27,6 +28,7 @@ pub use sinks::{Failed, Sink, put_all};
 pub use sources::Source;
 pub use std_sink::StdSink;
 pub use std_source::StdSource;
+pub use work::work_out;
 
 #[cfg(test)]
 mod tests;

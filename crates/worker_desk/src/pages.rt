@@ -6,14 +6,14 @@ use crate::sinks::{Failed, Sink, put_all};
 use itoa::Buffer;
 use std::marker::Model;
 
-const SIZE: usize = 4096;
+const MAX_WAITING_BYTES: usize = 4096;
 
 /// Text that is gathered before it goes to a sink, so that many short texts cost few calls of it.
 ///
 /// A page takes no memory. Once the sink failed, what is written on it after that goes nowhere.
 #[derive(Drop)]
 pub struct Page {
-    bytes: [u8; SIZE],
+    bytes: [u8; MAX_WAITING_BYTES],
     len: usize,
     failed: bool,
 }
@@ -26,7 +26,9 @@ impl Model for Page {
 
     ghost view = { λ p. record { waiting = take p.len p.bytes; failed = p.failed } };
 
-    ghost invariant = { λ p. p.len ≤ 4096 };
+    ghost use Rattle.worker_desk.specs.declared.pages.TheConstants.{MAX_WAITING_BYTES};
+
+    ghost invariant = { λ p. p.len ≤ MAX_WAITING_BYTES };
 }
 
 impl Page {
@@ -35,21 +37,21 @@ impl Page {
         ensures { result ≡ blank }
     {
         Page {
-            bytes: [0; SIZE],
+            bytes: [0; MAX_WAITING_BYTES],
             len: 0,
             failed: false,
         }
     }
 
     fn room(&self) -> usize
-        ensures { result + length self.now.waiting ≡ 4096 }
+        ensures { result + length self.now.waiting ≡ MAX_WAITING_BYTES }
     {
-        SIZE - self.len
+        MAX_WAITING_BYTES - self.len
     }
 
     // Puts a piece that fits behind what waits.
     fn copy(&mut self, piece: &[u8])
-        requires { length self.old.waiting + length piece.now ≤ 4096 }
+        requires { length self.old.waiting + length piece.now ≤ MAX_WAITING_BYTES }
         ensures { self.new ≡ record self.old { waiting = self.old.waiting ++ piece.now } }
     {
         let end = self.len + piece.len();
@@ -81,7 +83,7 @@ impl Page {
     // Sends what waits where a piece of this length doesn't fit behind it.
     fn make_room<K: Sink>(&mut self, sink: &mut K, len: usize)
         ensures adds { Adds (K.seen sink.old) self.old (K.seen sink.new) self.new [] }
-        ensures room { (len + length self.new.waiting ≤ 4096) ⊎ (self.new.waiting ≡ []) }
+        ensures room { (len + length self.new.waiting ≤ MAX_WAITING_BYTES) ⊎ (self.new.waiting ≡ []) }
     {
         if self.room() < len {
             self.flush(sink);

@@ -2,8 +2,11 @@ ghost use Rattle.std.specs.Prelude.{◌≤◌, ◌<◌, length, IfOk, OnErr};
 ghost use Rattle.std.specs.Io.KnownBytes.{WriteAppends};
 ghost use Rattle.worker_desk.specs.SinkView.{SinkView, Rises, Prints};
 
+use thiserror::Error;
+
 /// The outside failed, and the count of its faults rose.
-#[derive(Clone, Copy, Debug, PartialEq, Eq)]
+#[derive(Clone, Copy, Debug, PartialEq, Eq, Error)]
+#[error("the outside failed")]
 pub struct Failed;
 
 /// Something of the outside that takes bytes.
