@@ -10,13 +10,13 @@ ghost use Rattle.build_runner.specs.Phases.{AreSettled, HasRun, IsUntouched};
 ghost use Rattle.build_runner.specs.Planned.{IsGraphOf};
 
 use crate::choices::{Choice, ReadyTasks};
-use crate::dependents::dependents_of;
+use crate::dependents::all_dependents;
 use crate::steps::skip;
 use crate::tasks::run_task;
 use lock_journal::Book;
 use plan_reader::Plan;
 use std::alloc::{AllocError, Global};
-use task_ranks::users_at;
+use task_ranks::dependents_at;
 use worker_desk::Files;
 
 /// Skips a task, or runs it from its start to its end.
@@ -67,12 +67,12 @@ pub(crate) fn run_tasks<D: Files>(
     ensures ended { OnOk result (All IsEnded book.new.state.tasks) }
     ensures keeps { OnOk result (Keeps (D.files desk.old) plan.now (D.faults desk.old) (D.faults desk.new) book.old.history book.new.history) }
 {
-    let dependents = dependents_of(alloc, book.graph())?;
+    let dependents = all_dependents(alloc, book.graph())?;
     let mut ready = ReadyTasks::of(alloc, book)?;
     while let Some(choice) = ready.first() {
         make_choice(alloc, plan, book, choice, desk)?;
         let task = choice.task();
-        ready.go_on(book, task, users_at(&dependents, task as usize))?;
+        ready.go_on(book, task, dependents_at(&dependents, task as usize))?;
     }
     Ok(())
 }

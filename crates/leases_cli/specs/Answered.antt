@@ -32,7 +32,7 @@ use Rattle.leases_cli.specs.declared.status.Status.{Status}
 use Rattle.leases_cli.specs.declared.status.Status.TheVariants.{Passed, TaskFailed, BadWords, SinkFault, NoMemory}
 
 abbrev pub options_of : RunWords → RunOptions
-options_of run = record { workers = run.workers; max_leases = run.max_leases; parallel = run.parallel }
+options_of run = record { workers = run.threads; max_leases = run.max_leases; parallel = run.parallel }
 
 -- The book is that of a run of this plan, which stands under the name that is asked for, with the options asked for.
 pub record IsNamedRun (asked : RunWords) (known : Option Folder) (before after : ℕ) (plan : PlanView) (b : BookView) : Type 0 where

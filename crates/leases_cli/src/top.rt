@@ -74,7 +74,7 @@ fn read<D: Files>(alloc: Global, name: &Text, desk: &mut D) -> Result<Plan, Stat
     }
 }
 
-/// Tells the history of a run, where the words ask for it.
+/// Writes the history of a run, where the words ask for it.
 fn write_history_asked<O: Sink>(asked: &RunWords, book: &Book, page: &mut Page, out: &mut O)
     ensures { Adds (O.seen out.old) page.old (O.seen out.new) page.new (history_asked asked.now book.now) }
 {
@@ -176,7 +176,7 @@ fn run<D: Files, O: Sink>(alloc: Global, asked: &RunWords, desk: &mut D, out: &m
         Err(refusal) => return refuse(refusal, out),
     };
     let options = RunOptions {
-        workers: asked.workers,
+        workers: asked.threads,
         max_leases: asked.max_leases,
         parallel: asked.parallel,
     };

@@ -5,7 +5,7 @@ use Rattle.resource_lock.specs.GraphView.{GraphTaskView}
 use Rattle.resource_lock.specs.declared.graphs.GraphTask.{GraphTask}
 use Rattle.task_ranks.specs.Rank.{lists_of}
 use Rattle.build_runner.proofs.Ranks.{afters_read}
-use Rattle.build_runner.proofs.dependents.afters_of.Goals as goal
+use Rattle.build_runner.proofs.dependents.dependencies_of.Goals as goal
 
 pub loop-task-preserved : goal.loop-task-preserved
 loop-task-preserved c =

@@ -21,8 +21,8 @@ go_on-requires-clause-within g c =
     let old = c.args.book.now.graph in
     let all = c.in_ok-dependents.dependents.items in
     let are : AreDependents old all = subst (λ (o : GraphView). AreDependents o all) c.graph.ensures.value c.in_ok-dependents.ensures in
-    let list : c.users_at.result.now ≡ after (lists_of all) c.task-task.result = c.users_at.ensures ∙ ap (λ ds. after (lists_of ds) c.task-task.result) c.deref.ensures.value in
-    subst (λ (o : GraphView). All (λ k. k < length o.tasks) c.users_at.result.now) (sym (c.make_choice.ensures.graph ∙ c.loop-choice.invariant.graph))
+    let list : c.dependents_at.result.now ≡ after (lists_of all) c.task-task.result = c.dependents_at.ensures ∙ ap (λ ds. after (lists_of ds) c.task-task.result) c.deref.ensures.value in
+    subst (λ (o : GraphView). All (λ k. k < length o.tasks) c.dependents_at.result.now) (sym (c.make_choice.ensures.graph ∙ c.loop-choice.invariant.graph))
     (subst (λ (ks : List ℕ). All (λ k. k < length old.tasks) ks) (sym list) (all_within old all c.task-task.result are))
 
 pub go_on-requires-clause-dependents : goal.go_on-requires-clause-dependents
@@ -30,8 +30,8 @@ go_on-requires-clause-dependents g c = λ k h.
     let old = c.args.book.now.graph in
     let all = c.in_ok-dependents.dependents.items in
     let are : AreDependents old all = subst (λ (o : GraphView). AreDependents o all) c.graph.ensures.value c.in_ok-dependents.ensures in
-    let list : c.users_at.result.now ≡ after (lists_of all) c.task-task.result = c.users_at.ensures ∙ ap (λ ds. after (lists_of ds) c.task-task.result) c.deref.ensures.value in
-    subst (λ (ks : List ℕ). Contains ks k) (sym list) (are.known c.task-task.result k (subst (λ (o : GraphView). Contains (task_of o k).after c.task-task.result) (c.make_choice.ensures.graph ∙ c.loop-choice.invariant.graph) h))
+    let list : c.dependents_at.result.now ≡ after (lists_of all) c.task-task.result = c.dependents_at.ensures ∙ ap (λ ds. after (lists_of ds) c.task-task.result) c.deref.ensures.value in
+    subst (λ (ks : List ℕ). Contains ks k) (sym list) ((are.each c.task-task.result k).1 (subst (λ (o : GraphView). Contains (task_of o k).after c.task-task.result) (c.make_choice.ensures.graph ∙ c.loop-choice.invariant.graph) h))
 
 pub loop-choice-smaller : goal.loop-choice-smaller
 loop-choice-smaller g c =
