@@ -2,6 +2,7 @@
 use Rattle.std.specs.Prelude.{◌≢◌, ◌≤◌, ℕ, Bool, List, AllPairs}
 use Rattle.daemon_requirements.specs.declared.fields.Pair.{Pair}
 use Rattle.daemon_requirements.specs.declared.fields.RequirementFields.{RequirementFields}
+use Rattle.daemon_requirements.specs.declared.requirement.TheConstants.{MAX_HEAP_MB}
 
 pub record RequirementsView : Type 0 where
   pub executable : List ℕ
@@ -25,9 +26,9 @@ requirements_view f = record {
   encoding = f.encoding;
 }
 
--- a heap from 1 to 65,536 MB
+-- a heap of some MB, and of no more than the most
 abbrev pub IsHeap : ℕ → Type 0
-IsHeap mb = (1 ≤ mb) × (mb ≤ 65536)
+IsHeap mb = (1 ≤ mb) × (mb ≤ MAX_HEAP_MB)
 
 -- no two pairs have one name
 abbrev pub HasDistinctNames : List Pair → Type 0

@@ -12,7 +12,7 @@ pub struct Pair {
 pub struct RequirementFields {
     /// The program that is started.
     pub executable: Text,
-    /// The greatest size of the heap, in MB; `Requirements::of` wants 1 to 65,536.
+    /// The greatest size of the heap, in MB; `Requirements::of` wants 1 to `MAX_HEAP_MB`.
     pub heap_mb: u32,
     /// The arguments of the program, in order.
     pub args: Vec<Text>,

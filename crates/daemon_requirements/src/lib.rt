@@ -11,7 +11,7 @@ mod work;
 
 pub use fields::{Pair, RequirementFields};
 pub use links::Linked;
-pub use requirement::{PairList, RequirementRefusal, Requirements};
+pub use requirement::{MAX_HEAP_MB, PairList, RequirementRefusal, Requirements};
 pub use rules::{FieldRule, FieldTable, REQUIREMENT_TABLE};
 pub use work::{Isolation, Work};
 

@@ -10,8 +10,10 @@ use crate::names::first_twice;
 use crate::rules::{Field, REQUIREMENT_TABLE};
 use std::alloc::{AllocError, Global};
 use std::marker::Model;
+use thiserror::Error;
 
-const MAX_HEAP_MB: u32 = 65536;
+/// The greatest size of a heap, in MB.
+pub const MAX_HEAP_MB: u32 = 65_536;
 
 /// A list of pairs in `RequirementFields`.
 #[derive(Clone, Copy, Debug, PartialEq, Eq)]
@@ -23,16 +25,18 @@ pub enum PairList {
 }
 
 /// Why fields are no requirements.
-#[derive(Clone, Copy, Debug, PartialEq, Eq)]
+#[derive(Clone, Copy, Debug, PartialEq, Eq, Error)]
 pub enum RequirementRefusal {
-    /// The heap is outside 1 to 65,536 MB.
+    /// The heap is outside 1 to `MAX_HEAP_MB`.
+    #[error("the heap is outside 1 to {max} MB", max = MAX_HEAP_MB)]
     HeapRange,
     /// In this list the pair at this position, counted from 0, is the first that has the name of an earlier
     /// one.
+    #[error("the pair at place {1} of its list has the name of an earlier one")]
     TwiceNamed(PairList, usize),
 }
 
-/// What a worker daemon is started with, or what an item asks of it: a heap of 1 to 65,536 MB, and
+/// What a worker daemon is started with, or what an item asks of it: a heap of 1 to `MAX_HEAP_MB`, and
 /// properties and variables of distinct names.
 #[derive(Debug, Drop)]
 pub struct Requirements {
@@ -51,7 +55,7 @@ impl Model for Requirements {
 
 impl Requirements {
     /// The requirements with these fields; it takes no memory. HeapRange comes first, exactly where the heap is
-    /// outside 1 to 65,536 MB; then TwiceNamed for the properties, and then for the variables. Refused fields
+    /// outside 1 to `MAX_HEAP_MB`; then TwiceNamed for the properties, and then for the variables. Refused fields
     /// are dropped.
     pub fn of(fields: RequirementFields) -> Result<Requirements, RequirementRefusal>
         ensures made { OkIff result (IsRequirements (requirements_view fields)) (requirements_view fields) }

@@ -20,15 +20,17 @@ use Rattle.daemon_protocol.proofs.Settled.{cuts_longer, cuts_piece}
 use Rattle.worker_desk.specs.SinkView.{SinkView, Rises, Wrote, Broke}
 use Rattle.worker_desk.specs.SourceView.{SourceView}
 use Rattle.worker_desk.proofs.Printing.{wrote_nothing, wrote_then, broke_then}
-use Rattle.daemon_worker.specs.Answer.{Answer, asked, reply, replies, IsHonest, is_fault, IsWorkedOut}
+use Rattle.daemon_worker.specs.Answer.{Answer, asked, reply, replies, IsHonestAnswer, IsWorkedOut}
+use Rattle.item_actions.specs.Value.{is_fault}
+use Rattle.daemon_worker.specs.declared.serving.TheConstants.{MAX_STREAM_BYTES}
 use Rattle.daemon_worker.specs.Answering.{answer_of, AnswersAs}
 use Rattle.daemon_worker.specs.Taking.{Takes, IsTaken, TakesFrame}
-use Rattle.daemon_worker.specs.Serving.{Outside, max_stream_bytes, ending, IsOver, IsEnd, HasAnswered, HasServed, IsServing, ServesOn}
+use Rattle.daemon_worker.specs.Serving.{Outside, ending, IsOver, IsEnd, HasAnswered, HasServed, IsServing, ServesOn}
 use Rattle.daemon_worker.specs.declared.serving.Served.{Served}
 use Rattle.daemon_worker.specs.declared.serving.Served.TheVariants.{Done, BadFrame, SourceFault, SinkFault, NoMemory}
 use Rattle.daemon_worker.proofs.Supplies.{takes_nothing}
 
-pub serving_nothing : (o : Outside) → IsServing o o max_stream_bytes
+pub serving_nothing : (o : Outside) → IsServing o o MAX_STREAM_BYTES
 serving_nothing o = record {
   came = [];
   answers = [];
@@ -83,7 +85,7 @@ answered_more {old} {mid} {new} room n held a s takes faults whole is worked = r
   taken = Consumes-trans old.source.left mid.source.left new.source.left s.came held s.answered.taken takes.taken;
   few = omega (arith, s.room, takes.few, length-append s.came held);
   requests = subst (λ fs. Cuts (s.came ++ held) fs []) (sym (map-append asked s.answers (a ∷ []))) (cuts_piece s.came (map asked s.answers) [] held (asked a ∷ []) [] s.answered.requests (one_request held a n whole is));
-  honest = all_append (IsHonest old.files) s.answers (a ∷ []) s.answered.honest (subst (λ (o : Option Folder). IsHonest o a) s.files worked.honest, tt);
+  honest = all_append (IsHonestAnswer old.files) s.answers (a ∷ []) s.answered.honest (subst (λ (o : Option Folder). IsHonestAnswer o a) s.files worked.honest, tt);
   faults = λ lt.
       let before = s.answered.faults (omega arith) in
       let more = counted a.outcome mid.faults new.faults worked.fault faults lt in
@@ -148,12 +150,12 @@ at_ending P done bad (Whole (Request r) n) came rest = bad _
 at_ending P done bad (Whole (Reply r) n) came rest = bad _
 at_ending P done bad (Refused flaw) came rest = bad _
 at_ending P done bad Unfinished came rest =
-    elim (came == max_stream_bytes) as (λ all. P (cond all (BadFrame max_stream_bytes) (cond (rest == 0) Done (BadFrame (came - rest))))) [
+    elim (came == MAX_STREAM_BYTES) as (λ all. P (cond all (BadFrame MAX_STREAM_BYTES) (cond (rest == 0) Done (BadFrame (came - rest))))) [
       | true ↦ bad _
       | false ↦ elim (rest == 0) as (λ none. P (cond none Done (BadFrame (came - rest)))) [ true ↦ done | false ↦ bad _ ]
     ]
 
-is_over : (start : StreamStart) (room came held : ℕ) (left : Option (List ℕ)) → came + room ≡ max_stream_bytes → ((r : _) (n : ℕ) → start ≡ Whole (Request r) n → ⊥) → IsTaken start held room left → IsOver start (came + held) held left
+is_over : (start : StreamStart) (room came held : ℕ) (left : Option (List ℕ)) → came + room ≡ MAX_STREAM_BYTES → ((r : _) (n : ℕ) → start ≡ Whole (Request r) n → ⊥) → IsTaken start held room left → IsOver start (came + held) held left
 is_over (Whole (Request r) n) room came held left all others taken = absurd (others r n refl)
 is_over (Whole (Reply r) n) room came held left all others taken = taken
 is_over (Whole Stop n) room came held left all others taken = taken
@@ -164,7 +166,7 @@ is_over Unfinished room came held left all others (inr end) = inr end
 -- no request came any more
 pub served_end : {old mid new : Outside} (room len : ℕ) (held : List ℕ) (start : StreamStart) (served : Served) → len ≡ length held → (s : IsServing old mid room) → Takes mid.source new.source room held → mid.faults ≤ new.faults → new.sink ≡ mid.sink
     → start ≡ look held → ((r : _) (n : ℕ) → start ≡ Whole (Request r) n → ⊥) → IsTaken start (length held) room new.source.left
-    → served ≡ ending start (max_stream_bytes - room + len) len
+    → served ≡ ending start (MAX_STREAM_BYTES - room + len) len
     → HasServed old new served
 served_end {old} {mid} {new} room len held start served counted_as s takes faults sink looked others taken is =
     let came = s.came ++ held in
@@ -173,7 +175,7 @@ served_end {old} {mid} {new} room len held start served counted_as s takes fault
     let over : IsOver (look held) (length came) (length held) new.source.left =
     subst (λ (x : StreamStart). IsOver x (length came) (length held) new.source.left) looked
     (subst (λ n. IsOver start n (length held) new.source.left) (sym count) (is_over start room (length s.came) (length held) new.source.left s.room others taken)) in
-    let place : max_stream_bytes - room + len ≡ length came = omega (arith, count, counted_as, s.room, takes.few) in
+    let place : MAX_STREAM_BYTES - room + len ≡ length came = omega (arith, count, counted_as, s.room, takes.few) in
     let same : served ≡ ending (look held) (length came) (length held) = is ∙ (λ i. ending (looked i) (place i) (counted_as i)) in
     let ends : (x : Served) → x ≡ ending (look held) (length came) (length held) → IsEnd old new came held (replies s.answers) x =
     λ x e. subst (λ y. y ≡ ending (look held) (length came) (length held) → IsEnd old new came held (replies s.answers) y) (sym e)

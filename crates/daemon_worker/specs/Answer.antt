@@ -1,9 +1,9 @@
 -- A request that was answered.
-use Rattle.std.specs.Prelude.{ℕ, ◌≡◌, ◌≢◌, ◌⊎◌, List, Option, None, Some, Bool, true, false, flat_map}
-use Rattle.item_actions.specs.Files.{Folder, file_of}
-use Rattle.item_actions.specs.Value.{act_on, value_of}
+use Rattle.std.specs.Prelude.{ℕ, ◌≡◌, ◌≢◌, List, Option, IfSome, flat_map}
+use Rattle.item_actions.specs.Files.{Folder}
+use Rattle.item_actions.specs.Value.{IsHonest, value_on}
 use Rattle.item_actions.specs.declared.outcomes.Outcome.{Outcome}
-use Rattle.item_actions.specs.declared.outcomes.Outcome.TheVariants.{Fault, NoMemory, Skipped}
+use Rattle.item_actions.specs.declared.outcomes.Outcome.TheVariants.{Fault, Skipped}
 use Rattle.daemon_protocol.specs.declared.frames.Request.{Request}
 use Rattle.daemon_protocol.specs.declared.frames.Frame.{Frame}
 use Rattle.daemon_protocol.specs.declared.frames.Frame.TheVariants as frames
@@ -25,20 +25,12 @@ reply a = frames.Reply record { unit = a.request.unit; outcome = a.outcome }
 abbrev pub replies : List Answer → List ℕ
 replies answers = flat_map (λ a. spelling (reply a)) answers
 
--- what the action of a request gives on the bytes of its file
-abbrev pub value_on : Folder → Request → Outcome
-value_on files r = value_of (act_on r.action) (file_of files r.file)
-
--- where the files are known, a request is answered with its value, or with a fault or want of memory
-abbrev pub IsHonest : Option Folder → Answer → Type 0
-IsHonest None a = a.outcome ≢ Skipped
-IsHonest (Some files) a = (a.outcome ≡ value_on files a.request) ⊎ ((a.outcome ≡ Fault) ⊎ (a.outcome ≡ NoMemory))
-
-abbrev pub is_fault : Outcome → Bool
-is_fault Fault = true
-is_fault _ = false
+-- Each request is worked out. Where the files are known, its outcome is its value, or a fault or want of memory.
+pub record IsHonestAnswer (known : Option Folder) (a : Answer) : Type 0 where
+  pub ran : a.outcome ≢ Skipped
+  pub honest : IfSome known (λ files. IsHonest a.outcome (value_on files a.request.action a.request.file))
 
 -- A request was worked out while the count of the files' faults went from before to after.
 pub record IsWorkedOut (known : Option Folder) (before after : ℕ) (a : Answer) : Type 0 where
-  pub honest : IsHonest known a
+  pub honest : IsHonestAnswer known a
   pub fault : a.outcome ≡ Fault → Rises before after

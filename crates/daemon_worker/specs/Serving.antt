@@ -3,6 +3,7 @@ use Rattle.std.specs.Prelude.{ℕ, ◌≡◌, ◌≢◌, ◌+◌, ◌-◌, ◌^�
 use Rattle.std.specs.List.{AllByRecursion}
 use Rattle.std.specs.Io.KnownBytes.{Consumes, IsAtEnd}
 use Rattle.item_actions.specs.Files.{Folder}
+use Rattle.item_actions.specs.Value.{is_fault}
 use Rattle.daemon_protocol.specs.StreamStart.{look, Cuts}
 use Rattle.daemon_protocol.specs.declared.frames.Frame.TheVariants.{Request, Stop}
 use Rattle.daemon_protocol.specs.declared.frames.Request.{Request as Asked}
@@ -10,8 +11,9 @@ use Rattle.daemon_protocol.specs.declared.starts.StreamStart.{StreamStart}
 use Rattle.daemon_protocol.specs.declared.starts.StreamStart.TheVariants.{Unfinished, Whole, Refused}
 use Rattle.worker_desk.specs.SinkView.{SinkView, Rises, Wrote, Broke}
 use Rattle.worker_desk.specs.SourceView.{SourceView}
-use Rattle.daemon_worker.specs.Answer.{Answer, asked, replies, IsHonest, is_fault}
+use Rattle.daemon_worker.specs.Answer.{Answer, asked, replies, IsHonestAnswer}
 use Rattle.daemon_worker.specs.declared.serving.Served.{Served}
+use Rattle.daemon_worker.specs.declared.serving.TheConstants.{MAX_STREAM_BYTES}
 use Rattle.daemon_worker.specs.declared.serving.Served.TheVariants.{Done, BadFrame, SourceFault, SinkFault, NoMemory}
 
 -- what is known of the source, of the sink, and of the files with the count of their faults
@@ -21,14 +23,10 @@ pub record Outside : Type 0 where
   pub files : Option Folder
   pub faults : ℕ
 
--- the most bytes that are taken of a stream
-abbrev pub max_stream_bytes : ℕ
-max_stream_bytes = 2 ^ 40
-
 -- how serving ends where no request comes: by what stands there, how many bytes came, and how many of them stand there
 abbrev pub ending : StreamStart → ℕ → ℕ → Served
 ending (Whole Stop n) came rest = Done
-ending Unfinished came rest = if came == max_stream_bytes then BadFrame max_stream_bytes else (if rest == 0 then Done else BadFrame (came - rest))
+ending Unfinished came rest = if came == MAX_STREAM_BYTES then BadFrame MAX_STREAM_BYTES else (if rest == 0 then Done else BadFrame (came - rest))
 ending _ came rest = BadFrame (came - rest)
 
 -- a request stands there, or none, so that serving ends
@@ -42,7 +40,7 @@ abbrev pub IsOver : StreamStart → ℕ → ℕ → Option (List ℕ) → Type 0
 IsOver (Whole (Request r) n) came rest left = ⊥
 IsOver (Whole f n) came rest left = n ≡ rest
 IsOver (Refused flaw) came rest left = Unit {0}
-IsOver Unfinished came rest left = (came ≡ max_stream_bytes) ⊎ IsAtEnd left
+IsOver Unfinished came rest left = (came ≡ MAX_STREAM_BYTES) ⊎ IsAtEnd left
 
 -- Why serving ended: by the bytes that came, what follows the requests in them, and the text of the replies.
 abbrev pub IsEnd : Outside → Outside → List ℕ → List ℕ → List ℕ → Served → Type 0
@@ -57,9 +55,9 @@ IsEnd old new came rest text served = (served ≡ ending (look rest) (length cam
 -- From the source these bytes came, which are requests and a rest. Each request has its answer here.
 pub record HasAnswered (old new : Outside) (came rest : List ℕ) (answers : List Answer) : Type 0 where
   pub taken : Consumes old.source.left new.source.left came
-  pub few : length came ≤ max_stream_bytes
+  pub few : length came ≤ MAX_STREAM_BYTES
   pub requests : Cuts came (map asked answers) rest
-  pub honest : AllByRecursion (IsHonest old.files) answers
+  pub honest : AllByRecursion (IsHonestAnswer old.files) answers
   -- the count of the files' faults rose by the requests answered with a fault at least, unless it stands at its last value
   pub faults : new.faults < 2 ^ 64 - 1 → count_by (λ a. is_fault a.outcome) answers + old.faults ≤ new.faults
 
@@ -77,7 +75,7 @@ pub record IsServing (old new : Outside) (left : ℕ) : Type 0 where
   pub answers : List Answer
   pub answered : HasAnswered old new came [] answers
   pub wrote : Wrote old.sink new.sink (replies answers)
-  pub room : length came + left ≡ max_stream_bytes
+  pub room : length came + left ≡ MAX_STREAM_BYTES
   pub files : new.files ≡ old.files
   pub faults : old.faults ≤ new.faults
   pub source_faults : old.source.faults ≤ new.source.faults

@@ -5,7 +5,7 @@ mod answering;
 mod serving;
 mod taking;
 
-pub use serving::{Served, serve};
+pub use serving::{MAX_STREAM_BYTES, Served, serve};
 
 #[cfg(test)]
 mod tests;

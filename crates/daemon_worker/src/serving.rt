@@ -1,5 +1,5 @@
 ghost use Rattle.std.specs.Prelude.{◌≡◌, ◌<◌, ◌≤◌, ◌+◌, ◌-◌, IfOk};
-ghost use Rattle.daemon_worker.specs.Serving.{Outside, max_stream_bytes, IsRequestOf, IsServing, ServesOn, HasServed};
+ghost use Rattle.daemon_worker.specs.Serving.{Outside, IsRequestOf, IsServing, ServesOn, HasServed};
 
 use crate::answering::answer;
 use crate::taking::take_frame;
@@ -8,14 +8,14 @@ use std::alloc::{AllocError, Global};
 use worker_desk::{Files, Sink, Source};
 
 /// The most bytes that are taken of a stream, 2^40.
-const MAX_STREAM_BYTES: u64 = 1_099_511_627_776;
+pub const MAX_STREAM_BYTES: u64 = 1_099_511_627_776;
 
 /// How serving ended.
 #[derive(Clone, Copy, Debug, PartialEq, Eq)]
 pub enum Served {
     /// A Stop came, or the stream ended between two frames.
     Done,
-    /// At this place of the stream stands no request and no Stop, or the stream gave 2^40 bytes.
+    /// At this place of the stream stands no request and no Stop, or the stream gave `MAX_STREAM_BYTES`.
     BadFrame(u64),
     /// The source failed.
     SourceFault,
@@ -70,7 +70,7 @@ fn serve_next<S: Source, K: Sink, F: Files>(
     held: &mut Vec<u8>,
     room: u64,
 ) -> Result<u64, Served>
-    requires { room ≤ max_stream_bytes }
+    requires { room ≤ MAX_STREAM_BYTES }
     ensures files { F.files files.new ≡ F.files files.old }
     ensures file_faults { F.faults files.old ≤ F.faults files.new }
     ensures source_faults { (S.seen source.old).faults ≤ (S.seen source.new).faults }
@@ -89,9 +89,9 @@ fn serve_next<S: Source, K: Sink, F: Files>(
 
 // The request that stands at the start of the bytes held, or how serving ends where there is none.
 fn request_of(start: StreamStart, held: u64, room: u64) -> Result<Request, Served>
-    requires room { room ≤ max_stream_bytes }
+    requires room { room ≤ MAX_STREAM_BYTES }
     requires held { held ≤ room }
-    ensures { IsRequestOf start (max_stream_bytes - room + held) held result }
+    ensures { IsRequestOf start (MAX_STREAM_BYTES - room + held) held result }
 {
     match start {
         StreamStart::Whole(Frame::Request(request), _) => Ok(request),

@@ -1,5 +1,6 @@
 ghost use Rattle.std.specs.Prelude.{◌≡◌, ◌<◌, ◌≤◌, ◌+◌, vec_len, take, drop, IfOk, IfErr, OnErr};
 ghost use Rattle.std.specs.Io.KnownBytes.{Consumes, IsAtEnd, Keeps};
+ghost use Rattle.daemon_protocol.specs.declared.limits.TheConstants.{MAX_FRAME_BYTES};
 ghost use Rattle.worker_desk.specs.SinkView.{Rises};
 ghost use Rattle.daemon_worker.specs.Taking.{TakesFrame, TakesMore};
 ghost use Rattle.daemon_worker.specs.declared.serving.Served.TheVariants.{SourceFault};
@@ -38,7 +39,7 @@ pub(crate) fn take_frame<S: Source>(
 // Takes at most so many bytes more, once, and answers how many.
 fn take_more<S: Source>(source: &mut S, held: &mut Vec<u8>, most: usize) -> Result<usize, Served>
     requires some { 0 < most }
-    requires few { vec_len held.old + most ≤ 65541 }
+    requires few { vec_len held.old + most ≤ MAX_FRAME_BYTES }
     ensures { TakesMore (S.seen source.old) (S.seen source.new) held.old.items held.new.items most result }
 {
     let len = held.len();

@@ -1,8 +1,8 @@
 use crate::{
     DeskFail, Failed, FileEntry, FileMap, Files, FolderDesk, MemoryDesk, MemorySink, MemorySource,
-    Page, Read, Source, StdSink, StdSource, put_all,
+    Page, Read, Source, StdSink, StdSource, put_all, work_out,
 };
-use item_actions::Text;
+use item_actions::{ItemAction, Outcome, Text};
 use std::alloc::{AllocError, Global};
 use std::fs::File;
 use std::io::{ErrorKind, Write};
@@ -221,4 +221,27 @@ fn interrupted_writes_are_made_again_a_thousand_times(rt: HostRuntime) {
     let mut too_many = StdSink::new(Interrupted { left: 1001 });
     assert!(rt; put_all(&mut too_many, b"abc").is_err());
     assert_eq!(rt; too_many.count(), 1);
+}
+
+#[test]
+fn item_is_worked_out_on_its_file(rt: HostRuntime) -> Result<(), Fail> {
+    let alloc = rt.alloc();
+    let mut entries = Vec::new(alloc);
+    entries.push(FileEntry {
+        name: text(alloc, "a")?,
+        bytes: Vec::from_slice(alloc, b"one\ntwo\n")?,
+    })?;
+    let mut desk = MemoryDesk::new(alloc, FileMap::new(entries), vec![in alloc; 2u64]?)?;
+    let rows = [
+        ("a", Outcome::Number(2)),
+        ("b", Outcome::NotThere),
+        ("a", Outcome::Fault),
+        ("a", Outcome::Number(2)),
+    ];
+    for (name, expected) in &rows {
+        let outcome = work_out(alloc, &ItemAction::Lines, &text(alloc, name)?, &mut desk);
+        assert_eq!(rt; outcome, *expected);
+    }
+    assert_eq!(rt; desk.count(), 1);
+    Ok(())
 }

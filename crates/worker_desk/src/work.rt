@@ -11,12 +11,7 @@ use std::alloc::Global;
 ///
 /// Where the files are known it is the action's value on that file, NotThere or TooLong; else Fault, where the files
 /// failed and their count of faults rose, or NoMemory.
-pub fn work_out<F: Files>(
-    alloc: Global,
-    action: &ItemAction,
-    name: &Text,
-    files: &mut F,
-) -> Outcome
+pub fn work_out<F: Files>(alloc: Global, action: &ItemAction, name: &Text, files: &mut F) -> Outcome
     ensures files { F.files files.new ≡ F.files files.old }
     ensures kept { F.faults files.old ≤ F.faults files.new }
     ensures ran { result ≢ outcomes.Skipped }
