@@ -4,6 +4,7 @@ use Rattle.std.specs.Prelude.{sum_by, unwrap_or}
 use Rattle.std.specs.List.{AllByRecursion}
 use Rattle.std.proofs.lemmas.List.Sums.{sum_by-cons}
 use Rattle.item_actions.specs.Files.{Folder}
+use Rattle.item_actions.specs.Value.{IsHonest, is_fault, value_on}
 use Rattle.item_actions.specs.declared.outcomes.Outcome.{Outcome}
 use Rattle.lock_journal.specs.BookView.{BookView}
 use Rattle.worker_desk.specs.SinkView.{SinkView, Rises}
@@ -13,7 +14,7 @@ use Rattle.build_runner.specs.Phases.{first_worker}
 use Rattle.command_words.specs.declared.commands.Command.{Command}
 use Rattle.command_words.specs.declared.commands.Command.TheVariants.{Run, Worker}
 use Rattle.command_words.specs.declared.commands.RunWords.{RunWords}
-use Rattle.daemon_worker.specs.Answer.{Answer, replies, IsHonest, is_fault}
+use Rattle.daemon_worker.specs.Answer.{Answer, replies, IsHonestAnswer}
 use Rattle.daemon_worker.specs.Serving.{Outside, IsEnd}
 use Rattle.daemon_worker.specs.declared.serving.Served.{Served}
 use Rattle.daemon_worker.specs.declared.serving.Served.TheVariants as ends
@@ -82,16 +83,16 @@ module _ (once : FirstCycleOnce) (asked : RunWords) (files : Folder) (plan : Pla
 abbrev fault_count : Outcome → ℕ
 fault_count o = cond (is_fault o) 1 0
 
-valued : (files : Folder) (a : Answer) → IsHonest (Some files) a → fault_count a.outcome ≡ 0 → HasValue files a
+valued : (files : Folder) (a : Answer) → IsHonest a.outcome (value_on files a.request.action a.request.file) → fault_count a.outcome ≡ 0 → HasValue files a
 valued files a (inl value) none = inl value
 valued files a (inr (inl fault)) none = absurd (let one = subst (λ (o : Outcome). fault_count o ≡ 0) fault none in cc one)
 valued files a (inr (inr memory)) none = inr memory
 
-all_valued : (files : Folder) (answers : List Answer) → AllByRecursion (IsHonest (Some files)) answers → sum_by (λ (x : Answer). fault_count x.outcome) answers ≡ 0 → AllByRecursion (HasValue files) answers
+all_valued : (files : Folder) (answers : List Answer) → AllByRecursion (IsHonestAnswer (Some files)) answers → sum_by (λ (x : Answer). fault_count x.outcome) answers ≡ 0 → AllByRecursion (HasValue files) answers
 all_valued files [] honest none = tt
 all_valued files (a ∷ answers) honest none =
     let both : fault_count a.outcome + sum_by (λ (x : Answer). fault_count x.outcome) answers ≡ 0 = sym (sum_by-cons (λ (x : Answer). fault_count x.outcome) a answers) ∙ none in
-    (valued files a honest.0 (omega arith), all_valued files answers honest.1 (omega arith))
+    (valued files a honest.0.honest (omega arith), all_valued files answers honest.1 (omega arith))
 
 by_frames : (old new : Outside) (came rest text : List ℕ) (end : Served) → MetNoFault old.source.faults new.source.faults → MetNoFault old.sink.faults new.sink.faults → IsEnd old new came rest text end → IsByFrames end
 by_frames old new came rest text ends.Done source sink e = tt
@@ -109,7 +110,7 @@ worker_succeeds files old new status known calm quiet source w =
       w.0,
       record {
         served = served;
-        values = all_valued files served.answers (subst (λ (o : Option Folder). AllByRecursion (IsHonest o) served.answers) known served.answered.honest) (omega arith);
+        values = all_valued files served.answers (subst (λ (o : Option Folder). AllByRecursion (IsHonestAnswer o) served.answers) known served.answered.honest) (omega arith);
         by_frames = by_frames old new served.came served.rest (replies served.answers) w.0 source quiet served.end;
       },
       w.2,

@@ -2,6 +2,7 @@
 use Rattle.std.specs.Prelude.{ℕ, ◌≡◌, ◌-◌, ◌^◌, ◌<◌, ◌⊎◌, List, Option, None, Some, Bool, true, false}
 use Rattle.std.specs.List.{AllByRecursion}
 use Rattle.item_actions.specs.Files.{Folder, file_of}
+use Rattle.item_actions.specs.Value.{value_on}
 use Rattle.item_actions.specs.declared.outcomes.Outcome.TheVariants as outcome
 use Rattle.lock_journal.specs.BookView.{BookView}
 use Rattle.plan_reader.specs.PlanView.{PlanView}
@@ -10,7 +11,7 @@ use Rattle.build_runner.specs.Phases.{first_worker}
 use Rattle.command_words.specs.declared.commands.Command.{Command}
 use Rattle.command_words.specs.declared.commands.Command.TheVariants.{Run, Worker}
 use Rattle.command_words.specs.declared.commands.RunWords.{RunWords}
-use Rattle.daemon_worker.specs.Answer.{Answer, value_on}
+use Rattle.daemon_worker.specs.Answer.{Answer}
 use Rattle.daemon_worker.specs.Serving.{Outside, HasServed}
 use Rattle.daemon_worker.specs.declared.serving.Served.{Served}
 use Rattle.daemon_worker.specs.declared.serving.Served.TheVariants as ends
@@ -46,7 +47,7 @@ HasSucceeded plan files status None = status ≡ NoMemory
 
 -- a request was answered with its value, or for want of memory
 abbrev pub HasValue : Folder → Answer → Type 0
-HasValue files a = (a.outcome ≡ value_on files a.request) ⊎ (a.outcome ≡ outcome.NoMemory)
+HasValue files a = (a.outcome ≡ value_on files a.request.action a.request.file) ⊎ (a.outcome ≡ outcome.NoMemory)
 
 -- serving ended as the frames say, or for want of memory
 abbrev pub IsByFrames : Served → Type 0
