@@ -24,7 +24,8 @@ use Rattle.plan_reader.specs.declared.rows.Row.TheVariants.{NoSuchProject, Relea
 use Rattle.plan_reader.specs.PlanView.{PlanActionView}
 use Rattle.plan_reader.specs.Units.{fetch_units, item_unit, action_units, task_units, plan_units}
 use Rattle.plan_reader.specs.IsPlan.{HasFewLists, HasFileNames, ReleasesLast, IsPlan}
-use Rattle.plan_reader.specs.Names.{names_in, number_of, once, after_numbers, afters_of}
+use Rattle.plan_reader.specs.NameNumbers.{number_of}
+use Rattle.plan_reader.specs.Names.{names_in, once, after_numbers, afters_of}
 use Rattle.plan_reader.specs.Rows.{releases, unit_count, task_unit_count, plan_unit_count, has_few_lists, excess_of_task, is_heap}
 use Rattle.plan_reader.specs.Planned.{pair_of, requirements_from, all_requirements, work_of, retention_named, action_of, task_of, plan_of}
 use Rattle.plan_reader.specs.Search.{row_refusal, twice_refusal, refusal_before, refusal_behind}

@@ -16,7 +16,7 @@ use Rattle.plan_table.specs.Search.{places, parts}
 use Rattle.plan_table.proofs.FirstAnswers.{option_map_none, option_map_some, first_of_some}
 use Rattle.plan_table.proofs.FirstPlaces.{spot, Finds, FirstAt, found_nowhere, found_first}
 use Rattle.plan_reader.specs.First.{IsTwice, HasTwice}
-use Rattle.plan_reader.specs.Names.{is_repeat, first_repeat}
+use Rattle.plan_reader.specs.NameNumbers.{is_repeat, first_repeat}
 use Rattle.plan_reader.specs.Search.{first_twice, twice_in, twice_refusal}
 use Rattle.plan_reader.proofs.Least.{least_within, least_fails, least_first}
 

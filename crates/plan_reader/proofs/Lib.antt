@@ -16,3 +16,4 @@ pub mod FirstRefusal
 pub mod FirstOfText
 pub mod Answering
 pub mod OneAnswer
+pub mod Positions

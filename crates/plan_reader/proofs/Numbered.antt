@@ -1,39 +1,71 @@
 -- Names that are numbered in their order, over plain lists.
-use Rattle.std.proofs.Common.{◌≡◌, ◌==◌, ℕ, ◌+◌, ◌<◌, Bool, false, cond, List, [], ◌∷◌, ◌++◌, map, length, take, get_or, Bor, refl, ap, sym, ◌∙◌}
-use Rattle.std.proofs.lemmas.List.{length-map, get_or-map, map-append, take_more}
-use Rattle.std.specs.List.{list_any}
-use Rattle.std.specs.Str.{bytes_eq}
-use Rattle.std.proofs.lemmas.List.{map_more}
+use Rattle.std.proofs.Common.{◌≡◌, ◌==◌, ℕ, ◌+◌, ◌<◌, Bool, true, false, cond, is_some, Option, Some, None, List, [], ◌∷◌, ◌++◌, map, length, take, get_or, Bor, Vec, Global, refl, ap, sym, subst, ◌∙◌, inl, inr, position, bytes_eq, arith}
+use Rattle.std.proofs.lemmas.Bool.{cases_Bool, true≢false}
+use Rattle.std.proofs.lemmas.List.{length-map, get_or-map, map_more, take_more, length-take}
 use Rattle.std.proofs.lemmas.List.Sums.{fold_push}
+use Rattle.std.proofs.lemmas.Map.Text.{btree_map_updates_str}
+use Rattle.std.proofs.lemmas.Slice.Eq.{bytes_eq-Decides}
+use Rattle.std.specs.BTreeMap.{BTreeMap, UpdatesBy, get_by, is_at}
+use Rattle.std.specs.Map.{lookup}
+use Rattle.std.specs.Cmp.Lexicographic.{slice_cmp}
+use Rattle.std.specs.Option.{option_or}
+use Rattle.std.specs.Ordering.{nat_cmp}
 use Rattle.indexmap.specs.IndexSet.{insert_key}
-use Rattle.std.proofs.Common.{Vec, Global, arith}
 use Rattle.task_ranks.specs.Rank.{lists_of}
-use Rattle.plan_reader.specs.Names.{texts, is_repeat, once}
-use Rattle.plan_table.proofs.Lists.{any_of_map}
+use Rattle.plan_table.specs.Forms.{Text}
+use Rattle.plan_reader.specs.NameNumbers.{is_repeat, AreNumbered}
+use Rattle.plan_reader.specs.Names.{once}
+use Rattle.plan_reader.proofs.Positions.{position_any, position_push}
 
-abbrev pub Shown : Type 0
-Shown = Bor (List ℕ)
+abbrev pub Numbers : Type 0
+Numbers = BTreeMap (Bor (List ℕ)) ℕ
 
-abbrev pub is_known : Shown → List Shown → Bool
-is_known s = list_any (λ x. bytes_eq s.now x.now)
+-- what a text looks up
+abbrev pub number_in : Numbers → Text → Option ℕ
+number_in m t = get_by (λ k. slice_cmp nat_cmp t k.now) m
 
--- the set has the name exactly where an earlier place has it
-pub is_known-is_repeat : (names keys : List Shown) (i : ℕ) (d : Shown) → i < length names → texts keys ≡ take i (texts names)
-    → is_known (get_or names i d) keys ≡ is_repeat (texts names) i
-is_known-is_repeat names keys i d within same =
-    let shown : get_or (texts names) i [] ≡ (get_or names i d).now = get_or-map (λ s. s.now) names i d [] within in
-    rw (shown, ← same) (sym (any_of_map (bytes_eq (get_or names i d).now) (λ s. s.now) keys))
+-- the names before a place have the name there exactly where it is known
+pub known-is_repeat : (names : List Text) (i : ℕ) (m : Numbers) → AreNumbered (take i names) m → is_some (number_in m (get_or names i [])) ≡ is_repeat names i
+known-is_repeat names i m are = ap is_some (are (get_or names i [])) ∙ position_any (bytes_eq (get_or names i [])) (take i names)
+
+-- no name
+pub empty_numbered : (names : List Text) (m : Numbers) → m.entries ≡ [] → AreNumbered (take 0 names) m
+empty_numbered names m empty t = ap (λ es. lookup (is_at (λ k. slice_cmp nat_cmp t k.now)) es) empty
 
 -- one more name
-pub texts-inserted : (names keys new : List Shown) (i : ℕ) (d : Shown) → i < length names → texts keys ≡ take i (texts names)
-    → new ≡ cond (is_known (get_or names i d) keys) keys (keys ++ get_or names i d ∷ []) → is_known (get_or names i d) keys ≡ false
-    → texts new ≡ take (i + 1) (texts names)
-texts-inserted names keys new i d within same made fresh =
-    let long : i < length (texts names) = rw (length-map names (λ s. s.now)) within in
-    let shown : get_or (texts names) i [] ≡ (get_or names i d).now = get_or-map (λ s. s.now) names i d [] within in
-    let front : take (i + 1) (texts names) ≡ take i (texts names) ++ get_or (texts names) i [] ∷ [] = take_more (texts names) i [] long in
-    let e : new ≡ keys ++ get_or names i d ∷ [] = made ∙ rw fresh refl in
-    rw (e, front, shown, ← same) (map-append (λ s. s.now) keys (get_or names i d ∷ []))
+pub numbered_next : (names : List Text) (i : ℕ) (m n : Numbers) (name : Text) → i < length names → name ≡ get_or names i [] → AreNumbered (take i names) m → number_in m name ≡ None
+    → UpdatesBy (λ x y. slice_cmp nat_cmp x.now y.now) (λ k. slice_cmp nat_cmp name k.now) m n (Some i) → AreNumbered (take (i + 1) names) n
+numbered_next names i m n name within is are fresh updates t =
+    let old : number_in m t ≡ position (bytes_eq t) (take i names) = are t in
+    let none : position (bytes_eq name) (take i names) ≡ None = sym (are name) ∙ fresh in
+    let long : length (take i names) ≡ i = length-take i names ∙ omega (arith, within) in
+    let front : take (i + 1) names ≡ take i names ++ name ∷ [] = take_more names i [] within ∙ ap (λ x. take i names ++ x ∷ []) (sym is) in
+    let pushed : position (bytes_eq t) (take (i + 1) names) ≡ option_or (position (bytes_eq t) (take i names)) (cond (bytes_eq t name) (Some (length (take i names))) None) = ap (position (bytes_eq t)) front ∙ position_push (bytes_eq t) (take i names) name in
+    let now : number_in n t ≡ cond (bytes_eq name t) (Some i) (number_in m t) = btree_map_updates_str name m n (Some i) updates t in
+    elim (cases_Bool (bytes_eq name t)) [
+      | inl same ↦
+          let e : name ≡ t = (bytes_eq-Decides name t).0 same in
+          let back : bytes_eq t name ≡ true = (bytes_eq-Decides t name).1 (sym e) in
+          let absent : position (bytes_eq t) (take i names) ≡ None = subst (λ (x : Text). position (bytes_eq x) (take i names) ≡ None) e none in
+          let here : number_in n t ≡ Some i = rw same at now in
+          let there : position (bytes_eq t) (take (i + 1) names) ≡ Some i = rw (absent, back, long) at pushed in
+          here ∙ sym there
+      | inr other ↦
+          let back : bytes_eq t name ≡ false = other_way name t other in
+          let here : number_in n t ≡ number_in m t = rw other at now in
+          let there : position (bytes_eq t) (take (i + 1) names) ≡ option_or (position (bytes_eq t) (take i names)) None = rw back at pushed in
+          here ∙ old ∙ sym (there ∙ or_none (position (bytes_eq t) (take i names)))
+    ]
+  where
+    or_none : (o : Option ℕ) → option_or o None ≡ o
+    or_none (Some k) = refl
+    or_none None = refl
+
+    other_way : (a b : Text) → bytes_eq a b ≡ false → bytes_eq b a ≡ false
+    other_way a b no_ = elim (cases_Bool (bytes_eq b a)) [
+      | inl is_ ↦ absurd (true≢false (sym ((bytes_eq-Decides a b).1 (sym ((bytes_eq-Decides b a).0 is_))) ∙ no_))
+      | inr is_ ↦ is_
+    ]
 
 -- ---- numbers
 

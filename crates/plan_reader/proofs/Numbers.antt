@@ -6,7 +6,8 @@ use Rattle.std.proofs.lemmas.Bool.{true≢false, ltb-true}
 use Rattle.std.proofs.lemmas.List.Elements.{All-nil, All-cons, All-append, All-map}
 use Rattle.indexmap.specs.IndexSet.{insert_key, insert_all}
 use Rattle.plan_table.specs.Forms.{Text}
-use Rattle.plan_reader.specs.Names.{has_name, number_of, once}
+use Rattle.plan_reader.specs.NameNumbers.{has_name, number_of}
+use Rattle.plan_reader.specs.Names.{once}
 
 unnumbered : (n m : ℕ) (b : Bool) → 0 < m → (b ≡ true → n < m) → unwrap_or (cond b (Some n) None) 0 < m
 unnumbered n m true some lt = lt refl

@@ -9,7 +9,7 @@ use Rattle.plan_table.specs.Document.{have_numbers, is_numbered}
 use Rattle.plan_table.specs.Forms.{Text}
 use Rattle.plan_table.specs.Keys.{projects_of, tasks_of, requirements_of, name_of}
 use Rattle.plan_table.specs.Search.{places}
-use Rattle.plan_reader.specs.Names.{first_repeat}
+use Rattle.plan_reader.specs.NameNumbers.{first_repeat}
 use Rattle.plan_reader.proofs.Least.{least_within}
 
 pub few_places : (d : Data) (p : Part) → is_numbered d ≡ true → length (places d p) ≤ 4294967295

@@ -18,7 +18,8 @@ use Rattle.plan_table.specs.Search.{places, parts}
 use Rattle.plan_table.proofs.FirstAnswers.{first_of_none}
 use Rattle.plan_table.proofs.FirstPlaces.{part_at}
 use Rattle.plan_reader.specs.declared.rows.Row.{Row}
-use Rattle.plan_reader.specs.Names.{names_in, is_repeat, first_repeat}
+use Rattle.plan_reader.specs.NameNumbers.{is_repeat, first_repeat}
+use Rattle.plan_reader.specs.Names.{names_in}
 use Rattle.plan_reader.specs.Rows.{holds}
 use Rattle.plan_reader.specs.Search.{first_twice, twice_in, twice_refusal, first_in, first_place, row_refusal}
 use Rattle.plan_reader.proofs.Least.{least_fails}

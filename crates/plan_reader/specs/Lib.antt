@@ -2,6 +2,7 @@ pub mod PlanView
 pub mod Units
 pub mod IsPlan
 pub mod Graph
+pub mod NameNumbers
 pub mod Names
 pub mod Rooms
 pub mod Rows

@@ -11,7 +11,8 @@ use Rattle.daemon_requirements.specs.RequirementsView.{RequirementsView}
 use Rattle.plan_table.specs.Forms.{Text, is_needle}
 use Rattle.plan_table.specs.Keys.{tasks_of, requirements_of, name_of, project_of, actions_of, wait_of, fetch_of, items_of, do_of, file_of, needle_of, isolation_of, requirements_name_of, executable_of, heap_of, args_of, properties_of, variables_of, debug_of, assertions_of, encoding_of}
 use Rattle.plan_reader.specs.PlanView.{WorkView, PlanActionView, PlanTaskView, PlanView}
-use Rattle.plan_reader.specs.Names.{NameLists, names_in, number_of, after_numbers}
+use Rattle.plan_reader.specs.NameNumbers.{number_of}
+use Rattle.plan_reader.specs.Names.{NameLists, names_in, after_numbers}
 
 -- ---- requirements
 

@@ -12,7 +12,8 @@ use Rattle.plan_table.specs.Forms.{Text}
 use Rattle.plan_table.specs.Keys.{projects_of, tasks_of, requirements_of, project_of, after_of, actions_of, wait_of, fetch_of, items_of, isolation_of, requirements_name_of, heap_of, args_of, properties_of, variables_of}
 use Rattle.plan_reader.specs.declared.rows.Row.{Row}
 use Rattle.plan_reader.specs.declared.rows.Row.TheVariants as row
-use Rattle.plan_reader.specs.Names.{NameLists, has_name}
+use Rattle.plan_reader.specs.NameNumbers.{has_name}
+use Rattle.plan_reader.specs.Names.{NameLists}
 
 -- ---- names that aren't there
 

@@ -12,7 +12,8 @@ use Rattle.plan_table.specs.Keys.{name_of}
 use Rattle.plan_table.specs.Search.{first_of, places, parts, table_refusal}
 use Rattle.plan_reader.specs.declared.rows.Row.{Row}
 use Rattle.plan_reader.specs.declared.rows.Row.TheVariants.{NoSuchProject, NoSuchTask, ReleaseNotLast, ClassLoader, TooMany, BadRequirements}
-use Rattle.plan_reader.specs.Names.{NameLists, names_in, first_repeat}
+use Rattle.plan_reader.specs.NameNumbers.{first_repeat}
+use Rattle.plan_reader.specs.Names.{NameLists, names_in}
 use Rattle.plan_reader.specs.Rows.{excess, holds}
 
 abbrev pub place_at : Part → ℕ → Place

@@ -1,24 +1,27 @@
 -- The units of a plan, in order, and what each gives.
-use Rattle.std.specs.Prelude.{ℕ, List, [], ◌∷◌, ◌++◌, map, length, Option, None, Some, slice_get}
+use Rattle.std.specs.Prelude.{ℕ, List, [], ◌∷◌, ◌++◌, map, length, Option, None, Some, option_and_then, slice_get}
 use Rattle.std.specs.List.{flat_map}
 use Rattle.item_actions.specs.Files.{Folder, file_of}
 use Rattle.item_actions.specs.Value.{act_on, value_of}
 use Rattle.item_actions.specs.declared.actions.ItemAction.{ItemAction}
 use Rattle.item_actions.specs.declared.outcomes.Outcome.{Outcome}
 use Rattle.item_actions.specs.declared.outcomes.Outcome.TheVariants.{Number, Skipped}
+use Rattle.daemon_requirements.specs.RequirementsView.{RequirementsView}
 use Rattle.plan_reader.specs.PlanView.{WorkView, PlanActionView, PlanTaskView, PlanView}
 
--- a unit: a file, and an action on it, or none where the file is fetched
+-- a unit: a file, and an action on it, or none where the file is fetched; one that runs in a process has the
+-- requirements that its daemon must cover
 pub record PlannedUnit : Type 0 where
   pub action : Option ItemAction
   pub file : List ℕ
+  pub process : Option RequirementsView
 
 abbrev pub fetch_units : Option (List ℕ) → List PlannedUnit
 fetch_units None = []
-fetch_units (Some file) = record { action = None; file = file } ∷ []
+fetch_units (Some file) = record { action = None; file = file; process = None } ∷ []
 
 abbrev pub item_unit : WorkView → PlannedUnit
-item_unit w = record { action = Some w.action; file = w.file }
+item_unit w = record { action = Some w.action; file = w.file; process = w.process }
 
 -- an action's: the fetch before the items
 abbrev pub action_units : PlanActionView → List PlannedUnit
@@ -29,6 +32,10 @@ task_units t = flat_map action_units t.actions
 
 abbrev pub plan_units : PlanView → List PlannedUnit
 plan_units p = flat_map task_units p.tasks
+
+-- the requirements that a unit asks for, by its number: those of an item that runs in a process
+abbrev pub asked : PlanView → ℕ → Option RequirementsView
+asked p u = option_and_then (λ unit. unit.process) (slice_get (plan_units p) u)
 
 -- a fetch gives the number of bytes
 abbrev pub act_of : Option ItemAction → List ℕ → Outcome

@@ -1,27 +1,26 @@
 //! What the parts of a plan refer to.
 ghost use Rattle.std.specs.Prelude.{◌≡◌, None, IfOk, option_map, option_and_then, slice_get, position};
 ghost use Rattle.std.specs.Str.{bytes_eq};
-ghost use Rattle.plan_reader.specs.Names.{texts};
 ghost use Rattle.plan_reader.specs.Planned.{default_requirements, requirements_named};
 
-use crate::names::{Names, position_of};
+use crate::names::Names;
 use daemon_requirements::Requirements;
 use std::alloc::{AllocError, Global};
 
 /// The names of a plan, and its requirements by number.
 #[derive(Drop)]
-pub(crate) struct Known<'a> {
-    pub names: &'a Names<'a>,
-    pub profiles: &'a [Requirements],
+pub(crate) struct Known<'k, 'a> {
+    pub names: &'k Names<'a>,
+    pub profiles: &'k [Requirements],
     /// What an item asks for that names no requirements.
-    pub default: &'a Requirements,
+    pub default: &'k Requirements,
 }
 
-impl Known<'_> {
+impl Known<'_, '_> {
     fn profile(&self, name: &str) -> Option<&Requirements>
-        ensures { option_map (λ p. p.now) result ≡ option_and_then (slice_get self.now.profiles.now) (position (bytes_eq name.now) (texts self.now.names.now.requirements.keys)) }
+        ensures { option_map (λ p. p.now) result ≡ option_and_then (slice_get self.now.profiles.now) (position (bytes_eq name.now) (self.now.names.now.requirements)) }
     {
-        match position_of(&self.names.requirements, name) {
+        match self.names.requirements.place_of(name) {
             Some(number) => self.profiles.get(number),
             None => None,
         }
@@ -34,7 +33,7 @@ impl Known<'_> {
         name: Option<&str>,
     ) -> Result<Requirements, AllocError>
         requires { self.now.default.now ≡ default_requirements }
-        ensures { IfOk result (λ p. p ≡ requirements_named (texts self.now.names.now.requirements.keys) self.now.profiles.now (option_map (λ s. s.now) name.entry)) }
+        ensures { IfOk result (λ p. p ≡ requirements_named (self.now.names.now.requirements) self.now.profiles.now (option_map (λ s. s.now) name.entry)) }
     {
         let named = match name {
             Some(name) => self.profile(name),

@@ -5,6 +5,7 @@ mod graphs;
 mod known;
 mod laws;
 mod limits;
+mod name_table;
 mod names;
 mod parts;
 mod places;

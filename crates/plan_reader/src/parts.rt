@@ -9,7 +9,7 @@ ghost use Rattle.plan_reader.specs.Names.{names_in, name_lists, after_numbers, a
 ghost use Rattle.plan_reader.specs.Planned.{count_of, action_named, default_requirements, process_of, work_of, retention_named, action_of, task_of, all_requirements};
 
 use crate::known::Known;
-use crate::names::{copy_numbers, number_of};
+use crate::names::copy_numbers;
 use crate::plans::{PlanAction, PlanTask};
 use daemon_requirements::{Isolation, Work};
 use item_actions::{ItemAction, Needle, Text};
@@ -156,7 +156,7 @@ fn task_of(
 {
     Ok(PlanTask {
         name: Text::from_str(alloc, name_of(task))?,
-        project: number_of(&known.names.projects, project_of(task))?,
+        project: known.names.projects.number_of(project_of(task))?,
         after: copy_numbers(alloc, after)?,
         actions: actions_of_task(alloc, known, task)?,
     })

@@ -6,13 +6,11 @@ ghost use Rattle.toml.specs.View.{view};
 ghost use Rattle.daemon_requirements.specs.RequirementsView.{requirements_view, HasDistinctNames};
 ghost use Rattle.plan_table.specs.Keys.{requirements_of, heap_of};
 ghost use Rattle.plan_table.specs.Values.{text_of};
-ghost use Rattle.plan_reader.specs.Names.{texts, names_in};
+ghost use Rattle.plan_reader.specs.Names.{names_in};
 ghost use Rattle.plan_reader.specs.Rows.{is_heap};
 ghost use Rattle.plan_reader.specs.Planned.{pair_of, requirements_from, default_requirements, all_requirements, requirements_named};
 
-use crate::names::position_of;
 use daemon_requirements::{Pair, RequirementFields, Requirements};
-use indexmap::IndexSet;
 use item_actions::Text;
 use plan_table::{
     args_of, assertions_of, debug_of, encoding_of, executable_of, heap_of, properties_of,

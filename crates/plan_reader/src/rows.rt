@@ -4,12 +4,13 @@ ghost use Rattle.std.specs.List.{list_any, sum_by};
 ghost use Rattle.toml.specs.View.{view};
 ghost use Rattle.plan_table.specs.Keys.{actions_of, items_of};
 ghost use Rattle.plan_table.specs.Values.{text_of};
-ghost use Rattle.plan_reader.specs.Names.{texts, has_name, name_lists};
+ghost use Rattle.plan_reader.specs.NameNumbers.{has_name};
+ghost use Rattle.plan_reader.specs.Names.{name_lists};
 ghost use Rattle.plan_reader.specs.Rows.{lacks_project, lacks_task, releases, releases_early, has_item, item_fails, asks_unknown, is_class_loader, is_heap, holds};
 
 use crate::limits::excess;
-use crate::names::{Names, has_name};
-use indexmap::IndexSet;
+use crate::name_table::NameTable;
+use crate::names::Names;
 use plan_table::{
     Part, actions_of, after_of, heap_of, isolation_of, items_of, project_of, requirements_name_of,
     text_of, wait_of,
@@ -27,20 +28,20 @@ pub(crate) enum Row {
     BadRequirements,
 }
 
-fn lacks_project(names: &IndexSet<&str>, task: &Value) -> bool
-    ensures { result ≡ lacks_project (texts names.now.keys) (view task.now) }
+fn lacks_project(names: &NameTable, task: &Value) -> bool
+    ensures { result ≡ lacks_project names.now (view task.now) }
 {
-    !has_name(names, project_of(task))
+    !names.has(project_of(task))
 }
 
-fn lacks_any(names: &IndexSet<&str>, values: &[Value]) -> bool
-    ensures { result ≡ list_any (λ v. not (has_name (texts names.now.keys) (text_of (view v)))) values.now }
+fn lacks_any(names: &NameTable, values: &[Value]) -> bool
+    ensures { result ≡ list_any (λ v. not (has_name names.now (text_of (view v)))) values.now }
 {
-    values.iter().any(|value| !has_name(names, text_of(value)))
+    values.iter().any(|value| !names.has(text_of(value)))
 }
 
-fn lacks_task(names: &IndexSet<&str>, task: &Value) -> bool
-    ensures { result ≡ lacks_task (texts names.now.keys) (view task.now) }
+fn lacks_task(names: &NameTable, task: &Value) -> bool
+    ensures { result ≡ lacks_task names.now (view task.now) }
 {
     lacks_any(names, after_of(task))
 }
@@ -71,17 +72,17 @@ fn task_releases_early(task: &Value) -> bool
 }
 
 /// Whether an item asks for requirements that aren't there.
-fn asks_unknown(names: &IndexSet<&str>, item: &Value) -> bool
-    ensures { result ≡ asks_unknown (texts names.now.keys) (view item.now) }
+fn asks_unknown(names: &NameTable, item: &Value) -> bool
+    ensures { result ≡ asks_unknown names.now (view item.now) }
 {
     match requirements_name_of(item) {
-        Some(name) => !has_name(names, name),
+        Some(name) => !names.has(name),
         None => false,
     }
 }
 
-fn item_fails(row: Row, names: &IndexSet<&str>, item: &Value) -> bool
-    ensures { result ≡ item_fails row (texts names.now.keys) (view item.now) }
+fn item_fails(row: Row, names: &NameTable, item: &Value) -> bool
+    ensures { result ≡ item_fails row names.now (view item.now) }
 {
     match row {
         Row::ClassLoader => isolation_of(item) == "classloader",
@@ -90,28 +91,28 @@ fn item_fails(row: Row, names: &IndexSet<&str>, item: &Value) -> bool
     }
 }
 
-fn any_item_fails(row: Row, names: &IndexSet<&str>, items: &[Value]) -> bool
-    ensures { result ≡ list_any (λ v. item_fails row (texts names.now.keys) (view v)) items.now }
+fn any_item_fails(row: Row, names: &NameTable, items: &[Value]) -> bool
+    ensures { result ≡ list_any (λ v. item_fails row names.now (view v)) items.now }
 {
     items.iter().any(|item| item_fails(row, names, item))
 }
 
-fn action_fails(row: Row, names: &IndexSet<&str>, action: &Value) -> bool
-    ensures { result ≡ list_any (item_fails row (texts names.now.keys)) (items_of (view action.now)) }
+fn action_fails(row: Row, names: &NameTable, action: &Value) -> bool
+    ensures { result ≡ list_any (item_fails row names.now) (items_of (view action.now)) }
 {
     any_item_fails(row, names, items_of(action))
 }
 
-fn any_action_fails(row: Row, names: &IndexSet<&str>, actions: &[Value]) -> bool
-    ensures { result ≡ list_any (λ v. list_any (item_fails row (texts names.now.keys)) (items_of (view v))) actions.now }
+fn any_action_fails(row: Row, names: &NameTable, actions: &[Value]) -> bool
+    ensures { result ≡ list_any (λ v. list_any (item_fails row names.now) (items_of (view v))) actions.now }
 {
     actions
         .iter()
         .any(|action| action_fails(row, names, action))
 }
 
-fn has_failing_item(row: Row, names: &IndexSet<&str>, task: &Value) -> bool
-    ensures { result ≡ has_item (item_fails row (texts names.now.keys)) (view task.now) }
+fn has_failing_item(row: Row, names: &NameTable, task: &Value) -> bool
+    ensures { result ≡ has_item (item_fails row names.now) (view task.now) }
 {
     any_action_fails(row, names, actions_of(task))
 }

@@ -1,8 +1,6 @@
-use Rattle.std.proofs.Common.{ap, ◌∙◌}
 use Rattle.toml.specs.View.{view}
-use Rattle.plan_reader.specs.Names.{texts}
 use Rattle.plan_reader.proofs.PlaceNumbers.{repeat_within}
 use Rattle.plan_reader.proofs.names.numbered_names.Goals as goal
 
 pub place-requires : goal.place-requires
-place-requires c = repeat_within (view c.args.document.now) c.args.part _ _ c.requires (ap texts c.as_slice.ensures.value ∙ c.in_ok-names.ensures) (rw c.in-Err.is at c.in_ok-set.ensures)
+place-requires c = repeat_within (view c.args.document.now) c.args.part _ _ c.requires c.in_ok-names.ensures (rw c.in-Err.is at c.in_ok-table.ensures)

@@ -3,10 +3,10 @@ use Rattle.std.specs.List.{list_any}
 use Rattle.toml.specs.View.{view}
 use Rattle.plan_table.specs.Values.{text_of}
 use Rattle.plan_table.proofs.Lists.{any_of_map}
-use Rattle.plan_reader.specs.Names.{texts, has_name}
+use Rattle.plan_reader.specs.NameNumbers.{texts, has_name}
 use Rattle.plan_reader.proofs.rows.lacks_task.Goals as goal
 
 pub returns : goal.returns
 returns c =
-    let test = λ (name : List ℕ). not (has_name (texts c.args.names.now.keys) name) in
+    let test = λ (name : List ℕ). not (has_name c.args.names.now name) in
     c.lacks_any.ensures ∙ sym (any_of_map test (λ v. text_of (view v)) _) ∙ ap (list_any test) c.after_of.ensures
