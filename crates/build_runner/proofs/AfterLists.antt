@@ -33,9 +33,9 @@ dependents_from : (g : GraphView) (all : List (Vec ℕ Global)) → ListsDepende
 dependents_from g all lists = record {
   size = sym (length-map all (λ row. row.items)) ∙ lists.size ∙ size_of g;
   each = λ t k. (
-      λ c. subst (λ us. Contains us t) (after_in g.tasks k) (lists.sound t k c).1,
-      λ c. lists.complete t k (has_after g k c.0 c.1) (subst (λ us. Contains us t) (sym (after_in g.tasks k)) c),
-    );
+    λ c. subst (λ us. Contains us t) (after_in g.tasks k) (lists.sound t k c).1,
+    λ c. lists.complete t k (has_after g k c.0 c.1) (subst (λ us. Contains us t) (sym (after_in g.tasks k)) c),
+  );
 }
 
 pub are_dependents : (g : GraphView) (rows : List (Vec ℕ Global)) (all : List (Vec ℕ Global)) → lists_of rows ≡ afters_in g.tasks → ListsDependents (lists_of rows) (length rows) (lists_of all) → AreDependents g all
