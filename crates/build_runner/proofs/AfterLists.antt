@@ -1,4 +1,4 @@
--- The tasks that come after each task, from the lists of those that each comes after.
+-- The dependents of each task, from the lists of the tasks that each comes after.
 use Rattle.std.proofs.Common.{◌≡◌, ℕ, ◌<◌, ◌≤◌, List, length, get_or, sym, ◌∙◌, ap, subst, arith, ◌⊎◌, inl, inr}
 use Rattle.std.specs.Prelude.{Contains, Vec}
 use Rattle.std.specs.List.{All}
@@ -29,15 +29,13 @@ has_after g k i lt = at (cases_lt k (length g.tasks))
     at (inl low) = low
     at (inr past) = absurd (omega (arith, lt, ap (λ (t : GraphTaskView). length t.after) (get_or_past g.tasks k no_task past)))
 
-complete : (g : GraphView) (all : Dependencies) → ListsDependents (afters_in g.tasks) (length g.tasks) all → (t k : ℕ) → Contains (task_of g k).after t → Contains (after all t) k
-complete g all lists t k c = lists.complete t k (has_after g k c.0 c.1) (subst (λ us. Contains us t) (sym (after_in g.tasks k)) c)
-
 dependents_from : (g : GraphView) (all : List (Vec ℕ Global)) → ListsDependents (afters_in g.tasks) (length g.tasks) (lists_of all) → AreDependents g all
 dependents_from g all lists = record {
   size = sym (length-map all (λ row. row.items)) ∙ lists.size ∙ size_of g;
-  within = λ t k c. (lists.sound t k c).0;
-  sound = λ t k c. subst (λ us. Contains us t) (after_in g.tasks k) (lists.sound t k c).1;
-  complete = complete g (lists_of all) lists;
+  each = λ t k. (
+    λ c. subst (λ us. Contains us t) (after_in g.tasks k) (lists.sound t k c).1,
+    λ c. lists.complete t k (has_after g k c.0 c.1) (subst (λ us. Contains us t) (sym (after_in g.tasks k)) c),
+  );
 }
 
 pub are_dependents : (g : GraphView) (rows : List (Vec ℕ Global)) (all : List (Vec ℕ Global)) → lists_of rows ≡ afters_in g.tasks → ListsDependents (lists_of rows) (length rows) (lists_of all) → AreDependents g all
@@ -45,6 +43,8 @@ are_dependents g rows all same lists =
     let size : length rows ≡ length g.tasks = sym (length-map rows (λ row. row.items)) ∙ ap length same ∙ size_of g in
     dependents_from g all (subst (λ n. ListsDependents (afters_in g.tasks) n (lists_of all)) size (subst (λ d. ListsDependents d (length rows) (lists_of all)) same lists))
 
--- the tasks that come after a task are in range
+-- the dependents of a task are in range
 pub all_within : (g : GraphView) (all : List (Vec ℕ Global)) (t : ℕ) → AreDependents g all → All (λ k. k < length g.tasks) (after (lists_of all) t)
-all_within g all t are = λ k d lt. are.within t (get_or (after (lists_of all) t) k d) (k, lt, get_or_default (after (lists_of all) t) k _ d lt)
+all_within g all t are = λ k d lt.
+    let named = (are.each t (get_or (after (lists_of all) t) k d)).0 (k, lt, get_or_default (after (lists_of all) t) k _ d lt) in
+    has_after g (get_or (after (lists_of all) t) k d) named.0 named.1

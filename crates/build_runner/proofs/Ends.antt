@@ -5,7 +5,6 @@ use Rattle.std.proofs.lemmas.Bool.{cases_lt, cases_eq}
 use Rattle.std.proofs.lemmas.List.{get_or-replicate, get_or_past, length-replicate}
 use Rattle.item_actions.specs.Files.{Folder}
 use Rattle.item_actions.specs.declared.outcomes.Outcome.{Outcome}
-use Rattle.item_actions.specs.declared.outcomes.Outcome.TheVariants as outcomes
 use Rattle.resource_lock.specs.StateView.{StateView, empty_holding, mark_of, runs_by}
 use Rattle.resource_lock.specs.GraphView.{GraphView}
 use Rattle.resource_lock.specs.Opening.{opening_of}
@@ -13,16 +12,18 @@ use Rattle.resource_lock.specs.declared.ids.WorkerId.{WorkerId}
 use Rattle.resource_lock.specs.declared.marks.Mark.TheVariants.{Waiting}
 use Rattle.resource_lock.specs.declared.marks.MarkId.{MarkId}
 use Rattle.resource_lock.specs.declared.marks.MarkId.TheVariants.{Task as TaskOf, Action as ActionOf, Unit as UnitOf}
-use Rattle.lock_journal.specs.Closings.{last_or}
+use Rattle.lock_journal.specs.BookView.{BookView}
 use Rattle.lock_journal.specs.Entry.{Entry}
 use Rattle.plan_reader.specs.PlanView.{PlanView}
 use Rattle.plan_reader.specs.Units.{unit_value}
 use Rattle.run_laws.specs.Answers.{IsHonest, IsHonestWorker, answers}
 use Rattle.run_laws.specs.ClosedBy.{closed_by}
-use Rattle.run_laws.specs.Runs.{GivesClosedOutcomes}
-use Rattle.build_runner.specs.Phases.{first_worker, only_action, IsResting, AreSettled}
+use Rattle.run_laws.specs.Runs.{ComesTo, GivesClosedOutcomes}
+use Rattle.resource_lock.specs.AtRest.{IsAtRest}
+use Rattle.build_runner.specs.Phases.{first_worker, only_action, AreSettled}
 use Rattle.build_runner.specs.Kept.{Keeps}
-use Rattle.build_runner.specs.Run.{IsFree, values_of}
+use Rattle.build_runner.specs.Run.{HasResults, depth}
+use Rattle.build_runner.proofs.Enabled.{not_running}
 
 -- the opening state
 
@@ -38,11 +39,11 @@ waits_at_first g (TaskOf t) = all_the_same (length g.tasks) t Waiting
 waits_at_first g (ActionOf a) = all_the_same (length g.actions) a Waiting
 waits_at_first g (UnitOf u) = all_the_same g.units u Waiting
 
-pub resting_at_first : (g : GraphView) → IsResting (opening_of g)
-resting_at_first g = record {
+pub rests_at_first : (g : GraphView) → IsAtRest (opening_of g)
+rests_at_first g = record {
+  owners = λ l. all_the_same g.locks l.0 None;
   holdings = λ w. all_the_same g.workers w.0 empty_holding;
-  free = λ l. all_the_same g.locks l.0 None;
-  still = λ m. ap (runs_by first_worker) (waits_at_first g m);
+  marks = λ w m. not_running w _ (ap (runs_by w) (waits_at_first g m));
 }
 
 pub settled_at_first : (g o : GraphView) → AreSettled g (opening_of o)
@@ -53,11 +54,6 @@ settled_at_first g o = record {
     units = λ u i. waits_at_first o (UnitOf u);
   });
 }
-
--- the state at the end
-
-pub free_at_end : (s : StateView) → IsResting s → IsFree s
-free_at_end s rest = record { owners = rest.free; holdings = rest.holdings }
 
 -- the closings
 
@@ -71,6 +67,7 @@ honest_workers value h others honest w = at w (cases_eq w.0 0)
 abbrev pub HonestAnswers : Type 0
 HonestAnswers = (value : ℕ → Outcome) (h : List Entry) → ((w : WorkerId) → IsHonestWorker value h w) → GivesClosedOutcomes (answers value h) h
 
-pub values_agree : (known : Option Folder) (plan : PlanView) (before after : ℕ) (h : List Entry) → HonestAnswers → Keeps known plan before after [] h → GivesClosedOutcomes (values_of plan known h) h
-values_agree None plan before after h give keeps = λ u o e. ap (last_or outcomes.Skipped) e
-values_agree (Some files) plan before after h give keeps = give (unit_value plan files) h (honest_workers (unit_value plan files) h keeps.others (keeps.honest tt))
+pub has_results : (plan : PlanView) (known : Option Folder) (before after : ℕ) (b : BookView) → HonestAnswers → Keeps known plan before after [] b.history
+    → ((v : ℕ → Outcome) → GivesClosedOutcomes v b.history → ComesTo b.graph b.history v (depth plan)) → HasResults plan known b
+has_results plan None before after b give keeps every = every
+has_results plan (Some files) before after b give keeps every = every _ (give (unit_value plan files) b.history (honest_workers (unit_value plan files) b.history keeps.others (keeps.honest tt)))

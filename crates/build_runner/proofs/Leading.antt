@@ -19,8 +19,9 @@ use Rattle.lock_journal.specs.Table.{list_of, moved_units, mark_from, units_pass
 use Rattle.lock_journal.specs.declared.entries.Kind.TheVariants.{Start, Skip, Submit, Park, Resume, Claim, Close, End}
 use Rattle.lock_journal.specs.declared.entries.Closed.{Closed}
 use Rattle.run_laws.specs.Marks.{IsEnded}
-use Rattle.build_runner.specs.Phases.{first_worker, working, only_action, IsPlain, IsResting, IsUntouched, IsUnderway, AreItems, IsItemRunning, IsStarted, IsSubmitted, HasParked, HasClaimed, HasResumed, HasRun}
-use Rattle.build_runner.proofs.Enabled.{ended_still, no_unit_runs, item_or_not, only_items, skipped_so_far}
+use Rattle.resource_lock.specs.AtRest.{IsAtRest}
+use Rattle.build_runner.specs.Phases.{first_worker, working, only_action, IsPlain, IsUntouched, IsUnderway, AreItems, IsItemRunning, IsStarted, IsSubmitted, HasParked, HasClaimed, HasResumed, HasRun}
+use Rattle.build_runner.proofs.Enabled.{ended_still, no_unit_runs, not_running, still_at_rest, item_or_not, only_items, skipped_so_far}
 use Rattle.build_runner.proofs.Within.{IsWithin}
 use Rattle.item_actions.specs.declared.outcomes.Outcome.{Outcome}
 use Rattle.item_actions.specs.declared.outcomes.Outcome.TheVariants.{Number, Digest, NotThere, TooLong, Fault, NoMemory, Skipped as NotRun}
@@ -59,14 +60,14 @@ moves_lead : (s : StateView) (w : WorkerId) (to : Mark) (first n : ℕ) → ((u 
 moves_lead s w to first zero within = record { owners = refl; holdings = refl; tasks = refl; actions = refl; inside = λ u i. let a = i.0 in let b = i.1 in absurd (omega arith); outside = λ u no_one. refl }
 moves_lead s w to first (suc n) within = move_more s _ to first n within (moves_lead (make s w (Move (UnitOf first) Waiting to)) w to (first + 1) n (λ u i. let a = i.0 in let b = i.1 in let c = within u (omega arith, omega arith) in omega (arith, length-set s.units first to)))
 
-pub start_leads : (g : GraphView) (s : StateView) (t : ℕ) → IsWithin g s t → IsResting s → IsUntouched g s t → IsStarted g s t (make_all s first_worker (list_of g s first_worker (Start t)))
+pub start_leads : (g : GraphView) (s : StateView) (t : ℕ) → IsWithin g s t → IsAtRest s → IsUntouched g s t → IsStarted g s t (make_all s first_worker (list_of g s first_worker (Start t)))
 start_leads g s t within r u = record {
   rest = r;
   under = record {
     holding = holding_written s.holdings _ within.worker ∙ ap (λ (h : Holding). record h { lease = true }) (r.holdings first_worker);
     others = others_written s _ (λ w ne. r.holdings w);
     lock = get_or-set_same s.owners (task_of g t).lock.0 (Some first_worker) None within.lock;
-    free = λ l ne. get_or-set_other s.owners (task_of g t).lock.0 l.0 (Some first_worker) None ne ∙ r.free l;
+    free = λ l ne. get_or-set_other s.owners (task_of g t).lock.0 l.0 (Some first_worker) None ne ∙ r.owners l;
     task = get_or-set_same s.tasks t (Running first_worker) Waiting within.task;
     tasks = λ k ne. get_or-set_other s.tasks t k (Running first_worker) Waiting ne;
     action = u.action;
@@ -190,13 +191,13 @@ close_leads g r s t d within i u items = (
 ended_state : GraphView → StateView → ℕ → Mark → StateView
 ended_state g s t m = make_all s first_worker (Move (TaskOf t) (Running first_worker) m ∷ Unlock (task_of g t).lock ∷ Give ∷ [])
 
-ended_leads : (g : GraphView) (r s : StateView) (t n : ℕ) (m : Mark) → IsWithin g s t → IsResting r → IsUnderway g r t s (Running first_worker) Passed working → AreItems g t s n Queued → IsEnded m → HasRun g r t (ended_state g s t m)
+ended_leads : (g : GraphView) (r s : StateView) (t n : ℕ) (m : Mark) → IsWithin g s t → IsAtRest r → IsUnderway g r t s (Running first_worker) Passed working → AreItems g t s n Queued → IsEnded m → HasRun g r t (ended_state g s t m)
 unfolding ended_state
 ended_leads g r s t n m within rest u items e = record {
-  resting = record {
+  rest = record {
     holdings = λ w. holding_at w (cases_eq w.0 0);
-    free = λ l. owner_at l (cases_eq l.0 (task_of g t).lock.0);
-    still = still;
+    owners = λ l. owner_at l (cases_eq l.0 (task_of g t).lock.0);
+    marks = λ w k. not_running w _ (still w k);
   };
   task = subst IsEnded (sym (get_or-set_same s.tasks t m Waiting within.task)) e;
   tasks = λ k ne. get_or-set_other s.tasks t k m Waiting ne ∙ u.tasks k ne;
@@ -212,20 +213,20 @@ ended_leads g r s t n m within rest u items e = record {
     holding_at w (inl same) = ap (λ n. get_or (set s.holdings 0 (record (holding_of s first_worker) { lease = false })) n empty_holding) same ∙ holding_written s.holdings _ within.worker ∙ ap (λ (h : Holding). record h { lease = false }) u.holding
     holding_at w (inr ne) = others_written s _ u.others w ne
 
-    task_at : (k : ℕ) → (k ≡ t) ⊎ (k ≡ t → ⊥) → runs_by first_worker (get_or (set s.tasks t m) k Waiting) ≡ false
-    task_at k (inl same) = ap (λ n. runs_by first_worker (get_or (set s.tasks t m) n Waiting)) same ∙ ap (runs_by first_worker) (get_or-set_same s.tasks t m Waiting within.task) ∙ ended_still first_worker m e
-    task_at k (inr ne) = ap (runs_by first_worker) (get_or-set_other s.tasks t k m Waiting ne ∙ u.tasks k ne) ∙ rest.still (TaskOf k)
+    task_at : (w : WorkerId) (k : ℕ) → (k ≡ t) ⊎ (k ≡ t → ⊥) → runs_by w (get_or (set s.tasks t m) k Waiting) ≡ false
+    task_at w k (inl same) = ap (λ n. runs_by w (get_or (set s.tasks t m) n Waiting)) same ∙ ap (runs_by w) (get_or-set_same s.tasks t m Waiting within.task) ∙ ended_still w m e
+    task_at w k (inr ne) = ap (runs_by w) (get_or-set_other s.tasks t k m Waiting ne ∙ u.tasks k ne) ∙ still_at_rest r rest w (TaskOf k)
 
-    action_at : (k : ℕ) → (k ≡ only_action g t) ⊎ (k ≡ only_action g t → ⊥) → runs_by first_worker (get_or s.actions k Waiting) ≡ false
-    action_at k (inl same) = ap (λ n. runs_by first_worker (get_or s.actions n Waiting)) same ∙ ap (runs_by first_worker) u.action
-    action_at k (inr ne) = ap (runs_by first_worker) (u.actions k ne) ∙ rest.still (ActionOf k)
+    action_at : (w : WorkerId) (k : ℕ) → (k ≡ only_action g t) ⊎ (k ≡ only_action g t → ⊥) → runs_by w (get_or s.actions k Waiting) ≡ false
+    action_at w k (inl same) = ap (λ n. runs_by w (get_or s.actions n Waiting)) same ∙ ap (runs_by w) u.action
+    action_at w k (inr ne) = ap (runs_by w) (u.actions k ne) ∙ still_at_rest r rest w (ActionOf k)
 
-    still : (k : MarkId) → runs_by first_worker (mark_of (ended_state g s t m) k) ≡ false
-    still (TaskOf k) = task_at k (cases_eq k t)
-    still (ActionOf k) = action_at k (cases_eq k (only_action g t))
-    still (UnitOf k) = no_unit_runs g r s t n _ _ _ _ rest u items refl k
+    still : (w : WorkerId) (k : MarkId) → runs_by w (mark_of (ended_state g s t m) k) ≡ false
+    still w (TaskOf k) = task_at w k (cases_eq k t)
+    still w (ActionOf k) = action_at w k (cases_eq k (only_action g t))
+    still w (UnitOf k) = no_unit_runs g r s t n _ _ _ _ w rest u items refl k
 
-pub end_leads : (g : GraphView) (r s : StateView) (t n : ℕ) → IsWithin g s t → IsPlain g t → IsResting r → IsUnderway g r t s (Running first_worker) Passed working → AreItems g t s n Queued → HasRun g r t (make_all s first_worker (list_of g s first_worker (End t)))
+pub end_leads : (g : GraphView) (r s : StateView) (t n : ℕ) → IsWithin g s t → IsPlain g t → IsAtRest r → IsUnderway g r t s (Running first_worker) Passed working → AreItems g t s n Queued → HasRun g r t (make_all s first_worker (list_of g s first_worker (End t)))
 unfolding ended_state
 end_leads g r s t n within plain rest u items = at (list_all (units_passed g s) (actions_of g t))
   where
@@ -240,12 +241,12 @@ item_is_unit g t u plain i =
     let b = i.1 in
     (omega arith, omega arith)
 
-pub skip_leads : (g : GraphView) (s : StateView) (t : ℕ) → IsWithin g s t → IsPlain g t → IsResting s → HasRun g s t (make_all s first_worker (list_of g s first_worker (Skip t)))
+pub skip_leads : (g : GraphView) (s : StateView) (t : ℕ) → IsWithin g s t → IsPlain g t → IsAtRest s → HasRun g s t (make_all s first_worker (list_of g s first_worker (Skip t)))
 skip_leads g s t within plain r = rw plain.one (subst (λ cs. HasRun g s t (make_all (skipped_so_far g s t) first_worker cs)) (sym (append-nil (moved_units (units_of g (only_action g t)) Waiting Skipped))) (record {
-  resting = record {
+  rest = record {
     holdings = λ w. ap (λ (hs : List Holding). get_or hs w.0 empty_holding) q.holdings ∙ r.holdings w;
-    free = λ l. ap (λ (os : List (Option WorkerId)). get_or os l.0 None) q.owners ∙ r.free l;
-    still = still;
+    owners = λ l. ap (λ (os : List (Option WorkerId)). get_or os l.0 None) q.owners ∙ r.owners l;
+    marks = λ w m. not_running w _ (still w m);
   };
   task = subst IsEnded (sym (ap (λ (ms : List Mark). get_or ms t Waiting) q.tasks ∙ get_or-set_same s.tasks t Skipped Waiting within.task)) tt;
   tasks = tasks;
@@ -268,19 +269,19 @@ skip_leads g s t within plain r = rw plain.one (subst (λ cs. HasRun g s t (make
     units : (k : ℕ) → (IsItemOf g (only_action g t) k → ⊥) → mark_of s2 (UnitOf k) ≡ mark_of s (UnitOf k)
     units k ne = q.outside k (λ i. ne (only_items g t k plain i))
 
-    task_at : (k : ℕ) → (k ≡ t) ⊎ (k ≡ t → ⊥) → runs_by first_worker (mark_of s2 (TaskOf k)) ≡ false
-    task_at k (inl same) = ap (λ n. runs_by first_worker (mark_of s2 (TaskOf n))) same ∙ ap (runs_by first_worker) (ap (λ (ms : List Mark). get_or ms t Waiting) q.tasks ∙ get_or-set_same s.tasks t Skipped Waiting within.task)
-    task_at k (inr ne) = ap (runs_by first_worker) (tasks k ne) ∙ r.still (TaskOf k)
+    task_at : (w : WorkerId) (k : ℕ) → (k ≡ t) ⊎ (k ≡ t → ⊥) → runs_by w (mark_of s2 (TaskOf k)) ≡ false
+    task_at w k (inl same) = ap (λ n. runs_by w (mark_of s2 (TaskOf n))) same ∙ ap (runs_by w) (ap (λ (ms : List Mark). get_or ms t Waiting) q.tasks ∙ get_or-set_same s.tasks t Skipped Waiting within.task)
+    task_at w k (inr ne) = ap (runs_by w) (tasks k ne) ∙ still_at_rest s r w (TaskOf k)
 
-    action_at : (k : ℕ) → (k ≡ only_action g t) ⊎ (k ≡ only_action g t → ⊥) → runs_by first_worker (mark_of s2 (ActionOf k)) ≡ false
-    action_at k (inl same) = ap (λ n. runs_by first_worker (mark_of s2 (ActionOf n))) same ∙ ap (runs_by first_worker) (ap (λ (ms : List Mark). get_or ms (only_action g t) Waiting) q.actions ∙ get_or-set_same s.actions (only_action g t) Skipped Waiting within.action)
-    action_at k (inr ne) = ap (runs_by first_worker) (actions k ne) ∙ r.still (ActionOf k)
+    action_at : (w : WorkerId) (k : ℕ) → (k ≡ only_action g t) ⊎ (k ≡ only_action g t → ⊥) → runs_by w (mark_of s2 (ActionOf k)) ≡ false
+    action_at w k (inl same) = ap (λ n. runs_by w (mark_of s2 (ActionOf n))) same ∙ ap (runs_by w) (ap (λ (ms : List Mark). get_or ms (only_action g t) Waiting) q.actions ∙ get_or-set_same s.actions (only_action g t) Skipped Waiting within.action)
+    action_at w k (inr ne) = ap (runs_by w) (actions k ne) ∙ still_at_rest s r w (ActionOf k)
 
-    unit_at : (k : ℕ) → IsItemOf g (only_action g t) k ⊎ (IsItemOf g (only_action g t) k → ⊥) → runs_by first_worker (mark_of s2 (UnitOf k)) ≡ false
-    unit_at k (inl i) = ap (runs_by first_worker) (q.inside k (item_is_unit g t k plain i))
-    unit_at k (inr ne) = ap (runs_by first_worker) (units k ne) ∙ r.still (UnitOf k)
+    unit_at : (w : WorkerId) (k : ℕ) → IsItemOf g (only_action g t) k ⊎ (IsItemOf g (only_action g t) k → ⊥) → runs_by w (mark_of s2 (UnitOf k)) ≡ false
+    unit_at w k (inl i) = ap (runs_by w) (q.inside k (item_is_unit g t k plain i))
+    unit_at w k (inr ne) = ap (runs_by w) (units k ne) ∙ still_at_rest s r w (UnitOf k)
 
-    still : (m : MarkId) → runs_by first_worker (mark_of s2 m) ≡ false
-    still (TaskOf k) = task_at k (cases_eq k t)
-    still (ActionOf k) = action_at k (cases_eq k (only_action g t))
-    still (UnitOf k) = unit_at k (item_or_not g (only_action g t) k)
+    still : (w : WorkerId) (m : MarkId) → runs_by w (mark_of s2 m) ≡ false
+    still w (TaskOf k) = task_at w k (cases_eq k t)
+    still w (ActionOf k) = action_at w k (cases_eq k (only_action g t))
+    still w (UnitOf k) = unit_at w k (item_or_not g (only_action g t) k)

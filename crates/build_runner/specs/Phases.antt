@@ -1,7 +1,8 @@
 -- The states that a run on one thread comes through, task by task. A task waits, starts, submits its items, parks while
 -- they are claimed and closed one after another, resumes, and ends.
 use Rattle.std.specs.Prelude.{ℕ, ◌≡◌, ◌≢◌, ◌⊎◌, ◌+◌, ◌<◌, ◌≤◌, length, true, false, [], None, Some}
-use Rattle.resource_lock.specs.StateView.{StateView, Holding, empty_holding, holding_of, owner_of, mark_of, runs_by}
+use Rattle.resource_lock.specs.AtRest.{IsAtRest}
+use Rattle.resource_lock.specs.StateView.{StateView, Holding, empty_holding, holding_of, owner_of, mark_of}
 use Rattle.resource_lock.specs.GraphView.{GraphView, task_of, action_of}
 use Rattle.resource_lock.specs.Ranges.{IsItemOf, first_item}
 use Rattle.run_laws.specs.Marks.{IsEnded}
@@ -10,7 +11,6 @@ use Rattle.resource_lock.specs.declared.ids.LockId.{LockId}
 use Rattle.resource_lock.specs.declared.ids.WorkerId.{WorkerId}
 use Rattle.resource_lock.specs.declared.marks.Mark.{Mark}
 use Rattle.resource_lock.specs.declared.marks.Mark.TheVariants.{Waiting, Queued, Running, Passed}
-use Rattle.resource_lock.specs.declared.marks.MarkId.{MarkId}
 use Rattle.resource_lock.specs.declared.marks.MarkId.TheVariants.{Task as TaskOf, Action as ActionOf, Unit as UnitOf}
 
 -- the worker that makes each entry of a run on one thread
@@ -35,12 +35,6 @@ pub record IsPlain (g : GraphView) (t : ℕ) : Type 0 where
 -- all tasks are plain
 pub record ArePlain (g : GraphView) : Type 0 where
   pub plain : (t : ℕ) → t < length g.tasks → IsPlain g t
-
--- No worker has anything, no lock has an owner, and worker 0 runs nothing.
-pub record IsResting (s : StateView) : Type 0 where
-  pub holdings : (w : WorkerId) → holding_of s w ≡ empty_holding
-  pub free : (l : LockId) → owner_of s l ≡ None
-  pub still : (m : MarkId) → runs_by first_worker (mark_of s m) ≡ false
 
 -- The task, its action and its items wait.
 pub record IsUntouched (g : GraphView) (s : StateView) (t : ℕ) : Type 0 where
@@ -78,37 +72,37 @@ pub record IsItemRunning (g : GraphView) (t : ℕ) (s : StateView) (n : ℕ) : T
 
 -- The worker runs the task, whose action and items wait.
 pub record IsStarted (g : GraphView) (r : StateView) (t : ℕ) (s : StateView) : Type 0 where
-  pub rest : IsResting r
+  pub rest : IsAtRest r
   pub under : IsUnderway g r t s (Running first_worker) Waiting working
   pub items : AreItems g t s (first_item (action_of g (only_action g t))) Waiting
 
 -- The action and its items are queued.
 pub record IsSubmitted (g : GraphView) (r : StateView) (t : ℕ) (s : StateView) : Type 0 where
-  pub rest : IsResting r
+  pub rest : IsAtRest r
   pub under : IsUnderway g r t s (Running first_worker) Queued working
   pub items : AreItems g t s (first_item (action_of g (only_action g t))) Queued
 
 -- The worker gave its lease back and runs the action; the items before number n have ended, and the others are queued.
 pub record HasParked (g : GraphView) (r : StateView) (t n : ℕ) (s : StateView) : Type 0 where
-  pub rest : IsResting r
+  pub rest : IsAtRest r
   pub under : IsUnderway g r t s (Running first_worker) (Running first_worker) empty_holding
   pub items : AreItems g t s n Queued
 
 -- The worker took a lease again and runs item n.
 pub record HasClaimed (g : GraphView) (r : StateView) (t n : ℕ) (s : StateView) : Type 0 where
-  pub rest : IsResting r
+  pub rest : IsAtRest r
   pub under : IsUnderway g r t s (Running first_worker) (Running first_worker) working
   pub item : IsItemRunning g t s n
 
 -- All items have ended, the action has passed, and the worker runs the task with its lease.
 pub record HasResumed (g : GraphView) (r : StateView) (t : ℕ) (s : StateView) : Type 0 where
-  pub rest : IsResting r
+  pub rest : IsAtRest r
   pub under : IsUnderway g r t s (Running first_worker) Passed working
   pub items : AreItems g t s (first_item (action_of g (only_action g t)) + (action_of g (only_action g t)).items) Queued
 
 -- Task t, which waited in the state r, has ended: no worker has anything, and each mark that isn't of the task is as it was in r.
 pub record HasRun (g : GraphView) (r : StateView) (t : ℕ) (s : StateView) : Type 0 where
-  pub resting : IsResting s
+  pub rest : IsAtRest s
   pub task : IsEnded (mark_of s (TaskOf t))
   pub tasks : (k : ℕ) → k ≢ t → mark_of s (TaskOf k) ≡ mark_of r (TaskOf k)
   pub actions : (k : ℕ) → k ≢ only_action g t → mark_of s (ActionOf k) ≡ mark_of r (ActionOf k)

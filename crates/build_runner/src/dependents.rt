@@ -1,4 +1,4 @@
-//! For each task, its dependents.
+//! For each task its dependents: the tasks that come after it.
 ghost use Rattle.std.specs.Prelude.{◌≡◌, IfOk, map};
 ghost use Rattle.resource_lock.specs.Fits.{Fits};
 ghost use Rattle.task_ranks.specs.Rank.{lists_of};
@@ -6,6 +6,7 @@ ghost use Rattle.build_runner.specs.Dependents.{AreDependents};
 
 use resource_lock::Graph;
 use std::alloc::{AllocError, Global};
+use task_ranks::dependents_of;
 
 /// For each task, the tasks that it comes after.
 fn dependencies_of(alloc: Global, graph: &Graph) -> Result<Vec<Vec<u32>>, AllocError>
@@ -19,10 +20,10 @@ fn dependencies_of(alloc: Global, graph: &Graph) -> Result<Vec<Vec<u32>>, AllocE
     Ok(rows)
 }
 
-/// For each task, its dependents: the tasks that come after it.
-pub(crate) fn dependents_of(alloc: Global, graph: &Graph) -> Result<Vec<Vec<usize>>, AllocError>
+/// The dependents of each task.
+pub(crate) fn all_dependents(alloc: Global, graph: &Graph) -> Result<Vec<Vec<usize>>, AllocError>
     ensures { IfOk result (λ all. AreDependents graph.now all.items) }
 {
     let rows = dependencies_of(alloc, graph)?;
-    task_ranks::dependents_of(alloc, &rows)
+    dependents_of(alloc, &rows)
 }

@@ -1,42 +1,18 @@
 //! The items of a task, worked out one after another.
-ghost use Rattle.std.specs.Prelude.{◌≡◌, ◌≢◌, ◌<◌, ◌≤◌, ◌+◌, ◌^◌, ℕ, Some, IfSome, OnOk, length, slice_get};
-ghost use Rattle.item_actions.specs.declared.outcomes.Outcome.TheVariants as outcomes;
-ghost use Rattle.worker_desk.specs.SinkView.{Rises};
+ghost use Rattle.std.specs.Prelude.{◌≡◌, ◌<◌, ◌≤◌, ◌+◌, ◌^◌, ℕ, Some, OnOk, length, slice_get};
 ghost use Rattle.resource_lock.specs.Ranges.{IsItemOf};
 ghost use Rattle.resource_lock.specs.StateView.{StateView};
 ghost use Rattle.plan_reader.specs.PlanView.{PlanView, work_view};
-ghost use Rattle.plan_reader.specs.Units.{plan_units, item_unit, value_in};
-ghost use Rattle.run_laws.specs.Answers.{IsHonest};
+ghost use Rattle.plan_reader.specs.Units.{plan_units, item_unit};
 ghost use Rattle.build_runner.specs.Phases.{only_action, ArePlain, HasParked};
 ghost use Rattle.build_runner.specs.Planned.{ArePlanned};
 ghost use Rattle.build_runner.specs.Kept.{Keeps};
 
 use crate::steps::{claim, close};
 use daemon_requirements::Work;
-use item_actions::{MAX_FILE_BYTES, Outcome, act};
 use lock_journal::{Book, Closed};
 use std::alloc::{AllocError, Global};
-use worker_desk::{DeskFail, Files, Read};
-
-/// Works an item out on the bytes of its file.
-///
-/// It answers `NotThere` and `TooLong` by the file, `Fault` where the desk failed and counted it,
-/// and `NoMemory` for want of memory.
-fn work_out<D: Files>(alloc: Global, work: &Work, desk: &mut D) -> Outcome
-    ensures files { D.files desk.new ≡ D.files desk.old }
-    ensures count { D.faults desk.old ≤ D.faults desk.new }
-    ensures ran { result ≢ outcomes.Skipped }
-    ensures fault { result ≡ outcomes.Fault → Rises (D.faults desk.old) (D.faults desk.new) }
-    ensures honest { IfSome (D.files desk.old) (λ files. IsHonest result (value_in files (Some (item_unit (work_view work.now))))) }
-{
-    match desk.read(alloc, &work.file, MAX_FILE_BYTES) {
-        Ok(Read::Bytes(bytes)) => act(&work.action, bytes.as_slice()),
-        Ok(Read::NotThere) => Outcome::NotThere,
-        Ok(Read::TooLong) => Outcome::TooLong,
-        Err(DeskFail::Failed) => Outcome::Fault,
-        Err(DeskFail::NoMemory) => Outcome::NoMemory,
-    }
-}
+use worker_desk::{Files, work_out};
 
 /// Claims item `unit`, works it out and closes it with what came.
 ///
@@ -60,7 +36,7 @@ fn run_item<D: Files>(
     ensures keeps { (plan : PlanView) → slice_get (plan_units plan) unit ≡ Some (item_unit (work_view work.now)) → OnOk result (Keeps (D.files desk.old) plan (D.faults desk.old) (D.faults desk.new) book.old.history book.new.history) }
 {
     claim(book, task, unit)?;
-    let outcome = work_out(alloc, work, desk);
+    let outcome = work_out(alloc, &work.action, &work.file, desk);
     close(book, task, Closed { unit, outcome })
 }
 

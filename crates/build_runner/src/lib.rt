@@ -10,8 +10,6 @@ mod options;
 mod runs;
 mod steps;
 mod tasks;
-#[cfg(test)]
-mod tests;
 
 pub use forms::can_run;
 pub use options::RunOptions;

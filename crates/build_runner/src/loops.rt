@@ -5,11 +5,12 @@ ghost use Rattle.run_laws.specs.Outcomes.{AreRanks};
 ghost use Rattle.build_runner.specs.CanRun.{can_run};
 ghost use Rattle.build_runner.specs.Choices.{IsOpen, task_in_choice};
 ghost use Rattle.build_runner.specs.Kept.{Keeps};
-ghost use Rattle.build_runner.specs.Phases.{AreSettled, HasRun, IsResting, IsUntouched};
+ghost use Rattle.resource_lock.specs.AtRest.{IsAtRest};
+ghost use Rattle.build_runner.specs.Phases.{AreSettled, HasRun, IsUntouched};
 ghost use Rattle.build_runner.specs.Planned.{IsGraphOf};
 
 use crate::choices::{Choice, ReadyTasks};
-use crate::dependents::dependents_of;
+use crate::dependents::all_dependents;
 use crate::steps::skip;
 use crate::tasks::run_task;
 use lock_journal::Book;
@@ -31,7 +32,7 @@ fn make_choice<D: Files>(
     requires form { IsTrue (can_run plan.now) }
     requires graph { IsGraphOf plan.now book.old.graph }
     requires open { IsOpen book.old.graph book.old.state choice }
-    requires rest { IsResting book.old.state }
+    requires rest { IsAtRest book.old.state }
     requires untouched { IsUntouched book.old.graph book.old.state (task_in_choice choice) }
     ensures files { D.files desk.new ≡ D.files desk.old }
     ensures count { D.faults desk.old ≤ D.faults desk.new }
@@ -57,16 +58,16 @@ pub(crate) fn run_tasks<D: Files>(
     requires form { IsTrue (can_run plan.now) }
     requires graph { IsGraphOf plan.now book.old.graph }
     requires ranks { (rank : ℕ → ℕ) × AreRanks book.old.graph rank }
-    requires rest { IsResting book.old.state }
+    requires rest { IsAtRest book.old.state }
     requires settled { AreSettled book.old.graph book.old.state }
     ensures files { D.files desk.new ≡ D.files desk.old }
     ensures count { D.faults desk.old ≤ D.faults desk.new }
     ensures graph { book.new.graph ≡ book.old.graph }
-    ensures rest { OnOk result (IsResting book.new.state) }
+    ensures rest { OnOk result (IsAtRest book.new.state) }
     ensures ended { OnOk result (All IsEnded book.new.state.tasks) }
     ensures keeps { OnOk result (Keeps (D.files desk.old) plan.now (D.faults desk.old) (D.faults desk.new) book.old.history book.new.history) }
 {
-    let dependents = dependents_of(alloc, book.graph())?;
+    let dependents = all_dependents(alloc, book.graph())?;
     let mut ready = ReadyTasks::of(alloc, book)?;
     while let Some(choice) = ready.first() {
         make_choice(alloc, plan, book, choice, desk)?;

@@ -26,8 +26,15 @@ const CHANGES_A_TASK: u64 = 11;
 /// The changes of an item's entries, and its own change in the entry that queues the items.
 const CHANGES_AN_ITEM: u64 = 5;
 
-/// The most changes that an entry asks room for before it is made.
-const MAX_CHANGES: u64 = 8_203;
+/// The most actions of a task.
+const MAX_ACTIONS_PER_TASK: u64 = 8;
+
+/// The most units of a plan.
+const MAX_UNITS: u64 = 8_192;
+
+/// The most changes that an entry asks room for before it is made. It is that of an end which skips every action of
+/// its task and every unit: one change for each, and three that end the task and give its lock and the lease back.
+const MAX_CHANGES: u64 = MAX_ACTIONS_PER_TASK + MAX_UNITS + 3;
 
 /// A book of the graph without an entry, and with room for those of a whole run.
 ///

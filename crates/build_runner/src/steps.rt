@@ -12,7 +12,8 @@ ghost use Rattle.item_actions.specs.declared.outcomes.Outcome.TheVariants as out
 ghost use Rattle.lock_journal.specs.Ran.{HasFinished};
 ghost use Rattle.build_runner.specs.Choices.{CanSkip, CanStart};
 ghost use Rattle.build_runner.specs.Kept.{HasClosed};
-ghost use Rattle.build_runner.specs.Phases.{first_worker, only_action, ArePlain, IsResting, IsUntouched, IsStarted, IsSubmitted, HasParked, HasClaimed, HasResumed, HasRun};
+ghost use Rattle.resource_lock.specs.AtRest.{IsAtRest};
+ghost use Rattle.build_runner.specs.Phases.{first_worker, only_action, ArePlain, IsUntouched, IsStarted, IsSubmitted, HasParked, HasClaimed, HasResumed, HasRun};
 
 use lock_journal::kinds::{Claim, Close, End, Park, Resume, Skip, Start, Submit};
 use lock_journal::{Book, Closed, Disposition, Transform};
@@ -40,7 +41,7 @@ fn finish<T: Transform>(book: &mut Book, transform: &T) -> Result<(), AllocError
 pub(crate) fn start(book: &mut Book, task: u32) -> Result<(), AllocError>
     requires form { ArePlain book.old.graph }
     requires ready { CanStart book.old.graph book.old.state task }
-    requires rest { IsResting book.old.state }
+    requires rest { IsAtRest book.old.state }
     requires untouched { IsUntouched book.old.graph book.old.state task }
     ensures graph { book.new.graph ≡ book.old.graph }
     ensures started { OnOk result (IsStarted book.old.graph book.old.state task book.new.state) }
@@ -53,7 +54,7 @@ pub(crate) fn start(book: &mut Book, task: u32) -> Result<(), AllocError>
 pub(crate) fn skip(book: &mut Book, task: u32) -> Result<(), AllocError>
     requires form { ArePlain book.old.graph }
     requires ready { CanSkip book.old.graph book.old.state task }
-    requires rest { IsResting book.old.state }
+    requires rest { IsAtRest book.old.state }
     requires untouched { IsUntouched book.old.graph book.old.state task }
     ensures graph { book.new.graph ≡ book.old.graph }
     ensures run { OnOk result (HasRun book.old.graph book.old.state task book.new.state) }

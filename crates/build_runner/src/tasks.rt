@@ -6,7 +6,8 @@ ghost use Rattle.resource_lock.specs.Ranges.{first_item};
 ghost use Rattle.plan_reader.specs.PlanView.{PlanView, work_view};
 ghost use Rattle.build_runner.specs.CanRun.{can_run};
 ghost use Rattle.build_runner.specs.Choices.{CanStart};
-ghost use Rattle.build_runner.specs.Phases.{only_action, ArePlain, IsResting, IsUntouched, HasRun};
+ghost use Rattle.resource_lock.specs.AtRest.{IsAtRest};
+ghost use Rattle.build_runner.specs.Phases.{only_action, ArePlain, IsUntouched, HasRun};
 ghost use Rattle.build_runner.specs.Planned.{task_in, single, ArePlanned, IsGraphOf};
 ghost use Rattle.build_runner.specs.Kept.{Keeps};
 
@@ -70,7 +71,7 @@ fn run_entries<D: Files>(
     requires items { length items.now ≡ (action_of book.old.graph numbers.action).items }
     requires few { numbers.first + length items.now < 2 ^ 32 }
     requires ready { CanStart book.old.graph book.old.state numbers.task }
-    requires rest { IsResting book.old.state }
+    requires rest { IsAtRest book.old.state }
     requires untouched { IsUntouched book.old.graph book.old.state numbers.task }
     ensures files { D.files desk.new ≡ D.files desk.old }
     ensures count { D.faults desk.old ≤ D.faults desk.new }
@@ -99,7 +100,7 @@ pub(crate) fn run_task<D: Files>(
     requires form { IsTrue (can_run plan.now) }
     requires graph { IsGraphOf plan.now book.old.graph }
     requires ready { CanStart book.old.graph book.old.state task }
-    requires rest { IsResting book.old.state }
+    requires rest { IsAtRest book.old.state }
     requires untouched { IsUntouched book.old.graph book.old.state task }
     ensures files { D.files desk.new ≡ D.files desk.old }
     ensures count { D.faults desk.old ≤ D.faults desk.new }

@@ -2,8 +2,8 @@
 use Rattle.std.specs.Prelude.{ℕ, ◌+◌, List, [], ◌∷◌, ◌++◌, length, map, codes, decimal, Option, None, Some, Bool, true, false}
 use Rattle.std.specs.List.{flat_map, count_by, sum_by, range_with_len}
 use Rattle.item_actions.specs.Value.{passes}
+use Rattle.item_actions.specs.Words.{action_word, kind_of_action, kind_of_outcome, outcome_phrase}
 use Rattle.item_actions.specs.declared.actions.ItemAction.{ItemAction}
-use Rattle.item_actions.specs.declared.actions.ItemAction.TheVariants.{Lines, Words, Bytes, Longest, Count, Sha256}
 use Rattle.item_actions.specs.declared.outcomes.Outcome.{Outcome}
 use Rattle.item_actions.specs.declared.outcomes.Outcome.TheVariants as outcomes
 use Rattle.resource_lock.specs.declared.marks.Mark.{Mark}
@@ -23,23 +23,11 @@ task_marks s t = mark_of s (TaskOf t)
 abbrev pub value_text : Outcome → List ℕ
 value_text (outcomes.Number n) = decimal n
 value_text (outcomes.Digest bytes) = flat_map hex_text bytes
-value_text outcomes.NotThere = codes "not there"
-value_text outcomes.TooLong = codes "too long"
-value_text outcomes.Fault = codes "fault"
-value_text outcomes.NoMemory = codes "no memory"
-value_text outcomes.Skipped = codes "skipped"
-
-abbrev pub action_word : ItemAction → List ℕ
-action_word Lines = codes "lines"
-action_word Words = codes "words"
-action_word Bytes = codes "bytes"
-action_word Longest = codes "longest"
-action_word (Count needle) = codes "count"
-action_word Sha256 = codes "sha256"
+value_text o = outcome_phrase (kind_of_outcome o)
 
 abbrev pub unit_word : Option ItemAction → List ℕ
 unit_word None = codes "fetch"
-unit_word (Some action) = action_word action
+unit_word (Some action) = action_word (kind_of_action action)
 
 -- the line of a unit, by its word, file and outcome
 abbrev pub unit_line : List ℕ → List ℕ → Outcome → List ℕ

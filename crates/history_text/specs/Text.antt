@@ -2,6 +2,7 @@
 use Rattle.std.specs.Prelude.{ℕ, ◌+◌, ◌/◌, ◌%◌, List, [], ◌∷◌, ◌++◌, length, codes, decimal, Option, Some, None, Bool, true, false}
 use Rattle.std.specs.List.{flat_map}
 use Rattle.std.specs.Fmt.{digit_glyph}
+use Rattle.item_actions.specs.Words.{kind_of_outcome, outcome_word}
 use Rattle.item_actions.specs.declared.outcomes.Outcome.{Outcome}
 use Rattle.item_actions.specs.declared.outcomes.Outcome.TheVariants as outcomes
 use Rattle.resource_lock.specs.declared.marks.MarkId.{MarkId}
@@ -56,14 +57,14 @@ abbrev pub hex_text : ℕ → List ℕ
 hex_text b = digit_glyph false (b / 16) ∷ digit_glyph false (b % 16) ∷ []
 
 -- Skipped stands in no entry of a lawful history
+-- what stands behind the word of an outcome
+abbrev pub value_behind : Outcome → List ℕ
+value_behind (outcomes.Number n) = codes " " ++ decimal n
+value_behind (outcomes.Digest bytes) = codes " " ++ flat_map hex_text bytes
+value_behind _ = []
+
 abbrev pub outcome_text : Outcome → List ℕ
-outcome_text (outcomes.Number n) = codes "number " ++ decimal n
-outcome_text (outcomes.Digest bytes) = codes "digest " ++ flat_map hex_text bytes
-outcome_text outcomes.NotThere = codes "missing"
-outcome_text outcomes.TooLong = codes "too-long"
-outcome_text outcomes.Fault = codes "fault"
-outcome_text outcomes.NoMemory = codes "no-memory"
-outcome_text outcomes.Skipped = codes "skipped"
+outcome_text o = outcome_word (kind_of_outcome o) ++ value_behind o
 
 abbrev pub closed_text : Closed → List ℕ
 closed_text d = decimal d.unit ++ codes " " ++ outcome_text d.outcome

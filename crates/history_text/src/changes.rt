@@ -6,7 +6,7 @@ ghost use Rattle.history_text.specs.Text.{mark_text, id_text, change_text, furth
 use resource_lock::{Change, Mark, MarkId};
 use worker_desk::{Page, Sink};
 
-/// Tells a word and a number.
+/// Writes a word and a number.
 pub(crate) fn write_numbered<K: Sink>(word: &[u8], number: u32, page: &mut Page, sink: &mut K)
     ensures { Adds (K.seen sink.old) page.old (K.seen sink.new) page.new (word.now ++ decimal number) }
 {
@@ -14,7 +14,7 @@ pub(crate) fn write_numbered<K: Sink>(word: &[u8], number: u32, page: &mut Page,
     page.number(sink, u64::from(number));
 }
 
-/// Tells a space and a mark.
+/// Writes a space and a mark.
 pub(crate) fn write_mark<K: Sink>(mark: Mark, page: &mut Page, sink: &mut K)
     ensures { Adds (K.seen sink.old) page.old (K.seen sink.new) page.new (codes " " ++ mark_text mark) }
 {
@@ -83,7 +83,7 @@ fn write_changes<K: Sink>(changes: &[Change], page: &mut Page, sink: &mut K)
     }
 }
 
-/// Tells the changes that an entry made, or that it failed.
+/// Writes the changes that an entry made, or that it failed.
 pub(crate) fn write_effect<K: Sink>(failed: bool, changes: &[Change], page: &mut Page, sink: &mut K)
     ensures { Adds (K.seen sink.old) page.old (K.seen sink.new) page.new (effect_text (if failed then None else Some changes.now)) }
 {

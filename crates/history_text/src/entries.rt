@@ -37,7 +37,7 @@ fn write_kind<K: Sink>(kind: &Kind, page: &mut Page, sink: &mut K)
     }
 }
 
-/// Tells the line of an entry.
+/// Writes the line of an entry.
 pub(crate) fn write_entry<K: Sink>(number: u64, entry: &Shown<'_>, page: &mut Page, sink: &mut K)
     ensures { Adds (K.seen sink.old) page.old (K.seen sink.new) page.new (entry_text number (entry_shown entry.now)) }
 {
@@ -50,7 +50,7 @@ pub(crate) fn write_entry<K: Sink>(number: u64, entry: &Shown<'_>, page: &mut Pa
     page.text(sink, b"\n");
 }
 
-/// Tells a line for each entry of a book, numbered from 1.
+/// Writes a line for each entry of a book, numbered from 1.
 pub(crate) fn write_entries<K: Sink>(book: &Book, page: &mut Page, sink: &mut K)
     ensures { Adds (K.seen sink.old) page.old (K.seen sink.new) page.new (numbered entry_text 1 book.now.history) }
 {

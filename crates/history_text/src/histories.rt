@@ -1,12 +1,11 @@
 ghost use Rattle.std.specs.Prelude.{length};
 ghost use Rattle.worker_desk.specs.PageView.{Adds};
-ghost use Rattle.worker_desk.specs.SinkView.{Prints};
 ghost use Rattle.history_text.specs.Text.{parallel_text, head_text, end_text, history_text};
 
 use crate::changes::write_numbered;
 use crate::entries::write_entries;
 use lock_journal::Book;
-use worker_desk::{Failed, Page, Sink};
+use worker_desk::{Page, Sink};
 
 fn write_parallel<K: Sink>(parallel: bool, page: &mut Page, sink: &mut K)
     ensures { Adds (K.seen sink.old) page.old (K.seen sink.new) page.new (parallel_text parallel) }
@@ -18,7 +17,7 @@ fn write_parallel<K: Sink>(parallel: bool, page: &mut Page, sink: &mut K)
     }
 }
 
-/// Tells the two lines before the entries.
+/// Writes the two lines before the entries.
 pub(crate) fn write_head_lines<K: Sink>(
     workers: u32,
     max_leases: u32,
@@ -51,7 +50,7 @@ fn write_end<K: Sink>(book: &Book, page: &mut Page, sink: &mut K)
     page.text(sink, b"\n");
 }
 
-/// Tells the history text of a book: how many workers there are and how many leases may be out, whether
+/// Writes the history text of a book: how many workers there are and how many leases may be out, whether
 /// each project has a lock of its own, and each entry.
 pub fn write_history<K: Sink>(book: &Book, parallel: bool, page: &mut Page, sink: &mut K)
     ensures { Adds (K.seen sink.old) page.old (K.seen sink.new) page.new
@@ -60,15 +59,4 @@ pub fn write_history<K: Sink>(book: &Book, parallel: bool, page: &mut Page, sink
     write_head(book, parallel, page, sink);
     write_entries(book, page, sink);
     write_end(book, page, sink);
-}
-
-/// Prints the history text of a book. It is Failed where the sink failed, which then took a front of
-/// the text.
-pub fn print_history<K: Sink>(book: &Book, parallel: bool, sink: &mut K) -> Result<(), Failed>
-    ensures { Prints (K.seen sink.old) (K.seen sink.new)
-        (history_text book.now.graph.workers book.now.graph.max_leases parallel book.now.history) result }
-{
-    let mut page = Page::new();
-    write_history(book, parallel, &mut page, sink);
-    page.end(sink)
 }

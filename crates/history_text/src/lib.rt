@@ -1,7 +1,6 @@
 //! The texts of a run: its results, and its history. Printing takes no memory.
 //!
-//! A `tell` call adds a text to a page, which can take several texts one after another. A `print` call
-//! prints one text whole.
+//! Each call adds a text to a page, which can take several texts one after another.
 #![tactic(auto)]
 
 mod changes;
@@ -15,9 +14,9 @@ mod results;
 mod summaries;
 mod units;
 
-pub use histories::{print_history, write_history};
+pub use histories::write_history;
 pub use laws::results_go_by_number;
-pub use results::{print_results, write_results};
+pub use results::write_results;
 
 #[cfg(test)]
 mod tests;

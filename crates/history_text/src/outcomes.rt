@@ -8,39 +8,40 @@ ghost use Rattle.history_text.specs.Results.{value_text};
 use item_actions::Outcome;
 use worker_desk::{Page, Sink};
 
-/// Tells an outcome as the history text spells it.
+/// Writes an outcome as the history text spells it: its word, and a value where it has one.
 pub(crate) fn write_outcome<K: Sink>(outcome: &Outcome, page: &mut Page, sink: &mut K)
     ensures { Adds (K.seen sink.old) page.old (K.seen sink.new) page.new (outcome_text outcome.now) }
 {
+    page.text(sink, outcome.kind().word().as_bytes());
     match outcome {
         Outcome::Number(number) => {
-            page.text(sink, b"number ");
+            page.text(sink, b" ");
             page.number(sink, *number);
         }
         Outcome::Digest(digest) => {
-            page.text(sink, b"digest ");
+            page.text(sink, b" ");
             write_digest(digest, page, sink);
         }
-        Outcome::NotThere => page.text(sink, b"missing"),
-        Outcome::TooLong => page.text(sink, b"too-long"),
-        Outcome::Fault => page.text(sink, b"fault"),
-        Outcome::NoMemory => page.text(sink, b"no-memory"),
-        Outcome::Skipped => page.text(sink, b"skipped"),
+        Outcome::NotThere
+        | Outcome::TooLong
+        | Outcome::Fault
+        | Outcome::NoMemory
+        | Outcome::Skipped => {}
     }
 }
 
-/// Tells an outcome as the results text spells it.
+/// Writes an outcome as the results text spells it: its value, or a phrase where it has none.
 pub(crate) fn write_value<K: Sink>(outcome: &Outcome, page: &mut Page, sink: &mut K)
     ensures { Adds (K.seen sink.old) page.old (K.seen sink.new) page.new (value_text outcome.now) }
 {
     match outcome {
         Outcome::Number(number) => page.number(sink, *number),
         Outcome::Digest(digest) => write_digest(digest, page, sink),
-        Outcome::NotThere => page.text(sink, b"not there"),
-        Outcome::TooLong => page.text(sink, b"too long"),
-        Outcome::Fault => page.text(sink, b"fault"),
-        Outcome::NoMemory => page.text(sink, b"no memory"),
-        Outcome::Skipped => page.text(sink, b"skipped"),
+        Outcome::NotThere
+        | Outcome::TooLong
+        | Outcome::Fault
+        | Outcome::NoMemory
+        | Outcome::Skipped => page.text(sink, outcome.kind().phrase().as_bytes()),
     }
 }
 

@@ -1,7 +1,6 @@
 ghost use Rattle.std.specs.Prelude.{◌≡◌, ◌+◌, ◌<◌, ◌≤◌, ◌^◌, length, map, if◌then◌else◌};
 ghost use Rattle.std.specs.List.{flat_map};
 ghost use Rattle.worker_desk.specs.PageView.{Adds};
-ghost use Rattle.worker_desk.specs.SinkView.{Prints};
 ghost use Rattle.lock_journal.specs.Closings.{outcome_in};
 ghost use Rattle.plan_reader.specs.PlanView.{plan_task_view};
 ghost use Rattle.plan_reader.specs.Units.{task_units, plan_units};
@@ -16,9 +15,9 @@ use item_actions::Text;
 use lock_journal::Book;
 use plan_reader::{Plan, PlanTask};
 use resource_lock::Mark;
-use worker_desk::{Failed, Page, Sink};
+use worker_desk::{Page, Sink};
 
-/// Tells the line of a task.
+/// Writes the line of a task.
 pub(crate) fn write_task_line<K: Sink>(name: &Text, mark: Mark, page: &mut Page, sink: &mut K)
     ensures { Adds (K.seen sink.old) page.old (K.seen sink.new) page.new (task_line name.now mark) }
 {
@@ -76,7 +75,7 @@ fn write_whole<K: Sink>(plan: &Plan, book: &Book, page: &mut Page, sink: &mut K)
     write_summary(book, page, sink);
 }
 
-/// Tells the results text of a plan whose marks have all ended: a line for each task and each of its
+/// Writes the results text of a plan whose marks have all ended: a line for each task and each of its
 /// units, and three lines of summary; or the summary alone. The book's graph has as many tasks and units
 /// as the plan.
 pub fn write_results<K: Sink>(
@@ -97,23 +96,4 @@ pub fn write_results<K: Sink>(
     } else {
         write_whole(plan, book, page, sink);
     }
-}
-
-/// Prints the results text of a plan, or its summary alone, as `write_results` does. It is Failed where
-/// the sink failed, which then took a front of the text.
-pub fn print_results<K: Sink>(
-    plan: &Plan,
-    book: &Book,
-    summary: bool,
-    sink: &mut K,
-) -> Result<(), Failed>
-    requires tasks { length book.now.graph.tasks ≡ length plan.now.tasks }
-    requires units { book.now.graph.units ≡ length (plan_units plan.now) }
-    requires ended { HasEnded book.now.state }
-    ensures { Prints (K.seen sink.old) (K.seen sink.new)
-        ((if summary then summary_text else results_text) plan.now (task_marks book.now.state) (outcome_in book.now.history)) result }
-{
-    let mut page = Page::new();
-    write_results(plan, book, summary, &mut page, sink);
-    page.end(sink)
 }

@@ -53,7 +53,7 @@ fn number_in(outcome: &Outcome) -> u64
     }
 }
 
-/// Tells what `tasks: ` or `units: ` stands before.
+/// Writes what `tasks: ` or `units: ` stands before.
 pub(crate) fn write_counts<K: Sink>(counts: Counts, page: &mut Page, sink: &mut K)
     ensures { Adds (K.seen sink.old) page.old (K.seen sink.new) page.new (counts_text counts) }
 {
@@ -92,7 +92,7 @@ fn write_total_line<K: Sink>(book: &Book, page: &mut Page, sink: &mut K)
     page.text(sink, b"\n");
 }
 
-/// Tells the three lines of summary of a book whose marks have ended.
+/// Writes the three lines of summary of a book whose marks have ended.
 pub(crate) fn write_summary<K: Sink>(book: &Book, page: &mut Page, sink: &mut K)
     requires { HasEnded book.now.state }
     ensures { Adds (K.seen sink.old) page.old (K.seen sink.new) page.new

@@ -6,37 +6,24 @@ ghost use Rattle.plan_reader.specs.PlanView.{work_view, plan_action_view};
 ghost use Rattle.plan_reader.specs.Units.{item_unit, fetch_units, action_units};
 ghost use Rattle.run_laws.specs.Marks.{HasEnded};
 ghost use Rattle.history_text.specs.Text.{numbered};
-ghost use Rattle.history_text.specs.Results.{action_word, unit_line, unit_text};
+ghost use Rattle.history_text.specs.Results.{unit_line, unit_text};
 
 use crate::endings::outcome_of;
 use crate::outcomes::write_value;
 use daemon_requirements::Work;
-use item_actions::{ItemAction, Outcome, Text};
+use item_actions::{Outcome, Text};
 use lock_journal::Book;
 use plan_reader::PlanAction;
 use worker_desk::{Page, Sink};
 
-/// Tells a task's name or a file.
+/// Writes a task's name or a file.
 pub(crate) fn write_name<K: Sink>(name: &Text, page: &mut Page, sink: &mut K)
     ensures { Adds (K.seen sink.old) page.old (K.seen sink.new) page.new name.now }
 {
     page.text(sink, name.bytes());
 }
 
-fn word_of(action: &ItemAction) -> &[u8]
-    ensures { result.now ≡ action_word action.now }
-{
-    match action {
-        ItemAction::Lines => b"lines",
-        ItemAction::Words => b"words",
-        ItemAction::Bytes => b"bytes",
-        ItemAction::Longest => b"longest",
-        ItemAction::Count(_) => b"count",
-        ItemAction::Sha256 => b"sha256",
-    }
-}
-
-/// Tells the line of a unit: `fetch` or its action's word, its file and its outcome.
+/// Writes the line of a unit: `fetch` or its action's word, its file and its outcome.
 pub(crate) fn write_unit<K: Sink>(
     word: &[u8],
     file: &Text,
@@ -62,7 +49,8 @@ fn write_item<K: Sink>(work: &Work, number: u32, book: &Book, page: &mut Page, s
         (unit_text (outcome_in book.now.history) number (item_unit (work_view work.now))) }
 {
     let outcome = outcome_of(book, number);
-    write_unit(word_of(&work.action), &work.file, &outcome, page, sink);
+    let word = work.action.kind().word().as_bytes();
+    write_unit(word, &work.file, &outcome, page, sink);
 }
 
 // The lines of an action's items, whose units are numbered from the first on.
@@ -124,7 +112,7 @@ fn write_action<K: Sink>(
     first_item + action.items.len() as u32
 }
 
-/// Tells the lines of a task's units, which are numbered from the first on. Returns the number of the
+/// Writes the lines of a task's units, which are numbered from the first on. Returns the number of the
 /// unit that comes next.
 pub(crate) fn write_actions<K: Sink>(
     actions: &[PlanAction],

@@ -4,21 +4,21 @@ use Rattle.std.specs.Prelude.{sum_by, unwrap_or}
 use Rattle.std.specs.List.{AllByRecursion}
 use Rattle.std.proofs.lemmas.List.Sums.{sum_by-cons}
 use Rattle.item_actions.specs.Files.{Folder}
+use Rattle.item_actions.specs.Value.{IsHonest, is_fault, value_on}
 use Rattle.item_actions.specs.declared.outcomes.Outcome.{Outcome}
 use Rattle.lock_journal.specs.BookView.{BookView}
 use Rattle.worker_desk.specs.SinkView.{SinkView, Rises}
 use Rattle.plan_reader.specs.PlanView.{PlanView}
 use Rattle.run_laws.specs.ClosedBy.{faults_by}
 use Rattle.build_runner.specs.Phases.{first_worker}
-use Rattle.build_runner.specs.Run.{values_of}
 use Rattle.command_words.specs.declared.commands.Command.{Command}
 use Rattle.command_words.specs.declared.commands.Command.TheVariants.{Run, Worker}
 use Rattle.command_words.specs.declared.commands.RunWords.{RunWords}
-use Rattle.daemon_worker.specs.Answer.{Answer, replies, IsHonest, is_fault}
+use Rattle.daemon_worker.specs.Answer.{Answer, replies, IsHonestAnswer}
 use Rattle.daemon_worker.specs.Serving.{Outside, IsEnd}
 use Rattle.daemon_worker.specs.declared.serving.Served.{Served}
 use Rattle.daemon_worker.specs.declared.serving.Served.TheVariants as ends
-use Rattle.leases_cli.specs.Answered.{Answered, RunAnswered, IsNamedRun, all_pass}
+use Rattle.leases_cli.specs.Answered.{Answered, RunAnswered, IsNamedRun, all_pass, values_or_closings}
 use Rattle.leases_cli.specs.Causes.{IsPlanAt, IsReadCause}
 use Rattle.leases_cli.specs.Complete.{MetNoFault, HasPlan, HasSucceeded, HasValue, IsByFrames, HasWorkedWell, Succeeds, IsComplete, status_by}
 use Rattle.leases_cli.specs.Worker.{HasWorked}
@@ -41,13 +41,13 @@ module _ (once : FirstCycleOnce) (asked : RunWords) (files : Folder) (plan : Pla
       one_plan once has.bytes plan found has.reading (rw bytes at named.2)
 
   module _ (before after : ℕ) (old new : SinkView) (calm : MetNoFault before after) (quiet : MetNoFault old.faults new.faults) where
-    ran : (found : PlanView) (b : BookView) (passed : Bool) → IsNamedRun asked (Some files) before after found b → all_pass found b.graph (values_of found (Some files) b.history) ≡ passed → (faults_by first_worker b.history ≡ 0) × (status_by passed ≡ status_by (all_pass plan b.graph (values_of plan (Some files) b.history)))
+    ran : (found : PlanView) (b : BookView) (passed : Bool) → IsNamedRun asked (Some files) before after found b → all_pass found b.graph (values_or_closings found (Some files) b.history) ≡ passed → (faults_by first_worker b.history ≡ 0) × (status_by passed ≡ status_by (all_pass plan b.graph (values_or_closings plan (Some files) b.history)))
     ran found b passed run pass =
         let same = calm.same in
         let below = calm.below in
         let faults = run.run.faults (omega arith) in (
           omega arith,
-          ap status_by (sym pass ∙ ap (λ p. all_pass p b.graph (values_of p (Some files) b.history)) (same_plan found run.named)),
+          ap status_by (sym pass ∙ ap (λ p. all_pass p b.graph (values_or_closings p (Some files) b.history)) (same_plan found run.named)),
         )
 
     no_cause : (refusal : Status) → IsReadCause (Some files) before after asked.plan refusal → ⊥
@@ -83,16 +83,16 @@ module _ (once : FirstCycleOnce) (asked : RunWords) (files : Folder) (plan : Pla
 abbrev fault_count : Outcome → ℕ
 fault_count o = cond (is_fault o) 1 0
 
-valued : (files : Folder) (a : Answer) → IsHonest (Some files) a → fault_count a.outcome ≡ 0 → HasValue files a
+valued : (files : Folder) (a : Answer) → IsHonest a.outcome (value_on files a.request.action a.request.file) → fault_count a.outcome ≡ 0 → HasValue files a
 valued files a (inl value) none = inl value
 valued files a (inr (inl fault)) none = absurd (let one = subst (λ (o : Outcome). fault_count o ≡ 0) fault none in cc one)
 valued files a (inr (inr memory)) none = inr memory
 
-all_valued : (files : Folder) (answers : List Answer) → AllByRecursion (IsHonest (Some files)) answers → sum_by (λ (x : Answer). fault_count x.outcome) answers ≡ 0 → AllByRecursion (HasValue files) answers
+all_valued : (files : Folder) (answers : List Answer) → AllByRecursion (IsHonestAnswer (Some files)) answers → sum_by (λ (x : Answer). fault_count x.outcome) answers ≡ 0 → AllByRecursion (HasValue files) answers
 all_valued files [] honest none = tt
 all_valued files (a ∷ answers) honest none =
     let both : fault_count a.outcome + sum_by (λ (x : Answer). fault_count x.outcome) answers ≡ 0 = sym (sum_by-cons (λ (x : Answer). fault_count x.outcome) a answers) ∙ none in
-    (valued files a honest.0 (omega arith), all_valued files answers honest.1 (omega arith))
+    (valued files a honest.0.honest (omega arith), all_valued files answers honest.1 (omega arith))
 
 by_frames : (old new : Outside) (came rest text : List ℕ) (end : Served) → MetNoFault old.source.faults new.source.faults → MetNoFault old.sink.faults new.sink.faults → IsEnd old new came rest text end → IsByFrames end
 by_frames old new came rest text ends.Done source sink e = tt
@@ -110,7 +110,7 @@ worker_succeeds files old new status known calm quiet source w =
       w.0,
       record {
         served = served;
-        values = all_valued files served.answers (subst (λ (o : Option Folder). AllByRecursion (IsHonest o) served.answers) known served.answered.honest) (omega arith);
+        values = all_valued files served.answers (subst (λ (o : Option Folder). AllByRecursion (IsHonestAnswer o) served.answers) known served.answered.honest) (omega arith);
         by_frames = by_frames old new served.came served.rest (replies served.answers) w.0 source quiet served.end;
       },
       w.2,

@@ -6,7 +6,7 @@ use Rattle.std.proofs.lemmas.List.{length-replicate}
 use Rattle.item_actions.specs.Files.{Folder, file_of}
 use Rattle.item_actions.specs.Value.{max_file_bytes}
 use Rattle.task_ranks.specs.Rank.{Dependencies, IsFirstCycle}
-use Rattle.worker_desk.specs.ReadView.{reading, reading_of as read_as, Bytes, TooLong, ReadsFrom}
+use Rattle.worker_desk.specs.ReadView.{reading, read_view as read_as, Bytes, TooLong, ReadsFrom}
 use Rattle.worker_desk.specs.declared.files.Read.{Read}
 use Rattle.worker_desk.specs.declared.files.Read.TheVariants as reads
 use Rattle.plan_table.specs.declared.refusals.PlanRefusal.{PlanRefusal}

@@ -1,15 +1,16 @@
 -- The report of a run by the book is that by the plan.
-use Rattle.std.proofs.Common.{◌≡◌, ℕ, zero, suc, ◌+◌, ◌<◌, ◌≤◌, Bool, true, false, ◌&&◌, List, [], ◌∷◌, ◌++◌, length, Option, Some, refl, sym, ◌∙◌, ap, subst, arith}
+use Rattle.std.proofs.Common.{◌≡◌, ℕ, zero, suc, ◌+◌, ◌<◌, ◌≤◌, Bool, true, false, ◌&&◌, List, [], ◌∷◌, ◌++◌, length, Option, Some, None, refl, sym, ◌∙◌, ap, subst, arith}
 use Rattle.std.specs.Prelude.{if◌then◌else◌}
 use Rattle.std.specs.List.{list_all, range_with_len}
 use Rattle.item_actions.specs.Files.{Folder}
 use Rattle.item_actions.specs.declared.outcomes.Outcome.{Outcome}
+use Rattle.item_actions.specs.declared.outcomes.Outcome.TheVariants as outcomes
 use Rattle.resource_lock.specs.Fits.{Fits}
 use Rattle.resource_lock.specs.GraphView.{GraphView}
 use Rattle.resource_lock.specs.StateView.{StateView, mark_of}
 use Rattle.resource_lock.specs.declared.marks.Mark.{Mark}
 use Rattle.resource_lock.specs.declared.marks.MarkId.TheVariants.{Task as TaskOf}
-use Rattle.lock_journal.specs.Closings.{outcome_in}
+use Rattle.lock_journal.specs.Closings.{last_or, outcome_in}
 use Rattle.lock_journal.specs.Entry.{Entry}
 use Rattle.lock_journal.specs.BookView.{BookView}
 use Rattle.lock_journal.specs.Table.{has_passed}
@@ -19,12 +20,12 @@ use Rattle.plan_reader.specs.Units.{plan_units}
 use Rattle.run_laws.specs.ByNumber.{outcome_by}
 use Rattle.run_laws.specs.Outcomes.{task_outcome}
 use Rattle.run_laws.specs.Runs.{ComesTo}
-use Rattle.build_runner.specs.Run.{IsRunOf, values_of, depth}
+use Rattle.build_runner.specs.Run.{HasResults, IsRunOf, depth}
 use Rattle.build_runner.specs.declared.options.RunOptions.{RunOptions}
 use Rattle.command_words.specs.declared.commands.RunWords.{RunWords}
 use Rattle.history_text.specs.Results.{results_text, summary_text, task_marks}
 use Rattle.worker_desk.specs.SinkView.{SinkView}
-use Rattle.leases_cli.specs.Answered.{RunAnswered, IsNamedRun, all_pass, have_all_passed, history_asked, run_text, text_by_book}
+use Rattle.leases_cli.specs.Answered.{RunAnswered, IsNamedRun, all_pass, have_all_passed, history_asked, run_text, text_by_book, values_or_closings}
 use Rattle.leases_cli.specs.Reported.{IsReported}
 use Rattle.leases_cli.specs.declared.status.Status.{Status}
 use Rattle.leases_cli.specs.declared.status.Status.TheVariants.{Passed, TaskFailed, BadWords, BadPlan, NoPlan, PlanFault, SinkFault, BadFrame, SourceFault, NoMemory}
@@ -49,25 +50,30 @@ same_on_range : (f g : ℕ → Bool) (first n : ℕ) → ((t : ℕ) → t < firs
 same_on_range f g first zero h = refl
 same_on_range f g first (suc n) h = rw (h first (omega arith)) (ap (λ b. g first && b) (same_on_range f g (first + 1) n (λ t lt. h t (omega arith))))
 
+-- the results, by the values that are printed
+comes_to : (plan : PlanView) (known : Option Folder) (b : BookView) → HasResults plan known b → ComesTo b.graph b.history (values_or_closings plan known b.history) (depth plan)
+comes_to plan (Some files) b results = results
+comes_to plan None b results = results (outcome_in b.history) (λ u o e. ap (last_or outcomes.Skipped) e)
+
 module _ (plan : PlanView) (options : RunOptions) (known : Option Folder) (before after : ℕ) (b : BookView) (run : IsRunOf plan options known before after b) where
   pub tasks_in_graph : length b.graph.tasks ≡ length plan.tasks
   tasks_in_graph = ap (λ (o : GraphView). length o.tasks) run.graph ∙ tasks_in_all options.parallel 0 plan.tasks
 
-  task_mark : (t : ℕ) → t < length b.graph.tasks → mark_of b.state (TaskOf t) ≡ task_outcome b.graph (values_of plan known b.history) (depth plan) t
-  task_mark t lt = ap (λ (s : StateView). mark_of s (TaskOf t)) run.replays ∙ run.results.tasks t lt
+  task_mark : (t : ℕ) → t < length b.graph.tasks → mark_of b.state (TaskOf t) ≡ task_outcome b.graph (values_or_closings plan known b.history) (depth plan) t
+  task_mark t lt = ap (λ (s : StateView). mark_of s (TaskOf t)) run.replays ∙ (comes_to plan known b run.results).tasks t lt
 
-  pub same_pass : have_all_passed b ≡ all_pass plan b.graph (values_of plan known b.history)
+  pub same_pass : have_all_passed b ≡ all_pass plan b.graph (values_or_closings plan known b.history)
   same_pass =
-      same_on_range (λ t. has_passed (mark_of b.state (TaskOf t))) (λ t. has_passed (task_outcome b.graph (values_of plan known b.history) (depth plan) t)) 0 (length b.graph.tasks)
+      same_on_range (λ t. has_passed (mark_of b.state (TaskOf t))) (λ t. has_passed (task_outcome b.graph (values_or_closings plan known b.history) (depth plan) t)) 0 (length b.graph.tasks)
       (λ t lt. ap has_passed (task_mark t (omega arith)))
 
   pub same_text : (asked : RunWords) → UnitsByNumber → ByNumber results_text → ByNumber summary_text → Fits b.graph → text_by_book asked plan b ≡ run_text asked plan known b
   same_text asked units results summary fits =
-      let v = values_of plan known b.history in
+      let v = values_or_closings plan known b.history in
       ap (λ text. text ++ history_asked asked b)
       (either_by_number asked.summary results summary plan (task_marks b.state) (task_outcome b.graph v (depth plan)) (outcome_in b.history) (outcome_by b.graph v (depth plan))
       (λ t lt. task_mark t (omega (arith, tasks_in_graph)))
-      (λ u lt. units b.graph b.history v (depth plan) u fits run.results (omega (arith, ap (λ (o : GraphView). o.units) run.graph))))
+      (λ u lt. units b.graph b.history v (depth plan) u fits (comes_to plan known b run.results) (omega (arith, ap (λ (o : GraphView). o.units) run.graph))))
 
 -- a run within a call that began earlier
 pub earlier_start : (plan : PlanView) (options : RunOptions) (known known' : Option Folder) (start before after : ℕ) (b : BookView) → known' ≡ known → start ≤ before → IsRunOf plan options known' before after b → IsRunOf plan options known start after b
@@ -76,19 +82,19 @@ earlier_start plan options known known' start before after b e le run = record {
   replays = run.replays;
   lawful = run.lawful;
   good = run.good;
-  free = run.free;
+  rest = run.rest;
   ended = run.ended;
   order = run.order;
   others = run.others;
-  results = subst (λ (o : Option Folder). ComesTo b.graph b.history (values_of plan o b.history) (depth plan)) e run.results;
+  results = subst (λ (o : Option Folder). HasResults plan o b) e run.results;
   faults = λ lt. let f = run.faults lt in omega arith;
 }
 
 -- what was reported of a run is its answer
-pub reported_answers : (asked : RunWords) (known : Option Folder) (before after : ℕ) (old new : SinkView) (plan : PlanView) (b : BookView) (book : Option BookView) (status : Status) → book ≡ Some b → IsNamedRun asked known before after plan b → IsReported (all_pass plan b.graph (values_of plan known b.history)) old new (run_text asked plan known b) status → RunAnswered asked known before after old new status book
+pub reported_answers : (asked : RunWords) (known : Option Folder) (before after : ℕ) (old new : SinkView) (plan : PlanView) (b : BookView) (book : Option BookView) (status : Status) → book ≡ Some b → IsNamedRun asked known before after plan b → IsReported (all_pass plan b.graph (values_or_closings plan known b.history)) old new (run_text asked plan known b) status → RunAnswered asked known before after old new status book
 reported_answers asked known before after old new plan b book status e run reported = subst (RunAnswered asked known before after old new status) (sym e) (by_status status reported)
   where
-    by_status : (s : Status) → IsReported (all_pass plan b.graph (values_of plan known b.history)) old new (run_text asked plan known b) s → RunAnswered asked known before after old new s (Some b)
+    by_status : (s : Status) → IsReported (all_pass plan b.graph (values_or_closings plan known b.history)) old new (run_text asked plan known b) s → RunAnswered asked known before after old new s (Some b)
     by_status Passed r = (plan, run, r)
     by_status TaskFailed r = (plan, run, r)
     by_status SinkFault r = (plan, run, r)

@@ -9,12 +9,15 @@ use Rattle.resource_lock.specs.declared.marks.Mark.{Mark}
 use Rattle.resource_lock.specs.declared.marks.MarkId.TheVariants.{Task as TaskOf}
 use Rattle.lock_journal.specs.Closings.{outcome_in}
 use Rattle.lock_journal.specs.BookView.{BookView}
+use Rattle.lock_journal.specs.Entry.{Entry}
 use Rattle.lock_journal.specs.Table.{has_passed}
 use Rattle.worker_desk.specs.SinkView.{SinkView, Wrote, Broke}
 use Rattle.plan_reader.specs.PlanView.{PlanView}
+use Rattle.plan_reader.specs.Units.{unit_value}
+use Rattle.run_laws.specs.Answers.{answers}
 use Rattle.run_laws.specs.ByNumber.{outcome_by}
 use Rattle.run_laws.specs.Outcomes.{task_outcome}
-use Rattle.build_runner.specs.Run.{IsRunOf, values_of, depth}
+use Rattle.build_runner.specs.Run.{IsRunOf, depth}
 use Rattle.build_runner.specs.declared.options.RunOptions.{RunOptions}
 use Rattle.history_text.specs.Text.{history_text}
 use Rattle.history_text.specs.Results.{results_text, summary_text, task_marks}
@@ -29,12 +32,18 @@ use Rattle.leases_cli.specs.declared.status.Status.{Status}
 use Rattle.leases_cli.specs.declared.status.Status.TheVariants.{Passed, TaskFailed, BadWords, SinkFault, NoMemory}
 
 abbrev pub options_of : RunWords → RunOptions
-options_of run = record { workers = run.workers; max_leases = run.max_leases; parallel = run.parallel }
+options_of run = record { workers = run.threads; max_leases = run.max_leases; parallel = run.parallel }
 
 -- The book is that of a run of this plan, which stands under the name that is asked for, with the options asked for.
 pub record IsNamedRun (asked : RunWords) (known : Option Folder) (before after : ℕ) (plan : PlanView) (b : BookView) : Type 0 where
   pub named : IsPlanAt known asked.plan plan
   pub run : IsRunOf plan (options_of asked) known before after b
+
+-- What each unit gives, for what is printed: by its file, where the files are known, but for the units that met a fault or
+-- want of memory. Where they aren't known, what its closing entry says.
+abbrev pub values_or_closings : PlanView → Option Folder → List Entry → ℕ → Outcome
+values_or_closings plan (Some files) h = answers (unit_value plan files) h
+values_or_closings plan None h = outcome_in h
 
 -- whether every task passes, by the plan and what its units give
 abbrev pub all_pass : PlanView → GraphView → (ℕ → Outcome) → Bool
@@ -61,7 +70,7 @@ abbrev pub text_by_book : RunWords → PlanView → BookView → List ℕ
 text_by_book asked plan b = results_asked asked plan (task_marks b.state) (outcome_in b.history) ++ history_asked asked b
 
 abbrev pub run_text : RunWords → PlanView → Option Folder → BookView → List ℕ
-run_text asked plan known b = text_by_plan asked plan (values_of plan known b.history) b
+run_text asked plan known b = text_by_plan asked plan (values_or_closings plan known b.history) b
 
 -- ---- a refusal
 
@@ -81,7 +90,7 @@ OfRun asked known before after b P = (plan : PlanView) × IsNamedRun asked known
 
 -- whether all its tasks pass, and that its text was written
 abbrev pub RunWrote : Bool → RunWords → Option Folder → SinkView → SinkView → BookView → PlanView → Type 0
-RunWrote passed asked known old new b plan = (all_pass plan b.graph (values_of plan known b.history) ≡ passed) × Wrote old new (run_text asked plan known b)
+RunWrote passed asked known old new b plan = (all_pass plan b.graph (values_or_closings plan known b.history) ≡ passed) × Wrote old new (run_text asked plan known b)
 
 -- How a run ended, by the files where known, the desk's count of faults before and after, and the sink before and after.
 abbrev pub RunEnded : RunWords → Option Folder → ℕ → ℕ → SinkView → SinkView → BookView → Status → Type 0

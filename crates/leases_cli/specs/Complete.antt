@@ -2,20 +2,20 @@
 use Rattle.std.specs.Prelude.{ℕ, ◌≡◌, ◌-◌, ◌^◌, ◌<◌, ◌⊎◌, List, Option, None, Some, Bool, true, false}
 use Rattle.std.specs.List.{AllByRecursion}
 use Rattle.item_actions.specs.Files.{Folder, file_of}
+use Rattle.item_actions.specs.Value.{value_on}
 use Rattle.item_actions.specs.declared.outcomes.Outcome.TheVariants as outcome
 use Rattle.lock_journal.specs.BookView.{BookView}
 use Rattle.plan_reader.specs.PlanView.{PlanView}
 use Rattle.run_laws.specs.ClosedBy.{faults_by}
 use Rattle.build_runner.specs.Phases.{first_worker}
-use Rattle.build_runner.specs.Run.{values_of}
 use Rattle.command_words.specs.declared.commands.Command.{Command}
 use Rattle.command_words.specs.declared.commands.Command.TheVariants.{Run, Worker}
 use Rattle.command_words.specs.declared.commands.RunWords.{RunWords}
-use Rattle.daemon_worker.specs.Answer.{Answer, value_on}
+use Rattle.daemon_worker.specs.Answer.{Answer}
 use Rattle.daemon_worker.specs.Serving.{Outside, HasServed}
 use Rattle.daemon_worker.specs.declared.serving.Served.{Served}
 use Rattle.daemon_worker.specs.declared.serving.Served.TheVariants as ends
-use Rattle.leases_cli.specs.Answered.{all_pass}
+use Rattle.leases_cli.specs.Answered.{all_pass, values_or_closings}
 use Rattle.leases_cli.specs.Causes.{IsPlanToRun}
 use Rattle.leases_cli.specs.Worker.{status_of}
 use Rattle.leases_cli.specs.declared.status.Status.{Status}
@@ -40,14 +40,14 @@ status_by false = TaskFailed
 
 -- The run ended, no unit was closed with Fault, and the status is that of the results; or there was no memory.
 abbrev pub HasSucceeded : PlanView → Folder → Status → Option BookView → Type 0
-HasSucceeded plan files status (Some b) = (faults_by first_worker b.history ≡ 0) × (status ≡ status_by (all_pass plan b.graph (values_of plan (Some files) b.history)))
+HasSucceeded plan files status (Some b) = (faults_by first_worker b.history ≡ 0) × (status ≡ status_by (all_pass plan b.graph (values_or_closings plan (Some files) b.history)))
 HasSucceeded plan files status None = status ≡ NoMemory
 
 -- ---- a worker
 
 -- a request was answered with its value, or for want of memory
 abbrev pub HasValue : Folder → Answer → Type 0
-HasValue files a = (a.outcome ≡ value_on files a.request) ⊎ (a.outcome ≡ outcome.NoMemory)
+HasValue files a = (a.outcome ≡ value_on files a.request.action a.request.file) ⊎ (a.outcome ≡ outcome.NoMemory)
 
 -- serving ended as the frames say, or for want of memory
 abbrev pub IsByFrames : Served → Type 0

@@ -9,6 +9,3 @@ mod worker;
 pub use status::Status;
 pub use top::{Ended, leases};
 pub use worker::serve_worker;
-
-#[cfg(test)]
-mod tests;

@@ -1,4 +1,4 @@
-//! The lines that tell refusals. They take no memory.
+//! The lines of refusals. They take no memory.
 ghost use Rattle.leases_cli.specs.Lines.{bad_plan_line, excess_label, label_of, line_of, part_word, place_text};
 ghost use Rattle.plan_table.specs.First.{place_of};
 ghost use Rattle.std.specs.Prelude.{◌≡◌};
@@ -101,7 +101,7 @@ fn write_bad_plan<K: Sink>(refusal: PlanRefusal, page: &mut Page, sink: &mut K)
     page.text(sink, b"\n");
 }
 
-/// Tells the line of a refusal. The other statuses have none.
+/// Writes the line of a refusal. The other statuses have none.
 fn write_refusal<K: Sink>(refusal: &Status, page: &mut Page, sink: &mut K)
     ensures { Adds (K.seen sink.old) page.old (K.seen sink.new) page.new (line_of refusal.now) }
 {

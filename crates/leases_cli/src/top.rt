@@ -8,10 +8,10 @@ ghost use Rattle.worker_desk.specs.SinkView.{Prints};
 ghost use Rattle.plan_reader.specs.Units.{plan_units};
 ghost use Rattle.run_laws.specs.Marks.{HasEnded};
 ghost use Rattle.item_actions.specs.Files.{Folder};
-ghost use Rattle.build_runner.specs.Run.{IsRunOf, values_of};
+ghost use Rattle.build_runner.specs.Run.{IsRunOf};
 ghost use Rattle.command_words.specs.Reading.{HasBounds, IsBounded, command_of};
 ghost use Rattle.command_words.specs.declared.commands.Command.TheVariants as commands;
-ghost use Rattle.leases_cli.specs.Answered.{Answered, RunAnswered, IsToldAs, all_pass, have_all_passed, history_asked, options_of, run_text, text_by_book};
+ghost use Rattle.leases_cli.specs.Answered.{Answered, RunAnswered, IsToldAs, all_pass, have_all_passed, history_asked, options_of, run_text, text_by_book, values_or_closings};
 ghost use Rattle.leases_cli.specs.Complete.{IsComplete};
 ghost use Rattle.leases_cli.specs.Reported.{IsReported};
 ghost use Rattle.leases_cli.specs.Causes.{IsPlanAt, IsPlanToRun, IsReadCause, IsRefusedBy, OrNoMemory};
@@ -74,7 +74,7 @@ fn read<D: Files>(alloc: Global, name: &Text, desk: &mut D) -> Result<Plan, Stat
     }
 }
 
-/// Tells the history of a run, where the words ask for it.
+/// Writes the history of a run, where the words ask for it.
 fn write_history_asked<O: Sink>(asked: &RunWords, book: &Book, page: &mut Page, out: &mut O)
     ensures { Adds (O.seen out.old) page.old (O.seen out.new) page.new (history_asked asked.now book.now) }
 {
@@ -155,7 +155,7 @@ fn report_run<O: Sink>(asked: &RunWords, plan: &Plan, book: Book, out: &mut O) -
     requires { (known : Option Folder) × (before : ℕ) × (after : ℕ) × IsRunOf plan.now (options_of asked.now) known before after book }
     ensures book { result.book ≡ Some book }
     ensures status { (known : Option Folder) (before after : ℕ) → IsRunOf plan.now (options_of asked.now) known before after book
-        → IsReported (all_pass plan.now book.graph (values_of plan.now known book.history)) (O.seen out.old) (O.seen out.new) (run_text asked.now plan.now known book) result.status }
+        → IsReported (all_pass plan.now book.graph (values_or_closings plan.now known book.history)) (O.seen out.old) (O.seen out.new) (run_text asked.now plan.now known book) result.status }
 {
     let _ = book.graph();
     outcomes_go_by_number();
@@ -176,7 +176,7 @@ fn run<D: Files, O: Sink>(alloc: Global, asked: &RunWords, desk: &mut D, out: &m
         Err(refusal) => return refuse(refusal, out),
     };
     let options = RunOptions {
-        workers: asked.workers,
+        workers: asked.threads,
         max_leases: asked.max_leases,
         parallel: asked.parallel,
     };

@@ -17,7 +17,7 @@ pub returns-clause-keeps : goal.returns-clause-keeps
 returns-clause-keeps g c = λ plan planned. on_ok_weaker c.close.result (λ closed.
     let d : Closed = record { unit = c.args.unit; outcome = c.work_out-outcome.result } in
     let work = c.work_out-outcome.ensures in
-    keeps_closed (g.D.Files.files c.args.desk.now) plan (g.D.Files.faults c.args.desk.now) (g.D.Files.faults c.work_out-outcome.new.desk) c.args.book.now.history c.close.new.book.history d
+    keeps_closed (g.D.Files.files c.args.desk.now) plan (g.D.Files.faults c.args.desk.now) (g.D.Files.faults c.work_out-outcome.new.files) c.args.book.now.history c.close.new.book.history d
     (closed_then c.args.book.now.history c.claim.new.book.history c.close.new.book.history [] (d ∷ []) c.in_ok-claim.ensures.closed closed)
-    work.count (counted d _ _ work.fault work.count)
+    work.kept (counted d _ _ work.fault work.kept)
     (planned_honest (g.D.Files.files c.args.desk.now) plan c.args.unit d.outcome _ planned work.honest)) c.close.ensures.closed

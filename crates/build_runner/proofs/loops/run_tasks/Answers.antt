@@ -31,7 +31,7 @@ go_on-requires-clause-dependents g c = λ k h.
     let all = c.in_ok-dependents.dependents.items in
     let are : AreDependents old all = subst (λ (o : GraphView). AreDependents o all) c.graph.ensures.value c.in_ok-dependents.ensures in
     let list : c.dependents_at.result.now ≡ after (lists_of all) c.task-task.result = c.dependents_at.ensures ∙ ap (λ ds. after (lists_of ds) c.task-task.result) c.deref.ensures.value in
-    subst (λ (ks : List ℕ). Contains ks k) (sym list) (are.complete c.task-task.result k (subst (λ (o : GraphView). Contains (task_of o k).after c.task-task.result) (c.make_choice.ensures.graph ∙ c.loop-choice.invariant.graph) h))
+    subst (λ (ks : List ℕ). Contains ks k) (sym list) ((are.each c.task-task.result k).1 (subst (λ (o : GraphView). Contains (task_of o k).after c.task-task.result) (c.make_choice.ensures.graph ∙ c.loop-choice.invariant.graph) h))
 
 pub loop-choice-smaller : goal.loop-choice-smaller
 loop-choice-smaller g c =
@@ -58,7 +58,7 @@ loop-choice-preserved g c =
     record {
       graph = same;
       belongs = subst (λ (o : GraphView). BelongsTo o s) same c.go_on.ensures.belongs;
-      rest = run.resting;
+      rest = run.rest;
       settled = settled_after old r s t c.of.ensures.fits (are_plain c.args.plan.now old c.requires.graph c.requires.form) (open_within old r c.in-Some.choice is_open) run here.settled;
       ready = subst (λ (o : GraphView). AreReady o s NoTask c.go_on.new.self) same (c.in_ok-go_on.ensures.ready r ends (subst (λ (o : GraphView). AreReady o r NoTask c.loop-choice.ready) (sym same) here.ready));
       files = c.make_choice.ensures.files ∙ here.files;

@@ -1,6 +1,7 @@
 use Rattle.std.proofs.Common.{◌≡◌, ◌≤◌}
 use Rattle.resource_lock.specs.Shape.{BelongsTo}
-use Rattle.build_runner.specs.Phases.{AreSettled, IsResting}
+use Rattle.resource_lock.specs.AtRest.{IsAtRest}
+use Rattle.build_runner.specs.Phases.{AreSettled}
 use Rattle.build_runner.specs.Kept.{Keeps}
 use Rattle.build_runner.specs.Ready.{AreReady, NoTask}
 use Rattle.build_runner.proofs.Progress.{waiting}
@@ -11,7 +12,7 @@ abbrev pub invariant-loop-choice : goal.invariant-loop-choice
 invariant-loop-choice g l = record {
   graph : l.book.graph ≡ l.fn.book.graph;
   belongs : BelongsTo l.fn.book.graph l.book.state;
-  rest : IsResting l.book.state;
+  rest : IsAtRest l.book.state;
   settled : AreSettled l.fn.book.graph l.book.state;
   ready : AreReady l.fn.book.graph l.book.state NoTask l.ready;
   files : g.D.Files.files l.desk ≡ g.D.Files.files l.fn.desk;

@@ -4,10 +4,10 @@ use Rattle.task_ranks.specs.Rank.{InRange, lists_of}
 use Rattle.task_ranks.specs.Dependents.{ListsDependents}
 use Rattle.build_runner.specs.Dependents.{AreDependents}
 use Rattle.build_runner.proofs.AfterLists.{afters_within, are_dependents}
-use Rattle.build_runner.proofs.dependents.dependents_of.Goals as goal
+use Rattle.build_runner.proofs.dependents.all_dependents.Goals as goal
 
 pub dependents_of-requires : goal.dependents_of-requires
 dependents_of-requires c = subst InRange (sym (ap lists_of c.deref.ensures.value ∙ c.in_ok-rows.ensures.rows)) (afters_within c.args.graph.now c.dependencies_of.ensures.fits)
 
 pub returns : goal.returns
-returns c = IfOk-weaker c.dependents_of.result (λ dependents. ListsDependents (lists_of c.deref.result.now) (length c.deref.result.now) (lists_of dependents.items)) (λ all. AreDependents c.args.graph.now all.items) (λ all lists. are_dependents c.args.graph.now c.deref.result.now all.items (ap lists_of c.deref.ensures.value ∙ c.in_ok-rows.ensures.rows) lists) c.dependents_of.ensures
+returns c = IfOk-weaker c.dependents_of.result (λ all. ListsDependents (lists_of c.deref.result.now) (length c.deref.result.now) (lists_of all.items)) (λ all. AreDependents c.args.graph.now all.items) (λ all lists. are_dependents c.args.graph.now c.deref.result.now all.items (ap lists_of c.deref.ensures.value ∙ c.in_ok-rows.ensures.rows) lists) c.dependents_of.ensures

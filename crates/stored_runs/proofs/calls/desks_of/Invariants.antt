@@ -1,5 +1,5 @@
 use Rattle.std.proofs.Common.{◌≡◌, length}
-use Rattle.leases_cli.proofs.tests.call_words.Given as goal
+use Rattle.stored_runs.proofs.calls.desks_of.Given as goal
 
 -- as many desks as turns, with the first
 abbrev pub invariant-loop : goal.invariant-loop

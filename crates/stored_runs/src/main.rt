@@ -1,0 +1,38 @@
+//! Makes the calls of the program that case files list, and prints what each answered and wrote.
+//!
+//! The words after the program's name are the names of case files. A line `=== NAME` begins a case, and a line
+//! that begins with `--- ` a section of it. What stands before the first case of a file belongs to each of them.
+//! `cases.rt` says what the sections mean.
+#![tactic(auto)]
+
+mod calls;
+mod cases;
+
+use crate::calls::print_answer;
+use crate::cases::Case;
+use anyhow::Result;
+use std::{env, fs};
+
+/// Makes the calls of a case file, in order.
+fn run_file(rt: &HostRuntime, text: &str) -> Result<()> {
+    let text = text.strip_suffix('\n').unwrap_or(text);
+    let mut parts = text.split("\n=== ");
+    let Some(shared) = parts.next() else {
+        return Ok(());
+    };
+    for part in parts {
+        let mut case = Case::new(rt.alloc());
+        case.add_sections(rt.alloc(), shared)?;
+        case.add_sections(rt.alloc(), part)?;
+        print_answer(rt, part.lines().next().unwrap_or(""), case)?;
+    }
+    Ok(())
+}
+
+fn main(rt: HostRuntime) -> Result<()> {
+    for arg in env::args(&rt)?.skip(1) {
+        let text = fs::read_to_string(&rt, arg.as_str())?;
+        run_file(&rt, text.as_str())?;
+    }
+    Ok(())
+}
