@@ -5,3 +5,4 @@ pub mod Outcomes
 pub mod Makings
 pub mod Within
 pub mod Skipped
+pub mod Taken

@@ -1,5 +1,6 @@
 //! The transforms of the kinds of entry.
 
+mod acquires;
 mod claims;
 mod closes;
 mod ends;
@@ -13,7 +14,9 @@ mod skipping;
 mod skips;
 mod starts;
 mod submits;
+mod taking;
 
+pub use acquires::{Acquire, Shortage};
 pub use claims::Claim;
 pub use closes::Close;
 pub use ends::End;
@@ -22,6 +25,7 @@ pub use resumes::Resume;
 pub use skips::Skip;
 pub use starts::Start;
 pub use submits::Submit;
+pub use taking::take_all;
 
 #[cfg(test)]
 mod tests;
