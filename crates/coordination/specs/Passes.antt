@@ -1,6 +1,6 @@
 -- A pass and a service, as contracts see them.
 use Rattle.std.specs.Prelude.{◌≡◌, []}
-use Rattle.atomic_table.specs.PassView.{TableId}
+use Rattle.atomic_table.specs.Seated.{TableId}
 use Rattle.resource_lock.specs.declared.ids.WorkerId.{WorkerId}
 use Rattle.lock_journal.specs.BookView.{BookView}
 use Rattle.coordination.specs.declared.rule.Sight.{Sight}

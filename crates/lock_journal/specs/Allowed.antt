@@ -40,6 +40,10 @@ abbrev pub IsListOf : GraphView → StateView → WorkerId → Kind → List Cha
 IsListOf g s w Acquire cs = acquires 0 (holding_of s w).lease cs ≡ true
 IsListOf g s w kind cs = cs ≡ list_of g s w kind
 
+-- the list of changes is the one that the kind and the state fix
+abbrev pub IsFixedList : Kind → GraphView → WorkerId → StateView → List Change → Type 0
+IsFixedList kind g w s cs = cs ≡ list_of g s w kind
+
 -- The condition holds, the list is the kind's, and each change can be made in turn.
 pub record Finishes (g : GraphView) (s : StateView) (w : WorkerId) (kind : Kind) (cs : List Change) : Type 0 where
   pub condition : condition g s w kind ≡ true

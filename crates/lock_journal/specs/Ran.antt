@@ -9,8 +9,9 @@ use Rattle.lock_journal.specs.Allowed.{Allowed}
 use Rattle.lock_journal.specs.BookView.{BookView}
 use Rattle.lock_journal.specs.declared.entries.Kind.{Kind}
 
--- The history has one more entry, which was allowed, and the state is its effect.
-pub record HasFinished (old new : BookView) (w : WorkerId) (kind : Kind) (changes : List Change) : Type 0 where
+-- The changes are some that the transform makes, the history has one more entry with them, which was allowed, and the state is its effect.
+pub record HasFinished (makes : GraphView → WorkerId → StateView → List Change → Type 0) (old new : BookView) (w : WorkerId) (kind : Kind) (changes : List Change) : Type 0 where
+  pub made : makes old.graph w old.state changes
   pub allowed : Allowed old.graph old.state (entry w kind (Some changes))
   pub history : new.history ≡ old.history ++ entry w kind (Some changes) ∷ []
   pub state : new.state ≡ effect old.state (entry w kind (Some changes))

@@ -148,7 +148,7 @@ impl Book {
         requires { worker.0 < self.old.graph.workers }
         ensures graph { self.new.graph ≡ self.old.graph }
         ensures finished { result ≡ Ok Disposition.Finished
-            → (changes : List Change) × HasFinished self.old self.new worker (T.kind_of transform.now) changes }
+            → (changes : List Change) × HasFinished (T.makes transform.now) self.old self.new worker (T.kind_of transform.now) changes }
         ensures failed { result ≡ Ok Disposition.Failed
             → HasFailed (T.fails_on transform.now) self.old self.new worker (T.kind_of transform.now) }
         ensures retry { result ≡ Ok Disposition.Retry

@@ -189,6 +189,8 @@ impl Tentative {
             → self.new.state ≡ make_all self.old.state worker self.new.made }
         ensures allowed { result ≡ Disposition.Finished
             → Allowed self.old.graph self.old.state (entry worker (T.kind_of transform.now) (Some self.new.made)) }
+        ensures makes { result ≡ Disposition.Finished
+            → T.makes transform.now self.old.graph worker self.old.state self.new.made }
         ensures fresh { result ≢ Disposition.Finished → self.new.made ≡ [] }
         ensures undone { result ≢ Disposition.Finished → self.new.state ≡ self.old.state }
         ensures failed { result ≡ Disposition.Failed

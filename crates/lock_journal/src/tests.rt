@@ -1,5 +1,6 @@
-ghost use Rattle.std.specs.Prelude.{◌≡◌, ◌<◌, ◌≤◌, ◌+◌, length, true, false, IfOk};
+ghost use Rattle.std.specs.Prelude.{◌≡◌, ◌<◌, ◌≤◌, ◌+◌, ◌∷◌, [], length, true, false, IfOk};
 ghost use Rattle.lock_journal.specs.TentativeView.{TentativeView, Worked};
+ghost use Rattle.resource_lock.specs.declared.changes.Change.TheVariants as changes;
 ghost use Rattle.lock_journal.specs.declared.entries.Kind.TheVariants as kinds;
 
 use crate::{Book, Disposition, Kind, Shown, Tentative, Transform};
@@ -18,6 +19,8 @@ impl Transform for Acquire {
     ghost kind_of = { λ _. kinds.Acquire };
 
     ghost most = { λ _. 2 };
+
+    ghost makes = { λ t _ _ _ cs. cs ≡ changes.Lock t.lock ∷ changes.Take ∷ [] };
 
     ghost fails_on = { λ _ _ _ _. Unit {0} };
 
@@ -71,6 +74,8 @@ impl Transform for Unfinished {
     ghost kind_of = { λ _. kinds.Acquire };
 
     ghost most = { λ _. 3 };
+
+    ghost makes = { λ _ _ _ _ _. ⊥ };
 
     ghost fails_on = { λ t _ _ _. t.again ≡ false };
 

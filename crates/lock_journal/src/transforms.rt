@@ -1,6 +1,7 @@
-ghost use Rattle.std.specs.Prelude.{◌≡◌, ◌≤◌, ℕ, [], length, Some};
+ghost use Rattle.std.specs.Prelude.{◌≡◌, ◌≤◌, ℕ, List, [], length, Some};
 ghost use Rattle.resource_lock.specs.StateView.{StateView};
 ghost use Rattle.resource_lock.specs.GraphView.{GraphView};
+ghost use Rattle.resource_lock.specs.declared.changes.Change.{Change};
 ghost use Rattle.resource_lock.specs.declared.ids.WorkerId.{WorkerId};
 ghost use Rattle.lock_journal.specs.declared.entries.Kind.{Kind};
 ghost use Rattle.lock_journal.specs.TentativeView.{Worked};
@@ -29,6 +30,10 @@ pub trait Transform {
     /// At most how many changes it makes.
     ghost most: { Self → ℕ };
 
+    /// Which changes it makes, where it finishes: a fact of the graph, the worker, the state before
+    /// and their list.
+    ghost makes: { Self → GraphView → WorkerId → StateView → List Change → Type 0 };
+
     /// Where it may fail: a fact of the graph, the worker and the state before.
     ghost fails_on: { Self → GraphView → WorkerId → StateView → Type 0 };
 
@@ -52,6 +57,7 @@ pub trait Transform {
         // Where it finishes, the entry of its kind and its changes is allowed in the state before.
         ensures finished { result ≡ Disposition.Finished
             → Allowed work.old.graph work.old.state (entry work.old.worker (kind_of self.now) (Some work.new.made)) }
+        ensures makes { result ≡ Disposition.Finished → makes self.now work.old.graph work.old.worker work.old.state work.new.made }
         // It fails only where it says so, and where its failed entry is allowed.
         ensures failed { result ≡ Disposition.Failed
             → fails_on self.now work.old.graph work.old.worker work.old.state × IsKindOf work.old.graph (kind_of self.now) }

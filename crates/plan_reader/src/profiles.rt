@@ -3,7 +3,7 @@ ghost use Rattle.std.specs.Prelude.{string_bytes, ◌≡◌, [], true, map, None
 ghost use Rattle.std.specs.List.{list_all};
 ghost use Rattle.std.specs.Option.{option_map_or};
 ghost use Rattle.toml.specs.View.{view};
-ghost use Rattle.daemon_requirements.specs.RequirementsView.{requirements_from as fields_profile, HasDistinctNames};
+ghost use Rattle.daemon_requirements.specs.RequirementsView.{requirements_view, HasDistinctNames};
 ghost use Rattle.plan_table.specs.Keys.{requirements_of, heap_of};
 ghost use Rattle.plan_table.specs.Values.{text_of};
 ghost use Rattle.plan_reader.specs.Names.{texts, names_in};
@@ -59,7 +59,7 @@ fn pairs_of(alloc: Global, table: Option<&Table>) -> Result<Vec<Pair>, AllocErro
 
 fn fields_of(alloc: Global, requirements: &Value) -> Result<RequirementFields, AllocError>
     requires { is_heap (heap_of (view requirements.now)) ≡ true }
-    ensures fields { IfOk result (λ f. fields_profile f ≡ requirements_from (view requirements.now)) }
+    ensures fields { IfOk result (λ f. requirements_view f ≡ requirements_from (view requirements.now)) }
     ensures distinct { IfOk result (λ f. HasDistinctNames f.properties.items × HasDistinctNames f.variables.items) }
 {
     Ok(RequirementFields {

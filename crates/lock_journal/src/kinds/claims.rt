@@ -1,5 +1,6 @@
 ghost use Rattle.std.specs.Prelude.{◌≡◌, ◌≢◌, ◌<◌, false};
 ghost use Rattle.resource_lock.specs.StateView.{mark_of};
+ghost use Rattle.lock_journal.specs.Allowed.{IsFixedList};
 ghost use Rattle.lock_journal.specs.Table.{is_enabled};
 ghost use Rattle.lock_journal.specs.declared.entries.Kind.TheVariants as kinds;
 ghost use Rattle.resource_lock.specs.declared.marks.MarkId.TheVariants as ids;
@@ -27,6 +28,8 @@ impl Transform for Claim {
     ghost kind_of = { λ t. kinds.Claim t.unit };
 
     ghost most = { λ _. 2 };
+
+    ghost makes = { λ t. IsFixedList (kinds.Claim t.unit) };
 
     ghost fails_on = { λ t g w s. mark_of s (ids.Unit t.unit) ≢ marks.Queued };
 

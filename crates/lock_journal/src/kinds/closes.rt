@@ -1,5 +1,5 @@
 ghost use Rattle.std.specs.Prelude.{◌≡◌, false};
-ghost use Rattle.lock_journal.specs.Allowed.{IsKindOf};
+ghost use Rattle.lock_journal.specs.Allowed.{IsFixedList, IsKindOf};
 ghost use Rattle.lock_journal.specs.Table.{is_enabled, mark_from};
 ghost use Rattle.lock_journal.specs.declared.entries.Kind.TheVariants as kinds;
 
@@ -26,6 +26,8 @@ impl Transform for Close {
     ghost kind_of = { λ t. kinds.Close t.closed };
 
     ghost most = { λ _. 2 };
+
+    ghost makes = { λ t. IsFixedList (kinds.Close t.closed) };
 
     ghost fails_on = { λ t g w s. ⊥ };
 

@@ -5,7 +5,7 @@ ghost use Rattle.resource_lock.specs.GraphView.{task_of};
 ghost use Rattle.resource_lock.specs.Ranges.{actions_of, earlier_actions, units_of};
 ghost use Rattle.resource_lock.specs.Shape.{BelongsTo};
 ghost use Rattle.resource_lock.specs.StateView.{mark_of};
-ghost use Rattle.lock_journal.specs.Allowed.{IsKindOf};
+ghost use Rattle.lock_journal.specs.Allowed.{IsFixedList, IsKindOf};
 ghost use Rattle.lock_journal.specs.Making.{Makes};
 ghost use Rattle.lock_journal.specs.Table.{end_mark, has_passed, is_enabled, never_ran, units_passed};
 ghost use Rattle.lock_journal.specs.declared.entries.Kind.TheVariants as kinds;
@@ -44,6 +44,8 @@ impl Transform for End {
     ghost kind_of = { λ t. kinds.End t.task };
 
     ghost most = { λ _. 8203 };
+
+    ghost makes = { λ t. IsFixedList (kinds.End t.task) };
 
     ghost fails_on = { λ t g w s. ⊥ };
 

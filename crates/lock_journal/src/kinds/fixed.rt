@@ -1,7 +1,7 @@
 //! What the kinds share whose changes the graph, the state and the worker fix.
 ghost use Rattle.std.specs.Prelude.{◌≡◌, ◌<◌, ◌≤◌, ◌↔◌, ℕ, IsTrue, [], false, length, Some};
 ghost use Rattle.resource_lock.specs.Shape.{BelongsTo};
-ghost use Rattle.lock_journal.specs.Allowed.{Allowed, IsKindOf, IsListOf};
+ghost use Rattle.lock_journal.specs.Allowed.{Allowed, IsFixedList, IsKindOf, IsListOf};
 ghost use Rattle.lock_journal.specs.TentativeView.{Worked};
 ghost use Rattle.lock_journal.specs.Entry.{entry};
 ghost use Rattle.lock_journal.specs.Making.{Makes};
@@ -58,6 +58,8 @@ pub(crate) fn run_fixed<K: FixedKind>(kind: &K, work: &mut Tentative) -> Progres
     ensures few { length work.new.made ≤ K.most kind.now }
     ensures made { result ≡ Progress.Made
         → Allowed work.old.graph work.old.state (entry work.old.worker (K.kind_of kind.now) (Some work.new.made)) }
+    ensures list { result ≡ Progress.Made
+        → IsFixedList (K.kind_of kind.now) work.old.graph work.old.worker work.old.state work.new.made }
     ensures not_enabled { result ≡ Progress.NotEnabled
         → (is_enabled work.old.graph work.old.state work.old.worker (K.kind_of kind.now) ≡ false) × IsKindOf work.old.graph (K.kind_of kind.now) }
     ensures out_of_range { result ≡ Progress.OutOfRange → ¬ IsKindOf work.old.graph (K.kind_of kind.now) }

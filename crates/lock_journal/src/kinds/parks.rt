@@ -1,5 +1,5 @@
 ghost use Rattle.std.specs.Prelude.{◌≡◌, false};
-ghost use Rattle.lock_journal.specs.Allowed.{IsKindOf};
+ghost use Rattle.lock_journal.specs.Allowed.{IsFixedList, IsKindOf};
 ghost use Rattle.lock_journal.specs.Table.{is_enabled};
 ghost use Rattle.lock_journal.specs.declared.entries.Kind.TheVariants as kinds;
 
@@ -28,6 +28,8 @@ impl Transform for Park {
     ghost kind_of = { λ t. kinds.Park t.action };
 
     ghost most = { λ _. 4 };
+
+    ghost makes = { λ t. IsFixedList (kinds.Park t.action) };
 
     ghost fails_on = { λ t g w s. ⊥ };
 

@@ -1,7 +1,7 @@
 ghost use Rattle.std.specs.Prelude.{◌≡◌, ◌≤◌, ◌+◌, false, length};
 ghost use Rattle.std.specs.List.{list_all, range_with_len};
 ghost use Rattle.resource_lock.specs.StateView.{mark_of};
-ghost use Rattle.lock_journal.specs.Allowed.{IsKindOf};
+ghost use Rattle.lock_journal.specs.Allowed.{IsFixedList, IsKindOf};
 ghost use Rattle.lock_journal.specs.Table.{has_ended, is_enabled};
 ghost use Rattle.lock_journal.specs.declared.entries.Kind.TheVariants as kinds;
 ghost use Rattle.resource_lock.specs.declared.marks.MarkId.TheVariants as ids;
@@ -31,6 +31,8 @@ impl Transform for Resume {
     ghost kind_of = { λ t. kinds.Resume t.action };
 
     ghost most = { λ _. 4 };
+
+    ghost makes = { λ t. IsFixedList (kinds.Resume t.action) };
 
     ghost fails_on = { λ t g w s. ⊥ };
 

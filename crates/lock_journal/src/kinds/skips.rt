@@ -1,6 +1,7 @@
 ghost use Rattle.std.specs.Prelude.{◌≡◌, ◌≤◌, ◌<◌, All, false, length};
 ghost use Rattle.std.specs.List.{list_any};
 ghost use Rattle.resource_lock.specs.StateView.{mark_of};
+ghost use Rattle.lock_journal.specs.Allowed.{IsFixedList};
 ghost use Rattle.lock_journal.specs.Table.{has_fallen, is_enabled};
 ghost use Rattle.lock_journal.specs.declared.entries.Kind.TheVariants as kinds;
 ghost use Rattle.resource_lock.specs.declared.marks.MarkId.TheVariants as ids;
@@ -29,6 +30,8 @@ impl Transform for Skip {
     ghost kind_of = { λ t. kinds.Skip t.task };
 
     ghost most = { λ _. 8201 };
+
+    ghost makes = { λ t. IsFixedList (kinds.Skip t.task) };
 
     ghost fails_on = { λ t g w s. is_enabled g s w (kinds.Skip t.task) ≡ false };
 

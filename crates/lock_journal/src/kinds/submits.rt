@@ -1,6 +1,6 @@
 ghost use Rattle.std.specs.Prelude.{◌≡◌, ◌<◌, false, length};
 ghost use Rattle.resource_lock.specs.Shape.{BelongsTo};
-ghost use Rattle.lock_journal.specs.Allowed.{IsKindOf};
+ghost use Rattle.lock_journal.specs.Allowed.{IsFixedList, IsKindOf};
 ghost use Rattle.lock_journal.specs.Table.{fetch_closed, is_enabled};
 ghost use Rattle.lock_journal.specs.declared.entries.Kind.TheVariants as kinds;
 
@@ -29,6 +29,8 @@ impl Transform for Submit {
     ghost kind_of = { λ t. kinds.Submit t.action };
 
     ghost most = { λ _. 8193 };
+
+    ghost makes = { λ t. IsFixedList (kinds.Submit t.action) };
 
     ghost fails_on = { λ t g w s. ⊥ };
 

@@ -52,6 +52,8 @@ returns-in-Finished-clause-finished g c = λ _.
     let state : c.self.inside.tentative.state ≡ c.args.self.now.state = ap (λ (l : BookView). l.state) c.self.view_is ∙ c.in_ok-reserve.ensures.same.state in (
       c.attempt-disposition.new.self.made,
       record {
+        made = subst (λ (o : GraphView). g.T.Transform.makes c.args.transform.now o c.args.worker c.args.self.now.state c.attempt-disposition.new.self.made) graph
+            (subst (λ (s : StateView). g.T.Transform.makes c.args.transform.now c.self.inside.tentative.graph c.args.worker s c.attempt-disposition.new.self.made) state (c.attempt-disposition.ensures.makes c.in-Finished.is));
         allowed = subst (λ (o : GraphView). Allowed o c.args.self.now.state (entry c.args.worker (g.T.Transform.kind_of c.args.transform.now) (Some c.attempt-disposition.new.self.made))) graph
             (subst (λ (s : StateView). Allowed c.self.inside.tentative.graph s (entry c.args.worker (g.T.Transform.kind_of c.args.transform.now) (Some c.attempt-disposition.new.self.made))) state more.allowed);
         history = more.entries ∙ ap (λ (h : List Entry). h ++ entry c.args.worker (g.T.Transform.kind_of c.args.transform.now) (Some c.attempt-disposition.new.self.made) ∷ []) history;
