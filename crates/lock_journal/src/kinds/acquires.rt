@@ -41,6 +41,8 @@ impl Transform for Acquire<'_> {
 
     ghost most = { λ t. length t.locks.now + 1 };
 
+    ghost makes = { λ t g w s cs. cs ≡ acquired s w t.locks.now };
+
     ghost fails_on = { λ t g w s. (t.shortage ≡ shortages.Fails) × (can_take_all s w t.locks.now ≡ false) };
 
     ghost retries_on = { λ t g w s. (may_acquire g s w t.locks.now ≡ false) ⊎ ((t.shortage ≡ shortages.Waits) × (can_take_all s w t.locks.now ≡ false)) };
