@@ -6,3 +6,4 @@ pub mod Makings
 pub mod Within
 pub mod Skipped
 pub mod Taken
+pub mod Freed

@@ -13,3 +13,4 @@ pub mod Book
 pub mod Ran
 pub mod Making
 pub mod Taking
+pub mod Freeing
