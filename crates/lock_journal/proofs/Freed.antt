@@ -13,10 +13,10 @@ use Rattle.resource_lock.proofs.Runs.{can_all-append}
 use Rattle.resource_lock.specs.declared.ids.LockId.{LockId}
 use Rattle.resource_lock.specs.declared.ids.WorkerId.{WorkerId}
 use Rattle.resource_lock.specs.declared.changes.Change.{Change}
-use Rattle.resource_lock.specs.declared.changes.Change.TheVariants.{Unlock, Give, Park as ParkLock}
+use Rattle.resource_lock.specs.declared.changes.Change.TheVariants.{Unlock, Give, Enter, Park as ParkLock}
 use Rattle.lock_journal.specs.TentativeView.{TentativeView, noted, without_lease}
 use Rattle.lock_journal.specs.Making.{Makes}
-use Rattle.lock_journal.specs.Table.{condition, is_enabled, owned_from, owned, parked_locks}
+use Rattle.lock_journal.specs.Table.{condition, is_enabled, owned_from, owned, parked_locks, set_down}
 use Rattle.lock_journal.specs.declared.entries.Kind.TheVariants as kinds
 use Rattle.lock_journal.specs.Freeing.{freed, if_owned}
 use Rattle.lock_journal.proofs.Makings.{makes_none, makes_one, makes_then, makes_stopped}
@@ -210,3 +210,11 @@ can_hand_back s w = can_all-append s w (map Unlock (owned s w)) (lease_given s w
 -- so only the condition can keep it from that
 pub not_to_hand_back : (g : GraphView) (s : StateView) (w : WorkerId) → is_enabled g s w kinds.HandBack ≡ false → condition g s w kinds.HandBack ≡ false
 not_to_hand_back g s w is = sym (and-true (condition g s w kinds.HandBack)) ∙ ap (λ b. condition g s w kinds.HandBack && b) (sym (can_hand_back s w)) ∙ is
+
+-- all locks given back and parked, and what comes before and behind
+pub few_set_down : {g : GraphView} {s : StateView} (w : WorkerId) → Fits g → BelongsTo g s → length (set_down s w) ≤ 8194
+few_set_down {s = s} w fits belongs = omega (arith, few_locks_owned w fits belongs, length-parked_locks (owned s w), length-append (parked_locks (owned s w)) (Enter ∷ []))
+
+-- the same locks, once the lease was given back
+pub owned_without : {a b : TentativeView} → Makes a b (Give ∷ []) true → owned b.state b.worker ≡ owned a.state a.worker
+owned_without {a} {b} made = ap (λ (w : WorkerId). owned b.state w) made.worker ∙ ap (λ (s : StateView). owned s a.worker) (made.whole refl).state

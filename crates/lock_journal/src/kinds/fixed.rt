@@ -26,6 +26,7 @@ pub(crate) trait FixedKind {
     /// Whether its condition holds.
     fn condition_holds(&self, graph: &Graph, state: &State, worker: WorkerId) -> bool
         requires in_range { IsKindOf graph.now (kind_of self.now) }
+        requires fits { Fits graph.now }
         requires belongs { BelongsTo graph.now state.now }
         requires worker_in_range { worker.0 < graph.now.workers }
         ensures { result ≡ condition graph.now state.now worker (kind_of self.now) };

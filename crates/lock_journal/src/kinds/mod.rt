@@ -1,6 +1,7 @@
 //! The transforms of the kinds of entry.
 
 mod acquires;
+mod blocks;
 mod claims;
 mod closes;
 mod ends;
@@ -19,6 +20,7 @@ mod submits;
 mod taking;
 
 pub use acquires::{Acquire, Shortage};
+pub use blocks::Block;
 pub use claims::Claim;
 pub use closes::Close;
 pub use ends::End;
