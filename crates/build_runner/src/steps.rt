@@ -26,7 +26,7 @@ fn finish<T: Transform>(book: &mut Book, transform: &T) -> Result<(), AllocError
     ensures fits { Fits book.old.graph }
     ensures belongs { BelongsTo book.old.graph book.old.state }
     ensures graph { book.new.graph ≡ book.old.graph }
-    ensures finished { OnOk result ((changes : List Change) × HasFinished book.old book.new first_worker (T.kind_of transform.now) changes) }
+    ensures finished { OnOk result ((changes : List Change) × HasFinished (T.makes transform.now) book.old book.new first_worker (T.kind_of transform.now) changes) }
 {
     // What holds of every book.
     let _ = book.graph();

@@ -12,14 +12,14 @@ use Rattle.coordination.specs.declared.rule.Sight.{Sight}
 use Rattle.coordination.specs.declared.halts.Halt.{Halt}
 use Rattle.coordination.specs.declared.halts.Halt.TheVariants.{Stopped}
 use Rattle.coordination.specs.Agrees.{Agrees}
-use Rattle.coordination.specs.Attempts.{Asked, Attempted, Cause}
+use Rattle.coordination.specs.Attempts.{Asked, Attempted, Cause, Making}
 use Rattle.coordination.specs.Calls.{AskedInVain, HasFailed, HasFinished, HasLooked, IsAnswered, WasStopped}
 use Rattle.coordination.specs.Sights.{hearing, seeing}
 use Rattle.coordination.proofs.Growing.{agrees_same, agrees_self, agrees_then}
 
 -- at a result that is known by an equation
-pub at_result : {E : Type 0} (kind : Kind) (fails retries : Cause) (s s' : Sight) (r r' : Result Disposition E) → r ≡ r' → Attempted kind fails retries s s' r → Attempted kind fails retries s s' r'
-at_result kind fails retries s s' r r' is a = subst (Attempted kind fails retries s s') is a
+pub at_result : {E : Type 0} (kind : Kind) (makes : Making) (fails retries : Cause) (s s' : Sight) (r r' : Result Disposition E) → r ≡ r' → Attempted kind makes fails retries s s' r → Attempted kind makes fails retries s s' r'
+at_result kind makes fails retries s s' r r' is a = subst (Attempted kind makes fails retries s s') is a
 
 pub at_answer : {A : Type 0} (answers : WorkerId → BookView → A → Type 0) (waits : WorkerId → BookView → Type 0) (s s' : Sight) (r r' : Option A) → r ≡ r' → Asked answers waits s s' r → Asked answers waits s s' r'
 at_answer answers waits s s' r r' is a = subst (Asked answers waits s s') is a
@@ -44,19 +44,19 @@ worker_on s s' look = ap (λ (k : Sight). k.worker) look.sight
 pub looked_again : (s s' s'' : Sight) → HasLooked s s' → HasLooked s' s'' → HasLooked s s''
 looked_again s s' s'' p q = record { book = q.book; agrees = agrees_on s s' q.book p q.agrees; sight = q.sight ∙ seeing_on s s' q.book p }
 
-module _ {E : Type 0} (kind : Kind) (fails retries : Cause) (s s' s'' : Sight) (look : HasLooked s s') where
-  pub finished_on : Attempted {E = E} kind fails retries s' s'' (Ok Finished) → HasFinished kind s s''
+module _ {E : Type 0} (kind : Kind) (makes : Making) (fails retries : Cause) (s s' s'' : Sight) (look : HasLooked s s') where
+  pub finished_on : Attempted {E = E} kind makes fails retries s' s'' (Ok Finished) → HasFinished kind makes s s''
   finished_on a = record {
     before = a.before;
     after = a.after;
     changes = a.ran.0;
     agrees = agrees_on s s' a.before look a.agrees;
     graph = a.graph;
-    finished = subst (λ (w : WorkerId). journal.HasFinished a.before a.after w kind a.ran.0) (worker_on s s' look) a.ran.1;
+    finished = subst (λ (w : WorkerId). journal.HasFinished makes a.before a.after w kind a.ran.0) (worker_on s s' look) a.ran.1;
     sight = a.is ∙ seeing_on s s' a.after look;
   }
 
-  pub failed_on : Attempted {E = E} kind fails retries s' s'' (Ok Failed) → HasFailed kind fails s s''
+  pub failed_on : Attempted {E = E} kind makes fails retries s' s'' (Ok Failed) → HasFailed kind fails s s''
   failed_on a = record {
     before = a.before;
     after = a.after;
@@ -66,7 +66,7 @@ module _ {E : Type 0} (kind : Kind) (fails retries : Cause) (s s' s'' : Sight) (
     sight = a.is ∙ seeing_on s s' a.after look;
   }
 
-  pub looked_on : (e : E) → Attempted {E = E} kind fails retries s' s'' (Err e) → HasLooked s s''
+  pub looked_on : (e : E) → Attempted {E = E} kind makes fails retries s' s'' (Err e) → HasLooked s s''
   looked_on e a = record {
     book = a.after;
     agrees = agrees_on s s' a.after look (agrees_then s'.worker s'.seen a.before a.after a.agrees (agrees_same s'.worker a.before a.after a.graph a.ran.state a.ran.history));
@@ -74,7 +74,7 @@ module _ {E : Type 0} (kind : Kind) (fails retries : Cause) (s s' s'' : Sight) (
   }
 
   -- the transform is to be run again
-  retried : Attempted {E = E} kind fails retries s' s'' (Ok Retry) → (book : BookView) × Agrees s.worker s.seen book × retries book.graph s.worker book.state × (s'' ≡ seeing s book)
+  retried : Attempted {E = E} kind makes fails retries s' s'' (Ok Retry) → (book : BookView) × Agrees s.worker s.seen book × retries book.graph s.worker book.state × (s'' ≡ seeing s book)
   retried a = (
     a.after,
     agrees_on s s' a.after look (agrees_then s'.worker s'.seen a.before a.after a.agrees (agrees_same s'.worker a.before a.after a.graph a.ran.state a.ran.history)),
@@ -82,10 +82,10 @@ module _ {E : Type 0} (kind : Kind) (fails retries : Cause) (s s' s'' : Sight) (
     a.is ∙ seeing_on s s' a.after look,
   )
 
-  pub retry_on : Attempted {E = E} kind fails retries s' s'' (Ok Retry) → HasLooked s s''
+  pub retry_on : Attempted {E = E} kind makes fails retries s' s'' (Ok Retry) → HasLooked s s''
   retry_on a = let r = retried a in record { book = r.0; agrees = r.1; sight = r.3 }
 
-  pub stopped_on : (by : WorkerId) (t : Sight) → Attempted {E = E} kind fails retries s' s'' (Ok Retry) → t ≡ hearing s'' by → WasStopped retries by s t
+  pub stopped_on : (by : WorkerId) (t : Sight) → Attempted {E = E} kind makes fails retries s' s'' (Ok Retry) → t ≡ hearing s'' by → WasStopped retries by s t
   stopped_on by t a stopped_by = let r = retried a in record { book = r.0; agrees = r.1; cause = r.2; sight = stopped_by ∙ ap (λ (k : Sight). hearing k by) r.3 }
 
 module _ {A : Type 0} (answers : WorkerId → BookView → A → Type 0) (waits : WorkerId → BookView → Type 0) (s s' s'' : Sight) (look : HasLooked s s') where

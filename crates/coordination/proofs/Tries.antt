@@ -14,7 +14,7 @@ use Rattle.lock_journal.specs.declared.transforms.Disposition.TheVariants.{Finis
 use Rattle.run_laws.proofs.Growing.{lawful-push, replay-push}
 use Rattle.coordination.specs.declared.rule.Sight.{Sight}
 use Rattle.coordination.specs.Agrees.{IsSound}
-use Rattle.coordination.specs.Attempts.{Answers, Asked, Attempted, Cause, Ran}
+use Rattle.coordination.specs.Attempts.{Answers, Asked, Attempted, Cause, Making, Ran}
 use Rattle.coordination.specs.Rule.{AddsOwn, M, Taken, carried_book}
 use Rattle.coordination.specs.Sights.{one, seeing, sight_of}
 use Rattle.coordination.specs.Parts.{Follows, Grew, HasRoom, IsPartOf, marks_of}
@@ -22,13 +22,13 @@ use Rattle.coordination.specs.declared.parts.Part.{Part}
 use Rattle.coordination.proofs.PassSteps.{part_on, room_on}
 
 -- the four clauses of the call together
-pub ran_of : {E : Type 0} (kind : Kind) (fails retries : Cause) (w : WorkerId) (old new : BookView) (r : Result Disposition E)
-    → (r ≡ Ok Finished → (changes : List Change) × HasFinished old new w kind changes) → (r ≡ Ok Failed → HasFailed fails old new w kind) → (r ≡ Ok Retry → IsToRetry retries old new w)
-    → ((e : E) → r ≡ Err e → SameBook old new) → Ran kind fails retries w old new r
-ran_of kind fails retries w old new (Ok Finished) a b c d = a refl
-ran_of kind fails retries w old new (Ok Failed) a b c d = b refl
-ran_of kind fails retries w old new (Ok Retry) a b c d = c refl
-ran_of kind fails retries w old new (Err e) a b c d = d e refl
+pub ran_of : {E : Type 0} (kind : Kind) (makes : Making) (fails retries : Cause) (w : WorkerId) (old new : BookView) (r : Result Disposition E)
+    → (r ≡ Ok Finished → (changes : List Change) × HasFinished makes old new w kind changes) → (r ≡ Ok Failed → HasFailed fails old new w kind) → (r ≡ Ok Retry → IsToRetry retries old new w)
+    → ((e : E) → r ≡ Err e → SameBook old new) → Ran kind makes fails retries w old new r
+ran_of kind makes fails retries w old new (Ok Finished) a b c d = a refl
+ran_of kind makes fails retries w old new (Ok Failed) a b c d = b refl
+ran_of kind makes fails retries w old new (Ok Retry) a b c d = c refl
+ran_of kind makes fails retries w old new (Err e) a b c d = d e refl
 
 -- a sound book with one allowed entry more is sound
 sound-push : (old new : BookView) (e : Entry) → IsSound old → new.graph ≡ old.graph → Allowed old.graph old.state e → new.history ≡ old.history ++ e ∷ [] → new.state ≡ effect old.state e → IsSound new
@@ -46,23 +46,23 @@ sound-same old new sound graph state history = record {
 }
 
 -- what a transform added is its worker's
-adds_own : {E : Type 0} (kind : Kind) (fails retries : Cause) (r : Result Disposition E) (s : Sight) (new : BookView) → new.graph ≡ s.seen.graph → Ran kind fails retries s.worker s.seen new r → AddsOwn s new
-adds_own kind fails retries (Ok Finished) s new graph ran = record {
+adds_own : {E : Type 0} (kind : Kind) (makes : Making) (fails retries : Cause) (r : Result Disposition E) (s : Sight) (new : BookView) → new.graph ≡ s.seen.graph → Ran kind makes fails retries s.worker s.seen new r → AddsOwn s new
+adds_own kind makes fails retries (Ok Finished) s new graph ran = record {
   more = entry s.worker kind (Some ran.0) ∷ [];
   graph = graph;
   history = ran.1.history;
   own = λ w ne. ((λ same. ne (sym same)), tt);
   sound = λ sound. sound-push s.seen new (entry s.worker kind (Some ran.0)) sound graph ran.1.allowed ran.1.history ran.1.state;
 }
-adds_own kind fails retries (Ok Failed) s new graph ran = record {
+adds_own kind makes fails retries (Ok Failed) s new graph ran = record {
   more = entry s.worker kind None ∷ [];
   graph = graph;
   history = ran.history;
   own = λ w ne. ((λ same. ne (sym same)), tt);
   sound = λ sound. sound-push s.seen new (entry s.worker kind None) sound graph ran.allowed ran.history ran.state;
 }
-adds_own kind fails retries (Ok Retry) s new graph ran = record { more = []; graph = graph; history = ran.history ∙ sym (append-nil s.seen.history); own = λ w ne. tt; sound = λ sound. sound-same s.seen new sound graph ran.state ran.history }
-adds_own kind fails retries (Err e) s new graph ran = record { more = []; graph = graph; history = ran.history ∙ sym (append-nil s.seen.history); own = λ w ne. tt; sound = λ sound. sound-same s.seen new sound graph ran.state ran.history }
+adds_own kind makes fails retries (Ok Retry) s new graph ran = record { more = []; graph = graph; history = ran.history ∙ sym (append-nil s.seen.history); own = λ w ne. tt; sound = λ sound. sound-same s.seen new sound graph ran.state ran.history }
+adds_own kind makes fails retries (Err e) s new graph ran = record { more = []; graph = graph; history = ran.history ∙ sym (append-nil s.seen.history); own = λ w ne. tt; sound = λ sound. sound-same s.seen new sound graph ran.state ran.history }
 
 -- m took the book and became m', whose view stayed in m''
 pub taken_sight : (m m' m'' : M) (t : Taken m m') → m''.0 ≡ m'.0 → sight_of m''.0 ≡ seeing (sight_of m.0) t.book
@@ -88,32 +88,32 @@ room_in m m' t part room =
     subst (λ (b : BookView). HasRoom b.graph.locks (marks_of b.graph) part) (sym (taken_book m m' t)) (room_on (sight_of m.0).worker (sight_of m.0).seen t.book part t.agrees room)
 
 -- what a transform left of a book is what a part can follow
-grew : {E : Type 0} (kind : Kind) (fails retries : Cause) (w : WorkerId) (old new : BookView) (r : Result Disposition E) → Ran kind fails retries w old new r → Grew w old new r
-grew kind fails retries w old new (Ok Finished) ran = (kind, ran.0, ran.1)
-grew kind fails retries w old new (Ok Failed) ran = (kind, ran.history, ran.state)
-grew kind fails retries w old new (Ok Retry) ran = (ran.history, ran.state)
-grew kind fails retries w old new (Err e) ran = (ran.history, ran.state)
+grew : {E : Type 0} (kind : Kind) (makes : Making) (fails retries : Cause) (w : WorkerId) (old new : BookView) (r : Result Disposition E) → Ran kind makes fails retries w old new r → Grew w old new r
+grew kind makes fails retries w old new (Ok Finished) ran = (kind, ran.0, record { made = tt; allowed = ran.1.allowed; history = ran.1.history; state = ran.1.state })
+grew kind makes fails retries w old new (Ok Failed) ran = (kind, ran.history, ran.state)
+grew kind makes fails retries w old new (Ok Retry) ran = (ran.history, ran.state)
+grew kind makes fails retries w old new (Err e) ran = (ran.history, ran.state)
 
-pub follows : {E : Type 0} (kind : Kind) (fails retries : Cause) (w : WorkerId) (old new : BookView) (r : Result Disposition E) (part : Part) → IsSound old → new.graph ≡ old.graph → Ran kind fails retries w old new r
+pub follows : {E : Type 0} (kind : Kind) (makes : Making) (fails retries : Cause) (w : WorkerId) (old new : BookView) (r : Result Disposition E) (part : Part) → IsSound old → new.graph ≡ old.graph → Ran kind makes fails retries w old new r
     → IsPartOf old w part → HasRoom old.graph.locks (marks_of old.graph) part → Follows w old new r part
-follows kind fails retries w old new r part sound graph ran p room = record { sound = sound; graph = graph; grew = grew kind fails retries w old new r ran; kept = p; room = room }
+follows kind makes fails retries w old new r part sound graph ran p room = record { sound = sound; graph = graph; grew = grew kind makes fails retries w old new r ran; kept = p; room = room }
 
-module _ {E : Type 0} (kind : Kind) (fails retries : Cause) (r : Result Disposition E) (m m' m'' : M) (t : Taken m m') (same : m''.0 ≡ m'.0) (worker : WorkerId) (is : worker ≡ (sight_of m.0).worker)
-    (graph : (carried_book m''.1).graph ≡ (carried_book m'.1).graph) (ran : Ran kind fails retries worker (carried_book m'.1) (carried_book m''.1) r) where
-  found : Ran kind fails retries (sight_of m.0).worker t.book (carried_book m''.1) r
-  found = subst (λ (p : WorkerId × BookView). Ran kind fails retries p.0 p.1 (carried_book m''.1) r) (λ i. (is i, taken_book m m' t i)) ran
+module _ {E : Type 0} (kind : Kind) (makes : Making) (fails retries : Cause) (r : Result Disposition E) (m m' m'' : M) (t : Taken m m') (same : m''.0 ≡ m'.0) (worker : WorkerId) (is : worker ≡ (sight_of m.0).worker)
+    (graph : (carried_book m''.1).graph ≡ (carried_book m'.1).graph) (ran : Ran kind makes fails retries worker (carried_book m'.1) (carried_book m''.1) r) where
+  found : Ran kind makes fails retries (sight_of m.0).worker t.book (carried_book m''.1) r
+  found = subst (λ (p : WorkerId × BookView). Ran kind makes fails retries p.0 p.1 (carried_book m''.1) r) (λ i. (is i, taken_book m m' t i)) ran
 
   same_graph : (carried_book m''.1).graph ≡ t.book.graph
   same_graph = graph ∙ ap (λ (b : BookView). b.graph) (taken_book m m' t)
 
   pub owns : AddsOwn (sight_of m''.0) (carried_book m''.1)
-  owns = subst (λ (k : Sight). AddsOwn k (carried_book m''.1)) (sym (taken_sight m m' m'' t same)) (adds_own kind fails retries r (seeing (sight_of m.0) t.book) (carried_book m''.1) same_graph found)
+  owns = subst (λ (k : Sight). AddsOwn k (carried_book m''.1)) (sym (taken_sight m m' m'' t same)) (adds_own kind makes fails retries r (seeing (sight_of m.0) t.book) (carried_book m''.1) same_graph found)
 
   -- the view afterwards
   pub after : (n : M) → n ≡ (one (seeing (sight_of m''.0) (carried_book m''.1)), []) → sight_of n.0 ≡ seeing (sight_of m.0) (carried_book m''.1)
   after n back = ap (λ (x : M). sight_of x.0) back ∙ ap (λ (k : Sight). seeing k (carried_book m''.1)) (taken_sight m m' m'' t same)
 
-  pub attempted : (n : M) → n ≡ (one (seeing (sight_of m''.0) (carried_book m''.1)), []) → Attempted kind fails retries (sight_of m.0) (sight_of n.0) r
+  pub attempted : (n : M) → n ≡ (one (seeing (sight_of m''.0) (carried_book m''.1)), []) → Attempted kind makes fails retries (sight_of m.0) (sight_of n.0) r
   attempted n back = record { before = t.book; after = carried_book m''.1; agrees = t.agrees; graph = same_graph; ran = found; is = after n back }
 
 -- the same of a question

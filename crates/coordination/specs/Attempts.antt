@@ -17,20 +17,24 @@ use Rattle.coordination.specs.Sights.{seeing}
 abbrev pub Cause : Type 1
 Cause = GraphView → WorkerId → StateView → Type 0
 
+-- which changes a transform makes
+abbrev pub Making : Type 1
+Making = GraphView → WorkerId → StateView → List Change → Type 0
+
 -- what a transform of this kind left of a book
-abbrev pub Ran : {E : Type 0} → Kind → Cause → Cause → WorkerId → BookView → BookView → Result Disposition E → Type 0
-Ran kind fails retries w old new (Ok Finished) = (changes : List Change) × HasFinished old new w kind changes
-Ran kind fails retries w old new (Ok Failed) = HasFailed fails old new w kind
-Ran kind fails retries w old new (Ok Retry) = IsToRetry retries old new w
-Ran kind fails retries w old new (Err e) = SameBook old new
+abbrev pub Ran : {E : Type 0} → Kind → Making → Cause → Cause → WorkerId → BookView → BookView → Result Disposition E → Type 0
+Ran kind makes fails retries w old new (Ok Finished) = (changes : List Change) × HasFinished makes old new w kind changes
+Ran kind makes fails retries w old new (Ok Failed) = HasFailed fails old new w kind
+Ran kind makes fails retries w old new (Ok Retry) = IsToRetry retries old new w
+Ran kind makes fails retries w old new (Err e) = SameBook old new
 
 -- The transform found a book that agrees with the worker's sight, and the worker saw what it left.
-pub record Attempted {E : Type 0} (kind : Kind) (fails retries : Cause) (s s' : Sight) (r : Result Disposition E) : Type 0 where
+pub record Attempted {E : Type 0} (kind : Kind) (makes : Making) (fails retries : Cause) (s s' : Sight) (r : Result Disposition E) : Type 0 where
   pub before : BookView
   pub after : BookView
   pub agrees : Agrees s.worker s.seen before
   pub graph : after.graph ≡ before.graph
-  pub ran : Ran kind fails retries s.worker before after r
+  pub ran : Ran kind makes fails retries s.worker before after r
   pub is : s' ≡ seeing s after
 
 -- what a question may answer

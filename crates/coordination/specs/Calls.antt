@@ -7,17 +7,17 @@ use Rattle.lock_journal.specs.Ran as journal
 use Rattle.lock_journal.specs.declared.entries.Kind.{Kind}
 use Rattle.coordination.specs.declared.rule.Sight.{Sight}
 use Rattle.coordination.specs.Agrees.{Agrees}
-use Rattle.coordination.specs.Attempts.{Cause}
+use Rattle.coordination.specs.Attempts.{Cause, Making}
 use Rattle.coordination.specs.Sights.{seeing, stopping, hearing}
 
 -- The transform found a book that agrees with the pass, and finished. The pass has seen the book with its entry.
-pub record HasFinished (kind : Kind) (old new : Sight) : Type 0 where
+pub record HasFinished (kind : Kind) (makes : Making) (old new : Sight) : Type 0 where
   pub before : BookView
   pub after : BookView
   pub changes : List Change
   pub agrees : Agrees old.worker old.seen before
   pub graph : after.graph ≡ before.graph
-  pub finished : journal.HasFinished before after old.worker kind changes
+  pub finished : journal.HasFinished makes before after old.worker kind changes
   pub sight : new ≡ seeing old after
 
 -- The transform found a book that agrees with the pass, and failed. The pass has seen the book with its failed entry.

@@ -91,7 +91,7 @@ pub record LeadsOn (s : StateView) (w : WorkerId) (part : Part) (changes : List 
 
 -- a book after a transform of the worker
 abbrev pub Grew : {E : Type 0} → WorkerId → BookView → BookView → Result Disposition E → Type 0
-Grew w old new (Ok Finished) = (kind : Kind) × (changes : List Change) × HasFinished old new w kind changes
+Grew w old new (Ok Finished) = (kind : Kind) × (changes : List Change) × HasFinished (λ g v s cs. Unit {0}) old new w kind changes
 Grew w old new (Ok Failed) = (kind : Kind) × (new.history ≡ old.history ++ entry w kind None ∷ []) × (new.state ≡ old.state)
 Grew w old new (Ok Retry) = (new.history ≡ old.history) × (new.state ≡ old.state)
 Grew w old new (Err e) = (new.history ≡ old.history) × (new.state ≡ old.state)

@@ -22,7 +22,7 @@ impl Slot {
         requires { pass.old.service ≡ self.now.table.shared.table_id }
         ensures same { pass.new.service ≡ pass.old.service }
         ensures none { IfNone result (pass.new.sight ≡ pass.old.sight) }
-        ensures some { IfSome result (λ r. Attempted (T.kind_of transform.now) (T.fails_on transform.now) (T.retries_on transform.now) pass.old.sight pass.new.sight r.0) }
+        ensures some { IfSome result (λ r. Attempted (T.kind_of transform.now) (T.makes transform.now) (T.fails_on transform.now) (T.retries_on transform.now) pass.old.sight pass.new.sight r.0) }
         ensures frees { IfSome result (λ r. r.1 ≡ last_lets_go_on pass.new.sight.seen.history) }
     {
         if !self.try_take(&mut pass.seat) {

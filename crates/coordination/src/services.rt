@@ -102,7 +102,7 @@ impl Coordination {
         requires { pass.old.service ≡ self.now.service }
         ensures service { pass.new.service ≡ pass.old.service }
         ensures worker { pass.new.sight.worker ≡ pass.old.sight.worker }
-        ensures finished { result ≡ Ok true → HasFinished (T.kind_of transform.now) pass.old.sight pass.new.sight }
+        ensures finished { result ≡ Ok true → HasFinished (T.kind_of transform.now) (T.makes transform.now) pass.old.sight pass.new.sight }
         ensures failed { result ≡ Ok false → HasFailed (T.kind_of transform.now) (T.fails_on transform.now) pass.old.sight pass.new.sight }
         ensures no_memory { result ≡ Err Halt.NoMemory → HasLooked pass.old.sight pass.new.sight }
         ensures stopped { (by : WorkerId) → result ≡ Err (Halt.Stopped by) → WasStopped (T.retries_on transform.now) by pass.old.sight pass.new.sight }

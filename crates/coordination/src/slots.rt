@@ -54,7 +54,7 @@ impl Slot {
         ensures same { (seat.new.table_id ≡ seat.old.table_id) × (seat.new.id ≡ seat.old.id) × (seat.new.me.0 ≡ seat.old.me.0) }
         ensures held { seat.new.me.1 ≡ (0, carried_book seat.new.me.1) ∷ [] }
         ensures graph { (carried_book seat.new.me.1).graph ≡ (carried_book seat.old.me.1).graph }
-        ensures ran { Ran (T.kind_of transform.now) (T.fails_on transform.now) (T.retries_on transform.now) worker (carried_book seat.old.me.1) (carried_book seat.new.me.1) result.0 }
+        ensures ran { Ran (T.kind_of transform.now) (T.makes transform.now) (T.fails_on transform.now) (T.retries_on transform.now) worker (carried_book seat.old.me.1) (carried_book seat.new.me.1) result.0 }
         ensures part { IsPartOf (carried_book seat.new.me.1) worker part.new }
         ensures room { HasRoom (carried_book seat.new.me.1).graph.locks (marks_of (carried_book seat.new.me.1).graph) part.new }
         ensures frees { result.1 ≡ last_lets_go_on (carried_book seat.new.me.1).history }

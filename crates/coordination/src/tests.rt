@@ -1,6 +1,7 @@
 ghost use Rattle.std.specs.Prelude.{◌≡◌, ◌<◌, [], ◌∷◌, length, map, All, IfOk};
 ghost use Rattle.resource_lock.specs.StateView.{leases_out};
 ghost use Rattle.lock_journal.specs.declared.entries.Kind.TheVariants as kinds;
+ghost use Rattle.resource_lock.specs.declared.changes.Change.TheVariants as changes;
 
 use crate::{Coordination, Halt, Opened, Pass, Question, lets_go_on, openings_are_at_rest};
 use lock_journal::{Book, Disposition, Kind, Tentative, Transform};
@@ -18,6 +19,8 @@ impl Transform for TakeFirst {
     ghost kind_of = { λ _. kinds.Acquire };
 
     ghost most = { λ _. 2 };
+
+    ghost makes = { λ _ _ _ _ cs. cs ≡ changes.Lock (record { 0 = 0 }) ∷ changes.Take ∷ [] };
 
     ghost fails_on = { λ _ _ _ _. ⊥ };
 

@@ -1,5 +1,6 @@
 //! Workers in threads of their own. Each test ends after a number of turns.
 ghost use Rattle.std.specs.Prelude.{◌≡◌, ◌<◌, ℕ, All, IfOk, length, map, slice_index_or};
+ghost use Rattle.lock_journal.specs.Allowed.{IsFixedList};
 ghost use Rattle.lock_journal.specs.declared.entries.Kind.TheVariants as kinds;
 ghost use Rattle.coordination.specs.Sights.{workers_from};
 
@@ -25,6 +26,8 @@ impl Transform for Await {
     ghost kind_of = { λ t. kinds.Start t.start.task };
 
     ghost most = { λ _. 3 };
+
+    ghost makes = { λ t. IsFixedList (kinds.Start t.start.task) };
 
     ghost fails_on = { λ _ _ _ _. ⊥ };
 
@@ -54,6 +57,8 @@ impl Transform for FailAtOnce {
     ghost kind_of = { λ _. kinds.Acquire };
 
     ghost most = { λ _. 0 };
+
+    ghost makes = { λ _ _ _ _ _. ⊥ };
 
     ghost fails_on = { λ _ _ _ _. Unit {0} };
 

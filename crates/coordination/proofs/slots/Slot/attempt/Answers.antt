@@ -10,19 +10,20 @@ use Rattle.coordination.proofs.slots.Slot.attempt.Goals as goal
 
 pub put_back-requires-clause-own : goal.put_back-requires-clause-own
 put_back-requires-clause-own g c =
-    owns (g.T.Transform.kind_of c.args.transform.now) (g.T.Transform.fails_on c.args.transform.now) (g.T.Transform.retries_on c.args.transform.now) c.run-ran.result.0 c.pass.inside.seat.me c.try_take.new.seat.me
+    owns (g.T.Transform.kind_of c.args.transform.now) (g.T.Transform.makes c.args.transform.now) (g.T.Transform.fails_on c.args.transform.now) (g.T.Transform.retries_on c.args.transform.now) c.run-ran.result.0 c.pass.inside.seat.me c.try_take.new.seat.me
     c.run-ran.new.seat.me (c.try_take.ensures.taken c.if-not-try_take.false) c.run-ran.ensures.same.2 c.pass.inside.worker c.pass.invariant.0.worker_is c.run-ran.ensures.graph c.run-ran.ensures.ran
 
 pub invariant_of-pass-2 : goal.invariant_of-pass-2
 invariant_of-pass-2 g c =
     let kind = g.T.Transform.kind_of c.args.transform.now in
+    let makes = g.T.Transform.makes c.args.transform.now in
     let fails = g.T.Transform.fails_on c.args.transform.now in
     let retries = g.T.Transform.retries_on c.args.transform.now in
     let taken = c.try_take.ensures.taken c.if-not-try_take.false in
     let new = carried_book c.run-ran.new.seat.me.1 in
     let worker_is = c.pass.invariant.0.worker_is in
     let is : sight_of c.put_back.new.seat.me.0 ≡ seeing (sight_of c.pass.inside.seat.me.0) new =
-    after kind fails retries c.run-ran.result.0 c.pass.inside.seat.me c.try_take.new.seat.me c.run-ran.new.seat.me taken c.run-ran.ensures.same.2 c.pass.inside.worker worker_is c.run-ran.ensures.graph c.run-ran.ensures.ran
+    after kind makes fails retries c.run-ran.result.0 c.pass.inside.seat.me c.try_take.new.seat.me c.run-ran.new.seat.me taken c.run-ran.ensures.same.2 c.pass.inside.worker worker_is c.run-ran.ensures.graph c.run-ran.ensures.ran
     c.put_back.new.seat.me c.put_back.ensures.view in (
       closes_pass c.pass.inside.worker c.run-ran.new.part c.put_back.new.seat.me (seeing (sight_of c.run-ran.new.seat.me.0) new) (seeing (sight_of c.pass.inside.seat.me.0) new) c.put_back.ensures.view is worker_is
           (subst (λ (w : WorkerId). IsPartOf new w c.run-ran.new.part) worker_is c.run-ran.ensures.part) c.run-ran.ensures.room,

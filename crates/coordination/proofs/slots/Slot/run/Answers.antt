@@ -13,8 +13,9 @@ pub returns-clause-ran : goal.returns-clause-ran
 returns-clause-ran g c =
     let e = c.run-ran.ensures in
     let kind = g.T.Transform.kind_of c.args.transform.now in
+    let makes = g.T.Transform.makes c.args.transform.now in
     let fails = g.T.Transform.fails_on c.args.transform.now in
     let retries = g.T.Transform.retries_on c.args.transform.now in
     let found : c.slot_mut-book.result.now ≡ carried_book c.args.seat.now.me.1 = search rules in
-    subst (λ (b : BookView). Ran kind fails retries c.args.worker b c.run-ran.new.self c.run-ran.result) found
-    (ran_of kind fails retries c.args.worker c.slot_mut-book.result.now c.run-ran.new.self c.run-ran.result e.finished e.failed e.retry (λ x is. search rules))
+    subst (λ (b : BookView). Ran kind makes fails retries c.args.worker b c.run-ran.new.self c.run-ran.result) found
+    (ran_of kind makes fails retries c.args.worker c.slot_mut-book.result.now c.run-ran.new.self c.run-ran.result e.finished e.failed e.retry (λ x is. search rules))
