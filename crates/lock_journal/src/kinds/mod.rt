@@ -35,4 +35,6 @@ pub use taking::take_all;
 pub use unblocks::Unblock;
 
 #[cfg(test)]
+mod holding_tests;
+#[cfg(test)]
 mod tests;
