@@ -179,7 +179,7 @@ pub few_handed_back : {g : GraphView} {s : StateView} (w : WorkerId) → Fits g 
 few_handed_back {s = s} w fits belongs = omega (arith, few_locks_owned w fits belongs, few_given s w, length-append (map Unlock (owned s w)) (lease_given s w), length-map (owned s w) Unlock)
 
 -- A worker can give back all that it owns.
-rest_of : (xs os : List (Option WorkerId)) (o : Option WorkerId) (k : ℕ) → drop k xs ≡ o ∷ os → (drop (k + 1) xs ≡ os) × (get_or xs k None ≡ o)
+pub rest_of : (xs os : List (Option WorkerId)) (o : Option WorkerId) (k : ℕ) → drop k xs ≡ o ∷ os → (drop (k + 1) xs ≡ os) × (get_or xs k None ≡ o)
 rest_of xs os o k is =
     let within : k < length xs = omega (arith, ap length is, length-drop k xs) in
     let both : get_or xs k None ∷ drop (k + 1) xs ≡ o ∷ os = sym (drop_more xs k None within) ∙ is in

@@ -11,3 +11,4 @@ pub mod Waits
 pub mod Taken
 pub mod Freed
 pub mod TakenUp
+pub mod SetDown

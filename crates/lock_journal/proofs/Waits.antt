@@ -8,7 +8,7 @@ use Rattle.resource_lock.specs.Change.{make, same_mark}
 use Rattle.resource_lock.specs.declared.ids.WorkerId.{WorkerId}
 use Rattle.resource_lock.specs.declared.marks.Mark.TheVariants.{Queued}
 use Rattle.resource_lock.specs.declared.marks.MarkId.TheVariants.{Unit as UnitOf}
-use Rattle.lock_journal.specs.Allowed.{IsDisabled}
+use Rattle.lock_journal.specs.Allowed.{IsDisabled, IsUnmet}
 use Rattle.lock_journal.specs.Table.{condition, is_enabled}
 use Rattle.lock_journal.specs.Waiting.{WaitsForNews}
 use Rattle.lock_journal.specs.declared.entries.Kind.{Kind}
@@ -32,6 +32,6 @@ waits_queued u = λ g s v w c belongs good from own other named possible quiet w
 ]
 
 -- one that is to be run again only where its condition doesn't hold
-pub waits_for_condition : (k : Kind) (fails : GraphView → WorkerId → StateView → Type 0) → WaitsForNews (λ g w s. condition g s w k ≡ false) fails
-waits_for_condition k fails = λ g s v w c belongs good from own other named possible quiet waits.
-    inl (false_from_ne_true (condition g (make s v c) w k) (λ h. false≢true (sym waits ∙ condition_still (no_more_after s v w c from other possible quiet) g k h)))
+pub waits_unmet : (k : Kind) (fails : GraphView → WorkerId → StateView → Type 0) → WaitsForNews (IsUnmet k) fails
+waits_unmet k fails = λ g s v w c belongs good from own other named possible quiet unmet.
+    inl (λ in_range. false_from_ne_true (condition g (make s v c) w k) (λ h. false≢true (sym (unmet in_range) ∙ condition_still (no_more_after s v w c from other possible quiet) g k h)))

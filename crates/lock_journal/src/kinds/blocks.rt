@@ -5,9 +5,9 @@ ghost use Rattle.resource_lock.specs.GraphView.{action_of};
 ghost use Rattle.resource_lock.specs.Ranges.{task_with};
 ghost use Rattle.resource_lock.specs.Shape.{BelongsTo};
 ghost use Rattle.resource_lock.specs.StateView.{mark_of};
-ghost use Rattle.lock_journal.specs.Allowed.{IsDisabled, IsFixedList};
+ghost use Rattle.lock_journal.specs.Allowed.{IsFixedList, IsUnmet};
 ghost use Rattle.lock_journal.specs.Making.{Makes};
-ghost use Rattle.lock_journal.specs.Table.{condition, is_enabled, earlier_passed, set_down, works_on};
+ghost use Rattle.lock_journal.specs.Table.{condition, earlier_passed, set_down, works_on};
 ghost use Rattle.lock_journal.specs.declared.entries.Kind.TheVariants as kinds;
 ghost use Rattle.resource_lock.specs.declared.marks.MarkId.TheVariants as ids;
 ghost use Rattle.resource_lock.specs.declared.marks.Mark.TheVariants as marks;
@@ -44,7 +44,7 @@ impl Transform for Block {
 
     ghost fails_on = { λ t g w s. ⊥ };
 
-    ghost retries_on = { λ t. IsDisabled (kinds.Block t.unit) };
+    ghost retries_on = { λ t. IsUnmet (kinds.Block t.unit) };
 
     fn kind(&self) -> Kind {
         Kind::Block(self.unit)

@@ -65,6 +65,7 @@ pub(crate) fn run_fixed<K: FixedKind>(kind: &K, work: &mut Tentative) -> Progres
         → IsFixedList (K.kind_of kind.now) work.old.graph work.old.worker work.old.state work.new.made }
     ensures enabled { result ≡ Progress.Made
         → (is_enabled work.old.graph work.old.state work.old.worker (K.kind_of kind.now) ≡ true) × IsKindOf work.old.graph (K.kind_of kind.now) }
+    ensures sound { result ≡ Progress.NotEnabled → IsSoundTentative work.old }
     ensures not_enabled { result ≡ Progress.NotEnabled
         → (is_enabled work.old.graph work.old.state work.old.worker (K.kind_of kind.now) ≡ false) × IsKindOf work.old.graph (K.kind_of kind.now) }
     ensures out_of_range { result ≡ Progress.OutOfRange → ¬ IsKindOf work.old.graph (K.kind_of kind.now) }

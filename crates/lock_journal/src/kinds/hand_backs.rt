@@ -1,5 +1,5 @@
 ghost use Rattle.std.specs.Prelude.{◌≡◌, false};
-ghost use Rattle.lock_journal.specs.Allowed.{IsFixedList};
+ghost use Rattle.lock_journal.specs.Allowed.{IsFixedList, IsUnmet};
 ghost use Rattle.lock_journal.specs.Table.{condition};
 ghost use Rattle.lock_journal.specs.declared.entries.Kind.TheVariants as kinds;
 
@@ -27,7 +27,7 @@ impl Transform for HandBack {
 
     ghost fails_on = { λ t g w s. ⊥ };
 
-    ghost retries_on = { λ t g w s. condition g s w kinds.HandBack ≡ false };
+    ghost retries_on = { λ _. IsUnmet kinds.HandBack };
 
     fn kind(&self) -> Kind {
         Kind::HandBack
