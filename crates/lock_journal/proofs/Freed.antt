@@ -108,7 +108,7 @@ pub still_owned : {a b : TentativeView} (parks : Bool) (n : ℕ) → n < length 
 still_owned {a} {b} parks n within front =
     ap (λ (v : WorkerId). if_owned b.state v (lock_at n)) front.worker
     ∙ ap (λ (o : Option WorkerId). cond (is_owner o a.worker) (lock_at n ∷ []) []) (ap (λ (x : StateView). owner_of x (lock_at n)) (front.whole refl).state
-        ∙ owner_stays n a.state a.worker (freed parks (owned_below a.state a.worker n)) (spares_freed parks n (take n a.state.owners) a.worker (omega (arith, length-take-le n a.state.owners (omega arith)))))
+    ∙ owner_stays n a.state a.worker (freed parks (owned_below a.state a.worker n)) (spares_freed parks n (take n a.state.owners) a.worker (omega (arith, length-take-le n a.state.owners (omega arith)))))
 
 pub next_freed : {a b c : TentativeView} {all : Bool} (parks : Bool) (n : ℕ) → n < length a.state.owners → Makes a b (freed parks (owned_below a.state a.worker n)) true
     → Makes b c (freed parks (if_owned b.state b.worker (lock_at n))) all → Makes a c (freed parks (owned_below a.state a.worker (n + 1))) all
@@ -192,7 +192,7 @@ can_unlock k (o ∷ os) s w is =
     elim (cases_Bool (is_owner o w)) [
       | inl own ↦ subst (λ b. can_all s w (map Unlock (cond b (lock_at k ∷ owned_from (k + 1) os w) (owned_from (k + 1) os w))) ≡ true) (sym own)
           (and_from (owns s w (lock_at k)) (can_all (make s w (Unlock (lock_at k))) w (map Unlock (owned_from (k + 1) os w))) (ap (λ p. is_owner p w) rest.1 ∙ own)
-              (can_unlock (k + 1) os (make s w (Unlock (lock_at k))) w (drop-set-lt (k + 1) s.owners k None (omega arith) ∙ rest.0)))
+          (can_unlock (k + 1) os (make s w (Unlock (lock_at k))) w (drop-set-lt (k + 1) s.owners k None (omega arith) ∙ rest.0)))
       | inr other ↦ subst (λ b. can_all s w (map Unlock (cond b (lock_at k ∷ owned_from (k + 1) os w) (owned_from (k + 1) os w))) ≡ true) (sym other) (can_unlock (k + 1) os s w rest.0)
     ]
 
@@ -205,7 +205,7 @@ can_give s t w same = elim (cases_Bool (holding_of s w).lease) [
 can_hand_back : (s : StateView) (w : WorkerId) → can_all s w (map Unlock (owned s w) ++ lease_given s w) ≡ true
 can_hand_back s w = can_all-append s w (map Unlock (owned s w)) (lease_given s w)
     ∙ and_from (can_all s w (map Unlock (owned s w))) (can_all (make_all s w (map Unlock (owned s w))) w (lease_given s w)) (can_unlock 0 s.owners s w refl)
-        (can_give s (make_all s w (map Unlock (owned s w))) w (holdings_unlocked s w (owned s w)))
+    (can_give s (make_all s w (map Unlock (owned s w))) w (holdings_unlocked s w (owned s w)))
 
 -- so only the condition can keep it from that
 pub not_to_hand_back : (g : GraphView) (s : StateView) (w : WorkerId) → is_enabled g s w kinds.HandBack ≡ false → condition g s w kinds.HandBack ≡ false

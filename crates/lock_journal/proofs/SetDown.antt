@@ -41,7 +41,7 @@ can_park k (o ∷ os) s w worker good is =
           let second : Good (make (make s w (Unlock (lock_at k))) w (ParkLock (lock_at k))) = kept (make s w (Unlock (lock_at k))) w (ParkLock (lock_at k)) worker named first can_now in
           let there : IsWorkerOf (make (make s w (Unlock (lock_at k))) w (ParkLock (lock_at k))) w = worker_along (make s w (Unlock (lock_at k))) (make (make s w (Unlock (lock_at k))) w (ParkLock (lock_at k))) w (same_shape-make (make s w (Unlock (lock_at k))) w (ParkLock (lock_at k))) worker in
           and_from (owns s w (lock_at k)) _ owned_now (and_from (can (make s w (Unlock (lock_at k))) w (ParkLock (lock_at k))) _ can_now
-              (can_park (k + 1) os (make (make s w (Unlock (lock_at k))) w (ParkLock (lock_at k))) w there second (drop-set-lt (k + 1) s.owners k None (omega arith) ∙ rest.0))))
+          (can_park (k + 1) os (make (make s w (Unlock (lock_at k))) w (ParkLock (lock_at k))) w there second (drop-set-lt (k + 1) s.owners k None (omega arith) ∙ rest.0))))
       | inr other ↦ subst (λ b. can_all s w (parked_locks (cond b (lock_at k ∷ owned_from (k + 1) os w) (owned_from (k + 1) os w))) ≡ true) (sym other) (can_park (k + 1) os s w worker good rest.0)
     ]
 
@@ -66,8 +66,8 @@ can_set_down s w worker good lease =
     let no_lease : (holding_of (make_all (make s w Give) w (parked_locks (owned s w))) w).lease ≡ false = parks_keep (λ h. h.lease) (λ h ps. refl) (make s w Give) w (owned s w) there ∙ ap (λ (h : Holding). h.lease) now in
     and_from (holding_of s w).lease (can_all (make s w Give) w (parked_locks (owned s w) ++ Enter ∷ [])) lease
     (can_all-append (make s w Give) w (parked_locks (owned s w)) (Enter ∷ [])
-        ∙ and_from (can_all (make s w Give) w (parked_locks (owned s w))) (can_all (make_all (make s w Give) w (parked_locks (owned s w))) w (Enter ∷ [])) (can_park 0 s.owners (make s w Give) w there good_then refl)
-            (and_from (can (make_all (make s w Give) w (parked_locks (owned s w))) w Enter) true (and_from (not (holding_of (make_all (make s w Give) w (parked_locks (owned s w))) w).blocked) (not (holding_of (make_all (make s w Give) w (parked_locks (owned s w))) w).lease) (not_from_false _ not_blocked) (not_from_false _ no_lease)) refl))
+    ∙ and_from (can_all (make s w Give) w (parked_locks (owned s w))) (can_all (make_all (make s w Give) w (parked_locks (owned s w))) w (Enter ∷ [])) (can_park 0 s.owners (make s w Give) w there good_then refl)
+    (and_from (can (make_all (make s w Give) w (parked_locks (owned s w))) w Enter) true (and_from (not (holding_of (make_all (make s w Give) w (parked_locks (owned s w))) w).blocked) (not (holding_of (make_all (make s w Give) w (parked_locks (owned s w))) w).lease) (not_from_false _ not_blocked) (not_from_false _ no_lease)) refl))
 
 -- a worker that can run a fetch has a lease, and the fetch is Waiting
 fetches : GraphView → StateView → WorkerId → ℕ → ℕ → Bool
@@ -98,12 +98,12 @@ can_block t (Some u) sound named can_now =
     let lease : (holding_of t.state t.worker).lease ≡ true = fetch_needs t.graph t.state t.worker u (holding_of t.state t.worker).lease (λ a h. (fetch_parts t.graph t.state t.worker u a h).0) can_now in
     let waiting : same_mark (mark_of t.state (UnitOf u)) Waiting ≡ true = fetch_needs t.graph t.state t.worker u (same_mark (mark_of t.state (UnitOf u)) Waiting) (λ a h. (fetch_parts t.graph t.state t.worker u a h).1) can_now in
     let move : can t.state t.worker (Move (UnitOf u) Waiting (Running t.worker)) ≡ true = and_from (same_mark (mark_of t.state (UnitOf u)) Waiting && true && true) (eqb t.worker.0 t.worker.0)
-        (and_from (same_mark (mark_of t.state (UnitOf u)) Waiting && true) true (and_from (same_mark (mark_of t.state (UnitOf u)) Waiting) true waiting refl) refl) (eq-eqb t.worker.0 t.worker.0 refl) in
+    (and_from (same_mark (mark_of t.state (UnitOf u)) Waiting && true) true (and_from (same_mark (mark_of t.state (UnitOf u)) Waiting) true waiting refl) refl) (eq-eqb t.worker.0 t.worker.0 refl) in
     let within : u < length t.state.units = omega (arith, named, sound.belongs.units) in
     let good : Good (make t.state t.worker (Move (UnitOf u) Waiting (Running t.worker))) = kept t.state t.worker (Move (UnitOf u) Waiting (Running t.worker)) worker within sound.good move in
     and_from (condition t.graph t.state t.worker (Block (Some u))) _ can_now
     (and_from (can t.state t.worker (Move (UnitOf u) Waiting (Running t.worker))) (can_all (make t.state t.worker (Move (UnitOf u) Waiting (Running t.worker))) t.worker (set_down t.state t.worker)) move
-        (can_set_down (make t.state t.worker (Move (UnitOf u) Waiting (Running t.worker))) t.worker worker good lease))
+    (can_set_down (make t.state t.worker (Move (UnitOf u) Waiting (Running t.worker))) t.worker worker good lease))
 
 -- so only the condition can keep it from that
 pub not_to_block : (t : TentativeView) (unit : Option ℕ) → IsSoundTentative t → IsKindOf t.graph (Block unit) → is_enabled t.graph t.state t.worker (Block unit) ≡ false → condition t.graph t.state t.worker (Block unit) ≡ false

@@ -1,15 +1,17 @@
 -- Locks and a lease taken one after another.
-use Rattle.std.proofs.Common.{◌≡◌, ℕ, ◌<◌, ◌≤◌, ◌+◌, ◌-◌, length, take, drop, get_or, List, [], ◌∷◌, ◌++◌, map, Bool, true, false, not, cond, ◌&&◌, ◌||◌, ◌⊎◌, leb, ltb, refl, sym, ◌∙◌, ap, subst, arith, None, Some, inl, inr}
+use Rattle.std.proofs.Common.{◌≡◌, ℕ, ◌<◌, ◌≤◌, ◌+◌, ◌-◌, length, take, drop, get_or, List, [], ◌∷◌, ◌++◌, map, Bool, true, false, not, cond, ◌&&◌, ◌||◌, ◌⊎◌, leb, ltb, refl, sym, ◌∙◌, ap, subst, arith, Option, None, Some, inl, inr}
 use Rattle.std.specs.Option.{is_none}
-use Rattle.std.specs.List.{AllByRecursion, list_all, filter, slice_index_or, count_by}
+use Rattle.std.specs.List.{All, AllByRecursion, list_all, filter, slice_index_or, count_by}
 use Rattle.std.proofs.lemmas.Bool.{and_parts, and_from, not_from_false, eq-eqb, leb-true, le-leb, lt-ltb, ltb-true, false_from_ne_true, false≢true, cases_Bool}
-use Rattle.std.proofs.lemmas.List.{append_assoc, append-nil, length-append, length-take, take_all, take_more, take-append-drop, get_or-set_other}
+use Rattle.std.proofs.lemmas.List.{append_assoc, append-nil, length-append, length-take, take_all, take_more, take-append-drop, get_or-set_same, get_or-set_other}
 use Rattle.std.proofs.Math.Bool.{and-true}
 use Rattle.resource_lock.proofs.Lists.{get_or-set_cases}
 use Rattle.resource_lock.proofs.Undo.{same_lock}
 use Rattle.resource_lock.proofs.Runs.{same_shape-make_all, make_all-append, can_all-append}
 use Rattle.resource_lock.specs.StateView.{StateView, Holding, empty_holding, holding_of, owner_of, is_owner, owns, stands_in, has_parked, leases_out, IsLockOf}
 use Rattle.resource_lock.specs.Change.{can, make, make_all, can_all}
+use Rattle.resource_lock.specs.Shape.{SameShape}
+use Rattle.std.proofs.lemmas.List.Elements.{All-from_recursion, recursion_from_All}
 use Rattle.resource_lock.specs.Trying.{can_own, can_lease}
 use Rattle.resource_lock.specs.GraphView.{GraphView}
 use Rattle.resource_lock.specs.declared.ids.LockId.{LockId}
@@ -186,10 +188,10 @@ next_lock {a} {b} {c} {taken} ls i d within front named absent room answer is =
     ap (locks_taken a.state a.worker) (take_more ls i d within)
     ∙ locks_taken-append a.state a.worker (take i ls) (get_or ls i d ∷ [])
     ∙ ap (λ cs. locks_taken a.state a.worker (take i ls) ++ cs) (append-nil (lock_taken (make_all a.state a.worker (locks_taken a.state a.worker (take i ls))) a.worker (get_or ls i d))
-        ∙ ap (λ (s : StateView). lock_taken s a.worker (get_or ls i d)) (sym (front.whole refl).state)
-        ∙ ap (λ (w : WorkerId). lock_taken b.state w (get_or ls i d)) (sym front.worker)) in
+    ∙ ap (λ (s : StateView). lock_taken s a.worker (get_or ls i d)) (sym (front.whole refl).state)
+    ∙ ap (λ (w : WorkerId). lock_taken b.state w (get_or ls i d)) (sym front.worker)) in
     let step : Makes b c (lock_taken b.state b.worker (get_or ls i d)) taken = subst (λ (x : TentativeView). Makes b x (lock_taken b.state b.worker (get_or ls i d)) taken) (sym is)
-        (subst (λ x. Makes b (with_lock b (get_or ls i d)) (lock_taken b.state b.worker (get_or ls i d)) x) (sym answer) (makes_lock b (get_or ls i d) named absent room)) in
+    (subst (λ x. Makes b (with_lock b (get_or ls i d)) (lock_taken b.state b.worker (get_or ls i d)) x) (sym answer) (makes_lock b (get_or ls i d) named absent room)) in
     subst (λ (cs : List Change). Makes a c cs taken) (sym split) (makes_then front step)
 
 -- there is room for what is left
@@ -209,7 +211,7 @@ pub then_lease : {a b c : TentativeView} {taken : Bool} (ls : List LockId) (i : 
 then_lease {a} {b} {c} {taken} ls i past front free room answer is =
     let locks : Makes a b (locks_taken a.state a.worker ls) true = subst (λ (ks : List LockId). Makes a b (locks_taken a.state a.worker ks) true) (take_all i ls past) front in
     let step : Makes b c (lease_taken b.state b.worker) taken = subst (λ (x : TentativeView). Makes b x (lease_taken b.state b.worker) taken) (sym is)
-        (subst (λ x. Makes b (with_lease b) (lease_taken b.state b.worker) x) (sym answer) (makes_lease b free room)) in
+    (subst (λ x. Makes b (with_lease b) (lease_taken b.state b.worker) x) (sym answer) (makes_lease b free room)) in
     makes_then locks (subst (λ (h : Holding). Makes b c (cond h.lease [] (Take ∷ [])) taken) (holding_taken ls locks) step)
 
 -- what the test of the locks reads are the graph, the state and the worker of the work
@@ -259,3 +261,62 @@ waits_acquire waits fails ls = λ g s v w c belongs good from own other named po
       | inl kept ↦ inl (inl (false_from_ne_true (may_acquire g (make s v c) w ls) (λ h. false≢true (sym kept ∙ acquire_still n g ls h))))
       | inr short ↦ inl (inr (short.0, false_from_ne_true (can_take_all (make s v c) w ls) (λ h. false≢true (sym short.1 ∙ take_all_still n ls h))))
     ]
+
+-- what the worker owns, it owns after more was taken
+owns_after_one : (s : StateView) (w : WorkerId) (k l : LockId) → owns s w l ≡ true → owns (make_all s w (lock_taken s w k)) w l ≡ true
+owns_after_one s w k l own = elim (owns s w k) as (λ b. owns (make_all s w (cond b [] (Lock k ∷ []))) w l ≡ true) [
+  | true ↦ own
+  | false ↦ elim (get_or-set_cases s.owners k.0 l.0 (Some w) None) [
+    | inl at ↦ ap (λ o. is_owner o w) at.1 ∙ eq-eqb w.0 w.0 refl
+    | inr off ↦ ap (λ o. is_owner o w) off ∙ own
+  ]
+]
+
+owns_after : (s : StateView) (w : WorkerId) (ls : List LockId) (l : LockId) → owns s w l ≡ true → owns (make_all s w (locks_taken s w ls)) w l ≡ true
+owns_after s w [] l own = own
+owns_after s w (k ∷ ks) l own =
+    ap (λ (x : StateView). owns x w l) (make_all-append s w (lock_taken s w k) (locks_taken (make_all s w (lock_taken s w k)) w ks))
+    ∙ owns_after (make_all s w (lock_taken s w k)) w ks l (owns_after_one s w k l own)
+
+owns_taken : (s : StateView) (w : WorkerId) (l : LockId) → IsLockOf s l → owns (make_all s w (lock_taken s w l)) w l ≡ true
+owns_taken s w l within = elim (cases_Bool (owns s w l)) [
+  | inl own ↦ subst (λ b. owns (make_all s w (cond b [] (Lock l ∷ []))) w l ≡ true) (sym own) own
+  | inr other ↦ subst (λ b. owns (make_all s w (cond b [] (Lock l ∷ []))) w l ≡ true) (sym other)
+      (ap (λ o. is_owner o w) (get_or-set_same s.owners l.0 (Some w) None within) ∙ eq-eqb w.0 w.0 refl)
+]
+
+locks_along : {s t : StateView} → SameShape s t → (ls : List LockId) → AllByRecursion (IsLockOf s) ls → AllByRecursion (IsLockOf t) ls
+locks_along same [] within = tt
+locks_along same (l ∷ ls) within = (omega (arith, within.0, same.locks), locks_along same ls within.1)
+
+all_owned : (s : StateView) (w : WorkerId) (ls : List LockId) → AllByRecursion (IsLockOf s) ls → AllByRecursion (λ l. owns (make_all s w (locks_taken s w ls)) w l ≡ true) ls
+all_owned s w [] within = tt
+all_owned s w (l ∷ ls) within =
+    let next : StateView = make_all s w (lock_taken s w l) in
+    let same : SameShape s (make_all s w (lock_taken s w l)) = same_shape-make_all s w (lock_taken s w l) in
+    let split : make_all s w (locks_taken s w (l ∷ ls)) ≡ make_all (make_all s w (lock_taken s w l)) w (locks_taken (make_all s w (lock_taken s w l)) w ls) = make_all-append s w (lock_taken s w l) (locks_taken (make_all s w (lock_taken s w l)) w ls) in (
+      ap (λ (x : StateView). owns x w l) split ∙ owns_after (make_all s w (lock_taken s w l)) w ls l (owns_taken s w l within.0),
+      subst (λ (x : StateView). AllByRecursion (λ k. owns x w k ≡ true) ls) (sym split) (all_owned (make_all s w (lock_taken s w l)) w ls (locks_along same ls within.1)),
+    )
+
+-- a lease taken leaves the locks
+lease_leaves : (s t : StateView) (w : WorkerId) → (make_all t w (lease_taken s w)).owners ≡ t.owners
+lease_leaves s t w = elim (holding_of s w).lease as (λ b. (make_all t w (cond b [] (Take ∷ []))).owners ≡ t.owners) [ true ↦ refl | false ↦ refl ]
+
+-- the locks are the worker's, once all of it was taken
+pub owned_then : (s : StateView) (w : WorkerId) (ls : List LockId) → All (IsLockOf s) ls → All (λ l. owns (make_all s w (all_taken s w ls)) w l ≡ true) ls
+owned_then s w ls within =
+    let owners : (make_all s w (all_taken s w ls)).owners ≡ (make_all s w (locks_taken s w ls)).owners =
+    ap (λ (x : StateView). x.owners) (make_all-append s w (locks_taken s w ls) (lease_taken s w)) ∙ lease_leaves s (make_all s w (locks_taken s w ls)) w in
+    λ i d inside. ap (λ (os : List (Option WorkerId)). is_owner (slice_index_or os (get_or ls i d).0 None) w) owners
+    ∙ All-from_recursion (λ l. owns (make_all s w (locks_taken s w ls)) w l ≡ true) ls (all_owned s w ls (recursion_from_All (IsLockOf s) ls within)) i d inside
+
+-- so are those of an Acquire
+pub owned_acquired : (s : StateView) (w : WorkerId) (ls : List LockId) → rises 0 ls ≡ true → All (IsLockOf s) ls → All (λ l. owns (make_all s w (acquired s w ls)) w l ≡ true) ls
+owned_acquired s w ls rising within = subst (λ (cs : List Change). All (λ l. owns (make_all s w cs) w l ≡ true) ls) (all_taken_is s w ls rising) (owned_then s w ls within)
+
+pub has_locks : {a b : TentativeView} (ls : List LockId) → All (IsLockOf a.state) ls → Makes a b (all_taken a.state a.worker ls) true → All (λ l. owns b.state b.worker l ≡ true) ls
+has_locks {a} {b} ls within made = λ i d inside.
+    ap (λ (w : WorkerId). owns b.state w (get_or ls i d)) made.worker
+    ∙ ap (λ (s : StateView). owns s a.worker (get_or ls i d)) (made.whole refl).state
+    ∙ owned_then a.state a.worker ls within i d inside

@@ -86,7 +86,5 @@ fn are_open(graph: &Graph, state: &State, worker: WorkerId, locks: &[LockId]) ->
     requires worker_in_range { worker.0 < graph.now.workers }
     ensures { result ≡ list_all (is_open graph.now state.now worker) locks.now }
 {
-    locks
-        .iter()
-        .all(|lock| lock.0 < graph.locks() && !state.has_parked(worker, *lock))
+    locks.iter().all(|lock| lock.0 < graph.locks() && !state.has_parked(worker, *lock))
 }

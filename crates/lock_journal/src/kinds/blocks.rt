@@ -101,7 +101,10 @@ fn begin_fetch(work: &mut Tentative, unit: u32) -> bool
     ensures few { length (set_down work.old.state work.old.worker) ≤ 8194 }
 {
     let running = Mark::Running(work.worker());
-    if !try_change(work, Change::Move(MarkId::Unit(unit), Mark::Waiting, running)) {
+    if !try_change(
+        work,
+        Change::Move(MarkId::Unit(unit), Mark::Waiting, running),
+    ) {
         return false;
     }
     set_down(work)

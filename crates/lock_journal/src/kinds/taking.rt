@@ -1,6 +1,6 @@
 //! Locks and a lease, taken one after another.
-ghost use Rattle.std.specs.Prelude.{◌≡◌, ◌<◌, ◌≤◌, ◌+◌, All, false, length};
-ghost use Rattle.resource_lock.specs.StateView.{IsLockOf, holding_of, has_parked};
+ghost use Rattle.std.specs.Prelude.{◌≡◌, ◌<◌, ◌≤◌, ◌+◌, All, true, false, length};
+ghost use Rattle.resource_lock.specs.StateView.{IsLockOf, holding_of, has_parked, owns};
 ghost use Rattle.lock_journal.specs.Making.{Makes};
 ghost use Rattle.lock_journal.specs.Taking.{all_taken, can_take_all};
 
@@ -19,6 +19,9 @@ pub fn take_all(work: &mut Tentative, locks: &[LockId]) -> bool
     requires not_blocked { (holding_of work.old.state work.old.worker).blocked ≡ false }
     requires room { length locks.now + 1 ≤ work.old.room }
     ensures answer { result ≡ can_take_all work.old.state work.old.worker locks.now }
+    // It has all of them then.
+    ensures locks { result ≡ true → All (λ l. owns work.new.state work.new.worker l ≡ true) locks.now }
+    ensures lease { result ≡ true → (holding_of work.new.state work.new.worker).lease ≡ true }
     ensures taken { Makes work.old work.new (all_taken work.old.state work.old.worker locks.now) result }
 {
     for lock in locks {

@@ -106,7 +106,10 @@ fn end_fetch(work: &mut Tentative, closed: Closed) -> bool
     }
     let running = Mark::Running(work.worker());
     let ended = mark_from(closed.outcome);
-    try_change(work, Change::Move(MarkId::Unit(closed.unit), running, ended))
+    try_change(
+        work,
+        Change::Move(MarkId::Unit(closed.unit), running, ended),
+    )
 }
 
 /// Leaves, takes each parked lock again, the last first, and then a lease.

@@ -36,7 +36,7 @@ one_begins g s w u a fits unit within = elim (cases_Bool (begins g s w u a)) [
   | inr not_now ↦ not_now ∙ sym (list_any_none (begins g s w u) (range_with_len 0 (length g.actions)) (All-from_get_or (λ b. begins g s w u b ≡ false) (range_with_len 0 (length g.actions)) 0 (λ k _.
       let b : ℕ = get_or (range_with_len 0 (length g.actions)) k 0 in
       false_from_ne_true (begins g s w u (get_or (range_with_len 0 (length g.actions)) k 0)) (λ can.
-          both_ways (begins g s w u (get_or (range_with_len 0 (length g.actions)) k 0)) (ap (begins g s w u) (one_action g (get_or (range_with_len 0 (length g.actions)) k 0) a u fits (fetch_in g s w u (get_or (range_with_len 0 (length g.actions)) k 0) can) unit) ∙ not_now) can))))
+      both_ways (begins g s w u (get_or (range_with_len 0 (length g.actions)) k 0)) (ap (begins g s w u) (one_action g (get_or (range_with_len 0 (length g.actions)) k 0) a u fits (fetch_in g s w u (get_or (range_with_len 0 (length g.actions)) k 0) can) unit) ∙ not_now) can))))
 ]
 
 pub returns : goal.returns

@@ -8,7 +8,7 @@ use Rattle.lock_journal.specs.TentativeView.{TentativeView}
 use Rattle.lock_journal.specs.Making.{Makes}
 use Rattle.lock_journal.specs.Taking.{all_taken}
 use Rattle.lock_journal.proofs.Makings.{makes_answer, still_named}
-use Rattle.lock_journal.proofs.Taken.{can_all_taken, holding_taken, next_lock, room_left, stopped_at, then_lease}
+use Rattle.lock_journal.proofs.Taken.{can_all_taken, has_locks, holding_taken, next_lock, room_left, stopped_at, then_lease}
 use Rattle.lock_journal.proofs.kinds.taking.take_all.Goals as goal
 
 pub lock-requires-clause-lock_in_range : goal.lock-requires-clause-lock_in_range
@@ -23,10 +23,10 @@ lock-requires-clause-room c = omega (arith, room_left c.args.locks.now c.loop-lo
 stopped : (c : goal.Then-not-lock) → Makes c.args.work.now c.lock.new.self (all_taken c.args.work.now.state c.args.work.now.worker c.args.locks.now) false
 stopped c = stopped_at c.args.locks.now (c.loop-lock.lock-index + 1)
     (next_lock c.args.locks.now c.loop-lock.lock-index _ c.loop-lock-test.true c.loop-lock.invariant
-        (still_named (Lock (get_or c.args.locks.now c.loop-lock.lock-index (record { 0 = 0 }))) c.loop-lock.invariant (c.requires.in_range c.loop-lock.lock-index _ c.loop-lock-test.true))
-        (ap (λ (h : Holding). stands_in (get_or c.args.locks.now c.loop-lock.lock-index (record { 0 = 0 })) h.parked) (holding_taken (take c.loop-lock.lock-index c.args.locks.now) c.loop-lock.invariant) ∙ c.requires.not_parked c.loop-lock.lock-index _ c.loop-lock-test.true)
-        (omega (arith, room_left c.args.locks.now c.loop-lock.lock-index (omega (arith, c.loop-lock-test.true)) c.loop-lock.invariant c.requires.room))
-        c.if-not-lock.ensures.answer c.lock.ensures.taken)
+    (still_named (Lock (get_or c.args.locks.now c.loop-lock.lock-index (record { 0 = 0 }))) c.loop-lock.invariant (c.requires.in_range c.loop-lock.lock-index _ c.loop-lock-test.true))
+    (ap (λ (h : Holding). stands_in (get_or c.args.locks.now c.loop-lock.lock-index (record { 0 = 0 })) h.parked) (holding_taken (take c.loop-lock.lock-index c.args.locks.now) c.loop-lock.invariant) ∙ c.requires.not_parked c.loop-lock.lock-index _ c.loop-lock-test.true)
+    (omega (arith, room_left c.args.locks.now c.loop-lock.lock-index (omega (arith, c.loop-lock-test.true)) c.loop-lock.invariant c.requires.room))
+    c.if-not-lock.ensures.answer c.lock.ensures.taken)
 
 pub returns-then-not-lock-clause-answer : goal.returns-then-not-lock-clause-answer
 returns-then-not-lock-clause-answer c = makes_answer (stopped c)
@@ -60,3 +60,6 @@ returns-clause-answer c = makes_answer (whole c)
 
 pub returns-clause-taken : goal.returns-clause-taken
 returns-clause-taken c = whole c
+
+pub returns-clause-locks : goal.returns-clause-locks
+returns-clause-locks c = λ all. has_locks c.args.locks.now c.requires.in_range (subst (Makes c.args.work.now c.lease.new.self (all_taken c.args.work.now.state c.args.work.now.worker c.args.locks.now)) all (whole c))
