@@ -24,15 +24,15 @@ use Rattle.lock_journal.proofs.NoMore.{NoMore, Still, all_still, no_more_after}
 
 -- what is made of tests that are still true is still true
 
-and_still : (a b a' b' : Bool) → Still a a' → Still b b' → Still (a && b) (a' && b')
+pub and_still : (a b a' b' : Bool) → Still a a' → Still b b' → Still (a && b) (a' && b')
 and_still a b a' b' f g h = let p = and_parts a' b' h in and_from a b (f p.0) (g p.1)
 
-or_still : (a b a' b' : Bool) → Still a a' → Still b b' → Still (a || b) (a' || b')
+pub or_still : (a b a' b' : Bool) → Still a a' → Still b b' → Still (a || b) (a' || b')
 or_still true b a' b' f g h = refl
 or_still false b true b' f g h = absurd (false≢true (f refl))
 or_still false b false b' f g h = g h
 
-all_of_still : {X : Type 0} (p q : X → Bool) → ((x : X) → Still (p x) (q x)) → (xs : List X) → Still (list_all p xs) (list_all q xs)
+pub all_of_still : {X : Type 0} (p q : X → Bool) → ((x : X) → Still (p x) (q x)) → (xs : List X) → Still (list_all p xs) (list_all q xs)
 all_of_still p q f [] h = refl
 all_of_still p q f (x ∷ xs) h = and_still (p x) (list_all p xs) (q x) (list_all q xs) (f x) (all_of_still p q f xs) h
 
@@ -40,7 +40,7 @@ any_of_still : {X : Type 0} (p q : X → Bool) → ((x : X) → Still (p x) (q x
 any_of_still p q f [] h = h
 any_of_still p q f (x ∷ xs) h = or_still (p x) (list_any p xs) (q x) (list_any q xs) (f x) (any_of_still p q f xs) h
 
-same_still : {a b : Bool} → b ≡ a → Still a b
+pub same_still : {a b : Bool} → b ≡ a → Still a b
 same_still e h = sym e ∙ h
 
 -- lists that a worker's own places are read from

@@ -8,3 +8,7 @@ pub mod Skipped
 pub mod NoMore
 pub mod Disabled
 pub mod Waits
+pub mod Taken
+pub mod Freed
+pub mod TakenUp
+pub mod SetDown

@@ -48,6 +48,10 @@ IsFixedList kind g w s cs = cs ≡ list_of g s w kind
 abbrev pub IsDisabled : Kind → GraphView → WorkerId → StateView → Type 0
 IsDisabled kind g w s = IsKindOf g kind → is_enabled g s w kind ≡ false
 
+-- the condition of a kind that is in range doesn't hold
+abbrev pub IsUnmet : Kind → GraphView → WorkerId → StateView → Type 0
+IsUnmet kind g w s = IsKindOf g kind → condition g s w kind ≡ false
+
 -- The condition holds, the list is the kind's, and each change can be made in turn.
 pub record Finishes (g : GraphView) (s : StateView) (w : WorkerId) (kind : Kind) (cs : List Change) : Type 0 where
   pub condition : condition g s w kind ≡ true

@@ -14,3 +14,5 @@ pub mod Book
 pub mod Ran
 pub mod Waiting
 pub mod Making
+pub mod Taking
+pub mod Freeing

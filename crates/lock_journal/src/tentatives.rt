@@ -1,4 +1,4 @@
-ghost use Rattle.std.specs.Prelude.{◌≡◌, ◌<◌, ◌≤◌, ◌≢◌, ◌+◌, [], IsTrue, length, false, Some, OnOk, OnErr, IfOk};
+ghost use Rattle.std.specs.Prelude.{◌≡◌, ◌<◌, ◌≤◌, ◌≢◌, ◌+◌, [], IsTrue, length, true, false, Some, OnOk, OnErr, IfOk};
 ghost use Rattle.resource_lock.specs.Change.{can, make_all, NamesOnly};
 ghost use Rattle.resource_lock.specs.Fits.{Fits};
 ghost use Rattle.resource_lock.specs.Good.{Good};
@@ -114,6 +114,7 @@ impl Tentative {
         requires not_blocked { (holding_of self.old.state self.old.worker).blocked ≡ false }
         requires room { 0 < self.old.room }
         ensures answer { result ≡ can_lease self.old.state self.old.worker }
+        ensures leased { result ≡ true → (holding_of self.new.state self.new.worker).lease ≡ true }
         ensures taken { self.new ≡ with_lease self.old }
     {
         if self.state.has_lease(self.worker) {
