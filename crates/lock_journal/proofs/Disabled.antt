@@ -1,11 +1,11 @@
 -- An entry that can't finish stays so, while other workers let nobody go on.
-use Rattle.std.proofs.Common.{◌≡◌, ◌≢◌, ◌+◌, ℕ, suc, List, [], ◌∷◌, ◌++◌, length, Bool, true, false, not, cond, ◌&&◌, ◌||◌, ◌⊎◌, eqb, inl, inr, get_or, None, Some, Option, map, reverse, refl, sym, ◌∙◌, ap, ap₂, subst, arith}
+use Rattle.std.proofs.Common.{◌≡◌, ◌≢◌, ◌+◌, ℕ, suc, List, [], ◌∷◌, ◌++◌, length, Bool, true, false, not, cond, ◌&&◌, ◌||◌, ◌⊎◌, inl, inr, get_or, None, Some, Option, map, reverse, refl, sym, ◌∙◌, ap, ap₂, subst, arith}
 use Rattle.std.specs.List.{list_any, list_all, range_with_len}
 use Rattle.std.proofs.lemmas.Bool.{and_parts, and_from, false_from_ne_true, false≢true, eq-eqb}
 use Rattle.resource_lock.proofs.Runs.{can_all-append}
 use Rattle.resource_lock.proofs.Undo.{same_mark_is}
 use Rattle.resource_lock.specs.GraphView.{GraphView, action_of, task_of}
-use Rattle.resource_lock.specs.Ranges.{actions_of, earlier_actions, is_item, items_of, lock_with, task_with, units_of}
+use Rattle.resource_lock.specs.Ranges.{actions_of, earlier_actions, items_of, task_with, units_of}
 use Rattle.resource_lock.specs.StateView.{StateView, Holding, holding_of, is_owner, mark_of, runs_by, runs_task, runs_unit, is_parked, runs_any, owns_any, is_idle, IsWorkerOf}
 use Rattle.resource_lock.specs.Change.{same_mark, names_only, can, can_all, make, make_all}
 use Rattle.resource_lock.specs.declared.ids.LockId.{LockId}
@@ -16,7 +16,6 @@ use Rattle.resource_lock.specs.declared.marks.MarkId.{MarkId}
 use Rattle.resource_lock.specs.declared.marks.MarkId.TheVariants.{Task as TaskOf, Action as ActionOf, Unit as UnitOf}
 use Rattle.resource_lock.specs.declared.changes.Change.{Change}
 use Rattle.resource_lock.specs.declared.changes.Change.TheVariants.{Unlock, Take, Give, Move, Enter, Leave}
-use Rattle.lock_journal.specs.declared.entries.Closed.{Closed}
 use Rattle.lock_journal.specs.declared.entries.Kind.{Kind}
 use Rattle.lock_journal.specs.declared.entries.Kind.TheVariants.{Start, Skip, Submit, Park, Resume, Claim, Close, Block, Unblock, End, Acquire, HandBack}
 use Rattle.lock_journal.specs.Table.{condition, list_of, is_enabled, has_passed, has_ended, has_fallen, works_on, owned, owned_from, units_passed, earlier_passed, fetch_closed, never_ran, skipped_waiting, skipped_action, mark_from, parked_locks, set_down, taken_again, taken_up}
@@ -176,9 +175,9 @@ module _ {w : WorkerId} {s t : StateView} (n : NoMore w s t) (g : GraphView) whe
   waits_is a h = elim (either_true (has_passed (mark_of t (ActionOf a))) (never_ran g t a) h) [
     | inl passed ↦ ap (λ m. same_mark m Waiting) (same_mark_is (mark_of t (ActionOf a)) Passed passed) ∙ sym (ap (λ m. same_mark m Waiting) (same_mark_is (mark_of s (ActionOf a)) Passed (passed_still (ActionOf a) passed)))
     | inr never ↦
-      let first = and_parts (same_mark (mark_of t (ActionOf a)) Waiting && list_all (λ u. same_mark (mark_of t (UnitOf u)) Waiting) (units_of g a)) _ never in
-      let waits = and_parts (same_mark (mark_of t (ActionOf a)) Waiting) _ first.0 in
-      waits.0 ∙ sym (waiting_still (ActionOf a) waits.0)
+        let first = and_parts (same_mark (mark_of t (ActionOf a)) Waiting && list_all (λ u. same_mark (mark_of t (UnitOf u)) Waiting) (units_of g a)) _ never in
+        let waits = and_parts (same_mark (mark_of t (ActionOf a)) Waiting) _ first.0 in
+        waits.0 ∙ sym (waiting_still (ActionOf a) waits.0)
   ]
 
   skipped_is : (xs : List ℕ) → list_all (λ a. has_passed (mark_of t (ActionOf a)) || never_ran g t a) xs ≡ true → skipped_waiting g t xs ≡ skipped_waiting g s xs

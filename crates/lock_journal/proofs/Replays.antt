@@ -1,10 +1,13 @@
 -- A history with one more entry, what it leads to, and the book that has it.
 use Rattle.std.proofs.Common.{◌≡◌, List, [], ◌∷◌, ◌++◌, refl, sym, ◌∙◌, ap, subst}
+use Rattle.std.specs.List.{All}
+use Rattle.std.proofs.lemmas.List.Elements.{All-push}
 use Rattle.resource_lock.specs.StateView.{StateView}
 use Rattle.resource_lock.specs.GraphView.{GraphView}
 use Rattle.resource_lock.specs.Opening.{opening_of}
 use Rattle.lock_journal.specs.Entry.{Entry, effect, replay_from, replay}
 use Rattle.lock_journal.specs.Allowed.{Allowed, lawful_from, Lawful}
+use Rattle.lock_journal.specs.Bounds.{IsFitKind}
 use Rattle.lock_journal.specs.Book.{IsSound}
 use Rattle.lock_journal.specs.declared.books.Book.TheInside.{Inside}
 
@@ -24,6 +27,7 @@ pub record Extends (a b : Inside) (e : Entry) : Type 0 where
   pub entries : b.history.entries ≡ a.history.entries ++ e ∷ []
   pub state : b.tentative.state ≡ effect a.tentative.state e
   pub allowed : Allowed a.tentative.graph a.tentative.state e
+  pub fit : IsFitKind e.kind
 
 pub sound_extended : (a b : Inside) (e : Entry) → IsSound a → Extends a b e → IsSound b
 sound_extended a b e sound more =
@@ -32,6 +36,7 @@ sound_extended a b e sound more =
     record {
       fresh = more.fresh;
       units = more.units ∙ sound.units ∙ ap (λ (g : GraphView). g.units) (sym more.graph);
+      fit = subst (All (λ e. IsFitKind e.kind)) (sym more.entries) (All-push (λ e. IsFitKind e.kind) a.history.entries e sound.fit more.fit);
       lawful = subst (λ (g : GraphView). Lawful g b.history.entries) (sym more.graph) (subst (Lawful a.tentative.graph) (sym more.entries) lawful);
       replays = more.state
           ∙ ap (λ (s : StateView). effect s e) sound.replays

@@ -3,6 +3,7 @@ use Rattle.std.specs.Prelude.{ℕ, ◌+◌, ◌==◌, nat_le, Bool, false, not, 
 use Rattle.std.specs.List.{list_any, list_all, range_with_len}
 use Rattle.resource_lock.specs.StateView.{StateView, holding_of, is_owner, mark_of, runs_unit, is_parked, runs_any, owns_any, is_idle}
 use Rattle.resource_lock.specs.Change.{same_mark, can_all}
+pub use Rattle.resource_lock.specs.Marks.{has_passed, has_ended, has_fallen}
 use Rattle.resource_lock.specs.GraphView.{GraphView, task_of, action_of}
 use Rattle.resource_lock.specs.Ranges.{actions_of, items_of, units_of, task_with, lock_with, earlier_actions, is_item}
 use Rattle.resource_lock.specs.declared.ids.LockId.{LockId}
@@ -18,17 +19,6 @@ use Rattle.item_actions.specs.declared.outcomes.Outcome.{Outcome}
 use Rattle.item_actions.specs.declared.outcomes.Outcome.TheVariants as outcomes
 use Rattle.lock_journal.specs.declared.entries.Kind.{Kind}
 use Rattle.lock_journal.specs.declared.entries.Kind.TheVariants.{Start, Skip, Submit, Park, Resume, Claim, Close, Block, Unblock, End, Acquire, HandBack}
-
--- words on marks
-
-abbrev pub has_passed : Mark → Bool
-has_passed m = same_mark m Passed
-
-abbrev pub has_ended : Mark → Bool
-has_ended m = same_mark m Passed || same_mark m Failed || same_mark m Skipped
-
-abbrev pub has_fallen : Mark → Bool
-has_fallen m = same_mark m Failed || same_mark m Skipped
 
 -- words on a worker
 

@@ -1,4 +1,4 @@
-ghost use Rattle.std.specs.Prelude.{◌≡◌, ◌<◌, ◌≤◌, ◌+◌, ◌⊎◌, [], List, length, IsTrue, Some, OnOk, OnErr, IfOk, slice_get};
+ghost use Rattle.std.specs.Prelude.{◌≡◌, ◌<◌, ◌≤◌, ◌+◌, ◌⊎◌, [], List, length, IsTrue, Some, OnOk, OnErr, IfOk, All, slice_get};
 ghost use Rattle.resource_lock.specs.Fits.{Fits};
 ghost use Rattle.resource_lock.specs.Good.{Good};
 ghost use Rattle.resource_lock.specs.Opening.{opening_of};
@@ -7,6 +7,7 @@ ghost use Rattle.lock_journal.specs.Entry.{replay};
 ghost use Rattle.lock_journal.specs.Shown.{entry_shown};
 ghost use Rattle.lock_journal.specs.Closings.{outcome_of};
 ghost use Rattle.lock_journal.specs.Allowed.{Lawful};
+ghost use Rattle.lock_journal.specs.Bounds.{IsFitKind};
 ghost use Rattle.lock_journal.specs.Ran.{HasFinished, HasFailed, IsToRetry};
 
 use crate::entries::Shown;
@@ -74,6 +75,7 @@ impl Book {
         ensures belongs { BelongsTo self.now.graph self.now.state }
         ensures replays { self.now.state ≡ replay self.now.graph self.now.history }
         ensures lawful { Lawful self.now.graph self.now.history }
+        ensures fit { All (λ e. IsFitKind e.kind) self.now.history }
         ensures good { Good self.now.state }
     {
         self.tentative.state()

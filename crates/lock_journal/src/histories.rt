@@ -1,4 +1,5 @@
-ghost use Rattle.std.specs.Prelude.{◌≡◌, ◌<◌, ◌≤◌, ◌+◌, ◌⊎◌, ◌∷◌, ◌++◌, [], ℕ, length, IsTrue, Some, None, OnOk, OnErr, IfOk, slice_get, slice_index_or};
+ghost use Rattle.std.specs.Prelude.{◌≡◌, ◌<◌, ◌≤◌, ◌+◌, ◌⊎◌, ◌∷◌, ◌++◌, [], ℕ, length, IsTrue, Some, None, OnOk, OnErr, IfOk, All, slice_get, slice_index_or};
+ghost use Rattle.lock_journal.specs.Bounds.{IsFitKind, IsFitOutcome};
 ghost use Rattle.lock_journal.specs.Entry.{entry};
 ghost use Rattle.lock_journal.specs.Shown.{entry_shown};
 ghost use Rattle.lock_journal.specs.Closings.{closing_of, last_or, outcome_in, ClosesWithin};
@@ -125,7 +126,9 @@ impl History {
         ensures units { self.new.units ≡ self.old.units }
         ensures spare_entries { self.new.spare_entries + 1 ≡ self.old.spare_entries }
         ensures spare_changes { self.old.spare_changes ≤ self.new.spare_changes + length changes.now }
+        ensures fit { IsFitKind kind }
     {
+        note_bounds(kind);
         let start = self.changes.len();
         // There is room, so this takes no memory.
         let _ = self.changes.extend_from_slice(changes);
@@ -146,7 +149,9 @@ impl History {
         ensures units { self.new.units ≡ self.old.units }
         ensures spare_entries { self.new.spare_entries + 1 ≡ self.old.spare_entries }
         ensures spare_changes { self.new.spare_changes ≡ self.old.spare_changes }
+        ensures fit { IsFitKind kind }
     {
+        note_bounds(kind);
         let end = self.changes.len();
         self.stored.push_reserved(StoredEntry {
             worker,
@@ -172,3 +177,31 @@ fn set_outcome(all: &mut [Outcome], kind: Kind)
         _ => {}
     }
 }
+
+/// Does nothing. Its contract is what the type of a kind holds.
+fn note_bounds(kind: Kind)
+    ensures { IsFitKind kind }
+{
+    match kind {
+        Kind::Close(closed) | Kind::Unblock(Some(closed)) => note_outcome_bounds(closed.outcome),
+        _ => {}
+    }
+}
+
+/// Does nothing. Its contract is what the type of an outcome holds.
+fn note_outcome_bounds(outcome: Outcome)
+    ensures { IsFitOutcome outcome }
+{
+    match outcome {
+        Outcome::Number(number) => {
+            let _ = number;
+        }
+        Outcome::Digest(digest) => note_byte_bounds(&digest),
+        _ => {}
+    }
+}
+
+/// Does nothing. Its contract is what the type of bytes holds.
+fn note_byte_bounds(bytes: &[u8])
+    ensures { All (λ b. b < 256) bytes.now }
+{}

@@ -1,58 +1,13 @@
-ghost use Rattle.std.specs.Prelude.{◌≡◌, ◌<◌, ◌≤◌, ◌+◌, ◌∷◌, [], length, true, false, IfOk};
+ghost use Rattle.std.specs.Prelude.{◌≡◌, ◌<◌, ◌≤◌, ◌+◌, length, true, false, IfOk};
 ghost use Rattle.lock_journal.specs.TentativeView.{TentativeView, Worked};
-ghost use Rattle.resource_lock.specs.declared.changes.Change.TheVariants as changes;
 ghost use Rattle.lock_journal.specs.declared.entries.Kind.TheVariants as kinds;
 
-use crate::{Book, Disposition, Kind, Shown, Tentative, Transform};
-use resource_lock::{Change, Graph, GraphAction, GraphTask, LockId, Retention, WorkerId};
+use crate::kinds::Start;
+use crate::{Book, Disposition, Kind, Tentative, Transform};
+use resource_lock::{Graph, GraphTask, LockId, WorkerId};
 use std::alloc::Global;
 use std::process::Abort;
 use std::test::Fail;
-
-/// Takes one lock and a lease.
-#[derive(Clone, Copy, Debug)]
-struct Acquire {
-    lock: LockId,
-}
-
-impl Transform for Acquire {
-    ghost kind_of = { λ _. kinds.Acquire };
-
-    ghost most = { λ _. 2 };
-
-    ghost makes = { λ t _ _ _ cs. cs ≡ changes.Lock t.lock ∷ changes.Take ∷ [] };
-
-    ghost fails_on = { λ t _ w s. (can s w (changes.Lock t.lock) && can s w changes.Take) ≡ false };
-
-    ghost retries_on = { λ t g w s. is_enabled g s w kinds.Acquire ≡ true → g.locks ≤ t.lock.0 };
-
-    fn kind(&self) -> Kind {
-        Kind::Acquire
-    }
-
-    fn most_changes(&self) -> u64 {
-        2
-    }
-
-    fn apply(&self, work: &mut Tentative) -> Disposition {
-        let worker = work.worker();
-        if work.state().blocked(worker)
-            || work.state().runs_any(worker)
-            || self.lock.0 >= work.graph().locks()
-        {
-            return Disposition::Retry;
-        }
-        if !work.state().can(worker, Change::Lock(self.lock)) {
-            return Disposition::Failed;
-        }
-        work.change(Change::Lock(self.lock));
-        if !work.state().can(worker, Change::Take) {
-            return Disposition::Failed;
-        }
-        work.change(Change::Take);
-        Disposition::Finished
-    }
-}
 
 /// A call of a `Tentative`.
 #[derive(Clone, Copy, Debug)]
@@ -99,6 +54,8 @@ impl Transform for Unfinished {
             Disposition::Failed
         }
     }
+
+    fn waits_for_news(&self) {}
 }
 
 /// Takes a step, where it can be taken.
@@ -130,70 +87,23 @@ fn take_step(work: &mut Tentative, step: Step)
 
 const FIRST: WorkerId = WorkerId(0);
 
-/// A book of two locks and one lease, without tasks.
-fn open_book(rt: &impl Abort, alloc: Global, workers: u32) -> Result<Book, Fail>
-    ensures locks { IfOk result (λ book. book.graph.locks ≡ 2) }
-    ensures workers { IfOk result (λ book. book.graph.workers ≡ workers) }
-{
-    let tasks = Vec::new(alloc);
-    let actions = Vec::new(alloc);
-    assert!(rt; Graph::fits(2, workers, 1, &tasks, &actions));
-    let graph = Graph::new(2, workers, 1, tasks, actions);
-    Ok(Book::opening(alloc, graph, 1, 3)?)
-}
-
-/// A book of two workers, the first of which has taken lock 0 and the lease.
-fn book_with_lock(rt: &impl Abort, alloc: Global) -> Result<Book, Fail>
+/// A book of two locks and one lease, in which the first of two workers has started a task.
+fn started_book(rt: &impl Abort, alloc: Global) -> Result<Book, Fail>
     ensures locks { IfOk result (λ book. book.graph.locks ≡ 2) }
     ensures workers { IfOk result (λ book. book.graph.workers ≡ 2) }
 {
-    let mut book = open_book(rt, alloc, 2)?;
-    let ending = book.run(FIRST, &Acquire { lock: LockId(0) })?;
-    assert_eq!(rt; ending, Disposition::Finished);
+    let task = GraphTask {
+        lock: LockId(0),
+        after: Vec::new(alloc),
+        first_action: 0,
+        actions: 0,
+    };
+    let tasks = vec![in alloc; task]?;
+    let actions = Vec::new(alloc);
+    assert!(rt; Graph::fits(2, 2, 1, &tasks, &actions));
+    let mut book = Book::opening(alloc, Graph::new(2, 2, 1, tasks, actions), 1, 3)?;
+    assert_eq!(rt; book.run(FIRST, &Start { task: 0 })?, Disposition::Finished);
     Ok(book)
-}
-
-/// Asserts each part of the state in which the first of two workers has taken lock 0 and the lease.
-fn assert_taken(rt: &impl Abort, book: &Book)
-    requires locks { book.now.graph.locks ≡ 2 }
-    requires workers { book.now.graph.workers ≡ 2 }
-{
-    let state = book.state();
-    assert_eq!(rt; state.owner(LockId(0)), Some(FIRST));
-    assert_eq!(rt; state.owner(LockId(1)), None);
-    assert_eq!(rt; state.leases_out(), 1);
-    assert_worker(rt, book, FIRST, true);
-    assert_worker(rt, book, WorkerId(1), false);
-}
-
-/// Asserts each part of the state in which nothing was taken by the one worker.
-fn assert_untouched(rt: &impl Abort, book: &Book)
-    requires locks { book.now.graph.locks ≡ 2 }
-    requires workers { book.now.graph.workers ≡ 1 }
-{
-    let state = book.state();
-    assert_eq!(rt; state.owner(LockId(0)), None);
-    assert_eq!(rt; state.owner(LockId(1)), None);
-    assert_eq!(rt; state.leases_out(), 0);
-    assert_worker(rt, book, FIRST, false);
-}
-
-/// Asserts whether a worker has a lease, that it has parked no lock and that it isn't blocked.
-fn assert_worker(rt: &impl Abort, book: &Book, worker: WorkerId, lease: bool)
-    requires { worker.0 < book.now.graph.workers }
-{
-    let state = book.state();
-    assert_eq!(rt; state.has_lease(worker), lease);
-    assert!(rt; state.parked(worker).is_empty());
-    assert!(rt; !state.blocked(worker));
-}
-
-/// Asserts an entry of the first worker, which took locks and a lease, or failed to.
-fn assert_entry(rt: &impl Abort, entry: Shown<'_>, failed: bool, changes: &[Change]) {
-    assert_eq!(rt; entry.worker, FIRST);
-    assert_eq!(rt; entry.kind, Kind::Acquire);
-    assert_eq!(rt; entry.failed, failed);
-    assert_eq!(rt; entry.changes, changes);
 }
 
 /// Gives lock 0 and the lease back, and takes lock 1.
@@ -202,92 +112,49 @@ const EXCHANGE: [Step; 3] = [Step::Unlock(LockId(0)), Step::Lock(LockId(1)), Ste
 /// Gives lock 0 back and takes it again.
 const RELEASE: [Step; 3] = [Step::Unlock(LockId(0)), Step::Lock(LockId(0)), Step::Lease];
 
-/// Takes both locks and the lease.
-const TAKE_ALL: [Step; 3] = [Step::Lock(LockId(0)), Step::Lease, Step::Lock(LockId(1))];
+/// Takes lock 1, beside lock 0 and the lease that the worker has.
+const TAKE_MORE: [Step; 3] = [Step::Lock(LockId(0)), Step::Lease, Step::Lock(LockId(1))];
 
-#[test]
-fn a_failed_transform_gets_its_released_lock_back(rt: HostRuntime) -> Result<(), Fail> {
-    let mut book = book_with_lock(&rt, rt.alloc())?;
-    let exchange = Unfinished {
-        steps: EXCHANGE,
+/// Asserts that the first worker has taken lock 0 and the lease, and not lock 1.
+fn assert_taken(rt: &impl Abort, book: &Book)
+    requires locks { book.now.graph.locks ≡ 2 }
+    requires workers { book.now.graph.workers ≡ 2 }
+{
+    let state = book.state();
+    assert_eq!(rt; state.owner(LockId(0)), Some(FIRST));
+    assert_eq!(rt; state.owner(LockId(1)), None);
+    assert!(rt; state.has_lease(FIRST));
+}
+
+/// Asserts that steps which fail leave a failed entry alone, and steps that are to be taken again
+/// nothing.
+fn assert_taken_back(rt: &impl Abort, book: &mut Book, steps: [Step; 3]) -> Result<(), Fail>
+    requires locks { book.old.graph.locks ≡ 2 }
+    requires workers { book.old.graph.workers ≡ 2 }
+    ensures { book.new.graph ≡ book.old.graph }
+{
+    let entries = book.len();
+    let again = Unfinished { steps, again: true };
+    assert_eq!(rt; book.run(FIRST, &again)?, Disposition::Retry);
+    assert_eq!(rt; book.len(), entries);
+    assert_taken(rt, book);
+    let failing = Unfinished {
+        steps,
         again: false,
     };
-    assert_eq!(rt; book.run(FIRST, &exchange)?, Disposition::Failed);
-    assert_taken(&rt, &book);
-    assert_eq!(rt; book.len(), 2);
-    let taken = [Change::Lock(LockId(0)), Change::Take];
-    assert_entry(&rt, book.entry(0), false, &taken);
-    assert_entry(&rt, book.entry(1), true, &[]);
+    assert_eq!(rt; book.run(FIRST, &failing)?, Disposition::Failed);
+    assert_eq!(rt; book.len(), entries + 1);
+    let entry = book.entry(entries);
+    assert_eq!(rt; entry.worker, FIRST);
+    assert!(rt; entry.failed);
+    assert_taken(rt, book);
     Ok(())
 }
 
 #[test]
-fn a_transform_to_retry_leaves_no_entry(rt: HostRuntime) -> Result<(), Fail> {
-    let mut book = book_with_lock(&rt, rt.alloc())?;
-    let exchange = Unfinished {
-        steps: EXCHANGE,
-        again: true,
-    };
-    assert_eq!(rt; book.run(FIRST, &exchange)?, Disposition::Retry);
-    assert_taken(&rt, &book);
-    assert_eq!(rt; book.len(), 1);
-    Ok(())
-}
-
-#[test]
-fn a_lock_released_and_taken_again_is_undone(rt: HostRuntime) -> Result<(), Fail> {
-    let mut book = book_with_lock(&rt, rt.alloc())?;
-    let release = Unfinished {
-        steps: RELEASE,
-        again: false,
-    };
-    assert_eq!(rt; book.run(FIRST, &release)?, Disposition::Failed);
-    assert_taken(&rt, &book);
-    book.reserve(4, 16)?;
-    assert!(rt; book.spare_entries() >= 4);
-    assert!(rt; book.spare_changes() >= 16);
-    Ok(())
-}
-
-#[test]
-fn taken_locks_and_the_lease_are_given_back(rt: HostRuntime) -> Result<(), Fail> {
-    let mut book = open_book(&rt, rt.alloc(), 1)?;
-    let mut take_all = Unfinished {
-        steps: TAKE_ALL,
-        again: false,
-    };
-    assert_eq!(rt; book.run(FIRST, &take_all)?, Disposition::Failed);
-    assert_untouched(&rt, &book);
-    take_all.again = true;
-    assert_eq!(rt; book.run(FIRST, &take_all)?, Disposition::Retry);
-    assert_untouched(&rt, &book);
-    assert_eq!(rt; book.len(), 1);
-    assert_entry(&rt, book.entry(0), true, &[]);
-    Ok(())
-}
-
-#[test]
-fn a_unit_that_waits_has_no_outcome(rt: HostRuntime) -> Result<(), Fail> {
-    let task = GraphTask {
-        lock: LockId(0),
-        after: Vec::new(rt.alloc()),
-        first_action: 0,
-        actions: 1,
-    };
-    let action = GraphAction {
-        task: 0,
-        retention: Retention::Retain,
-        fetch: false,
-        first_unit: 0,
-        items: 1,
-    };
-    let mut tasks = Vec::new(rt.alloc());
-    tasks.push(task)?;
-    let mut actions = Vec::new(rt.alloc());
-    actions.push(action)?;
-    assert!(rt; Graph::fits(1, 1, 1, &tasks, &actions));
-    let book = Book::opening(rt.alloc(), Graph::new(1, 1, 1, tasks, actions), 0, 0)?;
-    assert_eq!(rt; book.graph().units(), 1);
-    assert_eq!(rt; book.outcome(0), None);
-    Ok(())
+fn what_does_not_finish_is_taken_back(rt: HostRuntime) -> Result<(), Fail> {
+    let mut book = started_book(&rt, rt.alloc())?;
+    assert_taken_back(&rt, &mut book, EXCHANGE)?;
+    assert_taken_back(&rt, &mut book, RELEASE)?;
+    assert_taken_back(&rt, &mut book, TAKE_MORE)
 }

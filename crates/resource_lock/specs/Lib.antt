@@ -1,6 +1,7 @@
 pub mod AtRest
 pub mod StateView
 pub mod Change
+pub mod Marks
 pub mod Good
 pub mod State
 pub mod Trying

@@ -7,20 +7,9 @@ ghost use Rattle.resource_lock.specs.Fits.{Fits, Follow};
 ghost use Rattle.resource_lock.specs.Made.{made_of};
 
 use crate::graphs::{Graph, GraphAction, GraphTask};
-
-const MAX_WORKERS: u32 = 32;
-
-const MAX_LEASES: u32 = 32;
-
-const MAX_LOCKS: u32 = 4_096;
-
-const MAX_TASKS: usize = 2_048;
-
-const MAX_ACTIONS_PER_TASK: u32 = 8;
-
-const MAX_AFTER: usize = 64;
-
-const MAX_UNITS: u64 = 8_192;
+use crate::limits::{
+    MAX_ACTIONS_PER_TASK, MAX_AFTER, MAX_LEASES, MAX_LOCKS, MAX_TASKS, MAX_UNITS, MAX_WORKERS,
+};
 
 impl Graph {
     /// Whether a graph can be made of these, in time linear in them and without memory.

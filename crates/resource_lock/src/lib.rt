@@ -6,6 +6,7 @@ mod changes;
 mod fitting;
 mod graphs;
 mod ids;
+mod limits;
 mod marks;
 mod states;
 mod unit_ranges;
@@ -13,6 +14,9 @@ mod unit_ranges;
 pub use changes::Change;
 pub use graphs::{Graph, GraphAction, GraphTask, Retention};
 pub use ids::{LockId, WorkerId};
+pub use limits::{
+    MAX_ACTIONS_PER_TASK, MAX_AFTER, MAX_LEASES, MAX_LOCKS, MAX_TASKS, MAX_UNITS, MAX_WORKERS,
+};
 pub use marks::{Mark, MarkId};
 pub use states::State;
 

@@ -28,6 +28,7 @@ pub enum Mark {
 impl Mark {
     ghost use Rattle.std.specs.Prelude.{◌≡◌};
     ghost use Rattle.resource_lock.specs.StateView.{runs_by};
+    ghost use Rattle.resource_lock.specs.Marks.{has_ended, has_fallen, has_passed};
 
     /// Whether the mark is Running by the worker.
     pub fn runs_by(self, worker: WorkerId) -> bool
@@ -37,5 +38,25 @@ impl Mark {
             Mark::Running(runner) => runner.0 == worker.0,
             _ => false,
         }
+    }
+    /// Whether the mark is Passed.
+    pub fn has_passed(self) -> bool
+        ensures { result ≡ has_passed self }
+    {
+        matches!(self, Mark::Passed)
+    }
+
+    /// Whether the mark is Passed, Failed or Skipped.
+    pub fn has_ended(self) -> bool
+        ensures { result ≡ has_ended self }
+    {
+        matches!(self, Mark::Passed | Mark::Failed | Mark::Skipped)
+    }
+
+    /// Whether the mark is Failed or Skipped.
+    pub fn has_fallen(self) -> bool
+        ensures { result ≡ has_fallen self }
+    {
+        matches!(self, Mark::Failed | Mark::Skipped)
     }
 }

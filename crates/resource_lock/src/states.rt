@@ -3,6 +3,7 @@ use crate::marks::Mark;
 use held::Held;
 use std::marker::Model;
 
+mod asking;
 mod changing;
 mod held;
 mod opening;

@@ -3,6 +3,7 @@ ghost use Rattle.std.specs.List.{list_all, list_any, range_with_len};
 ghost use Rattle.resource_lock.specs.Change.{same_mark};
 ghost use Rattle.resource_lock.specs.GraphView.{task_of};
 ghost use Rattle.resource_lock.specs.Ranges.{actions_of, earlier_actions, units_of};
+ghost use Rattle.resource_lock.specs.declared.limits.TheConstants.{MAX_ACTIONS_PER_TASK, MAX_UNITS};
 ghost use Rattle.resource_lock.specs.Shape.{BelongsTo};
 ghost use Rattle.resource_lock.specs.StateView.{mark_of};
 ghost use Rattle.lock_journal.specs.Allowed.{IsDisabled, IsFixedList};
@@ -16,13 +17,13 @@ use crate::entries::Kind;
 use crate::kinds::fixed::{FixedKind, Progress, run_fixed};
 use crate::kinds::making::try_changes;
 use crate::kinds::marks::units_passed;
-use crate::kinds::ranges::{
-    MAX_ACTIONS, MAX_UNITS, Span, actions_of, earlier_actions, lock_of, units_of,
-};
+use crate::kinds::ranges::{Span, actions_of, earlier_actions, lock_of, units_of};
 use crate::kinds::skipping::skip_waiting;
 use crate::tentatives::Tentative;
 use crate::transforms::{Disposition, Transform};
-use resource_lock::{Change, Graph, Mark, MarkId, State, WorkerId};
+use resource_lock::{
+    Change, Graph, MAX_ACTIONS_PER_TASK, MAX_UNITS, Mark, MarkId, State, WorkerId,
+};
 
 /// Ends a task that the worker runs: the actions that never ran are skipped with their units, and
 /// the task's mark becomes Passed, or Failed where one of its units hasn't passed. A worker with a
@@ -43,7 +44,7 @@ pub struct End {
 impl Transform for End {
     ghost kind_of = { λ t. kinds.End t.task };
 
-    ghost most = { λ _. 8203 };
+    ghost most = { λ _. 3 + MAX_ACTIONS_PER_TASK + MAX_UNITS };
 
     ghost makes = { λ t. IsFixedList (kinds.End t.task) };
 
@@ -56,7 +57,7 @@ impl Transform for End {
     }
 
     fn most_changes(&self) -> u64 {
-        3 + MAX_ACTIONS + MAX_UNITS
+        3 + u64::from(MAX_ACTIONS_PER_TASK) + MAX_UNITS
     }
 
     fn apply(&self, work: &mut Tentative) -> Disposition {
@@ -72,7 +73,7 @@ impl Transform for End {
 impl FixedKind for End {
     ghost kind_of = { λ t. kinds.End t.task };
 
-    ghost most = { λ _. 8203 };
+    ghost most = { λ _. 3 + MAX_ACTIONS_PER_TASK + MAX_UNITS };
 
     fn is_in_range(&self, graph: &Graph) -> bool {
         (self.task as usize) < graph.tasks().len()
@@ -130,7 +131,7 @@ fn is_through(graph: &Graph, state: &State, action: u32) -> bool
     requires in_range { action < length graph.now.actions }
     ensures { result ≡ (has_passed (mark_of state.now (ids.Action action)) || never_ran graph.now state.now action) }
 {
-    state.mark(MarkId::Action(action)) == Mark::Passed || never_ran(graph, state, action)
+    state.mark(MarkId::Action(action)).has_passed() || never_ran(graph, state, action)
 }
 
 /// Whether an action never ran, since one of its task before it has a failed unit.

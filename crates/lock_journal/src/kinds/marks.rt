@@ -26,8 +26,7 @@ pub(crate) fn all_passed(state: &State, units: Span) -> bool
     requires { units.first + units.count ≤ length state.now.units }
     ensures { result ≡ list_all (λ u. has_passed (mark_of state.now (ids.Unit u))) (range_with_len units.first units.count) }
 {
-    (units.first..units.first + units.count).all(|unit| state.mark(MarkId::Unit(unit))
-        == Mark::Passed)
+    (units.first..units.first + units.count).all(|unit| state.mark(MarkId::Unit(unit)).has_passed())
 }
 
 /// Whether each unit of an action has passed.
@@ -47,7 +46,7 @@ pub(crate) fn earlier_passed(graph: &Graph, state: &State, action: u32) -> bool
 {
     let earlier = earlier_actions(graph, action);
     (earlier.first..earlier.first + earlier.count).all(|action| {
-        state.mark(MarkId::Action(action)) == Mark::Passed && units_passed(graph, state, action)
+        state.mark(MarkId::Action(action)).has_passed() && units_passed(graph, state, action)
     })
 }
 

@@ -1,19 +1,11 @@
 //! What a graph says of a task or an action, as ranges of numbers.
 ghost use Rattle.std.specs.Prelude.{◌≡◌, ◌<◌, ◌≤◌, ◌+◌, ◌-◌, ◌^◌, All, length};
+ghost use Rattle.resource_lock.specs.declared.limits.TheConstants.{MAX_UNITS};
 ghost use Rattle.resource_lock.specs.Fits.{Fits};
 ghost use Rattle.resource_lock.specs.GraphView.{task_of, action_of};
 ghost use Rattle.resource_lock.specs.Ranges.{IsActionOf, units_in, first_item, task_with};
 
 use resource_lock::{Graph, GraphAction, LockId};
-
-/// At most how many actions a task has.
-pub(crate) const MAX_ACTIONS: u64 = 8;
-
-/// At most how many units a graph has.
-pub(crate) const MAX_UNITS: u64 = 8_192;
-
-/// At most how many locks a graph has.
-pub(crate) const MAX_LOCKS: u64 = 4_096;
 
 /// Numbers in a row: so many from the first on.
 #[derive(Clone, Copy, Debug)]
@@ -63,7 +55,7 @@ pub(crate) fn action_of(graph: &Graph, action: u32) -> GraphAction
     ensures task { result.task < length graph.now.tasks }
     ensures own { IsActionOf graph.now result.task action }
     ensures units { result.first_unit + units_in result ≤ graph.now.units }
-    ensures few { graph.now.units ≤ 8192 }
+    ensures few { graph.now.units ≤ MAX_UNITS }
 {
     graph.actions()[action as usize]
 }
@@ -101,7 +93,7 @@ pub(crate) fn items_of(graph: &Graph, action: u32) -> Span
     ensures first { result.first ≡ first_item (action_of graph.now action) }
     ensures count { result.count ≡ (action_of graph.now action).items }
     ensures in_range { result.first + result.count ≤ graph.now.units }
-    ensures few { result.count ≤ 8192 }
+    ensures few { result.count ≤ MAX_UNITS }
 {
     let action = action_of(graph, action);
     Span {

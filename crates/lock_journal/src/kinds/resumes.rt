@@ -98,12 +98,5 @@ fn all_ended(state: &State, units: Span) -> bool
     requires { units.first + units.count ≤ length state.now.units }
     ensures { result ≡ list_all (λ u. has_ended (mark_of state.now (ids.Unit u))) (range_with_len units.first units.count) }
 {
-    (units.first..units.first + units.count).all(|unit| has_ended(state.mark(MarkId::Unit(unit))))
-}
-
-/// Whether a mark has ended.
-fn has_ended(mark: Mark) -> bool
-    ensures { result ≡ has_ended mark }
-{
-    matches!(mark, Mark::Passed | Mark::Failed | Mark::Skipped)
+    (units.first..units.first + units.count).all(|unit| state.mark(MarkId::Unit(unit)).has_ended())
 }

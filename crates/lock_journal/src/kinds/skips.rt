@@ -1,19 +1,19 @@
-ghost use Rattle.std.specs.Prelude.{◌≡◌, ◌≤◌, ◌<◌, All, false, length};
-ghost use Rattle.std.specs.List.{list_any};
-ghost use Rattle.resource_lock.specs.StateView.{mark_of};
+ghost use Rattle.std.specs.Prelude.{◌≡◌, ◌+◌, ◌≤◌, false, length};
 ghost use Rattle.lock_journal.specs.Allowed.{IsFixedList};
-ghost use Rattle.lock_journal.specs.Table.{has_fallen, is_enabled};
+ghost use Rattle.lock_journal.specs.Table.{is_enabled};
 ghost use Rattle.lock_journal.specs.declared.entries.Kind.TheVariants as kinds;
-ghost use Rattle.resource_lock.specs.declared.marks.MarkId.TheVariants as ids;
+ghost use Rattle.resource_lock.specs.declared.limits.TheConstants.{MAX_ACTIONS_PER_TASK, MAX_UNITS};
 
 use crate::entries::Kind;
 use crate::kinds::fixed::{FixedKind, Progress, run_fixed};
 use crate::kinds::making::try_change;
-use crate::kinds::ranges::{MAX_ACTIONS, MAX_UNITS, actions_of, after_of};
+use crate::kinds::ranges::{actions_of, after_of};
 use crate::kinds::skipping::skip_actions;
 use crate::tentatives::Tentative;
 use crate::transforms::{Disposition, Transform};
-use resource_lock::{Change, Graph, Mark, MarkId, State, WorkerId};
+use resource_lock::{
+    Change, Graph, MAX_ACTIONS_PER_TASK, MAX_UNITS, Mark, MarkId, State, WorkerId,
+};
 
 /// Skips a task that is Waiting and comes after one that failed or was skipped: its mark and those
 /// of its actions and units become Skipped.
@@ -29,7 +29,7 @@ pub struct Skip {
 impl Transform for Skip {
     ghost kind_of = { λ t. kinds.Skip t.task };
 
-    ghost most = { λ _. 8201 };
+    ghost most = { λ _. 1 + MAX_ACTIONS_PER_TASK + MAX_UNITS };
 
     ghost makes = { λ t. IsFixedList (kinds.Skip t.task) };
 
@@ -42,7 +42,7 @@ impl Transform for Skip {
     }
 
     fn most_changes(&self) -> u64 {
-        1 + MAX_ACTIONS + MAX_UNITS
+        1 + u64::from(MAX_ACTIONS_PER_TASK) + MAX_UNITS
     }
 
     fn apply(&self, work: &mut Tentative) -> Disposition {
@@ -59,7 +59,7 @@ impl Transform for Skip {
 impl FixedKind for Skip {
     ghost kind_of = { λ t. kinds.Skip t.task };
 
-    ghost most = { λ _. 8201 };
+    ghost most = { λ _. 1 + MAX_ACTIONS_PER_TASK + MAX_UNITS };
 
     fn is_in_range(&self, graph: &Graph) -> bool {
         (self.task as usize) < graph.tasks().len()
@@ -67,7 +67,7 @@ impl FixedKind for Skip {
 
     fn condition_holds(&self, graph: &Graph, state: &State, worker: WorkerId) -> bool {
         state.mark(MarkId::Task(self.task)) == Mark::Waiting
-            && some_fallen(state, after_of(graph, self.task))
+            && state.some_fallen(after_of(graph, self.task))
             && state.is_idle(worker)
     }
 
@@ -79,21 +79,4 @@ impl FixedKind for Skip {
         }
         skip_actions(work, actions)
     }
-}
-
-/// Whether one of these tasks has failed or was skipped.
-fn some_fallen(state: &State, tasks: &[u32]) -> bool
-    requires { All (λ k. k < length state.now.tasks) tasks.now }
-    ensures { result ≡ list_any (λ k. has_fallen (mark_of state.now (ids.Task k))) tasks.now }
-{
-    tasks
-        .iter()
-        .any(|task| has_fallen(state.mark(MarkId::Task(*task))))
-}
-
-/// Whether a mark is Failed or Skipped.
-fn has_fallen(mark: Mark) -> bool
-    ensures { result ≡ has_fallen mark }
-{
-    matches!(mark, Mark::Failed | Mark::Skipped)
 }

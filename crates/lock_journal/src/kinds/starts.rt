@@ -1,10 +1,7 @@
-ghost use Rattle.std.specs.Prelude.{◌≡◌, ◌≤◌, ◌<◌, All, false, length};
-ghost use Rattle.std.specs.List.{list_all};
-ghost use Rattle.resource_lock.specs.StateView.{mark_of};
+ghost use Rattle.std.specs.Prelude.{◌≡◌, ◌≤◌, false, length};
 ghost use Rattle.lock_journal.specs.Allowed.{IsFixedList};
-ghost use Rattle.lock_journal.specs.Table.{has_passed, is_enabled};
+ghost use Rattle.lock_journal.specs.Table.{is_enabled};
 ghost use Rattle.lock_journal.specs.declared.entries.Kind.TheVariants as kinds;
-ghost use Rattle.resource_lock.specs.declared.marks.MarkId.TheVariants as ids;
 
 use crate::entries::Kind;
 use crate::kinds::fixed::{FixedKind, Progress, run_fixed};
@@ -66,7 +63,7 @@ impl FixedKind for Start {
 
     fn condition_holds(&self, graph: &Graph, state: &State, worker: WorkerId) -> bool {
         state.mark(MarkId::Task(self.task)) == Mark::Waiting
-            && all_passed(state, after_of(graph, self.task))
+            && state.all_passed(after_of(graph, self.task))
             && state.is_idle(worker)
     }
 
@@ -76,14 +73,4 @@ impl FixedKind for Start {
         let moved = Change::Move(MarkId::Task(self.task), Mark::Waiting, running);
         try_changes(work, &[Change::Lock(lock), Change::Take, moved])
     }
-}
-
-/// Whether each of these tasks has passed.
-fn all_passed(state: &State, tasks: &[u32]) -> bool
-    requires { All (λ k. k < length state.now.tasks) tasks.now }
-    ensures { result ≡ list_all (λ k. has_passed (mark_of state.now (ids.Task k))) tasks.now }
-{
-    tasks
-        .iter()
-        .all(|task| state.mark(MarkId::Task(*task)) == Mark::Passed)
 }

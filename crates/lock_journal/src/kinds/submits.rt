@@ -1,4 +1,5 @@
-ghost use Rattle.std.specs.Prelude.{◌≡◌, ◌<◌, false, length};
+ghost use Rattle.std.specs.Prelude.{◌≡◌, ◌+◌, ◌<◌, length};
+ghost use Rattle.resource_lock.specs.declared.limits.TheConstants.{MAX_UNITS};
 ghost use Rattle.resource_lock.specs.Shape.{BelongsTo};
 ghost use Rattle.lock_journal.specs.Allowed.{IsDisabled, IsFixedList};
 ghost use Rattle.lock_journal.specs.Table.{fetch_closed, is_enabled};
@@ -8,10 +9,10 @@ use crate::entries::Kind;
 use crate::kinds::fixed::{FixedKind, Progress, run_fixed};
 use crate::kinds::making::{move_units, try_change};
 use crate::kinds::marks::{earlier_passed, works_on};
-use crate::kinds::ranges::{MAX_UNITS, action_of, items_of};
+use crate::kinds::ranges::{action_of, items_of};
 use crate::tentatives::Tentative;
 use crate::transforms::{Disposition, Transform};
-use resource_lock::{Change, Graph, Mark, MarkId, State, WorkerId};
+use resource_lock::{Change, Graph, MAX_UNITS, Mark, MarkId, State, WorkerId};
 
 /// Queues the items of an action whose task the worker works on, after all that comes before it in
 /// the task has passed.
@@ -28,7 +29,7 @@ pub struct Submit {
 impl Transform for Submit {
     ghost kind_of = { λ t. kinds.Submit t.action };
 
-    ghost most = { λ _. 8193 };
+    ghost most = { λ _. 1 + MAX_UNITS };
 
     ghost makes = { λ t. IsFixedList (kinds.Submit t.action) };
 
@@ -57,7 +58,7 @@ impl Transform for Submit {
 impl FixedKind for Submit {
     ghost kind_of = { λ t. kinds.Submit t.action };
 
-    ghost most = { λ _. 8193 };
+    ghost most = { λ _. 1 + MAX_UNITS };
 
     fn is_in_range(&self, graph: &Graph) -> bool {
         (self.action as usize) < graph.actions().len()

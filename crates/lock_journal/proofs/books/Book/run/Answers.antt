@@ -6,6 +6,7 @@ use Rattle.lock_journal.specs.declared.entries.Kind.{Kind}
 use Rattle.lock_journal.specs.declared.transforms.Disposition.TheVariants.{Finished}
 use Rattle.lock_journal.specs.Entry.{Entry, entry, effect}
 use Rattle.lock_journal.specs.Allowed.{Allowed}
+use Rattle.lock_journal.specs.Bounds.{IsFitKind}
 use Rattle.lock_journal.specs.TentativeView.{TentativeView}
 use Rattle.lock_journal.specs.BookView.{BookView}
 use Rattle.lock_journal.proofs.Replays.{Extends, sound_extended}
@@ -24,6 +25,7 @@ extended g c =
           ∙ ap (λ (cs : List Change). c.self.inside.history.entries ++ entry c.args.worker (g.T.Transform.kind_of c.args.transform.now) (Some cs) ∷ []) c.made.ensures;
       state = ap (λ (t : TentativeView). t.state) c.settle.ensures ∙ c.attempt-disposition.ensures.made c.in-Finished.is;
       allowed = c.attempt-disposition.ensures.allowed c.in-Finished.is;
+      fit = subst IsFitKind c.kind.ensures c.push_finished.ensures.fit;
     }
 
 pub invariant_of-self : goal.invariant_of-self
@@ -41,6 +43,7 @@ invariant_of-self-in-Failed g c =
           ∙ ap (λ (k : Kind). c.self.inside.history.entries ++ entry c.args.worker k None ∷ []) c.kind-in-Failed.ensures;
       state = c.attempt-disposition.ensures.undone unfinished;
       allowed = record { worker = omega (arith, c.requires, ap (λ (o : GraphView). o.workers) graph); kind = c.attempt-disposition.ensures.kind c.in-Failed.is; finished = tt };
+      fit = subst IsFitKind c.kind-in-Failed.ensures c.push_failed.ensures.fit;
     } in
     sound_extended c.self.inside _ _ c.self.invariant more
 
