@@ -1,4 +1,5 @@
-ghost use Rattle.std.specs.Prelude.{◌≡◌, ◌≤◌, ◌<◌, ◌&&◌, ◌==◌, ◌∷◌, Some, false, length};
+ghost use Rattle.std.specs.Prelude.{◌≡◌, ◌≤◌, ◌<◌, ◌&&◌, ◌==◌, ◌∷◌, Some, false, length, ◌+◌, ◌*◌};
+ghost use Rattle.resource_lock.specs.declared.limits.TheConstants.{MAX_LOCKS};
 ghost use Rattle.resource_lock.specs.Change.{same_mark};
 ghost use Rattle.resource_lock.specs.Fits.{Fits};
 ghost use Rattle.resource_lock.specs.GraphView.{action_of};
@@ -17,10 +18,10 @@ use crate::kinds::fixed::{FixedKind, Progress, run_fixed};
 use crate::kinds::freeing::free_locks;
 use crate::kinds::making::try_change;
 use crate::kinds::marks::{earlier_passed, works_on};
-use crate::kinds::ranges::{MAX_LOCKS, action_of};
+use crate::kinds::ranges::action_of;
 use crate::tentatives::Tentative;
 use crate::transforms::{Disposition, Transform};
-use resource_lock::{Change, Graph, Mark, MarkId, State, WorkerId};
+use resource_lock::{Change, Graph, MAX_LOCKS, Mark, MarkId, State, WorkerId};
 
 /// Enters a blocking section: the worker gives back its lease and all its locks, which it parks by
 /// rising number, and is blocked then. Where it is for a fetch, the fetch's mark becomes Running.
@@ -38,7 +39,7 @@ pub struct Block {
 impl Transform for Block {
     ghost kind_of = { λ t. kinds.Block t.unit };
 
-    ghost most = { λ _. 8195 };
+    ghost most = { λ _. 3 + 2 * MAX_LOCKS };
 
     ghost makes = { λ t. IsFixedList (kinds.Block t.unit) };
 
@@ -51,7 +52,7 @@ impl Transform for Block {
     }
 
     fn most_changes(&self) -> u64 {
-        3 + 2 * MAX_LOCKS
+        3 + 2 * u64::from(MAX_LOCKS)
     }
 
     fn apply(&self, work: &mut Tentative) -> Disposition {
@@ -67,7 +68,7 @@ impl Transform for Block {
 impl FixedKind for Block {
     ghost kind_of = { λ t. kinds.Block t.unit };
 
-    ghost most = { λ _. 8195 };
+    ghost most = { λ _. 3 + 2 * MAX_LOCKS };
 
     fn is_in_range(&self, graph: &Graph) -> bool {
         match self.unit {
@@ -96,9 +97,9 @@ fn begin_fetch(work: &mut Tentative, unit: u32) -> bool
     requires fits { Fits work.old.graph }
     requires belongs { BelongsTo work.old.graph work.old.state }
     requires in_range { unit < work.old.graph.units }
-    requires room { 8195 ≤ work.old.room }
+    requires room { 3 + 2 * MAX_LOCKS ≤ work.old.room }
     ensures made { Makes work.old work.new (Change.Move (ids.Unit unit) marks.Waiting (marks.Running work.old.worker) ∷ set_down work.old.state work.old.worker) result }
-    ensures few { length (set_down work.old.state work.old.worker) ≤ 8194 }
+    ensures few { length (set_down work.old.state work.old.worker) ≤ 2 + 2 * MAX_LOCKS }
 {
     let running = Mark::Running(work.worker());
     if !try_change(
@@ -114,9 +115,9 @@ fn begin_fetch(work: &mut Tentative, unit: u32) -> bool
 fn set_down(work: &mut Tentative) -> bool
     requires fits { Fits work.old.graph }
     requires belongs { BelongsTo work.old.graph work.old.state }
-    requires room { 8194 ≤ work.old.room }
+    requires room { 2 + 2 * MAX_LOCKS ≤ work.old.room }
     ensures made { Makes work.old work.new (set_down work.old.state work.old.worker) result }
-    ensures few { length (set_down work.old.state work.old.worker) ≤ 8194 }
+    ensures few { length (set_down work.old.state work.old.worker) ≤ 2 + 2 * MAX_LOCKS }
 {
     if !try_change(work, Change::Give) {
         return false;

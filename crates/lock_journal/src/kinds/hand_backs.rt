@@ -1,4 +1,5 @@
-ghost use Rattle.std.specs.Prelude.{◌≡◌, false};
+ghost use Rattle.std.specs.Prelude.{◌≡◌, false, ◌+◌};
+ghost use Rattle.resource_lock.specs.declared.limits.TheConstants.{MAX_LOCKS};
 ghost use Rattle.lock_journal.specs.Allowed.{IsFixedList, IsUnmet};
 ghost use Rattle.lock_journal.specs.Table.{condition};
 ghost use Rattle.lock_journal.specs.declared.entries.Kind.TheVariants as kinds;
@@ -6,10 +7,9 @@ ghost use Rattle.lock_journal.specs.declared.entries.Kind.TheVariants as kinds;
 use crate::entries::Kind;
 use crate::kinds::fixed::{FixedKind, Progress, run_fixed};
 use crate::kinds::freeing::free_locks;
-use crate::kinds::ranges::MAX_LOCKS;
 use crate::tentatives::Tentative;
 use crate::transforms::{Disposition, Transform};
-use resource_lock::{Graph, State, WorkerId};
+use resource_lock::{Graph, MAX_LOCKS, State, WorkerId};
 
 /// Gives back all locks that the worker owns, by rising number, and then its lease, where it has one.
 ///
@@ -21,7 +21,7 @@ pub struct HandBack;
 impl Transform for HandBack {
     ghost kind_of = { λ _. kinds.HandBack };
 
-    ghost most = { λ _. 4097 };
+    ghost most = { λ _. 1 + MAX_LOCKS };
 
     ghost makes = { λ _. IsFixedList kinds.HandBack };
 
@@ -34,7 +34,7 @@ impl Transform for HandBack {
     }
 
     fn most_changes(&self) -> u64 {
-        MAX_LOCKS + 1
+        1 + u64::from(MAX_LOCKS)
     }
 
     fn apply(&self, work: &mut Tentative) -> Disposition {
@@ -50,7 +50,7 @@ impl Transform for HandBack {
 impl FixedKind for HandBack {
     ghost kind_of = { λ _. kinds.HandBack };
 
-    ghost most = { λ _. 4097 };
+    ghost most = { λ _. 1 + MAX_LOCKS };
 
     fn is_in_range(&self, _graph: &Graph) -> bool {
         true

@@ -1,4 +1,5 @@
-ghost use Rattle.std.specs.Prelude.{◌≡◌, ◌≤◌, ◌<◌, ◌+◌, ◌++◌, ◌∷◌, [], false, length, reverse};
+ghost use Rattle.std.specs.Prelude.{◌≡◌, ◌≤◌, ◌<◌, ◌+◌, ◌++◌, ◌∷◌, [], false, length, reverse, ◌*◌};
+ghost use Rattle.resource_lock.specs.declared.limits.TheConstants.{MAX_LOCKS};
 ghost use Rattle.resource_lock.specs.StateView.{holding_of};
 ghost use Rattle.lock_journal.specs.Allowed.{IsDisabled, IsFixedList};
 ghost use Rattle.lock_journal.specs.Making.{Makes};
@@ -12,12 +13,11 @@ use crate::entries::{Closed, Kind};
 use crate::kinds::fixed::{FixedKind, Progress, run_fixed};
 use crate::kinds::making::{try_change, try_changes};
 use crate::kinds::marks::mark_from;
-use crate::kinds::ranges::MAX_LOCKS;
 use crate::kinds::taking::take_all;
 use crate::tentatives::Tentative;
 use crate::transforms::{Disposition, Transform};
 use item_actions::Outcome;
-use resource_lock::{Change, Graph, Mark, MarkId, State, WorkerId};
+use resource_lock::{Change, Graph, MAX_LOCKS, Mark, MarkId, State, WorkerId};
 
 /// Leaves a blocking section: the worker takes its parked locks again, from the last parked to the
 /// first, and then a lease. Where the section was for a fetch, the fetch's mark becomes Passed or
@@ -35,7 +35,7 @@ pub struct Unblock {
 impl Transform for Unblock {
     ghost kind_of = { λ t. kinds.Unblock t.closed };
 
-    ghost most = { λ _. 8195 };
+    ghost most = { λ _. 3 + 2 * MAX_LOCKS };
 
     ghost makes = { λ t. IsFixedList (kinds.Unblock t.closed) };
 
@@ -48,7 +48,7 @@ impl Transform for Unblock {
     }
 
     fn most_changes(&self) -> u64 {
-        3 + 2 * MAX_LOCKS
+        3 + 2 * u64::from(MAX_LOCKS)
     }
 
     fn apply(&self, work: &mut Tentative) -> Disposition {
@@ -64,7 +64,7 @@ impl Transform for Unblock {
 impl FixedKind for Unblock {
     ghost kind_of = { λ t. kinds.Unblock t.closed };
 
-    ghost most = { λ _. 8195 };
+    ghost most = { λ _. 3 + 2 * MAX_LOCKS };
 
     fn is_in_range(&self, graph: &Graph) -> bool {
         match self.closed {
@@ -97,9 +97,9 @@ impl FixedKind for Unblock {
 fn end_fetch(work: &mut Tentative, closed: Closed) -> bool
     requires sound { IsSoundTentative work.old }
     requires in_range { closed.unit < work.old.graph.units }
-    requires room { 8195 ≤ work.old.room }
+    requires room { 3 + 2 * MAX_LOCKS ≤ work.old.room }
     ensures made { Makes work.old work.new (taken_up work.old.state work.old.worker ++ Change.Move (ids.Unit closed.unit) (marks.Running work.old.worker) (mark_from closed.outcome) ∷ []) result }
-    ensures few { length (taken_up work.old.state work.old.worker) ≤ 8194 }
+    ensures few { length (taken_up work.old.state work.old.worker) ≤ 2 + 2 * MAX_LOCKS }
 {
     if !take_up(work) {
         return false;
@@ -115,9 +115,9 @@ fn end_fetch(work: &mut Tentative, closed: Closed) -> bool
 /// Leaves, takes each parked lock again, the last first, and then a lease.
 fn take_up(work: &mut Tentative) -> bool
     requires sound { IsSoundTentative work.old }
-    requires room { 8194 ≤ work.old.room }
+    requires room { 2 + 2 * MAX_LOCKS ≤ work.old.room }
     ensures made { Makes work.old work.new (taken_up work.old.state work.old.worker) result }
-    ensures few { length (taken_up work.old.state work.old.worker) ≤ 8194 }
+    ensures few { length (taken_up work.old.state work.old.worker) ≤ 2 + 2 * MAX_LOCKS }
 {
     if !try_change(work, Change::Leave) {
         return false;
