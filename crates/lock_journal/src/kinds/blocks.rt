@@ -1,11 +1,11 @@
-ghost use Rattle.std.specs.Prelude.{◌≡◌, ◌≤◌, ◌<◌, ◌+◌, ◌*◌, ◌&&◌, ◌==◌, ◌∷◌, Some, false, length};
+ghost use Rattle.std.specs.Prelude.{◌≡◌, ◌≤◌, ◌<◌, ◌&&◌, ◌==◌, ◌∷◌, Some, false, length, ◌+◌, ◌*◌};
+ghost use Rattle.resource_lock.specs.declared.limits.TheConstants.{MAX_LOCKS};
 ghost use Rattle.resource_lock.specs.Change.{same_mark};
 ghost use Rattle.resource_lock.specs.Fits.{Fits};
 ghost use Rattle.resource_lock.specs.GraphView.{action_of};
 ghost use Rattle.resource_lock.specs.Ranges.{task_with};
 ghost use Rattle.resource_lock.specs.Shape.{BelongsTo};
 ghost use Rattle.resource_lock.specs.StateView.{mark_of};
-ghost use Rattle.resource_lock.specs.declared.limits.TheConstants.{MAX_LOCKS};
 ghost use Rattle.lock_journal.specs.Allowed.{IsFixedList, IsUnmet};
 ghost use Rattle.lock_journal.specs.Making.{Makes};
 ghost use Rattle.lock_journal.specs.Table.{condition, earlier_passed, set_down, works_on};
@@ -99,7 +99,7 @@ fn begin_fetch(work: &mut Tentative, unit: u32) -> bool
     requires in_range { unit < work.old.graph.units }
     requires room { 3 + 2 * MAX_LOCKS ≤ work.old.room }
     ensures made { Makes work.old work.new (Change.Move (ids.Unit unit) marks.Waiting (marks.Running work.old.worker) ∷ set_down work.old.state work.old.worker) result }
-    ensures few { length (set_down work.old.state work.old.worker) ≤ 8194 }
+    ensures few { length (set_down work.old.state work.old.worker) ≤ 2 + 2 * MAX_LOCKS }
 {
     let running = Mark::Running(work.worker());
     if !try_change(
@@ -115,9 +115,9 @@ fn begin_fetch(work: &mut Tentative, unit: u32) -> bool
 fn set_down(work: &mut Tentative) -> bool
     requires fits { Fits work.old.graph }
     requires belongs { BelongsTo work.old.graph work.old.state }
-    requires room { 8194 ≤ work.old.room }
+    requires room { 2 + 2 * MAX_LOCKS ≤ work.old.room }
     ensures made { Makes work.old work.new (set_down work.old.state work.old.worker) result }
-    ensures few { length (set_down work.old.state work.old.worker) ≤ 8194 }
+    ensures few { length (set_down work.old.state work.old.worker) ≤ 2 + 2 * MAX_LOCKS }
 {
     if !try_change(work, Change::Give) {
         return false;

@@ -1,4 +1,4 @@
-ghost use Rattle.std.specs.Prelude.{◌≡◌, ◌+◌, false};
+ghost use Rattle.std.specs.Prelude.{◌≡◌, false, ◌+◌};
 ghost use Rattle.resource_lock.specs.declared.limits.TheConstants.{MAX_LOCKS};
 ghost use Rattle.lock_journal.specs.Allowed.{IsFixedList, IsUnmet};
 ghost use Rattle.lock_journal.specs.Table.{condition};
@@ -21,7 +21,7 @@ pub struct HandBack;
 impl Transform for HandBack {
     ghost kind_of = { λ _. kinds.HandBack };
 
-    ghost most = { λ _. MAX_LOCKS + 1 };
+    ghost most = { λ _. 1 + MAX_LOCKS };
 
     ghost makes = { λ _. IsFixedList kinds.HandBack };
 
@@ -34,7 +34,7 @@ impl Transform for HandBack {
     }
 
     fn most_changes(&self) -> u64 {
-        u64::from(MAX_LOCKS) + 1
+        1 + u64::from(MAX_LOCKS)
     }
 
     fn apply(&self, work: &mut Tentative) -> Disposition {
@@ -50,7 +50,7 @@ impl Transform for HandBack {
 impl FixedKind for HandBack {
     ghost kind_of = { λ _. kinds.HandBack };
 
-    ghost most = { λ _. MAX_LOCKS + 1 };
+    ghost most = { λ _. 1 + MAX_LOCKS };
 
     fn is_in_range(&self, _graph: &Graph) -> bool {
         true

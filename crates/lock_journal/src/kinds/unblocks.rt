@@ -1,6 +1,6 @@
-ghost use Rattle.std.specs.Prelude.{◌≡◌, ◌≤◌, ◌<◌, ◌+◌, ◌*◌, ◌++◌, ◌∷◌, [], false, length, reverse};
-ghost use Rattle.resource_lock.specs.StateView.{holding_of};
+ghost use Rattle.std.specs.Prelude.{◌≡◌, ◌≤◌, ◌<◌, ◌+◌, ◌++◌, ◌∷◌, [], false, length, reverse, ◌*◌};
 ghost use Rattle.resource_lock.specs.declared.limits.TheConstants.{MAX_LOCKS};
+ghost use Rattle.resource_lock.specs.StateView.{holding_of};
 ghost use Rattle.lock_journal.specs.Allowed.{IsDisabled, IsFixedList};
 ghost use Rattle.lock_journal.specs.Making.{Makes};
 ghost use Rattle.lock_journal.specs.Table.{is_enabled, mark_from, taken_again, taken_up};
@@ -99,7 +99,7 @@ fn end_fetch(work: &mut Tentative, closed: Closed) -> bool
     requires in_range { closed.unit < work.old.graph.units }
     requires room { 3 + 2 * MAX_LOCKS ≤ work.old.room }
     ensures made { Makes work.old work.new (taken_up work.old.state work.old.worker ++ Change.Move (ids.Unit closed.unit) (marks.Running work.old.worker) (mark_from closed.outcome) ∷ []) result }
-    ensures few { length (taken_up work.old.state work.old.worker) ≤ 8194 }
+    ensures few { length (taken_up work.old.state work.old.worker) ≤ 2 + 2 * MAX_LOCKS }
 {
     if !take_up(work) {
         return false;
@@ -115,9 +115,9 @@ fn end_fetch(work: &mut Tentative, closed: Closed) -> bool
 /// Leaves, takes each parked lock again, the last first, and then a lease.
 fn take_up(work: &mut Tentative) -> bool
     requires sound { IsSoundTentative work.old }
-    requires room { 8194 ≤ work.old.room }
+    requires room { 2 + 2 * MAX_LOCKS ≤ work.old.room }
     ensures made { Makes work.old work.new (taken_up work.old.state work.old.worker) result }
-    ensures few { length (taken_up work.old.state work.old.worker) ≤ 8194 }
+    ensures few { length (taken_up work.old.state work.old.worker) ≤ 2 + 2 * MAX_LOCKS }
 {
     if !try_change(work, Change::Leave) {
         return false;
