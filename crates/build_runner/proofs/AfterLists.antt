@@ -7,7 +7,7 @@ use Rattle.std.proofs.lemmas.Bool.{cases_lt}
 use Rattle.std.proofs.lemmas.List.{get_or_default, get_or_past, length-map}
 use Rattle.resource_lock.specs.Fits.{Fits}
 use Rattle.resource_lock.specs.GraphView.{GraphView, GraphTaskView, task_of, no_task}
-use Rattle.task_ranks.specs.Rank.{Dependencies, InRange, after, lists_of}
+use Rattle.task_ranks.specs.Rank.{InRange, after, lists_of}
 use Rattle.task_ranks.specs.Dependents.{ListsDependents}
 use Rattle.build_runner.specs.Dependents.{AreDependents}
 use Rattle.build_runner.proofs.Ranks.{afters_in, after_in}

@@ -1,5 +1,5 @@
 -- What a run of a plan leaves.
-use Rattle.std.specs.Prelude.{ℕ, ◌≡◌, ◌≢◌, ◌+◌, ◌-◌, ◌^◌, ◌<◌, ◌≤◌, List, [], length, Option, None, Some}
+use Rattle.std.specs.Prelude.{ℕ, ◌≡◌, ◌≢◌, ◌+◌, ◌-◌, ◌^◌, ◌<◌, ◌≤◌, [], length, Option, None, Some}
 use Rattle.item_actions.specs.Files.{Folder}
 use Rattle.item_actions.specs.declared.outcomes.Outcome.{Outcome}
 use Rattle.resource_lock.specs.AtRest.{IsAtRest}
