@@ -4,6 +4,7 @@ use Rattle.std.specs.List.{AllByRecursion}
 use Rattle.std.proofs.lemmas.Bool.{cases_lt, cases_eq}
 use Rattle.std.proofs.lemmas.List.{get_or-replicate, get_or_past, length-replicate}
 use Rattle.item_actions.specs.Files.{Folder}
+use Rattle.item_actions.specs.Value.{IsHonest}
 use Rattle.item_actions.specs.declared.outcomes.Outcome.{Outcome}
 use Rattle.resource_lock.specs.StateView.{empty_holding, mark_of, runs_by}
 use Rattle.resource_lock.specs.GraphView.{GraphView}
@@ -16,7 +17,7 @@ use Rattle.lock_journal.specs.BookView.{BookView}
 use Rattle.lock_journal.specs.Entry.{Entry}
 use Rattle.plan_reader.specs.PlanView.{PlanView}
 use Rattle.plan_reader.specs.Units.{unit_value}
-use Rattle.run_laws.specs.Answers.{IsHonest, IsHonestWorker, answers}
+use Rattle.run_laws.specs.Answers.{IsHonestWorker, answers}
 use Rattle.run_laws.specs.ClosedBy.{closed_by}
 use Rattle.run_laws.specs.Runs.{ComesTo, GivesClosedOutcomes}
 use Rattle.resource_lock.specs.AtRest.{IsAtRest}

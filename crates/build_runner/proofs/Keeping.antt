@@ -5,6 +5,7 @@ use Rattle.std.specs.List.{AllByRecursion}
 use Rattle.std.proofs.lemmas.List.Sums.{sum_by-append}
 use Rattle.std.proofs.lemmas.List.{append-nil, append_assoc}
 use Rattle.item_actions.specs.Files.{Folder}
+use Rattle.item_actions.specs.Value.{IsHonest, is_fault}
 use Rattle.item_actions.specs.declared.outcomes.Outcome.{Outcome}
 use Rattle.lock_journal.specs.Entry.{Entry}
 use Rattle.lock_journal.specs.declared.entries.Closed.{Closed}
@@ -12,8 +13,8 @@ use Rattle.plan_reader.specs.PlanView.{PlanView}
 use Rattle.item_actions.specs.declared.outcomes.Outcome.TheVariants as outcomes
 use Rattle.worker_desk.specs.SinkView.{Rises}
 use Rattle.plan_reader.specs.Units.{PlannedUnit, plan_units, unit_value, value_in}
-use Rattle.run_laws.specs.Answers.{IsHonest, IsHonestWorker}
-use Rattle.run_laws.specs.ClosedBy.{closed_by, faults_in, is_fault}
+use Rattle.run_laws.specs.Answers.{IsHonestWorker}
+use Rattle.run_laws.specs.ClosedBy.{closed_by, faults_in}
 use Rattle.build_runner.specs.Phases.{first_worker}
 use Rattle.build_runner.specs.Kept.{HasClosed, Keeps}
 

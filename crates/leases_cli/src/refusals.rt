@@ -1,6 +1,5 @@
 //! The lines of refusals. They take no memory.
 ghost use Rattle.leases_cli.specs.Lines.{bad_plan_line, excess_label, label_of, line_of, part_word, place_text};
-ghost use Rattle.plan_table.specs.First.{place_of};
 ghost use Rattle.std.specs.Prelude.{◌≡◌};
 ghost use Rattle.worker_desk.specs.PageView.{Adds};
 ghost use Rattle.worker_desk.specs.SinkView.{Prints};
@@ -8,12 +7,6 @@ ghost use Rattle.worker_desk.specs.SinkView.{Prints};
 use crate::status::Status;
 use plan_reader::{Part, Place, PlanRefusal, Which};
 use worker_desk::{Failed, Page, Sink};
-
-/// The plan itself.
-const WHOLE: Place = Place {
-    part: Part::Plan,
-    number: 0,
-};
 
 fn excess_label(which: Which) -> &'static [u8]
     ensures { result.now ≡ excess_label which }
@@ -52,26 +45,6 @@ fn label_of(refusal: PlanRefusal) -> &'static [u8]
     }
 }
 
-fn place_of(refusal: PlanRefusal) -> Place
-    ensures { result ≡ place_of refusal }
-{
-    match refusal {
-        PlanRefusal::TooLong | PlanRefusal::NotToml | PlanRefusal::NotYet => WHOLE,
-        PlanRefusal::UnknownKey(place)
-        | PlanRefusal::WrongType(place)
-        | PlanRefusal::Missing(place)
-        | PlanRefusal::BadName(place)
-        | PlanRefusal::Twice(place)
-        | PlanRefusal::NoSuchProject(place)
-        | PlanRefusal::NoSuchTask(place)
-        | PlanRefusal::Cycle(place)
-        | PlanRefusal::ReleaseNotLast(place)
-        | PlanRefusal::ClassLoader(place)
-        | PlanRefusal::TooMany(_, place)
-        | PlanRefusal::BadRequirements(place) => place,
-    }
-}
-
 fn part_word(part: Part) -> &'static [u8]
     ensures { result.now ≡ part_word part }
 {
@@ -97,7 +70,7 @@ fn write_bad_plan<K: Sink>(refusal: PlanRefusal, page: &mut Page, sink: &mut K)
     page.text(sink, b"bad plan ");
     page.text(sink, label_of(refusal));
     page.text(sink, b" at ");
-    write_place(place_of(refusal), page, sink);
+    write_place(refusal.place(), page, sink);
     page.text(sink, b"\n");
 }
 

@@ -45,13 +45,13 @@ same_still e h = sym e ∙ h
 
 -- lists that a worker's own places are read from
 
-any_same : {X : Type 0} (test : X → Bool) (d : X) (xs ys : List X) → length xs ≡ length ys → ((i : ℕ) → test (get_or ys i d) ≡ test (get_or xs i d)) → list_any test ys ≡ list_any test xs
+pub any_same : {X : Type 0} (test : X → Bool) (d : X) (xs ys : List X) → length xs ≡ length ys → ((i : ℕ) → test (get_or ys i d) ≡ test (get_or xs i d)) → list_any test ys ≡ list_any test xs
 any_same test d [] [] long same = refl
 any_same test d [] (y ∷ ys) long same = absurd (omega arith)
 any_same test d (x ∷ xs) [] long same = absurd (omega arith)
 any_same test d (x ∷ xs) (y ∷ ys) long same = ap₂ ◌||◌ (same 0) (any_same test d xs ys (omega arith) (λ i. same (suc i)))
 
-owned_same : (n : ℕ) (w : WorkerId) (os ps : List (Option WorkerId)) → length os ≡ length ps → ((i : ℕ) → is_owner (get_or ps i None) w ≡ is_owner (get_or os i None) w) → owned_from n ps w ≡ owned_from n os w
+pub owned_same : (n : ℕ) (w : WorkerId) (os ps : List (Option WorkerId)) → length os ≡ length ps → ((i : ℕ) → is_owner (get_or ps i None) w ≡ is_owner (get_or os i None) w) → owned_from n ps w ≡ owned_from n os w
 owned_same n w [] [] long same = refl
 owned_same n w [] (p ∷ ps) long same = absurd (omega arith)
 owned_same n w (o ∷ os) [] long same = absurd (omega arith)

@@ -3,13 +3,15 @@ use Rattle.std.specs.Prelude.{unwrap_or}
 use Rattle.std.proofs.Common.{◌≡◌, ◌≢◌, ℕ, ◌+◌, ◌-◌, ◌<◌, ◌≤◌, Bool, true, false, ◌&&◌, if◌then◌else◌, codes, nat_lt, nat_le, is_some, List, [], ◌∷◌, map, take, length, get_or, Option, Some, None, refl, ap, sym, subst, ◌∙◌, arith, inl, inr, length-append}
 use Rattle.std.specs.List.{All, AllPairs, list_any, list_all, flat_map, sum_by}
 use Rattle.std.specs.Str.{bytes_eq}
-use Rattle.std.proofs.lemmas.Bool.{true≢false, false≢true, cases_Bool, and_parts, leb-true, ltb-false, not-false}
+use Rattle.std.proofs.lemmas.Bool.{true≢false, false≢true, false_from_ne_true, cases_Bool, and_parts, leb-true, ltb-false, not-false}
+use Rattle.std.proofs.lemmas.Slice.Eq.{bytes_eq-Decides}
 use Rattle.std.proofs.lemmas.List.{length-map, get_or-map, get_or-take, length-take-le}
 use Rattle.std.proofs.lemmas.List.Elements.{All-map}
 use Rattle.std.proofs.lemmas.List.Sums.{sum_by-cons, list_all-from_AllPass}
 use Rattle.toml.specs.Data.{Data}
 use Rattle.resource_lock.specs.declared.graphs.Retention.{Retention}
 use Rattle.resource_lock.specs.declared.graphs.Retention.TheVariants.{Retain, Release, ReleaseAndReacquire}
+use Rattle.resource_lock.specs.Words.{retention_word}
 use Rattle.task_ranks.specs.Rank.{IsFirstCycle, Ranked}
 use Rattle.plan_table.specs.declared.refusals.Part.TheVariants.{Plan, Project, Task, Requirements}
 use Rattle.plan_table.specs.declared.refusals.Which.{Which}
@@ -21,6 +23,8 @@ use Rattle.plan_table.specs.Search.{table_refusal}
 use Rattle.plan_table.specs.Formed.{IsFormedAction}
 use Rattle.plan_table.proofs.Lists.{map_of_map}
 use Rattle.plan_table.proofs.FormedLaws.{is_formed}
+use Rattle.resource_lock.specs.declared.limits.TheConstants.{MAX_TASKS, MAX_UNITS, MAX_ACTIONS_PER_TASK, MAX_AFTER}
+use Rattle.plan_reader.specs.declared.limits.TheConstants.{MAX_PROJECTS, MAX_REQUIREMENTS, MAX_LISTED}
 use Rattle.plan_reader.specs.declared.rows.Row.TheVariants.{NoSuchProject, ReleaseNotLast, ClassLoader, TooMany, BadRequirements}
 use Rattle.plan_reader.specs.PlanView.{PlanActionView}
 use Rattle.plan_reader.specs.Units.{fetch_units, item_unit, action_units, task_units, plan_units}
@@ -77,21 +81,21 @@ few_listed r h =
 
 few_lists : (r : Data) → has_few_lists r ≡ true → HasFewLists (requirements_from r)
 few_lists r h =
-    let b = and_parts (nat_le (length (args_of r)) 64 && nat_le (length (properties_of r)) 64) (nat_le (length (variables_of r)) 64) h in
-    let c = and_parts (nat_le (length (args_of r)) 64) (nat_le (length (properties_of r)) 64) b.0 in
+    let b = and_parts (nat_le (length (args_of r)) MAX_LISTED && nat_le (length (properties_of r)) MAX_LISTED) (nat_le (length (variables_of r)) MAX_LISTED) h in
+    let c = and_parts (nat_le (length (args_of r)) MAX_LISTED) (nat_le (length (properties_of r)) MAX_LISTED) b.0 in
     record {
-      args = leb-true _ 64 c.0;
-      properties = rw (length-map (properties_of r) pair_of) (leb-true _ 64 c.1);
-      variables = rw (length-map (variables_of r) pair_of) (leb-true _ 64 b.1);
+      args = leb-true _ MAX_LISTED c.0;
+      properties = rw (length-map (properties_of r) pair_of) (leb-true _ MAX_LISTED c.1);
+      variables = rw (length-map (variables_of r) pair_of) (leb-true _ MAX_LISTED b.1);
     }
 
-tasks_few : (t : Data) → is_some (excess_of_task t) ≡ false → (length (actions_of t) ≤ 8) × (length (after_of t) ≤ 64)
+tasks_few : (t : Data) → is_some (excess_of_task t) ≡ false → (length (actions_of t) ≤ MAX_ACTIONS_PER_TASK) × (length (after_of t) ≤ MAX_AFTER)
 tasks_few t h =
-    let p = within 8 (length (actions_of t)) which.Actions _ h in
-    let q = within 64 (length (after_of t)) which.After _ p.1 in
+    let p = within MAX_ACTIONS_PER_TASK (length (actions_of t)) which.Actions _ h in
+    let q = within MAX_AFTER (length (after_of t)) which.After _ p.1 in
     (p.0, q.0)
 
-few_numbers : (names ts : List Text) → length ts ≤ 64 → length (once (map (number_of names) ts)) ≤ 64
+few_numbers : (names ts : List Text) → length ts ≤ MAX_AFTER → length (once (map (number_of names) ts)) ≤ MAX_AFTER
 few_numbers names ts few = omega (arith, few, length-once (map (number_of names) ts), length-map ts (number_of names))
 
 -- ---- units
@@ -124,8 +128,11 @@ is_release _ = false
 
 keeps : (word : Text) → bytes_eq word (codes "release") ≡ false → retention_named word ≢ Release
 unfolding is_release
-keeps word other same = by (bytes_eq word (codes "retain")) (bytes_eq word (codes "release_and_reacquire")) (rw other at same)
+keeps word other same = by (bytes_eq (retention_word Retain) word) (bytes_eq (retention_word ReleaseAndReacquire) word) (rw flipped at same)
   where
+    flipped : bytes_eq (retention_word Release) word ≡ false
+    flipped = false_from_ne_true _ (λ e. false≢true (sym other ∙ (bytes_eq-Decides word (codes "release")).1 (sym ((bytes_eq-Decides (retention_word Release) word).0 e))))
+
     by : (a b : Bool) → unwrap_or (if a then Some Retain else if b then Some ReleaseAndReacquire else None) ReleaseAndReacquire ≡ Release → ⊥
     by true b e = false≢true (ap is_release e)
     by false true e = false≢true (ap is_release e)
@@ -174,19 +181,19 @@ is_plan d a =
     let make = task_of n (all_requirements d) in
     let ts = tasks_of d in
     let limits = row_quiet d TooMany (few d a) in
-    let p = within 512 (length (projects_of d)) which.Projects _ (limits Plan 0 d (omega arith)) in
-    let q = within 2048 (length ts) which.Tasks _ p.1 in
-    let u = within 8192 (plan_unit_count d) which.Units _ q.1 in
-    let r = within 256 (length (requirements_of d)) which.Requirements _ u.1 in
-    let actions_few : All (λ t. (length (actions_of t) ≤ 8) × (length (after_of t) ≤ 64)) ts = λ k e lt. tasks_few (get_or ts k e) (limits Task k e lt) in
+    let p = within MAX_PROJECTS (length (projects_of d)) which.Projects _ (limits Plan 0 d (omega arith)) in
+    let q = within MAX_TASKS (length ts) which.Tasks _ p.1 in
+    let u = within MAX_UNITS (plan_unit_count d) which.Units _ q.1 in
+    let r = within MAX_REQUIREMENTS (length (requirements_of d)) which.Requirements _ u.1 in
+    let actions_few : All (λ t. (length (actions_of t) ≤ MAX_ACTIONS_PER_TASK) × (length (after_of t) ≤ MAX_AFTER)) ts = λ k e lt. tasks_few (get_or ts k e) (limits Task k e lt) in
     let formed = is_formed d (tables d a) in
     record {
       few_projects = rw (length-map (projects_of d) name_of) p.0;
       few_tasks = rw (length-map ts make) q.0;
       few_units = rw (units_of_plan d) u.0;
       few_requirements = rw (length-map (requirements_of d) requirements_from) r.0;
-      few_actions = All-map (λ t. length t.actions ≤ 8) make ts (λ k e lt. rw (length-map (actions_of (get_or ts k e)) action) (actions_few k e lt).0);
-      few_after = All-map (λ t. length t.after ≤ 64) make ts (λ k e lt. few_numbers n.tasks (after_of (get_or ts k e)) (actions_few k e lt).1);
+      few_actions = All-map (λ t. length t.actions ≤ MAX_ACTIONS_PER_TASK) make ts (λ k e lt. rw (length-map (actions_of (get_or ts k e)) action) (actions_few k e lt).0);
+      few_after = All-map (λ t. length t.after ≤ MAX_AFTER) make ts (λ k e lt. few_numbers n.tasks (after_of (get_or ts k e)) (actions_few k e lt).1);
       few_lists = All-map HasFewLists requirements_from (requirements_of d) (λ k e lt. few_lists (get_or (requirements_of d) k e) (few_listed (get_or (requirements_of d) k e) (limits Requirements k e lt)));
       project_names = All-map (λ m. is_name m ≡ true) name_of (projects_of d) formed.projects;
       task_names = All-map (λ t. is_name t.name ≡ true) make ts formed.tasks;

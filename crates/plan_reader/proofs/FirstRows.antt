@@ -16,6 +16,8 @@ use Rattle.plan_table.specs.Keys.{projects_of, tasks_of, requirements_of, action
 use Rattle.plan_table.specs.Search.{first_of, places}
 use Rattle.plan_table.proofs.FirstAnswers.{option_map_none, option_map_some, first_of_none, first_of_some}
 use Rattle.plan_table.proofs.FirstPlaces.{FirstAt, no_place, first_place as place_first, position_finds}
+use Rattle.resource_lock.specs.declared.limits.TheConstants.{MAX_TASKS, MAX_UNITS, MAX_ACTIONS_PER_TASK, MAX_AFTER}
+use Rattle.plan_reader.specs.declared.limits.TheConstants.{MAX_PROJECTS, MAX_REQUIREMENTS}
 use Rattle.plan_reader.specs.declared.rows.Row.{Row}
 use Rattle.plan_reader.specs.declared.rows.Row.TheVariants.{TooMany}
 use Rattle.plan_reader.specs.First.{row_holds, passes_limit}
@@ -88,9 +90,9 @@ lists false = refl
 
 -- what there is too much of is the first whose limit is passed
 first_limit : (p : Part) (t : Data) → excess p t ≡ first_of (λ w. where_passed (passes_limit w p t) w) limits
-first_limit Plan t = four (nat_lt 512 (length (projects_of t))) (nat_lt 2048 (length (tasks_of t))) (nat_lt 8192 (plan_unit_count t)) (nat_lt 256 (length (requirements_of t)))
+first_limit Plan t = four (nat_lt MAX_PROJECTS (length (projects_of t))) (nat_lt MAX_TASKS (length (tasks_of t))) (nat_lt MAX_UNITS (plan_unit_count t)) (nat_lt MAX_REQUIREMENTS (length (requirements_of t)))
 first_limit Project t = refl
-first_limit Task t = two (nat_lt 8 (length (actions_of t))) (nat_lt 64 (length (after_of t)))
+first_limit Task t = two (nat_lt MAX_ACTIONS_PER_TASK (length (actions_of t))) (nat_lt MAX_AFTER (length (after_of t)))
 first_limit Requirements t = lists (has_few_lists t)
 
 none_passed : (p : Part) (t : Data) → excess p t ≡ None → (w : Which) → passes_limit w p t ≡ false

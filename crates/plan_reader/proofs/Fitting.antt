@@ -11,6 +11,8 @@ use Rattle.resource_lock.specs.GraphView.{GraphTaskView, graph_view, no_task, no
 use Rattle.resource_lock.specs.Made.{made_of}
 use Rattle.resource_lock.specs.Ranges.{fetches, units_in, IsIn}
 use Rattle.resource_lock.specs.Fits.{Follow, Fits}
+use Rattle.resource_lock.specs.declared.limits.TheConstants.{MAX_LOCKS, MAX_ACTIONS_PER_TASK, MAX_AFTER}
+use Rattle.plan_reader.specs.declared.limits.TheConstants.{MAX_PROJECTS}
 use Rattle.plan_reader.specs.PlanView.{PlanActionView, PlanTaskView, PlanView}
 use Rattle.plan_reader.specs.Units.{fetch_units, item_unit, action_units, task_units, plan_units}
 use Rattle.plan_reader.specs.IsPlan.{IsPlan}
@@ -36,7 +38,7 @@ lock_within : (parallel : Bool) (project projects : ℕ) → project < projects 
 lock_within true project projects within = within
 lock_within false project projects within = omega arith
 
-few_locks : (parallel : Bool) (projects : ℕ) → projects ≤ 512 → (if parallel then projects else min 1 projects) ≤ 4096
+few_locks : (parallel : Bool) (projects : ℕ) → projects ≤ MAX_PROJECTS → (if parallel then projects else min 1 projects) ≤ MAX_LOCKS
 few_locks true projects few = omega (arith, few)
 few_locks false projects few = omega (arith, few)
 
@@ -154,8 +156,8 @@ graph_fits p workers max_leases parallel h some_worker few_workers some_lease fe
       few_locks = few_locks parallel (length p.projects) h.few_projects;
       few_tasks = rw tasks h.few_tasks;
       few_units = h.few_units;
-      few_actions = each_task (λ t. t.actions ≤ 8) parallel 0 p.tasks (λ k d within n. h.few_actions k d within);
-      few_after = each_task (λ t. length t.after ≤ 64) parallel 0 p.tasks (λ k d within n. h.few_after k d within);
+      few_actions = each_task (λ t. t.actions ≤ MAX_ACTIONS_PER_TASK) parallel 0 p.tasks (λ k d within n. h.few_actions k d within);
+      few_after = each_task (λ t. length t.after ≤ MAX_AFTER) parallel 0 p.tasks (λ k d within n. h.few_after k d within);
       locks_within = each_task (λ t. t.lock.0 < locks_of parallel p) parallel 0 p.tasks (λ k d within n. lock_within parallel _ (length p.projects) (h.project_within k d within));
       after_within = subst (λ n. All (λ t. All (λ m. m < n) t.after) (tasks_from parallel 0 p.tasks)) (sym tasks) (each_task (λ t. All (λ m. m < length p.tasks) t.after) parallel 0 p.tasks (λ k d within n. h.after_within k d within));
       actions_follow = actions_follow parallel 0 0 0 p.tasks (length (all_actions_from 0 0 p.tasks)) (omega arith);

@@ -5,6 +5,7 @@ use Rattle.std.proofs.lemmas.List.{length-map, get_or-map, drop_more}
 use Rattle.resource_lock.specs.declared.ids.LockId.{LockId}
 use Rattle.resource_lock.specs.declared.graphs.GraphAction.{GraphAction}
 use Rattle.resource_lock.specs.GraphView.{GraphTaskView}
+use Rattle.resource_lock.specs.declared.limits.TheConstants.{MAX_ACTIONS_PER_TASK}
 use Rattle.plan_reader.specs.declared.plans.PlanTask.{PlanTask}
 use Rattle.plan_reader.specs.PlanView.{plan_action_view, plan_task_view}
 use Rattle.plan_reader.specs.Units.{task_units}
@@ -17,11 +18,11 @@ drop_at xs i x within is = drop_more xs i x within ∙ ap (λ y. y ∷ drop (i +
 
 -- ---- tasks
 
-pub few_at : (ts : List PlanTask) (i : ℕ) (x : PlanTask) → i < length ts → x ≡ get_or ts i x → All (λ t. length t.actions ≤ 8) (map plan_task_view ts) → length x.actions.items ≤ 8
+pub few_at : (ts : List PlanTask) (i : ℕ) (x : PlanTask) → i < length ts → x ≡ get_or ts i x → All (λ t. length t.actions ≤ MAX_ACTIONS_PER_TASK) (map plan_task_view ts) → length x.actions.items ≤ MAX_ACTIONS_PER_TASK
 few_at ts i x within is few =
     let here = few i (plan_task_view x) (rw (length-map ts plan_task_view) within) in
     let same = get_or-map plan_task_view ts i x (plan_task_view x) within ∙ ap plan_task_view (sym is) in
-    rw (length-map x.actions.items plan_action_view) at (subst (λ t. length t.actions ≤ 8) same here)
+    rw (length-map x.actions.items plan_action_view) at (subst (λ t. length t.actions ≤ MAX_ACTIONS_PER_TASK) same here)
 
 pub outlined : (parallel : _) (x : PlanTask) (lock : LockId) (after : List ℕ) (first actions : ℕ) → lock ≡ lock_of parallel x.project → after ≡ x.after.items → actions ≡ length x.actions.items
     → record { lock = lock; after = after; first_action = first; actions = actions } ≡ task_outline parallel first (plan_task_view x)

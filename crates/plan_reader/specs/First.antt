@@ -15,6 +15,8 @@ use Rattle.plan_table.specs.First.{holds_on, TableHolds}
 use Rattle.plan_table.specs.Forms.{Text}
 use Rattle.plan_table.specs.Keys.{projects_of, tasks_of, requirements_of, name_of, actions_of, after_of}
 use Rattle.plan_table.specs.Search.{places}
+use Rattle.resource_lock.specs.declared.limits.TheConstants.{MAX_TASKS, MAX_UNITS, MAX_ACTIONS_PER_TASK, MAX_AFTER}
+use Rattle.plan_reader.specs.declared.limits.TheConstants.{MAX_PROJECTS, MAX_REQUIREMENTS}
 use Rattle.plan_reader.specs.declared.rows.Row.{Row}
 use Rattle.plan_reader.specs.declared.rows.Row.TheVariants as row
 use Rattle.plan_reader.specs.Names.{names_in, dependencies_of}
@@ -39,12 +41,12 @@ row_holds d r p = holds_on d p (holds (names_in d) r p.part)
 
 -- a table of this part has more of it than it may have
 abbrev pub passes_limit : Which → Part → Data → Bool
-passes_limit which.Projects part.Plan d = nat_lt 512 (length (projects_of d))
-passes_limit which.Tasks part.Plan d = nat_lt 2048 (length (tasks_of d))
-passes_limit which.Units part.Plan d = nat_lt 8192 (plan_unit_count d)
-passes_limit which.Requirements part.Plan d = nat_lt 256 (length (requirements_of d))
-passes_limit which.Actions part.Task t = nat_lt 8 (length (actions_of t))
-passes_limit which.After part.Task t = nat_lt 64 (length (after_of t))
+passes_limit which.Projects part.Plan d = nat_lt MAX_PROJECTS (length (projects_of d))
+passes_limit which.Tasks part.Plan d = nat_lt MAX_TASKS (length (tasks_of d))
+passes_limit which.Units part.Plan d = nat_lt MAX_UNITS (plan_unit_count d)
+passes_limit which.Requirements part.Plan d = nat_lt MAX_REQUIREMENTS (length (requirements_of d))
+passes_limit which.Actions part.Task t = nat_lt MAX_ACTIONS_PER_TASK (length (actions_of t))
+passes_limit which.After part.Task t = nat_lt MAX_AFTER (length (after_of t))
 passes_limit which.Lists part.Requirements r = not (has_few_lists r)
 passes_limit _ _ d = false
 

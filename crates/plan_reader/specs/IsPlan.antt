@@ -2,11 +2,13 @@
 use Rattle.std.specs.Prelude.{ℕ, ◌≡◌, ◌≢◌, ◌+◌, ◌<◌, ◌≤◌, true, List, map, length, slice_index_or}
 use Rattle.std.specs.List.{All, AllPairs}
 use Rattle.resource_lock.specs.declared.graphs.Retention.TheVariants.{Release}
+use Rattle.resource_lock.specs.declared.limits.TheConstants.{MAX_TASKS, MAX_UNITS, MAX_ACTIONS_PER_TASK, MAX_AFTER}
 use Rattle.daemon_requirements.specs.RequirementsView.{RequirementsView}
 use Rattle.task_ranks.specs.Rank.{Ranked}
 use Rattle.item_actions.specs.Forms.{is_file_name}
 use Rattle.plan_table.specs.Forms.{is_name}
 use Rattle.plan_table.specs.Formed.{IsFetch}
+use Rattle.plan_reader.specs.declared.limits.TheConstants.{MAX_PROJECTS, MAX_REQUIREMENTS, MAX_LISTED}
 use Rattle.plan_reader.specs.PlanView.{PlanActionView, PlanTaskView, PlanView}
 use Rattle.plan_reader.specs.Units.{plan_units}
 
@@ -19,23 +21,23 @@ pub record HasFileNames (a : PlanActionView) : Type 0 where
 abbrev pub ReleasesLast : List PlanActionView → Type 0
 ReleasesLast as' = (k : ℕ) (d : PlanActionView) → k + 1 < length as' → (slice_index_or as' k d).retention ≢ Release
 
--- at most 64 arguments, properties and variables each
+-- few arguments, properties and variables each
 pub record HasFewLists (p : RequirementsView) : Type 0 where
-  pub args : length p.args ≤ 64
-  pub properties : length p.properties ≤ 64
-  pub variables : length p.variables ≤ 64
+  pub args : length p.args ≤ MAX_LISTED
+  pub properties : length p.properties ≤ MAX_LISTED
+  pub variables : length p.variables ≤ MAX_LISTED
 
 -- for each task the tasks that it stands after
 abbrev pub dependencies : List PlanTaskView → List (List ℕ)
 dependencies ts = map (λ t. t.after) ts
 
 pub record IsPlan (p : PlanView) : Type 0 where
-  pub few_projects : length p.projects ≤ 512
-  pub few_tasks : length p.tasks ≤ 2048
-  pub few_units : length (plan_units p) ≤ 8192
-  pub few_requirements : length p.requirements ≤ 256
-  pub few_actions : All (λ t. length t.actions ≤ 8) p.tasks
-  pub few_after : All (λ t. length t.after ≤ 64) p.tasks
+  pub few_projects : length p.projects ≤ MAX_PROJECTS
+  pub few_tasks : length p.tasks ≤ MAX_TASKS
+  pub few_units : length (plan_units p) ≤ MAX_UNITS
+  pub few_requirements : length p.requirements ≤ MAX_REQUIREMENTS
+  pub few_actions : All (λ t. length t.actions ≤ MAX_ACTIONS_PER_TASK) p.tasks
+  pub few_after : All (λ t. length t.after ≤ MAX_AFTER) p.tasks
   pub few_lists : All HasFewLists p.requirements
   pub project_names : All (λ n. is_name n ≡ true) p.projects
   pub task_names : All (λ t. is_name t.name ≡ true) p.tasks

@@ -9,7 +9,8 @@ use Rattle.item_actions.specs.declared.action_kinds.ActionKind.TheVariants as ki
 use Rattle.item_actions.specs.Words.{action_kind_of}
 use Rattle.item_actions.specs.declared.actions.ItemAction.TheVariants.{Lines, Words, Bytes, Longest, Count, Sha256}
 use Rattle.resource_lock.specs.declared.graphs.Retention.{Retention}
-use Rattle.resource_lock.specs.declared.graphs.Retention.TheVariants.{Retain, Release, ReleaseAndReacquire}
+use Rattle.resource_lock.specs.declared.graphs.Retention.TheVariants.{ReleaseAndReacquire}
+use Rattle.resource_lock.specs.Words.{retention_of}
 use Rattle.daemon_requirements.specs.declared.fields.Pair.{Pair}
 use Rattle.daemon_requirements.specs.RequirementsView.{RequirementsView}
 use Rattle.plan_table.specs.Forms.{Text, is_needle}
@@ -82,16 +83,9 @@ work_of names profiles item = record {
 
 -- ---- actions and tasks
 
-abbrev pub retention_of_word : Text → Option Retention
-retention_of_word word =
-    if bytes_eq word (codes "retain") then Some Retain
-    else if bytes_eq word (codes "release") then Some Release
-    else if bytes_eq word (codes "release_and_reacquire") then Some ReleaseAndReacquire
-    else None
-
 -- a document with a word of no retention is refused
 abbrev pub retention_named : Text → Retention
-retention_named word = unwrap_or (retention_of_word word) ReleaseAndReacquire
+retention_named word = unwrap_or (retention_of word) ReleaseAndReacquire
 
 abbrev pub action_of : NameLists → List RequirementsView → Data → PlanActionView
 action_of names profiles action = record {

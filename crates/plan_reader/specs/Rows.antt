@@ -10,6 +10,8 @@ use Rattle.plan_table.specs.declared.refusals.Which.{Which}
 use Rattle.plan_table.specs.declared.refusals.Which.TheVariants.{Projects, Tasks, Units, Requirements, Actions, After, Lists}
 use Rattle.plan_table.specs.Forms.{Text}
 use Rattle.plan_table.specs.Keys.{projects_of, tasks_of, requirements_of, project_of, after_of, actions_of, wait_of, fetch_of, items_of, isolation_of, requirements_name_of, heap_of, args_of, properties_of, variables_of}
+use Rattle.resource_lock.specs.declared.limits.TheConstants.{MAX_TASKS, MAX_UNITS, MAX_ACTIONS_PER_TASK, MAX_AFTER}
+use Rattle.plan_reader.specs.declared.limits.TheConstants.{MAX_PROJECTS, MAX_REQUIREMENTS, MAX_LISTED}
 use Rattle.plan_reader.specs.declared.rows.Row.{Row}
 use Rattle.plan_reader.specs.declared.rows.Row.TheVariants as row
 use Rattle.plan_reader.specs.NameNumbers.{has_name}
@@ -51,20 +53,20 @@ plan_unit_count d = sum_by task_unit_count (tasks_of d)
 
 abbrev pub excess_of_plan : Data → Option Which
 excess_of_plan d =
-    if nat_lt 512 (length (projects_of d)) then Some Projects
-    else if nat_lt 2048 (length (tasks_of d)) then Some Tasks
-    else if nat_lt 8192 (plan_unit_count d) then Some Units
-    else if nat_lt 256 (length (requirements_of d)) then Some Requirements
+    if nat_lt MAX_PROJECTS (length (projects_of d)) then Some Projects
+    else if nat_lt MAX_TASKS (length (tasks_of d)) then Some Tasks
+    else if nat_lt MAX_UNITS (plan_unit_count d) then Some Units
+    else if nat_lt MAX_REQUIREMENTS (length (requirements_of d)) then Some Requirements
     else None
 
 abbrev pub excess_of_task : Data → Option Which
 excess_of_task task =
-    if nat_lt 8 (length (actions_of task)) then Some Actions
-    else if nat_lt 64 (length (after_of task)) then Some After
+    if nat_lt MAX_ACTIONS_PER_TASK (length (actions_of task)) then Some Actions
+    else if nat_lt MAX_AFTER (length (after_of task)) then Some After
     else None
 
 abbrev pub has_few_lists : Data → Bool
-has_few_lists r = nat_le (length (args_of r)) 64 && nat_le (length (properties_of r)) 64 && nat_le (length (variables_of r)) 64
+has_few_lists r = nat_le (length (args_of r)) MAX_LISTED && nat_le (length (properties_of r)) MAX_LISTED && nat_le (length (variables_of r)) MAX_LISTED
 
 abbrev pub excess_of_requirements : Data → Option Which
 excess_of_requirements r = if has_few_lists r then None else Some Lists

@@ -2,6 +2,7 @@
 ghost use Rattle.std.specs.Prelude.{◌≡◌, ◌+◌, ◌<◌, ◌≤◌, ◌++◌, map, length, IfOk, All};
 ghost use Rattle.std.specs.List.{flat_map};
 ghost use Rattle.resource_lock.specs.GraphView.{graph_view};
+ghost use Rattle.resource_lock.specs.declared.limits.TheConstants.{MAX_ACTIONS_PER_TASK, MAX_LEASES, MAX_TASKS, MAX_UNITS, MAX_WORKERS};
 ghost use Rattle.plan_reader.specs.PlanView.{plan_action_view, plan_task_view};
 ghost use Rattle.plan_reader.specs.Units.{task_units};
 ghost use Rattle.plan_reader.specs.Graph.{lock_of, locks_of, tasks_from, actions_from, units_in_all, all_actions_from, graph_of};
@@ -21,9 +22,9 @@ impl Plan {
         parallel: bool,
     ) -> Result<Graph, AllocError>
         requires some_worker { 1 ≤ workers }
-        requires few_workers { workers ≤ 32 }
+        requires few_workers { workers ≤ MAX_WORKERS }
         requires some_lease { 1 ≤ max_leases }
-        requires few_leases { max_leases ≤ 32 }
+        requires few_leases { max_leases ≤ MAX_LEASES }
         ensures { IfOk result (λ g. g ≡ graph_of self.now workers max_leases parallel) }
     {
         let tasks = graph_tasks(alloc, self.tasks(), parallel)?;
@@ -54,8 +55,8 @@ fn graph_tasks(
     tasks: &[PlanTask],
     parallel: bool,
 ) -> Result<Vec<GraphTask>, AllocError>
-    requires few_tasks { length tasks.now ≤ 2048 }
-    requires few_actions { All (λ t. length t.actions ≤ 8) (map plan_task_view tasks.now) }
+    requires few_tasks { length tasks.now ≤ MAX_TASKS }
+    requires few_actions { All (λ t. length t.actions ≤ MAX_ACTIONS_PER_TASK) (map plan_task_view tasks.now) }
     ensures { IfOk result (λ made. map graph_view made.items ≡ tasks_from parallel 0 (map plan_task_view tasks.now)) }
 {
     let mut made = Vec::with_capacity(alloc, tasks.len())?;
@@ -80,7 +81,7 @@ fn push_actions(
     first_unit: u32,
     actions: &[PlanAction],
 ) -> Result<u32, AllocError>
-    requires { first_unit + units_in_all (map plan_action_view actions.now) ≤ 8192 }
+    requires { first_unit + units_in_all (map plan_action_view actions.now) ≤ MAX_UNITS }
     ensures made { IfOk result (λ _. made.new.items ≡ made.old.items ++ actions_from task first_unit (map plan_action_view actions.now)) }
     ensures next { IfOk result (λ next. next ≡ first_unit + units_in_all (map plan_action_view actions.now)) }
 {
@@ -102,8 +103,8 @@ fn push_actions(
 
 /// The actions of the graph.
 fn graph_actions(alloc: Global, tasks: &[PlanTask]) -> Result<Vec<GraphAction>, AllocError>
-    requires few_tasks { length tasks.now ≤ 2048 }
-    requires few_units { length (flat_map task_units (map plan_task_view tasks.now)) ≤ 8192 }
+    requires few_tasks { length tasks.now ≤ MAX_TASKS }
+    requires few_units { length (flat_map task_units (map plan_task_view tasks.now)) ≤ MAX_UNITS }
     ensures { IfOk result (λ made. made.items ≡ all_actions_from 0 0 (map plan_task_view tasks.now)) }
 {
     let mut made = Vec::with_capacity(alloc, tasks.len())?;

@@ -6,6 +6,7 @@ ghost use Rattle.toml.specs.View.{view};
 ghost use Rattle.plan_table.specs.Forms.{Text};
 ghost use Rattle.plan_table.specs.Values.{text_of};
 ghost use Rattle.plan_table.specs.Keys.{projects_of, tasks_of, requirements_of, actions_of, items_of, after_of, args_of};
+ghost use Rattle.resource_lock.specs.declared.limits.TheConstants.{MAX_UNITS};
 ghost use Rattle.plan_reader.specs.Rooms.{IsLeft};
 ghost use Rattle.plan_reader.specs.Rows.{unit_count, task_unit_count, plan_unit_count, excess_of_plan, excess_of_task, has_few_lists, excess_of_requirements, excess};
 
@@ -13,21 +14,12 @@ use plan_table::{
     Part, Which, actions_of, after_of, args_of, fetch_of, items_of, projects_of, properties_of,
     requirements_of, tasks_of, variables_of,
 };
+use resource_lock::{MAX_ACTIONS_PER_TASK, MAX_AFTER, MAX_TASKS, MAX_UNITS};
 use toml::{Table, Value};
 
 const MAX_PROJECTS: usize = 512;
 
-const MAX_TASKS: usize = 2_048;
-
-const MAX_UNITS: usize = 8_192;
-
 const MAX_REQUIREMENTS: usize = 256;
-
-/// Of one task.
-const MAX_ACTIONS: usize = 8;
-
-/// Of one task, as they are written.
-const MAX_AFTER: usize = 64;
 
 /// The most arguments, properties or variables of one requirements table.
 const MAX_LISTED: usize = 64;
@@ -101,9 +93,9 @@ fn room_after_tasks(mut room: usize, tasks: &[Value]) -> Option<usize>
 }
 
 fn has_many_units(document: &Value) -> bool
-    ensures { result ≡ nat_lt 8192 (plan_unit_count (view document.now)) }
+    ensures { result ≡ nat_lt MAX_UNITS (plan_unit_count (view document.now)) }
 {
-    room_after_tasks(MAX_UNITS, tasks_of(document)).is_none()
+    room_after_tasks(MAX_UNITS as usize, tasks_of(document)).is_none()
 }
 
 fn excess_of_plan(document: &Value) -> Option<Which>
@@ -125,7 +117,7 @@ fn excess_of_plan(document: &Value) -> Option<Which>
 fn excess_of_task(task: &Value) -> Option<Which>
     ensures { result ≡ excess_of_task (view task.now) }
 {
-    if action_count(task) > MAX_ACTIONS {
+    if action_count(task) > MAX_ACTIONS_PER_TASK as usize {
         Some(Which::Actions)
     } else if after_count(task) > MAX_AFTER {
         Some(Which::After)

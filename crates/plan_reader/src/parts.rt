@@ -6,7 +6,7 @@ ghost use Rattle.task_ranks.specs.Rank.{lists_of};
 ghost use Rattle.plan_table.specs.Keys.{projects_of, tasks_of, actions_of, items_of, fetch_of, name_of};
 ghost use Rattle.plan_reader.specs.PlanView.{process_of as shown_process, work_view, plan_action_view, plan_task_view};
 ghost use Rattle.plan_reader.specs.Names.{names_in, name_lists, dependency_numbers, dependencies_of};
-ghost use Rattle.plan_reader.specs.Planned.{count_of, action_of_kind, action_named, default_requirements, process_of, work_of, retention_of_word, retention_named, action_of, task_of, all_requirements};
+ghost use Rattle.plan_reader.specs.Planned.{count_of, action_of_kind, action_named, default_requirements, process_of, work_of, retention_named, action_of, task_of, all_requirements};
 
 use crate::known::Known;
 use crate::names::copy_numbers;
@@ -96,22 +96,11 @@ fn items_of_action(alloc: Global, known: &Known, action: &Value) -> Result<Vec<W
     Ok(items)
 }
 
-fn retention_of_word(word: &str) -> Option<Retention>
-    ensures { result ≡ retention_of_word word.now }
-{
-    match word {
-        "retain" => Some(Retention::Retain),
-        "release" => Some(Retention::Release),
-        "release_and_reacquire" => Some(Retention::ReleaseAndReacquire),
-        _ => None,
-    }
-}
-
 /// The retention of a word. A document with a word of no retention is refused before.
 fn retention_named(word: &str) -> Retention
     ensures { result ≡ retention_named word.now }
 {
-    retention_of_word(word).unwrap_or(Retention::ReleaseAndReacquire)
+    Retention::of_word(word).unwrap_or(Retention::ReleaseAndReacquire)
 }
 
 fn fetched(alloc: Global, action: &Value) -> Result<Option<Text>, AllocError>

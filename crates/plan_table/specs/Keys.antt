@@ -1,6 +1,8 @@
 -- What stands under each key of a plan's tables, with the defaults.
 use Rattle.std.specs.Prelude.{ℤ, pos, codes, Bool, false, List, Option}
 use Rattle.toml.specs.Data.{Data, get}
+use Rattle.resource_lock.specs.declared.graphs.Retention.TheVariants.{ReleaseAndReacquire}
+use Rattle.resource_lock.specs.Words.{retention_word}
 use Rattle.plan_table.specs.Forms.{Text}
 use Rattle.plan_table.specs.Values.{list_at, text_at, texts_at, optional_text_at, text_or, integer_or, boolean_or, pairs_at}
 
@@ -34,7 +36,7 @@ actions_of d = list_at (codes "action") d
 -- ---- an action
 
 abbrev pub wait_of : Data → Text
-wait_of d = text_or (codes "release_and_reacquire") (get (codes "wait") d)
+wait_of d = text_or (retention_word ReleaseAndReacquire) (get (codes "wait") d)
 
 abbrev pub fetch_of : Data → Option Text
 fetch_of d = optional_text_at (codes "fetch") d

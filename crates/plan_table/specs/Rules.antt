@@ -9,6 +9,7 @@ use Rattle.plan_table.specs.declared.rules.ValueForm.TheVariants.{Name, Names, F
 use Rattle.plan_table.specs.declared.rules.KeyRule.{KeyRule}
 use Rattle.item_actions.specs.Forms.{is_file_name}
 use Rattle.item_actions.specs.Words.{action_kind_of}
+use Rattle.resource_lock.specs.Words.{retention_of}
 use Rattle.plan_table.specs.Forms.{Text, is_name, is_needle, is_executable, is_encoding, is_value, is_key}
 use Rattle.plan_table.specs.Values.{text_of, texts_of, table_pairs, is_text, is_integer, is_boolean, is_array, is_array_of_texts, is_table_of_texts, is_word}
 
@@ -66,9 +67,6 @@ rules Requirements =
 
 -- ---- words
 
-abbrev pub waits : List Text
-waits = codes "retain" ∷ codes "release" ∷ codes "release_and_reacquire" ∷ []
-
 abbrev pub isolations : List Text
 isolations = codes "none" ∷ codes "process" ∷ codes "classloader" ∷ []
 
@@ -83,7 +81,7 @@ has_type Executable d = is_text d
 has_type Encoding d = is_text d
 has_type Arguments d = is_array_of_texts d
 has_type Settings d = is_table_of_texts d
-has_type Wait d = is_word waits d
+has_type Wait d = is_some (retention_of (text_of d))
 has_type Do d = is_some (action_kind_of (text_of d))
 has_type Isolation d = is_word isolations d
 has_type Integer d = is_integer d

@@ -8,6 +8,7 @@ ghost use Rattle.plan_table.specs.Keys.{projects_of, tasks_of, requirements_of, 
 use crate::values::{
     boolean_or, integer_or, list_at, optional_text_at, table_of, text_at, text_or,
 };
+use resource_lock::Retention;
 use toml::{Table, Value};
 
 /// The projects of a document.
@@ -63,7 +64,7 @@ pub fn actions_of<'a>(task: &'a Value) -> &'a [Value]
 pub fn wait_of<'a>(action: &'a Value) -> &'a str
     ensures { result.now ≡ wait_of (view action.entry.now) }
 {
-    text_or(action.get("wait"), "release_and_reacquire")
+    text_or(action.get("wait"), Retention::ReleaseAndReacquire.word())
 }
 
 /// The file that an action fetches, if it fetches one.

@@ -4,11 +4,12 @@ ghost use Rattle.std.specs.List.{list_all};
 ghost use Rattle.toml.specs.View.{view};
 ghost use Rattle.plan_table.specs.Forms.{is_name, is_value};
 ghost use Rattle.plan_table.specs.Values.{text_of, texts_of, table_pairs};
-ghost use Rattle.plan_table.specs.Rules.{rule_of, rules, waits, isolations, has_type, is_setting, has_form};
+ghost use Rattle.plan_table.specs.Rules.{rule_of, rules, isolations, has_type, is_setting, has_form};
 
 use crate::forms::{is_encoding, is_executable, is_key, is_name, is_needle, is_value};
 use crate::values::{is_array_of_texts, is_table_of_texts, is_word, members, text_of};
 use item_actions::{ActionKind, is_file_name};
+use resource_lock::Retention;
 use toml::{Table, Value};
 
 /// A sort of table.
@@ -124,8 +125,6 @@ pub(crate) fn rules_of(kind: TableKind) -> &'static [KeyRule]
     }
 }
 
-static WAITS: [&str; 3] = ["retain", "release", "release_and_reacquire"];
-
 static ISOLATIONS: [&str; 3] = ["none", "process", "classloader"];
 
 /// Whether the value has the type that the form asks for.
@@ -140,7 +139,7 @@ pub(crate) fn has_type(form: ValueForm, value: &Value) -> bool
         | ValueForm::Encoding => value.is_str(),
         ValueForm::Names | ValueForm::Arguments => is_array_of_texts(value),
         ValueForm::Settings => is_table_of_texts(value),
-        ValueForm::Wait => is_word(value, WAITS.as_slice()),
+        ValueForm::Wait => Retention::of_word(text_of(value)).is_some(),
         ValueForm::Do => ActionKind::of_word(text_of(value)).is_some(),
         ValueForm::Isolation => is_word(value, ISOLATIONS.as_slice()),
         ValueForm::Integer => value.is_integer(),

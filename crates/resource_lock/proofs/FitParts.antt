@@ -10,10 +10,11 @@ use Rattle.resource_lock.specs.Fits.{Fits, Follow}
 use Rattle.resource_lock.specs.Made.{made_of}
 use Rattle.resource_lock.specs.declared.graphs.GraphTask.{GraphTask}
 use Rattle.resource_lock.specs.declared.graphs.GraphAction.{GraphAction}
+use Rattle.resource_lock.specs.declared.limits.TheConstants.{MAX_WORKERS, MAX_LEASES, MAX_LOCKS, MAX_TASKS, MAX_UNITS, MAX_ACTIONS_PER_TASK, MAX_AFTER}
 use Rattle.resource_lock.proofs.Follows.{follow_of_map, follow_from_map}
 
 abbrev pub NumbersFit : ℕ → ℕ → ℕ → ℕ → Type 0
-NumbersFit locks workers max_leases tasks = (1 ≤ workers) × (workers ≤ 32) × (1 ≤ max_leases) × (max_leases ≤ 32) × (locks ≤ 4096) × (tasks ≤ 2048)
+NumbersFit locks workers max_leases tasks = (1 ≤ workers) × (workers ≤ MAX_WORKERS) × (1 ≤ max_leases) × (max_leases ≤ MAX_LEASES) × (locks ≤ MAX_LOCKS) × (tasks ≤ MAX_TASKS)
 
 abbrev pub TasksFit : ℕ → List GraphTask → Type 0
 TasksFit locks tasks = All (λ t. IsFitTask locks (length tasks) (graph_view t)) tasks
@@ -23,7 +24,7 @@ RangesFit tasks actions =
     (Follow (λ t. t.first_action) (λ t. t.actions) 0 tasks (length actions))
     × ((a : ℕ) → a < length actions → IsFitAction (map graph_view tasks) a (get_or actions a no_action))
     × (Follow (λ a. a.first_unit) units_in 0 actions (sum_by units_in actions))
-    × (sum_by units_in actions ≤ 8192)
+    × (sum_by units_in actions ≤ MAX_UNITS)
 
 all_from_map : {X Y : Type 0} (P : Y → Type 0) (f : X → Y) (xs : List X) → All P (map f xs) → All (λ x. P (f x)) xs
 all_from_map P f xs h = λ i d within. subst P (get_or-map f xs i d (f d) within) (h i (f d) (omega (arith, length-map xs f)))
@@ -40,8 +41,8 @@ fits_from locks workers max_leases tasks actions numbers each ranges = record {
   few_locks = numbers.4;
   few_tasks = omega (arith, numbers.5, length-map tasks graph_view);
   few_units = ranges.3;
-  few_actions = All-map (λ (t : GraphTaskView). t.actions ≤ 8) graph_view tasks (λ i d within. (each i d within).0);
-  few_after = All-map (λ (t : GraphTaskView). length t.after ≤ 64) graph_view tasks (λ i d within. (each i d within).1);
+  few_actions = All-map (λ (t : GraphTaskView). t.actions ≤ MAX_ACTIONS_PER_TASK) graph_view tasks (λ i d within. (each i d within).0);
+  few_after = All-map (λ (t : GraphTaskView). length t.after ≤ MAX_AFTER) graph_view tasks (λ i d within. (each i d within).1);
   locks_within = All-map (λ (t : GraphTaskView). t.lock.0 < locks) graph_view tasks (λ i d within. (each i d within).2);
   after_within = subst (λ n. All (λ (t : GraphTaskView). All (λ p. p < n) t.after) (map graph_view tasks)) (sym (length-map tasks graph_view)) (All-map (λ (t : GraphTaskView). All (λ p. p < length tasks) t.after) graph_view tasks (λ i d within. (each i d within).3));
   actions_follow = follow_of_map graph_view (λ (t : GraphTaskView). t.first_action) (λ (t : GraphTaskView). t.actions) 0 tasks (length actions) ranges.0;
@@ -55,8 +56,8 @@ numbers_of locks workers max_leases tasks actions fits = (fits.some_worker, fits
 
 pub tasks_of : (locks workers max_leases : ℕ) (tasks : List GraphTask) (actions : List GraphAction) → Fits (made_of locks workers max_leases tasks actions) → TasksFit locks tasks
 tasks_of locks workers max_leases tasks actions fits = λ i d within. (
-  all_from_map (λ (t : GraphTaskView). t.actions ≤ 8) graph_view tasks fits.few_actions i d within,
-  all_from_map (λ (t : GraphTaskView). length t.after ≤ 64) graph_view tasks fits.few_after i d within,
+  all_from_map (λ (t : GraphTaskView). t.actions ≤ MAX_ACTIONS_PER_TASK) graph_view tasks fits.few_actions i d within,
+  all_from_map (λ (t : GraphTaskView). length t.after ≤ MAX_AFTER) graph_view tasks fits.few_after i d within,
   all_from_map (λ (t : GraphTaskView). t.lock.0 < locks) graph_view tasks fits.locks_within i d within,
   all_from_map (λ (t : GraphTaskView). All (λ p. p < length tasks) t.after) graph_view tasks (subst (λ n. All (λ (t : GraphTaskView). All (λ p. p < n) t.after) (map graph_view tasks)) (length-map tasks graph_view) fits.after_within) i d within,
 )

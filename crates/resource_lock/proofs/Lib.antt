@@ -10,3 +10,4 @@ pub mod Others
 pub mod Counted
 pub mod Holding
 pub mod Begins
+mod Finding

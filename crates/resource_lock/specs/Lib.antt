@@ -15,3 +15,4 @@ pub mod Holdings
 pub mod Counting
 pub mod Shape
 pub mod Leading
+pub mod Words

@@ -5,6 +5,7 @@ ghost use Rattle.resource_lock.specs.Ranges.{IsIn, units_in};
 ghost use Rattle.resource_lock.specs.Parts.{IsFitTask, IsFitAction};
 ghost use Rattle.resource_lock.specs.Fits.{Fits, Follow};
 ghost use Rattle.resource_lock.specs.Made.{made_of};
+ghost use Rattle.resource_lock.specs.declared.limits.TheConstants.{MAX_LEASES, MAX_LOCKS, MAX_TASKS, MAX_UNITS, MAX_WORKERS};
 
 use crate::graphs::{Graph, GraphAction, GraphTask};
 use crate::limits::{
@@ -36,7 +37,7 @@ impl Graph {
 
 /// Whether the counts are within the limits.
 fn numbers_fit(locks: u32, workers: u32, max_leases: u32, tasks: usize) -> bool
-    ensures { IsTrue result ↔ ((1 ≤ workers) × (workers ≤ 32) × (1 ≤ max_leases) × (max_leases ≤ 32) × (locks ≤ 4096) × (tasks ≤ 2048)) }
+    ensures { IsTrue result ↔ ((1 ≤ workers) × (workers ≤ MAX_WORKERS) × (1 ≤ max_leases) × (max_leases ≤ MAX_LEASES) × (locks ≤ MAX_LOCKS) × (tasks ≤ MAX_TASKS)) }
 {
     (1..=MAX_WORKERS).contains(&workers)
         && (1..=MAX_LEASES).contains(&max_leases)
@@ -65,7 +66,7 @@ fn ranges_fit(tasks: &[GraphTask], actions: &[GraphAction]) -> bool
     ensures { IsTrue result ↔ ((Follow (λ t. t.first_action) (λ t. t.actions) 0 tasks.now (length actions.now))
         × ((a : ℕ) → a < length actions.now → IsFitAction (map graph_view tasks.now) a (slice_index_or actions.now a no_action))
         × (Follow (λ a. a.first_unit) units_in 0 actions.now (sum_by units_in actions.now))
-        × (sum_by units_in actions.now ≤ 8192)) }
+        × (sum_by units_in actions.now ≤ MAX_UNITS)) }
 {
     actions_follow(tasks, actions.len())
         && actions_fit(tasks, actions)

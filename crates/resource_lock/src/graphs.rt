@@ -18,6 +18,41 @@ pub enum Retention {
     ReleaseAndReacquire,
 }
 
+impl Retention {
+    ghost use Rattle.std.specs.Prelude.{◌≡◌};
+    ghost use Rattle.resource_lock.specs.Words.{retention_word, retention_of};
+
+    /// Every retention, once.
+    pub const ALL: [Retention; 3] = [
+        Retention::Retain,
+        Retention::Release,
+        Retention::ReleaseAndReacquire,
+    ];
+
+    /// The word by which plans ask for it.
+    pub fn word(self) -> &'static str
+        ensures { result.now ≡ retention_word self }
+    {
+        match self {
+            Retention::Retain => "retain",
+            Retention::Release => "release",
+            Retention::ReleaseAndReacquire => "release_and_reacquire",
+        }
+    }
+
+    /// The retention whose word this is, if there is one.
+    pub fn of_word(word: &str) -> Option<Retention>
+        ensures { result ≡ retention_of word.now }
+    {
+        for retention in &Retention::ALL {
+            if retention.word() == word {
+                return Some(*retention);
+            }
+        }
+        None
+    }
+}
+
 /// A task: its project lock, the tasks that it comes after, and its range of actions.
 #[derive(Debug, Drop)]
 pub struct GraphTask {

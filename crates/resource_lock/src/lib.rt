@@ -6,6 +6,7 @@ mod changes;
 mod fitting;
 mod graphs;
 mod ids;
+mod laws;
 mod limits;
 mod marks;
 mod states;
@@ -14,6 +15,7 @@ mod unit_ranges;
 pub use changes::Change;
 pub use graphs::{Graph, GraphAction, GraphTask, Retention};
 pub use ids::{LockId, WorkerId};
+pub use laws::retentions_have_words_of_their_own;
 pub use limits::{
     MAX_ACTIONS_PER_TASK, MAX_AFTER, MAX_LEASES, MAX_LOCKS, MAX_TASKS, MAX_UNITS, MAX_WORKERS,
 };

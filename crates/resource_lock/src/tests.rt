@@ -2,6 +2,7 @@ ghost use Rattle.std.specs.Prelude.{◌≡◌, IfOk};
 
 use crate::{
     Change, Graph, GraphAction, GraphTask, LockId, Mark, MarkId, Retention, State, WorkerId,
+    retentions_have_words_of_their_own,
 };
 use std::alloc::{AllocError, Global};
 use std::process::Abort;
@@ -205,4 +206,17 @@ fn changes_are_taken_back(rt: HostRuntime) -> Result<(), Fail> {
     assert_eq!(rt; state.owner(lock), Some(worker));
     assert!(rt; !state.blocked(worker) && state.parked(worker).is_empty());
     Ok(())
+}
+
+#[test]
+fn words_of_retentions(rt: HostRuntime) {
+    retentions_have_words_of_their_own();
+    let words = ["retain", "release", "release_and_reacquire"];
+    for (retention, word) in Retention::ALL.iter().zip(words.iter()) {
+        assert_eq!(rt; retention.word(), *word);
+        assert_eq!(rt; Retention::of_word(word), Some(*retention));
+    }
+    for word in ["", "retai", "retains", "Release", "release-and-reacquire"] {
+        assert_eq!(rt; Retention::of_word(word), None);
+    }
 }

@@ -1,7 +1,6 @@
 -- What a worker has, owns and runs is changed by its own entries alone.
 use Rattle.std.proofs.Common.{◌≡◌, ◌≢◌, ℕ, ◌+◌, suc, length, true, Bool, cond, List, [], ◌∷◌, get_or, Option, Some, None, refl, sym, ap, ap₂, ◌∙◌, arith}
-use Rattle.std.specs.Prelude.{IfSome, ◌||◌}
-use Rattle.std.specs.List.{list_any}
+use Rattle.std.specs.Prelude.{IfSome}
 use Rattle.std.proofs.lemmas.Bool.{and_parts, eqb-true, eq-eqb}
 use Rattle.resource_lock.specs.declared.changes.Change.{Change}
 use Rattle.resource_lock.specs.declared.ids.LockId.{LockId}
@@ -20,7 +19,7 @@ use Rattle.resource_lock.proofs.Undo.{same_worker}
 use Rattle.lock_journal.specs.declared.entries.Kind.{Kind}
 use Rattle.lock_journal.specs.Allowed.{Finishes, lawful_from}
 use Rattle.lock_journal.specs.Entry.{Entry, changed, effect, replay_from}
-use Rattle.lock_journal.specs.Table.{owned_from}
+use Rattle.lock_journal.proofs.Disabled.{any_same, owned_same}
 use Rattle.run_laws.specs.Own.{SameFor, NoneOf, marks_in, places_from}
 
 -- place by place, what is the worker's is the same
@@ -65,19 +64,6 @@ entries_stay g (e ∷ h) s w lawful none =
     (entries_stay g h (effect s e) w lawful.1 none.1)
 
 -- so are the lists
-any_same : {X : Type 0} (test : X → Bool) (d : X) (xs ys : List X) → length xs ≡ length ys → ((i : ℕ) → test (get_or ys i d) ≡ test (get_or xs i d)) → list_any test ys ≡ list_any test xs
-any_same test d [] [] long same = refl
-any_same test d [] (y ∷ ys) long same = absurd (omega arith)
-any_same test d (x ∷ xs) [] long same = absurd (omega arith)
-any_same test d (x ∷ xs) (y ∷ ys) long same = ap₂ ◌||◌ (same 0) (any_same test d xs ys (omega arith) (λ i. same (suc i)))
-
-owned_same : (n : ℕ) (w : WorkerId) (os ps : List (Option WorkerId)) → length os ≡ length ps → ((i : ℕ) → is_owner (get_or ps i None) w ≡ is_owner (get_or os i None) w) → owned_from n ps w ≡ owned_from n os w
-owned_same n w [] [] long same = refl
-owned_same n w [] (p ∷ ps) long same = absurd (omega arith)
-owned_same n w (o ∷ os) [] long same = absurd (omega arith)
-owned_same n w (o ∷ os) (p ∷ ps) long same =
-    ap₂ (λ b (locks : List LockId). cond b (record { 0 = n } ∷ locks) locks) (same 0) (owned_same (n + 1) w os ps (omega arith) (λ i. same (suc i)))
-
 places_same : {X : Type 0} (test : X → Bool) (n : ℕ) (d : X) (xs ys : List X) → length xs ≡ length ys → ((i : ℕ) → test (get_or ys i d) ≡ test (get_or xs i d)) → places_from test n ys ≡ places_from test n xs
 places_same test n d [] [] long same = refl
 places_same test n d [] (y ∷ ys) long same = absurd (omega arith)

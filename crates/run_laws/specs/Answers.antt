@@ -1,9 +1,10 @@
 -- The outcomes that a history gives, where the value of each unit is known.
-use Rattle.std.specs.Prelude.{ℕ, ◌≡◌, ◌⊎◌, List, ◌∷◌}
+use Rattle.std.specs.Prelude.{ℕ, List, ◌∷◌}
 use Rattle.std.specs.List.{AllByRecursion}
 use Rattle.resource_lock.specs.declared.ids.WorkerId.{WorkerId}
 use Rattle.item_actions.specs.declared.outcomes.Outcome.{Outcome}
 use Rattle.item_actions.specs.declared.outcomes.Outcome.TheVariants.{Fault, NoMemory}
+use Rattle.item_actions.specs.Value.{IsHonest}
 use Rattle.lock_journal.specs.Closings.{closings}
 use Rattle.lock_journal.specs.Entry.{Entry}
 use Rattle.run_laws.specs.ClosedBy.{closed_by}
@@ -16,10 +17,6 @@ answer_by _ value = value
 
 abbrev pub answers : (ℕ → Outcome) → List Entry → ℕ → Outcome
 answers value h u = answer_by (closings h u) (value u)
-
--- a unit was closed with its value, or with a fault or want of memory
-abbrev pub IsHonest : Outcome → Outcome → Type 0
-IsHonest o value = (o ≡ value) ⊎ ((o ≡ Fault) ⊎ (o ≡ NoMemory))
 
 -- each closing entry of the worker is honest
 abbrev pub IsHonestWorker : (ℕ → Outcome) → List Entry → WorkerId → Type 0

@@ -1,10 +1,9 @@
 -- What the entries of a worker closed.
-use Rattle.std.specs.Prelude.{ℕ, ◌==◌, Bool, true, false, if◌then◌else◌, List, [], ◌∷◌, ◌++◌, Option, None, Some}
+use Rattle.std.specs.Prelude.{ℕ, ◌==◌, if◌then◌else◌, List, [], ◌∷◌, ◌++◌, Option, None, Some}
 use Rattle.std.specs.List.{count_by}
 use Rattle.resource_lock.specs.declared.changes.Change.{Change}
 use Rattle.resource_lock.specs.declared.ids.WorkerId.{WorkerId}
-use Rattle.item_actions.specs.declared.outcomes.Outcome.{Outcome}
-use Rattle.item_actions.specs.declared.outcomes.Outcome.TheVariants.{Fault}
+use Rattle.item_actions.specs.Value.{is_fault}
 use Rattle.lock_journal.specs.declared.entries.Closed.{Closed}
 use Rattle.lock_journal.specs.declared.entries.Kind.{Kind}
 use Rattle.lock_journal.specs.declared.entries.Kind.TheVariants.{Close, Unblock}
@@ -28,10 +27,6 @@ closed_at w e = if e.worker.0 == w.0 then closed_in e.changes e.kind else []
 abbrev pub closed_by : WorkerId → List Entry → List Closed
 closed_by w [] = []
 closed_by w (e ∷ h) = closed_at w e ++ closed_by w h
-
-abbrev pub is_fault : Outcome → Bool
-is_fault Fault = true
-is_fault _ = false
 
 abbrev pub faults_in : List Closed → ℕ
 faults_in ds = count_by (λ d. is_fault d.outcome) ds

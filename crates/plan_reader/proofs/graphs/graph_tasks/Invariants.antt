@@ -1,5 +1,6 @@
 use Rattle.std.proofs.Common.{◌≡◌, ◌≤◌, ◌*◌, ◌++◌, map, drop}
 use Rattle.resource_lock.specs.GraphView.{graph_view}
+use Rattle.resource_lock.specs.declared.limits.TheConstants.{MAX_ACTIONS_PER_TASK}
 use Rattle.plan_reader.specs.PlanView.{plan_task_view}
 use Rattle.plan_reader.specs.Graph.{tasks_from}
 use Rattle.plan_reader.proofs.graphs.graph_tasks.Given as goal
@@ -7,4 +8,4 @@ use Rattle.plan_reader.proofs.graphs.graph_tasks.Given as goal
 abbrev pub invariant-loop-task : goal.invariant-loop-task
 invariant-loop-task l =
     (map graph_view l.made.items ++ tasks_from l.parallel l.first_action (map plan_task_view (drop l.task-index l.tasks)) ≡ tasks_from l.parallel 0 (map plan_task_view l.tasks))
-    × (l.first_action ≤ 8 * l.task-index)
+    × (l.first_action ≤ MAX_ACTIONS_PER_TASK * l.task-index)
