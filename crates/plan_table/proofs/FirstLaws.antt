@@ -87,11 +87,11 @@ by_test d refusal.NotYet h = absurd h
 
 -- ---- none
 
-test_nowhere : (d : Data) (t : TableTest) → option_map (refusal_of t) (first_place t d) ≡ None → (p : Place) → HoldsAt d t p → ⊥
+test_nowhere : (d : Data) (t : TableTest) → option_map (refusal_of t) (first_place (holds_at t) d) ≡ None → (p : Place) → HoldsAt d t p → ⊥
 test_nowhere d t none = no_place (HoldsAt d t) (λ p. position (holds_at t p) (places d p)) (position_finds (holds_at t) d) (option_map_none _ _ none)
 
 pub no_test : (d : Data) → table_refusal d ≡ None → (t : TableTest) (p : Place) → HoldsAt d t p → ⊥
-no_test d none t = test_nowhere d t (first_of_none (λ u. option_map (refusal_of u) (first_place u d)) tests none (test_number t) t (test_at t))
+no_test d none t = test_nowhere d t (first_of_none (λ u. option_map (refusal_of u) (first_place (holds_at u) d)) tests none (test_number t) t (test_at t))
 
 -- ---- the first
 
@@ -108,8 +108,8 @@ module _ (d : Data) (t : TableTest) (place : Place) (it : FirstAt (HoldsAt d t) 
 
 first_refusal : (d : Data) (r : PlanRefusal) → table_refusal d ≡ Some r → IsFirst (TableHolds d) r
 first_refusal d r e =
-    let (k, t, first) = first_of_some (λ u. option_map (refusal_of u) (first_place u d)) tests r e in
-    let (place, found, made) = option_map_some (refusal_of t) (first_place t d) r first.found in
+    let (k, t, first) = first_of_some (λ u. option_map (refusal_of u) (first_place (holds_at u) d)) tests r e in
+    let (place, found, made) = option_map_some (refusal_of t) (first_place (holds_at t) d) r first.found in
     let it : FirstAt (HoldsAt d t) place = place_first (HoldsAt d t) (λ p. position (holds_at t p) (places d p)) place (position_finds (holds_at t) d) found in
     let lower : (u : TableTest) → test_number u < test_number t → (p : Place) → HoldsAt d u p → ⊥ =
     λ u lt. test_nowhere d u (first.before (test_number u) u (subst (λ n. test_number u < n) (number_of_test k t first.at) lt) (test_at u)) in
