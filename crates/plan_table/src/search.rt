@@ -1,11 +1,11 @@
 //! The first place of a plan at which a test holds.
-ghost use Rattle.std.specs.Prelude.{◌≡◌, ◌<◌, Bool, true, map};
+ghost use Rattle.std.specs.Prelude.{◌≡◌, Bool, true, map};
 ghost use Rattle.std.specs.List.{position};
 ghost use Rattle.toml.specs.Data.{Data};
 ghost use Rattle.toml.specs.View.{view};
 ghost use Rattle.plan_table.specs.declared.refusals.Part.{Part};
 ghost use Rattle.plan_table.specs.Document.{is_numbered};
-ghost use Rattle.plan_table.specs.Search.{place_at, places, first_in, first_place};
+ghost use Rattle.plan_table.specs.Search.{places, first_in, first_place};
 
 use crate::keys::{projects_of, requirements_of, tasks_of};
 use crate::refusals::{Part, Place};
@@ -34,17 +34,6 @@ pub fn places<'a>(part: Part, document: &'a Value) -> &'a [Value]
     }
 }
 
-/// The place of this number.
-pub fn place(part: Part, number: usize) -> Place
-    requires { number < 4294967296 }
-    ensures { result ≡ place_at part number }
-{
-    Place {
-        part,
-        number: number as u32,
-    }
-}
-
 fn position_in<T: PlaceTest>(test: &T, part: Part, tables: &[Value]) -> Option<usize>
     ensures { result ≡ position (λ v. T.test test.now part (view v)) tables.now }
 {
@@ -62,7 +51,7 @@ fn first_in<T: PlaceTest>(test: &T, part: Part, document: &Value) -> Option<Plac
     ensures { result ≡ first_in (T.test test.now) (view document.now) part }
 {
     match first_number(test, part, document) {
-        Some(number) => Some(place(part, number)),
+        Some(number) => Some(Place::new(part, number)),
         None => None,
     }
 }
