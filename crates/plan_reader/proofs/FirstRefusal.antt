@@ -11,12 +11,11 @@ use Rattle.plan_table.specs.declared.refusals.Place.{Place}
 use Rattle.plan_table.specs.declared.refusals.Which.{Which}
 use Rattle.plan_table.specs.declared.refusals.PlanRefusal.{PlanRefusal}
 use Rattle.plan_table.specs.declared.refusals.PlanRefusal.TheVariants as refusal
-use Rattle.plan_table.specs.First.{cause_number, part_number, place_of, excess_number, IsEarlier, IsBefore, IsFirst, IsFirstOf, holds_on, TableHolds}
+use Rattle.plan_table.specs.First.{cause_number, part_number, place_of, excess_number, IsEarlier, IsBefore, IsFirst, IsFirstOf, FirstAt, holds_on, TableHolds}
 use Rattle.plan_table.specs.Keys.{tasks_of}
-use Rattle.plan_table.specs.Search.{first_of, table_refusal}
+use Rattle.plan_table.specs.Search.{first_of, place_at, table_refusal}
 use Rattle.plan_table.proofs.FirstAnswers.{option_or_none, option_or_some}
 use Rattle.plan_table.proofs.FirstLaws.{is_first_refusal}
-use Rattle.plan_table.proofs.FirstPlaces.{spot, FirstAt}
 use Rattle.plan_reader.specs.declared.rows.Row.{Row}
 use Rattle.plan_reader.specs.declared.rows.Row.TheVariants.{NoSuchProject, NoSuchTask, ReleaseNotLast, ClassLoader, TooMany, BadRequirements}
 use Rattle.plan_reader.specs.First.{HasTwice, HasNoRank, passes_limit, DocumentHolds, refusal_in}
@@ -155,17 +154,17 @@ module _ (d : Data) where
   ranks_clear : IsFirstCycle (dependencies_of d) None → Clear d 9 → Clear d 10
   ranks_clear ranked = one_more 9 (HasNoRank d) rank_says (λ p h. h.2 (ranked p.number (omega (arith, h.1, task_count))))
 
-  first_cycle_at : (t : ℕ) → IsFirstCycle (dependencies_of d) (Some t) → FirstAt (HasNoRank d) (spot Task t)
+  first_cycle_at : (t : ℕ) → IsFirstCycle (dependencies_of d) (Some t) → FirstAt (HasNoRank d) (place_at Task t)
   first_cycle_at t (within, unranked, others) = record { here = (refl, omega (arith, within, task_count), unranked); before = before }
     where
-      before : (q : Place) → IsEarlier q (spot Task t) → HasNoRank d q → ⊥
+      before : (q : Place) → IsEarlier q (place_at Task t) → HasNoRank d q → ⊥
       before q (inl lt) h = absurd (omega (arith, subst (λ p. part_number p < 2) h.0 lt))
       before q (inr (same, lt)) h = h.2 (others q.number lt)
 
   ranks_first : (t : ℕ) → IsFirstCycle (dependencies_of d) (Some t) → Clear d 9 → IsFirst (DocumentHolds d) (cycle_at t)
   ranks_first t cycle clear =
       let first = first_cycle_at t cycle in
-      first_placed 9 (HasNoRank d) (cycle_at t) (spot Task t) refl refl refl first.here rank_says clear first
+      first_placed 9 (HasNoRank d) (cycle_at t) (place_at Task t) refl refl refl first.here rank_says clear first
 
   -- ---- the whole
 

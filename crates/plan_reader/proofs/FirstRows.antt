@@ -1,6 +1,6 @@
 -- The first place of a row, and the first limit that is passed there.
 use Rattle.std.proofs.Common.{◌≡◌, ℕ, zero, suc, ◌<◌, Bool, true, false, not, if◌then◌else◌, nat_lt, is_some, unwrap_or, length, get_or, List, [], ◌∷◌, Option, Some, None, refl, ap, sym, subst, ◌∙◌}
-use Rattle.std.specs.List.{position, slice_get}
+use Rattle.std.specs.List.{slice_get}
 use Rattle.std.specs.Option.{option_or, option_map_or}
 use Rattle.std.proofs.lemmas.Bool.{true≢false, false≢true}
 use Rattle.std.proofs.lemmas.Option.{none-some, same_Some}
@@ -11,11 +11,11 @@ use Rattle.plan_table.specs.declared.refusals.Place.{Place}
 use Rattle.plan_table.specs.declared.refusals.Which.{Which}
 use Rattle.plan_table.specs.declared.refusals.Which.TheVariants as which
 use Rattle.plan_table.specs.declared.refusals.PlanRefusal.{PlanRefusal}
-use Rattle.plan_table.specs.First.{which_number, holds_on}
+use Rattle.plan_table.specs.First.{which_number, holds_on, FirstAt}
 use Rattle.plan_table.specs.Keys.{projects_of, tasks_of, requirements_of, actions_of, after_of}
-use Rattle.plan_table.specs.Search.{first_of, places}
+use Rattle.plan_table.specs.Search.{first_of, places, first_place}
 use Rattle.plan_table.proofs.FirstAnswers.{option_map_none, option_map_some, first_of_none, first_of_some}
-use Rattle.plan_table.proofs.FirstPlaces.{FirstAt, no_place, first_place as place_first, position_finds}
+use Rattle.plan_table.proofs.FirstPlaces.{no_place, place_first}
 use Rattle.resource_lock.specs.declared.limits.TheConstants.{MAX_TASKS, MAX_UNITS, MAX_ACTIONS_PER_TASK, MAX_AFTER}
 use Rattle.plan_reader.specs.declared.limits.TheConstants.{MAX_PROJECTS, MAX_REQUIREMENTS}
 use Rattle.plan_reader.specs.declared.rows.Row.{Row}
@@ -23,18 +23,18 @@ use Rattle.plan_reader.specs.declared.rows.Row.TheVariants.{TooMany}
 use Rattle.plan_reader.specs.First.{row_holds, passes_limit}
 use Rattle.plan_reader.specs.Names.{names_in}
 use Rattle.plan_reader.specs.Rows.{plan_unit_count, has_few_lists, excess, holds}
-use Rattle.plan_reader.specs.Search.{first_place, refusal_of, table_at, row_refusal}
+use Rattle.plan_reader.specs.Search.{refusal_of, table_at, row_refusal}
 
 abbrev pub RowHolds : Data → Row → Place → Type 0
 RowHolds d r p = row_holds d r p ≡ true
 
 pub row_nowhere : (d : Data) (r : Row) → row_refusal d r ≡ None → (p : Place) → RowHolds d r p → ⊥
-row_nowhere d r none = no_place (RowHolds d r) (λ p. position (holds (names_in d) r p) (places d p)) (position_finds (holds (names_in d) r) d) (option_map_none _ (first_place d r) none)
+row_nowhere d r none = no_place (holds (names_in d) r) d (option_map_none _ _ none)
 
 pub row_first : (d : Data) (r : Row) (x : PlanRefusal) → row_refusal d r ≡ Some x → (p : Place) × (refusal_of r (table_at d p) p ≡ x) × FirstAt (RowHolds d r) p
 row_first d r x e =
-    let (p, found, made) = option_map_some (λ q. refusal_of r (table_at d q) q) (first_place d r) x e in
-    (p, made, place_first (RowHolds d r) (λ q. position (holds (names_in d) r q) (places d q)) p (position_finds (holds (names_in d) r) d) found)
+    let (p, found, made) = option_map_some (λ q. refusal_of r (table_at d q) q) (first_place (holds (names_in d) r) d) x e in
+    (p, made, place_first (holds (names_in d) r) d p found)
 
 -- ---- limits
 

@@ -10,11 +10,12 @@ use Rattle.plan_table.specs.declared.refusals.Part.{Part}
 use Rattle.plan_table.specs.declared.refusals.Place.{Place}
 use Rattle.plan_table.specs.declared.refusals.PlanRefusal.{PlanRefusal}
 use Rattle.plan_table.specs.declared.refusals.PlanRefusal.TheVariants as refusal
+use Rattle.plan_table.specs.First.{FirstAt}
 use Rattle.plan_table.specs.Forms.{Text}
 use Rattle.plan_table.specs.Keys.{name_of}
-use Rattle.plan_table.specs.Search.{places, parts}
+use Rattle.plan_table.specs.Search.{places, parts, place_at}
 use Rattle.plan_table.proofs.FirstAnswers.{option_map_none, option_map_some, first_of_some}
-use Rattle.plan_table.proofs.FirstPlaces.{spot, Finds, FirstAt, found_nowhere, found_first}
+use Rattle.plan_table.proofs.FirstPlaces.{Finds, found_nowhere, found_first}
 use Rattle.plan_reader.specs.First.{IsTwice, HasTwice}
 use Rattle.plan_reader.specs.NameNumbers.{is_repeat, first_repeat}
 use Rattle.plan_reader.specs.Search.{first_twice, twice_in, twice_refusal}
@@ -59,7 +60,7 @@ finds d = record {
 }
 
 silent : (d : Data) (p : Part) → twice_in d p ≡ None → first_repeat (names_at d p) ≡ None
-silent d p none = option_map_none (spot p) _ (option_map_none _ (first_twice p (places d p)) none)
+silent d p none = option_map_none (place_at p) _ (option_map_none _ (first_twice p (places d p)) none)
 
 pub twice_nowhere : (d : Data) → twice_refusal d ≡ None → (p : Place) → HasTwice d p → ⊥
 twice_nowhere d = found_nowhere (HasTwice d) (λ p. first_repeat (names_at d p)) (twice_in d) (finds d) (silent d)
@@ -68,5 +69,5 @@ pub twice_first : (d : Data) (r : PlanRefusal) → twice_refusal d ≡ Some r �
 twice_first d r e =
     let (k, p, first) = first_of_some (twice_in d) parts r e in
     let (place, found, made) = option_map_some (λ q. refusal.Twice q) (first_twice p (places d p)) r first.found in
-    let (i, at, is) = option_map_some (spot p) (first_repeat (names_at d p)) place found in
+    let (i, at, is) = option_map_some (place_at p) (first_repeat (names_at d p)) place found in
     (place, made, subst (FirstAt (HasTwice d)) is (found_first (HasTwice d) (λ q. first_repeat (names_at d q)) (twice_in d) r k p i (finds d) (silent d) first at))

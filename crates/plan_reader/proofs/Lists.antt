@@ -1,13 +1,12 @@
 -- Lists of values beside the lists that are seen of them.
 use Rattle.std.proofs.Common.{◌≡◌, ℕ, zero, suc, ◌+◌, List, [], ◌∷◌, length, map, take, Option, Some, None, is_some, option_map, refl, ap, sym, ◌∙◌}
-use Rattle.std.specs.List.{position, sum_by}
+use Rattle.std.specs.List.{sum_by}
 use Rattle.std.proofs.lemmas.List.{length-map}
 use Rattle.std.proofs.lemmas.List.Sums.{sum_by-cons}
-use Rattle.plan_table.proofs.Lists.{position_of_map, map_of_map}
+use Rattle.plan_table.proofs.Lists.{map_of_map}
 use Rattle.toml.specs.declared.value.Value.{Value}
 use Rattle.toml.specs.Data.{Data}
 use Rattle.toml.specs.View.{view}
-use Rattle.std.proofs.Common.{Bool}
 
 pub length_of_seen : {X Y : Type 0} (f : X → Y) (xs : List X) (ys : List Y) → map f xs ≡ ys → length xs ≡ length ys
 length_of_seen f xs ys e = sym (length-map xs f) ∙ ap length e
@@ -18,9 +17,6 @@ is_some_of_seen f (Some x) p e = ap is_some e
 
 pub map_of_elements : {Z : Type 0} (f : Data → Z) (vs : List Value) (ds : List Data) → map view vs ≡ ds → map f ds ≡ map (λ v. f (view v)) vs
 map_of_elements f vs ds e = rw (← e) (map_of_map f view vs)
-
-pub position_of_elements : (p : Data → Bool) (vs : List Value) (ds : List Data) → map view vs ≡ ds → position p ds ≡ position (λ v. p (view v)) vs
-position_of_elements p vs ds e = rw (← e) (position_of_map p view vs)
 
 sum_by_of_map : {X Y : Type 0} (f : Y → ℕ) (h : X → Y) (xs : List X) → sum_by f (map h xs) ≡ sum_by (λ x. f (h x)) xs
 sum_by_of_map f h [] = refl

@@ -14,14 +14,14 @@ use Rattle.plan_table.specs.declared.refusals.Part.{Part}
 use Rattle.plan_table.specs.First.{part_number}
 use Rattle.plan_table.specs.Forms.{Text}
 use Rattle.plan_table.specs.Keys.{name_of}
-use Rattle.plan_table.specs.Search.{places, parts}
+use Rattle.plan_table.specs.Search.{places, parts, first_in, first_place}
 use Rattle.plan_table.proofs.FirstAnswers.{first_of_none}
 use Rattle.plan_table.proofs.FirstPlaces.{part_at}
 use Rattle.plan_reader.specs.declared.rows.Row.{Row}
 use Rattle.plan_reader.specs.NameNumbers.{is_repeat, first_repeat}
 use Rattle.plan_reader.specs.Names.{names_in}
 use Rattle.plan_reader.specs.Rows.{holds}
-use Rattle.plan_reader.specs.Search.{first_twice, twice_in, twice_refusal, first_in, first_place, row_refusal}
+use Rattle.plan_reader.specs.Search.{first_twice, twice_in, twice_refusal, row_refusal}
 use Rattle.plan_reader.proofs.Least.{least_fails}
 
 pub neither : {X : Type 0} (a b : Option X) → option_or a b ≡ None → (a ≡ None) × (b ≡ None)
@@ -43,8 +43,8 @@ nowhere_passes p xs none k d within = by (nat_lt (position_or_len p xs) (length 
 
 pub row_quiet : (d : Data) (r : Row) → row_refusal d r ≡ None → (p : Part) → All (λ x. holds (names_in d) r p x ≡ false) (places d p)
 row_quiet d r none p =
-    let nowhere : first_place d r ≡ None = unmapped _ (first_place d r) none in
-    let here : first_in (names_in d) r p (places d p) ≡ None = first_of_none (λ q. first_in (names_in d) r q (places d q)) parts nowhere (part_number p) p (part_at p) in
+    let nowhere : first_place (holds (names_in d) r) d ≡ None = unmapped _ (first_place (holds (names_in d) r) d) none in
+    let here : first_in (holds (names_in d) r) d p ≡ None = first_of_none (first_in (holds (names_in d) r) d) parts nowhere (part_number p) p (part_at p) in
     nowhere_passes (holds (names_in d) r p) (places d p) (unmapped _ (position (holds (names_in d) r p) (places d p)) here)
 
 -- ---- names

@@ -1,5 +1,5 @@
 -- The first refusal of a plan in which no test of a single key holds.
-use Rattle.std.specs.Prelude.{ℕ, List, [], ◌∷◌, map, Option, option_map, unwrap_or, position, slice_index_or}
+use Rattle.std.specs.Prelude.{ℕ, List, [], ◌∷◌, map, Option, option_map, unwrap_or, slice_index_or}
 use Rattle.std.specs.Option.{option_or}
 use Rattle.toml.specs.Data.{Data}
 use Rattle.plan_table.specs.declared.refusals.Part.{Part}
@@ -9,23 +9,17 @@ use Rattle.plan_table.specs.declared.refusals.Which.TheVariants.{Units}
 use Rattle.plan_table.specs.declared.refusals.PlanRefusal.{PlanRefusal}
 use Rattle.plan_table.specs.declared.refusals.PlanRefusal.TheVariants as refusal
 use Rattle.plan_table.specs.Keys.{name_of}
-use Rattle.plan_table.specs.Search.{first_of, places, parts, table_refusal}
+use Rattle.plan_table.specs.Search.{first_of, places, parts, place_at, first_place, table_refusal}
 use Rattle.plan_reader.specs.declared.rows.Row.{Row}
 use Rattle.plan_reader.specs.declared.rows.Row.TheVariants.{NoSuchProject, NoSuchTask, ReleaseNotLast, ClassLoader, TooMany, BadRequirements}
 use Rattle.plan_reader.specs.NameNumbers.{first_repeat}
-use Rattle.plan_reader.specs.Names.{NameLists, names_in}
+use Rattle.plan_reader.specs.Names.{names_in}
 use Rattle.plan_reader.specs.Rows.{excess, holds}
-
-abbrev pub place_at : Part → ℕ → Place
-place_at p i = record { part = p; number = i }
-
-abbrev pub place_in : Part → Option ℕ → Option Place
-place_in p = option_map (place_at p)
 
 -- ---- a name that stood before
 
 abbrev pub first_twice : Part → List Data → Option Place
-first_twice p ds = place_in p (first_repeat (map name_of ds))
+first_twice p ds = option_map (place_at p) (first_repeat (map name_of ds))
 
 abbrev pub twice_in : Data → Part → Option PlanRefusal
 twice_in d p = option_map (λ place. refusal.Twice place) (first_twice p (places d p))
@@ -34,12 +28,6 @@ abbrev pub twice_refusal : Data → Option PlanRefusal
 twice_refusal d = first_of (twice_in d) parts
 
 -- ---- the other rows
-
-abbrev pub first_in : NameLists → Row → Part → List Data → Option Place
-first_in n r p ds = place_in p (position (holds n r p) ds)
-
-abbrev pub first_place : Data → Row → Option Place
-first_place d r = first_of (λ p. first_in (names_in d) r p (places d p)) parts
 
 -- the row's refusal of a table of the document at its place
 abbrev pub refusal_of : Row → Data → Place → PlanRefusal
@@ -54,7 +42,7 @@ abbrev pub table_at : Data → Place → Data
 table_at d p = slice_index_or (places d p.part) p.number d
 
 abbrev pub row_refusal : Data → Row → Option PlanRefusal
-row_refusal d r = option_map (λ p. refusal_of r (table_at d p) p) (first_place d r)
+row_refusal d r = option_map (λ p. refusal_of r (table_at d p) p) (first_place (holds (names_in d) r) d)
 
 abbrev pub rows_refusal : List Row → Data → Option PlanRefusal
 rows_refusal rs d = first_of (row_refusal d) rs

@@ -8,7 +8,6 @@ mod limits;
 mod name_table;
 mod names;
 mod parts;
-mod places;
 mod plans;
 mod profiles;
 mod read;

@@ -13,9 +13,10 @@ ghost use Rattle.plan_reader.specs.Reading.{RefusesBy};
 ghost use Rattle.task_ranks.specs.Rank.{lists_of};
 
 use crate::name_table::NameTable;
-use crate::places::{place, places};
 use indexmap::IndexSet;
-use plan_table::{Part, PlanFail, PlanRefusal, after_of, name_of, tasks_of, text_of};
+use plan_table::{
+    Part, Place, PlanFail, PlanRefusal, after_of, name_of, places, tasks_of, text_of,
+};
 use std::alloc::{AllocError, Global};
 use toml::Value;
 
@@ -58,7 +59,7 @@ pub(crate) fn numbered_names<'a>(
     let names = names_at(alloc, part, document)?;
     match NameTable::new(alloc, names)? {
         Ok(table) => Ok(table),
-        Err(number) => Err(PlanFail::Refused(PlanRefusal::Twice(place(part, number)))),
+        Err(number) => Err(PlanFail::Refused(PlanRefusal::Twice(Place::new(part, number)))),
     }
 }
 

@@ -12,12 +12,11 @@ ghost use Rattle.plan_reader.specs.Reading.{AnswersRanks, AnswersBy, Reads, Give
 use crate::known::Known;
 use crate::names::{Names, dependencies_of, numbered_names};
 use crate::parts::{projects_of_plan, tasks_of_plan};
-use crate::places::place;
 use crate::plans::Plan;
 use crate::profiles::{all_requirements, default_requirements};
 use crate::rows::Row;
 use crate::search::row_refusal;
-use plan_table::{Part, PlanFail, PlanRefusal, read_document, table_refusal};
+use plan_table::{Part, Place, PlanFail, PlanRefusal, read_document, table_refusal};
 use std::alloc::Global;
 use task_ranks::first_cycle;
 use toml::Value;
@@ -65,7 +64,7 @@ fn check_ranks(alloc: Global, dependencies: &[Vec<u32>]) -> Result<(), PlanFail>
 {
     match first_cycle(alloc, dependencies)? {
         Some(number) => {
-            let place = place(Part::Task, number);
+            let place = Place::new(Part::Task, number);
             Err(PlanFail::Refused(PlanRefusal::Cycle(place)))
         }
         None => Ok(()),

@@ -1,17 +1,17 @@
 -- The refusal of a document's tables is the first that holds.
-use Rattle.std.proofs.Common.{◌≡◌, ℕ, zero, suc, ◌+◌, ◌<◌, true, Option, Some, None, option_map, refl, ap, sym, subst, ◌∙◌, inl, inr, arith}
+use Rattle.std.proofs.Common.{◌≡◌, ℕ, zero, suc, ◌+◌, ◌<◌, Option, Some, None, option_map, refl, ap, sym, subst, ◌∙◌, inl, inr, arith}
 use Rattle.std.proofs.lemmas.Option.{none-some, same_Some}
-use Rattle.std.specs.List.{position, slice_get}
+use Rattle.std.specs.List.{slice_get}
 use Rattle.toml.specs.Data.{Data}
 use Rattle.plan_table.specs.declared.refusals.Place.{Place}
 use Rattle.plan_table.specs.declared.refusals.PlanRefusal.{PlanRefusal}
 use Rattle.plan_table.specs.declared.refusals.PlanRefusal.TheVariants as refusal
 use Rattle.plan_table.specs.declared.tables.TableTest.{TableTest}
 use Rattle.plan_table.specs.declared.tables.TableTest.TheVariants.{UnknownKey, WrongType, Missing, BadName}
-use Rattle.plan_table.specs.Search.{holds_at, first_place, places, tests, refusal_of, table_refusal}
-use Rattle.plan_table.specs.First.{cause_number, place_of, excess_number, IsEarlier, IsNearer, IsBefore, IsFirst, IsFirstOf, holds_on, TableHolds}
+use Rattle.plan_table.specs.Search.{holds_at, first_place, tests, refusal_of, table_refusal}
+use Rattle.plan_table.specs.First.{cause_number, place_of, excess_number, IsEarlier, IsNearer, IsBefore, IsFirst, IsFirstOf, FirstAt, Passes, TableHolds}
 use Rattle.plan_table.proofs.FirstAnswers.{option_map_none, option_map_some, first_of_none, first_of_some}
-use Rattle.plan_table.proofs.FirstPlaces.{FirstAt, no_place, first_place as place_first, position_finds}
+use Rattle.plan_table.proofs.FirstPlaces.{no_place, place_first}
 
 -- ---- the tests in their order
 
@@ -42,7 +42,7 @@ same_test t u same = same_Some t u (sym (test_at t) ∙ ap (slice_get tests) sam
 -- ---- a refusal and its test
 
 abbrev HoldsAt : Data → TableTest → Place → Type 0
-HoldsAt d t p = holds_on d p (holds_at t p.part) ≡ true
+HoldsAt d t p = Passes (holds_at t) d p
 
 refused : (d : Data) (t : TableTest) (p : Place) → HoldsAt d t p → TableHolds d (refusal_of t p)
 refused d UnknownKey p h = h
@@ -87,11 +87,11 @@ by_test d refusal.NotYet h = absurd h
 
 -- ---- none
 
-test_nowhere : (d : Data) (t : TableTest) → option_map (refusal_of t) (first_place t d) ≡ None → (p : Place) → HoldsAt d t p → ⊥
-test_nowhere d t none = no_place (HoldsAt d t) (λ p. position (holds_at t p) (places d p)) (position_finds (holds_at t) d) (option_map_none _ _ none)
+test_nowhere : (d : Data) (t : TableTest) → option_map (refusal_of t) (first_place (holds_at t) d) ≡ None → (p : Place) → HoldsAt d t p → ⊥
+test_nowhere d t none = no_place (holds_at t) d (option_map_none _ _ none)
 
 pub no_test : (d : Data) → table_refusal d ≡ None → (t : TableTest) (p : Place) → HoldsAt d t p → ⊥
-no_test d none t = test_nowhere d t (first_of_none (λ u. option_map (refusal_of u) (first_place u d)) tests none (test_number t) t (test_at t))
+no_test d none t = test_nowhere d t (first_of_none (λ u. option_map (refusal_of u) (first_place (holds_at u) d)) tests none (test_number t) t (test_at t))
 
 -- ---- the first
 
@@ -108,9 +108,9 @@ module _ (d : Data) (t : TableTest) (place : Place) (it : FirstAt (HoldsAt d t) 
 
 first_refusal : (d : Data) (r : PlanRefusal) → table_refusal d ≡ Some r → IsFirst (TableHolds d) r
 first_refusal d r e =
-    let (k, t, first) = first_of_some (λ u. option_map (refusal_of u) (first_place u d)) tests r e in
-    let (place, found, made) = option_map_some (refusal_of t) (first_place t d) r first.found in
-    let it : FirstAt (HoldsAt d t) place = place_first (HoldsAt d t) (λ p. position (holds_at t p) (places d p)) place (position_finds (holds_at t) d) found in
+    let (k, t, first) = first_of_some (λ u. option_map (refusal_of u) (first_place (holds_at u) d)) tests r e in
+    let (place, found, made) = option_map_some (refusal_of t) (first_place (holds_at t) d) r first.found in
+    let it : FirstAt (HoldsAt d t) place = place_first (holds_at t) d place found in
     let lower : (u : TableTest) → test_number u < test_number t → (p : Place) → HoldsAt d u p → ⊥ =
     λ u lt. test_nowhere d u (first.before (test_number u) u (subst (λ n. test_number u < n) (number_of_test k t first.at) lt) (test_at u)) in
     subst (IsFirst (TableHolds d)) made (record {

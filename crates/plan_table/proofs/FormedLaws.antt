@@ -16,9 +16,8 @@ use Rattle.plan_table.specs.Forms.{Text, is_name}
 use Rattle.plan_table.specs.Values.{text_of, text_or_empty}
 use Rattle.plan_table.specs.Keys.{projects_of, tasks_of, name_of, actions_of, items_of, file_of, fetch_of}
 use Rattle.plan_table.specs.Tables.{holds}
-use Rattle.plan_table.specs.Search.{holds_in_action, holds_at, places, table_refusal}
+use Rattle.plan_table.specs.Search.{holds_in_action, holds_at, place_at, places, table_refusal}
 use Rattle.plan_table.specs.Formed.{IsFetch, IsFormedAction, IsFormed}
-use Rattle.plan_table.proofs.FirstPlaces.{spot}
 use Rattle.plan_table.proofs.FirstLaws.{no_test}
 
 -- of each element the test fails
@@ -32,7 +31,7 @@ none_passes test xs none k d within =
 quiet : (d : Data) → table_refusal d ≡ None → (t : TableTest) (p : Part) → All (λ x. holds_at t p x ≡ false) (places d p)
 quiet d none t p k x within =
     elim (cases_Bool (holds_at t p (get_or (places d p) k x))) [
-      | inl passes ↦ absurd (no_test d none t (spot p k) (ap (λ o. option_map_or (holds_at t p) o false) (slice_get-get_or (places d p) k x within) ∙ passes))
+      | inl passes ↦ absurd (no_test d none t (place_at p k) (ap (λ o. option_map_or (holds_at t p) o false) (slice_get-get_or (places d p) k x within) ∙ passes))
       | inr fails ↦ fails
     ]
 

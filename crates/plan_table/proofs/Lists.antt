@@ -29,6 +29,9 @@ position_or_len_of_map p h (x ∷ xs) = ap (λ n. cond (not (p (h x))) (1 + n) 0
 pub position_of_map : {X Y : Type 0} (p : Y → Bool) (h : X → Y) (xs : List X) → position p (map h xs) ≡ position (λ x. p (h x)) xs
 position_of_map p h xs = rw (position_or_len_of_map p h xs, length-map xs h) refl
 
+pub position_of_elements : (p : Data → Bool) (vs : List Value) (ds : List Data) → map view vs ≡ ds → position p ds ≡ position (λ v. p (view v)) vs
+position_of_elements p vs ds e = rw (← e) (position_of_map p view vs)
+
 pub map_of_map : {X Y Z : Type 0} (f : Y → Z) (h : X → Y) (xs : List X) → map f (map h xs) ≡ map (λ x. f (h x)) xs
 map_of_map f h [] = refl
 map_of_map f h (x ∷ xs) = ap (λ ys. f (h x) ∷ ys) (map_of_map f h xs)

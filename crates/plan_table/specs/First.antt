@@ -1,4 +1,4 @@
--- The order of refusals, and which of those that hold is the first.
+-- The order of places and refusals, and which of those that hold is the first.
 use Rattle.std.specs.Prelude.{ℕ, ◌≡◌, ◌<◌, Bool, true, false, ◌⊎◌, Option, Some, None, slice_get}
 use Rattle.std.specs.Option.{option_map_or}
 use Rattle.toml.specs.Data.{Data}
@@ -78,7 +78,26 @@ IsNearer a b = IsEarlier (place_of a) (place_of b) ⊎ ((place_of a ≡ place_of
 abbrev pub IsBefore : PlanRefusal → PlanRefusal → Type 0
 IsBefore a b = (cause_number a < cause_number b) ⊎ ((cause_number a ≡ cause_number b) × IsNearer a b)
 
--- ---- the first
+-- ---- the first place
+
+-- something stands there, and the test holds of it
+abbrev pub holds_on : Data → Place → (Data → Bool) → Bool
+holds_on d p test = option_map_or test (slice_get (places d p.part) p.number) false
+
+abbrev pub Passes : (Part → Data → Bool) → Data → Place → Type 0
+Passes test d p = holds_on d p (test p.part) ≡ true
+
+-- it holds there, and at no earlier place
+pub record FirstAt (Holds : Place → Type 0) (place : Place) : Type 0 where
+  pub here : Holds place
+  pub before : (earlier : Place) → IsEarlier earlier place → Holds earlier → ⊥
+
+-- this one is the first at which the test holds, or it holds nowhere
+abbrev pub IsFirstPlace : (Part → Data → Bool) → Data → Option Place → Type 0
+IsFirstPlace test d None = (p : Place) → Passes test d p → ⊥
+IsFirstPlace test d (Some p) = FirstAt (Passes test d) p
+
+-- ---- the first refusal
 
 -- it holds, and none that comes before it does
 pub record IsFirst (Holds : PlanRefusal → Type 0) (r : PlanRefusal) : Type 0 where
@@ -92,13 +111,9 @@ IsFirstOf Holds (Some r) = IsFirst Holds r
 
 -- ---- what tables give by themselves
 
--- something stands there, and the test holds of it
-abbrev pub holds_on : Data → Place → (Data → Bool) → Bool
-holds_on d p test = option_map_or test (slice_get (places d p.part) p.number) false
-
 abbrev pub TableHolds : Data → PlanRefusal → Type 0
-TableHolds d (refusal.UnknownKey p) = holds_on d p (holds_at UnknownKey p.part) ≡ true
-TableHolds d (refusal.WrongType p) = holds_on d p (holds_at WrongType p.part) ≡ true
-TableHolds d (refusal.Missing p) = holds_on d p (holds_at Missing p.part) ≡ true
-TableHolds d (refusal.BadName p) = holds_on d p (holds_at BadName p.part) ≡ true
+TableHolds d (refusal.UnknownKey p) = Passes (holds_at UnknownKey) d p
+TableHolds d (refusal.WrongType p) = Passes (holds_at WrongType) d p
+TableHolds d (refusal.Missing p) = Passes (holds_at Missing) d p
+TableHolds d (refusal.BadName p) = Passes (holds_at BadName) d p
 TableHolds d _ = ⊥

@@ -1,5 +1,5 @@
--- The first test of a plan's tables that holds: the first of the tests, at its first place.
-use Rattle.std.specs.Prelude.{Bool, ◌||◌, List, [], ◌∷◌, Option, None, option_map}
+-- The first place of a plan at which a test holds, and the first test of its tables that holds: the first of the tests, at its first place.
+use Rattle.std.specs.Prelude.{ℕ, Bool, ◌||◌, List, [], ◌∷◌, Option, None, option_map}
 use Rattle.std.specs.Option.{option_or}
 use Rattle.std.specs.List.{list_any, position}
 use Rattle.toml.specs.Data.{Data}
@@ -13,18 +13,6 @@ use Rattle.plan_table.specs.declared.refusals.PlanRefusal.{PlanRefusal}
 use Rattle.plan_table.specs.declared.refusals.PlanRefusal.TheVariants as refusal
 use Rattle.plan_table.specs.Keys.{projects_of, tasks_of, requirements_of, actions_of, items_of}
 use Rattle.plan_table.specs.Tables.{holds}
-
--- ---- a test at one place
-
-abbrev pub holds_in_action : TableTest → Data → Bool
-holds_in_action t d = holds t kind.Action d || list_any (holds t kind.Item) (items_of d)
-
--- what stands in an action or an item holds at its task
-abbrev pub holds_at : TableTest → Part → Data → Bool
-holds_at t Plan d = holds t kind.Document d
-holds_at t Project d = holds t kind.Project d
-holds_at t Task d = holds t kind.Task d || list_any (holds_in_action t) (actions_of d)
-holds_at t Requirements d = holds t kind.Requirements d
 
 -- ---- the search
 
@@ -42,11 +30,27 @@ places d Requirements = requirements_of d
 abbrev pub parts : List Part
 parts = Plan ∷ Project ∷ Task ∷ Requirements ∷ []
 
-abbrev pub first_in : TableTest → Part → List Data → Option Place
-first_in t p ds = option_map (λ i. record { part = p; number = i }) (position (holds_at t p) ds)
+abbrev pub place_at : Part → ℕ → Place
+place_at p i = record { part = p; number = i }
 
-abbrev pub first_place : TableTest → Data → Option Place
-first_place t d = first_of (λ p. first_in t p (places d p)) parts
+abbrev pub first_in : (Part → Data → Bool) → Data → Part → Option Place
+first_in test d p = option_map (place_at p) (position (test p) (places d p))
+
+-- the first place at which a test of the tables holds
+abbrev pub first_place : (Part → Data → Bool) → Data → Option Place
+first_place test d = first_of (first_in test d) parts
+
+-- ---- the tests of tables
+
+abbrev pub holds_in_action : TableTest → Data → Bool
+holds_in_action t d = holds t kind.Action d || list_any (holds t kind.Item) (items_of d)
+
+-- what stands in an action or an item holds at its task
+abbrev pub holds_at : TableTest → Part → Data → Bool
+holds_at t Plan d = holds t kind.Document d
+holds_at t Project d = holds t kind.Project d
+holds_at t Task d = holds t kind.Task d || list_any (holds_in_action t) (actions_of d)
+holds_at t Requirements d = holds t kind.Requirements d
 
 abbrev pub tests : List TableTest
 tests = UnknownKey ∷ WrongType ∷ Missing ∷ BadName ∷ []
@@ -58,4 +62,4 @@ refusal_of Missing p = refusal.Missing p
 refusal_of BadName p = refusal.BadName p
 
 abbrev pub table_refusal : Data → Option PlanRefusal
-table_refusal d = first_of (λ t. option_map (refusal_of t) (first_place t d)) tests
+table_refusal d = first_of (λ t. option_map (refusal_of t) (first_place (holds_at t) d)) tests

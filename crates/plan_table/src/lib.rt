@@ -7,10 +7,11 @@ mod forms;
 mod keys;
 mod laws;
 mod messages;
-mod places;
+mod refusal_places;
 mod refusals;
 mod rules;
 mod search;
+mod table_refusals;
 mod tables;
 mod values;
 
@@ -22,9 +23,10 @@ pub use keys::{
     projects_of, properties_of, requirements_name_of, requirements_of, tasks_of, variables_of,
     wait_of,
 };
-pub use laws::{the_first_refusal_is_told, what_is_not_refused_is_formed};
+pub use laws::{the_first_place_is_told, the_first_refusal_is_told, what_is_not_refused_is_formed};
 pub use refusals::{Part, Place, PlanFail, PlanRefusal, Which};
-pub use search::table_refusal;
+pub use search::{PlaceTest, first_place, places};
+pub use table_refusals::table_refusal;
 pub use values::text_of;
 
 #[cfg(test)]

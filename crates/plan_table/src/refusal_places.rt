@@ -1,8 +1,22 @@
 //! Where a refusal holds.
-ghost use Rattle.std.specs.Prelude.{◌≡◌};
+ghost use Rattle.std.specs.Prelude.{◌≡◌, ◌<◌};
 ghost use Rattle.plan_table.specs.First.{place_of};
+ghost use Rattle.plan_table.specs.Search.{place_at};
 
 use crate::refusals::{Part, Place, PlanRefusal};
+
+impl Place {
+    /// The place of the part of this number. `read_document` gives documents whose parts have such numbers.
+    pub fn new(part: Part, number: usize) -> Place
+        requires { number < 4294967296 }
+        ensures { result ≡ place_at part number }
+    {
+        Place {
+            part,
+            number: number as u32,
+        }
+    }
+}
 
 impl PlanRefusal {
     /// The place at which the refusal holds, and the plan where the whole text is meant.
