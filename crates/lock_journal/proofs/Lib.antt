@@ -5,3 +5,5 @@ pub mod Outcomes
 pub mod Makings
 pub mod Within
 pub mod Skipped
+pub mod Taken
+pub mod Freed

@@ -1,8 +1,8 @@
 -- Lists of changes made one after another.
-use Rattle.std.proofs.Common.{◌≡◌, ℕ, zero, suc, ◌<◌, ◌≤◌, ◌+◌, ◌-◌, length, take, drop, get_or, List, [], ◌∷◌, ◌++◌, Bool, true, false, ◌&&◌, refl, sym, ◌∙◌, ap, subst, arith, zero-add, add-zero}
-use Rattle.std.proofs.lemmas.Bool.{and_from, and_left, and_right, false≢true}
+use Rattle.std.proofs.Common.{◌≡◌, ℕ, zero, suc, ◌<◌, ◌≤◌, ◌+◌, ◌-◌, length, take, drop, get_or, List, [], ◌∷◌, ◌++◌, Bool, true, false, ◌&&◌, refl, sym, ◌∙◌, ap, subst, arith, zero-add, add-zero, inl, inr}
+use Rattle.std.proofs.lemmas.Bool.{and_from, and_left, and_right, false≢true, cases_Bool}
 use Rattle.std.specs.List.{range_with_len}
-use Rattle.std.proofs.lemmas.List.{append_assoc, length-append, length_push, take_more, take-append-drop}
+use Rattle.std.proofs.lemmas.List.{append_assoc, append-nil, length-append, length_push, take_more, take-append-drop}
 use Rattle.resource_lock.proofs.Runs.{belongs_along, same_shape-make_all, named_along, make_all-append, can_all-append}
 use Rattle.resource_lock.specs.StateView.{StateView}
 use Rattle.resource_lock.specs.GraphView.{GraphView}
@@ -27,6 +27,37 @@ makes_one t c named possible room =
       whole = λ e. record { made = refl; state = refl; possible = and_from (can t.state t.worker c) true possible refl };
       stopped = λ e. absurd (false≢true (sym e));
     }
+
+-- no change
+pub makes_none : (t : TentativeView) → Makes t t [] true
+makes_none t = record {
+  graph = refl;
+  worker = refl;
+  room = refl;
+  few = omega arith;
+  leads = λ before l. l;
+  whole = λ e. record { made = sym (append-nil t.made); state = refl; possible = refl };
+  stopped = λ e. absurd (false≢true (sym e));
+}
+
+-- one change that can't be made
+pub makes_not : (t : TentativeView) (c : Change) → can t.state t.worker c ≡ false → Makes t t (c ∷ []) false
+makes_not t c impossible = record {
+  graph = refl;
+  worker = refl;
+  room = refl;
+  few = omega arith;
+  leads = λ before l. l;
+  whole = λ e. absurd (false≢true e);
+  stopped = λ e. ap (λ b. b && true) impossible;
+}
+
+-- all are made exactly where each can be
+pub makes_answer : {a b : TentativeView} {cs : List Change} {all : Bool} → Makes a b cs all → all ≡ can_all a.state a.worker cs
+makes_answer {all = all} makes = elim (cases_Bool all) [
+  | inl whole ↦ whole ∙ sym (makes.whole whole).possible
+  | inr stopped ↦ stopped ∙ sym (makes.stopped stopped)
+]
 
 -- a list, and then another
 pub makes_then : {a b c : TentativeView} {cs ds : List Change} {all : Bool} → Makes a b cs true → Makes b c ds all → Makes a c (cs ++ ds) all
@@ -137,3 +168,7 @@ worked_from {old} {new} fresh makes = record {
   room = omega (arith, makes.room, ap length fresh);
   leads = makes.leads old.state (leads_none old fresh);
 }
+
+-- the changes of a transform that made all of a list
+pub made_is : {old new : TentativeView} {cs : List Change} → old.made ≡ [] → Makes old new cs true → new.made ≡ cs
+made_is {cs = cs} fresh makes = (makes.whole refl).made ∙ ap (λ (made : List Change). made ++ cs) fresh

@@ -12,3 +12,5 @@ pub mod BookView
 pub mod Book
 pub mod Ran
 pub mod Making
+pub mod Taking
+pub mod Freeing

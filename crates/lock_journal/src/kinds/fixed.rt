@@ -1,5 +1,6 @@
 //! What the kinds share whose changes the graph, the state and the worker fix.
 ghost use Rattle.std.specs.Prelude.{◌≡◌, ◌<◌, ◌≤◌, ◌↔◌, ℕ, IsTrue, [], false, length, Some};
+ghost use Rattle.resource_lock.specs.Fits.{Fits};
 ghost use Rattle.resource_lock.specs.Shape.{BelongsTo};
 ghost use Rattle.lock_journal.specs.Allowed.{Allowed, IsFixedList, IsKindOf, IsListOf};
 ghost use Rattle.lock_journal.specs.TentativeView.{Worked};
@@ -25,6 +26,7 @@ pub(crate) trait FixedKind {
     /// Whether its condition holds.
     fn condition_holds(&self, graph: &Graph, state: &State, worker: WorkerId) -> bool
         requires in_range { IsKindOf graph.now (kind_of self.now) }
+        requires fits { Fits graph.now }
         requires belongs { BelongsTo graph.now state.now }
         requires worker_in_range { worker.0 < graph.now.workers }
         ensures { result ≡ condition graph.now state.now worker (kind_of self.now) };
@@ -32,6 +34,7 @@ pub(crate) trait FixedKind {
     /// Makes its changes, up to the first that can't be made, and answers whether all were.
     fn make(&self, work: &mut Tentative) -> bool
         requires in_range { IsKindOf work.old.graph (kind_of self.now) }
+        requires fits { Fits work.old.graph }
         requires belongs { BelongsTo work.old.graph work.old.state }
         requires room { most self.now ≤ work.old.room }
         ensures made { Makes work.old work.new (list_of work.old.graph work.old.state work.old.worker (kind_of self.now)) result }

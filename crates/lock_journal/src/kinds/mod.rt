@@ -1,9 +1,13 @@
 //! The transforms of the kinds of entry.
 
+mod acquires;
+mod blocks;
 mod claims;
 mod closes;
 mod ends;
 mod fixed;
+mod freeing;
+mod hand_backs;
 mod making;
 mod marks;
 mod parks;
@@ -13,15 +17,20 @@ mod skipping;
 mod skips;
 mod starts;
 mod submits;
+mod taking;
 
+pub use acquires::{Acquire, Shortage};
+pub use blocks::Block;
 pub use claims::Claim;
 pub use closes::Close;
 pub use ends::End;
+pub use hand_backs::HandBack;
 pub use parks::Park;
 pub use resumes::Resume;
 pub use skips::Skip;
 pub use starts::Start;
 pub use submits::Submit;
+pub use taking::take_all;
 
 #[cfg(test)]
 mod tests;

@@ -12,6 +12,9 @@ pub(crate) const MAX_ACTIONS: u64 = 8;
 /// At most how many units a graph has.
 pub(crate) const MAX_UNITS: u64 = 8_192;
 
+/// At most how many locks a graph has.
+pub(crate) const MAX_LOCKS: u64 = 4_096;
+
 /// Numbers in a row: so many from the first on.
 #[derive(Clone, Copy, Debug)]
 pub(crate) struct Span {
