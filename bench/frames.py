@@ -10,15 +10,13 @@ for a stream eight times as long. Not part of the gate. Skips, with status 0, wh
     bench/frames.py [KIB]
 """
 
-import os
 import pathlib
 import random
-import re
-import shutil
 import struct
-import subprocess
 import sys
 import tempfile
+
+import measure
 
 BELOW = ["item_actions", "daemon_protocol"]
 PROGRAM = "frame_probe"
@@ -29,62 +27,8 @@ MOST_A_BYTE = 20.0
 TIMES = 8
 MOST_GROWTH = 8.8
 
-# callgrind counts each byte of a `rep stosb` or `rep movsb`, with which glibc clears and copies much memory, as an
-# instruction. So glibc is told not to use them.
-TUNABLES = "glibc.cpu.x86_rep_stosb_threshold=100000000:glibc.cpu.x86_rep_movsb_threshold=100000000"
-
 SIZES = {"one piece": 1 << 30, "4,096": 4096, "64": 64, "1": 1}
 LARGE = ("one piece", "4,096")
-
-MAIN = """\
-//! Reads the frames of a file in pieces of a size, some times over, and prints how many there were and how many bytes
-//! were left.
-#![tactic(auto)]
-
-ghost use Rattle.std.specs.Prelude.{◌<◌};
-
-use anyhow::anyhow;
-use daemon_protocol::Decoder;
-use std::alloc::{AllocError, Global};
-use std::{env, fs};
-
-/// More bytes than any stream here has.
-const MANY: u64 = 1 << 40;
-
-/// How many frames there are, and how many bytes are left.
-fn count_frames(alloc: Global, stream: &[u8], size: usize) -> Result<(usize, u64), AllocError>
-    requires { 0 < size }
-{
-    let mut decoder = Decoder::new(alloc);
-    let mut count = 0usize;
-    for piece in stream.chunks(size) {
-        if MANY < decoder.place() || MANY < decoder.rest() {
-            break;
-        }
-        let fed = decoder.feed(alloc, piece)?;
-        count = count.wrapping_add(fed.frames.len());
-    }
-    Ok((count, decoder.rest()))
-}
-
-fn main(rt: HostRuntime) -> Result<(), anyhow::Error> {
-    let mut words = env::args(&rt)?.skip(1);
-    let (Some(rounds), Some(size), Some(file)) = (words.next(), words.next(), words.next()) else {
-        return Err(anyhow!("three words are wanted"));
-    };
-    let rounds: u32 = rounds.as_str().parse()?;
-    let size: usize = size.as_str().parse()?;
-    if size == 0 {
-        return Err(anyhow!("no size"));
-    }
-    let bytes = fs::read(&rt, file.as_str())?;
-    for _ in 0..rounds {
-        let (frames, rest) = count_frames(rt.alloc(), &bytes, size)?;
-        println!(rt; "{frames} {rest}")?;
-    }
-    Ok(())
-}
-"""
 
 SHORT_NAME = b"a.txt"
 LONG_NAME = b"src/main/java/org/example/project/module/ClassNumber%03d.java"
@@ -150,42 +94,18 @@ def stream_of(make, size: int) -> tuple[bytes, int]:
     return b"".join(frames), len(frames)
 
 
-def build(folder: pathlib.Path) -> str:
-    top = pathlib.Path(__file__).resolve().parent.parent
-    lines = (top / "crates.txt").read_text().splitlines()
-    kept = [line for line in lines if line.split(":")[0] in BELOW]
-    (folder / "crates.txt").write_text("\n".join([*kept, f"{PROGRAM}: {' '.join(BELOW)} anyhow"]) + "\n")
-    for crate in BELOW:
-        shutil.copytree(top / "crates" / crate, folder / "crates" / crate, ignore=shutil.ignore_patterns("out", "must-fail"))
-    source = folder / "crates" / PROGRAM / "src"
-    source.mkdir(parents=True)
-    (source / "main.rt").write_text(MAIN)
-    run = subprocess.run(["rt", "run"], cwd=source.parent, stdin=subprocess.DEVNULL, capture_output=True, text=True)
-    program = source.parent / "out" / PROGRAM
-    if not program.exists():
-        sys.exit(f"the program wasn't built:\n{run.stdout}{run.stderr}")
-    return str(program)
-
-
-def collected(program: str, rounds: int, size: int, file: pathlib.Path, frames: int) -> int:
-    environment = {**os.environ, "GLIBC_TUNABLES": TUNABLES}
-    call = ["valgrind", "--tool=callgrind", "--callgrind-out-file=/dev/null", program, str(rounds), str(size), str(file)]
-    run = subprocess.run(call, capture_output=True, text=True, env=environment)
-    expected = f"{frames} 0\n" * rounds
-    if run.stdout != expected:
-        sys.exit(f"the program printed {run.stdout!r}, not {expected!r}")
-    found = re.search(r"Collected\s*:\s*(\d+)", run.stderr)
-    if found is None:
-        sys.exit(f"callgrind printed no count:\n{run.stderr}")
-    return int(found.group(1))
-
-
 def instructions(program: str, size: int, file: pathlib.Path, frames: int) -> int:
     """Those of one round: of a run with it, less one without."""
-    return collected(program, 1, size, file, frames) - collected(program, 0, size, file, frames)
+    with_it, without = (
+        measure.count_instructions(
+            [program, str(rounds), str(size), str(file)], f"{frames} 0\n".encode() * rounds, settings=measure.STEPWISE
+        )[0]
+        for rounds in (1, 0)
+    )
+    return with_it - without
 
 
-def measure(program: str, folder: pathlib.Path, name: str, bytes_wanted: int) -> bool:
+def measure_stream(program: str, folder: pathlib.Path, name: str, bytes_wanted: int) -> bool:
     good = True
     shorter, few = stream_of(STREAMS[name], bytes_wanted // TIMES)
     longer, many = shorter * TIMES, few * TIMES
@@ -206,15 +126,14 @@ def measure(program: str, folder: pathlib.Path, name: str, bytes_wanted: int) ->
 
 
 def main() -> None:
+    measure.skip_without("valgrind", "rt")
     bytes_wanted = (int(sys.argv[1]) if len(sys.argv) > 1 else 512) << 10
-    for tool in ("valgrind", "rt"):
-        if shutil.which(tool) is None:
-            print(f"skipped: there is no {tool} here")
-            return
     with tempfile.TemporaryDirectory() as name:
         folder = pathlib.Path(name)
-        program = build(folder)
-        results = [measure(program, folder, stream, bytes_wanted) for stream in STREAMS]
+        workshop = measure.Workshop(folder, BELOW)
+        workshop.add(PROGRAM, *BELOW, "anyhow")
+        program = workshop.build(PROGRAM)
+        results = [measure_stream(program, folder, stream, bytes_wanted) for stream in STREAMS]
     sys.exit(0 if all(results) else 1)
 
 

@@ -1,13 +1,13 @@
 #!/usr/bin/env python3
 """Compares the item actions with the system's tools, and counts their instructions.
 
-Makes its files and three small programs over the crates item_actions and worker_desk in a temporary folder. It builds
-the first as the gate does, for x86-64-v2, and where this machine can run it also for x86-64-v3. On small files and
+Makes its files, and builds three small programs over the crates item_actions and worker_desk, in a temporary folder. It
+builds the first as the gate does, for x86-64-v2, and where this machine can run it also for x86-64-v3. On small files and
 on text and random bytes of 64 MiB it compares the answers with those of wc, grep and sha256sum. On the large ones it
 prints for each action the instructions a byte that callgrind counts, and the least time of three rounds beside the
 time of the tool. Two further programs give the instructions a byte of a test of a file's name, and of a text of it,
 and the page faults of reading files of 4 MiB one after the other. Not part of the gate. Skips, with status 0, where
-valgrind or rt is missing; ends with status 1 where an answer differs or a goal is missed.
+valgrind, GNU time or rt is missing; ends with status 1 where an answer differs or a goal is missed.
 
 An action's count is that of a run with one round less that of a run without, so the reading of the file isn't in it.
 That matters: the C library clears large buffers by one instruction, `rep stosb`, which callgrind counts once a byte.
@@ -15,16 +15,16 @@ That matters: the C library clears large buffers by one instruction, `rep stosb`
     bench/item_actions.py [MIB]
 """
 
-import os
 import pathlib
 import random
-import re
-import shutil
 import subprocess
 import sys
 import tempfile
 import time
 
+import measure
+
+BELOW = ["item_actions", "worker_desk"]
 NEEDLE = "the"
 
 # The processor that the gate builds for.
@@ -40,116 +40,6 @@ TESTS = 1000
 # How many files are read one after the other, and the bytes of each.
 READS = [1, 3, 64]
 FILE_BYTES = 4 << 20
-
-PROGRAM = """\
-//! Does one action on a file's bytes some times over, and prints the outcome and the least time in nanoseconds.
-#![tactic(auto)]
-
-use anyhow::anyhow;
-use item_actions::{Action, Needle, Outcome, act};
-use std::time::Instant;
-use std::{env, fs};
-
-fn action_of(word: &str, needle: &str) -> Option<Action> {
-    match word {
-        "lines" => Some(Action::Lines),
-        "words" => Some(Action::Words),
-        "bytes" => Some(Action::Bytes),
-        "longest" => Some(Action::Longest),
-        "count" => Needle::of(needle.as_bytes()).map(Action::Count),
-        "sha256" => Some(Action::Sha256),
-        _ => None,
-    }
-}
-
-fn main(rt: HostRuntime) -> Result<(), anyhow::Error> {
-    let mut words = env::args(&rt)?.skip(1);
-    let (Some(word), Some(needle), Some(rounds), Some(file)) =
-        (words.next(), words.next(), words.next(), words.next())
-    else {
-        return Err(anyhow!("four words are wanted"));
-    };
-    let action = action_of(word.as_str(), needle.as_str()).ok_or(anyhow!("no such action"))?;
-    let rounds: u32 = rounds.as_str().parse()?;
-    let bytes = fs::read(&rt, file.as_str())?;
-    let mut outcome = Outcome::Skipped;
-    let mut least = u128::MAX;
-    for _ in 0..rounds {
-        let start = Instant::now(&rt)?;
-        outcome = act(&action, &bytes);
-        least = least.min(start.elapsed(&rt)?.as_nanos());
-    }
-    match outcome {
-        Outcome::Number(number) => println!(rt; "{number}")?,
-        Outcome::Digest(digest) => {
-            for byte in digest {
-                print!(rt; "{byte:02x}")?;
-            }
-            println!(rt;)?;
-        }
-        _ => println!(rt; "none")?,
-    }
-    println!(rt; "{least}")?;
-    Ok(())
-}
-"""
-
-NAMER = """\
-//! Tests a file's bytes for the form of a file's name, or makes a text of them, so many times over.
-#![tactic(auto)]
-
-use anyhow::anyhow;
-use item_actions::{Text, is_file_name};
-use std::hint::black_box;
-use std::{env, fs};
-
-fn main(rt: HostRuntime) -> Result<(), anyhow::Error> {
-    let mut words = env::args(&rt)?.skip(1);
-    let (Some(word), Some(times), Some(file)) = (words.next(), words.next(), words.next()) else {
-        return Err(anyhow!("three words are wanted"));
-    };
-    let times: u32 = times.as_str().parse()?;
-    let bytes = fs::read(&rt, file.as_str())?;
-    let is_text = word.as_str() == "text";
-    let mut good = 0u32;
-    for _ in 0..times {
-        let is = if is_text {
-            Text::of(rt.alloc(), &bytes).is_ok()
-        } else {
-            is_file_name(black_box(bytes.as_slice()))
-        };
-        good = good.saturating_add(u32::from(is));
-    }
-    println!(rt; "{good}")?;
-    Ok(())
-}
-"""
-
-READER = """\
-//! Reads files by their names one after the other, and prints how many bytes they had.
-#![tactic(auto)]
-
-use anyhow::anyhow;
-use item_actions::Text;
-use std::env;
-use worker_desk::{Files, FolderDesk, Read};
-
-const MOST_BYTES: u64 = 4_194_304;
-
-fn main(rt: HostRuntime) -> Result<(), anyhow::Error> {
-    let mut desk = FolderDesk::new(&rt);
-    let mut total = 0u64;
-    for word in env::args(&rt)?.skip(1) {
-        let name = Text::from_str(rt.alloc(), word.as_str())?;
-        let Ok(Read::Bytes(bytes)) = desk.read(rt.alloc(), &name, MOST_BYTES) else {
-            return Err(anyhow!("a file can't be read"));
-        };
-        total = total.saturating_add(bytes.len() as u64);
-    }
-    println!(rt; "{total}")?;
-    Ok(())
-}
-"""
 
 COMMON_WORDS = (
     "the of and a to in is you that it he was for on are as with his they at be this have from or one had by word"
@@ -180,42 +70,6 @@ def small_files() -> list[bytes]:
     return [bytes(source.choice(letters) for _ in range(size)) for size in range(0, 200)]
 
 
-class Workshop:
-    """A repository with copies of the crates, and programs over them."""
-
-    def __init__(self, folder: pathlib.Path) -> None:
-        self.folder = folder
-        crates = pathlib.Path(__file__).resolve().parent.parent / "crates"
-        skipped = shutil.ignore_patterns("out", "must-fail")
-        for crate in ("item_actions", "worker_desk"):
-            shutil.copytree(crates / crate, folder / "crates" / crate, ignore=skipped)
-        self.write("act_probe", PROGRAM)
-        self.write("name_probe", NAMER)
-        self.write("read_probe", READER)
-        (folder / "crates.txt").write_text(
-            "item_actions: memchr sha2\n"
-            "worker_desk: item_actions itoa\n"
-            "act_probe: item_actions anyhow\n"
-            "name_probe: item_actions anyhow\n"
-            "read_probe: item_actions worker_desk anyhow\n"
-        )
-
-    def write(self, name: str, program: str) -> None:
-        source = self.folder / "crates" / name / "src"
-        source.mkdir(parents=True)
-        (source / "main.rt").write_text(program)
-
-    def build(self, name: str, cpu: str) -> str:
-        """The program, built for such a processor."""
-        crate = self.folder / "crates" / name
-        call = ["rt", "run", "--cpu", cpu]
-        run = subprocess.run(call, cwd=crate, stdin=subprocess.DEVNULL, capture_output=True, text=True)
-        built = crate / "out" / name
-        if not built.exists():
-            sys.exit(f"{name} couldn't be built:\n{run.stdout}{run.stderr}")
-        return str(shutil.copy(built, self.folder / f"{name}-{cpu}"))
-
-
 def runs_v3() -> bool:
     """Whether this machine's processors have what x86-64-v3 asks for."""
     cpuinfo = pathlib.Path("/proc/cpuinfo")
@@ -239,20 +93,8 @@ class Probe:
 
     def instructions(self, action: str, file: pathlib.Path) -> int:
         """Those of one round: of a run with it, less one without."""
-        return self.collected(action, 1, file) - self.collected(action, 0, file)
-
-    def collected(self, action: str, rounds: int, file: pathlib.Path) -> int:
-        return collected(*self.words(action, rounds, file))
-
-
-def collected(*words: str) -> int:
-    """The instructions of a whole run."""
-    call = ["valgrind", "--tool=callgrind", "--callgrind-out-file=/dev/null", *words]
-    run = subprocess.run(call, capture_output=True, text=True, check=True)
-    found = re.search(r"Collected\s*:\s*(\d+)", run.stderr)
-    if found is None:
-        sys.exit(f"callgrind printed no count:\n{run.stderr}")
-    return int(found.group(1))
+        with_it, without = (measure.count_instructions(self.words(action, rounds, file))[0] for rounds in (1, 0))
+        return with_it - without
 
 
 def output_of(*words: str) -> str:
@@ -302,7 +144,7 @@ def compare(probe: Probe, file: pathlib.Path, what: str) -> bool:
     return same
 
 
-def measure(probe: Probe, file: pathlib.Path, what: str, cpu: str) -> bool:
+def measure_actions(probe: Probe, file: pathlib.Path, what: str, cpu: str) -> bool:
     """The figures of each action. The goals are those of the processor that the gate builds for."""
     within = True
     size = file.stat().st_size
@@ -323,11 +165,21 @@ def measure_names(program: str, file: pathlib.Path) -> None:
     for name in NAMES:
         file.write_text(name)
         form, text = (
-            (collected(program, word, str(TESTS), str(file)) - collected(program, word, "0", str(file))) / TESTS
+            measure.count_instructions([program, word, str(TESTS), str(file)])[0]
+            - measure.count_instructions([program, word, "0", str(file)])[0]
             for word in ("name", "text")
         )
-        size = len(name)
-        print(f"a name of {size} bytes: its form {form / size:.1f}, its text {text / size:.1f} instructions a byte")
+        tested = len(name) * TESTS
+        print(
+            f"a name of {len(name)} bytes: its form {form / tested:.1f}, its text {text / tested:.1f} instructions a byte"
+        )
+
+
+def page_faults(program: str, names: list[str]) -> int:
+    used = measure.usage_of([program, *names])
+    if used.status != 0:
+        sys.exit(f"the reading program ended with {used.status}")
+    return used.page_faults
 
 
 def measure_faults(program: str, folder: pathlib.Path) -> None:
@@ -335,50 +187,45 @@ def measure_faults(program: str, folder: pathlib.Path) -> None:
     names = [str(folder / f"read{number}") for number in range(max(READS))]
     for name in names:
         pathlib.Path(name).write_bytes(b"x" * FILE_BYTES)
-    without = faults(program, [])
+    without = page_faults(program, [])
     for number in READS:
-        taken = faults(program, names[:number]) - without
+        taken = page_faults(program, names[:number]) - without
         print(f"{number} files of {FILE_BYTES >> 20} MiB, one after the other: {taken} page faults")
 
 
-def faults(program: str, names: list[str]) -> int:
-    with open(os.devnull, "wb") as nowhere:
-        run = subprocess.Popen([program, *names], stdout=nowhere)
-        _, status, usage = os.wait4(run.pid, 0)
-        run.returncode = os.waitstatus_to_exitcode(status)
-    if run.returncode != 0:
-        sys.exit(f"the reading program ended with {run.returncode}")
-    return usage.ru_minflt
+def measure_all(workshop: measure.Workshop, folder: pathlib.Path, size: int) -> bool:
+    cpus = [GATE_CPU, "x86-64-v3"] if runs_v3() else [GATE_CPU]
+    probes = {cpu: Probe(workshop.build("action_probe", "--cpu", cpu)) for cpu in cpus}
+    file = folder / "small"
+    good = True
+    large = {"text": text_of(size), "random": random.Random(3).randbytes(size)}
+    for what, data in large.items():
+        (folder / what).write_bytes(data)
+    for probe in probes.values():
+        for data in small_files():
+            file.write_bytes(data)
+            good = compare(probe, file, f"{len(data)} bytes") and good
+        for what in large:
+            good = compare(probe, folder / what, what) and good
+    print("answers as the tools give them" if good else "answers differ")
+    for cpu, probe in probes.items():
+        for what in large:
+            good = measure_actions(probe, folder / what, what, cpu) and good
+    measure_names(workshop.build("name_probe", "--cpu", GATE_CPU), file)
+    measure_faults(workshop.build("read_probe", "--cpu", GATE_CPU), folder)
+    return good
 
 
 def main() -> None:
+    measure.skip_without("valgrind", "time", "rt")
     size = (int(sys.argv[1]) if len(sys.argv) > 1 else 64) << 20
-    for tool in ("valgrind", "rt"):
-        if shutil.which(tool) is None:
-            print(f"skipped: there is no {tool} here")
-            return
     with tempfile.TemporaryDirectory() as name:
         folder = pathlib.Path(name)
-        workshop = Workshop(folder)
-        cpus = [GATE_CPU, "x86-64-v3"] if runs_v3() else [GATE_CPU]
-        probes = {cpu: Probe(workshop.build("act_probe", cpu)) for cpu in cpus}
-        file = folder / "small"
-        good = True
-        large = {"text": text_of(size), "random": random.Random(3).randbytes(size)}
-        for what, data in large.items():
-            (folder / what).write_bytes(data)
-        for cpu, probe in probes.items():
-            for data in small_files():
-                file.write_bytes(data)
-                good = compare(probe, file, f"{len(data)} bytes") and good
-            for what in large:
-                good = compare(probe, folder / what, what) and good
-        print("answers as the tools give them" if good else "answers differ")
-        for cpu, probe in probes.items():
-            for what in large:
-                good = measure(probe, folder / what, what, cpu) and good
-        measure_names(workshop.build("name_probe", GATE_CPU), file)
-        measure_faults(workshop.build("read_probe", GATE_CPU), folder)
+        workshop = measure.Workshop(folder, BELOW)
+        workshop.add("action_probe", "item_actions", "anyhow")
+        workshop.add("name_probe", "item_actions", "anyhow")
+        workshop.add("read_probe", *BELOW, "anyhow")
+        good = measure_all(workshop, folder, size)
     sys.exit(0 if good else 1)
 
 

@@ -4,18 +4,18 @@
 Makes its own plans in a temporary folder and runs `leases run` on them under valgrind's callgrind. Each plan is
 refused after it was read whole, so what is counted is the reading alone: a plan within all limits by its last task,
 whose two actions today's engine doesn't run, and a chain of too many tasks by its number of tasks. Not part of the
-gate. Skips, with status 0, where valgrind is missing.
+gate. Skips, with status 0, where valgrind or GNU time is missing.
 
-    bench/plan_reading.py [PROGRAM]
+    bench/plan_reading.py [PROGRAM [PART..]]
+
+Each PART is a number: a plan with that part of the limits is read, and no chains.
 """
 
-import os
 import pathlib
-import re
-import shutil
-import subprocess
 import sys
 import tempfile
+
+import measure
 
 # The goals: instructions a byte of the plan, and peak memory for the largest plan within the limits.
 MOST_A_BYTE = 100
@@ -66,55 +66,38 @@ def chain_text(tasks: int) -> str:
     return 'project=[{name="p"}]\ntask=[' + ",".join(rows) + "]\n"
 
 
-def instructions(program: str, folder: pathlib.Path, expected: str) -> int:
-    call = ["valgrind", "--tool=callgrind", "--callgrind-out-file=/dev/null", program, "run", "plan.toml"]
-    run = subprocess.run(call, cwd=folder, capture_output=True, text=True)
-    if run.stdout != expected:
-        sys.exit(f"the program printed {run.stdout!r}, not {expected!r}")
-    found = re.search(r"Collected\s*:\s*(\d+)", run.stderr)
-    if found is None:
-        sys.exit(f"callgrind printed no count:\n{run.stderr}")
-    return int(found.group(1))
-
-
-def usage(program: str, folder: pathlib.Path) -> tuple[int, float]:
-    """The peak memory in kilobytes, and the seconds on a processor."""
-    child = os.fork()
-    if child == 0:
-        os.chdir(folder)
-        out = os.open(os.devnull, os.O_WRONLY)
-        os.dup2(out, 1)
-        os.execv(program, [program, "run", "plan.toml"])
-    _, _, used = os.wait4(child, 0)
-    return used.ru_maxrss, used.ru_utime + used.ru_stime
-
-
-def measure(program: str, name: str, text: str, expected: str) -> int:
+def measure_plan(program: str, name: str, text: str, expected: str) -> int:
+    """Prints the figures of a plan. Its instructions are given back."""
+    words = [program, "run", "plan.toml"]
     with tempfile.TemporaryDirectory() as folder_name:
         folder = pathlib.Path(folder_name)
         (folder / "plan.toml").write_text(text)
-        count = instructions(program, folder, expected)
-        kilobytes, seconds = usage(program, folder)
+        count, _ = measure.count_instructions(words, expected.encode(), folder=folder)
+        used = measure.usage_of(words, folder)
     print(
         f"{name}: {len(text):8} bytes, {count:12} instructions, {count / len(text):6.1f} a byte (goal {MOST_A_BYTE}),"
-        f" peak {kilobytes} KB (goal {MOST_KILOBYTES}), {seconds:.2f} s"
+        f" peak {used.kilobytes} KB (goal {MOST_KILOBYTES}), {used.seconds:.2f} s"
     )
     return count
 
 
+def measure_part(program: str, part: int) -> int:
+    return measure_plan(program, f"a plan of 1/{part} of the limits", plan_text(part), NOT_YET)
+
+
 def main() -> None:
-    top = pathlib.Path(__file__).resolve().parent.parent
-    program = str(pathlib.Path(sys.argv[1]).resolve()) if len(sys.argv) > 1 else str(top / "crates/leases/out/leases")
-    if shutil.which("valgrind") is None:
-        print("skipped: there is no valgrind here")
+    measure.skip_without("valgrind", "time")
+    program = measure.leases_program()
+    if len(sys.argv) > 2:
+        for word in sys.argv[2:]:
+            measure_part(program, int(word))
         return
-    if not os.access(program, os.X_OK):
-        sys.exit("the program isn't built: run ./leases once")
-    counts = {}
-    for part in (8, 4, 2, 1):
-        counts[part] = measure(program, f"a plan of 1/{part} of the limits", plan_text(part), NOT_YET)
+    counts = {part: measure_part(program, part) for part in (8, 4, 2, 1)}
     print(f"growth from 1/8 to the whole: {counts[1] / counts[8]:.2f}")
-    chains = [measure(program, f"a reversed chain of {tasks} tasks", chain_text(tasks), TOO_MANY) for tasks in (CHAIN // 2, CHAIN)]
+    chains = [
+        measure_plan(program, f"a reversed chain of {tasks} tasks", chain_text(tasks), TOO_MANY)
+        for tasks in (CHAIN // 2, CHAIN)
+    ]
     print(f"growth from {CHAIN // 2} to {CHAIN} tasks: {chains[1] / chains[0]:.2f}")
 
 

@@ -5,12 +5,11 @@ Each request asks for the lines of a file of 14 bytes. What comes with one reque
 what few take, so that the start falls out. Not part of the gate. Without valgrind the instructions aren't counted, and
 without strace the system calls aren't.
 
-    bench/worker.py [PROGRAM]
+    bench/worker.py [PROGRAM [REQUESTS]]
 """
 
 import os
 import pathlib
-import re
 import shutil
 import statistics
 import subprocess
@@ -18,6 +17,8 @@ import sys
 import tempfile
 import threading
 import time
+
+import measure
 
 FILE = "a.txt"
 FILE_BYTES = b"one\ntwo\nthree\n"
@@ -34,19 +35,17 @@ MOST_MICROSECONDS = 20
 MOST_INSTRUCTIONS = 10_000
 MOST_CALLS_FOR_A_FILE = 4
 
-# glibc clears large pieces by one instruction of which callgrind counts each byte. With this setting it doesn't.
-STEPWISE = {"GLIBC_TUNABLES": "glibc.cpu.x86_rep_stosb_threshold=100000000"}
-
 
 class Worker:
     """A process that answers requests, and the folder of its file."""
 
-    def __init__(self, call: list[str], folder: pathlib.Path) -> None:
-        self.call = call
+    def __init__(self, words: measure.Words, folder: pathlib.Path, requests: int) -> None:
+        self.words = words
         self.folder = folder
+        self.requests = requests
 
     def start(self) -> subprocess.Popen[bytes]:
-        return subprocess.Popen(self.call, cwd=self.folder, stdin=subprocess.PIPE, stdout=subprocess.PIPE, bufsize=0)
+        return subprocess.Popen(self.words, cwd=self.folder, stdin=subprocess.PIPE, stdout=subprocess.PIPE, bufsize=0)
 
     def end(self, child: subprocess.Popen[bytes]) -> None:
         child.stdin.write(STOP)
@@ -59,52 +58,41 @@ class Worker:
         child = self.start()
         source, sink = child.stdout.fileno(), child.stdin.fileno()
         start = time.perf_counter()
-        for _ in range(REQUESTS):
+        for _ in range(self.requests):
             os.write(sink, REQUEST)
             if os.read(source, 64) != REPLY:
                 sys.exit("a reply isn't right")
         passed = time.perf_counter() - start
         self.end(child)
-        return passed * 1e6 / REQUESTS
+        return passed * 1e6 / self.requests
 
     def all_at_once(self) -> float:
         """Microseconds a request where all are sent at once."""
         child = self.start()
-        writer = threading.Thread(target=write_all, args=(child.stdin.fileno(), REQUEST * REQUESTS))
+        writer = threading.Thread(target=write_all, args=(child.stdin.fileno(), REQUEST * self.requests))
         start = time.perf_counter()
         writer.start()
-        replies = read_all(child.stdout.fileno(), len(REPLY) * REQUESTS)
+        replies = read_all(child.stdout.fileno(), len(REPLY) * self.requests)
         passed = time.perf_counter() - start
         writer.join()
         self.end(child)
-        if replies != REPLY * REQUESTS:
+        if replies != REPLY * self.requests:
             sys.exit("a reply isn't right")
-        return passed * 1e6 / REQUESTS
+        return passed * 1e6 / self.requests
 
-    def counted(self, tool: list[str], requests: int, settings: dict[str, str]) -> str:
-        """What a tool that counts printed of a run with so many requests."""
-        run = subprocess.run(
-            [*tool, *self.call],
-            cwd=self.folder,
-            env=os.environ | settings,
-            input=REQUEST * requests + STOP,
-            capture_output=True,
-        )
-        if run.returncode != 0 or run.stdout != REPLY * requests:
-            sys.exit(f"the worker ended with {run.returncode}:\n{run.stderr.decode()}")
-        return run.stderr.decode()
+    def stream(self, requests: int) -> dict[str, object]:
+        """What a tool that counts is told of a run with so many requests."""
+        return {"folder": self.folder, "given": REQUEST * requests + STOP, "expected": REPLY * requests}
 
     def instructions(self, settings: dict[str, str]) -> float:
-        tool = ["valgrind", "--tool=callgrind", "--callgrind-out-file=/dev/null"]
         few, many = (
-            int(re.search(r"Collected\s*:\s*(\d+)", self.counted(tool, requests, settings)).group(1))
+            measure.count_instructions(self.words, settings=settings, **self.stream(requests))[0]
             for requests in (FEW, MANY)
         )
         return (many - few) / (MANY - FEW)
 
     def system_calls(self) -> dict[str, float]:
-        tool = ["strace", "-f", "-c", "-U", "calls,name"]
-        few, many = (calls_of(self.counted(tool, requests, {})) for requests in (FEW, MANY))
+        few, many = (measure.count_system_calls(self.words, **self.stream(requests)) for requests in (FEW, MANY))
         more = {name: (many[name] - few.get(name, 0)) / (MANY - FEW) for name in many}
         return {name: count for name, count in more.items() if count != 0}
 
@@ -125,11 +113,6 @@ def read_all(source: int, most: int) -> bytes:
     return b"".join(pieces)
 
 
-def calls_of(table: str) -> dict[str, int]:
-    found = [re.fullmatch(r"\s*(\d+)\s+(\w+)", line) for line in table.splitlines()]
-    return {match.group(2): int(match.group(1)) for match in found if match is not None and match.group(2) != "total"}
-
-
 def report(worker: Worker) -> None:
     for name, run in (("one at a time", worker.one_at_a_time), ("all at once", worker.all_at_once)):
         times = [run() for _ in range(RUNS)]
@@ -138,10 +121,10 @@ def report(worker: Worker) -> None:
     if shutil.which("valgrind") is None:
         print("the instructions weren't counted: there is no valgrind here")
     else:
-        counted, stepwise = worker.instructions({}), worker.instructions(STEPWISE)
+        counted, stepwise = worker.instructions({}), worker.instructions(measure.STEPWISE)
         print(
             f"instructions a request: {counted:.0f} (goal {MOST_INSTRUCTIONS}),"
-            f" and {stepwise:.0f} where clearing isn't counted byte by byte"
+            f" and {stepwise:.0f} where clearing and copying aren't counted byte by byte"
         )
     if shutil.which("strace") is None:
         print("the system calls weren't counted: there is no strace here")
@@ -154,14 +137,12 @@ def report(worker: Worker) -> None:
 
 
 def main() -> None:
-    top = pathlib.Path(__file__).resolve().parent.parent
-    program = str(pathlib.Path(sys.argv[1]).resolve()) if len(sys.argv) > 1 else str(top / "crates/leases/out/leases")
-    if not os.access(program, os.X_OK):
-        sys.exit("the program isn't built: run ./leases once")
+    program = measure.leases_program()
+    requests = int(sys.argv[2]) if len(sys.argv) > 2 else REQUESTS
     with tempfile.TemporaryDirectory() as name:
         folder = pathlib.Path(name)
         (folder / FILE).write_bytes(FILE_BYTES)
-        report(Worker([program, "worker"], folder))
+        report(Worker([program, "worker"], folder, requests))
 
 
 if __name__ == "__main__":

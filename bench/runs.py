@@ -1,0 +1,91 @@
+#!/usr/bin/env python3
+"""Counts instructions and memory of `leases run` on plans whose tasks have an action each.
+
+Makes its own plans and files in a temporary folder, and prints one line a plan. Not part of the gate. Skips, with status
+0, where valgrind or GNU time is missing.
+
+    bench/runs.py [PROGRAM [ITEMS..]]
+"""
+
+import pathlib
+import re
+import subprocess
+import sys
+import tempfile
+
+import measure
+
+ITEMS = [1024, 2048, 4096, 8192]
+TASKS = 2048
+RUN = ["run", "plan.toml", "--max-workers", "1", "--threads", "1", "--history"]
+
+# The goals: instructions a unit with the plan's reading, those of a transform of the run without the reading
+# of files, growth from 2,048 to 8,192 items, and peak memory.
+MOST_A_UNIT = 15_000
+MOST_A_TRANSFORM = 1_500
+MOST_GROWTH = 4.3
+MOST_KILOBYTES = 40 * 1024
+
+# The functions whose difference is a run without the reading of its files. The plan is read by another function.
+RUN_OF_A_PLAN = "build_runner::runs::run_plan"
+READING_OF_FILES = "FolderDeskFiles::read"
+
+
+def plan_text(items: int) -> str:
+    tasks = min(items, TASKS)
+    lines = ["[[project]]", 'name = "app"']
+    for task in range(tasks):
+        lines += ["[[task]]", f'name = "task{task}"', 'project = "app"', "[[task.action]]", 'wait = "retain"']
+        for item in range(items // tasks):
+            lines += ["[[task.action.item]]", 'do = "lines"', f'file = "src/file{(task + item) % 16}.txt"']
+    return "\n".join(lines) + "\n"
+
+
+def make_folder(folder: pathlib.Path, items: int) -> None:
+    (folder / "src").mkdir()
+    for number in range(16):
+        (folder / f"src/file{number}.txt").write_text("a line of text\n" * number)
+    (folder / "plan.toml").write_text(plan_text(items))
+
+
+def inclusive(profile: pathlib.Path, name: str) -> int:
+    """The instructions of a function with all that it calls."""
+    call = ["callgrind_annotate", "--inclusive=yes", str(profile)]
+    table = subprocess.run(call, capture_output=True, text=True).stdout
+    found = re.search(r"^\s*([\d,]+) .*" + re.escape(name), table, re.MULTILINE)
+    return int(found.group(1).replace(",", "")) if found is not None else 0
+
+
+def measure_plan(program: str, items: int) -> int:
+    """Prints the figures of a plan of so many items. Its instructions are given back."""
+    words = [program, *RUN]
+    with tempfile.TemporaryDirectory() as name:
+        folder = pathlib.Path(name)
+        make_folder(folder, items)
+        profile = folder / "callgrind.out"
+        count, output = measure.count_instructions(words, profile=str(profile), folder=folder)
+        transforms = inclusive(profile, RUN_OF_A_PLAN) - inclusive(profile, READING_OF_FILES)
+        used = measure.usage_of(words, folder)
+    if used.status != 0:
+        sys.exit(f"the program ended with {used.status}")
+    entries = int(output.split()[-1])
+    print(
+        f"{items:5} items in {min(items, TASKS):4} tasks: {count:12} instructions,"
+        f" {count // items:6} a unit (goal {MOST_A_UNIT}),"
+        f" {transforms // entries:5} a transform (goal {MOST_A_TRANSFORM}),"
+        f" peak {used.kilobytes} KB (goal {MOST_KILOBYTES})"
+    )
+    return count
+
+
+def main() -> None:
+    measure.skip_without("valgrind", "time")
+    program = measure.leases_program()
+    sizes = [int(word) for word in sys.argv[2:]] or ITEMS
+    totals = {items: measure_plan(program, items) for items in sizes}
+    if {2048, 8192} <= totals.keys():
+        print(f"growth from 2048 to 8192 items: {totals[8192] / totals[2048]:.2f} (goal {MOST_GROWTH})")
+
+
+if __name__ == "__main__":
+    main()
