@@ -1,5 +1,5 @@
 //! What a caller can prove of the book that its call found.
-ghost use Rattle.std.specs.Prelude.{◌≡◌, ◌≢◌, [], ◌∷◌, ◌++◌, List, None, Ok, Some, true, false};
+ghost use Rattle.std.specs.Prelude.{◌≡◌, ◌≢◌, ◌<◌, [], ◌∷◌, ◌++◌, All, IfOk, List, None, Ok, Some, length, true, false};
 ghost use Rattle.resource_lock.specs.Good.{Good};
 ghost use Rattle.resource_lock.specs.StateView.{holding_of, owner_of};
 ghost use Rattle.resource_lock.specs.declared.changes.Change.TheVariants as changes;
@@ -7,10 +7,9 @@ ghost use Rattle.resource_lock.specs.declared.ids.WorkerId.{WorkerId};
 ghost use Rattle.lock_journal.specs.Entry.{Entry, entry, replay};
 ghost use Rattle.lock_journal.specs.declared.entries.Kind.TheVariants as kinds;
 
-use crate::tests::{TakeFirst, open_service, take_first};
-use crate::{Coordination, Halt, Opened, Pass, sound_books_have_good_states};
-use lock_journal::{Disposition, Kind, Tentative, Transform};
-use resource_lock::LockId;
+use crate::{Coordination, Halt, Opened, Pass, openings_are_at_rest, sound_books_have_good_states};
+use lock_journal::{Book, Disposition, Kind, Tentative, Transform};
+use resource_lock::{Change, Graph, LockId};
 use run_laws::own_changes_say_all;
 use std::process::Abort;
 use std::sync::Wait;
@@ -40,14 +39,30 @@ impl Transform for TryFirst {
     }
 
     fn apply(&self, work: &mut Tentative) -> Disposition {
-        if work.graph().locks() > 0 {
-            if let Some(owner) = work.state().owner(LockId(0)) {
-                if owner != work.worker() {
-                    return Disposition::Failed;
-                }
-            }
+        let worker = work.worker();
+        let lock = LockId(0);
+        if work.graph().locks() == 0 {
+            return Disposition::Retry;
         }
-        TakeFirst.apply(work)
+        if let Some(owner) = work.state().owner(lock) {
+            return if owner == worker {
+                Disposition::Retry
+            } else {
+                Disposition::Failed
+            };
+        }
+        if work.state().blocked(worker)
+            || work.state().runs_any(worker)
+            || !work.state().can(worker, Change::Lock(lock))
+        {
+            return Disposition::Retry;
+        }
+        work.change(Change::Lock(lock));
+        if !work.state().can(worker, Change::Take) {
+            return Disposition::Retry;
+        }
+        work.change(Change::Take);
+        Disposition::Finished
     }
 }
 
@@ -68,14 +83,19 @@ fn try_first<R: Wait + Abort>(rt: &R, service: &Coordination, pass: &mut Pass) -
 }
 
 #[test]
-fn a_failed_try_names_the_lock_of_another(rt: HostRuntime) -> Result<(), Fail> {
+fn a_lock_of_another_fails_a_try(rt: HostRuntime) -> Result<(), Fail> {
+    let alloc = rt.alloc();
+    let tasks = Vec::new(alloc);
+    let actions = Vec::new(alloc);
+    assert!(rt; Graph::fits(1, 2, 2, &tasks, &actions));
+    let book = Book::opening(alloc, Graph::new(1, 2, 2, tasks, actions), 0, 0)?;
+    openings_are_at_rest();
     let Opened {
         service,
         mut passes,
-    } = open_service(&rt, rt.alloc())?;
-    take_first(&rt, &service, &mut passes[0])?;
+    } = Coordination::open(alloc, book)?;
+    assert_eq!(rt; try_first(&rt, &service, &mut passes[0]), Ok(true));
     assert_eq!(rt; try_first(&rt, &service, &mut passes[1]), Ok(false));
     assert_eq!(rt; passes[1].last(), 2);
-    assert!(rt; !passes[1].has_lease());
     Ok(())
 }

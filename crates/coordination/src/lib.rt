@@ -26,8 +26,4 @@ pub use wakes::lets_go_on;
 #[cfg(test)]
 mod caller_tests;
 #[cfg(test)]
-mod pass_tests;
-#[cfg(test)]
-mod tests;
-#[cfg(test)]
 mod thread_tests;

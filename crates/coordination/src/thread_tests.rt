@@ -4,8 +4,7 @@ ghost use Rattle.lock_journal.specs.Allowed.{IsFixedList};
 ghost use Rattle.lock_journal.specs.declared.entries.Kind.TheVariants as kinds;
 ghost use Rattle.coordination.specs.Sights.{workers_from};
 
-use crate::tests::EntriesFrom;
-use crate::{Coordination, Halt, Opened, Pass, openings_are_at_rest};
+use crate::{Coordination, Halt, Opened, Pass, Question, openings_are_at_rest};
 use lock_journal::kinds::{End, Start};
 use lock_journal::{Book, Disposition, Kind, Tentative, Transform};
 use resource_lock::{Graph, GraphTask, LockId, Mark, MarkId, WorkerId};
@@ -74,6 +73,28 @@ impl Transform for FailAtOnce {
 
     fn apply(&self, _work: &mut Tentative) -> Disposition {
         Disposition::Failed
+    }
+}
+
+/// How many entries there are, once there are so many.
+#[derive(Clone, Copy, Debug)]
+struct EntriesFrom {
+    least: u64,
+}
+
+impl Question for EntriesFrom {
+    type Answer = u64;
+
+    ghost answers = { λ _ _ book entries. entries ≡ length book.history };
+
+    ghost waits_on = { λ q _ book. length book.history < q.least };
+
+    fn ask(&self, _worker: WorkerId, book: &Book) -> Option<u64> {
+        let entries = book.len();
+        if entries < self.least {
+            return None;
+        }
+        Some(entries)
     }
 }
 

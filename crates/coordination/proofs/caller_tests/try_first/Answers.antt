@@ -6,6 +6,7 @@ use Rattle.resource_lock.specs.Change.{holding_after, make_all}
 use Rattle.resource_lock.specs.declared.changes.Change.{Change}
 use Rattle.resource_lock.specs.declared.ids.WorkerId.{WorkerId}
 use Rattle.lock_journal.specs.Entry.{Entry, entry, replay}
+use Rattle.lock_journal.specs.declared.entries.Kind.TheVariants.{Acquire}
 use Rattle.run_laws.specs.OwnChanges.{after_all}
 use Rattle.coordination.specs.declared.rule.Sight.{Sight}
 use Rattle.coordination.proofs.caller_tests.try_first.Goals as goal
@@ -33,7 +34,7 @@ returns-clause-refused g c = λ is.
     let graph : c.with_state_lock.new.pass.sight.seen.graph ≡ f.before.graph = ap (λ (s : Sight). s.seen.graph) f.sight ∙ f.graph in
     let by : WorkerId = f.failed.cause.0 in (
       h,
-      ap (λ (s : Sight). s.seen.history) f.sight ∙ (f.failed.history ∙ ap (λ (w : WorkerId). h ++ entry w _ None ∷ []) (sym worker)),
+      ap (λ (s : Sight). s.seen.history) f.sight ∙ (f.failed.history ∙ ap (λ (w : WorkerId). h ++ entry w Acquire None ∷ []) (sym worker)),
       by,
       (λ (same : by ≡ c.with_state_lock.new.pass.sight.worker). f.failed.cause.1 (same ∙ worker)),
       subst (λ (k : GraphView). owner_of (replay k h) (record { 0 = 0 }) ≡ Some by) (sym graph)
