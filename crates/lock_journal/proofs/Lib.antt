@@ -7,3 +7,4 @@ pub mod Within
 pub mod Skipped
 pub mod Taken
 pub mod Freed
+pub mod TakenUp

@@ -1,11 +1,12 @@
 ghost use Rattle.std.specs.Prelude.{◌≡◌, false};
 ghost use Rattle.lock_journal.specs.Allowed.{IsFixedList, IsKindOf};
-ghost use Rattle.lock_journal.specs.Table.{is_enabled, mark_from};
+ghost use Rattle.lock_journal.specs.Table.{is_enabled};
 ghost use Rattle.lock_journal.specs.declared.entries.Kind.TheVariants as kinds;
 
 use crate::entries::{Closed, Kind};
 use crate::kinds::fixed::{FixedKind, Progress, run_fixed};
 use crate::kinds::making::try_changes;
+use crate::kinds::marks::mark_from;
 use crate::tentatives::Tentative;
 use crate::transforms::{Disposition, Transform};
 use item_actions::Outcome;
@@ -68,15 +69,5 @@ impl FixedKind for Close {
         let running = Mark::Running(work.worker());
         let moved = Change::Move(unit, running, mark_from(self.closed.outcome));
         try_changes(work, &[moved, Change::Give])
-    }
-}
-
-/// The mark of a unit that ended with an outcome.
-fn mark_from(outcome: Outcome) -> Mark
-    ensures { result ≡ mark_from outcome }
-{
-    match outcome {
-        Outcome::Number(_) | Outcome::Digest(_) => Mark::Passed,
-        _ => Mark::Failed,
     }
 }

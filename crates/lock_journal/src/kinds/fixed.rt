@@ -3,7 +3,7 @@ ghost use Rattle.std.specs.Prelude.{◌≡◌, ◌<◌, ◌≤◌, ◌↔◌, �
 ghost use Rattle.resource_lock.specs.Fits.{Fits};
 ghost use Rattle.resource_lock.specs.Shape.{BelongsTo};
 ghost use Rattle.lock_journal.specs.Allowed.{Allowed, IsFixedList, IsKindOf, IsListOf};
-ghost use Rattle.lock_journal.specs.TentativeView.{Worked};
+ghost use Rattle.lock_journal.specs.TentativeView.{IsSoundTentative, Worked};
 ghost use Rattle.lock_journal.specs.Entry.{entry};
 ghost use Rattle.lock_journal.specs.Making.{Makes};
 ghost use Rattle.lock_journal.specs.Table.{condition, list_of, is_enabled};
@@ -34,7 +34,7 @@ pub(crate) trait FixedKind {
     /// Makes its changes, up to the first that can't be made, and answers whether all were.
     fn make(&self, work: &mut Tentative) -> bool
         requires in_range { IsKindOf work.old.graph (kind_of self.now) }
-        requires fits { Fits work.old.graph }
+        requires sound { IsSoundTentative work.old }
         requires belongs { BelongsTo work.old.graph work.old.state }
         requires room { most self.now ≤ work.old.room }
         ensures made { Makes work.old work.new (list_of work.old.graph work.old.state work.old.worker (kind_of self.now)) result }

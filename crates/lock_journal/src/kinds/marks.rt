@@ -3,10 +3,11 @@ ghost use Rattle.std.specs.Prelude.{◌≡◌, ◌<◌, ◌≤◌, ◌+◌, leng
 ghost use Rattle.std.specs.List.{list_all, range_with_len};
 ghost use Rattle.resource_lock.specs.Shape.{BelongsTo};
 ghost use Rattle.resource_lock.specs.StateView.{mark_of};
-ghost use Rattle.lock_journal.specs.Table.{earlier_passed, has_passed, units_passed, works_on};
+ghost use Rattle.lock_journal.specs.Table.{earlier_passed, has_passed, mark_from, units_passed, works_on};
 ghost use Rattle.resource_lock.specs.declared.marks.MarkId.TheVariants as ids;
 
 use crate::kinds::ranges::{Span, earlier_actions, units_of};
+use item_actions::Outcome;
 use resource_lock::{Graph, Mark, MarkId, State, WorkerId};
 
 /// Whether a worker runs a task and works on it now: it has a lease, and isn't parked.
@@ -48,4 +49,14 @@ pub(crate) fn earlier_passed(graph: &Graph, state: &State, action: u32) -> bool
     (earlier.first..earlier.first + earlier.count).all(|action| {
         state.mark(MarkId::Action(action)) == Mark::Passed && units_passed(graph, state, action)
     })
+}
+
+/// The mark of a unit that ended with an outcome.
+pub(crate) fn mark_from(outcome: Outcome) -> Mark
+    ensures { result ≡ mark_from outcome }
+{
+    match outcome {
+        Outcome::Number(_) | Outcome::Digest(_) => Mark::Passed,
+        _ => Mark::Failed,
+    }
 }

@@ -18,6 +18,7 @@ mod skips;
 mod starts;
 mod submits;
 mod taking;
+mod unblocks;
 
 pub use acquires::{Acquire, Shortage};
 pub use blocks::Block;
@@ -31,6 +32,7 @@ pub use skips::Skip;
 pub use starts::Start;
 pub use submits::Submit;
 pub use taking::take_all;
+pub use unblocks::Unblock;
 
 #[cfg(test)]
 mod tests;
