@@ -5,6 +5,9 @@ pub mod Outcomes
 pub mod Makings
 pub mod Within
 pub mod Skipped
+pub mod NoMore
+pub mod Disabled
+pub mod Waits
 pub mod Taken
 pub mod Freed
 pub mod TakenUp

@@ -1,8 +1,8 @@
 -- Locks and a lease taken one after another.
-use Rattle.std.proofs.Common.{◌≡◌, ℕ, ◌<◌, ◌≤◌, ◌+◌, ◌-◌, length, take, drop, get_or, List, [], ◌∷◌, ◌++◌, map, Bool, true, false, not, cond, ◌&&◌, ◌||◌, leb, ltb, refl, sym, ◌∙◌, ap, subst, arith, None, Some, inl, inr}
+use Rattle.std.proofs.Common.{◌≡◌, ℕ, ◌<◌, ◌≤◌, ◌+◌, ◌-◌, length, take, drop, get_or, List, [], ◌∷◌, ◌++◌, map, Bool, true, false, not, cond, ◌&&◌, ◌||◌, ◌⊎◌, leb, ltb, refl, sym, ◌∙◌, ap, subst, arith, None, Some, inl, inr}
 use Rattle.std.specs.Option.{is_none}
 use Rattle.std.specs.List.{AllByRecursion, list_all, filter, slice_index_or, count_by}
-use Rattle.std.proofs.lemmas.Bool.{and_parts, and_from, not_from_false, eq-eqb, leb-true, le-leb, cases_Bool}
+use Rattle.std.proofs.lemmas.Bool.{and_parts, and_from, not_from_false, eq-eqb, leb-true, le-leb, lt-ltb, ltb-true, false_from_ne_true, false≢true, cases_Bool}
 use Rattle.std.proofs.lemmas.List.{append_assoc, append-nil, length-append, length-take, take_all, take_more, take-append-drop, get_or-set_other}
 use Rattle.std.proofs.Math.Bool.{and-true}
 use Rattle.resource_lock.proofs.Lists.{get_or-set_cases}
@@ -23,6 +23,9 @@ use Rattle.lock_journal.specs.Entry.{entry}
 use Rattle.lock_journal.specs.Table.{condition, acquires}
 use Rattle.lock_journal.specs.Taking.{lock_taken, locks_taken, lease_taken, all_taken, can_take_all, rises, acquired, is_open, may_acquire}
 use Rattle.lock_journal.specs.declared.entries.Kind.TheVariants as kinds
+use Rattle.lock_journal.specs.Waiting.{WaitsForNews}
+use Rattle.lock_journal.proofs.NoMore.{NoMore, Still, no_more_after}
+use Rattle.lock_journal.proofs.Disabled.{all_of_still, and_still, condition_still, or_still, same_still}
 use Rattle.lock_journal.proofs.Makings.{makes_none, makes_not, makes_one, makes_then, makes_stopped, made_is, worked_from}
 
 -- taking a lock, as far as it can be taken
@@ -231,3 +234,28 @@ acquire_allowed {a} {b} ls fresh worker rising may made =
         possible = ap (can_all a.state a.worker) (made_is fresh made) ∙ (made.whole refl).possible;
       };
     }
+
+-- after changes of others that let nobody go on, no more can be taken
+can_own_still : {w : WorkerId} {s t : StateView} → NoMore w s t → (l : LockId) → Still (can_own s w l) (can_own t w l)
+can_own_still n l = or_still _ _ _ _ (n.free l) (same_still (n.owns l))
+
+can_lease_still : {w : WorkerId} {s t : StateView} → NoMore w s t → Still (can_lease s w) (can_lease t w)
+can_lease_still {w} {s} {t} n = or_still _ _ _ _ (same_still (ap (λ (h : Holding). h.lease) n.holding))
+    (λ left. lt-ltb (leases_out s) s.max_leases (omega (arith, n.leases, n.shape.max_leases, ltb-true (leases_out t) t.max_leases left)))
+
+take_all_still : {w : WorkerId} {s t : StateView} → NoMore w s t → (ls : List LockId) → Still (can_take_all s w ls) (can_take_all t w ls)
+take_all_still n ls = and_still _ _ _ _ (all_of_still _ _ (can_own_still n) ls) (can_lease_still n)
+
+acquire_still : {w : WorkerId} {s t : StateView} → NoMore w s t → (g : GraphView) (ls : List LockId) → Still (may_acquire g s w ls) (may_acquire g t w ls)
+acquire_still n g ls = and_still _ _ _ _ (condition_still n g kinds.Acquire)
+    (all_of_still _ _ (λ l. and_still _ _ _ _ (λ h. h) (same_still (ap (λ (h : Holding). not (stands_in l h.parked)) n.holding))) ls)
+
+-- so an Acquire waits for a lock or a lease that is given back
+pub waits_acquire : (waits fails : Type 0) (ls : List LockId)
+    → WaitsForNews (λ g w s. (may_acquire g s w ls ≡ false) ⊎ (waits × (can_take_all s w ls ≡ false))) (λ g w s. fails × (can_take_all s w ls ≡ false))
+waits_acquire waits fails ls = λ g s v w c belongs good from own other named possible quiet again.
+    let n : NoMore w s (make s v c) = no_more_after s v w c from other possible quiet in
+    elim again [
+      | inl kept ↦ inl (inl (false_from_ne_true (may_acquire g (make s v c) w ls) (λ h. false≢true (sym kept ∙ acquire_still n g ls h))))
+      | inr short ↦ inl (inr (short.0, false_from_ne_true (can_take_all (make s v c) w ls) (λ h. false≢true (sym short.1 ∙ take_all_still n ls h))))
+    ]

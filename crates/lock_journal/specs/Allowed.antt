@@ -1,5 +1,5 @@
 -- Which entries may stand in a history.
-use Rattle.std.specs.Prelude.{◌≡◌, ◌≢◌, ◌<◌, true, List, [], ◌∷◌, length, None, Some, IfSome}
+use Rattle.std.specs.Prelude.{◌≡◌, ◌≢◌, ◌<◌, true, false, List, [], ◌∷◌, length, None, Some, IfSome}
 use Rattle.std.specs.List.{AllByRecursion}
 use Rattle.resource_lock.specs.StateView.{StateView, holding_of}
 use Rattle.resource_lock.specs.Change.{can_all, NamesOnly}
@@ -9,7 +9,7 @@ use Rattle.resource_lock.specs.declared.ids.WorkerId.{WorkerId}
 use Rattle.resource_lock.specs.declared.changes.Change.{Change}
 use Rattle.item_actions.specs.declared.outcomes.Outcome.TheVariants as outcomes
 use Rattle.lock_journal.specs.Entry.{Entry, effect}
-use Rattle.lock_journal.specs.Table.{condition, list_of, acquires}
+use Rattle.lock_journal.specs.Table.{condition, list_of, is_enabled, acquires}
 use Rattle.lock_journal.specs.declared.entries.Closed.{Closed}
 use Rattle.lock_journal.specs.declared.entries.Kind.{Kind}
 use Rattle.lock_journal.specs.declared.entries.Kind.TheVariants.{Start, Skip, Submit, Park, Resume, Claim, Close, Block, Unblock, End, Acquire, HandBack}
@@ -43,6 +43,10 @@ IsListOf g s w kind cs = cs ≡ list_of g s w kind
 -- the list of changes is the one that the kind and the state fix
 abbrev pub IsFixedList : Kind → GraphView → WorkerId → StateView → List Change → Type 0
 IsFixedList kind g w s cs = cs ≡ list_of g s w kind
+
+-- an entry of a kind that is in range can't finish
+abbrev pub IsDisabled : Kind → GraphView → WorkerId → StateView → Type 0
+IsDisabled kind g w s = IsKindOf g kind → is_enabled g s w kind ≡ false
 
 -- The condition holds, the list is the kind's, and each change can be made in turn.
 pub record Finishes (g : GraphView) (s : StateView) (w : WorkerId) (kind : Kind) (cs : List Change) : Type 0 where

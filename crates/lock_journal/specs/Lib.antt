@@ -11,6 +11,7 @@ pub mod History
 pub mod BookView
 pub mod Book
 pub mod Ran
+pub mod Waiting
 pub mod Making
 pub mod Taking
 pub mod Freeing

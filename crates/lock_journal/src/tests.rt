@@ -22,9 +22,9 @@ impl Transform for Acquire {
 
     ghost makes = { λ t _ _ _ cs. cs ≡ changes.Lock t.lock ∷ changes.Take ∷ [] };
 
-    ghost fails_on = { λ _ _ _ _. Unit {0} };
+    ghost fails_on = { λ t _ w s. (can s w (changes.Lock t.lock) && can s w changes.Take) ≡ false };
 
-    ghost retries_on = { λ _ _ _ _. Unit {0} };
+    ghost retries_on = { λ t g w s. is_enabled g s w kinds.Acquire ≡ true → g.locks ≤ t.lock.0 };
 
     fn kind(&self) -> Kind {
         Kind::Acquire

@@ -1,4 +1,4 @@
-ghost use Rattle.std.specs.Prelude.{◌≡◌, ◌≤◌, ℕ, List, [], length, Some};
+ghost use Rattle.std.specs.Prelude.{◌≡◌, ◌≢◌, ◌≤◌, ◌⊎◌, ℕ, List, [], length, Some};
 ghost use Rattle.resource_lock.specs.StateView.{StateView};
 ghost use Rattle.resource_lock.specs.GraphView.{GraphView};
 ghost use Rattle.resource_lock.specs.declared.changes.Change.{Change};
@@ -7,6 +7,7 @@ ghost use Rattle.lock_journal.specs.declared.entries.Kind.{Kind};
 ghost use Rattle.lock_journal.specs.TentativeView.{Worked};
 ghost use Rattle.lock_journal.specs.Entry.{entry};
 ghost use Rattle.lock_journal.specs.Allowed.{Allowed, IsKindOf};
+ghost use Rattle.lock_journal.specs.Waiting.{WaitsForNews};
 
 use crate::entries::Kind;
 use crate::tentatives::Tentative;
@@ -61,5 +62,16 @@ pub trait Transform {
         // It fails only where it says so, and where its failed entry is allowed.
         ensures failed { result ≡ Disposition.Failed
             → fails_on self.now work.old.graph work.old.worker work.old.state × IsKindOf work.old.graph (kind_of self.now) }
-        ensures retry { result ≡ Disposition.Retry → retries_on self.now work.old.graph work.old.worker work.old.state };
+        ensures retry { result ≡ Disposition.Retry → retries_on self.now work.old.graph work.old.worker work.old.state }
+        // It doesn't finish where it says that it may fail or ask to be run again.
+        ensures unfinished { fails_on self.now work.old.graph work.old.worker work.old.state
+            ⊎ retries_on self.now work.old.graph work.old.worker work.old.state → result ≢ Disposition.Finished };
+
+    /// Does nothing. Its contract is the law of what a transform may wait for.
+    ///
+    /// Only entries that give a lock or a lease back or queue or end a mark wake those that wait. So
+    /// where it asks to be run again, after any other change of another worker it would ask again, or
+    /// fail.
+    fn waits_for_news(&self)
+        ensures { WaitsForNews (retries_on self.now) (fails_on self.now) };
 }

@@ -67,6 +67,8 @@ impl Transform for Acquire<'_> {
             Shortage::Fails => Disposition::Failed,
         }
     }
+
+    fn waits_for_news(&self) {}
 }
 
 /// Whether a worker isn't blocked and runs nothing, and may take each of these locks.

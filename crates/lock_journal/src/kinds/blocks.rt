@@ -5,7 +5,7 @@ ghost use Rattle.resource_lock.specs.GraphView.{action_of};
 ghost use Rattle.resource_lock.specs.Ranges.{task_with};
 ghost use Rattle.resource_lock.specs.Shape.{BelongsTo};
 ghost use Rattle.resource_lock.specs.StateView.{mark_of};
-ghost use Rattle.lock_journal.specs.Allowed.{IsFixedList, IsKindOf};
+ghost use Rattle.lock_journal.specs.Allowed.{IsDisabled, IsFixedList};
 ghost use Rattle.lock_journal.specs.Making.{Makes};
 ghost use Rattle.lock_journal.specs.Table.{condition, is_enabled, earlier_passed, set_down, works_on};
 ghost use Rattle.lock_journal.specs.declared.entries.Kind.TheVariants as kinds;
@@ -44,7 +44,7 @@ impl Transform for Block {
 
     ghost fails_on = { λ t g w s. ⊥ };
 
-    ghost retries_on = { λ t g w s. IsKindOf g (kinds.Block t.unit) → is_enabled g s w (kinds.Block t.unit) ≡ false };
+    ghost retries_on = { λ t. IsDisabled (kinds.Block t.unit) };
 
     fn kind(&self) -> Kind {
         Kind::Block(self.unit)
@@ -60,6 +60,8 @@ impl Transform for Block {
             Progress::NotEnabled | Progress::OutOfRange => Disposition::Retry,
         }
     }
+
+    fn waits_for_news(&self) {}
 }
 
 impl FixedKind for Block {

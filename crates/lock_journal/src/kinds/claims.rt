@@ -56,6 +56,8 @@ impl Transform for Claim {
             Progress::NotEnabled | Progress::OutOfRange => Disposition::Retry,
         }
     }
+
+    fn waits_for_news(&self) {}
 }
 
 impl FixedKind for Claim {

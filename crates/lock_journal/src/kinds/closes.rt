@@ -1,5 +1,5 @@
 ghost use Rattle.std.specs.Prelude.{◌≡◌, false};
-ghost use Rattle.lock_journal.specs.Allowed.{IsFixedList, IsKindOf};
+ghost use Rattle.lock_journal.specs.Allowed.{IsDisabled, IsFixedList};
 ghost use Rattle.lock_journal.specs.Table.{is_enabled};
 ghost use Rattle.lock_journal.specs.declared.entries.Kind.TheVariants as kinds;
 
@@ -32,7 +32,7 @@ impl Transform for Close {
 
     ghost fails_on = { λ t g w s. ⊥ };
 
-    ghost retries_on = { λ t g w s. IsKindOf g (kinds.Close t.closed) → is_enabled g s w (kinds.Close t.closed) ≡ false };
+    ghost retries_on = { λ t. IsDisabled (kinds.Close t.closed) };
 
     fn kind(&self) -> Kind {
         Kind::Close(self.closed)
@@ -48,6 +48,8 @@ impl Transform for Close {
             Progress::NotEnabled | Progress::OutOfRange => Disposition::Retry,
         }
     }
+
+    fn waits_for_news(&self) {}
 }
 
 impl FixedKind for Close {

@@ -5,7 +5,7 @@ ghost use Rattle.resource_lock.specs.GraphView.{task_of};
 ghost use Rattle.resource_lock.specs.Ranges.{actions_of, earlier_actions, units_of};
 ghost use Rattle.resource_lock.specs.Shape.{BelongsTo};
 ghost use Rattle.resource_lock.specs.StateView.{mark_of};
-ghost use Rattle.lock_journal.specs.Allowed.{IsFixedList, IsKindOf};
+ghost use Rattle.lock_journal.specs.Allowed.{IsDisabled, IsFixedList};
 ghost use Rattle.lock_journal.specs.Making.{Makes};
 ghost use Rattle.lock_journal.specs.Table.{end_mark, has_passed, is_enabled, never_ran, units_passed};
 ghost use Rattle.lock_journal.specs.declared.entries.Kind.TheVariants as kinds;
@@ -49,7 +49,7 @@ impl Transform for End {
 
     ghost fails_on = { λ t g w s. ⊥ };
 
-    ghost retries_on = { λ t g w s. IsKindOf g (kinds.End t.task) → is_enabled g s w (kinds.End t.task) ≡ false };
+    ghost retries_on = { λ t. IsDisabled (kinds.End t.task) };
 
     fn kind(&self) -> Kind {
         Kind::End(self.task)
@@ -65,6 +65,8 @@ impl Transform for End {
             Progress::NotEnabled | Progress::OutOfRange => Disposition::Retry,
         }
     }
+
+    fn waits_for_news(&self) {}
 }
 
 impl FixedKind for End {

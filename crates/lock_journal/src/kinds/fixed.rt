@@ -1,5 +1,5 @@
 //! What the kinds share whose changes the graph, the state and the worker fix.
-ghost use Rattle.std.specs.Prelude.{◌≡◌, ◌<◌, ◌≤◌, ◌↔◌, ℕ, IsTrue, [], false, length, Some};
+ghost use Rattle.std.specs.Prelude.{◌≡◌, ◌<◌, ◌≤◌, ◌↔◌, ℕ, IsTrue, [], false, true, length, Some};
 ghost use Rattle.resource_lock.specs.Fits.{Fits};
 ghost use Rattle.resource_lock.specs.Shape.{BelongsTo};
 ghost use Rattle.lock_journal.specs.Allowed.{Allowed, IsFixedList, IsKindOf, IsListOf};
@@ -63,6 +63,8 @@ pub(crate) fn run_fixed<K: FixedKind>(kind: &K, work: &mut Tentative) -> Progres
         → Allowed work.old.graph work.old.state (entry work.old.worker (K.kind_of kind.now) (Some work.new.made)) }
     ensures list { result ≡ Progress.Made
         → IsFixedList (K.kind_of kind.now) work.old.graph work.old.worker work.old.state work.new.made }
+    ensures enabled { result ≡ Progress.Made
+        → (is_enabled work.old.graph work.old.state work.old.worker (K.kind_of kind.now) ≡ true) × IsKindOf work.old.graph (K.kind_of kind.now) }
     ensures not_enabled { result ≡ Progress.NotEnabled
         → (is_enabled work.old.graph work.old.state work.old.worker (K.kind_of kind.now) ≡ false) × IsKindOf work.old.graph (K.kind_of kind.now) }
     ensures out_of_range { result ≡ Progress.OutOfRange → ¬ IsKindOf work.old.graph (K.kind_of kind.now) }

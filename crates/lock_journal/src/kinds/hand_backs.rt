@@ -43,6 +43,8 @@ impl Transform for HandBack {
             Progress::NotEnabled | Progress::OutOfRange => Disposition::Retry,
         }
     }
+
+    fn waits_for_news(&self) {}
 }
 
 impl FixedKind for HandBack {

@@ -52,6 +52,8 @@ impl Transform for Skip {
             Progress::OutOfRange => Disposition::Retry,
         }
     }
+
+    fn waits_for_news(&self) {}
 }
 
 impl FixedKind for Skip {

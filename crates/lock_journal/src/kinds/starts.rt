@@ -51,6 +51,8 @@ impl Transform for Start {
             Progress::OutOfRange => Disposition::Retry,
         }
     }
+
+    fn waits_for_news(&self) {}
 }
 
 impl FixedKind for Start {

@@ -1,6 +1,6 @@
 ghost use Rattle.std.specs.Prelude.{◌≡◌, ◌<◌, false, length};
 ghost use Rattle.resource_lock.specs.Shape.{BelongsTo};
-ghost use Rattle.lock_journal.specs.Allowed.{IsFixedList, IsKindOf};
+ghost use Rattle.lock_journal.specs.Allowed.{IsDisabled, IsFixedList};
 ghost use Rattle.lock_journal.specs.Table.{fetch_closed, is_enabled};
 ghost use Rattle.lock_journal.specs.declared.entries.Kind.TheVariants as kinds;
 
@@ -34,7 +34,7 @@ impl Transform for Submit {
 
     ghost fails_on = { λ t g w s. ⊥ };
 
-    ghost retries_on = { λ t g w s. IsKindOf g (kinds.Submit t.action) → is_enabled g s w (kinds.Submit t.action) ≡ false };
+    ghost retries_on = { λ t. IsDisabled (kinds.Submit t.action) };
 
     fn kind(&self) -> Kind {
         Kind::Submit(self.action)
@@ -50,6 +50,8 @@ impl Transform for Submit {
             Progress::NotEnabled | Progress::OutOfRange => Disposition::Retry,
         }
     }
+
+    fn waits_for_news(&self) {}
 }
 
 impl FixedKind for Submit {

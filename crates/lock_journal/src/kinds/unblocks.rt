@@ -1,6 +1,6 @@
 ghost use Rattle.std.specs.Prelude.{◌≡◌, ◌≤◌, ◌<◌, ◌+◌, ◌++◌, ◌∷◌, [], false, length, reverse};
 ghost use Rattle.resource_lock.specs.StateView.{holding_of};
-ghost use Rattle.lock_journal.specs.Allowed.{IsFixedList, IsKindOf};
+ghost use Rattle.lock_journal.specs.Allowed.{IsDisabled, IsFixedList};
 ghost use Rattle.lock_journal.specs.Making.{Makes};
 ghost use Rattle.lock_journal.specs.Table.{is_enabled, mark_from, taken_again, taken_up};
 ghost use Rattle.lock_journal.specs.TentativeView.{IsSoundTentative};
@@ -41,7 +41,7 @@ impl Transform for Unblock {
 
     ghost fails_on = { λ t g w s. ⊥ };
 
-    ghost retries_on = { λ t g w s. IsKindOf g (kinds.Unblock t.closed) → is_enabled g s w (kinds.Unblock t.closed) ≡ false };
+    ghost retries_on = { λ t. IsDisabled (kinds.Unblock t.closed) };
 
     fn kind(&self) -> Kind {
         Kind::Unblock(self.closed)
@@ -57,6 +57,8 @@ impl Transform for Unblock {
             Progress::NotEnabled | Progress::OutOfRange => Disposition::Retry,
         }
     }
+
+    fn waits_for_news(&self) {}
 }
 
 impl FixedKind for Unblock {
