@@ -1,3 +1,4 @@
+pub mod Shown
 pub mod Lasts
 pub mod Agrees
 pub mod Holds

@@ -1,8 +1,6 @@
 ghost use Rattle.std.specs.Prelude.{◌≡◌};
-ghost use Rattle.resource_lock.specs.StateView.{holding_of};
-ghost use Rattle.lock_journal.specs.Table.{owned};
-ghost use Rattle.run_laws.specs.Own.{claimed};
 ghost use Rattle.coordination.specs.Lasts.{last_of};
+ghost use Rattle.coordination.specs.Shown.{blocked_shown, claimed_shown, lease_shown, locks_shown, parked_shown};
 
 use crate::parts::Part;
 use crate::rule::SeatView;
@@ -43,14 +41,14 @@ impl Pass {
 
     /// The locks that the worker owns, by rising number.
     pub fn locks(&self) -> &[LockId]
-        ensures { result.now ≡ owned self.now.sight.seen.state self.now.sight.worker }
+        ensures { result.now ≡ locks_shown self.now.sight }
     {
         &self.part.locks
     }
 
     /// Whether the worker has a lease.
     pub fn has_lease(&self) -> bool
-        ensures { result ≡ (holding_of self.now.sight.seen.state self.now.sight.worker).lease }
+        ensures { result ≡ lease_shown self.now.sight }
     {
         self.part.lease
     }
@@ -58,21 +56,21 @@ impl Pass {
     /// The marks that are Running by the worker: first of tasks, then of actions, then of units, each
     /// by rising number.
     pub fn claimed(&self) -> &[MarkId]
-        ensures { result.now ≡ claimed self.now.sight.seen.state self.now.sight.worker }
+        ensures { result.now ≡ claimed_shown self.now.sight }
     {
         &self.part.claimed
     }
 
     /// The locks that the worker has parked, the last parked last.
     pub fn parked(&self) -> &[LockId]
-        ensures { result.now ≡ (holding_of self.now.sight.seen.state self.now.sight.worker).parked }
+        ensures { result.now ≡ parked_shown self.now.sight }
     {
         &self.part.parked
     }
 
     /// Whether the worker is in a blocking section.
     pub fn blocked(&self) -> bool
-        ensures { result ≡ (holding_of self.now.sight.seen.state self.now.sight.worker).blocked }
+        ensures { result ≡ blocked_shown self.now.sight }
     {
         self.part.blocked
     }

@@ -1,0 +1,23 @@
+-- What a pass shows of its worker: what is the worker's own in the book that it last saw.
+use Rattle.std.specs.Prelude.{Bool, List}
+use Rattle.resource_lock.specs.StateView.{holding_of}
+use Rattle.resource_lock.specs.declared.ids.LockId.{LockId}
+use Rattle.resource_lock.specs.declared.marks.MarkId.{MarkId}
+use Rattle.lock_journal.specs.Table.{owned}
+use Rattle.run_laws.specs.Own.{claimed}
+use Rattle.coordination.specs.declared.rule.Sight.{Sight}
+
+abbrev pub locks_shown : Sight → List LockId
+locks_shown s = owned s.seen.state s.worker
+
+abbrev pub lease_shown : Sight → Bool
+lease_shown s = (holding_of s.seen.state s.worker).lease
+
+abbrev pub claimed_shown : Sight → List MarkId
+claimed_shown s = claimed s.seen.state s.worker
+
+abbrev pub parked_shown : Sight → List LockId
+parked_shown s = (holding_of s.seen.state s.worker).parked
+
+abbrev pub blocked_shown : Sight → Bool
+blocked_shown s = (holding_of s.seen.state s.worker).blocked
