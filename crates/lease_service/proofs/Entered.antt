@@ -43,15 +43,15 @@ entered {old = old} {new} f =
       holding =
           ap (λ (k : Sight). holding_of k.seen.state k.worker) f.sight
           ∙ (ap (λ (t : StateView). holding_of t w) f.finished.state
-              ∙ (own_holding_all s w f.changes known ∙ ap (λ (h : Holding). after_all holding_after h f.changes) a.state.holding));
+          ∙ (own_holding_all s w f.changes known ∙ ap (λ (h : Holding). after_all holding_after h f.changes) a.state.holding));
       locks =
           ap locks_shown f.sight
           ∙ (ap (λ (t : StateView). owned t w) f.finished.state
-              ∙ (own_locks_all s w f.changes fin.named fin.possible ∙ ap (λ (ls : List LockId). after_all locks_after ls f.changes) a.state.owned));
+          ∙ (own_locks_all s w f.changes fin.named fin.possible ∙ ap (λ (ls : List LockId). after_all locks_after ls f.changes) a.state.owned));
       claimed =
           ap claimed_shown f.sight
           ∙ (ap (λ (t : StateView). claimed t w) f.finished.state
-              ∙ (own_claimed_all s w f.changes fin.named fin.possible ∙ ap (λ (ms : List MarkId). after_all (claimed_after w) ms f.changes) a.state.claimed));
+          ∙ (own_claimed_all s w f.changes fin.named fin.possible ∙ ap (λ (ms : List MarkId). after_all (claimed_after w) ms f.changes) a.state.claimed));
     }
 
 -- what is read of a state and a worker is the same at the same ones

@@ -73,11 +73,11 @@ can_there : (old : Sight) (book : BookView) → claimed_shown old ≡ [] → blo
 can_there old book none not_blocked something found =
     let a = found.agrees in
     and_from (condition book.graph book.state old.worker kinds.Acquire) (owns_any book.state old.worker || (holding_of book.state old.worker).lease)
-        (is_free old book found not_blocked none)
-        (elim something [
-          | inl some ↦ ap (λ b. b || (holding_of book.state old.worker).lease) (owns_some book.state old.worker (λ empty. some (sym a.state.owned ∙ empty)))
-          | inr lease ↦ or_right (owns_any book.state old.worker) _ (ap (λ (h : Holding). h.lease) a.state.holding ∙ lease)
-        ])
+    (is_free old book found not_blocked none)
+    (elim something [
+      | inl some ↦ ap (λ b. b || (holding_of book.state old.worker).lease) (owns_some book.state old.worker (λ empty. some (sym a.state.owned ∙ empty)))
+      | inr lease ↦ or_right (owns_any book.state old.worker) _ (ap (λ (h : Holding). h.lease) a.state.holding ∙ lease)
+    ])
 
 pub never_stopped : {by : WorkerId} {old new : Sight} → claimed_shown old ≡ [] → blocked_shown old ≡ false → (locks_shown old ≢ []) ⊎ (lease_shown old ≡ true)
     → WasStopped (λ g w s. condition g s w kinds.HandBack ≡ false) by old new → ⊥

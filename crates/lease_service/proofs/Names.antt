@@ -36,9 +36,9 @@ pub inserted : (names : List (List ℕ)) (keys new : List (String Global)) (i : 
     → new ≡ cond (list_any (λ k. bytes_eq (string_bytes key) (string_bytes k)) keys) keys (keys ++ key ∷ []) → map string_bytes new ≡ take (i + 1) names
 inserted names keys new i d key within distinct so_far is made =
     let fresh : list_any (λ (k : String Global). bytes_eq (string_bytes key) (string_bytes k)) keys ≡ false =
-        sym (any_of_map (bytes_eq (string_bytes key)) string_bytes keys)
-        ∙ (λ j. list_any (bytes_eq (is j)) (so_far j))
-        ∙ none_before nat_list_eq_equiv names i d within distinct in
+    sym (any_of_map (bytes_eq (string_bytes key)) string_bytes keys)
+    ∙ (λ j. list_any (bytes_eq (is j)) (so_far j))
+    ∙ none_before nat_list_eq_equiv names i d within distinct in
     ap (map string_bytes) (made ∙ ap (λ b. cond b keys (keys ++ key ∷ [])) fresh)
     ∙ map-append string_bytes keys (key ∷ [])
     ∙ (λ j. so_far j ++ is j ∷ [])

@@ -73,8 +73,8 @@ all_open : (g : GraphView) (s : StateView) (w : WorkerId) (locks : List LockId) 
 all_open g s w [] in_range not_parked = refl
 all_open g s w (l ∷ ls) in_range not_parked =
     and_from (is_open g s w l) (list_all (is_open g s w) ls)
-        (and_from _ _ (lt-ltb l.0 g.locks (All-head (λ k. k.0 < g.locks) l ls in_range)) (ap not (All-head (λ k. has_parked s w k ≡ false) l ls not_parked)))
-        (all_open g s w ls (All-tail (λ k. k.0 < g.locks) l ls in_range) (All-tail (λ k. has_parked s w k ≡ false) l ls not_parked))
+    (and_from _ _ (lt-ltb l.0 g.locks (All-head (λ k. k.0 < g.locks) l ls in_range)) (ap not (All-head (λ k. has_parked s w k ≡ false) l ls not_parked)))
+    (all_open g s w ls (All-tail (λ k. k.0 < g.locks) l ls in_range) (All-tail (λ k. has_parked s w k ≡ false) l ls not_parked))
 
 -- who isn't blocked and has claimed nothing is so in the book that it finds
 pub is_free : (old : Sight) (book : BookView) → Finds old.worker old.seen book → (holding_of old.seen.state old.worker).blocked ≡ false → claimed_shown old ≡ [] → condition book.graph book.state old.worker kinds.Acquire ≡ true
@@ -89,10 +89,10 @@ may_there : (old : Sight) (book : BookView) (locks : List LockId) → MayTake ol
 may_there old book locks may found =
     let a = found.agrees in
     and_from (condition book.graph book.state old.worker kinds.Acquire) (list_all (is_open book.graph book.state old.worker) locks)
-        (is_free old book found may.not_blocked may.claimed)
-        (all_open book.graph book.state old.worker locks
-            (subst (λ (g : GraphView). All (λ l. l.0 < g.locks) locks) (sym a.graph) may.in_range)
-            (subst (λ (h : Holding). All (λ l. stands_in l h.parked ≡ false) locks) (sym a.state.holding) may.not_parked))
+    (is_free old book found may.not_blocked may.claimed)
+    (all_open book.graph book.state old.worker locks
+    (subst (λ (g : GraphView). All (λ l. l.0 < g.locks) locks) (sym a.graph) may.in_range)
+    (subst (λ (h : Holding). All (λ l. stands_in l h.parked ≡ false) locks) (sym a.state.holding) may.not_parked))
 
 -- so a try that asks to be run again couldn't take all
 is_short : (waits : Type 0) (locks : List LockId) (old : Sight) (book : BookView) → MayTake old locks → Finds old.worker old.seen book

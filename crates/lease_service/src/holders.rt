@@ -1,11 +1,10 @@
-ghost use Rattle.std.specs.Prelude.{◌≡◌, ◌≢◌, ◌<◌, ◌⊎◌, [], All, Err, Ok, OnErr, OnOk, true, false};
-ghost use Rattle.resource_lock.specs.StateView.{stands_in};
+ghost use Rattle.std.specs.Prelude.{◌≡◌, ◌≢◌, ◌⊎◌, [], Err, Ok, OnErr, OnOk, true, false};
 ghost use Rattle.resource_lock.specs.declared.ids.WorkerId.{WorkerId};
 ghost use Rattle.lock_journal.specs.Allowed.{IsFixedList};
-ghost use Rattle.lock_journal.specs.Taking.{acquired, can_take_all, rises};
+ghost use Rattle.lock_journal.specs.Taking.{acquired, can_take_all};
 ghost use Rattle.lock_journal.specs.declared.entries.Kind.TheVariants as kinds;
 ghost use Rattle.coordination.specs.Calls.{HasFailed, HasFinished, HasLooked, WasStopped};
-ghost use Rattle.coordination.specs.Shown.{blocked_shown, claimed_shown, lease_shown, locks_shown, parked_shown};
+ghost use Rattle.coordination.specs.Shown.{blocked_shown, claimed_shown, lease_shown, locks_shown};
 ghost use Rattle.lease_service.specs.Shows.{MayTake, ShowsGivenBack, ShowsTaken, ShowsTheSame};
 ghost use Rattle.lease_service.specs.declared.holders.Tried.TheVariants.{Got, Busy};
 
@@ -27,11 +26,7 @@ pub enum Tried {
 /// Takes a lease, where the worker has none, and waits until it can.
 ///
 /// Otherwise as `take_locks` with no locks.
-pub fn run_as_worker<R: Wait>(
-    rt: &R,
-    service: &Coordination,
-    pass: &mut Pass,
-) -> Result<(), Halt>
+pub fn run_as_worker<R: Wait>(rt: &R, service: &Coordination, pass: &mut Pass) -> Result<(), Halt>
     requires service { pass.old.service ≡ service.now.service }
     requires may { MayTake pass.old.sight [] }
     ensures service { pass.new.service ≡ pass.old.service }
@@ -113,11 +108,7 @@ pub fn try_take_locks<R: Wait>(
 ///
 /// It waits for the state lock alone, and fails for want of memory alone. The worker then has what
 /// it had.
-pub fn hand_back<R: Wait>(
-    rt: &R,
-    service: &Coordination,
-    pass: &mut Pass,
-) -> Result<(), AllocError>
+pub fn hand_back<R: Wait>(rt: &R, service: &Coordination, pass: &mut Pass) -> Result<(), AllocError>
     requires service { pass.old.service ≡ service.now.service }
     requires claimed { claimed_shown pass.old.sight ≡ [] }
     requires not_blocked { blocked_shown pass.old.sight ≡ false }

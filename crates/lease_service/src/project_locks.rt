@@ -31,11 +31,7 @@ impl Model for ProjectLocks {
 impl ProjectLocks {
     /// The locks of projects with these names, numbered in this order. It fails for want of memory
     /// alone.
-    pub fn new(
-        alloc: Global,
-        projects: &[Text],
-        parallel: bool,
-    ) -> Result<ProjectLocks, AllocError>
+    pub fn new(alloc: Global, projects: &[Text], parallel: bool) -> Result<ProjectLocks, AllocError>
         requires few { length projects.now < 2 ^ 32 }
         requires distinct { IsDistinct bytes_eq projects.now }
         ensures projects { IfOk result (λ locks. locks.projects ≡ projects.now) }
