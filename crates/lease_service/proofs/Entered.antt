@@ -1,7 +1,6 @@
 -- What a pass shows after a call, by what it showed before.
-use Rattle.std.proofs.Common.{◌≡◌, ◌<◌, List, Some, refl, sym, ap, ◌∙◌, subst, arith}
-use Rattle.resource_lock.specs.Change.{holding_after, make_all}
-use Rattle.resource_lock.specs.GraphView.{GraphView}
+use Rattle.std.proofs.Common.{◌≡◌, List, ap, ◌∙◌, arith}
+use Rattle.resource_lock.specs.Change.{holding_after}
 use Rattle.resource_lock.specs.Shape.{BelongsTo}
 use Rattle.resource_lock.specs.StateView.{Holding, IsWorkerOf, StateView, holding_of}
 use Rattle.resource_lock.specs.declared.changes.Change.{Change}
@@ -18,10 +17,10 @@ use Rattle.run_laws.proofs.OwnChanges.{own_claimed_all, own_holding_all, own_loc
 use Rattle.coordination.specs.declared.rule.Sight.{Sight}
 use Rattle.coordination.specs.Attempts.{Cause, Making}
 use Rattle.coordination.specs.Calls.{HasFailed, HasFinished, HasLooked, WasStopped}
-use Rattle.coordination.specs.Agrees.{Agrees, Finds}
+use Rattle.coordination.specs.Agrees.{Agrees}
 use Rattle.coordination.specs.Shown.{claimed_shown, locks_shown}
 use Rattle.coordination.proofs.Entries.{belongs_sound}
-use Rattle.lease_service.specs.Shows.{ShowsTheRest, ShowsTheSame}
+use Rattle.lease_service.specs.Shows.{ShowsTheSame}
 
 -- what the worker has, owns and runs after its entry
 pub record Entered (old new : Sight) (changes : List Change) : Type 0 where

@@ -1,13 +1,12 @@
 -- Names that are numbered in their order.
-use Rattle.std.proofs.Common.{◌≡◌, ◌+◌, ◌<◌, ℕ, zero, suc, Bool, false, cond, not, ◌||◌, List, Option, [], ◌∷◌, ◌++◌, map, length, take, get_or, arith, refl, ap, sym, ◌∙◌, subst, Global, String, string_bytes}
+use Rattle.std.proofs.Common.{◌≡◌, ◌+◌, ◌<◌, ℕ, zero, suc, Bool, false, cond, not, ◌||◌, List, Option, [], ◌∷◌, ◌++◌, map, length, take, get_or, arith, refl, ap, sym, ◌∙◌, Global, String, string_bytes}
 use Rattle.std.specs.Cmp.{IsEquivalence}
-use Rattle.std.specs.List.{IsDistinct, AllByRecursion, list_any, position, position_or_len}
+use Rattle.std.specs.List.{IsDistinct, list_any, position, position_or_len}
 use Rattle.std.specs.Str.{bytes_eq}
 use Rattle.std.specs.Option.{option_map}
 use Rattle.std.proofs.lemmas.Cmp.{nat_list_eq_equiv}
 use Rattle.std.proofs.lemmas.List.{length-map, map-append, take_more}
 use Rattle.std.proofs.lemmas.Map.Keys.{apart_from_distinct, IsDistinct-tail}
-use Rattle.resource_lock.specs.declared.ids.LockId.{LockId}
 use Rattle.lease_service.specs.ProjectLocks.{ProjectLocksView, lock_at, lock_of, project_locks_view}
 use Rattle.lease_service.specs.declared.project_locks.ProjectLocks.TheInside.{Inside}
 

@@ -1,5 +1,5 @@
 -- What a pass shows before and after its calls.
-use Rattle.std.specs.Prelude.{◌≡◌, ◌<◌, Bool, true, false, not, List, [], ◌∷◌}
+use Rattle.std.specs.Prelude.{◌≡◌, ◌<◌, true, false, not, List, [], ◌∷◌}
 use Rattle.std.specs.List.{All, filter}
 use Rattle.resource_lock.specs.StateView.{stands_in}
 use Rattle.resource_lock.specs.declared.ids.LockId.{LockId}

@@ -1,4 +1,4 @@
-use Rattle.std.proofs.Common.{rules, ◌≡◌, Bool, Result, Ok, Err, sym, ap}
+use Rattle.std.proofs.Common.{◌≡◌, Bool, Result, Ok, Err, sym, ap}
 use Rattle.coordination.specs.declared.halts.Halt.{Halt}
 use Rattle.coordination.specs.declared.halts.Halt.TheVariants.{Stopped}
 use Rattle.lease_service.proofs.Taking.{err_at, kept_by, on_err_of, shows_taken, stopped_short}

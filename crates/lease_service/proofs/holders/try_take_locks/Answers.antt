@@ -1,4 +1,4 @@
-use Rattle.std.proofs.Common.{rules, Ok, ap, refl}
+use Rattle.std.proofs.Common.{rules}
 use Rattle.lease_service.proofs.Taking.{shows_taken, stopped_short}
 use Rattle.lease_service.proofs.holders.try_take_locks.Goals as goal
 

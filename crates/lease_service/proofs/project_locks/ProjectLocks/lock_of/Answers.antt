@@ -1,5 +1,4 @@
-use Rattle.std.proofs.Common.{◌≡◌, Option, Some, Bool, cond, sym, ap, ◌∙◌}
-use Rattle.resource_lock.specs.declared.ids.LockId.{LockId}
+use Rattle.std.proofs.Common.{Some, Bool, sym, ap, ◌∙◌}
 use Rattle.lease_service.specs.ProjectLocks.{lock_at}
 use Rattle.lease_service.proofs.Names.{lock_found}
 use Rattle.lease_service.proofs.project_locks.ProjectLocks.lock_of.Goals as goal

@@ -1,4 +1,4 @@
-use Rattle.std.proofs.Common.{◌<◌, ◌^◌, length, map, string_bytes, sym, ap, ◌∙◌, subst, ℕ}
+use Rattle.std.proofs.Common.{◌<◌, ◌^◌, length, string_bytes, sym, ap, ◌∙◌, subst, ℕ}
 use Rattle.std.proofs.lemmas.List.{length-map, take_all}
 use Rattle.lease_service.proofs.Names.{inserted}
 use Rattle.lease_service.proofs.project_locks.ProjectLocks.new.Goals as goal
