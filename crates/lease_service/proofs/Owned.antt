@@ -1,0 +1,88 @@
+-- What the lists of a worker's locks and marks say of the tests on it.
+use Rattle.std.proofs.Common.{◌≡◌, ◌≢◌, ℕ, zero, suc, ◌+◌, ◌<◌, Bool, true, false, cond, ◌||◌, List, [], ◌∷◌, ◌++◌, map, get_or, Option, None, arith, refl, ap, ◌∙◌}
+use Rattle.std.specs.List.{filter, list_any}
+use Rattle.std.proofs.lemmas.Bool.{eq-eqb, ne_eqb}
+use Rattle.resource_lock.specs.StateView.{StateView, is_owner, is_parked, owns, owns_any, runs_any, runs_by, runs_task, runs_unit, stands_in}
+use Rattle.resource_lock.specs.declared.ids.LockId.{LockId}
+use Rattle.resource_lock.specs.declared.ids.WorkerId.{WorkerId}
+use Rattle.lock_journal.specs.Table.{owned, owned_from}
+use Rattle.run_laws.specs.Own.{action_at, claimed, places_from, task_at, unit_at}
+
+none_passes : {X : Type 0} (test : X → Bool) (n : ℕ) (xs : List X) → places_from test n xs ≡ [] → list_any test xs ≡ false
+none_passes test n [] none = refl
+none_passes test n (x ∷ xs) none = at (test x) refl none (none_passes test (n + 1) xs)
+  where
+    at : (b : Bool) → test x ≡ b → cond b (n ∷ places_from test (n + 1) xs) (places_from test (n + 1) xs) ≡ [] → (places_from test (n + 1) xs ≡ [] → list_any test xs ≡ false) → list_any test (x ∷ xs) ≡ false
+    at true is some rest = absurd (cc)
+    at false is none rest = ap (λ b. b || list_any test xs) is ∙ rest none
+
+empty_parts : {X : Type 0} (xs ys : List X) → xs ++ ys ≡ [] → (xs ≡ []) × (ys ≡ [])
+empty_parts [] ys none = (refl, none)
+empty_parts (x ∷ xs) ys none = absurd (cc)
+
+empty_map : {X Y : Type 0} (f : X → Y) (xs : List X) → map f xs ≡ [] → xs ≡ []
+empty_map f [] none = refl
+empty_map f (x ∷ xs) none = absurd (cc)
+
+-- who has claimed nothing runs nothing
+pub runs_nothing : (s : StateView) (w : WorkerId) → claimed s w ≡ [] → runs_any s w ≡ false
+runs_nothing s w none =
+    let ts : List ℕ = places_from (runs_by w) 0 s.tasks in
+    let qs : List ℕ = places_from (runs_by w) 0 s.actions in
+    let us : List ℕ = places_from (runs_by w) 0 s.units in
+    let first = empty_parts (map task_at ts) (map action_at qs ++ map unit_at us) none in
+    let second = empty_parts (map action_at qs) (map unit_at us) first.1 in
+    let tasks : runs_task s w ≡ false = none_passes (runs_by w) 0 s.tasks (empty_map task_at ts first.0) in
+    let actions : is_parked s w ≡ false = none_passes (runs_by w) 0 s.actions (empty_map action_at qs second.0) in
+    let units : runs_unit s w ≡ false = none_passes (runs_by w) 0 s.units (empty_map unit_at us second.1) in
+    (λ i. tasks i || actions i || units i)
+
+some_owned : (n : ℕ) (os : List (Option WorkerId)) (w : WorkerId) → owned_from n os w ≢ [] → list_any (λ o. is_owner o w) os ≡ true
+some_owned n [] w some = absurd (some refl)
+some_owned n (o ∷ os) w some = at (is_owner o w) refl (some_owned (n + 1) os w)
+  where
+    at : (b : Bool) → is_owner o w ≡ b → (owned_from (n + 1) os w ≢ [] → list_any (λ o. is_owner o w) os ≡ true) → list_any (λ o. is_owner o w) (o ∷ os) ≡ true
+    at true is rest = ap (λ b. b || list_any (λ o. is_owner o w) os) is
+    at false is rest =
+        ap (λ b. b || list_any (λ o. is_owner o w) os) is
+        ∙ rest (λ none. some (ap (λ b. cond b (record { 0 = n } ∷ owned_from (n + 1) os w) (owned_from (n + 1) os w)) is ∙ none))
+
+-- whose list of locks isn't empty owns one
+pub owns_some : (s : StateView) (w : WorkerId) → owned s w ≢ [] → owns_any s w ≡ true
+owns_some s w = some_owned 0 s.owners w
+
+below : (n k : ℕ) (os : List (Option WorkerId)) (w : WorkerId) → k < n → stands_in (record { 0 = k }) (owned_from n os w) ≡ false
+below n k [] w low = refl
+below n k (o ∷ os) w low =
+    let rest : stands_in (record { 0 = k }) (owned_from (n + 1) os w) ≡ false = below (n + 1) k os w (omega (arith, low)) in
+    elim (is_owner o w) as (λ b. stands_in (record { 0 = k }) (cond b (record { 0 = n } ∷ owned_from (n + 1) os w) (owned_from (n + 1) os w)) ≡ false) [
+      | true ↦ ap (λ b. b || stands_in (record { 0 = k }) (owned_from (n + 1) os w)) (ne_eqb n k (λ same. absurd (omega (arith, low, same)))) ∙ rest
+      | false ↦ rest
+    ]
+
+at_place : (n i : ℕ) (os : List (Option WorkerId)) (w : WorkerId) → stands_in (record { 0 = n + i }) (owned_from n os w) ≡ is_owner (get_or os i None) w
+at_place n i [] w = refl
+at_place n zero (o ∷ os) w =
+    let rest : stands_in (record { 0 = n + 0 }) (owned_from (n + 1) os w) ≡ false = below (n + 1) (n + 0) os w (omega arith) in
+    elim (is_owner o w) as (λ b. stands_in (record { 0 = n + 0 }) (cond b (record { 0 = n } ∷ owned_from (n + 1) os w) (owned_from (n + 1) os w)) ≡ b) [
+      | true ↦ ap (λ b. b || stands_in (record { 0 = n + 0 }) (owned_from (n + 1) os w)) (eq-eqb n (n + 0) (omega arith))
+      | false ↦ rest
+    ]
+at_place n (suc i) (o ∷ os) w =
+    let next : n + suc i ≡ (n + 1) + i = omega arith in
+    let rest : stands_in (record { 0 = n + suc i }) (owned_from (n + 1) os w) ≡ is_owner (get_or os i None) w =
+    ap (λ (k : ℕ). stands_in (record { 0 = k }) (owned_from (n + 1) os w)) next ∙ at_place (n + 1) i os w in
+    elim (is_owner o w) as (λ b. stands_in (record { 0 = n + suc i }) (cond b (record { 0 = n } ∷ owned_from (n + 1) os w) (owned_from (n + 1) os w)) ≡ is_owner (get_or os i None) w) [
+      | true ↦ ap (λ b. b || stands_in (record { 0 = n + suc i }) (owned_from (n + 1) os w)) (ne_eqb n (n + suc i) (λ same. absurd (omega (arith, same)))) ∙ rest
+      | false ↦ rest
+    ]
+
+-- the list has just the locks that the worker owns
+pub stands_in_owned : (s : StateView) (w : WorkerId) (l : LockId) → stands_in l (owned s w) ≡ owns s w l
+stands_in_owned s w l =
+    let same : l.0 ≡ 0 + l.0 = omega arith in
+    ap (λ (k : ℕ). stands_in (record { 0 = k }) (owned s w)) same ∙ at_place 0 l.0 s.owners w
+
+pub filter_same : {X : Type 0} (p q : X → Bool) → ((x : X) → p x ≡ q x) → (xs : List X) → filter p xs ≡ filter q xs
+filter_same p q same [] = refl
+filter_same p q same (x ∷ xs) = (λ i. cond (same x i) (x ∷ filter_same p q same xs i) (filter_same p q same xs i))

@@ -1,0 +1,134 @@
+-- What taking locks and a lease leaves, and when it can't be done.
+use Rattle.std.proofs.Common.{◌≡◌, ◌<◌, ◌⊎◌, Bool, true, false, not, cond, ◌&&◌, List, [], ◌∷◌, ◌++◌, map, Result, Ok, Err, OnErr, inl, inr, refl, sym, ap, ◌∙◌, subst}
+use Rattle.std.specs.List.{All, filter, list_all}
+use Rattle.std.specs.Result.{IsErrAnd}
+use Rattle.std.proofs.lemmas.Bool.{and_from, false≢true, lt-ltb}
+use Rattle.std.proofs.lemmas.List.Elements.{All-head, All-tail}
+use Rattle.resource_lock.specs.Change.{holding_after}
+use Rattle.resource_lock.specs.GraphView.{GraphView}
+use Rattle.resource_lock.specs.StateView.{Holding, StateView, has_parked, holding_of, owns, runs_any, stands_in}
+use Rattle.resource_lock.specs.declared.changes.Change.{Change}
+use Rattle.resource_lock.specs.declared.changes.Change.TheVariants.{Lock, Take}
+use Rattle.resource_lock.specs.declared.ids.LockId.{LockId}
+use Rattle.resource_lock.specs.declared.ids.WorkerId.{WorkerId}
+use Rattle.resource_lock.specs.declared.marks.MarkId.{MarkId}
+use Rattle.lock_journal.specs.BookView.{BookView}
+use Rattle.lock_journal.specs.Table.{condition}
+use Rattle.lock_journal.specs.Taking.{acquired, can_take_all, is_open, may_acquire}
+use Rattle.lock_journal.specs.declared.entries.Kind.{Kind}
+use Rattle.lock_journal.specs.declared.entries.Kind.TheVariants as kinds
+use Rattle.run_laws.specs.OwnChanges.{after_all, claimed_after, lock_before, locks_after, with_member}
+use Rattle.coordination.specs.declared.rule.Sight.{Sight}
+use Rattle.coordination.specs.declared.halts.Halt.{Halt}
+use Rattle.coordination.specs.declared.halts.Halt.TheVariants.{NoMemory, Stopped}
+use Rattle.coordination.specs.Agrees.{Finds}
+use Rattle.coordination.specs.Attempts.{Cause}
+use Rattle.coordination.specs.Calls.{HasFailed, HasFinished, HasLooked, WasStopped}
+use Rattle.coordination.specs.Shown.{claimed_shown, locks_shown}
+use Rattle.lease_service.specs.Shows.{MayTake, ShowsTaken, ShowsTheSame, with_locks}
+use Rattle.lease_service.proofs.Entered.{Entered, entered, same_after_look, same_after_stop}
+use Rattle.lease_service.proofs.Owned.{filter_same, runs_nothing, stands_in_owned}
+
+-- these locks, and a lease where there was none
+abbrev takes : List LockId → Bool → List Change
+takes ls lease = map Lock ls ++ cond lease [] (Take ∷ [])
+
+locks_with : (had ls : List LockId) (lease : Bool) → after_all locks_after had (takes ls lease) ≡ with_locks had ls
+locks_with had [] true = refl
+locks_with had [] false = refl
+locks_with had (l ∷ ls) lease = locks_with (with_member lock_before l had) ls lease
+
+holding_with : (h : Holding) (ls : List LockId) (lease : Bool) → h.lease ≡ lease → after_all holding_after h (takes ls lease) ≡ record h { lease = true }
+holding_with h [] true is = λ i. record h { lease = is i }
+holding_with h [] false is = refl
+holding_with h (l ∷ ls) lease is = holding_with h ls lease is
+
+claimed_with : (w : WorkerId) (ms : List MarkId) (ls : List LockId) (lease : Bool) → after_all (claimed_after w) ms (takes ls lease) ≡ ms
+claimed_with w ms [] true = refl
+claimed_with w ms [] false = refl
+claimed_with w ms (l ∷ ls) lease = claimed_with w ms ls lease
+
+pub shows_taken : (locks : List LockId) {kind : Kind} {old new : Sight} → HasFinished kind (λ g w s cs. cs ≡ acquired s w locks) old new → ShowsTaken locks old new
+shows_taken locks {old = old} {new} f =
+    let w : WorkerId = old.worker in
+    let a = f.found.agrees in
+    let e : Entered old new f.changes = entered f in
+    let h : Holding = holding_of old.seen.state w in
+    let more : List LockId = filter (λ l. not (stands_in l (locks_shown old))) locks in
+    let same : filter (λ l. not (owns f.before.state w l)) locks ≡ more = filter_same _ _ (λ l. ap not (a.state.owns l ∙ sym (stands_in_owned old.seen.state w l))) locks in
+    let made : f.changes ≡ takes more h.lease = f.finished.made ∙ (λ i. map Lock (same i) ++ cond (a.state.holding i).lease [] (Take ∷ [])) in
+    let holding : holding_of new.seen.state new.worker ≡ record h { lease = true } = e.holding ∙ (ap (after_all holding_after h) made ∙ holding_with h more h.lease refl) in record {
+      locks = e.locks ∙ (ap (after_all locks_after (locks_shown old)) made ∙ locks_with (locks_shown old) more h.lease);
+      lease = ap (λ (k : Holding). k.lease) holding;
+      rest = record {
+        worker = e.worker;
+        graph = e.graph;
+        claimed = e.claimed ∙ (ap (after_all (claimed_after w) _) made ∙ claimed_with w _ more h.lease);
+        parked = ap (λ (k : Holding). k.parked) holding;
+        blocked = ap (λ (k : Holding). k.blocked) holding;
+      };
+    }
+
+all_open : (g : GraphView) (s : StateView) (w : WorkerId) (locks : List LockId) → All (λ l. l.0 < g.locks) locks → All (λ l. has_parked s w l ≡ false) locks → list_all (is_open g s w) locks ≡ true
+all_open g s w [] in_range not_parked = refl
+all_open g s w (l ∷ ls) in_range not_parked =
+    and_from (is_open g s w l) (list_all (is_open g s w) ls)
+    (and_from _ _ (lt-ltb l.0 g.locks (All-head (λ k. k.0 < g.locks) l ls in_range)) (ap not (All-head (λ k. has_parked s w k ≡ false) l ls not_parked)))
+    (all_open g s w ls (All-tail (λ k. k.0 < g.locks) l ls in_range) (All-tail (λ k. has_parked s w k ≡ false) l ls not_parked))
+
+-- who isn't blocked and has claimed nothing is so in the book that it finds
+pub is_free : (old : Sight) (book : BookView) → Finds old.worker old.seen book → (holding_of old.seen.state old.worker).blocked ≡ false → claimed_shown old ≡ [] → condition book.graph book.state old.worker kinds.Acquire ≡ true
+is_free old book found not_blocked none =
+    let a = found.agrees in
+    let blocked : (holding_of book.state old.worker).blocked ≡ false = ap (λ (h : Holding). h.blocked) a.state.holding ∙ not_blocked in
+    let runs : runs_any book.state old.worker ≡ false = runs_nothing book.state old.worker (a.state.claimed ∙ none) in
+    (λ i. not (blocked i) && not (runs i))
+
+-- who may take locks may do so in the book that it finds
+may_there : (old : Sight) (book : BookView) (locks : List LockId) → MayTake old locks → Finds old.worker old.seen book → may_acquire book.graph book.state old.worker locks ≡ true
+may_there old book locks may found =
+    let a = found.agrees in
+    and_from (condition book.graph book.state old.worker kinds.Acquire) (list_all (is_open book.graph book.state old.worker) locks)
+    (is_free old book found may.not_blocked may.claimed)
+    (all_open book.graph book.state old.worker locks
+    (subst (λ (g : GraphView). All (λ l. l.0 < g.locks) locks) (sym a.graph) may.in_range)
+    (subst (λ (h : Holding). All (λ l. stands_in l h.parked ≡ false) locks) (sym a.state.holding) may.not_parked))
+
+-- so a try that asks to be run again couldn't take all
+is_short : (waits : Type 0) (locks : List LockId) (old : Sight) (book : BookView) → MayTake old locks → Finds old.worker old.seen book
+    → (may_acquire book.graph book.state old.worker locks ≡ false) ⊎ (waits × (can_take_all book.state old.worker locks ≡ false)) → waits × (can_take_all book.state old.worker locks ≡ false)
+is_short waits locks old book may found cause = elim cause [ inl kept ↦ absurd (false≢true (sym kept ∙ may_there old book locks may found)) | inr short ↦ short ]
+
+pub stopped_short : (waits : Type 0) (locks : List LockId) {by : WorkerId} {old new : Sight} → MayTake old locks
+    → WasStopped (λ g w s. (may_acquire g s w locks ≡ false) ⊎ (waits × (can_take_all s w locks ≡ false))) by old new → waits × WasStopped (λ g w s. can_take_all s w locks ≡ false) by old new
+stopped_short waits locks {old = old} may f =
+    let short = is_short waits locks old f.book may f.found f.cause in
+    (short.0, record { book = f.book; found = f.found; cause = short.1; stopper = f.stopper; sight = f.sight })
+
+pub failed_short : (fails : Type 0) (locks : List LockId) {kind : Kind} {old new : Sight}
+    → HasFailed kind (λ g w s. fails × (can_take_all s w locks ≡ false)) old new → fails × HasFailed kind (λ g w s. can_take_all s w locks ≡ false) old new
+failed_short fails locks f = (
+  f.failed.cause.0,
+  record {
+    before = f.before;
+    after = f.after;
+    found = f.found;
+    graph = f.graph;
+    failed = record { cause = f.failed.cause.1; allowed = f.failed.allowed; history = f.failed.history; state = f.failed.state };
+    left = f.left;
+    sight = f.sight;
+  },
+)
+
+-- whichever way a call came to nothing, its worker has what it had
+pub kept_by : {retries : Cause} {old new : Sight} (halt : Halt) → (◌≡◌ {A = Result Bool Halt} (Err halt) (Err NoMemory) → HasLooked old new)
+    → ((by : WorkerId) → ◌≡◌ {A = Result Bool Halt} (Err halt) (Err (Stopped by)) → WasStopped retries by old new) → ShowsTheSame old new
+kept_by NoMemory looked stopped = same_after_look (looked refl)
+kept_by (Stopped by) looked stopped = same_after_stop (stopped by refl)
+
+pub on_err_of : {A E P : Type 0} (r : Result A E) → P → OnErr r P
+on_err_of (Ok a) p = tt
+on_err_of (Err e) p = p
+
+pub err_at : {A E : Type 0} (P : E → Type 0) (r : Result A E) (e : E) → r ≡ Err e → IsErrAnd r P → P e
+err_at P r e is p = subst (λ x. IsErrAnd x P) is p

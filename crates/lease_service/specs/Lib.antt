@@ -1,0 +1,2 @@
+pub mod ProjectLocks
+pub mod Shows

@@ -1,0 +1,16 @@
+//! Leases against the maximum and project locks, for the threads of a build.
+#![tactic(auto)]
+
+mod holders;
+mod leases;
+mod project_locks;
+
+pub use holders::{Tried, hand_back, run_as_worker, take_locks, try_take_locks};
+pub use leases::{Lease, current_lease};
+pub use lock_journal::kinds::{Acquire, HandBack, take_all};
+pub use project_locks::ProjectLocks;
+
+#[cfg(test)]
+mod caller_tests;
+#[cfg(test)]
+mod tests;
