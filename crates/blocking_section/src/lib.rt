@@ -1,0 +1,10 @@
+//! Blocking sections: a worker gives everything back round something that waits, and takes it again.
+#![tactic(auto)]
+
+mod blocked;
+mod entering;
+mod leaving;
+
+pub use blocked::Blocked;
+pub use entering::enter;
+pub use leaving::{StillBlocked, leave};
