@@ -63,10 +63,7 @@ with_claimed (Some u) (Some o) w ps ms fits =
     ∙ (ap (λ (ns : List MarkId). claimed_after w ns (Move (UnitOf u) (Running w) (mark_from o))) (up_claimed w ms ps)
     ∙ (λ i. with_if mark_before (ended_not_running w w o i) (UnitOf u) (without_if mark_before (eq-eqb w.0 w.0 refl i) (UnitOf u) ms)))
 
-module _ {unit : Option ℕ} {outcome : Option Outcome} {old new : Sight} (f : HasFinished (Unblock (closed_with unit outcome)) (IsFixedList (Unblock (closed_with unit outcome))) old new) (fits : FitsUnit unit outcome) where
-  changes : List Change
-  changes = up_with old.worker unit outcome (parked_shown old)
-
+module _ (unit : Option ℕ) (outcome : Option Outcome) {old new : Sight} (f : HasFinished (Unblock (closed_with unit outcome)) (IsFixedList (Unblock (closed_with unit outcome))) old new) (fits : FitsUnit unit outcome) where
   left : LeavesBy old.worker old.seen.state f.after.state (up_with old.worker unit outcome (parked_shown old))
   left = subst (LeavesBy old.worker old.seen.state f.after.state) (list_is unit outcome f.before.graph f.before.state old.worker (parked_shown old) (ap (λ (h : Holding). h.parked) f.found.agrees.state.holding)) (leaves_by f)
 

@@ -67,7 +67,7 @@ stands_last-push : (ls : List LockId) (l : LockId) → stands_last l (ls ++ l �
 stands_last-push ls l =
     let long : length (ls ++ l ∷ []) - 1 ≡ length ls = omega (arith, length_push ls l) in
     let at : slice_get (ls ++ l ∷ []) (length (ls ++ l ∷ []) - 1) ≡ Some l =
-    ap (slice_get (ls ++ l ∷ [])) long ∙ (slice_get-get_or (ls ++ l ∷ []) (length ls) l (omega (arith, length_push ls l)) ∙ ap Some (get_or_push ls l l)) in
+    ap (slice_get (ls ++ l ∷ [])) long ∙ (slice_get-get_or (ls ++ l ∷ []) (length ls) l (omega (arith, length_push ls l)) ∙ ap Some (get_or_push ls l l (length ls) refl)) in
     ap (λ o. is_lock o l) at ∙ eq-eqb l.0 l.0 refl
 
 -- one lock taken again
