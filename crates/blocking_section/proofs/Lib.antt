@@ -4,3 +4,4 @@ pub mod Down
 pub mod Up
 pub mod Entered
 pub mod Left
+pub mod Ready

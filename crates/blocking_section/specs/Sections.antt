@@ -2,6 +2,7 @@
 use Rattle.std.specs.Prelude.{◌≡◌, ◌≢◌, ◌<◌, ◌==◌, ◌&&◌, ◌||◌, ℕ, Bool, true, false, List, [], ◌∷◌, ◌++◌, Option, None, Some, Contains}
 use Rattle.std.specs.List.{list_any}
 use Rattle.resource_lock.specs.Change.{same_mark}
+use Rattle.resource_lock.specs.Fits.{Fits}
 use Rattle.resource_lock.specs.GraphView.{GraphView}
 use Rattle.resource_lock.specs.Ranges.{IsFetchOf, task_with}
 use Rattle.resource_lock.specs.StateView.{StateView, holding_of, mark_of, owns, stands_in}
@@ -13,11 +14,12 @@ use Rattle.resource_lock.specs.declared.marks.MarkId.TheVariants.{Task as TaskOf
 use Rattle.item_actions.specs.declared.outcomes.Outcome.{Outcome}
 use Rattle.item_actions.specs.declared.outcomes.Outcome.TheVariants as outcomes
 use Rattle.lock_journal.specs.BookView.{BookView}
-use Rattle.lock_journal.specs.Table.{earlier_passed}
+use Rattle.lock_journal.specs.Table.{condition, earlier_passed}
 use Rattle.lock_journal.specs.Taking.{can_take_all}
 use Rattle.lock_journal.specs.declared.entries.Closed.{Closed}
+use Rattle.lock_journal.specs.declared.entries.Kind.TheVariants.{Block}
 use Rattle.run_laws.specs.OwnChanges.{mark_before, with_member, without_member}
-use Rattle.coordination.specs.Agrees.{Agrees}
+use Rattle.coordination.specs.Agrees.{Agrees, IsSound}
 use Rattle.coordination.specs.Shown.{blocked_shown, claimed_shown, lease_shown, locks_shown, parked_shown}
 use Rattle.coordination.specs.declared.rule.Sight.{Sight}
 use Rattle.blocking_section.specs.BlockedView.{BlockedView}
@@ -50,6 +52,12 @@ is_ready g s a u = same_mark (mark_of s (ActionOf a)) Waiting && same_mark (mark
 abbrev pub IsNotReady : Option ℕ → GraphView → WorkerId → StateView → Type 0
 IsNotReady None g w s = ⊥
 IsNotReady (Some u) g w s = (a : ℕ) × IsFetchOf g a u × (is_ready g s a u ≡ false)
+
+-- In the book that the pass has seen last, a sound one of a graph that fits, the section could be entered.
+pub record CouldEnter (unit : Option ℕ) (s : Sight) : Type 0 where
+  pub fits : Fits s.seen.graph
+  pub sound : IsSound s.seen
+  pub condition : condition s.seen.graph s.seen.state s.worker (Block unit) ≡ true
 
 -- the claimed marks with the unit, and without it, where there is one
 abbrev pub with_unit : Option ℕ → List MarkId → List MarkId

@@ -8,3 +8,6 @@ mod leaving;
 pub use blocked::Blocked;
 pub use entering::enter;
 pub use leaving::{StillBlocked, leave};
+
+#[cfg(test)]
+mod caller_tests;

@@ -7,6 +7,7 @@ use Rattle.blocking_section.specs.BlockedView.{BlockedView}
 use Rattle.blocking_section.specs.Sections.{HasSetDown, IsGivenBackBy, IsNotReady, MayEnter, OwnsNothingMeanwhile, ShowsTheSame}
 use Rattle.blocking_section.proofs.After.{stopped_for, stopped_shows, surely_finished}
 use Rattle.blocking_section.proofs.Entered.{given_back, not_ready, nothing_meanwhile, set_down_shows}
+use Rattle.blocking_section.proofs.Ready.{never_unready, only_with_unit}
 use Rattle.blocking_section.proofs.entering.enter.Goals as goal
 
 pub returns-clause-shows : goal.returns-clause-shows
@@ -25,3 +26,13 @@ pub returns-in_err-with_state_lock-clause-stopped : goal.returns-in_err-with_sta
 returns-in_err-with_state_lock-clause-stopped g c = λ by is.
     let stopped = c.with_state_lock.ensures.stopped by (search rules) in
     (stopped_for stopped (not_ready c.args.unit c.args.pass.now.sight stopped.book stopped.found c.requires.lease c.requires.unit stopped.cause), stopped_shows stopped)
+
+pub returns-in_err-with_state_lock-clause-without : goal.returns-in_err-with_state_lock-clause-without
+returns-in_err-with_state_lock-clause-without g c = λ none by is.
+    let stopped = c.with_state_lock.ensures.stopped by (search rules) in
+    only_with_unit c.args.unit stopped.book.graph c.args.pass.now.sight.worker stopped.book.state none (not_ready c.args.unit c.args.pass.now.sight stopped.book stopped.found c.requires.lease c.requires.unit stopped.cause)
+
+pub returns-in_err-with_state_lock-clause-ready : goal.returns-in_err-with_state_lock-clause-ready
+returns-in_err-with_state_lock-clause-ready g c = λ could by is.
+    let stopped = c.with_state_lock.ensures.stopped by (search rules) in
+    never_unready c.args.unit c.args.pass.now.sight stopped.book stopped.found could (not_ready c.args.unit c.args.pass.now.sight stopped.book stopped.found c.requires.lease c.requires.unit stopped.cause)
