@@ -145,7 +145,7 @@ can_set_down s w worker good lease =
     and_from (holding_of s w).lease (can_all (make s w Give) w (parked_locks (owned s w) ++ Enter ∷ [])) lease
     (can_all-append (make s w Give) w (parked_locks (owned s w)) (Enter ∷ [])
     ∙ and_from (can_all (make s w Give) w (parked_locks (owned s w))) (can (make_all (make s w Give) w (parked_locks (owned s w))) w Enter && true) parks
-        (and_from (can (make_all (make s w Give) w (parked_locks (owned s w))) w Enter) true enters refl))
+    (and_from (can (make_all (make s w Give) w (parked_locks (owned s w))) w Enter) true enters refl))
 
 -- so it can enter without a unit, and for a fetch that is ready
 pub enters_without : (g : GraphView) (s : StateView) (w : WorkerId) → IsWorkerOf s w → Good s → (holding_of s w).lease ≡ true → runs_unit s w ≡ false → is_enabled g s w (Block None) ≡ true
@@ -165,8 +165,8 @@ enters_for g s w a u belongs worker good there fetch lease task not_parked ready
     let place : get_or (range_with_len 0 (length g.actions)) a 0 ≡ a = omega (arith, get_or-range_with_len 0 (length g.actions) a 0 within) in
     let holds : condition g s w (Block (Some u)) ≡ true =
     list_any_at (λ b. (action_of g b).fetch && eqb (action_of g b).first_unit u && works_on s w (task_with g b) && same_mark (mark_of s (ActionOf b)) Waiting && same_mark (mark_of s (UnitOf u)) Waiting && earlier_passed g s b)
-        (range_with_len 0 (length g.actions)) a 0 (omega (arith, length-range_with_len 0 (length g.actions)))
-        (ap (λ b. (action_of g b).fetch && eqb (action_of g b).first_unit u && works_on s w (task_with g b) && same_mark (mark_of s (ActionOf b)) Waiting && same_mark (mark_of s (UnitOf u)) Waiting && earlier_passed g s b) place ∙ one) in
+    (range_with_len 0 (length g.actions)) a 0 (omega (arith, length-range_with_len 0 (length g.actions)))
+    (ap (λ b. (action_of g b).fetch && eqb (action_of g b).first_unit u && works_on s w (task_with g b) && same_mark (mark_of s (ActionOf b)) Waiting && same_mark (mark_of s (UnitOf u)) Waiting && earlier_passed g s b) place ∙ one) in
     let moves : can s w (Move (UnitOf u) Waiting (Running w)) ≡ true = and_from _ _ (and_from _ _ (and_from _ _ waits.1 refl) refl) (eq-eqb w.0 w.0 refl) in
     let named : u < length s.units = omega (arith, there, belongs.units) in
     let moved : Good (make s w (Move (UnitOf u) Waiting (Running w))) = kept s w (Move (UnitOf u) Waiting (Running w)) worker named good moves in

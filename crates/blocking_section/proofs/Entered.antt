@@ -103,6 +103,9 @@ not_ready (Some u) old book found lease may disabled =
     let fetch : IsFetchOf book.graph may.0.action u = subst (λ (g : GraphView). IsFetchOf g may.0.action u) graph may.0.fetch in
     let task : mark_of book.state (TaskOf (task_with book.graph may.0.action)) ≡ Running old.worker =
     subst (λ (g : GraphView). mark_of book.state (TaskOf (task_with g may.0.action)) ≡ Running old.worker) graph
-    ((found.agrees.state.running (TaskOf (task_with old.seen.graph may.0.action))).0 (task_runs old.seen.state old.worker (task_with old.seen.graph may.0.action) may.0.task)) in
-    (may.0.action, fetch, false_from_ne_true (is_ready book.graph book.state may.0.action u) (λ ready. false≢true (sym (disabled there)
-    ∙ enters_for book.graph book.state old.worker may.0.action u belongs worker (good_sound book found.sound) there fetch leased task (found.agrees.state.is_parked ∙ no_action old.seen.state old.worker may.1) ready)))
+    ((found.agrees.state.running (TaskOf (task_with old.seen.graph may.0.action))).0 (task_runs old.seen.state old.worker (task_with old.seen.graph may.0.action) may.0.task)) in (
+      may.0.action,
+      fetch,
+      false_from_ne_true (is_ready book.graph book.state may.0.action u) (λ ready. false≢true (sym (disabled there)
+          ∙ enters_for book.graph book.state old.worker may.0.action u belongs worker (good_sound book found.sound) there fetch leased task (found.agrees.state.is_parked ∙ no_action old.seen.state old.worker may.1) ready)),
+    )

@@ -98,16 +98,18 @@ can_not_take_up b outcome old book found own fits disabled = at b.unit outcome f
   where
     worker : IsWorkerOf book.state old.worker
     worker = worker_from book.graph book.state old.worker (belongs_sound book found.sound) found.known
+
     blocked : (holding_of book.state old.worker).blocked ≡ true
     blocked = ap (λ (h : Holding). h.blocked) found.agrees.state.holding ∙ own.blocked
+
     at : (unit : Option ℕ) (o : Option Outcome) → FitsUnit unit o → HasUnit unit (claimed_shown old) → IsDisabled (Unblock (closed_with unit o)) book.graph old.worker book.state → CanNotTakeUp book.graph old.worker book.state
     at None None fit has off = false_from_ne_true (can_take_all book.state old.worker (holding_of book.state old.worker).parked) (λ free.
-      false≢true (sym (off tt) ∙ leaves_without book.graph book.state old.worker worker (good_sound book found.sound) blocked (found.agrees.state.runs_unit ∙ no_unit old.seen.state old.worker has) free))
+        false≢true (sym (off tt) ∙ leaves_without book.graph book.state old.worker worker (good_sound book found.sound) blocked (found.agrees.state.runs_unit ∙ no_unit old.seen.state old.worker has) free))
     at (Some u) (Some o) fit has off =
-      let runs : mark_of book.state (UnitOf u) ≡ Running old.worker = (found.agrees.state.running (UnitOf u)).0 (unit_runs old.seen.state old.worker u has) in
-      let belongs = belongs_sound book found.sound in
-      let there : u < book.graph.units = omega (arith, within book.state.units u old.worker runs, belongs.units) in
-      false_from_ne_true (can_take_all book.state old.worker (holding_of book.state old.worker).parked) (λ free.
+        let runs : mark_of book.state (UnitOf u) ≡ Running old.worker = (found.agrees.state.running (UnitOf u)).0 (unit_runs old.seen.state old.worker u has) in
+        let belongs = belongs_sound book found.sound in
+        let there : u < book.graph.units = omega (arith, within book.state.units u old.worker runs, belongs.units) in
+        false_from_ne_true (can_take_all book.state old.worker (holding_of book.state old.worker).parked) (λ free.
         false≢true (sym (off (there, fit)) ∙ leaves_for book.graph book.state old.worker (record { unit = u; outcome = o }) worker (good_sound book found.sound) blocked runs free))
     at None (Some o) fit has off = absurd fit
     at (Some u) None fit has off = absurd fit

@@ -103,8 +103,8 @@ takes_on s w l ls worker good parked free =
       good = kept (make s w (Unpark l)) w (Lock l) worker_now (named_along s (make s w (Unpark l)) (Lock l) (same_shape-make s w (Unpark l)) there) good_now locks;
       parked = left;
       free = λ k stands.
-        let apart : k.0 ≢ l.0 = λ same. false≢true (sym absent ∙ (stands_reversed l ls ∙ (ap (λ j. stands_in j ls) (sym (same_lock k l same)) ∙ stands))) in
-        ap is_none (get_or-set_other s.owners l.0 k.0 (Some w) None apart) ∙ free k (or_right (eqb l.0 k.0) (stands_in k ls) stands);
+          let apart : k.0 ≢ l.0 = λ same. false≢true (sym absent ∙ (stands_reversed l ls ∙ (ap (λ j. stands_in j ls) (sym (same_lock k l same)) ∙ stands))) in
+          ap is_none (get_or-set_other s.owners l.0 k.0 (Some w) None apart) ∙ free k (or_right (eqb l.0 k.0) (stands_in k ls) stands);
     }
 
 can_take_again : (ls : List LockId) (s : StateView) (w : WorkerId) → IsWorkerOf s w → Good s → (holding_of s w).parked ≡ reverse ls → ((k : LockId) → stands_in k ls ≡ true → is_none (owner_of s k) ≡ true) → can_all s w (taken_again ls) ≡ true
@@ -205,9 +205,9 @@ can_take_up s w worker good blocked free =
     let holding : holding_of (make s w Leave) w ≡ record (holding_of s w) { blocked = false } = holding_now s w (holding_after (holding_of s w) Leave) worker in
     let parked : (holding_of (make s w Leave) w).parked ≡ reverse (reverse (holding_of s w).parked) = ap (λ (h : Holding). h.parked) holding ∙ sym (reverse_twice (holding_of s w).parked) in
     let unowned : (k : LockId) → stands_in k (reverse (holding_of s w).parked) ≡ true → is_none (owner_of s k) ≡ true = λ k stands.
-      let there : has_parked s w k ≡ true = sym (stands_reversed k (holding_of s w).parked) ∙ stands in
-      let other : owns s w k ≡ false = false_from_ne_true (owns s w k) (λ own. false≢true (sym (good.parked_not_owned w k own) ∙ there)) in
-      left_of (is_none (owner_of s k)) (owns s w k) other (all_stand (can_own s w) k (holding_of s w).parked both.0 there) in
+    let there : has_parked s w k ≡ true = sym (stands_reversed k (holding_of s w).parked) ∙ stands in
+    let other : owns s w k ≡ false = false_from_ne_true (owns s w k) (λ own. false≢true (sym (good.parked_not_owned w k own) ∙ there)) in
+    left_of (is_none (owner_of s k)) (owns s w k) other (all_stand (can_own s w) k (holding_of s w).parked both.0 there) in
     let takes : can_all (make s w Leave) w (taken_again (reverse (holding_of s w).parked)) ≡ true = can_take_again (reverse (holding_of s w).parked) (make s w Leave) w worker_now good_now parked unowned in
     let later : holding_of (make_all (make s w Leave) w (taken_again (reverse (holding_of s w).parked))) w ≡ record { lease = (holding_of s w).lease; parked = []; blocked = false } =
     own_holding_all (make s w Leave) w (taken_again (reverse (holding_of s w).parked)) worker_now

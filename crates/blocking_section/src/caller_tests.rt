@@ -115,16 +115,11 @@ fn a_section_gives_back_all_meanwhile(rt: HostRuntime) -> Result<(), Fail> {
         service,
         mut passes,
     } = Coordination::open(alloc, book)?;
-    let [pass, other] = passes.as_mut_slice() else {
-        unreachable!()
-    };
-    lend_lock(&rt, &service, pass, other);
-    let taken = [
-        Change::Lock(first),
-        Change::Lock(second),
-        Change::Take,
-    ];
-    assert_entry(&rt, &service, pass, 0, Kind::Acquire, &taken);
+    let mut other = passes.pop().expect(&rt, "two workers");
+    let mut pass = passes.pop().expect(&rt, "two workers");
+    lend_lock(&rt, &service, &mut pass, &mut other);
+    let taken = [Change::Lock(first), Change::Lock(second), Change::Take];
+    assert_entry(&rt, &service, &mut pass, 0, Kind::Acquire, &taken);
     let set_down = [
         Change::Give,
         Change::Unlock(first),
@@ -133,7 +128,7 @@ fn a_section_gives_back_all_meanwhile(rt: HostRuntime) -> Result<(), Fail> {
         Change::Park(second),
         Change::Enter,
     ];
-    assert_entry(&rt, &service, pass, 1, Kind::Block(None), &set_down);
+    assert_entry(&rt, &service, &mut pass, 1, Kind::Block(None), &set_down);
     let taken_up = [
         Change::Leave,
         Change::Unpark(second),
@@ -142,8 +137,8 @@ fn a_section_gives_back_all_meanwhile(rt: HostRuntime) -> Result<(), Fail> {
         Change::Lock(first),
         Change::Take,
     ];
-    assert_entry(&rt, &service, pass, 4, Kind::Unblock(None), &taken_up);
+    assert_entry(&rt, &service, &mut pass, 4, Kind::Unblock(None), &taken_up);
     assert!(rt; pass.has_lease() && pass.claimed().is_empty() && pass.parked().is_empty());
-    assert_eq!(rt; step_aside(&rt, &service, pass), Ok(()));
+    assert_eq!(rt; step_aside(&rt, &service, &mut pass), Ok(()));
     Ok(())
 }

@@ -11,3 +11,5 @@ pub use leaving::{StillBlocked, leave};
 
 #[cfg(test)]
 mod caller_tests;
+#[cfg(test)]
+mod thread_tests;
