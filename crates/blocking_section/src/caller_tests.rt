@@ -102,9 +102,44 @@ fn lend_lock<R: Wait + Abort>(rt: &R, service: &Coordination, pass: &mut Pass, o
     assert_eq!(rt; pass.locks(), [LockId(0), LockId(1)].as_slice());
 }
 
+/// Asserts what the worker's entries of `lend_lock` are.
+fn assert_history<R: Wait + Abort>(rt: &R, service: &Coordination, pass: &mut Pass)
+    requires { pass.old.service ≡ service.now.service }
+    ensures { pass.new.service ≡ pass.old.service }
+{
+    let (first, second) = (LockId(0), LockId(1));
+    let taken = [Change::Lock(first), Change::Lock(second), Change::Take];
+    assert_entry(rt, service, pass, 0, Kind::Acquire, &taken);
+    let set_down = [
+        Change::Give,
+        Change::Unlock(first),
+        Change::Park(first),
+        Change::Unlock(second),
+        Change::Park(second),
+        Change::Enter,
+    ];
+    assert_entry(rt, service, pass, 1, Kind::Block(None), &set_down);
+    let taken_up = [
+        Change::Leave,
+        Change::Unpark(second),
+        Change::Lock(second),
+        Change::Unpark(first),
+        Change::Lock(first),
+        Change::Take,
+    ];
+    assert_entry(rt, service, pass, 4, Kind::Unblock(None), &taken_up);
+}
+
+/// Has a worker that has the lease step aside.
+fn assert_steps_aside<R: Wait + Abort>(rt: &R, service: &Coordination, pass: &mut Pass)
+    requires { pass.old.service ≡ service.now.service }
+{
+    assert!(rt; pass.has_lease() && pass.claimed().is_empty() && pass.parked().is_empty());
+    assert_eq!(rt; step_aside(rt, service, pass), Ok(()));
+}
+
 #[test]
 fn a_section_gives_back_all_meanwhile(rt: HostRuntime) -> Result<(), Fail> {
-    let (first, second) = (LockId(0), LockId(1));
     let alloc = rt.alloc();
     let tasks = Vec::new(alloc);
     let actions = Vec::new(alloc);
@@ -118,27 +153,7 @@ fn a_section_gives_back_all_meanwhile(rt: HostRuntime) -> Result<(), Fail> {
     let mut other = passes.pop().expect(&rt, "two workers");
     let mut pass = passes.pop().expect(&rt, "two workers");
     lend_lock(&rt, &service, &mut pass, &mut other);
-    let taken = [Change::Lock(first), Change::Lock(second), Change::Take];
-    assert_entry(&rt, &service, &mut pass, 0, Kind::Acquire, &taken);
-    let set_down = [
-        Change::Give,
-        Change::Unlock(first),
-        Change::Park(first),
-        Change::Unlock(second),
-        Change::Park(second),
-        Change::Enter,
-    ];
-    assert_entry(&rt, &service, &mut pass, 1, Kind::Block(None), &set_down);
-    let taken_up = [
-        Change::Leave,
-        Change::Unpark(second),
-        Change::Lock(second),
-        Change::Unpark(first),
-        Change::Lock(first),
-        Change::Take,
-    ];
-    assert_entry(&rt, &service, &mut pass, 4, Kind::Unblock(None), &taken_up);
-    assert!(rt; pass.has_lease() && pass.claimed().is_empty() && pass.parked().is_empty());
-    assert_eq!(rt; step_aside(&rt, &service, &mut pass), Ok(()));
+    assert_history(&rt, &service, &mut pass);
+    assert_steps_aside(&rt, &service, &mut pass);
     Ok(())
 }
