@@ -29,7 +29,7 @@ use Rattle.run_laws.specs.Own.{NoneOf, SameFor}
 use Rattle.run_laws.proofs.Finished.{IsFinal, final_by}
 use Rattle.run_laws.proofs.Others.{others_after}
 
-replay_from-append : (s : StateView) (h later : List Entry) → replay_from s (h ++ later) ≡ replay_from (replay_from s h) later
+pub replay_from-append : (s : StateView) (h later : List Entry) → replay_from s (h ++ later) ≡ replay_from (replay_from s h) later
 replay_from-append s [] later = refl
 replay_from-append s (e ∷ h) later = replay_from-append (effect s e) h later
 

@@ -24,3 +24,4 @@ pub mod WorkedRows
 pub mod ByNumber
 pub mod OwnChanges
 pub mod Named
+pub mod OwnTasks

@@ -17,8 +17,8 @@ ghost use Rattle.resource_lock.specs.StateView.{IsWorkerOf, StateView, holding_o
 ghost use Rattle.resource_lock.specs.declared.changes.Change.{Change};
 ghost use Rattle.resource_lock.specs.declared.graphs.Retention.TheVariants.{Release, ReleaseAndReacquire, Retain};
 ghost use Rattle.resource_lock.specs.declared.ids.WorkerId.{WorkerId};
-ghost use Rattle.resource_lock.specs.declared.marks.Mark.TheVariants.{Failed, Passed, Skipped};
-ghost use Rattle.resource_lock.specs.declared.marks.MarkId.TheVariants.{Action as ActionOf, Unit as UnitOf};
+ghost use Rattle.resource_lock.specs.declared.marks.Mark.TheVariants.{Failed, Passed, Running, Skipped, Waiting};
+ghost use Rattle.resource_lock.specs.declared.marks.MarkId.TheVariants.{Action as ActionOf, Task as TaskOf, Unit as UnitOf};
 ghost use Rattle.resource_lock.specs.declared.marks.MarkId.{MarkId};
 ghost use Rattle.run_laws.specs.Answers.{IsHonestWorker, answers};
 ghost use Rattle.run_laws.specs.ByNumber.{outcome_by};
@@ -53,6 +53,12 @@ pub fn closing_entries_give_the_marks()
 pub fn own_entries_say_all()
     ensures state { (g : GraphView) (own later : List Entry) (w : WorkerId) → Lawful g (own ++ later) → NoneOf w later → SameFor w (replay g own) (replay g (own ++ later)) }
     ensures closings { (own later : List Entry) (w : WorkerId) → NoneOf w later → closed_by w (own ++ later) ≡ closed_by w own }
+{}
+
+/// While a worker runs a task, only its own entries move the task's actions that aren't running, and its units that wait.
+pub fn running_tasks_are_left_alone()
+    ensures actions { (g : GraphView) (own later : List Entry) (w : WorkerId) (t a : ℕ) → Fits g → Lawful g (own ++ later) → NoneOf w later → mark_of (replay g own) (TaskOf t) ≡ Running w → IsActionOf g t a → ((v : WorkerId) → mark_of (replay g own) (ActionOf a) ≢ Running v) → mark_of (replay g (own ++ later)) (ActionOf a) ≡ mark_of (replay g own) (ActionOf a) }
+    ensures units { (g : GraphView) (own later : List Entry) (w : WorkerId) (t a u : ℕ) → Fits g → Lawful g (own ++ later) → NoneOf w later → mark_of (replay g own) (TaskOf t) ≡ Running w → IsActionOf g t a → IsUnitOf g a u → mark_of (replay g own) (UnitOf u) ≡ Waiting → mark_of (replay g (own ++ later)) (UnitOf u) ≡ Waiting }
 {}
 
 /// A lawful history leads to a good state of its graph, in which whoever owns a lock or runs a mark is a worker of the graph.

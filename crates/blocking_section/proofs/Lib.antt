@@ -1,0 +1,7 @@
+pub mod After
+pub mod Claims
+pub mod Down
+pub mod Up
+pub mod Entered
+pub mod Left
+pub mod Ready

@@ -1,0 +1,2 @@
+pub mod BlockedView
+pub mod Sections

@@ -1,0 +1,15 @@
+//! Blocking sections: a worker gives everything back round something that waits, and takes it again.
+#![tactic(auto)]
+
+mod blocked;
+mod entering;
+mod leaving;
+
+pub use blocked::Blocked;
+pub use entering::enter;
+pub use leaving::{StillBlocked, leave};
+
+#[cfg(test)]
+mod caller_tests;
+#[cfg(test)]
+mod thread_tests;
