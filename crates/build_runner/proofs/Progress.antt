@@ -12,7 +12,7 @@ use Rattle.resource_lock.specs.Fits.{Fits}
 use Rattle.resource_lock.specs.declared.marks.Mark.{Mark}
 use Rattle.resource_lock.specs.declared.marks.Mark.TheVariants.{Waiting, Queued, Running, Passed, Failed, Skipped}
 use Rattle.resource_lock.specs.declared.marks.MarkId.TheVariants.{Task as TaskOf}
-use Rattle.lock_journal.specs.Table.{has_passed, has_fallen}
+use Rattle.resource_lock.specs.Marks.{has_passed, has_fallen}
 use Rattle.run_laws.proofs.Fitting.{apart_of}
 use Rattle.run_laws.specs.Marks.{IsEnded}
 use Rattle.run_laws.specs.Outcomes.{AreRanks}

@@ -15,7 +15,7 @@ use Rattle.resource_lock.specs.StateView.{StateView, mark_of}
 use Rattle.resource_lock.specs.declared.marks.Mark.{Mark}
 use Rattle.resource_lock.specs.declared.marks.Mark.TheVariants.{Waiting}
 use Rattle.resource_lock.specs.declared.marks.MarkId.TheVariants.{Task as TaskOf}
-use Rattle.lock_journal.specs.Table.{has_passed, has_fallen}
+use Rattle.resource_lock.specs.Marks.{has_passed, has_fallen}
 use Rattle.run_laws.specs.Marks.{IsEnded}
 use Rattle.build_runner.specs.Choices.{CanSkip, CanStart}
 use Rattle.build_runner.specs.Ready.{has, IsSetOf, AreReady, NoTask, StandsFrom, LooksAt, EndsTask}

@@ -1,17 +1,14 @@
 //! Which task an idle worker skips or starts next.
 ghost use Rattle.std.specs.Prelude.{◌≡◌, ◌==◌, ◌&&◌, ◌||◌, ◌↔◌, ◌<◌, ℕ, All, Contains, IfOk, IfNone, IfSome, IsTrue, OnOk, length};
-ghost use Rattle.std.specs.List.{list_all, list_any};
 ghost use Rattle.resource_lock.specs.Fits.{Fits};
 ghost use Rattle.resource_lock.specs.GraphView.{GraphView, task_of};
 ghost use Rattle.resource_lock.specs.Shape.{BelongsTo};
-ghost use Rattle.resource_lock.specs.StateView.{StateView, mark_of};
-ghost use Rattle.resource_lock.specs.declared.marks.MarkId.TheVariants as ids;
-ghost use Rattle.lock_journal.specs.Table.{has_fallen, has_passed};
+ghost use Rattle.resource_lock.specs.StateView.{StateView};
 ghost use Rattle.build_runner.specs.Choices.{CanSkip, CanStart, IsOpen, task_in_choice};
 ghost use Rattle.build_runner.specs.Ready.{AreReady, EndsTask, LooksAt, NoTask, has};
 
 use lock_journal::Book;
-use resource_lock::{Graph, Mark, MarkId, State};
+use resource_lock::{Graph, Mark, MarkId};
 use std::alloc::{AllocError, Global};
 use std::collections::BTreeSet;
 
@@ -122,7 +119,7 @@ fn can_skip(book: &Book, task: u32) -> bool
 {
     let state = book.state();
     state.mark(MarkId::Task(task)) == Mark::Waiting
-        && some_fallen(state, after_of(book.graph(), task))
+        && state.some_fallen(after_of(book.graph(), task))
 }
 
 /// Whether a task waits, and each that it comes after has passed.
@@ -132,7 +129,7 @@ fn can_start(book: &Book, task: u32) -> bool
 {
     let state = book.state();
     state.mark(MarkId::Task(task)) == Mark::Waiting
-        && all_passed(state, after_of(book.graph(), task))
+        && state.all_passed(after_of(book.graph(), task))
 }
 
 /// The tasks that a task comes after.
@@ -142,31 +139,4 @@ fn after_of(graph: &Graph, task: u32) -> &[u32]
     ensures in_range { All (λ k. k < length graph.now.tasks) result.now }
 {
     &graph.tasks()[task as usize].after
-}
-
-/// Whether one of these tasks has failed or was skipped.
-fn some_fallen(state: &State, tasks: &[u32]) -> bool
-    requires { All (λ k. k < length state.now.tasks) tasks.now }
-    ensures { result ≡ list_any (λ k. has_fallen (mark_of state.now (ids.Task k))) tasks.now }
-{
-    tasks
-        .iter()
-        .any(|task| has_fallen(state.mark(MarkId::Task(*task))))
-}
-
-/// Whether a mark is Failed or Skipped.
-fn has_fallen(mark: Mark) -> bool
-    ensures { result ≡ has_fallen mark }
-{
-    matches!(mark, Mark::Failed | Mark::Skipped)
-}
-
-/// Whether each of these tasks has passed.
-fn all_passed(state: &State, tasks: &[u32]) -> bool
-    requires { All (λ k. k < length state.now.tasks) tasks.now }
-    ensures { result ≡ list_all (λ k. has_passed (mark_of state.now (ids.Task k))) tasks.now }
-{
-    tasks
-        .iter()
-        .all(|task| state.mark(MarkId::Task(*task)) == Mark::Passed)
 }

@@ -8,7 +8,7 @@ use crate::loops::run_tasks;
 use crate::options::RunOptions;
 use lock_journal::Book;
 use plan_reader::Plan;
-use resource_lock::Graph;
+use resource_lock::{Graph, MAX_ACTIONS_PER_TASK, MAX_UNITS};
 use run_laws::{every_run_comes_to_its_plan, honest_workers_give_the_answers};
 use std::alloc::{AllocError, Global};
 use task_ranks::ranks_give_a_numbering;
@@ -20,21 +20,18 @@ const ENTRIES_A_TASK: u64 = 5;
 /// The entries of an item: claim, close.
 const ENTRIES_AN_ITEM: u64 = 2;
 
-/// The changes of a task's entries.
-const CHANGES_A_TASK: u64 = 11;
+/// The changes of a task's entries. Start takes the lock and the lease, and end gives them back;
+/// park gives the lease, and resume takes it. Each of the five moves one mark besides.
+const CHANGES_A_TASK: u64 = 3 + 1 + 2 + 2 + 3;
 
-/// The changes of an item's entries, and its own change in the entry that queues the items.
-const CHANGES_AN_ITEM: u64 = 5;
+/// The changes of an item: it is queued; its claim takes the lease, and its close gives it back.
+/// Each of the three moves its mark.
+const CHANGES_AN_ITEM: u64 = 1 + 2 + 2;
 
-/// The most actions of a task.
-const MAX_ACTIONS_PER_TASK: u64 = 8;
-
-/// The most units of a plan.
-const MAX_UNITS: u64 = 8_192;
-
-/// The most changes that an entry asks room for before it is made. It is that of an end which skips every action of
-/// its task and every unit: one change for each, and three that end the task and give its lock and the lease back.
-const MAX_CHANGES: u64 = MAX_ACTIONS_PER_TASK + MAX_UNITS + 3;
+/// The most changes that an entry asks room for before it is made. It is an end's, which may skip
+/// each action of its task and each unit: one change for each, and three that end the task and give
+/// its lock and the lease back.
+const MAX_CHANGES: u64 = 3 + MAX_ACTIONS_PER_TASK as u64 + MAX_UNITS;
 
 /// A book of the graph without an entry, and with room for those of a whole run.
 ///
