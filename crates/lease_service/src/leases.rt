@@ -7,7 +7,6 @@ use std::marker::Model;
 
 /// The lease of a pass. While it lives, its pass is borrowed, so that it can't take part in a call
 /// that would give the lease back.
-
 #[derive(Drop)]
 pub struct Lease<'a> {
     pass: &'a Pass,
