@@ -5,3 +5,4 @@ pub mod Up
 pub mod Entered
 pub mod Left
 pub mod Ready
+pub mod Stays

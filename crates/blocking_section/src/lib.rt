@@ -3,10 +3,12 @@
 
 mod blocked;
 mod entering;
+mod laws;
 mod leaving;
 
 pub use blocked::Blocked;
 pub use entering::enter;
+pub use laws::sections_outlast_others;
 pub use leaving::{StillBlocked, leave};
 
 #[cfg(test)]
