@@ -1,16 +1,13 @@
 -- What a finished entry of the worker's own leaves of what it has.
-use Rattle.std.proofs.Common.{◌≡◌, Bool, true, false, List, [], ◌∷◌, ◌++◌, Some, refl, sym, ap, ◌∙◌, subst}
-use Rattle.resource_lock.specs.Change.{holding_after, make_all}
-use Rattle.resource_lock.specs.Good.{Good}
-use Rattle.resource_lock.specs.GraphView.{GraphView}
+use Rattle.std.proofs.Common.{◌≡◌, Bool, true, false, List, [], ◌∷◌, ◌++◌, refl, ap, ◌∙◌, subst}
+use Rattle.resource_lock.specs.Change.{holding_after}
 use Rattle.resource_lock.specs.StateView.{Holding, StateView, holding_of, IsWorkerOf}
 use Rattle.resource_lock.specs.declared.changes.Change.{Change}
 use Rattle.resource_lock.specs.declared.ids.LockId.{LockId}
 use Rattle.resource_lock.specs.declared.ids.WorkerId.{WorkerId}
 use Rattle.resource_lock.specs.declared.marks.MarkId.{MarkId}
 use Rattle.resource_lock.proofs.Runs.{worker_from}
-use Rattle.lock_journal.specs.Allowed.{Allowed, IsFixedList}
-use Rattle.lock_journal.specs.Entry.{entry}
+use Rattle.lock_journal.specs.Allowed.{IsFixedList}
 use Rattle.lock_journal.specs.Table.{list_of, owned}
 use Rattle.lock_journal.specs.declared.entries.Kind.{Kind}
 use Rattle.run_laws.specs.Own.{claimed}
@@ -19,9 +16,8 @@ use Rattle.run_laws.proofs.OwnChanges.{own_claimed_all, own_holding_all, own_loc
 use Rattle.coordination.specs.Agrees.{Finds}
 use Rattle.coordination.specs.Calls.{HasFailed, HasFinished, HasLooked, WasStopped}
 use Rattle.coordination.specs.Attempts.{Cause, Making}
-use Rattle.coordination.specs.Sights.{seeing, hearing}
 use Rattle.coordination.specs.declared.rule.Sight.{Sight}
-use Rattle.coordination.proofs.Entries.{belongs_sound, good_sound}
+use Rattle.coordination.proofs.Entries.{belongs_sound}
 use Rattle.blocking_section.specs.Sections.{ShowsTheSame}
 
 pub after_all-append : {X : Type 0} (after : X → Change → X) (x : X) (cs ds : List Change) → after_all after x (cs ++ ds) ≡ after_all after (after_all after x cs) ds

@@ -1,8 +1,8 @@
 -- A worker that sets down its lease and its locks.
-use Rattle.std.proofs.Common.{◌≡◌, ℕ, zero, suc, ◌+◌, ◌<◌, ◌≤◌, length, Bool, true, false, not, ◌&&◌, cond, eqb, ltb, List, [], ◌∷◌, ◌++◌, drop, get_or, Option, None, Some, inl, inr, refl, sym, ap, ◌∙◌, subst, arith, append_assoc, append-nil}
+use Rattle.std.proofs.Common.{◌≡◌, ℕ, zero, suc, ◌+◌, ◌<◌, ◌≤◌, length, true, false, not, ◌&&◌, cond, eqb, ltb, List, [], ◌∷◌, ◌++◌, drop, get_or, Option, None, Some, inl, inr, refl, sym, ap, ◌∙◌, subst, arith, append_assoc, append-nil}
 use Rattle.std.specs.Prelude.{nat_le}
-use Rattle.std.specs.List.{AllByRecursion, list_any, range_with_len}
-use Rattle.std.proofs.lemmas.Bool.{and_from, and_parts, both_ways, cases_Bool, eq-eqb, false≢true, false_from_ne_true, le-leb, le-ltb, leb-true, not_from_false}
+use Rattle.std.specs.List.{AllByRecursion, range_with_len}
+use Rattle.std.proofs.lemmas.Bool.{and_from, and_parts, cases_Bool, eq-eqb, false≢true, false_from_ne_true, le-leb, le-ltb, leb-true, not_from_false}
 use Rattle.std.proofs.lemmas.List.{drop_more, get_or-set_other, get_or-set_same, length-drop}
 use Rattle.std.proofs.lemmas.List.Folds.{list_any_at}
 use Rattle.std.proofs.lemmas.List.FromFn.{get_or-range_with_len, length-range_with_len}
@@ -11,7 +11,7 @@ use Rattle.resource_lock.specs.Good.{Good}
 use Rattle.resource_lock.specs.GraphView.{GraphView, action_of}
 use Rattle.resource_lock.specs.Ranges.{IsFetchOf, task_with}
 use Rattle.resource_lock.specs.Shape.{BelongsTo}
-use Rattle.resource_lock.specs.StateView.{Holding, StateView, has_parked, holding_of, is_owner, is_parked, mark_of, owner_of, owns, runs_unit, IsLockOf, IsWorkerOf}
+use Rattle.resource_lock.specs.StateView.{Holding, StateView, has_parked, holding_of, is_owner, is_parked, mark_of, owns, runs_unit, IsLockOf, IsWorkerOf}
 use Rattle.resource_lock.specs.declared.changes.Change.{Change}
 use Rattle.resource_lock.specs.declared.changes.Change.TheVariants.{Unlock, Give, Move, Park as ParkLock, Enter}
 use Rattle.resource_lock.specs.declared.ids.LockId.{LockId}
@@ -20,7 +20,7 @@ use Rattle.resource_lock.specs.declared.marks.Mark.TheVariants.{Waiting, Running
 use Rattle.resource_lock.specs.declared.marks.MarkId.{MarkId}
 use Rattle.resource_lock.specs.declared.marks.MarkId.TheVariants.{Task as TaskOf, Action as ActionOf, Unit as UnitOf}
 use Rattle.resource_lock.proofs.Kept.{kept}
-use Rattle.resource_lock.proofs.Runs.{can_all-append, named_along, same_shape-make, same_shape-make_all, worker_along}
+use Rattle.resource_lock.proofs.Runs.{can_all-append, named_along, same_shape-make, worker_along}
 use Rattle.resource_lock.proofs.Units.{action_there}
 use Rattle.lock_journal.specs.Table.{condition, earlier_passed, is_enabled, list_of, owned, owned_from, parked_locks, set_down, works_on}
 use Rattle.lock_journal.specs.Taking.{rises}

@@ -1,7 +1,5 @@
 -- What a worker shows once it has entered a blocking section, and what it may wait for before.
-use Rattle.std.proofs.Common.{◌≡◌, ◌<◌, ℕ, Bool, true, false, ◌||◌, List, [], ◌∷◌, ◌++◌, Option, None, Some, inl, inr, refl, sym, ap, ◌∙◌, subst}
-use Rattle.std.specs.Prelude.{Contains}
-use Rattle.std.specs.List.{list_any}
+use Rattle.std.proofs.Common.{◌≡◌, ◌<◌, ℕ, true, false, List, [], ◌++◌, Option, None, Some, refl, sym, ap, ◌∙◌, subst}
 use Rattle.std.proofs.lemmas.Bool.{eq-eqb, false≢true, false_from_ne_true, or_right}
 use Rattle.std.proofs.lemmas.List.Folds.{list_any-append}
 use Rattle.resource_lock.specs.Change.{holding_after}
@@ -10,8 +8,7 @@ use Rattle.resource_lock.specs.Ranges.{IsFetchOf, task_with}
 use Rattle.resource_lock.specs.StateView.{Holding, StateView, holding_of, mark_of, owner_of, owns, runs_by, stands_in, IsWorkerOf}
 use Rattle.resource_lock.specs.declared.ids.LockId.{LockId}
 use Rattle.resource_lock.specs.declared.ids.WorkerId.{WorkerId}
-use Rattle.resource_lock.specs.declared.changes.Change.{Change}
-use Rattle.resource_lock.specs.declared.marks.Mark.TheVariants.{Waiting, Running}
+use Rattle.resource_lock.specs.declared.marks.Mark.TheVariants.{Running}
 use Rattle.resource_lock.specs.declared.marks.MarkId.{MarkId}
 use Rattle.resource_lock.specs.declared.marks.MarkId.TheVariants.{Task as TaskOf, Unit as UnitOf}
 use Rattle.resource_lock.proofs.Runs.{worker_from}
@@ -20,17 +17,14 @@ use Rattle.lock_journal.specs.Allowed.{IsDisabled, IsFixedList}
 use Rattle.lock_journal.specs.BookView.{BookView}
 use Rattle.lock_journal.specs.Table.{list_of, owned}
 use Rattle.lock_journal.specs.declared.entries.Kind.TheVariants.{Block}
-use Rattle.run_laws.specs.Own.{claimed}
-use Rattle.run_laws.specs.OwnChanges.{after_all, claimed_after, locks_after, mark_before, with_if, with_member}
-use Rattle.coordination.specs.Agrees.{Agrees, Finds}
+use Rattle.run_laws.specs.OwnChanges.{after_all, claimed_after, locks_after, mark_before, with_if}
+use Rattle.coordination.specs.Agrees.{Finds}
 use Rattle.coordination.specs.Calls.{HasFinished}
 use Rattle.coordination.specs.Shown.{claimed_shown, lease_shown, locks_shown, parked_shown}
-use Rattle.coordination.specs.Sights.{seeing}
 use Rattle.coordination.specs.declared.rule.Sight.{Sight}
 use Rattle.coordination.proofs.Entries.{belongs_sound, good_sound}
 use Rattle.coordination.proofs.Nothing.{owns_none}
-use Rattle.blocking_section.specs.BlockedView.{BlockedView}
-use Rattle.blocking_section.specs.Sections.{HasSetDown, HasUnit, IsGivenBackBy, IsNotReady, MayEnter, OwnsNothing, OwnsNothingMeanwhile, is_ready, with_unit}
+use Rattle.blocking_section.specs.Sections.{HasSetDown, HasUnit, IsGivenBackBy, IsNotReady, MayEnter, OwnsNothingMeanwhile, is_ready, with_unit}
 use Rattle.blocking_section.proofs.After.{LeavesBy, leaves_by}
 use Rattle.blocking_section.proofs.Claims.{has_member, no_action, no_unit, task_runs}
 use Rattle.blocking_section.proofs.Down.{down, down_claimed, down_holding, down_locks, enters_for, enters_without}

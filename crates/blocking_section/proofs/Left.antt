@@ -1,9 +1,9 @@
 -- What a worker shows once it has left a blocking section, and what it may wait for before.
-use Rattle.std.proofs.Common.{◌≡◌, ◌<◌, ℕ, zero, suc, Bool, true, false, ◌||◌, length, List, [], ◌∷◌, ◌++◌, get_or, Option, None, Some, refl, sym, ap, ◌∙◌, subst, arith}
+use Rattle.std.proofs.Common.{◌≡◌, ◌<◌, ℕ, zero, suc, true, false, length, List, [], ◌∷◌, ◌++◌, get_or, Option, None, Some, refl, sym, ap, ◌∙◌, subst, arith}
 use Rattle.std.proofs.lemmas.Bool.{eq-eqb, false≢true, false_from_ne_true}
 use Rattle.resource_lock.specs.Change.{holding_after}
 use Rattle.resource_lock.specs.GraphView.{GraphView}
-use Rattle.resource_lock.specs.StateView.{Holding, StateView, holding_of, mark_of, runs_by, stands_in, IsWorkerOf}
+use Rattle.resource_lock.specs.StateView.{Holding, StateView, holding_of, mark_of, stands_in, IsWorkerOf}
 use Rattle.resource_lock.specs.declared.changes.Change.{Change}
 use Rattle.resource_lock.specs.declared.changes.Change.TheVariants.{Move}
 use Rattle.resource_lock.specs.declared.ids.LockId.{LockId}

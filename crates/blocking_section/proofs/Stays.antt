@@ -1,9 +1,8 @@
 -- What was given back stays that of the pass while others make entries.
-use Rattle.std.proofs.Common.{◌≡◌, ◌≢◌, List, Result, Ok, Err, refl, sym, ap, ◌∙◌, subst}
+use Rattle.std.proofs.Common.{◌≡◌, ◌≢◌, Result, Ok, Err, refl, sym, ap, ◌∙◌, subst}
 use Rattle.std.specs.Prelude.{IfOk}
 use Rattle.resource_lock.specs.StateView.{Holding, stands_in}
 use Rattle.resource_lock.specs.declared.ids.WorkerId.{WorkerId}
-use Rattle.resource_lock.specs.declared.marks.MarkId.{MarkId}
 use Rattle.lock_journal.specs.BookView.{BookView}
 use Rattle.coordination.specs.Agrees.{Agrees}
 use Rattle.coordination.specs.Calls.{AskedInVain, IsAnswered}

@@ -1,8 +1,8 @@
 -- A worker that takes up again what it has parked, and a lease.
-use Rattle.std.proofs.Common.{◌≡◌, ◌≢◌, ℕ, suc, ◌+◌, ◌-◌, ◌<◌, ◌≤◌, length, Bool, true, false, not, ◌&&◌, ◌||◌, cond, eqb, ltb, List, [], ◌∷◌, ◌++◌, reverse, get_or, Option, None, Some, inl, inr, refl, sym, ap, ◌∙◌, subst, arith}
+use Rattle.std.proofs.Common.{◌≡◌, ◌≢◌, ℕ, ◌+◌, ◌-◌, ◌<◌, ◌≤◌, length, Bool, true, false, not, ◌&&◌, ◌||◌, cond, eqb, List, [], ◌∷◌, ◌++◌, reverse, None, Some, inl, inr, refl, sym, ap, ◌∙◌, arith}
 use Rattle.std.specs.Prelude.{nat_le, nat_lt, is_none, slice_get}
-use Rattle.std.specs.List.{list_all, list_any}
-use Rattle.std.proofs.lemmas.Bool.{and_from, and_parts, both_ways, cases_Bool, eq-eqb, eqb-true, false≢true, false_from_ne_true, le-ltb, leb-true, lt-ltb, ltb-true, not_from_false, or_right}
+use Rattle.std.specs.List.{list_all}
+use Rattle.std.proofs.lemmas.Bool.{and_from, and_parts, cases_Bool, eq-eqb, eqb-true, false≢true, false_from_ne_true, le-ltb, leb-true, lt-ltb, ltb-true, not_from_false, or_right}
 use Rattle.std.proofs.lemmas.List.{get_or-set_other, length_push, get_or_push, reverse-append}
 use Rattle.std.proofs.lemmas.List.Folds.{list_any-append}
 use Rattle.std.proofs.lemmas.Option.{slice_get-get_or}
@@ -16,7 +16,7 @@ use Rattle.resource_lock.specs.declared.changes.Change.TheVariants.{Lock, Take, 
 use Rattle.resource_lock.specs.declared.ids.LockId.{LockId}
 use Rattle.resource_lock.specs.declared.ids.WorkerId.{WorkerId}
 use Rattle.resource_lock.specs.declared.marks.Mark.{Mark}
-use Rattle.resource_lock.specs.declared.marks.Mark.TheVariants.{Running, Passed, Failed}
+use Rattle.resource_lock.specs.declared.marks.Mark.TheVariants.{Running}
 use Rattle.resource_lock.specs.declared.marks.MarkId.{MarkId}
 use Rattle.resource_lock.specs.declared.marks.MarkId.TheVariants.{Unit as UnitOf}
 use Rattle.resource_lock.proofs.Kept.{kept, leases-with_holding}
@@ -29,7 +29,7 @@ use Rattle.lock_journal.specs.Table.{condition, is_enabled, list_of, mark_from, 
 use Rattle.lock_journal.specs.Taking.{can_take_all, rises}
 use Rattle.lock_journal.specs.declared.entries.Closed.{Closed}
 use Rattle.lock_journal.specs.declared.entries.Kind.TheVariants.{Unblock}
-use Rattle.run_laws.specs.OwnChanges.{after_all, claimed_after, lock_before, locks_after, mark_before, with_if, with_member, without_if, without_member}
+use Rattle.run_laws.specs.OwnChanges.{after_all, claimed_after, lock_before, locks_after, with_member}
 use Rattle.run_laws.proofs.OwnChanges.{own_holding_all}
 use Rattle.blocking_section.proofs.After.{after_all-append}
 

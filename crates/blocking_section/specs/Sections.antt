@@ -1,5 +1,5 @@
 -- What a pass shows round a blocking section.
-use Rattle.std.specs.Prelude.{◌≡◌, ◌≢◌, ◌<◌, ◌==◌, ◌&&◌, ◌||◌, ℕ, Bool, true, false, List, [], ◌∷◌, ◌++◌, Option, None, Some, Contains}
+use Rattle.std.specs.Prelude.{◌≡◌, ◌≢◌, ◌<◌, ◌&&◌, ◌||◌, ℕ, Bool, true, false, List, [], ◌++◌, Option, None, Some, Contains}
 use Rattle.std.specs.List.{list_any}
 use Rattle.resource_lock.specs.Change.{same_mark}
 use Rattle.resource_lock.specs.Fits.{Fits}

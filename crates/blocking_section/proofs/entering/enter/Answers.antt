@@ -1,10 +1,5 @@
-use Rattle.std.proofs.Common.{rules, ◌≡◌, Bool, true, false, Ok, Err, sym, ap, ◌∙◌, subst}
-use Rattle.resource_lock.specs.declared.ids.WorkerId.{WorkerId}
-use Rattle.lock_journal.specs.declared.entries.Kind.TheVariants as kinds
-use Rattle.lock_journal.specs.Allowed.{IsFixedList}
-use Rattle.coordination.specs.Calls.{HasFinished, WasStopped}
-use Rattle.blocking_section.specs.BlockedView.{BlockedView}
-use Rattle.blocking_section.specs.Sections.{HasSetDown, IsGivenBackBy, IsNotReady, MayEnter, OwnsNothingMeanwhile, ShowsTheSame}
+use Rattle.std.proofs.Common.{rules, Ok, ap, ◌∙◌, subst}
+use Rattle.blocking_section.specs.Sections.{IsGivenBackBy}
 use Rattle.blocking_section.proofs.After.{stopped_for, stopped_shows, surely_finished}
 use Rattle.blocking_section.proofs.Entered.{given_back, not_ready, nothing_meanwhile, set_down_shows}
 use Rattle.blocking_section.proofs.Ready.{never_unready, only_with_unit}

@@ -1,10 +1,9 @@
-use Rattle.std.proofs.Common.{rules, ◌≡◌, Bool, true, false, Ok, Err, sym, ap, ◌∙◌, subst, Option, arith}
-use Rattle.resource_lock.specs.declared.ids.LockId.{LockId}
+use Rattle.std.proofs.Common.{rules, ◌≡◌, true, Ok, sym, ap, ◌∙◌, subst, Option, arith}
 use Rattle.lock_journal.specs.declared.entries.Closed.{Closed}
 use Rattle.lock_journal.specs.declared.entries.Kind.TheVariants.{Unblock}
 use Rattle.lock_journal.specs.Allowed.{IsDisabled, IsFixedList}
 use Rattle.lock_journal.specs.Taking.{rises}
-use Rattle.coordination.specs.Calls.{HasFailed, HasFinished, WasStopped}
+use Rattle.coordination.specs.Calls.{HasFinished, WasStopped}
 use Rattle.blocking_section.specs.BlockedView.{BlockedView}
 use Rattle.blocking_section.specs.Sections.{closed_with}
 use Rattle.blocking_section.proofs.After.{stopped_for, stopped_shows, surely_finished}
