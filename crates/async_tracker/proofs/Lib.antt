@@ -1,0 +1,5 @@
+pub mod Claims
+pub mod Owned
+pub mod After
+pub mod Claiming
+pub mod Parking

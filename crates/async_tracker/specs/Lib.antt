@@ -1,0 +1,3 @@
+pub mod ParkedView
+pub mod Shows
+pub mod Waits

@@ -1,0 +1,11 @@
+//! Work that a task waits for without holding a lease: items are queued, run by any worker, and
+//! waited for, after Gradle's tracker of asynchronous work.
+#![tactic(auto)]
+
+mod actions;
+mod items;
+mod parked;
+
+pub use actions::{park, submit};
+pub use items::{claim, close};
+pub use parked::Parked;
