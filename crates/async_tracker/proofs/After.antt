@@ -1,6 +1,6 @@
 -- What an entry of the worker's own leaves of what its pass shows.
 use Rattle.std.proofs.Common.{◌≡◌, ◌≢◌, Bool, true, false, Result, Ok, Err, List, [], ◌∷◌, ◌++◌, Some, refl, sym, ap, ◌∙◌, subst}
-use Rattle.std.specs.Prelude.{OnErr}
+use Rattle.std.specs.Prelude.{OnErr, OnOk}
 use Rattle.resource_lock.specs.Change.{holding_after, make_all}
 use Rattle.resource_lock.specs.Good.{Good}
 use Rattle.resource_lock.specs.GraphView.{GraphView}
@@ -134,3 +134,7 @@ halted r (Halt.Stopped by) is no_memory stopped = stopped by is
 pub on_err : {T E P : Type 0} (r : Result T E) → P → OnErr r P
 on_err (Ok x) p = tt
 on_err (Err e) p = p
+
+pub from_ok : {T E P : Type 0} (r : Result T E) (x : T) → r ≡ Ok x → OnOk r P → P
+from_ok (Ok y) x is p = p
+from_ok (Err e) x is p = absurd (cc)

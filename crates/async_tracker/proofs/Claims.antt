@@ -125,6 +125,10 @@ unfoldable is_task_at : ℕ → MarkId → Bool
 is_task_at t (TaskOf n) = eqb n t
 is_task_at t _ = false
 
+unfoldable is_action_at : ℕ → MarkId → Bool
+is_action_at a (ActionOf n) = eqb n a
+is_action_at a _ = false
+
 right_of : (a b : Bool) → a ≡ false → (a || b) ≡ true → b ≡ true
 right_of a b is h = sym (ap (λ x. x || b) is) ∙ h
 
@@ -142,6 +146,17 @@ unit_runs s w u there =
     sym (any_of_three (is_unit_at u) (λ n. false) (λ n. false) (λ n. eqb n u) (λ n. refl) (λ n. refl) (λ n. refl) ts qs us) ∙ contained (claimed s w) (UnitOf u) (is_unit_at u) (eq-eqb u u refl) there in
     let found : list_any (λ n. eqb n u) us ≡ true = right_of (list_any (λ n. false) qs) (list_any (λ n. eqb n u) us) (none qs) (right_of (list_any (λ n. false) ts) (list_any (λ n. false) qs || list_any (λ n. eqb n u) us) (none ts) all) in
     running_of w (mark_of s (UnitOf u)) (first_place (runs_by w) Waiting u s.units found)
+
+pub action_runs : (s : StateView) (w : WorkerId) (a : ℕ) → Contains (claimed s w) (ActionOf a) → mark_of s (ActionOf a) ≡ Running w
+unfolding is_action_at
+action_runs s w a there =
+    let ts = places_from (runs_by w) 0 s.tasks in
+    let qs = places_from (runs_by w) 0 s.actions in
+    let us = places_from (runs_by w) 0 s.units in
+    let all : (list_any (λ n. false) ts || (list_any (λ n. eqb n a) qs || list_any (λ n. false) us)) ≡ true =
+    sym (any_of_three (is_action_at a) (λ n. false) (λ n. eqb n a) (λ n. false) (λ n. refl) (λ n. refl) (λ n. refl) ts qs us) ∙ contained (claimed s w) (ActionOf a) (is_action_at a) (eq-eqb a a refl) there in
+    let later : (list_any (λ n. eqb n a) qs || list_any (λ n. false) us) ≡ true = right_of (list_any (λ n. false) ts) (list_any (λ n. eqb n a) qs || list_any (λ n. false) us) (none ts) all in
+    running_of w (mark_of s (ActionOf a)) (first_place (runs_by w) Waiting a s.actions (left_of (list_any (λ n. eqb n a) qs) (list_any (λ n. false) us) (none us) later))
 
 pub task_runs : (s : StateView) (w : WorkerId) (t : ℕ) → Contains (claimed s w) (TaskOf t) → mark_of s (TaskOf t) ≡ Running w
 unfolding is_task_at

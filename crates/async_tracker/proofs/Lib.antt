@@ -3,3 +3,5 @@ pub mod Owned
 pub mod After
 pub mod Claiming
 pub mod Parking
+pub mod Resumed
+pub mod Turns

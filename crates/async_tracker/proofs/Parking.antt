@@ -170,7 +170,7 @@ stands_last-push l locks =
     ap (λ o. is_lock o l) (slice_get-get_or (locks ++ l ∷ []) (length (locks ++ l ∷ []) - 1) l within ∙ ap Some (get_or_push locks l l (length (locks ++ l ∷ []) - 1) at))
     ∙ eq-eqb l.0 l.0 refl
 
-stands_in-last : (l : LockId) (locks : List LockId) → stands_in l (locks ++ l ∷ []) ≡ true
+pub stands_in-last : (l : LockId) (locks : List LockId) → stands_in l (locks ++ l ∷ []) ≡ true
 stands_in-last l locks = list_any-append (λ x. eqb x.0 l.0) locks (l ∷ []) ∙ or_right (stands_in l locks) (eqb l.0 l.0 || false) (ap (λ b. b || false) (eq-eqb l.0 l.0 refl))
 
 not_owned_when_parked : (s : StateView) (w : WorkerId) (l : LockId) → Good s → has_parked s w l ≡ true → owns s w l ≡ false

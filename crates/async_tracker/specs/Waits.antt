@@ -1,5 +1,5 @@
 -- What the calls of the tracker wait for.
-use Rattle.std.specs.Prelude.{ℕ, ◌≡◌, ◌≢◌, Bool, false, ◌&&◌, not, List, [], ◌∷◌, Option, find}
+use Rattle.std.specs.Prelude.{ℕ, ◌≡◌, ◌≢◌, Bool, false, ◌&&◌, not, List, [], ◌∷◌, Option, None, find}
 use Rattle.std.specs.List.{list_all}
 use Rattle.resource_lock.specs.Change.{same_mark}
 use Rattle.resource_lock.specs.GraphView.{GraphView, action_of}
@@ -12,6 +12,7 @@ use Rattle.resource_lock.specs.declared.ids.LockId.{LockId}
 use Rattle.resource_lock.specs.declared.ids.WorkerId.{WorkerId}
 use Rattle.resource_lock.specs.declared.marks.Mark.TheVariants.{Waiting, Queued}
 use Rattle.resource_lock.specs.declared.marks.MarkId.TheVariants.{Action as ActionOf, Unit as UnitOf}
+use Rattle.lock_journal.specs.BookView.{BookView}
 use Rattle.lock_journal.specs.Table.{earlier_passed, fetch_closed, has_ended}
 use Rattle.lock_journal.specs.Taking.{can_take_all}
 
@@ -44,9 +45,13 @@ CannotTakeAgain Retain l w s = can_lease s w ≡ false
 CannotTakeAgain Release l w s = ⊥
 CannotTakeAgain ReleaseAndReacquire l w s = can_take_all s w (l ∷ []) ≡ false
 
-abbrev pub CannotResume : ℕ → GraphView → WorkerId → StateView → Type 0
-CannotResume a g w s = CannotTakeAgain (action_of g a).retention (lock_with g a) w s
-
 -- the first item of an action that hasn't ended
 abbrev pub first_open : GraphView → StateView → ℕ → Option ℕ
 first_open g s a = find (λ u. not (has_ended (mark_of s (UnitOf u)))) (items_of g a)
+
+abbrev pub IsFirstOpen : ℕ → WorkerId → BookView → Option ℕ → Type 0
+IsFirstOpen a w book unit = unit ≡ first_open book.graph book.state a
+
+-- all items have ended, and the lock or the lease can't be had
+abbrev pub CannotResume : ℕ → GraphView → WorkerId → StateView → Type 0
+CannotResume a g w s = (first_open g s a ≡ None) × CannotTakeAgain (action_of g a).retention (lock_with g a) w s

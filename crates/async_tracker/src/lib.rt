@@ -4,8 +4,12 @@
 
 mod actions;
 mod items;
+mod open_items;
 mod parked;
+mod resuming;
 
 pub use actions::{park, submit};
 pub use items::{claim, close};
+pub use open_items::ready;
 pub use parked::Parked;
+pub use resuming::{Held, resume};
