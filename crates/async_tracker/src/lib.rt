@@ -4,12 +4,14 @@
 
 mod actions;
 mod items;
+mod laws;
 mod open_items;
 mod parked;
 mod resuming;
 
 pub use actions::{park, submit};
 pub use items::{claim, close};
+pub use laws::closing_undoes_claiming;
 pub use open_items::ready;
 pub use parked::Parked;
 pub use resuming::{Held, resume};
