@@ -1,5 +1,5 @@
 -- Two calls in turn, of which the first makes no entry.
-use Rattle.std.proofs.Common.{◌≡◌, List, Option, None, refl, sym, ap, ◌∙◌, subst}
+use Rattle.std.proofs.Common.{◌≡◌, List, Option, None, inl, inr, refl, sym, ap, ◌∙◌, subst}
 use Rattle.std.specs.Prelude.{ℕ, Contains}
 use Rattle.std.specs.List.{list_any}
 use Rattle.resource_lock.specs.Change.{stands_last}
@@ -19,7 +19,8 @@ use Rattle.coordination.specs.Calls.{HasFinished, IsAnswered, WasStopped}
 use Rattle.coordination.specs.declared.rule.Sight.{Sight}
 use Rattle.coordination.proofs.Growing.{agrees_then}
 use Rattle.async_tracker.specs.ParkedView.{ParkedView}
-use Rattle.async_tracker.specs.Shows.{HasParkedLast, IsFree, IsParkedBy, ShowsTheSame, is_unit}
+use Rattle.async_tracker.specs.Shows.{HasParkedLast, IsFree, IsIdleOrParked, IsParkedBy, ShowsTheSame, is_action, is_unit}
+use Rattle.async_tracker.specs.TwoItems.{CanHelp, HasTwoItems}
 use Rattle.async_tracker.proofs.After.{shows_found}
 
 module _ {A : Type 0} {answers : WorkerId → BookView → A → Type 0} {a : A} {old mid : Sight} (q : IsAnswered answers a old mid) where
@@ -61,3 +62,15 @@ parked_still {old} {new} p same by =
       action = subst (λ (ms : List MarkId). Contains ms (ActionOf p.action)) (sym same.claimed) by.action;
       lock = subst (λ (g : GraphView). HasParkedLast (action_of g p.action).retention (lock_with g p.action) new) (sym same.graph) last;
     }
+
+pub waits_still : {old new : Sight} → ShowsTheSame old new → IsIdleOrParked old → IsIdleOrParked new
+waits_still same (inl idle) = inl (same.locks ∙ idle.0, same.claimed ∙ idle.1)
+waits_still same (inr parked) = inr (ap (list_any is_action) same.claimed ∙ parked)
+
+pub helps_still : {old new : Sight} (p : ParkedView) → ShowsTheSame old new → CanHelp old p → CanHelp new p
+helps_still p same helps = record {
+  graph = subst HasTwoItems (sym same.graph) helps.graph;
+  own = parked_still p same helps.own;
+  free = free_still same helps.free;
+  waits = waits_still same helps.waits;
+}

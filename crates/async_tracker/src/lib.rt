@@ -15,3 +15,6 @@ pub use laws::closing_undoes_claiming;
 pub use open_items::ready;
 pub use parked::Parked;
 pub use resuming::{Held, resume};
+
+#[cfg(test)]
+mod worked_tests;

@@ -13,7 +13,7 @@ use Rattle.coordination.specs.Shown.{lease_shown}
 use Rattle.coordination.proofs.Growing.{agrees_self}
 use Rattle.async_tracker.specs.Shows.{HasReleased, ShowsClaimed, ShowsClosed, ShowsTheSame}
 use Rattle.async_tracker.proofs.Owned.{stands_in_owned}
-use Rattle.async_tracker.proofs.Turns.{free_still, parked_still}
+use Rattle.async_tracker.proofs.Turns.{free_still, parked_still, waits_still}
 use Rattle.async_tracker.proofs.laws.closing_undoes_claiming.Goals as goal
 
 -- a member that was added and taken out again
@@ -57,3 +57,6 @@ returns-clause-parked c = λ a c p same by. parked_still p same by
 
 pub returns-clause-released : goal.returns-clause-released
 returns-clause-released c = released_still
+
+pub returns-clause-waits : goal.returns-clause-waits
+returns-clause-waits c = λ a c same waits. waits_still same waits
