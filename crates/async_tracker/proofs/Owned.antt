@@ -1,0 +1,49 @@
+-- What the list of a worker's locks says of its owner.
+use Rattle.std.proofs.Common.{◌≡◌, ℕ, zero, suc, ◌+◌, ◌<◌, Bool, true, false, cond, ◌||◌, List, [], ◌∷◌, get_or, length, Option, None, arith, refl, ap, ◌∙◌}
+use Rattle.std.specs.List.{list_any}
+use Rattle.std.proofs.lemmas.Bool.{eq-eqb, ne_eqb, false≢true}
+use Rattle.resource_lock.specs.StateView.{StateView, is_owner, owns, stands_in, IsLockOf}
+use Rattle.resource_lock.specs.declared.ids.LockId.{LockId}
+use Rattle.resource_lock.specs.declared.ids.WorkerId.{WorkerId}
+use Rattle.lock_journal.specs.Table.{owned, owned_from}
+
+below : (n k : ℕ) (os : List (Option WorkerId)) (w : WorkerId) → k < n → stands_in (record { 0 = k }) (owned_from n os w) ≡ false
+below n k [] w low = refl
+below n k (o ∷ os) w low =
+    let rest : stands_in (record { 0 = k }) (owned_from (n + 1) os w) ≡ false = below (n + 1) k os w (omega (arith, low)) in
+    elim (is_owner o w) as (λ b. stands_in (record { 0 = k }) (cond b (record { 0 = n } ∷ owned_from (n + 1) os w) (owned_from (n + 1) os w)) ≡ false) [
+      | true ↦ ap (λ b. b || stands_in (record { 0 = k }) (owned_from (n + 1) os w)) (ne_eqb n k (λ same. absurd (omega (arith, low, same)))) ∙ rest
+      | false ↦ rest
+    ]
+
+at_place : (n i : ℕ) (os : List (Option WorkerId)) (w : WorkerId) → stands_in (record { 0 = n + i }) (owned_from n os w) ≡ is_owner (get_or os i None) w
+at_place n i [] w = refl
+at_place n zero (o ∷ os) w =
+    let rest : stands_in (record { 0 = n + 0 }) (owned_from (n + 1) os w) ≡ false = below (n + 1) (n + 0) os w (omega arith) in
+    elim (is_owner o w) as (λ b. stands_in (record { 0 = n + 0 }) (cond b (record { 0 = n } ∷ owned_from (n + 1) os w) (owned_from (n + 1) os w)) ≡ b) [
+      | true ↦ ap (λ b. b || stands_in (record { 0 = n + 0 }) (owned_from (n + 1) os w)) (eq-eqb n (n + 0) (omega arith))
+      | false ↦ rest
+    ]
+at_place n (suc i) (o ∷ os) w =
+    let next : n + suc i ≡ (n + 1) + i = omega arith in
+    let rest : stands_in (record { 0 = n + suc i }) (owned_from (n + 1) os w) ≡ is_owner (get_or os i None) w =
+    ap (λ (k : ℕ). stands_in (record { 0 = k }) (owned_from (n + 1) os w)) next ∙ at_place (n + 1) i os w in
+    elim (is_owner o w) as (λ b. stands_in (record { 0 = n + suc i }) (cond b (record { 0 = n } ∷ owned_from (n + 1) os w) (owned_from (n + 1) os w)) ≡ is_owner (get_or os i None) w) [
+      | true ↦ ap (λ b. b || stands_in (record { 0 = n + suc i }) (owned_from (n + 1) os w)) (ne_eqb n (n + suc i) (λ same. absurd (omega (arith, same)))) ∙ rest
+      | false ↦ rest
+    ]
+
+-- the list has just the locks that the worker owns
+pub stands_in_owned : (s : StateView) (w : WorkerId) (l : LockId) → stands_in l (owned s w) ≡ owns s w l
+stands_in_owned s w l =
+    let same : l.0 ≡ 0 + l.0 = omega arith in
+    ap (λ (k : ℕ). stands_in (record { 0 = k }) (owned s w)) same ∙ at_place 0 l.0 s.owners w
+
+owner_within : (os : List (Option WorkerId)) (i : ℕ) (w : WorkerId) → is_owner (get_or os i None) w ≡ true → i < length os
+owner_within [] i w h = absurd (false≢true h)
+owner_within (o ∷ os) zero w h = omega arith
+owner_within (o ∷ os) (suc i) w h = omega (arith, owner_within os i w h)
+
+-- a lock that is owned is one of the state's
+pub owned_there : (s : StateView) (w : WorkerId) (l : LockId) → owns s w l ≡ true → IsLockOf s l
+owned_there s w l = owner_within s.owners l.0 w

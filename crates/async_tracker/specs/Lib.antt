@@ -1,0 +1,4 @@
+pub mod ParkedView
+pub mod Shows
+pub mod Waits
+pub mod TwoItems

@@ -1,0 +1,57 @@
+-- What the calls of the tracker wait for.
+use Rattle.std.specs.Prelude.{ℕ, ◌≡◌, ◌≢◌, Bool, false, ◌&&◌, not, List, [], ◌∷◌, Option, None, find}
+use Rattle.std.specs.List.{list_all}
+use Rattle.resource_lock.specs.Change.{same_mark}
+use Rattle.resource_lock.specs.GraphView.{GraphView, action_of}
+use Rattle.resource_lock.specs.Ranges.{items_of, lock_with}
+use Rattle.resource_lock.specs.StateView.{StateView, mark_of}
+use Rattle.resource_lock.specs.Trying.{can_lease}
+use Rattle.resource_lock.specs.declared.graphs.Retention.{Retention}
+use Rattle.resource_lock.specs.declared.graphs.Retention.TheVariants.{Retain, Release, ReleaseAndReacquire}
+use Rattle.resource_lock.specs.declared.ids.LockId.{LockId}
+use Rattle.resource_lock.specs.declared.ids.WorkerId.{WorkerId}
+use Rattle.resource_lock.specs.declared.marks.Mark.TheVariants.{Waiting, Queued}
+use Rattle.resource_lock.specs.declared.marks.MarkId.TheVariants.{Action as ActionOf, Unit as UnitOf}
+use Rattle.lock_journal.specs.BookView.{BookView}
+use Rattle.lock_journal.specs.Table.{earlier_passed, fetch_closed, has_ended}
+use Rattle.lock_journal.specs.Taking.{can_take_all}
+
+-- no lease is free for a unit that is Queued
+abbrev pub NeedsLease : ℕ → GraphView → WorkerId → StateView → Type 0
+NeedsLease u g w s = (mark_of s (UnitOf u) ≡ Queued) × (can_lease s w ≡ false)
+
+-- the unit isn't Queued
+abbrev pub IsNotQueued : ℕ → GraphView → WorkerId → StateView → Type 0
+IsNotQueued u g w s = mark_of s (UnitOf u) ≢ Queued
+
+-- the action and its items wait, and all that comes before them in the task is over
+abbrev pub can_queue : GraphView → StateView → ℕ → Bool
+can_queue g s a =
+    same_mark (mark_of s (ActionOf a)) Waiting
+    && earlier_passed g s a
+    && fetch_closed g s a
+    && list_all (λ u. same_mark (mark_of s (UnitOf u)) Waiting) (items_of g a)
+
+abbrev pub CannotQueue : ℕ → GraphView → WorkerId → StateView → Type 0
+CannotQueue a g w s = can_queue g s a ≡ false
+
+-- the action isn't Queued
+abbrev pub ActionIsNotQueued : ℕ → GraphView → WorkerId → StateView → Type 0
+ActionIsNotQueued a g w s = mark_of s (ActionOf a) ≢ Queued
+
+-- the lock or the lease that the retention takes again can't be had
+abbrev pub CannotTakeAgain : Retention → LockId → WorkerId → StateView → Type 0
+CannotTakeAgain Retain l w s = can_lease s w ≡ false
+CannotTakeAgain Release l w s = ⊥
+CannotTakeAgain ReleaseAndReacquire l w s = can_take_all s w (l ∷ []) ≡ false
+
+-- the first item of an action that hasn't ended
+abbrev pub first_open : GraphView → StateView → ℕ → Option ℕ
+first_open g s a = find (λ u. not (has_ended (mark_of s (UnitOf u)))) (items_of g a)
+
+abbrev pub IsFirstOpen : ℕ → WorkerId → BookView → Option ℕ → Type 0
+IsFirstOpen a w book unit = unit ≡ first_open book.graph book.state a
+
+-- all items have ended, and the lock or the lease can't be had
+abbrev pub CannotResume : ℕ → GraphView → WorkerId → StateView → Type 0
+CannotResume a g w s = (first_open g s a ≡ None) × CannotTakeAgain (action_of g a).retention (lock_with g a) w s

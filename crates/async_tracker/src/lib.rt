@@ -1,0 +1,20 @@
+//! Work that a task waits for without holding a lease: items are queued, run by any worker, and
+//! waited for, after Gradle's tracker of asynchronous work.
+#![tactic(auto)]
+
+mod actions;
+mod items;
+mod laws;
+mod open_items;
+mod parked;
+mod resuming;
+
+pub use actions::{park, submit};
+pub use items::{claim, close};
+pub use laws::closing_undoes_claiming;
+pub use open_items::ready;
+pub use parked::Parked;
+pub use resuming::{Held, resume};
+
+#[cfg(test)]
+mod worked_tests;

@@ -1,0 +1,42 @@
+ghost use Rattle.std.specs.Prelude.{◌≡◌};
+
+use resource_lock::WorkerId;
+use std::marker::Model;
+
+/// A worker that waits for the items of an action. `park` makes it, and `resume` takes it.
+#[derive(Debug, Drop)]
+pub struct Parked {
+    worker: WorkerId,
+    action: u32,
+}
+
+impl Model for Parked {
+    ghost use Rattle.async_tracker.specs.ParkedView.{ParkedView};
+
+    ghost Value = { ParkedView };
+
+    ghost view = { λ p. record { worker = p.worker; action = p.action } };
+}
+
+impl Parked {
+    pub(crate) fn new(worker: WorkerId, action: u32) -> Parked
+        ensures worker { result.worker ≡ worker }
+        ensures action { result.action ≡ action }
+    {
+        Parked { worker, action }
+    }
+
+    /// The worker.
+    pub fn worker(&self) -> WorkerId
+        ensures { result ≡ self.now.worker }
+    {
+        self.worker
+    }
+
+    /// The action, by its number.
+    pub fn action(&self) -> u32
+        ensures { result ≡ self.now.action }
+    {
+        self.action
+    }
+}
