@@ -115,7 +115,6 @@ can_put_by s w l cs worker good lease own rest =
     let absent : has_parked open_state w l ≡ false = good_given.parked_not_owned w l own in
     and_from _ _ lease (and_from _ _ own (and_from _ _ (λ i. not (not_own i) && not (absent i)) rest))
 
-
 -- the action's move, which the rest of the list leaves possible
 moves_on : (s : StateView) (w : WorkerId) (a : ℕ) → mark_of s (ActionOf a) ≡ Queued → can_all s w (Move (ActionOf a) Queued (Running w) ∷ []) ≡ true
 moves_on s w a queued = λ i. (same_mark (queued i) Queued && true && true && eq-eqb w.0 w.0 refl i) && true
