@@ -1,31 +1,27 @@
 -- What an entry of the worker's own leaves of what its pass shows.
-use Rattle.std.proofs.Common.{◌≡◌, ◌≢◌, Bool, true, false, Result, Ok, Err, List, [], ◌∷◌, ◌++◌, Some, refl, sym, ap, ◌∙◌, subst}
+use Rattle.std.proofs.Common.{◌≡◌, ◌≢◌, Bool, true, false, Result, Ok, Err, List, refl, sym, ap, ◌∙◌, subst}
 use Rattle.std.specs.Prelude.{OnErr, OnOk}
-use Rattle.resource_lock.specs.Change.{holding_after, make_all}
-use Rattle.resource_lock.specs.Good.{Good}
-use Rattle.resource_lock.specs.GraphView.{GraphView}
+use Rattle.resource_lock.specs.Change.{holding_after}
 use Rattle.resource_lock.specs.StateView.{Holding, StateView, holding_of, IsWorkerOf}
 use Rattle.resource_lock.specs.declared.changes.Change.{Change}
 use Rattle.resource_lock.specs.declared.ids.LockId.{LockId}
 use Rattle.resource_lock.specs.declared.ids.WorkerId.{WorkerId}
 use Rattle.resource_lock.specs.declared.marks.MarkId.{MarkId}
 use Rattle.resource_lock.proofs.Runs.{worker_from}
-use Rattle.lock_journal.specs.Allowed.{Allowed, IsFixedList}
+use Rattle.lock_journal.specs.Allowed.{IsFixedList}
 use Rattle.lock_journal.specs.BookView.{BookView}
-use Rattle.lock_journal.specs.Entry.{entry}
 use Rattle.lock_journal.specs.Table.{list_of, owned}
 use Rattle.lock_journal.specs.declared.entries.Kind.{Kind}
 use Rattle.run_laws.specs.Own.{claimed}
 use Rattle.run_laws.specs.OwnChanges.{after_all, claimed_after, locks_after}
 use Rattle.run_laws.proofs.OwnChanges.{own_claimed_all, own_holding_all, own_locks_all}
-use Rattle.coordination.specs.Agrees.{Agrees, Finds, IsSound}
+use Rattle.coordination.specs.Agrees.{Agrees}
 use Rattle.coordination.specs.Calls.{HasFailed, HasFinished, HasLooked, WasStopped}
 use Rattle.coordination.specs.Attempts.{Cause, Making}
-use Rattle.coordination.specs.Sights.{seeing, hearing}
-use Rattle.coordination.specs.Shown.{blocked_shown, claimed_shown, lease_shown, locks_shown, parked_shown}
+use Rattle.coordination.specs.Shown.{blocked_shown, claimed_shown, locks_shown}
 use Rattle.coordination.specs.declared.halts.Halt.{Halt}
 use Rattle.coordination.specs.declared.rule.Sight.{Sight}
-use Rattle.coordination.proofs.Entries.{belongs_sound, good_sound}
+use Rattle.coordination.proofs.Entries.{belongs_sound}
 use Rattle.async_tracker.specs.Shows.{Shows, ShowsTheSame}
 
 -- the changes say what the worker has afterwards

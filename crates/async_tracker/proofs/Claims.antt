@@ -1,5 +1,5 @@
 -- What the list of a worker's claimed marks says of the marks.
-use Rattle.std.proofs.Common.{◌≡◌, ℕ, zero, suc, ◌+◌, ◌<◌, length, Bool, true, false, not, ◌&&◌, ◌||◌, cond, eqb, List, [], ◌∷◌, ◌++◌, map, get_or, Option, refl, sym, ap, ◌∙◌, subst, arith, inl, inr}
+use Rattle.std.proofs.Common.{◌≡◌, ℕ, suc, ◌+◌, length, Bool, true, false, not, ◌&&◌, ◌||◌, cond, eqb, List, [], ◌∷◌, ◌++◌, map, get_or, Option, refl, sym, ap, ◌∙◌, subst, arith, inl, inr}
 use Rattle.std.specs.Prelude.{Contains}
 use Rattle.std.specs.List.{list_any}
 use Rattle.std.proofs.lemmas.Bool.{cases_Bool, eq-eqb, eqb-true, false≢true, or_parts}
@@ -7,13 +7,12 @@ use Rattle.std.proofs.lemmas.List.Folds.{list_any_at, list_any-append}
 use Rattle.resource_lock.specs.StateView.{StateView, holding_of, is_idle, is_owner, is_parked, mark_of, owns_any, runs_any, runs_by, runs_task, runs_unit}
 use Rattle.resource_lock.specs.declared.ids.LockId.{LockId}
 use Rattle.resource_lock.specs.declared.ids.WorkerId.{WorkerId}
-use Rattle.resource_lock.specs.declared.marks.Mark.{Mark}
 use Rattle.resource_lock.specs.declared.marks.Mark.TheVariants.{Waiting, Running}
 use Rattle.resource_lock.specs.declared.marks.MarkId.{MarkId}
 use Rattle.resource_lock.specs.declared.marks.MarkId.TheVariants.{Task as TaskOf, Action as ActionOf, Unit as UnitOf}
 use Rattle.lock_journal.specs.Table.{owned, owned_from}
 use Rattle.run_laws.specs.Own.{action_at, claimed, places_from, task_at, unit_at}
-use Rattle.run_laws.specs.OwnChanges.{mark_before, with_member}
+use Rattle.run_laws.specs.OwnChanges.{with_member}
 use Rattle.run_laws.proofs.Others.{running_of}
 use Rattle.async_tracker.specs.Shows.{is_action, is_unit}
 
@@ -97,11 +96,11 @@ place_passes : {X : Type 0} (test : X → Bool) (d : X) (k n : ℕ) (xs : List X
 place_passes test d k n [] h = absurd (false≢true h)
 place_passes test d k n (x ∷ xs) h = elim (cases_Bool (test x)) [
   | inl is ↦
-    let both : (eqb n k || list_any (λ m. eqb m k) (places_from test (n + 1) xs)) ≡ true = sym (λ i. list_any (λ m. eqb m k) (cond (is i) (n ∷ places_from test (n + 1) xs) (places_from test (n + 1) xs))) ∙ h in
-    elim (cases_Bool (eqb n k)) [
-      | inl here ↦ (0, omega (arith, eqb-true n k here), is)
-      | inr other ↦ further (place_passes test d k (n + 1) xs (sym (ap (λ b. b || list_any (λ m. eqb m k) (places_from test (n + 1) xs)) other) ∙ both))
-    ]
+      let both : (eqb n k || list_any (λ m. eqb m k) (places_from test (n + 1) xs)) ≡ true = sym (λ i. list_any (λ m. eqb m k) (cond (is i) (n ∷ places_from test (n + 1) xs) (places_from test (n + 1) xs))) ∙ h in
+      elim (cases_Bool (eqb n k)) [
+        | inl here ↦ (0, omega (arith, eqb-true n k here), is)
+        | inr other ↦ further (place_passes test d k (n + 1) xs (sym (ap (λ b. b || list_any (λ m. eqb m k) (places_from test (n + 1) xs)) other) ∙ both))
+      ]
   | inr fails ↦ further (place_passes test d k (n + 1) xs (sym (λ i. list_any (λ m. eqb m k) (cond (fails i) (n ∷ places_from test (n + 1) xs) (places_from test (n + 1) xs))) ∙ h))
 ]
   where
@@ -174,11 +173,10 @@ pub has_member : {X : Type 0} (before : X → X → Bool) (x : X) (xs : List X) 
 has_member before x [] = (0, omega arith, refl)
 has_member before x (y ∷ ys) = elim (cases_Bool (before y x)) [
   | inl earlier ↦
-    let rest = has_member before x ys in
-    subst (λ b. Contains (cond b (y ∷ with_member before x ys) (x ∷ y ∷ ys)) x) (sym earlier) (suc rest.0, omega (arith, rest.1), rest.2)
+      let rest = has_member before x ys in
+      subst (λ b. Contains (cond b (y ∷ with_member before x ys) (x ∷ y ∷ ys)) x) (sym earlier) (suc rest.0, omega (arith, rest.1), rest.2)
   | inr later ↦ subst (λ b. Contains (cond b (y ∷ with_member before x ys) (x ∷ y ∷ ys)) x) (sym later) (0, omega arith, refl)
 ]
-
 
 -- a test of the members, with one more
 pub any_with : {X : Type 0} (before : X → X → Bool) (p : X → Bool) (x : X) (xs : List X) → list_any p (with_member before x xs) ≡ (p x || list_any p xs)

@@ -1,6 +1,5 @@
 -- What the list of a worker's locks says of its owner.
-use Rattle.std.proofs.Common.{◌≡◌, ℕ, zero, suc, ◌+◌, ◌<◌, Bool, true, false, cond, ◌||◌, List, [], ◌∷◌, get_or, length, Option, None, arith, refl, ap, ◌∙◌}
-use Rattle.std.specs.List.{list_any}
+use Rattle.std.proofs.Common.{◌≡◌, ℕ, zero, suc, ◌+◌, ◌<◌, true, false, cond, ◌||◌, List, [], ◌∷◌, get_or, length, Option, None, arith, refl, ap, ◌∙◌}
 use Rattle.std.proofs.lemmas.Bool.{eq-eqb, ne_eqb, false≢true}
 use Rattle.resource_lock.specs.StateView.{StateView, is_owner, owns, stands_in, IsLockOf}
 use Rattle.resource_lock.specs.declared.ids.LockId.{LockId}

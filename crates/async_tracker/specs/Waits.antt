@@ -1,5 +1,5 @@
 -- What the calls of the tracker wait for.
-use Rattle.std.specs.Prelude.{ℕ, ◌≡◌, ◌≢◌, Bool, false, ◌&&◌, not, List, [], ◌∷◌, Option, None, find}
+use Rattle.std.specs.Prelude.{ℕ, ◌≡◌, ◌≢◌, Bool, false, ◌&&◌, not, [], ◌∷◌, Option, None, find}
 use Rattle.std.specs.List.{list_all}
 use Rattle.resource_lock.specs.Change.{same_mark}
 use Rattle.resource_lock.specs.GraphView.{GraphView, action_of}

@@ -17,4 +17,6 @@ pub use parked::Parked;
 pub use resuming::{Held, resume};
 
 #[cfg(test)]
+mod thread_tests;
+#[cfg(test)]
 mod worked_tests;

@@ -1,4 +1,4 @@
-use Rattle.std.proofs.Common.{◌≡◌, ℕ, Bool, true, false, not, Option, Some, None, ap, ◌∙◌, sym}
+use Rattle.std.proofs.Common.{◌≡◌, Bool, true, false, not, Option, Some, None, ap, ◌∙◌}
 use Rattle.std.specs.Prelude.{is_none, is_some}
 use Rattle.resource_lock.specs.Ranges.{items_of}
 use Rattle.async_tracker.specs.Waits.{first_open}

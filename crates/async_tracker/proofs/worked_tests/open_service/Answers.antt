@@ -1,12 +1,10 @@
-use Rattle.std.proofs.Common.{ℕ, false, zero, suc, ◌+◌, ◌<◌, ◌≡◌, List, [], ◌∷◌, length, get_or, map, sym, ap, ◌∙◌, refl, arith, subst}
+use Rattle.std.proofs.Common.{ℕ, false, zero, suc, ◌<◌, ◌≡◌, List, [], ◌∷◌, length, get_or, map, sym, ap, ◌∙◌, refl, arith}
 use Rattle.std.proofs.lemmas.List.{get_or-map, length-map}
-use Rattle.resource_lock.specs.GraphView.{GraphView}
 use Rattle.resource_lock.specs.Made.{made_of}
 use Rattle.lock_journal.specs.BookView.{BookView}
 use Rattle.coordination.specs.Passes.{PassView}
 use Rattle.coordination.specs.Sights.{sights_from}
 use Rattle.coordination.specs.declared.rule.Sight.{Sight}
-use Rattle.async_tracker.specs.TwoItems.{HasTwoItems, two_items}
 use Rattle.async_tracker.proofs.worked_tests.open_service.Goals as goal
 
 sights_see : (w n : ℕ) (book : BookView) (k : ℕ) (d : Sight) → k < length (sights_from w n book) → (get_or (sights_from w n book) k d).seen ≡ book
@@ -27,11 +25,11 @@ returns-clause-graph g c = λ k d low. record {
       ∙ (c.in_ok-book.ensures.graph ∙ (c.new-2.ensures
       ∙ ((λ i. made_of 1 2 1 (c.in_ok-tasks.ensures.items i) (c.in_ok-actions.ensures.items i))
       ∙ (λ i. record {
-          locks = 1;
-          workers = 2;
-          max_leases = 1;
-          units = 2;
-          tasks = record { lock = record { 0 = 0 }; after = c.new.ensures.items i; first_action = 0; actions = 1 } ∷ [];
-          actions = record { task = 0; retention = c.args.retention; fetch = false; first_unit = 0; items = 2 } ∷ [];
-        }))));
+        locks = 1;
+        workers = 2;
+        max_leases = 1;
+        units = 2;
+        tasks = record { lock = record { 0 = 0 }; after = c.new.ensures.items i; first_action = 0; actions = 1 } ∷ [];
+        actions = record { task = 0; retention = c.args.retention; fetch = false; first_unit = 0; items = 2 } ∷ [];
+      }))));
 }

@@ -4,7 +4,6 @@ use Rattle.resource_lock.specs.declared.marks.MarkId.{MarkId}
 use Rattle.resource_lock.specs.declared.marks.MarkId.TheVariants.{Unit as UnitOf}
 use Rattle.run_laws.specs.OwnChanges.{mark_before}
 use Rattle.coordination.specs.Shown.{claimed_shown}
-use Rattle.async_tracker.specs.Shows.{ShowsClaimed}
 use Rattle.async_tracker.proofs.Claims.{has_member}
 use Rattle.async_tracker.proofs.Turns.{helps_still}
 use Rattle.async_tracker.proofs.worked_tests.run_item.Goals as goal
