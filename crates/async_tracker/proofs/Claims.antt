@@ -97,11 +97,11 @@ place_passes : {X : Type 0} (test : X → Bool) (d : X) (k n : ℕ) (xs : List X
 place_passes test d k n [] h = absurd (false≢true h)
 place_passes test d k n (x ∷ xs) h = elim (cases_Bool (test x)) [
   | inl is ↦
-    let both : (eqb n k || list_any (λ m. eqb m k) (places_from test (n + 1) xs)) ≡ true = sym (λ i. list_any (λ m. eqb m k) (cond (is i) (n ∷ places_from test (n + 1) xs) (places_from test (n + 1) xs))) ∙ h in
-    elim (cases_Bool (eqb n k)) [
-      | inl here ↦ (0, omega (arith, eqb-true n k here), is)
-      | inr other ↦ further (place_passes test d k (n + 1) xs (sym (ap (λ b. b || list_any (λ m. eqb m k) (places_from test (n + 1) xs)) other) ∙ both))
-    ]
+      let both : (eqb n k || list_any (λ m. eqb m k) (places_from test (n + 1) xs)) ≡ true = sym (λ i. list_any (λ m. eqb m k) (cond (is i) (n ∷ places_from test (n + 1) xs) (places_from test (n + 1) xs))) ∙ h in
+      elim (cases_Bool (eqb n k)) [
+        | inl here ↦ (0, omega (arith, eqb-true n k here), is)
+        | inr other ↦ further (place_passes test d k (n + 1) xs (sym (ap (λ b. b || list_any (λ m. eqb m k) (places_from test (n + 1) xs)) other) ∙ both))
+      ]
   | inr fails ↦ further (place_passes test d k (n + 1) xs (sym (λ i. list_any (λ m. eqb m k) (cond (fails i) (n ∷ places_from test (n + 1) xs) (places_from test (n + 1) xs))) ∙ h))
 ]
   where
@@ -174,11 +174,10 @@ pub has_member : {X : Type 0} (before : X → X → Bool) (x : X) (xs : List X) 
 has_member before x [] = (0, omega arith, refl)
 has_member before x (y ∷ ys) = elim (cases_Bool (before y x)) [
   | inl earlier ↦
-    let rest = has_member before x ys in
-    subst (λ b. Contains (cond b (y ∷ with_member before x ys) (x ∷ y ∷ ys)) x) (sym earlier) (suc rest.0, omega (arith, rest.1), rest.2)
+      let rest = has_member before x ys in
+      subst (λ b. Contains (cond b (y ∷ with_member before x ys) (x ∷ y ∷ ys)) x) (sym earlier) (suc rest.0, omega (arith, rest.1), rest.2)
   | inr later ↦ subst (λ b. Contains (cond b (y ∷ with_member before x ys) (x ∷ y ∷ ys)) x) (sym later) (0, omega arith, refl)
 ]
-
 
 -- a test of the members, with one more
 pub any_with : {X : Type 0} (before : X → X → Bool) (p : X → Bool) (x : X) (xs : List X) → list_any p (with_member before x xs) ≡ (p x || list_any p xs)

@@ -4,7 +4,7 @@ ghost use Rattle.std.specs.Prelude.{◌≡◌, ◌≢◌, ◌<◌, [], ◌∷◌
 ghost use Rattle.resource_lock.specs.declared.marks.MarkId.TheVariants as ids;
 ghost use Rattle.item_actions.specs.declared.outcomes.Outcome.TheVariants as outcomes;
 ghost use Rattle.coordination.specs.Holds.{HoldsNothing};
-ghost use Rattle.async_tracker.specs.Shows.{Shows};
+ghost use Rattle.coordination.specs.Shown.{Shows};
 ghost use Rattle.async_tracker.specs.TwoItems.{CanHelp, HasTwoItems};
 
 use crate::{Held, Parked, claim, close, closing_undoes_claiming, park, resume, submit};
@@ -12,7 +12,9 @@ use coordination::{Coordination, Halt, Opened, Pass, Question, openings_are_at_r
 use item_actions::Outcome;
 use lock_journal::kinds::{End, Start};
 use lock_journal::{Book, Closed, Kind};
-use resource_lock::{Change, Graph, GraphAction, GraphTask, LockId, Mark, MarkId, Retention, WorkerId};
+use resource_lock::{
+    Change, Graph, GraphAction, GraphTask, LockId, Mark, MarkId, Retention, WorkerId,
+};
 use std::alloc::Global;
 use std::process::Abort;
 use std::sync::Wait;
@@ -107,19 +109,23 @@ pub(crate) fn open_service(
     ensures len { IfOk result (λ opened. length opened.passes.items ≡ 2) }
     ensures rests { IfOk result (λ opened. All (λ p. HoldsNothing p.sight) opened.passes.items) }
 {
-    let tasks = vec![in alloc; GraphTask {
-        lock: LockId(0),
-        after: Vec::new(alloc),
-        first_action: 0,
-        actions: 1,
-    }]?;
-    let actions = vec![in alloc; GraphAction {
-        task: 0,
-        retention,
-        fetch: false,
-        first_unit: 0,
-        items: 2,
-    }]?;
+    let tasks = vec![in alloc;
+        GraphTask {
+            lock: LockId(0),
+            after: Vec::new(alloc),
+            first_action: 0,
+            actions: 1,
+        },
+    ]?;
+    let actions = vec![in alloc;
+        GraphAction {
+            task: 0,
+            retention,
+            fetch: false,
+            first_unit: 0,
+            items: 2,
+        },
+    ]?;
     assert!(rt; Graph::fits(1, 2, 1, &tasks, &actions));
     let book = Book::opening(alloc, Graph::new(1, 2, 1, tasks, actions), 0, 0)?;
     openings_are_at_rest();
@@ -190,10 +196,7 @@ const SUBMITS: [Change; 3] = [
     Change::Move(MarkId::Unit(1), Mark::Waiting, Mark::Queued),
 ];
 
-const PARKS_RETAINING: [Change; 2] = [
-    Change::Give,
-    Change::Move(ACTION, Mark::Queued, RUNNING),
-];
+const PARKS_RETAINING: [Change; 2] = [Change::Give, Change::Move(ACTION, Mark::Queued, RUNNING)];
 
 const PARKS_RELEASING: [Change; 4] = [
     Change::Give,
@@ -202,10 +205,7 @@ const PARKS_RELEASING: [Change; 4] = [
     Change::Move(ACTION, Mark::Queued, RUNNING),
 ];
 
-const RESUMES_RETAINING: [Change; 2] = [
-    Change::Take,
-    Change::Move(ACTION, RUNNING, Mark::Passed),
-];
+const RESUMES_RETAINING: [Change; 2] = [Change::Take, Change::Move(ACTION, RUNNING, Mark::Passed)];
 
 const RESUMES_REACQUIRING: [Change; 4] = [
     Change::Unpark(LOCK),

@@ -27,11 +27,11 @@ returns-clause-graph g c = λ k d low. record {
       ∙ (c.in_ok-book.ensures.graph ∙ (c.new-2.ensures
       ∙ ((λ i. made_of 1 2 1 (c.in_ok-tasks.ensures.items i) (c.in_ok-actions.ensures.items i))
       ∙ (λ i. record {
-          locks = 1;
-          workers = 2;
-          max_leases = 1;
-          units = 2;
-          tasks = record { lock = record { 0 = 0 }; after = c.new.ensures.items i; first_action = 0; actions = 1 } ∷ [];
-          actions = record { task = 0; retention = c.args.retention; fetch = false; first_unit = 0; items = 2 } ∷ [];
-        }))));
+        locks = 1;
+        workers = 2;
+        max_leases = 1;
+        units = 2;
+        tasks = record { lock = record { 0 = 0 }; after = c.new.ensures.items i; first_action = 0; actions = 1 } ∷ [];
+        actions = record { task = 0; retention = c.args.retention; fetch = false; first_unit = 0; items = 2 } ∷ [];
+      }))));
 }
