@@ -1,31 +1,26 @@
 -- Where items can be claimed and closed, and what that leaves.
-use Rattle.std.proofs.Common.{◌≡◌, ◌≢◌, ◌⊎◌, ℕ, ◌<◌, Bool, true, false, not, ◌&&◌, ◌||◌, List, [], ◌∷◌, inl, inr, refl, sym, ap, ◌∙◌, subst}
+use Rattle.std.proofs.Common.{◌≡◌, ◌≢◌, ℕ, ◌<◌, Bool, true, false, not, ◌&&◌, ◌||◌, inl, inr, refl, sym, ap, ◌∙◌, subst}
 use Rattle.std.specs.Prelude.{Contains, nat_lt}
-use Rattle.std.specs.List.{list_any}
-use Rattle.std.proofs.lemmas.Bool.{and_from, cases_Bool, eq-eqb, false≢true, false_from_ne_true}
-use Rattle.resource_lock.specs.Change.{can, can_all, make, same_mark}
+use Rattle.std.proofs.lemmas.Bool.{and_from, eq-eqb, false≢true, false_from_ne_true}
+use Rattle.resource_lock.specs.Change.{can, make, same_mark}
 use Rattle.resource_lock.specs.GraphView.{GraphView}
 use Rattle.resource_lock.specs.Ranges.{is_item}
-use Rattle.resource_lock.specs.StateView.{Holding, StateView, holding_of, is_idle, is_parked, leases_out, mark_of, owns_any, runs_any, runs_by, runs_task, runs_unit}
-use Rattle.resource_lock.specs.Trying.{can_lease}
+use Rattle.resource_lock.specs.StateView.{Holding, StateView, holding_of, is_idle, is_parked, leases_out, mark_of, runs_by, runs_unit}
 use Rattle.resource_lock.specs.declared.ids.WorkerId.{WorkerId}
-use Rattle.resource_lock.specs.declared.marks.Mark.{Mark}
-use Rattle.resource_lock.specs.declared.marks.Mark.TheVariants.{Queued, Running, Passed, Failed}
-use Rattle.resource_lock.specs.declared.marks.MarkId.{MarkId}
+use Rattle.resource_lock.specs.declared.marks.Mark.TheVariants.{Queued, Running}
 use Rattle.resource_lock.specs.declared.marks.MarkId.TheVariants.{Unit as UnitOf}
 use Rattle.resource_lock.specs.declared.changes.Change.TheVariants.{Move, Take}
 use Rattle.item_actions.specs.declared.outcomes.Outcome.{Outcome}
 use Rattle.item_actions.specs.declared.outcomes.Outcome.TheVariants as outcomes
 use Rattle.lock_journal.specs.Allowed.{IsDisabled, IsFixedList}
 use Rattle.lock_journal.specs.BookView.{BookView}
-use Rattle.lock_journal.specs.Table.{condition, is_enabled, list_of, mark_from, owned}
-use Rattle.lock_journal.specs.declared.entries.Closed.{Closed}
+use Rattle.lock_journal.specs.Table.{condition, is_enabled, mark_from}
 use Rattle.lock_journal.specs.declared.entries.Kind.TheVariants.{Claim, Close}
 use Rattle.run_laws.specs.Own.{claimed}
-use Rattle.run_laws.specs.OwnChanges.{mark_before, with_if, with_member, without_if, without_member}
+use Rattle.run_laws.specs.OwnChanges.{mark_before, with_if, without_if}
 use Rattle.coordination.specs.Agrees.{Finds}
 use Rattle.coordination.specs.Calls.{HasFinished}
-use Rattle.coordination.specs.Shown.{blocked_shown, claimed_shown, lease_shown, locks_shown}
+use Rattle.coordination.specs.Shown.{claimed_shown, lease_shown}
 use Rattle.coordination.specs.declared.rule.Sight.{Sight}
 use Rattle.async_tracker.specs.Shows.{IsFree, IsIdleOrParked, IsItemHere, ShowsClaimed, ShowsClosed}
 use Rattle.async_tracker.specs.Waits.{NeedsLease}

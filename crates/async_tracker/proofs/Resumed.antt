@@ -1,16 +1,15 @@
 -- Where a parked worker can go on, and what that leaves.
-use Rattle.std.proofs.Common.{◌≡◌, ◌≢◌, ℕ, ◌+◌, ◌<◌, Bool, true, false, not, ◌&&◌, ◌||◌, cond, eqb, inl, inr, List, [], ◌∷◌, ◌++◌, length, Option, None, Some, refl, sym, ap, ◌∙◌, subst, arith}
-use Rattle.std.specs.Prelude.{Contains, find, is_none, nat_lt}
-use Rattle.std.specs.List.{list_all, list_any}
+use Rattle.std.proofs.Common.{◌≡◌, ℕ, ◌<◌, Bool, true, false, not, ◌&&◌, ◌||◌, cond, eqb, inl, inr, List, [], ◌∷◌, ◌++◌, length, Option, None, Some, refl, sym, ap, ◌∙◌, subst, arith}
+use Rattle.std.specs.Prelude.{find, is_none, nat_lt}
+use Rattle.std.specs.List.{list_all}
 use Rattle.std.proofs.lemmas.Bool.{and_from, and_parts, cases_lt, eq-eqb, false≢true, false_from_ne_true}
 use Rattle.std.proofs.lemmas.List.{get_or_past}
 use Rattle.resource_lock.specs.Change.{can, can_all, holding_after, inverse_of, make, same_mark, stands_last, without_last}
 use Rattle.resource_lock.specs.Good.{Good}
 use Rattle.resource_lock.specs.GraphView.{GraphView, action_of}
 use Rattle.resource_lock.specs.Ranges.{items_of, lock_with}
-use Rattle.resource_lock.specs.StateView.{Holding, StateView, has_parked, holding_of, leases_out, mark_of, owner_of, owns, runs_unit, stands_in, IsLockOf, IsWorkerOf}
+use Rattle.resource_lock.specs.StateView.{Holding, StateView, has_parked, holding_of, leases_out, mark_of, owner_of, owns, runs_unit, stands_in, IsWorkerOf}
 use Rattle.resource_lock.specs.Trying.{can_lease}
-use Rattle.resource_lock.specs.declared.changes.Change.{Change}
 use Rattle.resource_lock.specs.declared.changes.Change.TheVariants.{Lock, Take, Move, Unpark}
 use Rattle.resource_lock.specs.declared.graphs.Retention.{Retention}
 use Rattle.resource_lock.specs.declared.graphs.Retention.TheVariants.{Retain, Release, ReleaseAndReacquire}
@@ -27,7 +26,7 @@ use Rattle.lock_journal.specs.Allowed.{IsDisabled, IsFixedList}
 use Rattle.lock_journal.specs.BookView.{BookView}
 use Rattle.lock_journal.specs.Entry.{Entry, replay}
 use Rattle.lock_journal.specs.Allowed.{Lawful}
-use Rattle.lock_journal.specs.Table.{condition, has_ended, is_enabled, on_resume}
+use Rattle.lock_journal.specs.Table.{condition, has_ended, on_resume}
 use Rattle.lock_journal.specs.Taking.{can_take_all}
 use Rattle.lock_journal.specs.declared.entries.Kind.TheVariants.{Resume}
 use Rattle.run_laws.specs.Marks.{IsEnded}

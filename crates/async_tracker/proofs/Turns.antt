@@ -1,6 +1,6 @@
 -- Two calls in turn, of which the first makes no entry.
-use Rattle.std.proofs.Common.{◌≡◌, List, Option, None, inl, inr, refl, sym, ap, ◌∙◌, subst}
-use Rattle.std.specs.Prelude.{ℕ, Contains}
+use Rattle.std.proofs.Common.{List, inl, inr, sym, ap, ◌∙◌, subst}
+use Rattle.std.specs.Prelude.{Contains}
 use Rattle.std.specs.List.{list_any}
 use Rattle.resource_lock.specs.Change.{stands_last}
 use Rattle.resource_lock.specs.GraphView.{GraphView, action_of}

@@ -1,9 +1,6 @@
-use Rattle.std.proofs.Common.{rules, ◌∙◌, ap, sym, Ok}
+use Rattle.std.proofs.Common.{rules, ◌∙◌, ap, Ok}
 use Rattle.resource_lock.specs.GraphView.{action_of}
 use Rattle.resource_lock.specs.Ranges.{lock_with}
-use Rattle.lock_journal.specs.Allowed.{IsFixedList}
-use Rattle.lock_journal.specs.declared.entries.Kind.TheVariants.{Park}
-use Rattle.coordination.specs.Calls.{HasFinished}
 use Rattle.coordination.proofs.Shown.{looked_shows, stopped_for, stopped_shows, surely_finished}
 use Rattle.async_tracker.proofs.After.{halted, on_err}
 use Rattle.async_tracker.proofs.Parking.{not_queued, parked_by, parked_free, parked_shows, parked_waits}

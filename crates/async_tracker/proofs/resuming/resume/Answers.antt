@@ -1,9 +1,5 @@
-use Rattle.std.proofs.Common.{rules, Err, ap, ◌∙◌, subst}
-use Rattle.lock_journal.specs.Allowed.{IsFixedList}
-use Rattle.lock_journal.specs.declared.entries.Kind.TheVariants.{Resume}
-use Rattle.coordination.specs.Calls.{IsAnswered}
+use Rattle.std.proofs.Common.{rules, Err, ap, ◌∙◌}
 use Rattle.coordination.proofs.Shown.{stopped_shows}
-use Rattle.async_tracker.specs.Waits.{IsFirstOpen}
 use Rattle.async_tracker.proofs.After.{from_ok}
 use Rattle.async_tracker.proofs.Resumed.{resumed_shows}
 use Rattle.async_tracker.proofs.Turns.{answered_then, finished_then, stopped_then}

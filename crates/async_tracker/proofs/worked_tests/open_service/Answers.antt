@@ -1,12 +1,10 @@
-use Rattle.std.proofs.Common.{ℕ, false, zero, suc, ◌+◌, ◌<◌, ◌≡◌, List, [], ◌∷◌, length, get_or, map, sym, ap, ◌∙◌, refl, arith, subst}
+use Rattle.std.proofs.Common.{ℕ, false, zero, suc, ◌<◌, ◌≡◌, List, [], ◌∷◌, length, get_or, map, sym, ap, ◌∙◌, refl, arith}
 use Rattle.std.proofs.lemmas.List.{get_or-map, length-map}
-use Rattle.resource_lock.specs.GraphView.{GraphView}
 use Rattle.resource_lock.specs.Made.{made_of}
 use Rattle.lock_journal.specs.BookView.{BookView}
 use Rattle.coordination.specs.Passes.{PassView}
 use Rattle.coordination.specs.Sights.{sights_from}
 use Rattle.coordination.specs.declared.rule.Sight.{Sight}
-use Rattle.async_tracker.specs.TwoItems.{HasTwoItems, two_items}
 use Rattle.async_tracker.proofs.worked_tests.open_service.Goals as goal
 
 sights_see : (w n : ℕ) (book : BookView) (k : ℕ) (d : Sight) → k < length (sights_from w n book) → (get_or (sights_from w n book) k d).seen ≡ book

@@ -1,6 +1,6 @@
-use Rattle.std.proofs.Common.{◌≡◌, Bool, true, List, [], refl, sym, ap, ◌∙◌}
+use Rattle.std.proofs.Common.{◌≡◌, true, refl, ap, ◌∙◌}
 use Rattle.std.proofs.lemmas.Bool.{eq-eqb}
-use Rattle.resource_lock.specs.GraphView.{GraphView, task_of}
+use Rattle.resource_lock.specs.GraphView.{task_of}
 use Rattle.resource_lock.specs.StateView.{Holding}
 use Rattle.resource_lock.specs.declared.marks.MarkId.TheVariants.{Task as TaskOf}
 use Rattle.run_laws.specs.OwnChanges.{lock_before, mark_before, with_if, with_member}
