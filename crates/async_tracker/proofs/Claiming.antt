@@ -16,6 +16,7 @@ use Rattle.lock_journal.specs.Allowed.{IsDisabled, IsFixedList}
 use Rattle.lock_journal.specs.BookView.{BookView}
 use Rattle.lock_journal.specs.Table.{condition, is_enabled, mark_from}
 use Rattle.lock_journal.specs.declared.entries.Kind.TheVariants.{Claim, Close}
+use Rattle.run_laws.specs.Own.{claimed}
 use Rattle.run_laws.specs.OwnChanges.{mark_before, with_if, without_if}
 use Rattle.coordination.specs.Agrees.{Finds}
 use Rattle.coordination.specs.Calls.{HasFinished}
@@ -23,7 +24,7 @@ use Rattle.coordination.specs.Shown.{claimed_shown, lease_shown}
 use Rattle.coordination.specs.declared.rule.Sight.{Sight}
 use Rattle.async_tracker.specs.Shows.{IsFree, IsIdleOrParked, IsItemHere, ShowsClaimed, ShowsClosed}
 use Rattle.async_tracker.specs.Waits.{NeedsLease}
-use Rattle.async_tracker.proofs.After.{shows_left}
+use Rattle.coordination.proofs.Shown.{shows_left}
 use Rattle.async_tracker.proofs.Claims.{action_claimed, idle_shown, unit_claimed, unit_runs}
 
 -- what is so of a worker in a state where it may claim
@@ -69,7 +70,7 @@ claim_needs_lease old book u found item free rests waits =
     (why.0, rw (may.lease, none) refl)
 
 pub claimed_shows : {u : ℕ} {old new : Sight} → HasFinished (Claim u) (IsFixedList (Claim u)) old new → ShowsClaimed u old new
-claimed_shows {u} {old} f = shows_left f record {
+claimed_shows {u} {old} f = shows_left f f.finished.made record {
   holding = refl;
   locks = refl;
   claimed = ap (λ b. with_if mark_before b (UnitOf u) (claimed_shown old)) (eq-eqb old.worker.0 old.worker.0 refl);
@@ -88,7 +89,7 @@ ended_by_nobody w outcomes.Skipped = refl
 pub closed_shows : {u : ℕ} {o : Outcome} {old new : Sight} → HasFinished (Close (record { unit = u; outcome = o })) (IsFixedList (Close (record { unit = u; outcome = o }))) old new → ShowsClosed u old new
 closed_shows {u} {o} {old} f =
     let w : WorkerId = old.worker in
-    shows_left f record {
+    shows_left f f.finished.made record {
       holding = refl;
       locks = refl;
       claimed = ap (λ b. with_if mark_before b (UnitOf u) (without_if mark_before (runs_by w (Running w)) (UnitOf u) (claimed_shown old))) (ended_by_nobody w o)

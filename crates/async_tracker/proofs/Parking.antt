@@ -29,13 +29,13 @@ use Rattle.lock_journal.specs.declared.entries.Kind.TheVariants.{Submit, Park}
 use Rattle.run_laws.specs.OwnChanges.{after_all, claimed_after, locks_after, mark_before, with_if, with_member}
 use Rattle.coordination.specs.Agrees.{Finds}
 use Rattle.coordination.specs.Calls.{HasFinished}
-use Rattle.coordination.specs.Shown.{claimed_shown, lease_shown, locks_shown, parked_shown}
+use Rattle.coordination.specs.Shown.{ShowsTheSame, claimed_shown, lease_shown, locks_shown, parked_shown}
 use Rattle.coordination.specs.declared.rule.Sight.{Sight}
 use Rattle.coordination.proofs.Entries.{belongs_sound, good_sound}
-use Rattle.async_tracker.specs.Shows.{HasParkedLast, HasReleased, IsFree, IsIdleOrParked, IsParkedBy, OwnsToPark, ShowsParked, ShowsTheSame, WorksOn, is_action, is_unit, locks_on_park, parked_on_park}
+use Rattle.coordination.proofs.Shown.{Leaves, shows_left}
+use Rattle.async_tracker.specs.Shows.{HasParkedLast, HasReleased, IsFree, IsIdleOrParked, IsParkedBy, OwnsToPark, ShowsParked, WorksOn, is_action, is_unit, locks_on_park, parked_on_park}
 use Rattle.async_tracker.specs.ParkedView.{ParkedView}
 use Rattle.async_tracker.specs.Waits.{ActionIsNotQueued, CannotQueue, can_queue}
-use Rattle.async_tracker.proofs.After.{Leaves, shows_left}
 use Rattle.async_tracker.proofs.Owned.{owned_there, stands_in_owned}
 use Rattle.async_tracker.proofs.Claims.{action_claimed, any_with, has_member, task_runs}
 
@@ -96,7 +96,7 @@ locks_queued ls (u ∷ us) = locks_queued ls us
 pub submitted_shows : {a : ℕ} {old new : Sight} → HasFinished (Submit a) (IsFixedList (Submit a)) old new → ShowsTheSame old new
 submitted_shows {a} {old} f =
     let us : List ℕ = items_of f.before.graph a in
-    shows_left f record {
+    shows_left f f.finished.made record {
       holding = holding_queued _ us;
       locks = locks_queued _ us;
       claimed = units_queued old.worker _ us;
@@ -155,7 +155,7 @@ park_leaves ReleaseAndReacquire l a old = record { holding = refl; locks = refl;
 pub parked_shows : {a : ℕ} {old new : Sight} → HasFinished (Park a) (IsFixedList (Park a)) old new → ShowsParked (action_of old.seen.graph a).retention (lock_with old.seen.graph a) a old new
 parked_shows {a} {old} {new} f =
     let graph : f.before.graph ≡ old.seen.graph = f.found.agrees.graph in
-    subst (λ (g : GraphView). ShowsParked (action_of g a).retention (lock_with g a) a old new) graph (shows_left f (park_leaves (action_of f.before.graph a).retention (lock_with f.before.graph a) a old))
+    subst (λ (g : GraphView). ShowsParked (action_of g a).retention (lock_with g a) a old new) graph (shows_left f f.finished.made (park_leaves (action_of f.before.graph a).retention (lock_with f.before.graph a) a old))
 
 -- the pass shows a good state
 good_left : {a : ℕ} {old new : Sight} → HasFinished (Park a) (IsFixedList (Park a)) old new → Good new.seen.state

@@ -41,7 +41,7 @@ use Rattle.coordination.proofs.Entries.{belongs_sound, good_sound}
 use Rattle.async_tracker.specs.ParkedView.{ParkedView}
 use Rattle.async_tracker.specs.Shows.{HasParkedLast, IsFree, IsParkedBy, ShowsResumed, lease_on_resume, locks_on_resume, parked_on_resume}
 use Rattle.async_tracker.specs.Waits.{CannotResume, CannotTakeAgain, IsFirstOpen, first_open}
-use Rattle.async_tracker.proofs.After.{Leaves, shows_left}
+use Rattle.coordination.proofs.Shown.{Leaves, shows_left}
 use Rattle.async_tracker.proofs.Claims.{action_runs, unit_claimed}
 use Rattle.async_tracker.proofs.Parking.{stands_in-last}
 
@@ -196,4 +196,4 @@ module _ (l : LockId) (a : ℕ) (old : Sight) where
 pub resumed_shows : {a : ℕ} {old new : Sight} → lease_shown old ≡ false → HasFinished (Resume a) (IsFixedList (Resume a)) old new → ShowsResumed (action_of old.seen.graph a).retention (lock_with old.seen.graph a) a old new
 resumed_shows {a} {old} {new} none f =
     let graph : f.before.graph ≡ old.seen.graph = f.found.agrees.graph in
-    subst (λ (g : GraphView). ShowsResumed (action_of g a).retention (lock_with g a) a old new) graph (shows_left f (resume_leaves (lock_with f.before.graph a) a old (action_of f.before.graph a).retention none))
+    subst (λ (g : GraphView). ShowsResumed (action_of g a).retention (lock_with g a) a old new) graph (shows_left f f.finished.made (resume_leaves (lock_with f.before.graph a) a old (action_of f.before.graph a).retention none))

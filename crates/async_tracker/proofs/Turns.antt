@@ -16,17 +16,14 @@ use Rattle.lock_journal.specs.declared.entries.Kind.{Kind}
 use Rattle.coordination.specs.Agrees.{Finds, IsSound}
 use Rattle.coordination.specs.Attempts.{Cause, Making}
 use Rattle.coordination.specs.Calls.{HasFinished, IsAnswered, WasStopped}
+use Rattle.coordination.specs.Shown.{ShowsTheSame}
 use Rattle.coordination.specs.declared.rule.Sight.{Sight}
 use Rattle.coordination.proofs.Growing.{agrees_then}
 use Rattle.async_tracker.specs.ParkedView.{ParkedView}
-use Rattle.async_tracker.specs.Shows.{HasParkedLast, IsFree, IsIdleOrParked, IsParkedBy, ShowsTheSame, is_action, is_unit}
+use Rattle.async_tracker.specs.Shows.{HasParkedLast, IsFree, IsIdleOrParked, IsParkedBy, is_action, is_unit}
 use Rattle.async_tracker.specs.TwoItems.{CanHelp, HasTwoItems}
-use Rattle.async_tracker.proofs.After.{shows_found}
 
 module _ {A : Type 0} {answers : WorkerId → BookView → A → Type 0} {a : A} {old mid : Sight} (q : IsAnswered answers a old mid) where
-  pub answered_shows : ShowsTheSame old mid
-  answered_shows = shows_found q.found.agrees (ap (λ (s : Sight). s.worker) q.sight) (ap (λ (s : Sight). s.seen) q.sight)
-
   pub answered_sound : IsSound mid.seen
   answered_sound = subst (λ (s : Sight). IsSound s.seen) (sym q.sight) q.found.sound
 

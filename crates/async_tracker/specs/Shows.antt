@@ -13,7 +13,7 @@ use Rattle.resource_lock.specs.declared.marks.MarkId.TheVariants.{Task as TaskOf
 use Rattle.lock_journal.specs.BookView.{BookView}
 use Rattle.run_laws.specs.OwnChanges.{lock_before, mark_before, with_member, without_member}
 use Rattle.coordination.specs.Agrees.{Agrees}
-use Rattle.coordination.specs.Shown.{blocked_shown, claimed_shown, lease_shown, locks_shown, parked_shown}
+use Rattle.coordination.specs.Shown.{Shows, blocked_shown, claimed_shown, lease_shown, locks_shown, parked_shown}
 use Rattle.coordination.specs.declared.rule.Sight.{Sight}
 use Rattle.async_tracker.specs.ParkedView.{ParkedView}
 
@@ -61,20 +61,6 @@ pub record IsParkedBy (s : Sight) (p : ParkedView) : Type 0 where
   pub worker : p.worker ≡ s.worker
   pub action : Contains (claimed_shown s) (ActionOf p.action)
   pub lock : HasParkedLast (action_of s.seen.graph p.action).retention (lock_with s.seen.graph p.action) s
-
--- The graph is the same, the worker is blocked if it was, and it has these locks, a lease or none, these claimed marks and these parked locks.
-pub record Shows (own : List LockId) (leased : Bool) (marks : List MarkId) (put_by : List LockId) (old new : Sight) : Type 0 where
-  pub worker : new.worker ≡ old.worker
-  pub graph : new.seen.graph ≡ old.seen.graph
-  pub locks : locks_shown new ≡ own
-  pub lease : lease_shown new ≡ leased
-  pub claimed : claimed_shown new ≡ marks
-  pub parked : parked_shown new ≡ put_by
-  pub blocked : blocked_shown new ≡ blocked_shown old
-
--- the pass shows what it showed
-abbrev pub ShowsTheSame : Sight → Sight → Type 0
-ShowsTheSame old new = Shows (locks_shown old) (lease_shown old) (claimed_shown old) (parked_shown old) old new
 
 -- with a lease, and the unit claimed
 abbrev pub ShowsClaimed : ℕ → Sight → Sight → Type 0

@@ -7,8 +7,8 @@ ghost use Rattle.resource_lock.specs.declared.ids.WorkerId.{WorkerId};
 ghost use Rattle.lock_journal.specs.Allowed.{IsFixedList};
 ghost use Rattle.lock_journal.specs.declared.entries.Kind.TheVariants as kinds;
 ghost use Rattle.coordination.specs.Calls.{HasFinished, HasLooked, WasStopped};
-ghost use Rattle.coordination.specs.Shown.{claimed_shown};
-ghost use Rattle.async_tracker.specs.Shows.{HasReleased, IsFree, IsIdleOrParked, IsParkedBy, OwnsToPark, ShowsParked, ShowsTheSame, WorksOn, is_unit};
+ghost use Rattle.coordination.specs.Shown.{ShowsTheSame, claimed_shown};
+ghost use Rattle.async_tracker.specs.Shows.{HasReleased, IsFree, IsIdleOrParked, IsParkedBy, OwnsToPark, ShowsParked, WorksOn, is_unit};
 ghost use Rattle.async_tracker.specs.Waits.{ActionIsNotQueued, CannotQueue};
 
 use crate::parked::Parked;

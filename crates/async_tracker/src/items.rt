@@ -6,8 +6,8 @@ ghost use Rattle.item_actions.specs.declared.outcomes.Outcome.TheVariants as out
 ghost use Rattle.lock_journal.specs.Allowed.{IsFixedList};
 ghost use Rattle.lock_journal.specs.declared.entries.Kind.TheVariants as kinds;
 ghost use Rattle.coordination.specs.Calls.{HasFailed, HasFinished, HasLooked, WasStopped};
-ghost use Rattle.coordination.specs.Shown.{claimed_shown, lease_shown};
-ghost use Rattle.async_tracker.specs.Shows.{IsFree, IsIdleOrParked, IsItemHere, ShowsClaimed, ShowsClosed, ShowsTheSame};
+ghost use Rattle.coordination.specs.Shown.{ShowsTheSame, claimed_shown, lease_shown};
+ghost use Rattle.async_tracker.specs.Shows.{IsFree, IsIdleOrParked, IsItemHere, ShowsClaimed, ShowsClosed};
 ghost use Rattle.async_tracker.specs.Waits.{IsNotQueued, NeedsLease};
 
 use coordination::{Coordination, Halt, Pass};

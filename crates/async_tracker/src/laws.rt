@@ -1,10 +1,10 @@
 ghost use Rattle.std.specs.Prelude.{◌≡◌, ℕ, false};
 ghost use Rattle.resource_lock.specs.declared.graphs.Retention.{Retention};
 ghost use Rattle.resource_lock.specs.declared.ids.LockId.{LockId};
-ghost use Rattle.coordination.specs.Shown.{lease_shown};
+ghost use Rattle.coordination.specs.Shown.{ShowsTheSame, lease_shown};
 ghost use Rattle.coordination.specs.declared.rule.Sight.{Sight};
 ghost use Rattle.async_tracker.specs.ParkedView.{ParkedView};
-ghost use Rattle.async_tracker.specs.Shows.{HasReleased, IsFree, IsIdleOrParked, IsParkedBy, ShowsClaimed, ShowsClosed, ShowsTheSame};
+ghost use Rattle.async_tracker.specs.Shows.{HasReleased, IsFree, IsIdleOrParked, IsParkedBy, ShowsClaimed, ShowsClosed};
 
 /// After an item was claimed and closed the pass shows what it showed before. So a worker that waits
 /// for an action can claim the next item, or resume.

@@ -7,8 +7,9 @@ ghost use Rattle.lock_journal.specs.Allowed.{IsFixedList};
 ghost use Rattle.lock_journal.specs.declared.entries.Kind.TheVariants as kinds;
 ghost use Rattle.coordination.specs.Agrees.{IsSound};
 ghost use Rattle.coordination.specs.Calls.{HasFinished, IsAnswered, WasStopped};
+ghost use Rattle.coordination.specs.Shown.{ShowsTheSame};
 ghost use Rattle.async_tracker.specs.ParkedView.{ParkedView};
-ghost use Rattle.async_tracker.specs.Shows.{IsFree, IsParkedBy, ShowsResumed, ShowsTheSame};
+ghost use Rattle.async_tracker.specs.Shows.{IsFree, IsParkedBy, ShowsResumed};
 ghost use Rattle.async_tracker.specs.Waits.{CannotResume, IsFirstOpen, first_open};
 
 use crate::open_items::FirstOpen;

@@ -4,7 +4,7 @@ ghost use Rattle.std.specs.Prelude.{◌≡◌, ◌≢◌, ◌<◌, [], ◌∷◌
 ghost use Rattle.resource_lock.specs.declared.marks.MarkId.TheVariants as ids;
 ghost use Rattle.item_actions.specs.declared.outcomes.Outcome.TheVariants as outcomes;
 ghost use Rattle.coordination.specs.Holds.{HoldsNothing};
-ghost use Rattle.async_tracker.specs.Shows.{Shows};
+ghost use Rattle.coordination.specs.Shown.{Shows};
 ghost use Rattle.async_tracker.specs.TwoItems.{CanHelp, HasTwoItems};
 
 use crate::{Held, Parked, claim, close, closing_undoes_claiming, park, resume, submit};

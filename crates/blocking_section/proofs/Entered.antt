@@ -5,15 +5,14 @@ use Rattle.std.proofs.lemmas.List.Folds.{list_any-append}
 use Rattle.resource_lock.specs.Change.{holding_after}
 use Rattle.resource_lock.specs.GraphView.{GraphView}
 use Rattle.resource_lock.specs.Ranges.{IsFetchOf, task_with}
-use Rattle.resource_lock.specs.StateView.{Holding, StateView, holding_of, mark_of, owner_of, owns, runs_by, stands_in, IsWorkerOf}
+use Rattle.resource_lock.specs.StateView.{Holding, StateView, holding_of, mark_of, owner_of, owns, runs_by, stands_in}
 use Rattle.resource_lock.specs.declared.ids.LockId.{LockId}
 use Rattle.resource_lock.specs.declared.ids.WorkerId.{WorkerId}
 use Rattle.resource_lock.specs.declared.marks.Mark.TheVariants.{Running}
 use Rattle.resource_lock.specs.declared.marks.MarkId.{MarkId}
 use Rattle.resource_lock.specs.declared.marks.MarkId.TheVariants.{Task as TaskOf, Unit as UnitOf}
-use Rattle.resource_lock.proofs.Runs.{worker_from}
 use Rattle.resource_lock.proofs.Undo.{owner_from}
-use Rattle.lock_journal.specs.Allowed.{IsDisabled, IsFixedList}
+use Rattle.lock_journal.specs.Allowed.{IsFixedList, IsUnmet}
 use Rattle.lock_journal.specs.BookView.{BookView}
 use Rattle.lock_journal.specs.Table.{list_of, owned}
 use Rattle.lock_journal.specs.declared.entries.Kind.TheVariants.{Block}
@@ -22,10 +21,9 @@ use Rattle.coordination.specs.Agrees.{Finds}
 use Rattle.coordination.specs.Calls.{HasFinished}
 use Rattle.coordination.specs.Shown.{claimed_shown, lease_shown, locks_shown, parked_shown}
 use Rattle.coordination.specs.declared.rule.Sight.{Sight}
-use Rattle.coordination.proofs.Entries.{belongs_sound, good_sound}
 use Rattle.coordination.proofs.Nothing.{owns_none}
+use Rattle.coordination.proofs.Shown.{ShowsAfter, shows_after}
 use Rattle.blocking_section.specs.Sections.{HasSetDown, HasUnit, IsGivenBackBy, IsNotReady, MayEnter, OwnsNothingMeanwhile, is_ready, with_unit}
-use Rattle.blocking_section.proofs.After.{LeavesBy, leaves_by}
 use Rattle.blocking_section.proofs.Claims.{has_member, no_action, no_unit, task_runs}
 use Rattle.blocking_section.proofs.Down.{down, down_claimed, down_holding, down_locks, enters_for, enters_without}
 
@@ -43,15 +41,15 @@ block_claimed None g s w ms = down_claimed w ms (owned s w)
 block_claimed (Some u) g s w ms = down_claimed w (with_if mark_before (runs_by w (Running w)) (UnitOf u) ms) (owned s w) ∙ ap (λ b. with_if mark_before b (UnitOf u) ms) (eq-eqb w.0 w.0 refl)
 
 module _ {unit : Option ℕ} {old new : Sight} (f : HasFinished (Block unit) (IsFixedList (Block unit)) old new) where
-  left : LeavesBy old.worker old.seen.state f.after.state (list_of f.before.graph f.before.state old.worker (Block unit))
-  left = leaves_by f
+  left : ShowsAfter old new (list_of f.before.graph f.before.state old.worker (Block unit))
+  left = shows_after f f.finished.made
 
-  holding_left : holding_of f.after.state old.worker ≡ record { lease = false; parked = parked_shown old ++ locks_shown old; blocked = true }
+  holding_left : holding_of new.seen.state new.worker ≡ record { lease = false; parked = parked_shown old ++ locks_shown old; blocked = true }
   holding_left = left.holding ∙ block_holding unit f.before.graph f.before.state old.worker (holding_of old.seen.state old.worker)
       ∙ ap (λ (ls : List LockId). record { lease = false; parked = parked_shown old ++ ls; blocked = true }) f.found.agrees.state.owned
 
   pub set_down_shows : HasSetDown unit old new
-  set_down_shows = subst (HasSetDown unit old) (sym f.sight) record {
+  set_down_shows = record {
     locks = left.locks ∙ block_locks unit f.before.graph f.before.state old.worker (locks_shown old) f.found.agrees.state.owned;
     lease = ap (λ (h : Holding). h.lease) holding_left;
     blocked = ap (λ (h : Holding). h.blocked) holding_left;
@@ -80,19 +78,13 @@ given_back {unit} {old} {new} worker may shows = record {
 }
 
 -- what it may wait for
-pub not_ready : (unit : Option ℕ) (old : Sight) (book : BookView) → Finds old.worker old.seen book → lease_shown old ≡ true → MayEnter unit old → IsDisabled (Block unit) book.graph old.worker book.state → IsNotReady unit book.graph old.worker book.state
-not_ready None old book found lease may disabled =
-    let w : WorkerId = old.worker in
-    let belongs = belongs_sound book found.sound in
-    let worker : IsWorkerOf book.state old.worker = worker_from book.graph book.state old.worker belongs found.known in
+pub not_ready : (unit : Option ℕ) (old : Sight) (book : BookView) → Finds old.worker old.seen book → lease_shown old ≡ true → MayEnter unit old → IsUnmet (Block unit) book.graph old.worker book.state → IsNotReady unit book.graph old.worker book.state
+not_ready None old book found lease may unmet =
     let leased : (holding_of book.state old.worker).lease ≡ true = ap (λ (h : Holding). h.lease) found.agrees.state.holding ∙ lease in
-    absurd (false≢true (sym (disabled tt) ∙ enters_without book.graph book.state old.worker worker (good_sound book found.sound) leased (found.agrees.state.runs_unit ∙ no_unit old.seen.state old.worker may)))
-not_ready (Some u) old book found lease may disabled =
-    let belongs = belongs_sound book found.sound in
-    let worker : IsWorkerOf book.state old.worker = worker_from book.graph book.state old.worker belongs found.known in
+    absurd (false≢true (sym (unmet tt) ∙ enters_without book.graph book.state old.worker leased (found.agrees.state.runs_unit ∙ no_unit old.seen.state old.worker may)))
+not_ready (Some u) old book found lease may unmet =
     let leased : (holding_of book.state old.worker).lease ≡ true = ap (λ (h : Holding). h.lease) found.agrees.state.holding ∙ lease in
     let graph : old.seen.graph ≡ book.graph = sym found.agrees.graph in
-    let a : ℕ = may.0.action in
     let there = subst (λ (g : GraphView). u < g.units) graph may.0.there in
     let fetch : IsFetchOf book.graph may.0.action u = subst (λ (g : GraphView). IsFetchOf g may.0.action u) graph may.0.fetch in
     let task : mark_of book.state (TaskOf (task_with book.graph may.0.action)) ≡ Running old.worker =
@@ -100,6 +92,6 @@ not_ready (Some u) old book found lease may disabled =
     ((found.agrees.state.running (TaskOf (task_with old.seen.graph may.0.action))).0 (task_runs old.seen.state old.worker (task_with old.seen.graph may.0.action) may.0.task)) in (
       may.0.action,
       fetch,
-      false_from_ne_true (is_ready book.graph book.state may.0.action u) (λ ready. false≢true (sym (disabled there)
-          ∙ enters_for book.graph book.state old.worker may.0.action u belongs worker (good_sound book found.sound) there fetch leased task (found.agrees.state.is_parked ∙ no_action old.seen.state old.worker may.1) ready)),
+      false_from_ne_true (is_ready book.graph book.state may.0.action u) (λ ready. false≢true (sym (unmet there)
+          ∙ enters_for book.graph book.state old.worker may.0.action u fetch leased task (found.agrees.state.is_parked ∙ no_action old.seen.state old.worker may.1) ready)),
     )

@@ -1,5 +1,5 @@
 -- What a worker shows once it has left a blocking section, and what it may wait for before.
-use Rattle.std.proofs.Common.{◌≡◌, ◌<◌, ℕ, zero, suc, true, false, length, List, [], ◌∷◌, ◌++◌, get_or, Option, None, Some, refl, sym, ap, ◌∙◌, subst, arith}
+use Rattle.std.proofs.Common.{◌≡◌, ◌<◌, ℕ, zero, suc, true, false, length, List, [], ◌∷◌, ◌++◌, get_or, Option, None, Some, refl, sym, ap, ◌∙◌, arith}
 use Rattle.std.proofs.lemmas.Bool.{eq-eqb, false≢true, false_from_ne_true}
 use Rattle.resource_lock.specs.Change.{holding_after}
 use Rattle.resource_lock.specs.GraphView.{GraphView}
@@ -25,9 +25,10 @@ use Rattle.coordination.specs.Calls.{HasFinished}
 use Rattle.coordination.specs.Shown.{claimed_shown, locks_shown, parked_shown}
 use Rattle.coordination.specs.declared.rule.Sight.{Sight}
 use Rattle.coordination.proofs.Entries.{belongs_sound, good_sound}
+use Rattle.coordination.proofs.Shown.{ShowsAfter, shows_after}
 use Rattle.blocking_section.specs.BlockedView.{BlockedView}
 use Rattle.blocking_section.specs.Sections.{CanNotTakeUp, FitsUnit, HasTakenUp, HasUnit, IsGivenBackBy, closed_with, without_unit}
-use Rattle.blocking_section.proofs.After.{LeavesBy, after_all-append, leaves_by}
+use Rattle.blocking_section.proofs.After.{after_all-append}
 use Rattle.blocking_section.proofs.Claims.{no_unit, unit_runs}
 use Rattle.blocking_section.proofs.Up.{ended_not_running, leaves_for, leaves_without, up, up_claimed, up_holding, up_rises, up_stands}
 
@@ -64,14 +65,14 @@ with_claimed (Some u) (Some o) w ps ms fits =
     ∙ (λ i. with_if mark_before (ended_not_running w w o i) (UnitOf u) (without_if mark_before (eq-eqb w.0 w.0 refl i) (UnitOf u) ms)))
 
 module _ (unit : Option ℕ) (outcome : Option Outcome) {old new : Sight} (f : HasFinished (Unblock (closed_with unit outcome)) (IsFixedList (Unblock (closed_with unit outcome))) old new) (fits : FitsUnit unit outcome) where
-  left : LeavesBy old.worker old.seen.state f.after.state (up_with old.worker unit outcome (parked_shown old))
-  left = subst (LeavesBy old.worker old.seen.state f.after.state) (list_is unit outcome f.before.graph f.before.state old.worker (parked_shown old) (ap (λ (h : Holding). h.parked) f.found.agrees.state.holding)) (leaves_by f)
+  left : ShowsAfter old new (up_with old.worker unit outcome (parked_shown old))
+  left = shows_after f (f.finished.made ∙ list_is unit outcome f.before.graph f.before.state old.worker (parked_shown old) (ap (λ (h : Holding). h.parked) f.found.agrees.state.holding))
 
-  holding_left : holding_of f.after.state old.worker ≡ record { lease = true; parked = []; blocked = false }
+  holding_left : holding_of new.seen.state new.worker ≡ record { lease = true; parked = []; blocked = false }
   holding_left = left.holding ∙ with_holding unit outcome old.worker (holding_of old.seen.state old.worker)
 
   pub taken_up_shows : HasTakenUp unit old new
-  taken_up_shows = subst (HasTakenUp unit old) (sym f.sight) record {
+  taken_up_shows = record {
     lease = ap (λ (h : Holding). h.lease) holding_left;
     blocked = ap (λ (h : Holding). h.blocked) holding_left;
     parked = ap (λ (h : Holding). h.parked) holding_left;
@@ -81,9 +82,9 @@ module _ (unit : Option ℕ) (outcome : Option Outcome) {old new : Sight} (f : H
 
   pub locks_again : (ls : List LockId) → rises 0 ls ≡ true → parked_shown old ≡ ls → locks_shown old ≡ [] → locks_shown new ≡ ls
   locks_again ls h parked nothing =
-      ap locks_shown f.sight
-      ∙ (left.locks ∙ (with_locks unit outcome old.worker (parked_shown old) (locks_shown old)
-      ∙ ((λ i. after_all locks_after (nothing i) (up (parked i))) ∙ up_rises 0 ls h)))
+      left.locks
+      ∙ (with_locks unit outcome old.worker (parked_shown old) (locks_shown old)
+      ∙ ((λ i. after_all locks_after (nothing i) (up (parked i))) ∙ up_rises 0 ls h))
 
 -- a mark that runs is one of the list
 within : (ms : List Mark) (u : ℕ) (w : WorkerId) → get_or ms u Waiting ≡ Running w → u < length ms

@@ -119,12 +119,3 @@ pub record HasTakenUp (unit : Option ℕ) (old new : Sight) : Type 0 where
 -- another worker owns a lock that the worker has parked, or no lease is free
 abbrev pub CanNotTakeUp : GraphView → WorkerId → StateView → Type 0
 CanNotTakeUp g w s = can_take_all s w (holding_of s w).parked ≡ false
-
--- a pass shows of its worker what it showed
-pub record ShowsTheSame (old new : Sight) : Type 0 where
-  pub worker : new.worker ≡ old.worker
-  pub locks : locks_shown new ≡ locks_shown old
-  pub lease : lease_shown new ≡ lease_shown old
-  pub claimed : claimed_shown new ≡ claimed_shown old
-  pub parked : parked_shown new ≡ parked_shown old
-  pub blocked : blocked_shown new ≡ blocked_shown old

@@ -3,8 +3,8 @@ ghost use Rattle.resource_lock.specs.declared.ids.WorkerId.{WorkerId};
 ghost use Rattle.lock_journal.specs.Allowed.{IsFixedList};
 ghost use Rattle.lock_journal.specs.declared.entries.Kind.TheVariants as kinds;
 ghost use Rattle.coordination.specs.Calls.{HasFinished, WasStopped};
-ghost use Rattle.coordination.specs.Shown.{lease_shown, locks_shown};
-ghost use Rattle.blocking_section.specs.Sections.{CouldEnter, HasSetDown, IsGivenBackBy, IsNotReady, MayEnter, OwnsNothingMeanwhile, ShowsTheSame};
+ghost use Rattle.coordination.specs.Shown.{ShowsTheSame, lease_shown, locks_shown};
+ghost use Rattle.blocking_section.specs.Sections.{CouldEnter, HasSetDown, IsGivenBackBy, IsNotReady, MayEnter, OwnsNothingMeanwhile};
 
 use crate::blocked::Blocked;
 use coordination::{Coordination, Halt, Pass};

@@ -3,9 +3,9 @@ ghost use Rattle.resource_lock.specs.declared.ids.WorkerId.{WorkerId};
 ghost use Rattle.lock_journal.specs.Allowed.{IsFixedList};
 ghost use Rattle.lock_journal.specs.declared.entries.Kind.TheVariants as kinds;
 ghost use Rattle.coordination.specs.Calls.{HasFinished, WasStopped};
-ghost use Rattle.coordination.specs.Shown.{locks_shown, parked_shown};
+ghost use Rattle.coordination.specs.Shown.{ShowsTheSame, locks_shown, parked_shown};
 ghost use Rattle.blocking_section.specs.BlockedView.{BlockedView};
-ghost use Rattle.blocking_section.specs.Sections.{CanNotTakeUp, FitsUnit, HasTakenUp, IsGivenBackBy, ShowsTheSame, closed_with};
+ghost use Rattle.blocking_section.specs.Sections.{CanNotTakeUp, FitsUnit, HasTakenUp, IsGivenBackBy, closed_with};
 
 use crate::blocked::Blocked;
 use coordination::{Coordination, Halt, Pass};

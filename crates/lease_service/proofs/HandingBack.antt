@@ -8,7 +8,7 @@ use Rattle.resource_lock.specs.declared.changes.Change.TheVariants.{Unlock, Give
 use Rattle.resource_lock.specs.declared.ids.LockId.{LockId}
 use Rattle.resource_lock.specs.declared.ids.WorkerId.{WorkerId}
 use Rattle.resource_lock.specs.declared.marks.MarkId.{MarkId}
-use Rattle.lock_journal.specs.Allowed.{IsFixedList}
+use Rattle.lock_journal.specs.Allowed.{IsFixedList, IsUnmet}
 use Rattle.lock_journal.specs.BookView.{BookView}
 use Rattle.lock_journal.specs.Table.{condition}
 use Rattle.lock_journal.specs.declared.entries.Kind.TheVariants as kinds
@@ -17,8 +17,8 @@ use Rattle.coordination.specs.declared.rule.Sight.{Sight}
 use Rattle.coordination.specs.Agrees.{Finds}
 use Rattle.coordination.specs.Calls.{HasFinished, WasStopped}
 use Rattle.coordination.specs.Shown.{blocked_shown, claimed_shown, lease_shown, locks_shown}
+use Rattle.coordination.proofs.Shown.{shows_left}
 use Rattle.lease_service.specs.Shows.{ShowsGivenBack}
-use Rattle.lease_service.proofs.Entered.{Entered, entered}
 use Rattle.lease_service.proofs.Owned.{owns_some}
 use Rattle.lease_service.proofs.Taking.{is_free}
 
@@ -45,22 +45,15 @@ same_claimed w ms [] false = refl
 same_claimed w ms (l ∷ ls) lease = same_claimed w ms ls lease
 
 pub shows_given_back : {old new : Sight} → HasFinished kinds.HandBack (IsFixedList kinds.HandBack) old new → ShowsGivenBack old new
-shows_given_back {old} {new} f =
+shows_given_back {old} f =
     let w : WorkerId = old.worker in
     let a = f.found.agrees in
-    let e : Entered old new f.changes = entered f in
     let h : Holding = holding_of old.seen.state w in
     let made : f.changes ≡ gives (locks_shown old) h.lease = f.finished.made ∙ (λ i. gives (a.state.owned i) (a.state.holding i).lease) in
-    let holding : holding_of new.seen.state new.worker ≡ record h { lease = false } = e.holding ∙ (ap (after_all holding_after h) made ∙ no_lease h (locks_shown old) h.lease refl) in record {
-      locks = e.locks ∙ (ap (after_all locks_after (locks_shown old)) made ∙ no_locks (locks_shown old) h.lease);
-      lease = ap (λ (k : Holding). k.lease) holding;
-      rest = record {
-        worker = e.worker;
-        graph = e.graph;
-        claimed = e.claimed ∙ (ap (after_all (claimed_after w) _) made ∙ same_claimed w _ (locks_shown old) h.lease);
-        parked = ap (λ (k : Holding). k.parked) holding;
-        blocked = ap (λ (k : Holding). k.blocked) holding;
-      };
+    shows_left f made record {
+      holding = no_lease h (locks_shown old) h.lease refl;
+      locks = no_locks (locks_shown old) h.lease;
+      claimed = same_claimed w (claimed_shown old) (locks_shown old) h.lease;
     }
 
 or_right : (a b : Bool) → b ≡ true → a || b ≡ true
@@ -80,5 +73,5 @@ can_there old book none not_blocked something found =
     ])
 
 pub never_stopped : {by : WorkerId} {old new : Sight} → claimed_shown old ≡ [] → blocked_shown old ≡ false → (locks_shown old ≢ []) ⊎ (lease_shown old ≡ true)
-    → WasStopped (λ g w s. condition g s w kinds.HandBack ≡ false) by old new → ⊥
-never_stopped {old = old} none not_blocked something f = false≢true (sym f.cause ∙ can_there old f.book none not_blocked something f.found)
+    → WasStopped (IsUnmet kinds.HandBack) by old new → ⊥
+never_stopped {old = old} none not_blocked something f = false≢true (sym (f.cause tt) ∙ can_there old f.book none not_blocked something f.found)

@@ -1,5 +1,4 @@
 pub mod Names
 pub mod Owned
-pub mod Entered
 pub mod Taking
 pub mod HandingBack

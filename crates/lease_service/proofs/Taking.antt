@@ -24,9 +24,9 @@ use Rattle.coordination.specs.declared.halts.Halt.TheVariants.{NoMemory, Stopped
 use Rattle.coordination.specs.Agrees.{Finds}
 use Rattle.coordination.specs.Attempts.{Cause}
 use Rattle.coordination.specs.Calls.{HasFailed, HasFinished, HasLooked, WasStopped}
-use Rattle.coordination.specs.Shown.{claimed_shown, locks_shown}
-use Rattle.lease_service.specs.Shows.{MayTake, ShowsTaken, ShowsTheSame, with_locks}
-use Rattle.lease_service.proofs.Entered.{Entered, entered, same_after_look, same_after_stop}
+use Rattle.coordination.specs.Shown.{ShowsTheSame, claimed_shown, locks_shown}
+use Rattle.coordination.proofs.Shown.{looked_shows, shows_left, stopped_for, stopped_shows}
+use Rattle.lease_service.specs.Shows.{MayTake, ShowsTaken, with_locks}
 use Rattle.lease_service.proofs.Owned.{filter_same, runs_nothing, stands_in_owned}
 
 -- these locks, and a lease where there was none
@@ -49,24 +49,17 @@ claimed_with w ms [] false = refl
 claimed_with w ms (l ∷ ls) lease = claimed_with w ms ls lease
 
 pub shows_taken : (locks : List LockId) {kind : Kind} {old new : Sight} → HasFinished kind (λ g w s cs. cs ≡ acquired s w locks) old new → ShowsTaken locks old new
-shows_taken locks {old = old} {new} f =
+shows_taken locks {old = old} f =
     let w : WorkerId = old.worker in
     let a = f.found.agrees in
-    let e : Entered old new f.changes = entered f in
     let h : Holding = holding_of old.seen.state w in
     let more : List LockId = filter (λ l. not (stands_in l (locks_shown old))) locks in
     let same : filter (λ l. not (owns f.before.state w l)) locks ≡ more = filter_same _ _ (λ l. ap not (a.state.owns l ∙ sym (stands_in_owned old.seen.state w l))) locks in
     let made : f.changes ≡ takes more h.lease = f.finished.made ∙ (λ i. map Lock (same i) ++ cond (a.state.holding i).lease [] (Take ∷ [])) in
-    let holding : holding_of new.seen.state new.worker ≡ record h { lease = true } = e.holding ∙ (ap (after_all holding_after h) made ∙ holding_with h more h.lease refl) in record {
-      locks = e.locks ∙ (ap (after_all locks_after (locks_shown old)) made ∙ locks_with (locks_shown old) more h.lease);
-      lease = ap (λ (k : Holding). k.lease) holding;
-      rest = record {
-        worker = e.worker;
-        graph = e.graph;
-        claimed = e.claimed ∙ (ap (after_all (claimed_after w) _) made ∙ claimed_with w _ more h.lease);
-        parked = ap (λ (k : Holding). k.parked) holding;
-        blocked = ap (λ (k : Holding). k.blocked) holding;
-      };
+    shows_left f made record {
+      holding = holding_with h more h.lease refl;
+      locks = locks_with (locks_shown old) more h.lease;
+      claimed = claimed_with w (claimed_shown old) more h.lease;
     }
 
 all_open : (g : GraphView) (s : StateView) (w : WorkerId) (locks : List LockId) → All (λ l. l.0 < g.locks) locks → All (λ l. has_parked s w l ≡ false) locks → list_all (is_open g s w) locks ≡ true
@@ -103,7 +96,7 @@ pub stopped_short : (waits : Type 0) (locks : List LockId) {by : WorkerId} {old 
     → WasStopped (λ g w s. (may_acquire g s w locks ≡ false) ⊎ (waits × (can_take_all s w locks ≡ false))) by old new → waits × WasStopped (λ g w s. can_take_all s w locks ≡ false) by old new
 stopped_short waits locks {old = old} may f =
     let short = is_short waits locks old f.book may f.found f.cause in
-    (short.0, record { book = f.book; found = f.found; cause = short.1; stopper = f.stopper; sight = f.sight })
+    (short.0, stopped_for f short.1)
 
 pub failed_short : (fails : Type 0) (locks : List LockId) {kind : Kind} {old new : Sight}
     → HasFailed kind (λ g w s. fails × (can_take_all s w locks ≡ false)) old new → fails × HasFailed kind (λ g w s. can_take_all s w locks ≡ false) old new
@@ -123,8 +116,8 @@ failed_short fails locks f = (
 -- whichever way a call came to nothing, its worker has what it had
 pub kept_by : {retries : Cause} {old new : Sight} (halt : Halt) → (◌≡◌ {A = Result Bool Halt} (Err halt) (Err NoMemory) → HasLooked old new)
     → ((by : WorkerId) → ◌≡◌ {A = Result Bool Halt} (Err halt) (Err (Stopped by)) → WasStopped retries by old new) → ShowsTheSame old new
-kept_by NoMemory looked stopped = same_after_look (looked refl)
-kept_by (Stopped by) looked stopped = same_after_stop (stopped by refl)
+kept_by NoMemory looked stopped = looked_shows (looked refl)
+kept_by (Stopped by) looked stopped = stopped_shows (stopped by refl)
 
 pub on_err_of : {A E P : Type 0} (r : Result A E) → P → OnErr r P
 on_err_of (Ok a) p = tt

@@ -1,5 +1,6 @@
 use Rattle.std.proofs.Common.{rules, Err, ap, ◌∙◌}
-use Rattle.async_tracker.proofs.After.{from_ok, stopped_shows}
+use Rattle.coordination.proofs.Shown.{stopped_shows}
+use Rattle.async_tracker.proofs.After.{from_ok}
 use Rattle.async_tracker.proofs.Resumed.{resumed_shows}
 use Rattle.async_tracker.proofs.Turns.{answered_then, finished_then, stopped_then}
 use Rattle.async_tracker.proofs.resuming.resume.Goals as goal

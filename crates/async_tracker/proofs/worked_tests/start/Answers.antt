@@ -6,7 +6,7 @@ use Rattle.resource_lock.specs.declared.marks.MarkId.TheVariants.{Task as TaskOf
 use Rattle.run_laws.specs.OwnChanges.{lock_before, mark_before, with_if, with_member}
 use Rattle.coordination.specs.Shown.{blocked_shown}
 use Rattle.async_tracker.specs.TwoItems.{two_items}
-use Rattle.async_tracker.proofs.After.{shows_left}
+use Rattle.coordination.proofs.Shown.{shows_left}
 use Rattle.async_tracker.proofs.worked_tests.start.Goals as goal
 
 pub returns-clause-started : goal.returns-clause-started
@@ -16,7 +16,7 @@ returns-clause-started g c = λ is.
     let rests = c.requires.rests in
     let has = c.requires.graph in
     let graph : f.before.graph ≡ two_items has.retention has.workers = f.found.agrees.graph ∙ has.is in
-    shows_left f record {
+    shows_left f f.finished.made record {
       holding = ap (λ (h : Holding). record { lease = true; parked = h.parked; blocked = blocked_shown old }) rests.holding;
       locks = λ i. with_member lock_before (task_of (graph i) 0).lock (rests.locks i);
       claimed = λ i. with_if mark_before (eq-eqb old.worker.0 old.worker.0 refl i) (TaskOf 0) (rests.claimed i);

@@ -1,8 +1,9 @@
 use Rattle.std.proofs.Common.{rules, sym, subst}
+use Rattle.coordination.proofs.Shown.{answered_shows}
 use Rattle.async_tracker.specs.ParkedView.{ParkedView}
 use Rattle.async_tracker.specs.TwoItems.{CanHelp}
 use Rattle.async_tracker.proofs.After.{from_ok}
-use Rattle.async_tracker.proofs.Turns.{answered_shows, helps_still}
+use Rattle.async_tracker.proofs.Turns.{helps_still}
 use Rattle.async_tracker.proofs.worked_tests.try_too_early.Goals as goal
 
 pub run_item-requires-2-clause-helps : goal.run_item-requires-2-clause-helps

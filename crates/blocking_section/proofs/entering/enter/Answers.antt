@@ -1,6 +1,6 @@
 use Rattle.std.proofs.Common.{rules, Ok, ap, ◌∙◌, subst}
+use Rattle.coordination.proofs.Shown.{stopped_for, stopped_shows, surely_finished}
 use Rattle.blocking_section.specs.Sections.{IsGivenBackBy}
-use Rattle.blocking_section.proofs.After.{stopped_for, stopped_shows, surely_finished}
 use Rattle.blocking_section.proofs.Entered.{given_back, not_ready, nothing_meanwhile, set_down_shows}
 use Rattle.blocking_section.proofs.Ready.{never_unready, only_with_unit}
 use Rattle.blocking_section.proofs.entering.enter.Goals as goal

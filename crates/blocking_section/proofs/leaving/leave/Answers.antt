@@ -4,9 +4,9 @@ use Rattle.lock_journal.specs.declared.entries.Kind.TheVariants.{Unblock}
 use Rattle.lock_journal.specs.Allowed.{IsDisabled, IsFixedList}
 use Rattle.lock_journal.specs.Taking.{rises}
 use Rattle.coordination.specs.Calls.{HasFinished, WasStopped}
+use Rattle.coordination.proofs.Shown.{stopped_for, stopped_shows, surely_finished}
 use Rattle.blocking_section.specs.BlockedView.{BlockedView}
 use Rattle.blocking_section.specs.Sections.{closed_with}
-use Rattle.blocking_section.proofs.After.{stopped_for, stopped_shows, surely_finished}
 use Rattle.blocking_section.proofs.Down.{owned_rises}
 use Rattle.blocking_section.proofs.Left.{can_not_take_up, locks_again, taken_up_shows}
 use Rattle.blocking_section.proofs.leaving.leave.Goals as goal
