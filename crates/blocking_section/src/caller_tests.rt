@@ -1,11 +1,13 @@
 //! A section entered and left again, whose conditions follow from what the calls before ensure.
 ghost use Rattle.std.specs.Prelude.{◌≡◌, ◌≤◌, [], OnOk, false, length, true};
 ghost use Rattle.std.specs.List.{list_any};
-ghost use Rattle.coordination.specs.Shown.{claimed_shown, lease_shown, locks_shown, parked_shown};
+ghost use Rattle.coordination.specs.Shown.{blocked_shown, claimed_shown, lease_shown, locks_shown, parked_shown};
+ghost use Rattle.lease_service.specs.Shows.{MayTake};
 ghost use Rattle.blocking_section.specs.Sections.{is_unit};
 
 use crate::{StillBlocked, enter, leave};
 use coordination::{Coordination, Halt, Opened, Pass, Question, openings_are_at_rest};
+use lease_service::{hand_back, take_locks};
 use lock_journal::kinds::{Acquire, HandBack, Shortage};
 use lock_journal::{Book, Kind};
 use resource_lock::{Change, Graph, LockId, WorkerId};
@@ -23,12 +25,35 @@ fn step_aside<R: Wait>(rt: &R, service: &Coordination, pass: &mut Pass) -> Resul
     ensures lease { OnOk result (lease_shown pass.new.sight ≡ true) }
     ensures locks { OnOk result (locks_shown pass.new.sight ≡ locks_shown pass.old.sight) }
     ensures claimed { OnOk result (claimed_shown pass.new.sight ≡ claimed_shown pass.old.sight) }
+    ensures not_blocked { OnOk result (blocked_shown pass.new.sight ≡ false) }
 {
     let blocked = enter(rt, service, pass, None)?;
     match leave(rt, service, pass, blocked, None) {
         Ok(()) => Ok(()),
         Err(StillBlocked::NoMemory(_)) => Err(Halt::NoMemory),
         Err(StillBlocked::Stopped(_, by)) => Err(Halt::Stopped(by)),
+    }
+}
+
+/// Takes these locks and the lease, steps aside, and hands all back.
+fn take_step_aside_and_hand_back<R: Wait>(
+    rt: &R,
+    service: &Coordination,
+    pass: &mut Pass,
+    locks: &[LockId],
+) -> Result<(), Halt>
+    requires service { pass.old.service ≡ service.now.service }
+    requires may { MayTake pass.old.sight locks.now }
+    requires none_parked { parked_shown pass.old.sight ≡ [] }
+    ensures service { pass.new.service ≡ pass.old.service }
+    ensures locks { OnOk result (locks_shown pass.new.sight ≡ []) }
+    ensures lease { OnOk result (lease_shown pass.new.sight ≡ false) }
+{
+    take_locks(rt, service, pass, locks)?;
+    step_aside(rt, service, pass)?;
+    match hand_back(rt, service, pass) {
+        Ok(()) => Ok(()),
+        Err(_) => Err(Halt::NoMemory),
     }
 }
 
@@ -133,6 +158,7 @@ fn assert_history<R: Wait + Abort>(rt: &R, service: &Coordination, pass: &mut Pa
 /// Has a worker that has the lease step aside.
 fn assert_steps_aside<R: Wait + Abort>(rt: &R, service: &Coordination, pass: &mut Pass)
     requires { pass.old.service ≡ service.now.service }
+    ensures { pass.new.service ≡ pass.old.service }
 {
     assert!(rt; pass.has_lease() && pass.claimed().is_empty() && pass.parked().is_empty());
     assert_eq!(rt; step_aside(rt, service, pass), Ok(()));
