@@ -17,7 +17,7 @@ import tempfile
 
 import measure
 
-BELOW = ["item_actions", "resource_lock", "lock_journal", "run_laws", "coordination"]
+BELOW = ["item_actions", "resource_lock", "task_ranks", "ready_work", "lock_journal", "run_laws", "coordination"]
 PROGRAM = "coordination_rounds"
 # As many rounds as the program makes in a run.
 ROUNDS = 40_000

@@ -5,3 +5,4 @@ pub mod Claiming
 pub mod Parking
 pub mod Resumed
 pub mod Turns
+pub mod OpenItems

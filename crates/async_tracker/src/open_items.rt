@@ -11,7 +11,7 @@ ghost use Rattle.async_tracker.specs.Waits.{IsFirstOpen, first_open};
 use crate::parked::Parked;
 use coordination::Question;
 use lock_journal::Book;
-use resource_lock::{Graph, GraphAction, MarkId, WorkerId};
+use resource_lock::{Graph, GraphAction, WorkerId};
 
 /// Asks for the first item of an action that hasn't ended. It has an answer at once.
 #[derive(Clone, Copy, Debug)]
@@ -40,7 +40,7 @@ pub fn ready(parked: &Parked, book: &Book) -> bool
 }
 
 /// The first item of an action that hasn't ended. An action that the graph doesn't have has no items.
-fn first_open(book: &Book, action: u32) -> Option<u32>
+pub fn first_open(book: &Book, action: u32) -> Option<u32>
     ensures { result ≡ first_open book.now.graph book.now.state action }
 {
     let graph = book.graph();
@@ -49,7 +49,8 @@ fn first_open(book: &Book, action: u32) -> Option<u32>
     }
     let action = action_of(graph, action);
     let first = action.first_unit + u32::from(action.fetch);
-    (first..first + action.items).find(|unit| !book.state().mark(MarkId::Unit(*unit)).has_ended())
+    let open = book.first_open_unit(first)?;
+    (open < first + action.items).then_some(open)
 }
 
 /// An action of the graph.

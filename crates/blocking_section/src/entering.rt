@@ -2,7 +2,7 @@ ghost use Rattle.std.specs.Prelude.{◌≡◌, ◌≢◌, IfOk, Err, None, Ok, t
 ghost use Rattle.resource_lock.specs.declared.ids.WorkerId.{WorkerId};
 ghost use Rattle.lock_journal.specs.Allowed.{IsFixedList};
 ghost use Rattle.lock_journal.specs.declared.entries.Kind.TheVariants as kinds;
-ghost use Rattle.coordination.specs.Calls.{HasFinished, WasStopped};
+ghost use Rattle.coordination.specs.Calls.{HasFinished, HasLooked, WasStopped};
 ghost use Rattle.coordination.specs.Shown.{ShowsTheSame, lease_shown, locks_shown};
 ghost use Rattle.blocking_section.specs.Sections.{CouldEnter, HasSetDown, IsGivenBackBy, IsNotReady, MayEnter, OwnsNothingMeanwhile};
 
@@ -38,7 +38,7 @@ pub fn enter<R: Wait>(
     ensures meanwhile { IfOk result (λ _. OwnsNothingMeanwhile pass.new.sight) }
     ensures without { unit ≡ None → (by : WorkerId) → result ≢ Err (Halt.Stopped by) }
     ensures ready { CouldEnter unit pass.old.sight → (by : WorkerId) → result ≢ Err (Halt.Stopped by) }
-    ensures no_memory { result ≡ Err Halt.NoMemory → ShowsTheSame pass.old.sight pass.new.sight }
+    ensures no_memory { result ≡ Err Halt.NoMemory → HasLooked pass.old.sight pass.new.sight × ShowsTheSame pass.old.sight pass.new.sight }
     ensures stopped { (by : WorkerId) → result ≡ Err (Halt.Stopped by) → WasStopped (IsNotReady unit) by pass.old.sight pass.new.sight × ShowsTheSame pass.old.sight pass.new.sight }
 {
     let blocked = Blocked {

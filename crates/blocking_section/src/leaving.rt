@@ -2,7 +2,7 @@ ghost use Rattle.std.specs.Prelude.{◌≡◌, [], Err, OnOk};
 ghost use Rattle.resource_lock.specs.declared.ids.WorkerId.{WorkerId};
 ghost use Rattle.lock_journal.specs.Allowed.{IsFixedList};
 ghost use Rattle.lock_journal.specs.declared.entries.Kind.TheVariants as kinds;
-ghost use Rattle.coordination.specs.Calls.{HasFinished, WasStopped};
+ghost use Rattle.coordination.specs.Calls.{HasFinished, HasLooked, WasStopped};
 ghost use Rattle.coordination.specs.Shown.{ShowsTheSame, locks_shown, parked_shown};
 ghost use Rattle.blocking_section.specs.BlockedView.{BlockedView};
 ghost use Rattle.blocking_section.specs.Sections.{CanNotTakeUp, FitsUnit, HasTakenUp, IsGivenBackBy, closed_with};
@@ -46,7 +46,7 @@ pub fn leave<R: Wait>(
     ensures shows { OnOk result (HasTakenUp blocked.unit pass.old.sight pass.new.sight) }
     // Where it has parked and taken nothing else since, the pass has its locks again.
     ensures locks { OnOk result (parked_shown pass.old.sight ≡ blocked.locks → locks_shown pass.old.sight ≡ [] → locks_shown pass.new.sight ≡ blocked.locks) }
-    ensures no_memory { (b : BlockedView) → result ≡ Err (StillBlocked.NoMemory b) → (b ≡ blocked) × ShowsTheSame pass.old.sight pass.new.sight }
+    ensures no_memory { (b : BlockedView) → result ≡ Err (StillBlocked.NoMemory b) → (b ≡ blocked) × HasLooked pass.old.sight pass.new.sight × ShowsTheSame pass.old.sight pass.new.sight }
     ensures stopped { (b : BlockedView) (by : WorkerId) → result ≡ Err (StillBlocked.Stopped b by) → (b ≡ blocked) × WasStopped CanNotTakeUp by pass.old.sight pass.new.sight × ShowsTheSame pass.old.sight pass.new.sight }
 {
     let closed = closed_with(blocked.unit, outcome);

@@ -1,5 +1,5 @@
 //! A section that is left while another thread has the only lease.
-ghost use Rattle.std.specs.Prelude.{◌≡◌, ◌<◌, [], length, true};
+ghost use Rattle.std.specs.Prelude.{◌≡◌, ◌<◌, [], All, IfOk, length, true};
 ghost use Rattle.coordination.specs.Shown.{claimed_shown, lease_shown};
 
 use crate::{StillBlocked, enter, leave};
@@ -81,34 +81,47 @@ fn play<R: Wait + Abort>(rt: &R, service: &Coordination, pass: &mut Pass, stops:
 /// Has both workers play, each in a thread of its own.
 fn play_in_threads<R: Threads + Wait + Abort + Sync>(
     rt: &R,
-    alloc: Global,
+    service: &Coordination,
+    passes: &mut [Pass],
     stops: bool,
-) -> Result<(), Fail> {
+)
+    requires { All (λ p. p.service ≡ service.now.service) passes.old }
+{
+    thread::for_each_mut(rt, passes, 2, &|_, pass| { play(rt, service, pass, stops) });
+}
+
+/// A service with two workers and one lease.
+fn open_service(rt: &impl Abort, alloc: Global) -> Result<Opened, Fail>
+    ensures { IfOk result (λ opened. All (λ p. p.service ≡ opened.service.service) opened.passes.items) }
+{
     let tasks = Vec::new(alloc);
     let actions = Vec::new(alloc);
     assert!(rt; Graph::fits(0, 2, 1, &tasks, &actions));
     let book = Book::opening(alloc, Graph::new(0, 2, 1, tasks, actions), 0, 0)?;
     openings_are_at_rest();
+    Ok(Coordination::open(alloc, book)?)
+}
+
+/// Opens a service, and has its workers play.
+fn open_and_play<R: Threads + Wait + Abort + Sync>(
+    rt: &R,
+    alloc: Global,
+    stops: bool,
+) -> Result<(), Fail> {
     let Opened {
         service,
         mut passes,
-    } = Coordination::open(alloc, book)?;
-    let workers = passes.as_mut_slice();
-    thread::for_each_mut(
-        rt,
-        workers,
-        2,
-        &|_, pass| { play(rt, &service, pass, stops) },
-    );
+    } = open_service(rt, alloc)?;
+    play_in_threads(rt, &service, passes.as_mut_slice(), stops);
     Ok(())
 }
 
 #[test]
 fn leaving_waits_for_the_lease_of_another_thread(rt: HostRuntime) -> Result<(), Fail> {
-    play_in_threads(&rt, rt.alloc(), false)
+    open_and_play(&rt, rt.alloc(), false)
 }
 
 #[test]
 fn a_stop_ends_leaving(rt: HostRuntime) -> Result<(), Fail> {
-    play_in_threads(&rt, rt.alloc(), true)
+    open_and_play(&rt, rt.alloc(), true)
 }

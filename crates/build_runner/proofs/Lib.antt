@@ -1,13 +1,12 @@
-pub mod Searches
-pub mod Enabled
-pub mod Within
-pub mod Leading
 pub mod Keeping
-pub mod Stepping
-pub mod Plans
-pub mod PlainGraph
-pub mod Ranks
-pub mod AfterLists
-pub mod ReadySets
-pub mod Progress
-pub mod Ends
+pub mod Points
+pub mod Asked
+mod AtFirst
+mod AtTheEnd
+mod InThread
+mod Joined
+mod Numbered
+mod Places
+mod Ranks
+mod Seated
+mod UnitLists

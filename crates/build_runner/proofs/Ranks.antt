@@ -1,55 +1,55 @@
--- The tasks of a plan have ranks.
+-- The tasks of a plan's graph have ranks.
 use Rattle.std.proofs.Common.{◌≡◌, ℕ, zero, suc, ◌+◌, ◌<◌, Bool, List, [], ◌∷◌, length, get_or, map, None, refl, sym, ◌∙◌, ap, subst, arith}
 use Rattle.std.specs.List.{All}
 use Rattle.std.proofs.lemmas.List.{length-map}
-use Rattle.resource_lock.specs.GraphView.{GraphView, GraphTaskView, graph_view, no_task}
-use Rattle.resource_lock.specs.declared.graphs.GraphTask.{GraphTask}
+use Rattle.resource_lock.specs.GraphView.{GraphView, GraphTaskView, no_task}
 use Rattle.plan_reader.specs.PlanView.{PlanTaskView, PlanView}
-use Rattle.plan_reader.specs.Graph.{tasks_from}
+use Rattle.plan_reader.specs.Graph.{graph_of, tasks_from}
 use Rattle.plan_reader.specs.IsPlan.{IsPlan, dependencies}
 use Rattle.run_laws.specs.Outcomes.{AreRanks}
 use Rattle.task_ranks.specs.Rank.{Dependencies, InRange, IsFirstCycle, after}
 use Rattle.task_ranks.specs.Numbering.{IsNumbering}
-use Rattle.build_runner.specs.Planned.{IsGraphOf, no_plan_task}
 
-abbrev pub afters_in : List GraphTaskView → Dependencies
+abbrev afters_in : List GraphTaskView → Dependencies
 afters_in ts = map (λ t. t.after) ts
 
 afters_from : (parallel : Bool) (n : ℕ) (ts : List PlanTaskView) → afters_in (tasks_from parallel n ts) ≡ dependencies ts
 afters_from parallel n [] = refl
 afters_from parallel n (t ∷ ts) = ap (λ rest. t.after ∷ rest) (afters_from parallel (n + length t.actions) ts)
 
--- the graph's tasks come after the same tasks as the plan's
-pub same_afters : (p : PlanView) (g : GraphView) → IsGraphOf p g → afters_in g.tasks ≡ dependencies p.tasks
-same_afters p g is = ap afters_in is.tasks ∙ afters_from is.parallel 0 p.tasks
-
-pub after_in : (ts : List GraphTaskView) (t : ℕ) → after (afters_in ts) t ≡ (get_or ts t no_task).after
+after_in : (ts : List GraphTaskView) (t : ℕ) → after (afters_in ts) t ≡ (get_or ts t no_task).after
 after_in [] t = refl
 after_in (x ∷ ts) zero = refl
 after_in (x ∷ ts) (suc t) = after_in ts t
 
-pub afters_count : (p : PlanView) → length (dependencies p.tasks) ≡ length p.tasks
-afters_count p = length-map p.tasks (λ (t : PlanTaskView). t.after)
+module _ (plan : PlanView) (g : GraphView) (workers leases : ℕ) (parallel : Bool) (is : g ≡ graph_of plan workers leases parallel) where
+  -- the graph's tasks come after the same tasks as the plan's
+  same_afters : afters_in g.tasks ≡ dependencies plan.tasks
+  same_afters = ap (λ (o : GraphView). afters_in o.tasks) is ∙ afters_from parallel 0 plan.tasks
 
-shape_after : (ts : List PlanTaskView) (t : ℕ) → after (dependencies ts) t ≡ (get_or ts t no_plan_task).after
-shape_after [] t = refl
-shape_after (x ∷ ts) zero = refl
-shape_after (x ∷ ts) (suc t) = shape_after ts t
+  pub task_count : length g.tasks ≡ length plan.tasks
+  task_count = sym (length-map g.tasks (λ (t : GraphTaskView). t.after)) ∙ (ap (λ (d : Dependencies). length d) same_afters ∙ length-map plan.tasks (λ (t : PlanTaskView). t.after))
 
-pub in_range : (p : PlanView) → IsPlan p → InRange (dependencies p.tasks)
-in_range p plan t k lt within =
-    let size = afters_count p in
-    let same = shape_after p.tasks t in
-    let low : get_or (after (dependencies p.tasks) t) k 0 < length p.tasks = subst (λ us. get_or us k 0 < length p.tasks) (sym same) (plan.after_within t no_plan_task (omega (arith, size)) k 0 (omega (arith, within, ap length same))) in
+  pub ranks_of : (number : ℕ → ℕ) → IsNumbering (dependencies plan.tasks) number → AreRanks g number
+  ranks_of number numbers = λ t. subst (All (λ u. number u < number t)) (ap (λ d. after d t) (sym same_afters) ∙ after_in g.tasks t) (numbers.rises t)
+
+pub afters_count : (plan : PlanView) → length (dependencies plan.tasks) ≡ length plan.tasks
+afters_count plan = length-map plan.tasks (λ (t : PlanTaskView). t.after)
+
+abbrev no_plan_task : PlanTaskView
+no_plan_task = record { name = []; project = 0; after = []; actions = [] }
+
+after_of : (ts : List PlanTaskView) (t : ℕ) → after (dependencies ts) t ≡ (get_or ts t no_plan_task).after
+after_of [] t = refl
+after_of (x ∷ ts) zero = refl
+after_of (x ∷ ts) (suc t) = after_of ts t
+
+pub in_range : (plan : PlanView) → IsPlan plan → InRange (dependencies plan.tasks)
+in_range plan is t k lt within =
+    let size = afters_count plan in
+    let same = after_of plan.tasks t in
+    let low : get_or (after (dependencies plan.tasks) t) k 0 < length plan.tasks = subst (λ us. get_or us k 0 < length plan.tasks) (sym same) (is.after_within t no_plan_task (omega (arith, size)) k 0 (omega (arith, within, ap length same))) in
     omega (arith, low, size)
 
-pub no_cycle : (p : PlanView) → IsPlan p → IsFirstCycle (dependencies p.tasks) None
-no_cycle p h = λ t lt. h.ranked t (omega (arith, lt, afters_count p))
-
--- the same, as the tasks were read
-pub afters_read : (ts : List GraphTask) → map (λ (t : GraphTask). t.after.items) ts ≡ afters_in (map graph_view ts)
-afters_read [] = refl
-afters_read (t ∷ ts) = ap (λ rest. t.after.items ∷ rest) (afters_read ts)
-
-pub ranks_of : (p : PlanView) (g : GraphView) (number : ℕ → ℕ) → IsGraphOf p g → IsNumbering (dependencies p.tasks) number → AreRanks g number
-ranks_of p g number is numbers = λ t. subst (All (λ u. number u < number t)) (ap (λ d. after d t) (sym (same_afters p g is)) ∙ after_in g.tasks t) (numbers.rises t)
+pub no_cycle : (plan : PlanView) → IsPlan plan → IsFirstCycle (dependencies plan.tasks) None
+no_cycle plan is = λ t lt. is.ranked t (omega (arith, lt, afters_count plan))

@@ -1,25 +1,25 @@
--- What each part of a run keeps of the whole: worker 0 closes all units with their values, and its faults are counted.
-use Rattle.std.specs.Prelude.{ℕ, ◌≡◌, ◌≢◌, ◌+◌, ◌-◌, ◌^◌, ◌<◌, ◌≤◌, ◌++◌, Option, IfSome, List}
+-- What each part of a worker's run keeps: its closings carry what the files give, and its faults are counted.
+use Rattle.std.specs.Prelude.{ℕ, ◌≡◌, ◌+◌, ◌-◌, ◌^◌, ◌<◌, ◌≤◌, ◌++◌, List, Option, IfSome}
 use Rattle.item_actions.specs.Files.{Folder}
-use Rattle.resource_lock.specs.declared.ids.WorkerId.{WorkerId}
-use Rattle.lock_journal.specs.Entry.{Entry}
 use Rattle.lock_journal.specs.declared.entries.Closed.{Closed}
-use Rattle.plan_reader.specs.PlanView.{PlanView}
-use Rattle.plan_reader.specs.Units.{unit_value}
+use Rattle.plan_reader.specs.Units.{PlannedUnit}
 use Rattle.run_laws.specs.Answers.{IsHonestWorker}
 use Rattle.run_laws.specs.ClosedBy.{closed_by, faults_by}
-use Rattle.build_runner.specs.Phases.{first_worker}
+use Rattle.coordination.specs.declared.rule.Sight.{Sight}
+use Rattle.build_runner.specs.Units.{given}
 
--- While the history went from h to h', worker 0 closed these units, and no other worker closed any.
-pub record HasClosed (h h' : List Entry) (ds : List Closed) : Type 0 where
-  pub own : closed_by first_worker h' ≡ closed_by first_worker h ++ ds
-  pub others : (w : WorkerId) → w.0 ≢ 0 → closed_by w h' ≡ closed_by w h
+-- The worker and the graph stay, and the worker closed these units.
+pub record HasClosed (ds : List Closed) (old new : Sight) : Type 0 where
+  pub worker : new.worker ≡ old.worker
+  pub graph : new.seen.graph ≡ old.seen.graph
+  pub closed : closed_by old.worker new.seen.history ≡ closed_by old.worker old.seen.history ++ ds
 
--- While the history went from h to h', the desk's count of faults went from before to after. Each unit that was closed with
--- Fault is counted there, unless the count stands at its end, 2 ^ 64 - 1. Where the files are known, each unit that was closed
--- has the value of its file, or Fault or NoMemory. No worker but worker 0 closed any.
-pub record Keeps (known : Option Folder) (plan : PlanView) (before after : ℕ) (h h' : List Entry) : Type 0 where
+-- The worker and the graph stay, while the count of faults of its desk went from before to after. Each unit that it closed with
+-- Fault is counted there, unless the count stands at its end, 2 ^ 64 - 1. Where the files are known, each unit that it closed has
+-- what its file gives, or Fault or NoMemory.
+pub record Keeps (known : Option Folder) (units : List PlannedUnit) (before after : ℕ) (old new : Sight) : Type 0 where
+  pub worker : new.worker ≡ old.worker
+  pub graph : new.seen.graph ≡ old.seen.graph
   pub count : before ≤ after
-  pub faults : after < 2 ^ 64 - 1 → faults_by first_worker h' + before ≤ faults_by first_worker h + after
-  pub honest : IfSome known (λ files. IsHonestWorker (unit_value plan files) h first_worker → IsHonestWorker (unit_value plan files) h' first_worker)
-  pub others : (w : WorkerId) → w.0 ≢ 0 → closed_by w h' ≡ closed_by w h
+  pub faults : after < 2 ^ 64 - 1 → faults_by old.worker new.seen.history + before ≤ faults_by old.worker old.seen.history + after
+  pub honest : IfSome known (λ files. IsHonestWorker (given units files) old.seen.history old.worker → IsHonestWorker (given units files) new.seen.history old.worker)

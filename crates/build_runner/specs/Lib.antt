@@ -1,8 +1,9 @@
-pub mod Phases
-pub mod Choices
-pub mod Kept
 pub mod CanRun
-pub mod Planned
-pub mod Ready
-pub mod Dependents
+pub mod Units
+pub mod Choices
+pub mod Parked
+pub mod Kept
+pub mod Points
+pub mod Worked
+pub mod Team
 pub mod Run

@@ -1,15 +1,13 @@
 //! Which plans this crate runs.
-ghost use Rattle.std.specs.Prelude.{◌≡◌, ◌&&◌, is_none};
+ghost use Rattle.std.specs.Prelude.{◌≡◌, is_none};
 ghost use Rattle.std.specs.List.{list_all};
 ghost use Rattle.plan_reader.specs.PlanView.{plan_action_view, plan_task_view, work_view};
-ghost use Rattle.build_runner.specs.CanRun.{is_retain, can_run, can_run_action, can_run_task};
+ghost use Rattle.build_runner.specs.CanRun.{can_run, can_run_action, can_run_task};
 
 use daemon_requirements::{Isolation, Work};
 use plan_reader::{Plan, PlanAction, PlanTask};
-use resource_lock::Retention;
 
-/// Whether this crate runs a plan: each task has exactly one action, and no action has a fetch,
-/// another retention than Retain, or an item that runs in a process.
+/// Whether this crate runs a plan: no item runs in a process.
 pub fn can_run(plan: &Plan) -> bool
     ensures { result ≡ can_run plan.now }
 {
@@ -25,7 +23,7 @@ fn can_run_tasks(tasks: &[PlanTask]) -> bool
 fn can_run_task(task: &PlanTask) -> bool
     ensures { result ≡ can_run_task (plan_task_view task.now) }
 {
-    task.actions.len() == 1 && can_run_actions(&task.actions)
+    can_run_actions(&task.actions)
 }
 
 fn can_run_actions(actions: &[PlanAction]) -> bool
@@ -37,14 +35,7 @@ fn can_run_actions(actions: &[PlanAction]) -> bool
 fn can_run_action(action: &PlanAction) -> bool
     ensures { result ≡ can_run_action (plan_action_view action.now) }
 {
-    retains_without_fetch(action) && run_in_thread(&action.items)
-}
-
-/// Whether an action has no fetch, and retains the project lock.
-fn retains_without_fetch(action: &PlanAction) -> bool
-    ensures { result ≡ (is_none action.now.fetch && is_retain action.now.retention) }
-{
-    action.fetch.is_none() && matches!(action.retention, Retention::Retain)
+    run_in_thread(&action.items)
 }
 
 /// Whether each item runs in the worker's own thread.

@@ -1,71 +1,139 @@
-//! The items of a task, worked out one after another.
-ghost use Rattle.std.specs.Prelude.{◌≡◌, ◌<◌, ◌≤◌, ◌+◌, ◌^◌, ℕ, Some, OnOk, length, slice_get};
-ghost use Rattle.resource_lock.specs.Ranges.{IsItemOf};
-ghost use Rattle.resource_lock.specs.StateView.{StateView};
-ghost use Rattle.plan_reader.specs.PlanView.{PlanView, work_view};
-ghost use Rattle.plan_reader.specs.Units.{plan_units, item_unit};
-ghost use Rattle.build_runner.specs.Phases.{only_action, ArePlain, HasParked};
-ghost use Rattle.build_runner.specs.Planned.{ArePlanned};
-ghost use Rattle.build_runner.specs.Kept.{Keeps};
+//! An item that a worker claims, runs and closes, and a fetch that it reads.
+ghost use Rattle.std.specs.Prelude.{◌≡◌, ◌≢◌, ◌≤◌, ◌<◌, ◌∷◌, [], Contains, All, IfSome, Ok, OnErr, OnOk, Some, length, map, true};
+ghost use Rattle.item_actions.specs.Value.{IsHonest};
+ghost use Rattle.item_actions.specs.declared.outcomes.Outcome.TheVariants as outcomes;
+ghost use Rattle.resource_lock.specs.declared.marks.MarkId.TheVariants as ids;
+ghost use Rattle.coordination.specs.Shown.{ShowsTheSame, claimed_shown, lease_shown};
+ghost use Rattle.async_tracker.specs.Shows.{IsItemHere, ShowsClaimed, ShowsClosed};
+ghost use Rattle.plan_reader.specs.Units.{value_in};
+ghost use Rattle.worker_desk.specs.SinkView.{Rises};
+ghost use Rattle.build_runner.specs.Kept.{HasClosed, Keeps};
+ghost use Rattle.build_runner.specs.Points.{CanHelp};
+ghost use Rattle.build_runner.specs.Units.{RunsInThread, given, unit_view};
 
-use crate::steps::{claim, close};
-use daemon_requirements::Work;
-use lock_journal::{Book, Closed};
-use std::alloc::{AllocError, Global};
-use worker_desk::{Files, work_out};
+use crate::site::Site;
+use crate::units::UnitWork;
+use async_tracker::{claim, close, closing_undoes_claiming};
+use coordination::{Halt, Pass};
+use item_actions::{ItemAction, Outcome};
+use lease_service::{Lease, current_lease};
+use lock_journal::Closed;
+use std::alloc::Global;
+use std::sync::Wait;
+use work_queue::run_item;
+use worker_desk::{Files, Gate, work_out};
 
-/// Claims item `unit`, works it out and closes it with what came.
-///
-/// It fails where an entry finds no memory; the run is then given up.
-fn run_item<D: Files>(
+/// What a unit gives.
+fn outcome_of<F: Files>(
     alloc: Global,
-    book: &mut Book,
-    task: u32,
+    lease: &Lease<'_>,
+    desk: &mut F,
     unit: u32,
-    work: &Work,
-    desk: &mut D,
-) -> Result<(), AllocError>
-    requires form { ArePlain book.old.graph }
-    requires task { task < length book.old.graph.tasks }
-    requires item { IsItemOf book.old.graph (only_action book.old.graph task) unit }
-    requires parked { (r : StateView) × HasParked book.old.graph r task unit book.old.state }
-    ensures files { D.files desk.new ≡ D.files desk.old }
-    ensures count { D.faults desk.old ≤ D.faults desk.new }
-    ensures graph { book.new.graph ≡ book.old.graph }
-    ensures parked { (r : StateView) → HasParked book.old.graph r task unit book.old.state → OnOk result (HasParked book.old.graph r task (unit + 1) book.new.state) }
-    ensures keeps { (plan : PlanView) → slice_get (plan_units plan) unit ≡ Some (item_unit (work_view work.now)) → OnOk result (Keeps (D.files desk.old) plan (D.faults desk.old) (D.faults desk.new) book.old.history book.new.history) }
+    work: UnitWork<'_>,
+) -> Outcome
+    requires claimed { Contains (claimed_shown lease.now.sight) (ids.Unit unit) }
+    requires in_thread { RunsInThread (unit_view work) }
+    ensures files { F.files desk.new ≡ F.files desk.old }
+    ensures count { F.faults desk.old ≤ F.faults desk.new }
+    ensures ran { result ≢ outcomes.Skipped }
+    ensures fault { result ≡ outcomes.Fault → Rises (F.faults desk.old) (F.faults desk.new) }
+    ensures honest { IfSome (F.files desk.old) (λ files. IsHonest result (value_in files (Some (unit_view work.entry)))) }
 {
-    claim(book, task, unit)?;
-    let outcome = work_out(alloc, &work.action, &work.file, desk);
-    close(book, task, Closed { unit, outcome })
+    match work {
+        UnitWork::Item(work) => run_item(alloc, lease, desk, unit, work),
+        UnitWork::Fetch(file) => work_out(alloc, &ItemAction::Bytes, file, desk),
+    }
 }
 
-/// Runs the items of a task's action, which are the units from `first` on.
-///
-/// It fails where an entry finds no memory; the run is then given up.
-pub(crate) fn run_items<D: Files>(
-    alloc: Global,
-    book: &mut Book,
-    task: u32,
-    first: u32,
-    works: &[Work],
-    desk: &mut D,
-) -> Result<(), AllocError>
-    requires form { ArePlain book.old.graph }
-    requires task { task < length book.old.graph.tasks }
-    requires few { first + length works.now < 2 ^ 32 }
-    requires items { (u : ℕ) → first ≤ u → u < first + length works.now → IsItemOf book.old.graph (only_action book.old.graph task) u }
-    requires parked { (r : StateView) × HasParked book.old.graph r task first book.old.state }
-    ensures files { D.files desk.new ≡ D.files desk.old }
-    ensures count { D.faults desk.old ≤ D.faults desk.new }
-    ensures graph { book.new.graph ≡ book.old.graph }
-    ensures parked { (r : StateView) → HasParked book.old.graph r task first book.old.state → OnOk result (HasParked book.old.graph r task (first + length works.now) book.new.state) }
-    ensures keeps { (plan : PlanView) → ArePlanned plan first works.now → OnOk result (Keeps (D.files desk.old) plan (D.faults desk.old) (D.faults desk.new) book.old.history book.new.history) }
+/// Runs a unit that the worker has claimed, and says what it gives.
+fn run_claimed<F: Files, G: Gate>(
+    site: &Site<'_, G>,
+    pass: &Pass,
+    desk: &mut F,
+    unit: u32,
+) -> Outcome
+    requires lease { lease_shown pass.now.sight ≡ true }
+    requires claimed { Contains (claimed_shown pass.now.sight) (ids.Unit unit) }
+    requires within { unit < length site.now.units.now }
+    requires in_thread { All (λ u. RunsInThread (unit_view u)) site.now.units.now }
+    ensures files { F.files desk.new ≡ F.files desk.old }
+    ensures count { F.faults desk.old ≤ F.faults desk.new }
+    ensures ran { result ≢ outcomes.Skipped }
+    ensures fault { result ≡ outcomes.Fault → Rises (F.faults desk.old) (F.faults desk.new) }
+    ensures honest { IfSome (F.files desk.old) (λ files. IsHonest result (given (map unit_view site.now.units.now) files unit)) }
 {
-    let mut unit = first;
-    for work in works {
-        run_item(alloc, book, task, unit, work, desk)?;
-        unit += 1;
+    let Some(lease) = current_lease(pass) else {
+        unreachable!()
+    };
+    site.gate.enter(pass.worker().0, unit);
+    outcome_of(site.alloc, &lease, desk, unit, site.units[unit as usize])
+}
+
+/// Claims an item. False says that it isn't queued any more.
+fn claim_item<R: Wait, G>(
+    rt: &R,
+    site: &Site<'_, G>,
+    pass: &mut Pass,
+    unit: u32,
+) -> Result<bool, Halt>
+    requires service { pass.old.service ≡ site.now.service.now.service }
+    requires item { IsItemHere pass.old.sight.seen.graph unit }
+    requires helps { CanHelp pass.old.sight }
+    ensures service { pass.new.service ≡ pass.old.service }
+    ensures closed { HasClosed [] pass.old.sight pass.new.sight }
+    ensures shows { result ≡ Ok true → ShowsClaimed unit pass.old.sight pass.new.sight }
+    ensures kept { result ≢ Ok true → ShowsTheSame pass.old.sight pass.new.sight }
+{
+    claim(rt, site.service, pass, unit)
+}
+
+/// Closes an item that the worker has claimed.
+fn close_item<R: Wait, G>(
+    rt: &R,
+    site: &Site<'_, G>,
+    pass: &mut Pass,
+    closed: Closed,
+) -> Result<(), Halt>
+    requires service { pass.old.service ≡ site.now.service.now.service }
+    requires item { IsItemHere pass.old.sight.seen.graph closed.unit }
+    requires claimed { Contains (claimed_shown pass.old.sight) (ids.Unit closed.unit) }
+    requires lease { lease_shown pass.old.sight ≡ true }
+    requires outcome { closed.outcome ≢ outcomes.Skipped }
+    ensures service { pass.new.service ≡ pass.old.service }
+    ensures closed { OnOk result (HasClosed (closed ∷ []) pass.old.sight pass.new.sight) }
+    ensures shows { OnOk result (ShowsClosed closed.unit pass.old.sight pass.new.sight) }
+    ensures still { OnErr result (HasClosed [] pass.old.sight pass.new.sight) }
+{
+    match close(rt, site.service, pass, closed.unit, closed.outcome) {
+        Ok(()) => Ok(()),
+        Err(_) => Err(Halt::NoMemory),
     }
-    Ok(())
+}
+
+/// Claims an item, runs it and closes it, unless another worker was faster.
+///
+/// The pass then shows what it showed. It fails for want of memory, and where the service was stopped.
+pub(crate) fn help<R: Wait, F: Files, G: Gate>(
+    rt: &R,
+    site: &Site<'_, G>,
+    pass: &mut Pass,
+    desk: &mut F,
+    unit: u32,
+) -> Result<(), Halt>
+    requires service { pass.old.service ≡ site.now.service.now.service }
+    requires item { IsItemHere pass.old.sight.seen.graph unit }
+    requires helps { CanHelp pass.old.sight }
+    requires within { unit < length site.now.units.now }
+    requires in_thread { All (λ u. RunsInThread (unit_view u)) site.now.units.now }
+    ensures service { pass.new.service ≡ pass.old.service }
+    ensures files { F.files desk.new ≡ F.files desk.old }
+    ensures keeps { Keeps (F.files desk.old) (map unit_view site.now.units.now) (F.faults desk.old) (F.faults desk.new) pass.old.sight pass.new.sight }
+    ensures shows { OnOk result (ShowsTheSame pass.old.sight pass.new.sight) }
+{
+    closing_undoes_claiming();
+    if !claim_item(rt, site, pass, unit)? {
+        return Ok(());
+    }
+    let outcome = run_claimed(site, pass, desk, unit);
+    close_item(rt, site, pass, Closed { unit, outcome })
 }

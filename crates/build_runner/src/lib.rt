@@ -1,15 +1,19 @@
-//! Runs a plan on one thread: each task and each item, by transforms of one book.
+//! Runs a plan on several threads: each worker has a pass and a desk, and all share one book.
 #![tactic(auto)]
 
 mod choices;
-mod dependents;
+mod fetching;
 mod forms;
+mod idle;
 mod items;
-mod loops;
 mod options;
+mod ready;
 mod runs;
-mod steps;
+mod site;
 mod tasks;
+mod team;
+mod units;
+mod waiting;
 
 pub use forms::can_run;
 pub use options::RunOptions;

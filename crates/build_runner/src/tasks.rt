@@ -1,114 +1,211 @@
-//! A task of a plan, run from its start to its end.
-ghost use Rattle.std.specs.Prelude.{◌≡◌, ◌<◌, ◌≤◌, ◌+◌, ◌^◌, IsTrue, OnOk, length, map};
-ghost use Rattle.resource_lock.specs.GraphView.{action_of};
+//! A task, run by a worker from its start to its end.
+ghost use Rattle.std.specs.Prelude.{◌≡◌, ◌+◌, ◌<◌, [], All, IfOk, Ok, OnOk, false, length, map, true};
 ghost use Rattle.resource_lock.specs.Fits.{Fits};
-ghost use Rattle.resource_lock.specs.Ranges.{first_item};
-ghost use Rattle.plan_reader.specs.PlanView.{PlanView, work_view};
-ghost use Rattle.build_runner.specs.CanRun.{can_run};
-ghost use Rattle.build_runner.specs.Choices.{CanStart};
-ghost use Rattle.resource_lock.specs.AtRest.{IsAtRest};
-ghost use Rattle.build_runner.specs.Phases.{only_action, ArePlain, IsUntouched, HasRun};
-ghost use Rattle.build_runner.specs.Planned.{task_in, single, ArePlanned, IsGraphOf};
-ghost use Rattle.build_runner.specs.Kept.{Keeps};
+ghost use Rattle.resource_lock.specs.GraphView.{action_of, task_of};
+ghost use Rattle.resource_lock.specs.Ranges.{IsActionOf, lock_with};
+ghost use Rattle.async_tracker.specs.Shows.{IsParkedBy, ShowsParked};
+ghost use Rattle.coordination.specs.Holds.{HoldsNothing};
+ghost use Rattle.build_runner.specs.Kept.{HasClosed, Keeps};
+ghost use Rattle.build_runner.specs.Points.{CanHelp, IsInTask, RunsTask};
+ghost use Rattle.build_runner.specs.Units.{RunsInThread, unit_view};
 
-use crate::items::run_items;
-use crate::steps::{end, park, resume, start, submit};
-use daemon_requirements::Work;
-use lock_journal::Book;
-use plan_reader::Plan;
-use std::alloc::{AllocError, Global};
-use worker_desk::Files;
+use crate::fetching::fetch;
+use crate::site::Site;
+use crate::waiting::wait_for_items;
+use async_tracker::{Parked, park, submit};
+use coordination::{Halt, Pass};
+use lock_journal::kinds::{End, Start};
+use resource_lock::{Graph, GraphAction};
+use std::ops::Range;
+use std::sync::Wait;
+use worker_desk::{Files, Gate};
 
-/// The items of a task's one action.
-fn items_of(plan: &Plan, task: u32) -> &[Work]
-    requires form { IsTrue (can_run plan.now) }
-    requires task { task < length plan.now.tasks }
-    ensures items { map work_view result.now ≡ (single (task_in plan.entry.now task)).items }
-{
-    plan.tasks()[task as usize].actions[0].items.as_slice()
-}
-
-/// The numbers of a task, its one action and that action's first item.
-#[derive(Clone, Copy)]
-struct TaskNumbers {
+/// Reads the file that an action fetches, if it has a fetch.
+fn fetch_first<R: Wait, F: Files, G>(
+    rt: &R,
+    site: &Site<'_, G>,
+    pass: &mut Pass,
+    desk: &mut F,
     task: u32,
     action: u32,
-    first: u32,
-}
-
-/// A task's numbers, as the graph of the book has them.
-fn numbers_of(book: &Book, task: u32) -> TaskNumbers
-    requires form { ArePlain book.now.graph }
-    requires task { task < length book.now.graph.tasks }
-    ensures task { result.task ≡ task }
-    ensures action { result.action ≡ only_action book.now.graph task }
-    ensures first { result.first ≡ first_item (action_of book.now.graph result.action) }
-    ensures fits { Fits book.now.graph }
+) -> Result<(), Halt>
+    requires service { pass.old.service ≡ site.now.service.now.service }
+    requires graph { pass.old.sight.seen.graph ≡ site.now.graph.now }
+    requires units { site.now.graph.now.units ≡ length site.now.units.now }
+    requires task { task < length site.now.graph.now.tasks }
+    requires action { IsActionOf site.now.graph.now task action }
+    requires runs { RunsTask task pass.old.sight }
+    ensures service { pass.new.service ≡ pass.old.service }
+    ensures files { F.files desk.new ≡ F.files desk.old }
+    ensures keeps { Keeps (F.files desk.old) (map unit_view site.now.units.now) (F.faults desk.old) (F.faults desk.new) pass.old.sight pass.new.sight }
+    ensures runs { OnOk result (RunsTask task pass.new.sight) }
 {
-    let graph = book.graph();
-    let action = graph.tasks()[task as usize].first_action;
-    let first = graph.actions()[action as usize].first_unit;
-    TaskNumbers {
-        task,
-        action,
-        first,
+    let found = action_of(site.graph, task, action);
+    if found.fetch {
+        fetch(rt, site, pass, desk, task, found.first_unit)
+    } else {
+        Ok(())
     }
 }
 
-/// Makes the entries of a task from its start to its end, its items among them.
-///
-/// It fails where an entry finds no memory; the run is then given up.
-fn run_entries<D: Files>(
-    alloc: Global,
-    book: &mut Book,
-    numbers: TaskNumbers,
-    items: &[Work],
-    desk: &mut D,
-) -> Result<(), AllocError>
-    requires form { ArePlain book.old.graph }
-    requires action { numbers.action ≡ only_action book.old.graph numbers.task }
-    requires first { numbers.first ≡ first_item (action_of book.old.graph numbers.action) }
-    requires items { length items.now ≡ (action_of book.old.graph numbers.action).items }
-    requires few { numbers.first + length items.now < 2 ^ 32 }
-    requires ready { CanStart book.old.graph book.old.state numbers.task }
-    requires rest { IsAtRest book.old.state }
-    requires untouched { IsUntouched book.old.graph book.old.state numbers.task }
-    ensures files { D.files desk.new ≡ D.files desk.old }
-    ensures count { D.faults desk.old ≤ D.faults desk.new }
-    ensures graph { book.new.graph ≡ book.old.graph }
-    ensures run { OnOk result (HasRun book.old.graph book.old.state numbers.task book.new.state) }
-    ensures keeps { (plan : PlanView) → ArePlanned plan numbers.first items.now → OnOk result (Keeps (D.files desk.old) plan (D.faults desk.old) (D.faults desk.new) book.old.history book.new.history) }
+/// An action of a task.
+fn action_of(graph: &Graph, task: u32, action: u32) -> GraphAction
+    requires task { task < length graph.now.tasks }
+    requires action { IsActionOf graph.now task action }
+    ensures value { result ≡ action_of graph.now action }
+    ensures fits { Fits graph.now }
+    ensures within { action < length graph.now.actions }
 {
-    start(book, numbers.task)?;
-    submit(book, numbers.task, numbers.action)?;
-    park(book, numbers.task, numbers.action)?;
-    run_items(alloc, book, numbers.task, numbers.first, items, desk)?;
-    resume(book, numbers.task, numbers.action)?;
-    end(book, numbers.task)
+    let _ = graph.tasks();
+    graph.actions()[action as usize]
 }
 
-/// Runs a task of the plan from its start to its end.
-///
-/// It fails where an entry finds no memory; the run is then given up.
-pub(crate) fn run_task<D: Files>(
-    alloc: Global,
-    plan: &Plan,
-    book: &mut Book,
+/// Queues the items of an action of the worker's task, and parks.
+fn queue_items<R: Wait, G>(
+    rt: &R,
+    site: &Site<'_, G>,
+    pass: &mut Pass,
     task: u32,
-    desk: &mut D,
-) -> Result<(), AllocError>
-    requires form { IsTrue (can_run plan.now) }
-    requires graph { IsGraphOf plan.now book.old.graph }
-    requires ready { CanStart book.old.graph book.old.state task }
-    requires rest { IsAtRest book.old.state }
-    requires untouched { IsUntouched book.old.graph book.old.state task }
-    ensures files { D.files desk.new ≡ D.files desk.old }
-    ensures count { D.faults desk.old ≤ D.faults desk.new }
-    ensures graph { book.new.graph ≡ book.old.graph }
-    ensures run { OnOk result (HasRun book.old.graph book.old.state task book.new.state) }
-    ensures keeps { OnOk result (Keeps (D.files desk.old) plan.now (D.faults desk.old) (D.faults desk.new) book.old.history book.new.history) }
+    action: u32,
+) -> Result<Parked, Halt>
+    requires service { pass.old.service ≡ site.now.service.now.service }
+    requires graph { pass.old.sight.seen.graph ≡ site.now.graph.now }
+    requires task { task < length site.now.graph.now.tasks }
+    requires action { IsActionOf site.now.graph.now task action }
+    requires runs { RunsTask task pass.old.sight }
+    ensures service { pass.new.service ≡ pass.old.service }
+    ensures closed { HasClosed [] pass.old.sight pass.new.sight }
+    ensures action { IfOk result (λ parked. parked.action ≡ action) }
+    ensures fits { Fits site.now.graph.now }
+    ensures within { action < length site.now.graph.now.actions }
+    ensures own { IfOk result (λ parked. IsParkedBy pass.new.sight parked) }
+    ensures helps { OnOk result (CanHelp pass.new.sight) }
+    ensures shows { OnOk result (ShowsParked (action_of site.now.graph.now action).retention (lock_with site.now.graph.now action) action pass.old.sight pass.new.sight) }
 {
-    let numbers = numbers_of(book, task);
-    let items = items_of(plan, task);
-    run_entries(alloc, book, numbers, items, desk)
+    let _ = action_of(site.graph, task, action);
+    submit(rt, site.service, pass, action)?;
+    park(rt, site.service, pass, action)
+}
+
+/// Runs an action of the worker's task: its fetch, if it has one, and its items, which other workers
+/// run too. It says whether the worker goes on with the next action: no unit of this one failed, and
+/// the worker has its lease again.
+fn run_action<R: Wait, F: Files, G: Gate>(
+    rt: &R,
+    site: &Site<'_, G>,
+    pass: &mut Pass,
+    desk: &mut F,
+    task: u32,
+    action: u32,
+) -> Result<bool, Halt>
+    requires service { pass.old.service ≡ site.now.service.now.service }
+    requires graph { pass.old.sight.seen.graph ≡ site.now.graph.now }
+    requires units { site.now.graph.now.units ≡ length site.now.units.now }
+    requires in_thread { All (λ u. RunsInThread (unit_view u)) site.now.units.now }
+    requires task { task < length site.now.graph.now.tasks }
+    requires action { IsActionOf site.now.graph.now task action }
+    requires runs { RunsTask task pass.old.sight }
+    ensures service { pass.new.service ≡ pass.old.service }
+    ensures files { F.files desk.new ≡ F.files desk.old }
+    ensures keeps { Keeps (F.files desk.old) (map unit_view site.now.units.now) (F.faults desk.old) (F.faults desk.new) pass.old.sight pass.new.sight }
+    ensures goes_on { result ≡ Ok true → RunsTask task pass.new.sight }
+    ensures in_task { OnOk result (IsInTask task pass.new.sight) }
+{
+    fetch_first(rt, site, pass, desk, task, action)?;
+    let parked = queue_items(rt, site, pass, task, action)?;
+    let failed = wait_for_items(rt, site, pass, desk, parked)?;
+    Ok(!failed && pass.has_lease())
+}
+
+/// Runs the actions of the worker's task, up to the first with a unit that failed.
+fn run_actions<R: Wait, F: Files, G: Gate>(
+    rt: &R,
+    site: &Site<'_, G>,
+    pass: &mut Pass,
+    desk: &mut F,
+    task: u32,
+) -> Result<(), Halt>
+    requires service { pass.old.service ≡ site.now.service.now.service }
+    requires graph { pass.old.sight.seen.graph ≡ site.now.graph.now }
+    requires units { site.now.graph.now.units ≡ length site.now.units.now }
+    requires in_thread { All (λ u. RunsInThread (unit_view u)) site.now.units.now }
+    requires task { task < length site.now.graph.now.tasks }
+    requires runs { RunsTask task pass.old.sight }
+    ensures service { pass.new.service ≡ pass.old.service }
+    ensures files { F.files desk.new ≡ F.files desk.old }
+    ensures keeps { Keeps (F.files desk.old) (map unit_view site.now.units.now) (F.faults desk.old) (F.faults desk.new) pass.old.sight pass.new.sight }
+    ensures in_task { OnOk result (IsInTask task pass.new.sight) }
+{
+    let Range { start, end } = actions_of(site.graph, task);
+    for action in start..end {
+        if !run_action(rt, site, pass, desk, task, action)? {
+            return Ok(());
+        }
+    }
+    Ok(())
+}
+
+/// The actions of a task, by number.
+fn actions_of(graph: &Graph, task: u32) -> Range<u32>
+    requires { task < length graph.now.tasks }
+    ensures first { result.start ≡ (task_of graph.now task).first_action }
+    ensures end { result.end ≡ (task_of graph.now task).first_action + (task_of graph.now task).actions }
+    ensures fits { Fits graph.now }
+{
+    let found = &graph.tasks()[task as usize];
+    found.first_action..found.first_action + found.actions
+}
+
+/// Ends the worker's task, which gives back what the worker has.
+fn end<R: Wait, G>(rt: &R, site: &Site<'_, G>, pass: &mut Pass, task: u32) -> Result<(), Halt>
+    requires service { pass.old.service ≡ site.now.service.now.service }
+    requires task { task < length pass.old.sight.seen.graph.tasks }
+    requires in_task { IsInTask task pass.old.sight }
+    ensures service { pass.new.service ≡ pass.old.service }
+    ensures closed { HasClosed [] pass.old.sight pass.new.sight }
+    ensures rests { OnOk result (HoldsNothing pass.new.sight) }
+{
+    site.service.with_state_lock(rt, pass, &End { task })?;
+    Ok(())
+}
+
+/// Starts a task and runs it to its end, unless it can't be started any more.
+///
+/// The worker has nothing then. It fails for want of memory, and where the service was stopped.
+pub(crate) fn run_task<R: Wait, F: Files, G: Gate>(
+    rt: &R,
+    site: &Site<'_, G>,
+    pass: &mut Pass,
+    desk: &mut F,
+    task: u32,
+) -> Result<(), Halt>
+    requires service { pass.old.service ≡ site.now.service.now.service }
+    requires graph { pass.old.sight.seen.graph ≡ site.now.graph.now }
+    requires units { site.now.graph.now.units ≡ length site.now.units.now }
+    requires in_thread { All (λ u. RunsInThread (unit_view u)) site.now.units.now }
+    requires task { task < length site.now.graph.now.tasks }
+    requires rests { HoldsNothing pass.old.sight }
+    ensures service { pass.new.service ≡ pass.old.service }
+    ensures files { F.files desk.new ≡ F.files desk.old }
+    ensures keeps { Keeps (F.files desk.old) (map unit_view site.now.units.now) (F.faults desk.old) (F.faults desk.new) pass.old.sight pass.new.sight }
+    ensures rests { OnOk result (HoldsNothing pass.new.sight) }
+{
+    if !start(rt, site, pass, task)? {
+        return Ok(());
+    }
+    run_actions(rt, site, pass, desk, task)?;
+    end(rt, site, pass, task)
+}
+
+/// Starts a task. False says that it can't be started any more.
+fn start<R: Wait, G>(rt: &R, site: &Site<'_, G>, pass: &mut Pass, task: u32) -> Result<bool, Halt>
+    requires service { pass.old.service ≡ site.now.service.now.service }
+    requires task { task < length pass.old.sight.seen.graph.tasks }
+    requires rests { HoldsNothing pass.old.sight }
+    ensures service { pass.new.service ≡ pass.old.service }
+    ensures closed { HasClosed [] pass.old.sight pass.new.sight }
+    ensures runs { result ≡ Ok true → RunsTask task pass.new.sight }
+    ensures rests { result ≡ Ok false → HoldsNothing pass.new.sight }
+{
+    site.service.with_state_lock(rt, pass, &Start { task })
 }

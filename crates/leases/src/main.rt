@@ -1,13 +1,17 @@
 //! The program: the words, the real files, standard input and output, and the one call that does the rest.
 #![tactic(auto)]
 
+ghost use Rattle.std.specs.Prelude.{◌≡◌, IfOk, length};
+
 use item_actions::Text;
 use leases_cli::{Status, leases};
 use std::alloc::{AllocError, AllocFailed, Global};
 use std::io::ErrorKind;
 use std::process::ExitCode;
+use std::sync::Wait;
+use std::thread::Threads;
 use std::{env, io};
-use worker_desk::{FolderDesk, StdSink, StdSource};
+use worker_desk::{FolderDesk, OpenGate, StdSink, StdSource};
 
 /// As many desks as a run may have threads.
 const DESKS: usize = 32;
@@ -47,21 +51,32 @@ fn words(rt: &HostRuntime, alloc: Global) -> Result<Vec<Text>, Hindrance> {
     Ok(words)
 }
 
-/// Does what the words ask for.
-fn run(rt: &HostRuntime) -> Result<Status, Hindrance> {
-    let alloc = rt.alloc();
-    let words = words(rt, alloc)?;
+/// The desks of the current folder.
+fn desks(rt: &HostRuntime, alloc: Global) -> Result<Vec<FolderDesk<&HostRuntime>>, Hindrance>
+    ensures { IfOk result (λ desks. length desks.items ≡ 32) }
+{
     let mut desks = Vec::with_capacity(alloc, DESKS)?;
     for _ in 0..DESKS {
         desks.push(FolderDesk::new(rt))?;
     }
+    Ok(desks)
+}
+
+/// Does what the words ask for.
+fn run<T: Threads + Wait + Sync>(rt: &HostRuntime, threads: &T) -> Result<Status, Hindrance> {
+    let alloc = rt.alloc();
+    let words = words(rt, alloc)?;
+    let mut desks = desks(rt, alloc)?;
     let mut input = StdSource::new(rt.stdin());
     let mut out = StdSink::new(io::writer(rt));
-    Ok(leases(alloc, &words, &mut desks, &mut input, &mut out).status)
+    let ended = leases(
+        threads, alloc, &words, &mut desks, &mut input, &OpenGate, &mut out,
+    );
+    Ok(ended.status)
 }
 
 fn main(rt: HostRuntime) -> ExitCode {
-    let status = match run(&rt) {
+    let status = match run(&rt, &rt) {
         Ok(status) => status,
         Err(Hindrance::Words) => Status::BadWords,
         Err(Hindrance::Memory) => Status::NoMemory,

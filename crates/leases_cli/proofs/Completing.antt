@@ -1,16 +1,22 @@
 -- A call that met no fault has succeeded, unless there was no memory.
-use Rattle.std.proofs.Common.{◌≡◌, ℕ, ◌+◌, Bool, true, false, cond, inl, inr, List, [], ◌∷◌, Option, None, Some, sym, ◌∙◌, ap, subst, arith}
+use Rattle.std.proofs.Common.{◌≡◌, ℕ, ◌+◌, ◌<◌, ◌≤◌, Bool, true, false, cond, inl, inr, List, [], ◌∷◌, Option, None, Some, refl, sym, ◌∙◌, ap, subst, arith}
 use Rattle.std.specs.Prelude.{sum_by, unwrap_or}
-use Rattle.std.specs.List.{AllByRecursion}
+use Rattle.std.specs.List.{All, AllByRecursion}
+use Rattle.std.proofs.lemmas.Bool.{cases_lt, ne_eqb}
+use Rattle.std.proofs.lemmas.List.Elements.{All-head, All-tail}
 use Rattle.std.proofs.lemmas.List.Sums.{sum_by-cons}
 use Rattle.item_actions.specs.Files.{Folder}
 use Rattle.item_actions.specs.Value.{IsHonest, is_fault, value_on}
 use Rattle.item_actions.specs.declared.outcomes.Outcome.{Outcome}
+use Rattle.resource_lock.specs.declared.ids.WorkerId.{WorkerId}
 use Rattle.lock_journal.specs.BookView.{BookView}
+use Rattle.lock_journal.specs.Entry.{Entry}
 use Rattle.worker_desk.specs.SinkView.{SinkView, Rises}
 use Rattle.plan_reader.specs.PlanView.{PlanView}
-use Rattle.run_laws.specs.ClosedBy.{faults_by}
-use Rattle.build_runner.specs.Phases.{first_worker}
+use Rattle.run_laws.specs.ClosedBy.{closed_by, faults_in}
+use Rattle.build_runner.specs.Run.{IsRunOf}
+use Rattle.build_runner.specs.declared.options.RunOptions.{RunOptions}
+use Rattle.command_words.specs.Reading.{IsBounded}
 use Rattle.command_words.specs.declared.commands.Command.{Command}
 use Rattle.command_words.specs.declared.commands.Command.TheVariants.{Run, Worker}
 use Rattle.command_words.specs.declared.commands.RunWords.{RunWords}
@@ -18,9 +24,10 @@ use Rattle.daemon_worker.specs.Answer.{Answer, replies, IsHonestAnswer}
 use Rattle.daemon_worker.specs.Serving.{Outside, IsEnd}
 use Rattle.daemon_worker.specs.declared.serving.Served.{Served}
 use Rattle.daemon_worker.specs.declared.serving.Served.TheVariants as ends
+use Rattle.leases_cli.specs.Around.{Around, at_first_desk, desks_used}
 use Rattle.leases_cli.specs.Answered.{Answered, RunAnswered, IsNamedRun, all_pass, values_or_closings}
 use Rattle.leases_cli.specs.Causes.{IsPlanAt, IsReadCause}
-use Rattle.leases_cli.specs.Complete.{MetNoFault, HasPlan, HasSucceeded, HasValue, IsByFrames, HasWorkedWell, Succeeds, IsComplete, status_by}
+use Rattle.leases_cli.specs.Complete.{MetNoFault, MetNoFaults, HasNoFault, HasPlan, HasSucceeded, HasValue, IsByFrames, HasWorkedWell, Succeeds, IsComplete, status_by}
 use Rattle.leases_cli.specs.Worker.{HasWorked}
 use Rattle.leases_cli.proofs.Readings.{FirstCycleOnce, one_plan, not_refused}
 use Rattle.leases_cli.specs.declared.status.Status.{Status}
@@ -34,28 +41,42 @@ not_risen before after calm rises = let same = calm.same in let below = calm.bel
 
 -- ---- a run
 
+-- what only others made closes nothing of a worker's
+closed_by_none : (w : WorkerId) (n : ℕ) (h : List Entry) → All (λ e. e.worker.0 < n) h → n ≤ w.0 → closed_by w h ≡ []
+closed_by_none w n [] others past = refl
+closed_by_none w n (e ∷ h) others past =
+    let other = All-head (λ (x : Entry). x.worker.0 < n) e h others in
+    rw (ne_eqb e.worker.0 w.0 (λ same. omega (arith, same, other, past))) (closed_by_none w n h (All-tail (λ (x : Entry). x.worker.0 < n) e h others) past)
+
+no_fault : (plan : PlanView) (options : RunOptions) (known : Option Folder) (before after : ℕ → ℕ) (b : BookView) → IsRunOf plan options known before after b → MetNoFaults options.workers before after → HasNoFault b
+no_fault plan options known before after b run calm = λ w. elim (cases_lt w.0 options.workers) [
+  | inl within ↦
+      let same = (calm w.0 within).same in
+      let below = (calm w.0 within).below in
+      let faults = run.faults w.0 within (omega arith) in
+      omega (arith, faults, same)
+  | inr past ↦ ap faults_in (closed_by_none w options.workers b.history run.workers past)
+]
+
 module _ (once : FirstCycleOnce) (asked : RunWords) (files : Folder) (plan : PlanView) (has : HasPlan asked files plan) where
   same_plan : (found : PlanView) → IsPlanAt (Some files) asked.plan found → found ≡ plan
   same_plan found named =
       let bytes = some_is (sym named.1 ∙ has.file) in
       one_plan once has.bytes plan found has.reading (rw bytes at named.2)
 
-  module _ (before after : ℕ) (old new : SinkView) (calm : MetNoFault before after) (quiet : MetNoFault old.faults new.faults) where
-    ran : (found : PlanView) (b : BookView) (passed : Bool) → IsNamedRun asked (Some files) before after found b → all_pass found b.graph (values_or_closings found (Some files) b.history) ≡ passed → (faults_by first_worker b.history ≡ 0) × (status_by passed ≡ status_by (all_pass plan b.graph (values_or_closings plan (Some files) b.history)))
-    ran found b passed run pass =
-        let same = calm.same in
-        let below = calm.below in
-        let faults = run.run.faults (omega arith) in (
-          omega arith,
-          ap status_by (sym pass ∙ ap (λ p. all_pass p b.graph (values_or_closings p (Some files) b.history)) (same_plan found run.named)),
-        )
+  module _ (before after : ℕ → ℕ) (old new : SinkView) (some : 1 ≤ asked.threads) (calm : MetNoFaults asked.threads before after) (quiet : MetNoFault old.faults new.faults) where
+    ran : (found : PlanView) (b : BookView) (passed : Bool) → IsNamedRun asked (Some files) before after found b → all_pass found b.graph (values_or_closings found (Some files) b.history) ≡ passed → HasNoFault b × (status_by passed ≡ status_by (all_pass plan b.graph (values_or_closings plan (Some files) b.history)))
+    ran found b passed run pass = (
+      no_fault found _ (Some files) before after b run.run calm,
+      ap status_by (sym pass ∙ ap (λ p. all_pass p b.graph (values_or_closings p (Some files) b.history)) (same_plan found run.named)),
+    )
 
-    no_cause : (refusal : Status) → IsReadCause (Some files) before after asked.plan refusal → ⊥
+    no_cause : (refusal : Status) → IsReadCause (Some files) (before 0) (after 0) asked.plan refusal → ⊥
     no_cause (BadPlan refusal) c =
         let bytes = some_is (sym c.1 ∙ has.file) in
         not_refused once has.bytes plan refusal has.reading (rw bytes at c.2)
     no_cause NoPlan c = let none = sym c ∙ has.file in cc none
-    no_cause PlanFault c = not_risen before after calm c
+    no_cause PlanFault c = not_risen (before 0) (after 0) (calm 0 (omega (arith, some))) c
     no_cause BadWords c = c
     no_cause Passed c = c
     no_cause TaskFailed c = c
@@ -118,12 +139,29 @@ worker_succeeds files old new status known calm quiet source w =
 
 -- ---- the call
 
-succeeds : (once : FirstCycleOnce) (command : Option Command) (files : Folder) (old new : Outside) (status : Status) (book : Option BookView) → old.files ≡ Some files → MetNoFault old.faults new.faults → MetNoFault old.sink.faults new.sink.faults → Answered command old new status book → Succeeds command files old new status book
-succeeds once None files old new status book known calm quiet a = tt
-succeeds once (Some (Run asked)) files old new status book known calm quiet a = λ plan has.
-    run_succeeds once asked files plan has old.faults new.faults old.sink new.sink calm quiet status book
+succeeds : (once : FirstCycleOnce) (command : Command) (files : Folder) (old new : Around) (status : Status) (book : Option BookView) → IsBounded command → old.files ≡ Some files → MetNoFaults (desks_used (Some command)) old.faults new.faults → MetNoFault old.sink.faults new.sink.faults → Answered (Some command) old new status book → Succeeds (Some command) files old new status book
+succeeds once (Run asked) files old new status book bounded known calm quiet a = λ plan has.
+    run_succeeds once asked files plan has old.faults new.faults old.sink new.sink bounded.some_thread calm quiet status book
     (subst (λ (o : Option Folder). RunAnswered asked o old.faults new.faults old.sink new.sink status book) known a)
-succeeds once (Some Worker) files old new status book known calm quiet a = λ source. worker_succeeds files old new status known calm quiet source a.1
+succeeds once Worker files old new status book bounded known calm quiet a = λ source. worker_succeeds files (at_first_desk old) (at_first_desk new) status known (calm 0 (omega arith)) quiet source a.1
 
-pub complete_of : (once : FirstCycleOnce) (command : Option Command) (old new : Outside) (status : Status) (book : Option BookView) → Answered command old new status book → IsComplete command old new status book
-complete_of once command old new status book a = λ files known calm quiet. succeeds once command files old new status book known calm quiet a
+-- a command was carried out
+pub carried_out : (once : FirstCycleOnce) (command : Command) (words : Option Command) (old new : Around) (status : Status) (book : Option BookView) → words ≡ Some command → IsBounded command → Answered (Some command) old new status book → IsComplete words old new status book
+carried_out once command words old new status book is bounded a =
+    subst (λ (c : Option Command). IsComplete c old new status book) (sym is) (λ files known calm quiet. succeeds once command files old new status book bounded known calm quiet a)
+
+-- words that are no command are owed nothing
+pub no_command_complete : (words : Option Command) (old new : Around) (status : Status) (book : Option BookView) → words ≡ None → IsComplete words old new status book
+no_command_complete words old new status book is = subst (λ (c : Option Command). IsComplete c old new status book) (sym is) (λ files known calm quiet. tt)
+
+at_no_memory : (words : Option Command) (files : Folder) (o : Around) → Answered words o o NoMemory None → o.files ≡ Some files → MetNoFaults (desks_used words) o.faults o.faults → MetNoFault o.sink.faults o.sink.faults → Succeeds words files o o NoMemory None
+at_no_memory None files o a known calm quiet = tt
+at_no_memory (Some (Run asked)) files o a known calm quiet = λ plan has. refl
+at_no_memory (Some Worker) files o a known calm quiet = λ source. worker_succeeds files (at_first_desk o) (at_first_desk o) NoMemory known (calm 0 (omega arith)) quiet source a.1
+
+-- there was no memory to read the words
+pub no_memory_complete : (words : Option Command) (o : Around) (status : Status) (book : Option BookView) → book ≡ None → status ≡ NoMemory → Answered words o o status book → IsComplete words o o status book
+no_memory_complete words o status book without is a = λ files known calm quiet.
+    subst (Succeeds words files o o status) (sym without)
+    (subst (λ (s : Status). Succeeds words files o o s None) (sym is)
+    (at_no_memory words files o (subst (λ (s : Status). Answered words o o s None) is (subst (Answered words o o status) without a)) known calm quiet))

@@ -1,5 +1,5 @@
 -- The report of a run by the book is that by the plan.
-use Rattle.std.proofs.Common.{◌≡◌, ℕ, zero, suc, ◌+◌, ◌<◌, ◌≤◌, Bool, true, false, ◌&&◌, List, [], ◌∷◌, ◌++◌, length, Option, Some, None, refl, sym, ◌∙◌, ap, subst, arith}
+use Rattle.std.proofs.Common.{◌≡◌, ◌≢◌, ◌⊎◌, inl, inr, ℕ, zero, suc, ◌+◌, ◌<◌, ◌≤◌, Bool, true, false, ◌&&◌, List, [], ◌∷◌, ◌++◌, length, Option, Some, None, refl, sym, ◌∙◌, ap, subst, arith}
 use Rattle.std.specs.Prelude.{if◌then◌else◌}
 use Rattle.std.specs.List.{list_all, range_with_len}
 use Rattle.item_actions.specs.Files.{Folder}
@@ -24,8 +24,10 @@ use Rattle.build_runner.specs.Run.{HasResults, IsRunOf, depth}
 use Rattle.build_runner.specs.declared.options.RunOptions.{RunOptions}
 use Rattle.command_words.specs.declared.commands.RunWords.{RunWords}
 use Rattle.history_text.specs.Results.{results_text, summary_text, task_marks}
-use Rattle.worker_desk.specs.SinkView.{SinkView}
-use Rattle.leases_cli.specs.Answered.{RunAnswered, IsNamedRun, all_pass, have_all_passed, history_asked, run_text, text_by_book, values_or_closings}
+use Rattle.worker_desk.specs.SinkView.{SinkView, Wrote}
+use Rattle.worker_desk.proofs.Printing.{wrote_nothing}
+use Rattle.leases_cli.specs.Causes.{IsReadCause, OrNoMemory}
+use Rattle.leases_cli.specs.Answered.{IsToldAs, RunAnswered, IsNamedRun, all_pass, have_all_passed, history_asked, run_text, text_by_book, values_or_closings}
 use Rattle.leases_cli.specs.Reported.{IsReported}
 use Rattle.leases_cli.specs.declared.status.Status.{Status}
 use Rattle.leases_cli.specs.declared.status.Status.TheVariants.{Passed, TaskFailed, BadWords, BadPlan, NoPlan, PlanFault, SinkFault, BadFrame, SourceFault, NoMemory}
@@ -55,7 +57,7 @@ comes_to : (plan : PlanView) (known : Option Folder) (b : BookView) → HasResul
 comes_to plan (Some files) b results = results
 comes_to plan None b results = results (outcome_in b.history) (λ u o e. ap (last_or outcomes.Skipped) e)
 
-module _ (plan : PlanView) (options : RunOptions) (known : Option Folder) (before after : ℕ) (b : BookView) (run : IsRunOf plan options known before after b) where
+module _ (plan : PlanView) (options : RunOptions) (known : Option Folder) (before after : ℕ → ℕ) (b : BookView) (run : IsRunOf plan options known before after b) where
   pub tasks_in_graph : length b.graph.tasks ≡ length plan.tasks
   tasks_in_graph = ap (λ (o : GraphView). length o.tasks) run.graph ∙ tasks_in_all options.parallel 0 plan.tasks
 
@@ -76,7 +78,7 @@ module _ (plan : PlanView) (options : RunOptions) (known : Option Folder) (befor
       (λ u lt. units b.graph b.history v (depth plan) u fits (comes_to plan known b run.results) (omega (arith, ap (λ (o : GraphView). o.units) run.graph))))
 
 -- a run within a call that began earlier
-pub earlier_start : (plan : PlanView) (options : RunOptions) (known known' : Option Folder) (start before after : ℕ) (b : BookView) → known' ≡ known → start ≤ before → IsRunOf plan options known' before after b → IsRunOf plan options known start after b
+pub earlier_start : (plan : PlanView) (options : RunOptions) (known known' : Option Folder) (start before after : ℕ → ℕ) (b : BookView) → known' ≡ known → ((i : ℕ) → start i ≤ before i) → IsRunOf plan options known' before after b → IsRunOf plan options known start after b
 earlier_start plan options known known' start before after b e le run = record {
   graph = run.graph;
   replays = run.replays;
@@ -85,13 +87,13 @@ earlier_start plan options known known' start before after b e le run = record {
   rest = run.rest;
   ended = run.ended;
   order = run.order;
-  others = run.others;
   results = subst (λ (o : Option Folder). HasResults plan o b) e run.results;
-  faults = λ lt. let f = run.faults lt in omega arith;
+  workers = run.workers;
+  faults = λ i few lt. let f = run.faults i few lt in let s = le i in omega (arith, f, s);
 }
 
 -- what was reported of a run is its answer
-pub reported_answers : (asked : RunWords) (known : Option Folder) (before after : ℕ) (old new : SinkView) (plan : PlanView) (b : BookView) (book : Option BookView) (status : Status) → book ≡ Some b → IsNamedRun asked known before after plan b → IsReported (all_pass plan b.graph (values_or_closings plan known b.history)) old new (run_text asked plan known b) status → RunAnswered asked known before after old new status book
+pub reported_answers : (asked : RunWords) (known : Option Folder) (before after : ℕ → ℕ) (old new : SinkView) (plan : PlanView) (b : BookView) (book : Option BookView) (status : Status) → book ≡ Some b → IsNamedRun asked known before after plan b → IsReported (all_pass plan b.graph (values_or_closings plan known b.history)) old new (run_text asked plan known b) status → RunAnswered asked known before after old new status book
 reported_answers asked known before after old new plan b book status e run reported = subst (RunAnswered asked known before after old new status) (sym e) (by_status status reported)
   where
     by_status : (s : Status) → IsReported (all_pass plan b.graph (values_or_closings plan known b.history)) old new (run_text asked plan known b) s → RunAnswered asked known before after old new s (Some b)
@@ -105,3 +107,24 @@ reported_answers asked known before after old new plan b book status e run repor
     by_status (BadFrame place) r = absurd r
     by_status SourceFault r = absurd r
     by_status NoMemory r = absurd r
+
+no_memory_or : (P : Type 0) (refusal : Status) → OrNoMemory P refusal → (refusal ≡ NoMemory) ⊎ ((refusal ≢ NoMemory) × P)
+no_memory_or P NoMemory cause = inl refl
+no_memory_or P Passed cause = inr ((λ e. cc e), cause)
+no_memory_or P TaskFailed cause = inr ((λ e. cc e), cause)
+no_memory_or P BadWords cause = inr ((λ e. cc e), cause)
+no_memory_or P (BadPlan refusal) cause = inr ((λ e. cc e), cause)
+no_memory_or P NoPlan cause = inr ((λ e. cc e), cause)
+no_memory_or P PlanFault cause = inr ((λ e. cc e), cause)
+no_memory_or P SinkFault cause = inr ((λ e. cc e), cause)
+no_memory_or P (BadFrame place) cause = inr ((λ e. cc e), cause)
+no_memory_or P SourceFault cause = inr ((λ e. cc e), cause)
+
+-- a refusal of the plan that was told is the answer
+pub refusal_answers : (asked : RunWords) (known : Option Folder) (before after : ℕ → ℕ) (old new : SinkView) (refusal : Status) (book : Option BookView) (status : Status) → book ≡ None → (refusal ≡ NoMemory → (status ≡ NoMemory) × (new ≡ old)) → (refusal ≢ NoMemory → IsToldAs refusal old new status)
+    → OrNoMemory (IsReadCause known (before 0) (after 0) asked.plan refusal) refusal → RunAnswered asked known before after old new status book
+refusal_answers asked known before after old new refusal book status without memory told cause =
+    subst (RunAnswered asked known before after old new status) (sym without) (elim (no_memory_or (IsReadCause known (before 0) (after 0) asked.plan refusal) refusal cause) [
+      | inl lacking ↦ inl ((memory lacking).0, subst (λ (s : SinkView). Wrote old s []) (sym (memory lacking).1) (wrote_nothing old))
+      | inr caused ↦ inr (refusal, caused.1, told caused.0)
+    ])

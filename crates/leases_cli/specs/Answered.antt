@@ -24,7 +24,7 @@ use Rattle.history_text.specs.Results.{results_text, summary_text, task_marks}
 use Rattle.command_words.specs.declared.commands.Command.{Command}
 use Rattle.command_words.specs.declared.commands.Command.TheVariants.{Run, Worker}
 use Rattle.command_words.specs.declared.commands.RunWords.{RunWords}
-use Rattle.daemon_worker.specs.Serving.{Outside}
+use Rattle.leases_cli.specs.Around.{Around, at_first_desk}
 use Rattle.leases_cli.specs.Causes.{IsPlanAt, IsReadCause}
 use Rattle.leases_cli.specs.Lines.{line_of}
 use Rattle.leases_cli.specs.Worker.{HasWorked}
@@ -34,8 +34,9 @@ use Rattle.leases_cli.specs.declared.status.Status.TheVariants.{Passed, TaskFail
 abbrev pub options_of : RunWords → RunOptions
 options_of run = record { workers = run.threads; max_leases = run.max_leases; parallel = run.parallel }
 
--- The book is that of a run of this plan, which stands under the name that is asked for, with the options asked for.
-pub record IsNamedRun (asked : RunWords) (known : Option Folder) (before after : ℕ) (plan : PlanView) (b : BookView) : Type 0 where
+-- The book is that of a run of this plan, which stands under the name that is asked for, with the options asked for, while the
+-- count of faults of each desk went from before to after, by its number.
+pub record IsNamedRun (asked : RunWords) (known : Option Folder) (before after : ℕ → ℕ) (plan : PlanView) (b : BookView) : Type 0 where
   pub named : IsPlanAt known asked.plan plan
   pub run : IsRunOf plan (options_of asked) known before after b
 
@@ -85,15 +86,15 @@ IsRefusedFor IsCause old new status = ((status ≡ NoMemory) × Wrote old new []
 -- ---- the answer
 
 -- of the run of some plan this holds
-abbrev pub OfRun : RunWords → Option Folder → ℕ → ℕ → BookView → (PlanView → Type 0) → Type 0
+abbrev pub OfRun : RunWords → Option Folder → (ℕ → ℕ) → (ℕ → ℕ) → BookView → (PlanView → Type 0) → Type 0
 OfRun asked known before after b P = (plan : PlanView) × IsNamedRun asked known before after plan b × P plan
 
 -- whether all its tasks pass, and that its text was written
 abbrev pub RunWrote : Bool → RunWords → Option Folder → SinkView → SinkView → BookView → PlanView → Type 0
 RunWrote passed asked known old new b plan = (all_pass plan b.graph (values_or_closings plan known b.history) ≡ passed) × Wrote old new (run_text asked plan known b)
 
--- How a run ended, by the files where known, the desk's count of faults before and after, and the sink before and after.
-abbrev pub RunEnded : RunWords → Option Folder → ℕ → ℕ → SinkView → SinkView → BookView → Status → Type 0
+-- How a run ended, by the files where known, each desk's count of faults before and after, and the sink before and after.
+abbrev pub RunEnded : RunWords → Option Folder → (ℕ → ℕ) → (ℕ → ℕ) → SinkView → SinkView → BookView → Status → Type 0
 -- every task passed, and all of the text was written
 RunEnded asked known before after old new b Passed = OfRun asked known before after b (RunWrote true asked known old new b)
 -- some task didn't, and all of the text was written
@@ -102,13 +103,13 @@ RunEnded asked known before after old new b TaskFailed = OfRun asked known befor
 RunEnded asked known before after old new b SinkFault = OfRun asked known before after b (λ plan. Broke old new (run_text asked plan known b))
 RunEnded asked known before after old new b _ = ⊥
 
--- What `run` answers: a run ended; or there was no memory, or no plan was read, for a cause that was written.
-abbrev pub RunAnswered : RunWords → Option Folder → ℕ → ℕ → SinkView → SinkView → Status → Option BookView → Type 0
+-- What `run` answers: a run ended; or there was no memory, or no plan was read through the first desk, for a cause that was written.
+abbrev pub RunAnswered : RunWords → Option Folder → (ℕ → ℕ) → (ℕ → ℕ) → SinkView → SinkView → Status → Option BookView → Type 0
 RunAnswered asked known before after old new status (Some b) = RunEnded asked known before after old new b status
-RunAnswered asked known before after old new status None = IsRefusedFor (IsReadCause known before after asked.plan) old new status
+RunAnswered asked known before after old new status None = IsRefusedFor (IsReadCause known (before 0) (after 0) asked.plan) old new status
 
 -- What a call answers, by the command, if the words are one, and the outside before and after.
-abbrev pub Answered : Option Command → Outside → Outside → Status → Option BookView → Type 0
+abbrev pub Answered : Option Command → Around → Around → Status → Option BookView → Type 0
 Answered None old new status book = (book ≡ None) × IsRefusedFor (λ refusal. refusal ≡ BadWords) old.sink new.sink status
 Answered (Some (Run asked)) old new status book = RunAnswered asked old.files old.faults new.faults old.sink new.sink status book
-Answered (Some Worker) old new status book = (book ≡ None) × HasWorked old new status
+Answered (Some Worker) old new status book = (book ≡ None) × HasWorked (at_first_desk old) (at_first_desk new) status

@@ -4,10 +4,10 @@ use Rattle.std.specs.List.{AllByRecursion}
 use Rattle.item_actions.specs.Files.{Folder, file_of}
 use Rattle.item_actions.specs.Value.{value_on}
 use Rattle.item_actions.specs.declared.outcomes.Outcome.TheVariants as outcome
+use Rattle.resource_lock.specs.declared.ids.WorkerId.{WorkerId}
 use Rattle.lock_journal.specs.BookView.{BookView}
 use Rattle.plan_reader.specs.PlanView.{PlanView}
 use Rattle.run_laws.specs.ClosedBy.{faults_by}
-use Rattle.build_runner.specs.Phases.{first_worker}
 use Rattle.command_words.specs.declared.commands.Command.{Command}
 use Rattle.command_words.specs.declared.commands.Command.TheVariants.{Run, Worker}
 use Rattle.command_words.specs.declared.commands.RunWords.{RunWords}
@@ -15,6 +15,7 @@ use Rattle.daemon_worker.specs.Answer.{Answer}
 use Rattle.daemon_worker.specs.Serving.{Outside, HasServed}
 use Rattle.daemon_worker.specs.declared.serving.Served.{Served}
 use Rattle.daemon_worker.specs.declared.serving.Served.TheVariants as ends
+use Rattle.leases_cli.specs.Around.{Around, at_first_desk, desks_used}
 use Rattle.leases_cli.specs.Answered.{all_pass, values_or_closings}
 use Rattle.leases_cli.specs.Causes.{IsPlanToRun}
 use Rattle.leases_cli.specs.Worker.{status_of}
@@ -25,6 +26,10 @@ use Rattle.leases_cli.specs.declared.status.Status.TheVariants.{Passed, TaskFail
 pub record MetNoFault (before after : ℕ) : Type 0 where
   pub same : after ≡ before
   pub below : before < 2 ^ 64 - 1
+
+-- no count of the first so many did
+abbrev pub MetNoFaults : ℕ → (ℕ → ℕ) → (ℕ → ℕ) → Type 0
+MetNoFaults n before after = (i : ℕ) → i < n → MetNoFault (before i) (after i)
 
 -- ---- a run
 
@@ -38,9 +43,13 @@ abbrev pub status_by : Bool → Status
 status_by true = Passed
 status_by false = TaskFailed
 
+-- no unit was closed with Fault, by any worker
+abbrev pub HasNoFault : BookView → Type 0
+HasNoFault b = (w : WorkerId) → faults_by w b.history ≡ 0
+
 -- The run ended, no unit was closed with Fault, and the status is that of the results; or there was no memory.
 abbrev pub HasSucceeded : PlanView → Folder → Status → Option BookView → Type 0
-HasSucceeded plan files status (Some b) = (faults_by first_worker b.history ≡ 0) × (status ≡ status_by (all_pass plan b.graph (values_or_closings plan (Some files) b.history)))
+HasSucceeded plan files status (Some b) = HasNoFault b × (status ≡ status_by (all_pass plan b.graph (values_or_closings plan (Some files) b.history)))
 HasSucceeded plan files status None = status ≡ NoMemory
 
 -- ---- a worker
@@ -66,13 +75,13 @@ HasWorkedWell files old new status = (end : Served) × HasServedWell files old n
 
 -- ---- the call
 
--- by the command, where these are the files, and neither the desk nor the sink met a fault
-abbrev pub Succeeds : Option Command → Folder → Outside → Outside → Status → Option BookView → Type 0
+-- by the command, where these are the files, and neither the desks that it may use nor the sink met a fault
+abbrev pub Succeeds : Option Command → Folder → Around → Around → Status → Option BookView → Type 0
 Succeeds None files old new status book = Unit {0}
 Succeeds (Some (Run asked)) files old new status book = (plan : PlanView) → HasPlan asked files plan → HasSucceeded plan files status book
-Succeeds (Some Worker) files old new status book = MetNoFault old.source.faults new.source.faults → HasWorkedWell files old new status
+Succeeds (Some Worker) files old new status book = MetNoFault old.source.faults new.source.faults → HasWorkedWell files (at_first_desk old) (at_first_desk new) status
 
 -- where the files are known
-abbrev pub IsComplete : Option Command → Outside → Outside → Status → Option BookView → Type 0
+abbrev pub IsComplete : Option Command → Around → Around → Status → Option BookView → Type 0
 IsComplete command old new status book =
-    (files : Folder) → old.files ≡ Some files → MetNoFault old.faults new.faults → MetNoFault old.sink.faults new.sink.faults → Succeeds command files old new status book
+    (files : Folder) → old.files ≡ Some files → MetNoFaults (desks_used command) old.faults new.faults → MetNoFault old.sink.faults new.sink.faults → Succeeds command files old new status book

@@ -1,4 +1,5 @@
 pub mod Lines
+pub mod Around
 pub mod Causes
 pub mod Reported
 pub mod Worker

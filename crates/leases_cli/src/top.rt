@@ -8,9 +8,12 @@ ghost use Rattle.worker_desk.specs.SinkView.{Prints};
 ghost use Rattle.plan_reader.specs.Units.{plan_units};
 ghost use Rattle.run_laws.specs.Marks.{HasEnded};
 ghost use Rattle.item_actions.specs.Files.{Folder};
-ghost use Rattle.build_runner.specs.Run.{IsRunOf};
+ghost use Rattle.build_runner.specs.Run.{AreAlike, IsRunOf};
 ghost use Rattle.command_words.specs.Reading.{HasBounds, IsBounded, command_of};
 ghost use Rattle.command_words.specs.declared.commands.Command.TheVariants as commands;
+ghost use Rattle.leases_cli.specs.declared.status.Status.TheVariants as status;
+ghost use Rattle.leases_cli.specs.Around.{counts_of, desks_used};
+ghost use Rattle.leases_cli.specs.Worker.{HasWorked};
 ghost use Rattle.leases_cli.specs.Answered.{Answered, RunAnswered, IsToldAs, all_pass, have_all_passed, history_asked, options_of, run_text, text_by_book, values_or_closings};
 ghost use Rattle.leases_cli.specs.Complete.{IsComplete};
 ghost use Rattle.leases_cli.specs.Reported.{IsReported};
@@ -28,8 +31,10 @@ use plan_reader::{Plan, PlanFail, PlanRefusal, read_plan};
 use resource_lock::{Mark, MarkId, State};
 use run_laws::outcomes_go_by_number;
 use std::alloc::Global;
+use std::sync::Wait;
+use std::thread::Threads;
 use task_ranks::first_cycle_is_unique;
-use worker_desk::{DeskFail, Failed, Files, Page, Read, Sink, Source};
+use worker_desk::{DeskFail, Failed, Files, Gate, Page, Read, Sink, Source};
 
 /// How a call ended, and the book of the run, if a run ended.
 #[derive(Drop)]
@@ -55,11 +60,11 @@ fn plan_to_run(alloc: Global, bytes: &[u8]) -> Result<Plan, PlanFail>
 }
 
 /// The plan of this name, or the refusal.
-fn read<D: Files>(alloc: Global, name: &Text, desk: &mut D) -> Result<Plan, Status>
-    ensures files { D.files desk.new ≡ D.files desk.old }
-    ensures count { D.faults desk.old ≤ D.faults desk.new }
-    ensures plan { IfOk result (λ plan. IsPlanAt (D.files desk.old) name.now plan) }
-    ensures refused { IfErr result (λ status. OrNoMemory (IsReadCause (D.files desk.old) (D.faults desk.old) (D.faults desk.new) name.now status) status) }
+fn read<F: Files>(alloc: Global, name: &Text, desk: &mut F) -> Result<Plan, Status>
+    ensures files { F.files desk.new ≡ F.files desk.old }
+    ensures count { F.faults desk.old ≤ F.faults desk.new }
+    ensures plan { IfOk result (λ plan. IsPlanAt (F.files desk.old) name.now plan) }
+    ensures refused { IfErr result (λ status. OrNoMemory (IsReadCause (F.files desk.old) (F.faults desk.old) (F.faults desk.new) name.now status) status) }
 {
     match desk.read(alloc, name, MAX_FILE_BYTES) {
         Ok(Read::Bytes(bytes)) => match plan_to_run(alloc, bytes.as_slice()) {
@@ -72,6 +77,19 @@ fn read<D: Files>(alloc: Global, name: &Text, desk: &mut D) -> Result<Plan, Stat
         Err(DeskFail::Failed) => Err(Status::PlanFault),
         Err(DeskFail::NoMemory) => Err(Status::NoMemory),
     }
+}
+
+/// The plan of this name by the first desk, or the refusal.
+fn read_first<F: Files>(alloc: Global, name: &Text, desks: &mut Vec<F>) -> Result<Plan, Status>
+    requires { 1 ≤ length desks.old.items }
+    ensures places { length desks.new.items ≡ length desks.old.items }
+    ensures files { (i : ℕ) (d : F) → F.files (get_or desks.new.items i d) ≡ F.files (get_or desks.old.items i d) }
+    ensures counts { (i : ℕ) (d : F) → F.faults (get_or desks.old.items i d) ≤ F.faults (get_or desks.new.items i d) }
+    ensures rest { drop 1 desks.new.items ≡ drop 1 desks.old.items }
+    ensures plan { (d : F) → IfOk result (λ plan. IsPlanAt (F.files (get_or desks.old.items 0 d)) name.now plan) }
+    ensures refused { (d : F) → IfErr result (λ status. OrNoMemory (IsReadCause (F.files (get_or desks.old.items 0 d)) (F.faults (get_or desks.old.items 0 d)) (F.faults (get_or desks.new.items 0 d)) name.now status) status) }
+{
+    read(alloc, name, &mut desks[0])
 }
 
 /// Writes the history of a run, where the words ask for it.
@@ -150,11 +168,23 @@ fn refuse<O: Sink>(refusal: Status, out: &mut O) -> Ended
     })
 }
 
+/// Writes the line of a refusal, but where there was no memory.
+fn refuse_plan<O: Sink>(refusal: Status, out: &mut O) -> Ended
+    ensures book { result.book ≡ None }
+    ensures no_memory { refusal ≡ status.NoMemory → (result.status ≡ status.NoMemory) × (O.seen out.new ≡ O.seen out.old) }
+    ensures told { refusal ≢ status.NoMemory → IsToldAs refusal (O.seen out.old) (O.seen out.new) result.status }
+{
+    match refusal {
+        Status::NoMemory => without_run(Status::NoMemory),
+        _ => refuse(refusal, out),
+    }
+}
+
 /// Prints a run of the plan, and says how it went by the plan.
 fn report_run<O: Sink>(asked: &RunWords, plan: &Plan, book: Book, out: &mut O) -> Ended
-    requires { (known : Option Folder) × (before : ℕ) × (after : ℕ) × IsRunOf plan.now (options_of asked.now) known before after book }
+    requires { (known : Option Folder) × (before : ℕ → ℕ) × (after : ℕ → ℕ) × IsRunOf plan.now (options_of asked.now) known before after book }
     ensures book { result.book ≡ Some book }
-    ensures status { (known : Option Folder) (before after : ℕ) → IsRunOf plan.now (options_of asked.now) known before after book
+    ensures status { (known : Option Folder) (before after : ℕ → ℕ) → IsRunOf plan.now (options_of asked.now) known before after book
         → IsReported (all_pass plan.now book.graph (values_or_closings plan.now known book.history)) (O.seen out.old) (O.seen out.new) (run_text asked.now plan.now known book) result.status }
 {
     let _ = book.graph();
@@ -163,88 +193,134 @@ fn report_run<O: Sink>(asked: &RunWords, plan: &Plan, book: Book, out: &mut O) -
     report(asked, plan, book, out)
 }
 
-/// Reads a plan through the desk, runs it and prints.
-fn run<D: Files, O: Sink>(alloc: Global, asked: &RunWords, desk: &mut D, out: &mut O) -> Ended
-    requires { HasBounds asked.now }
-    ensures files { D.files desk.new ≡ D.files desk.old }
-    ensures count { D.faults desk.old ≤ D.faults desk.new }
-    ensures answer { RunAnswered asked.now (D.files desk.old) (D.faults desk.old) (D.faults desk.new) (O.seen out.old) (O.seen out.new) result.status result.book }
+/// Reads a plan through the first desk, runs it on as many threads as the words say, each with a desk
+/// of its own, and prints.
+fn run<R: Threads + Wait + Sync, F: Files + Send + Drop, G: Gate + Sync, O: Sink>(
+    rt: &R,
+    alloc: Global,
+    asked: &RunWords,
+    desks: &mut Vec<F>,
+    gate: &G,
+    out: &mut O,
+) -> Ended
+    requires bounds { HasBounds asked.now }
+    requires desks { length desks.old.items ≡ 32 }
+    requires alike { AreAlike F.files desks.old.items }
+    ensures places { length desks.new.items ≡ 32 }
+    ensures files { (i : ℕ) (d : F) → F.files (get_or desks.new.items i d) ≡ F.files (get_or desks.old.items i d) }
+    ensures counts { (i : ℕ) (d : F) → F.faults (get_or desks.old.items i d) ≤ F.faults (get_or desks.new.items i d) }
+    ensures rest { drop asked.now.threads desks.new.items ≡ drop asked.now.threads desks.old.items }
+    ensures refused { result.book ≡ None → result.status ≢ status.NoMemory → drop 1 desks.new.items ≡ drop 1 desks.old.items }
+    ensures answer { (d : F) → RunAnswered asked.now (F.files (get_or desks.old.items 0 d)) (counts_of F.faults desks.old.items d) (counts_of F.faults desks.new.items d) (O.seen out.old) (O.seen out.new) result.status result.book }
 {
-    let plan = match read(alloc, &asked.plan, desk) {
+    let plan = match read_first(alloc, &asked.plan, desks) {
         Ok(plan) => plan,
-        Err(Status::NoMemory) => return without_run(Status::NoMemory),
-        Err(refusal) => return refuse(refusal, out),
+        Err(refusal) => return refuse_plan(refusal, out),
     };
     let options = RunOptions {
         workers: asked.threads,
         max_leases: asked.max_leases,
         parallel: asked.parallel,
     };
-    match run_plan(alloc, &plan, &options, desk) {
+    match run_plan(rt, alloc, &plan, &options, desks, gate) {
         Ok(book) => report_run(asked, &plan, book, out),
         Err(_) => without_run(Status::NoMemory),
     }
 }
 
-/// Carries a command out.
-fn perform<D: Files, I: Source, O: Sink>(
+/// Answers requests by the first desk.
+fn work<F: Files, I: Source, O: Sink>(
     alloc: Global,
-    command: &Command,
-    desk: &mut D,
+    desks: &mut Vec<F>,
     input: &mut I,
     out: &mut O,
 ) -> Ended
-    requires { IsBounded command.now }
-    ensures files { D.files desk.new ≡ D.files desk.old }
-    ensures count { D.faults desk.old ≤ D.faults desk.new }
+    requires { 1 ≤ length desks.old.items }
+    ensures places { length desks.new.items ≡ length desks.old.items }
+    ensures files { (i : ℕ) (d : F) → F.files (get_or desks.new.items i d) ≡ F.files (get_or desks.old.items i d) }
+    ensures counts { (i : ℕ) (d : F) → F.faults (get_or desks.old.items i d) ≤ F.faults (get_or desks.new.items i d) }
+    ensures rest { drop 1 desks.new.items ≡ drop 1 desks.old.items }
+    ensures input_count { (I.seen input.old).faults ≤ (I.seen input.new).faults }
+    ensures book { result.book ≡ None }
+    ensures worked { (d : F) → HasWorked
+        record { source = I.seen input.old; sink = O.seen out.old; files = F.files (get_or desks.old.items 0 d); faults = F.faults (get_or desks.old.items 0 d) }
+        record { source = I.seen input.new; sink = O.seen out.new; files = F.files (get_or desks.new.items 0 d); faults = F.faults (get_or desks.new.items 0 d) }
+        result.status }
+{
+    without_run(serve_worker(alloc, &mut desks[0], input, out))
+}
+
+/// Carries a command out.
+fn perform<R: Threads + Wait + Sync, F: Files + Send + Drop, I: Source, G: Gate + Sync, O: Sink>(
+    rt: &R,
+    alloc: Global,
+    command: &Command,
+    desks: &mut Vec<F>,
+    input: &mut I,
+    gate: &G,
+    out: &mut O,
+) -> Ended
+    requires bounded { IsBounded command.now }
+    requires desks { length desks.old.items ≡ 32 }
+    requires alike { AreAlike F.files desks.old.items }
+    ensures places { length desks.new.items ≡ 32 }
+    ensures files { (i : ℕ) (d : F) → F.files (get_or desks.new.items i d) ≡ F.files (get_or desks.old.items i d) }
+    ensures counts { (i : ℕ) (d : F) → F.faults (get_or desks.old.items i d) ≤ F.faults (get_or desks.new.items i d) }
+    ensures rest { drop (desks_used (Some command.now)) desks.new.items ≡ drop (desks_used (Some command.now)) desks.old.items }
+    ensures refused { result.book ≡ None → result.status ≢ status.NoMemory → drop 1 desks.new.items ≡ drop 1 desks.old.items }
     ensures input { command.now ≢ commands.Worker → I.seen input.new ≡ I.seen input.old }
     ensures input_count { (I.seen input.old).faults ≤ (I.seen input.new).faults }
-    ensures answer { Answered (Some command.now)
-        record { source = I.seen input.old; sink = O.seen out.old; files = D.files desk.old; faults = D.faults desk.old }
-        record { source = I.seen input.new; sink = O.seen out.new; files = D.files desk.new; faults = D.faults desk.new }
+    ensures answer { (d : F) → Answered (Some command.now)
+        record { source = I.seen input.old; sink = O.seen out.old; files = F.files (get_or desks.old.items 0 d); faults = counts_of F.faults desks.old.items d }
+        record { source = I.seen input.new; sink = O.seen out.new; files = F.files (get_or desks.new.items 0 d); faults = counts_of F.faults desks.new.items d }
         result.status result.book }
 {
     match command {
-        Command::Run(asked) => run(alloc, asked, desk, out),
-        Command::Worker => without_run(serve_worker(alloc, desk, input, out)),
+        Command::Run(asked) => run(rt, alloc, asked, desks, gate, out),
+        Command::Worker => work(alloc, desks, input, out),
     }
 }
 
 /// Does what the words after the program's name ask for.
 ///
-/// They are read by `command_words::read_command`. For `run` the plan and its files are read through the
-/// first of the desks, of which there are 32, and what the words ask for is written to `out`. For `worker`
-/// the requests that the input gives are answered on `out` by the files of the first desk; no other command
-/// takes anything from the input. The answer and its cause are those of the contract.
+/// They are read by `command_words::read_command`. There are 32 desks, and where they know their files all
+/// know the same. For `run` the plan is read through the first desk, and run on as many threads as the words
+/// say: thread i has the desk with number i, and each item passes the gate. What the words ask for is written
+/// to `out`. For `worker` the requests that the input gives are answered on `out` by the files of the first
+/// desk; no other command takes anything from the input. The answer and its cause are those of the contract.
 ///
 /// At SinkFault the beginning of the text or of the replies was written, and at NoMemory nothing, but by a
 /// worker its replies up to then.
-pub fn leases<D: Files, I: Source, O: Sink>(
+pub fn leases<R: Threads + Wait + Sync, F: Files + Send + Drop, I: Source, G: Gate + Sync, O: Sink>(
+    rt: &R,
     alloc: Global,
     words: &[Text],
-    desks: &mut Vec<D>,
+    desks: &mut Vec<F>,
     input: &mut I,
+    gate: &G,
     out: &mut O,
 ) -> Ended
     requires desks { length desks.old.items ≡ 32 }
-    ensures desks { length desks.new.items ≡ 32 }
-    ensures others { drop 1 desks.new.items ≡ drop 1 desks.old.items }
-    ensures files { (d : D) → D.files (get_or desks.new.items 0 d) ≡ D.files (get_or desks.old.items 0 d) }
-    ensures count { (d : D) → D.faults (get_or desks.old.items 0 d) ≤ D.faults (get_or desks.new.items 0 d) }
+    requires alike { AreAlike F.files desks.old.items }
+    ensures places { length desks.new.items ≡ 32 }
+    ensures files { (i : ℕ) (d : F) → F.files (get_or desks.new.items i d) ≡ F.files (get_or desks.old.items i d) }
+    ensures counts { (i : ℕ) (d : F) → F.faults (get_or desks.old.items i d) ≤ F.faults (get_or desks.new.items i d) }
+    ensures rest { drop (desks_used (command_of words.now)) desks.new.items ≡ drop (desks_used (command_of words.now)) desks.old.items }
+    ensures refused { result.book ≡ None → result.status ≢ status.NoMemory → drop 1 desks.new.items ≡ drop 1 desks.old.items }
     ensures input { command_of words.now ≢ Some commands.Worker → I.seen input.new ≡ I.seen input.old }
     ensures input_count { (I.seen input.old).faults ≤ (I.seen input.new).faults }
-    ensures answer { (d : D) → Answered (command_of words.now)
-        record { source = I.seen input.old; sink = O.seen out.old; files = D.files (get_or desks.old.items 0 d); faults = D.faults (get_or desks.old.items 0 d) }
-        record { source = I.seen input.new; sink = O.seen out.new; files = D.files (get_or desks.new.items 0 d); faults = D.faults (get_or desks.new.items 0 d) }
+    ensures answer { (d : F) → Answered (command_of words.now)
+        record { source = I.seen input.old; sink = O.seen out.old; files = F.files (get_or desks.old.items 0 d); faults = counts_of F.faults desks.old.items d }
+        record { source = I.seen input.new; sink = O.seen out.new; files = F.files (get_or desks.new.items 0 d); faults = counts_of F.faults desks.new.items d }
         result.status result.book }
-    ensures complete { (d : D) → IsComplete (command_of words.now)
-        record { source = I.seen input.old; sink = O.seen out.old; files = D.files (get_or desks.old.items 0 d); faults = D.faults (get_or desks.old.items 0 d) }
-        record { source = I.seen input.new; sink = O.seen out.new; files = D.files (get_or desks.new.items 0 d); faults = D.faults (get_or desks.new.items 0 d) }
+    ensures complete { (d : F) → IsComplete (command_of words.now)
+        record { source = I.seen input.old; sink = O.seen out.old; files = F.files (get_or desks.old.items 0 d); faults = counts_of F.faults desks.old.items d }
+        record { source = I.seen input.new; sink = O.seen out.new; files = F.files (get_or desks.new.items 0 d); faults = counts_of F.faults desks.new.items d }
         result.status result.book }
 {
     first_cycle_is_unique();
     match read_command(alloc, words) {
-        Ok(command) => perform(alloc, &command, &mut desks[0], input, out),
+        Ok(command) => perform(rt, alloc, &command, desks, input, gate, out),
         Err(WordsFail::NoCommand) => refuse(Status::BadWords, out),
         Err(WordsFail::NoMemory) => without_run(Status::NoMemory),
     }

@@ -5,6 +5,7 @@ use Rattle.std.proofs.lemmas.List.Elements.{All-push}
 use Rattle.resource_lock.specs.StateView.{StateView}
 use Rattle.resource_lock.specs.GraphView.{GraphView}
 use Rattle.resource_lock.specs.Opening.{opening_of}
+use Rattle.ready_work.specs.ReadyWork.{IsIndexOf}
 use Rattle.lock_journal.specs.Entry.{Entry, effect, replay_from, replay}
 use Rattle.lock_journal.specs.Allowed.{Allowed, lawful_from, Lawful}
 use Rattle.lock_journal.specs.Bounds.{IsFitKind}
@@ -19,7 +20,7 @@ pub lawful_from-push : (g : GraphView) (s : StateView) (h : List Entry) (e : Ent
 lawful_from-push g s [] e law allowed = (allowed, tt)
 lawful_from-push g s (f ∷ h) e law allowed = (law.0, lawful_from-push g (effect s f) h e law.1 allowed)
 
--- b is a with one more entry, which was allowed, and with its effect
+-- b is a with one more entry, which was allowed, with its effect, and with the index of that
 pub record Extends (a b : Inside) (e : Entry) : Type 0 where
   pub fresh : b.tentative.made ≡ []
   pub graph : b.tentative.graph ≡ a.tentative.graph
@@ -28,6 +29,7 @@ pub record Extends (a b : Inside) (e : Entry) : Type 0 where
   pub state : b.tentative.state ≡ effect a.tentative.state e
   pub allowed : Allowed a.tentative.graph a.tentative.state e
   pub fit : IsFitKind e.kind
+  pub index : IsIndexOf b.tentative.graph b.tentative.state b.ready
 
 pub sound_extended : (a b : Inside) (e : Entry) → IsSound a → Extends a b e → IsSound b
 sound_extended a b e sound more =
@@ -43,4 +45,5 @@ sound_extended a b e sound more =
           ∙ sym (replay_from-push (opening_of a.tentative.graph) a.history.entries e)
           ∙ ap (replay a.tentative.graph) (sym more.entries)
           ∙ ap (λ (g : GraphView). replay g b.history.entries) (sym more.graph);
+      index = more.index;
     }

@@ -1,8 +1,11 @@
-ghost use Rattle.std.specs.Prelude.{◌≡◌, ◌<◌, ◌≤◌, ◌+◌, ◌⊎◌, [], List, length, IsTrue, Some, OnOk, OnErr, IfOk, All, slice_get};
+ghost use Rattle.std.specs.Prelude.{◌≡◌, ◌↔◌, ◌<◌, ◌≤◌, ◌+◌, ◌⊎◌, true, [], List, length, IsTrue, Some, OnOk, OnErr, IfNone, IfOk, IfSome, All, slice_get};
 ghost use Rattle.resource_lock.specs.Fits.{Fits};
 ghost use Rattle.resource_lock.specs.Good.{Good};
+ghost use Rattle.resource_lock.specs.Marks.{has_ended};
 ghost use Rattle.resource_lock.specs.Opening.{opening_of};
 ghost use Rattle.resource_lock.specs.Shape.{BelongsTo};
+ghost use Rattle.ready_work.specs.Choices.{CanSkip, CanStart, IsOpenUnit, IsQueued};
+ghost use Rattle.ready_work.specs.Lowest.{IsFrom, IsLowest, IsNone};
 ghost use Rattle.lock_journal.specs.Entry.{replay};
 ghost use Rattle.lock_journal.specs.Shown.{entry_shown};
 ghost use Rattle.lock_journal.specs.Closings.{outcome_of};
@@ -15,16 +18,18 @@ use crate::histories::History;
 use crate::tentatives::Tentative;
 use crate::transforms::{Disposition, Transform};
 use item_actions::Outcome;
+use ready_work::ReadyWork;
 use resource_lock::{Change, Graph, Mark, MarkId, State, WorkerId};
 use std::alloc::{AllocError, Global};
 use std::marker::Model;
 
 /// A graph, the state, and the history that led to it. Of every book the history is lawful, and
-/// the state is what it leads to.
+/// the state is what it leads to. An index of the state tells in a few steps what can be done next.
 #[derive(Debug, Drop)]
 pub struct Book {
     tentative: Tentative,
     history: History,
+    ready: ReadyWork,
 }
 
 impl Model for Book {
@@ -57,7 +62,12 @@ impl Book {
     {
         let history = History::opening(alloc, graph.units(), entries as usize, changes as usize)?;
         let tentative = Tentative::opening(alloc, graph, changes as usize)?;
-        Ok(Book { tentative, history })
+        let ready = ReadyWork::of(alloc, tentative.graph(), tentative.state())?;
+        Ok(Book {
+            tentative,
+            history,
+            ready,
+        })
     }
 
     /// The graph of the state.
@@ -108,6 +118,49 @@ impl Book {
             Mark::Skipped => Some(Outcome::Skipped),
             Mark::Waiting | Mark::Queued | Mark::Running(_) => None,
         }
+    }
+
+    /// The lowest unit that is queued.
+    pub fn lowest_queued(&self) -> Option<u32>
+        ensures some { IfSome result (IsLowest (IsQueued self.now.graph self.now.state)) }
+        ensures none { IfNone result (IsNone (IsQueued self.now.graph self.now.state)) }
+    {
+        self.ready.first_queued()
+    }
+
+    /// The lowest unit from a number on that hasn't ended.
+    pub fn first_open_unit(&self, from: u32) -> Option<u32>
+        ensures some { IfSome result (IsLowest (IsFrom from (IsOpenUnit self.now.graph self.now.state))) }
+        ensures none { IfNone result (IsNone (IsFrom from (IsOpenUnit self.now.graph self.now.state))) }
+    {
+        self.ready.first_open_unit(from)
+    }
+
+    /// The lowest task that can be skipped: it waits, and one that it comes after failed or was
+    /// skipped.
+    pub fn lowest_to_skip(&self) -> Option<u32>
+        ensures some { IfSome result (IsLowest (CanSkip self.now.graph self.now.state)) }
+        ensures none { IfNone result (IsNone (CanSkip self.now.graph self.now.state)) }
+    {
+        self.ready.first_to_skip()
+    }
+
+    /// The lowest task that can be started: it waits, each that it comes after has passed, and
+    /// nobody owns its lock.
+    pub fn lowest_to_start(&self) -> Option<u32>
+        ensures some { IfSome result (IsLowest (CanStart self.now.graph self.now.state)) }
+        ensures none { IfNone result (IsNone (CanStart self.now.graph self.now.state)) }
+    {
+        self.ready
+            .first_to_start(self.tentative.graph(), self.tentative.state())
+    }
+
+    /// Whether each task has ended.
+    pub fn all_tasks_ended(&self) -> bool
+        ensures { IsTrue result ↔ All (λ m. has_ended m ≡ true) self.now.state.tasks }
+    {
+        let _ = self.tentative.state();
+        self.ready.all_ended()
     }
 
     /// How many more entries there is room for.
@@ -166,6 +219,11 @@ impl Book {
             Disposition::Finished => {
                 self.history
                     .push_finished(worker, transform.kind(), self.tentative.made());
+                self.ready.follow(
+                    self.tentative.graph(),
+                    self.tentative.state(),
+                    self.tentative.made(),
+                );
                 self.tentative.settle();
             }
             Disposition::Failed => self.history.push_failed(worker, transform.kind()),

@@ -13,6 +13,3 @@ pub use books::Book;
 pub use entries::{Closed, Kind, Shown};
 pub use tentatives::Tentative;
 pub use transforms::{Disposition, Transform};
-
-#[cfg(test)]
-mod tests;

@@ -25,3 +25,4 @@ pub mod ByNumber
 pub mod OwnChanges
 pub mod Named
 pub mod OwnTasks
+pub mod Queue

@@ -53,7 +53,7 @@ goes_on g (e ∷ h) past s apart holds a =
     subst (λ z. Holds g z (replay_from (effect s e) h)) (append_assoc past (e ∷ []) h)
     (goes_on g h (past ++ e ∷ []) (effect s e) apart (one_more g s e past apart holds a.0) a.1)
 
-all_wait : (n i : ℕ) → get_or (replicate n Waiting) i Waiting ≡ Waiting
+pub all_wait : (n i : ℕ) → get_or (replicate n Waiting) i Waiting ≡ Waiting
 all_wait n i = at (cases_lt i n)
   where
     at : (i < n) ⊎ (n ≤ i) → get_or (replicate n Waiting) i Waiting ≡ Waiting

@@ -11,13 +11,13 @@ ghost use Rattle.resource_lock.specs.Change.{can_all, holding_after, make_all, N
 ghost use Rattle.resource_lock.specs.Fits.{Fits};
 ghost use Rattle.resource_lock.specs.Good.{Good};
 ghost use Rattle.resource_lock.specs.GraphView.{GraphView, task_of};
-ghost use Rattle.resource_lock.specs.Ranges.{IsActionOf, IsUnitOf, actions_of};
+ghost use Rattle.resource_lock.specs.Ranges.{IsActionOf, IsUnitOf, actions_of, is_item};
 ghost use Rattle.resource_lock.specs.Shape.{BelongsTo};
 ghost use Rattle.resource_lock.specs.StateView.{IsWorkerOf, StateView, holding_of, mark_of};
 ghost use Rattle.resource_lock.specs.declared.changes.Change.{Change};
 ghost use Rattle.resource_lock.specs.declared.graphs.Retention.TheVariants.{Release, ReleaseAndReacquire, Retain};
 ghost use Rattle.resource_lock.specs.declared.ids.WorkerId.{WorkerId};
-ghost use Rattle.resource_lock.specs.declared.marks.Mark.TheVariants.{Failed, Passed, Running, Skipped, Waiting};
+ghost use Rattle.resource_lock.specs.declared.marks.Mark.TheVariants.{Failed, Passed, Queued, Running, Skipped, Waiting};
 ghost use Rattle.resource_lock.specs.declared.marks.MarkId.TheVariants.{Action as ActionOf, Task as TaskOf, Unit as UnitOf};
 ghost use Rattle.resource_lock.specs.declared.marks.MarkId.{MarkId};
 ghost use Rattle.run_laws.specs.Answers.{IsHonestWorker, answers};
@@ -66,6 +66,12 @@ pub fn lawful_histories_lead_to_good_states()
     ensures good { (g : GraphView) (h : List Entry) → Lawful g h → Good (replay g h) }
     ensures belongs { (g : GraphView) (h : List Entry) → Lawful g h → BelongsTo g (replay g h) }
     ensures workers { (g : GraphView) (h : List Entry) → Lawful g h → NamesWorkers g.workers (replay g h) }
+{}
+
+/// A unit that is queued is an item of the graph: fetches are never queued.
+pub fn only_items_are_queued()
+    ensures item { (g : GraphView) (h : List Entry) (u : ℕ) → Fits g → Lawful g h → mark_of (replay g h) (UnitOf u) ≡ Queued → is_item g u ≡ true }
+    ensures within { (g : GraphView) (h : List Entry) (u : ℕ) → Fits g → Lawful g h → mark_of (replay g h) (UnitOf u) ≡ Queued → u < g.units }
 {}
 
 /// What a worker's own entry leaves of what it has, owns and runs is said by the entry's changes alone.

@@ -1,26 +1,71 @@
 //! The call that a case asks for, and what is printed of it.
-ghost use Rattle.std.specs.Prelude.{◌≡◌, IfOk, length};
+ghost use Rattle.std.specs.Prelude.{◌≡◌, All, IfOk, length};
+ghost use Rattle.worker_desk.specs.Folders.{folder_of};
 
 use crate::cases::Case;
 use anyhow::Result;
 use leases_cli::{Ended, Status, leases};
+use lock_journal::Book;
 use std::alloc::{AllocError, Global};
-use worker_desk::{FileMap, MemoryDesk, MemorySink, MemorySource};
+use std::sync::Wait;
+use std::thread::Threads;
+use worker_desk::{FileEntry, FileMap, MeetingGate, MemoryDesk, MemorySink, MemorySource};
 
 /// As many desks as a run may have threads.
 const DESKS: usize = 32;
 
-/// The first desk, and further ones without files.
-fn desks_of(alloc: Global, first: MemoryDesk) -> Result<Vec<MemoryDesk>, AllocError>
-    ensures { IfOk result (λ desks. length desks.items ≡ 32) }
+/// An equal file.
+fn copy_of(alloc: Global, file: &FileEntry) -> Result<FileEntry, AllocError>
+    ensures name { IfOk result (λ copy. copy.name ≡ file.now.name) }
+    ensures bytes { IfOk result (λ copy. copy.bytes.items ≡ file.now.bytes.items) }
+{
+    let name = file.name.copy(alloc)?;
+    let bytes = Vec::from_slice(alloc, file.bytes.as_slice())?;
+    Ok(FileEntry { name, bytes })
+}
+
+/// Equal files.
+fn copies_of(alloc: Global, files: &[FileEntry]) -> Result<Vec<FileEntry>, AllocError>
+    ensures { IfOk result (λ copies. folder_of copies.items ≡ folder_of files.now) }
+{
+    let mut copies = Vec::with_capacity(alloc, files.len())?;
+    for file in files {
+        copies.push(copy_of(alloc, file)?)?;
+    }
+    Ok(copies)
+}
+
+/// A desk of these files. Its calls of the numbers in `failing` fail.
+fn desk_of(alloc: Global, files: &[FileEntry], failing: Vec<u64>) -> Result<MemoryDesk, AllocError>
+    ensures { IfOk result (λ desk. desk.files ≡ folder_of files.now) }
+{
+    MemoryDesk::new(alloc, FileMap::new(copies_of(alloc, files)?), failing)
+}
+
+/// Desks that all have these files. The first one's calls of the numbers in `failing` fail.
+fn desks_of(
+    alloc: Global,
+    files: &[FileEntry],
+    failing: Vec<u64>,
+) -> Result<Vec<MemoryDesk>, AllocError>
+    ensures count { IfOk result (λ desks. length desks.items ≡ 32) }
+    ensures files { IfOk result (λ desks. All (λ desk. desk.files ≡ folder_of files.now) desks.items) }
 {
     let mut desks = Vec::with_capacity(alloc, DESKS)?;
-    desks.push(first)?;
+    desks.push(desk_of(alloc, files, failing)?)?;
     for _ in 1..DESKS {
-        let empty = FileMap::new(Vec::new(alloc));
-        desks.push(MemoryDesk::new(alloc, empty, Vec::new(alloc))?)?;
+        desks.push(desk_of(alloc, files, Vec::new(alloc))?)?;
     }
     Ok(desks)
+}
+
+/// How many calls of the desks failed.
+fn desk_faults(desks: &[MemoryDesk]) -> u128 {
+    let mut faults = 0u128;
+    for desk in desks {
+        faults = faults.saturating_add(u128::from(desk.count()));
+    }
+    faults
 }
 
 /// Whether each byte is a line's end or can be seen.
@@ -30,14 +75,25 @@ fn is_text(bytes: &[u8]) -> bool {
         .all(|byte| *byte == b'\n' || (*byte >= b' ' && *byte <= b'~'))
 }
 
-/// Prints how a call ended: its status, with the place of a bad frame, and the number of entries of its book.
+/// How many entries of a book finished. That number is the plan's; failed entries come as threads meet.
+fn finished_entries(book: &Book) -> u64 {
+    let mut finished = 0u64;
+    for place in 0..book.len() {
+        if !book.entry(place).failed {
+            finished = finished.saturating_add(1);
+        }
+    }
+    finished
+}
+
+/// Prints how a call ended: its status, with the place of a bad frame, and how many entries of its book finished.
 fn print_end(rt: &HostRuntime, ended: &Ended) -> Result<()> {
     print!(rt; "status {}", ended.status.number())?;
     if let Status::BadFrame(place) = ended.status {
         print!(rt; " at {place}")?;
     }
     if let Some(book) = &ended.book {
-        print!(rt; ", {} entries", book.len())?;
+        print!(rt; ", {} entries", finished_entries(book))?;
     }
     Ok(())
 }
@@ -58,19 +114,40 @@ fn print_output(rt: &HostRuntime, bytes: &[u8]) -> Result<()> {
 }
 
 /// Makes the call of a case, and prints the case's name, how the call ended, how many calls of the outside failed,
-/// and what was written.
-pub(crate) fn print_answer(rt: &HostRuntime, name: &str, case: Case) -> Result<()> {
+/// whether two items ran at once, where the case asks for that, and what was written.
+pub(crate) fn print_answer<T: Threads + Wait + Sync>(
+    rt: &HostRuntime,
+    threads: &T,
+    name: &str,
+    case: Case,
+) -> Result<()> {
     let alloc = rt.alloc();
-    let first = MemoryDesk::new(alloc, FileMap::new(case.files), case.failing_reads)?;
-    let mut desks = desks_of(alloc, first)?;
-    let mut input = MemorySource::new(case.input, case.failing_takes);
-    let mut out = MemorySink::new(alloc, case.room, case.failing_puts)?;
-    let ended = leases(alloc, &case.words, &mut desks, &mut input, &mut out);
+    let Case {
+        words,
+        files,
+        failing_reads,
+        input,
+        failing_takes,
+        room,
+        failing_puts,
+        turns,
+    } = case;
+    let gate = MeetingGate::new(turns);
+    let mut desks = desks_of(alloc, &files, failing_reads)?;
+    let mut input = MemorySource::new(input, failing_takes);
+    let mut out = MemorySink::new(alloc, room, failing_puts)?;
+    let ended = leases(
+        threads, alloc, &words, &mut desks, &mut input, &gate, &mut out,
+    );
     println!(rt; "=== {name}")?;
     print_end(rt, &ended)?;
-    let faults = desks[0].count() as u128 + input.count() as u128 + out.count() as u128;
+    let others = u128::from(input.count()) + u128::from(out.count());
+    let faults = desk_faults(&desks).saturating_add(others);
     if faults > 0 {
         print!(rt; ", {faults} faults")?;
+    }
+    if gate.met() {
+        print!(rt; ", two items met")?;
     }
     print_output(rt, out.taken())
 }

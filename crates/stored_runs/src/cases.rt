@@ -12,9 +12,9 @@ const AMPLE: u64 = 200_000;
 pub(crate) struct Case {
     /// The words after the program's name.
     pub(crate) words: Vec<Text>,
-    /// The files of the first desk.
+    /// The files, which each desk has.
     pub(crate) files: Vec<FileEntry>,
-    /// The desk's calls that fail, numbered from 0.
+    /// The first desk's calls that fail, numbered from 0.
     pub(crate) failing_reads: Vec<u64>,
     /// The bytes of the input.
     pub(crate) input: Vec<u8>,
@@ -24,6 +24,8 @@ pub(crate) struct Case {
     pub(crate) room: u64,
     /// The output's calls that fail.
     pub(crate) failing_puts: Vec<u64>,
+    /// For how many turns units 0 and 1 wait for each other.
+    pub(crate) turns: u64,
 }
 
 /// The bytes that hexadecimal digits give; spaces between them don't count.
@@ -43,6 +45,7 @@ impl Case {
             failing_takes: Vec::new(alloc),
             room: AMPLE,
             failing_puts: Vec::new(alloc),
+            turns: 0,
         }
     }
 
@@ -61,8 +64,9 @@ impl Case {
     /// - `each N`: the other lines stand N times more in the last file, with the turn's number for `{n}`.
     /// - `fill N TEXT`: the text stands N times more in the last file.
     /// - `input DIGITS`: further bytes of the input.
-    /// - `fail read N`, `fail take N`, `fail put N`: this call fails of the desk, the input or the output.
+    /// - `fail read N`, `fail take N`, `fail put N`: this call fails of the first desk, the input or the output.
     /// - `room N`: the output takes so many bytes.
+    /// - `meet N`: units 0 and 1 wait for each other for so many turns.
     fn add_section(&mut self, alloc: Global, section: &str) -> Result<()> {
         let section = section.trim_end_matches('\n');
         let (head, lines) = section.split_once('\n').unwrap_or((section, ""));
@@ -79,6 +83,7 @@ impl Case {
                 .extend_from_slice(bytes_of(alloc, rest)?.as_slice())?,
             "fail" => self.add_failure(rest)?,
             "room" => self.room = rest.parse::<u64>()?,
+            "meet" => self.turns = rest.parse::<u64>()?,
             _ => return Err(anyhow!("no such section: {kind}")),
         }
         Ok(())

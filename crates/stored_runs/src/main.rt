@@ -11,10 +11,12 @@ mod cases;
 use crate::calls::print_answer;
 use crate::cases::Case;
 use anyhow::Result;
+use std::sync::Wait;
+use std::thread::Threads;
 use std::{env, fs};
 
 /// Makes the calls of a case file, in order.
-fn run_file(rt: &HostRuntime, text: &str) -> Result<()> {
+fn run_file<T: Threads + Wait + Sync>(rt: &HostRuntime, threads: &T, text: &str) -> Result<()> {
     let text = text.strip_suffix('\n').unwrap_or(text);
     let mut parts = text.split("\n=== ");
     let Some(shared) = parts.next() else {
@@ -24,7 +26,7 @@ fn run_file(rt: &HostRuntime, text: &str) -> Result<()> {
         let mut case = Case::new(rt.alloc());
         case.add_sections(rt.alloc(), shared)?;
         case.add_sections(rt.alloc(), part)?;
-        print_answer(rt, part.lines().next().unwrap_or(""), case)?;
+        print_answer(rt, threads, part.lines().next().unwrap_or(""), case)?;
     }
     Ok(())
 }
@@ -32,7 +34,7 @@ fn run_file(rt: &HostRuntime, text: &str) -> Result<()> {
 fn main(rt: HostRuntime) -> Result<()> {
     for arg in env::args(&rt)?.skip(1) {
         let text = fs::read_to_string(&rt, arg.as_str())?;
-        run_file(&rt, text.as_str())?;
+        run_file(&rt, &rt, text.as_str())?;
     }
     Ok(())
 }

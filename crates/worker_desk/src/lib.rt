@@ -5,6 +5,7 @@ mod calls;
 mod file_map;
 mod files;
 mod folder_desk;
+mod gates;
 mod memory_desk;
 mod memory_sink;
 mod memory_source;
@@ -20,6 +21,7 @@ mod work;
 pub use file_map::{FileEntry, FileMap};
 pub use files::{DeskFail, Files, Read};
 pub use folder_desk::FolderDesk;
+pub use gates::{Gate, MeetingGate, OpenGate};
 pub use memory_desk::MemoryDesk;
 pub use memory_sink::MemorySink;
 pub use memory_source::MemorySource;
@@ -30,5 +32,7 @@ pub use std_sink::StdSink;
 pub use std_source::StdSource;
 pub use work::work_out;
 
+#[cfg(test)]
+mod gate_tests;
 #[cfg(test)]
 mod tests;

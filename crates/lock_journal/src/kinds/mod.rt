@@ -33,8 +33,3 @@ pub use starts::Start;
 pub use submits::Submit;
 pub use taking::take_all;
 pub use unblocks::Unblock;
-
-#[cfg(test)]
-mod holding_tests;
-#[cfg(test)]
-mod tests;

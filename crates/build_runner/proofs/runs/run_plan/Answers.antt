@@ -1,63 +1,128 @@
-use Rattle.std.proofs.Common.{List, [], arith, sym, subst, ◌∙◌}
+use Rattle.std.proofs.Common.{◌≡◌, ◌++◌, List, Vec, drop, get_or, length, map, take, sym, ap, ◌∙◌, subst, arith}
 use Rattle.std.specs.List.{All}
-use Rattle.resource_lock.specs.StateView.{StateView}
-use Rattle.lock_journal.specs.Entry.{Entry}
-use Rattle.plan_reader.specs.IsPlan.{dependencies}
-use Rattle.run_laws.specs.Marks.{IsEnded, HasEnded}
-use Rattle.build_runner.specs.Kept.{Keeps}
-use Rattle.resource_lock.specs.AtRest.{IsAtRest}
-use Rattle.build_runner.specs.Phases.{AreSettled}
-use Rattle.build_runner.specs.Run.{depth}
-use Rattle.build_runner.proofs.Ends.{rests_at_first, settled_at_first, has_results}
-use Rattle.build_runner.proofs.PlainGraph.{is_graph_of, task_count}
-use Rattle.build_runner.proofs.Ranks.{in_range, no_cycle, ranks_of, afters_count}
+use Rattle.std.specs.declared.alloc.Global.{Global}
+use Rattle.resource_lock.specs.GraphView.{GraphView}
+use Rattle.coordination.specs.Sights.{workers_from}
+use Rattle.plan_reader.specs.Units.{PlannedUnit, plan_units}
+use Rattle.build_runner.specs.Team.{CanWork}
+use Rattle.build_runner.specs.Units.{RunsInThread, unit_view}
+use Rattle.build_runner.specs.Worked.{HasComeToTheEnd}
+use Rattle.build_runner.specs.declared.units.UnitWork.{UnitWork}
+use Rattle.build_runner.proofs.InThread.{in_thread}
+use Rattle.build_runner.proofs.Joined.{all_come, all_counts, all_files, left_numbers, left_service}
 use Rattle.build_runner.proofs.runs.run_plan.Goals as goal
 
-pub run_tasks-requires-clause-graph : goal.run_tasks-requires-clause-graph
-run_tasks-requires-clause-graph g c = is_graph_of c.args.plan.now c.in_ok-book.book.graph _ _ _ (c.in_ok-book.ensures.graph ∙ c.in_ok-graph.ensures)
+pub run_team-ended-requires-clause-in_thread : goal.run_team-ended-requires-clause-in_thread
+run_team-ended-requires-clause-in_thread g c κs within =
+    subst (λ (us : List UnitWork). All (λ u. RunsInThread (unit_view u)) us) (sym c.deref.ensures.value) (in_thread c.args.plan.now c.in_ok-units.units.items c.requires.form c.in_ok-units.ensures.units)
 
-pub run_tasks-requires-clause-ranks : goal.run_tasks-requires-clause-ranks
-run_tasks-requires-clause-ranks g c =
-    let p = c.args.plan.now in
-    let plan = c.tasks.ensures.plan in
-    let numbering = c.ranks_give_a_numbering.ensures (dependencies p.tasks) (in_range p plan) (no_cycle p plan) in
-    (numbering.0, ranks_of p c.in_ok-book.book.graph numbering.0 (run_tasks-requires-clause-graph g c) numbering.1)
+pub run_team-ended-requires-clause-ready : goal.run_team-ended-requires-clause-ready
+run_team-ended-requires-clause-ready g c κs within =
+    subst (λ (o : GraphView). All (CanWork c.in_ok-service.field-0.service o) c.in_ok-service.field-0.passes.items) (c.in_ok-graph_of.ensures ∙ sym c.in_ok-graph.ensures) c.in_ok-service.ensures.ready
 
-pub run_tasks-requires-clause-rest : goal.run_tasks-requires-clause-rest
-run_tasks-requires-clause-rest g c = subst IsAtRest (sym c.in_ok-book.ensures.state) (rests_at_first c.in_ok-graph.graph)
+pub close_service-book-requires-clause-service : goal.close_service-book-requires-clause-service
+close_service-book-requires-clause-service g c =
+    let D : Type 0 = g.row.F.Denot in
+    let n = c.args.options.now.workers in
+    let old : List D = c.args.desks.now.items in
+    let worked : List D = c.run_team-ended.new.desks.items in
+    let team = c.run_team-ended.ensures in
+    let mine : c.replace-mine.result.items ≡ take n old = ap (λ (v : Vec D Global). v.items) c.replace-mine.ensures.value ∙ c.in_ok-rest.ensures.items in
+    let size : c.replace-mine.result.len ≡ n = ap (λ (v : Vec D Global). v.len) c.replace-mine.ensures.value ∙ c.in_ok-rest.ensures.len in
+    let opened : length c.in_ok-service.field-0.passes.items ≡ n = c.in_ok-service.ensures.passes ∙ ap (λ (o : GraphView). o.workers) c.in_ok-graph_of.ensures in
+    left_service g.F.Files.files g.F.Files.faults (map unit_view c.deref.result.now) n c.run_team-ended.result old c.replace-mine.result.items worked c.in_ok-service.field-0.passes.items c.run_team-ended.new.left.items
+    c.requires.enough mine opened (team.desks ∙ size) (team.passes ∙ size) (λ i p d low. team.worked i p d (omega (arith, size, low)))
+    c.in_ok-service.field-0.service c.in_ok-graph_of.field-0 c.in_ok-service.ensures.ready
 
-pub run_tasks-requires-clause-settled : goal.run_tasks-requires-clause-settled
-run_tasks-requires-clause-settled g c = subst (AreSettled c.in_ok-book.book.graph) (sym c.in_ok-book.ensures.state) (settled_at_first c.in_ok-book.book.graph c.in_ok-graph.graph)
+pub close_service-book-requires-clause-workers : goal.close_service-book-requires-clause-workers
+close_service-book-requires-clause-workers g c =
+    let D : Type 0 = g.row.F.Denot in
+    let n = c.args.options.now.workers in
+    let old : List D = c.args.desks.now.items in
+    let worked : List D = c.run_team-ended.new.desks.items in
+    let team = c.run_team-ended.ensures in
+    let mine : c.replace-mine.result.items ≡ take n old = ap (λ (v : Vec D Global). v.items) c.replace-mine.ensures.value ∙ c.in_ok-rest.ensures.items in
+    let size : c.replace-mine.result.len ≡ n = ap (λ (v : Vec D Global). v.len) c.replace-mine.ensures.value ∙ c.in_ok-rest.ensures.len in
+    let opened : length c.in_ok-service.field-0.passes.items ≡ n = c.in_ok-service.ensures.passes ∙ ap (λ (o : GraphView). o.workers) c.in_ok-graph_of.ensures in
+    left_numbers g.F.Files.files g.F.Files.faults (map unit_view c.deref.result.now) n c.run_team-ended.result old c.replace-mine.result.items worked c.in_ok-service.field-0.passes.items c.run_team-ended.new.left.items
+    c.requires.enough mine opened (team.desks ∙ size) (team.passes ∙ size) (λ i p d low. team.worked i p d (omega (arith, size, low)))
+    (c.in_ok-service.ensures.workers ∙ ap (λ (o : GraphView). workers_from 0 o.workers) c.in_ok-graph_of.ensures)
 
-pub returns-clause-run : goal.returns-clause-run
-returns-clause-run g c =
-    let p = c.args.plan.now in
-    let b = c.run_tasks.new.book in
-    let known = g.D.Files.files c.args.desk.now in
-    let before = g.D.Files.faults c.args.desk.now in
-    let after = g.D.Files.faults c.run_tasks.new.desk in
-    let state = c.state.ensures in
-    let ran = c.in_ok-run_tasks.ensures in
-    let every = c.every_run_comes_to_its_plan.ensures in
-    let graph = c.run_tasks.ensures.graph ∙ c.in_ok-book.ensures.graph ∙ c.in_ok-graph.ensures in
-    let is = is_graph_of p b.graph _ _ _ graph in
-    let fits = c.graph-2.ensures.fits in
-    let ended = subst (λ (s : StateView). All IsEnded s.tasks) state.replays ran.ended in
-    let keeps : Keeps known p before after [] b.history = subst (λ (h : List Entry). Keeps known p before after h b.history) c.in_ok-book.ensures.history ran.keeps in
-    let plan = c.tasks.ensures.plan in
-    let numbering = c.ranks_give_a_numbering.ensures (dependencies p.tasks) (in_range p plan) (no_cycle p plan) in
-    record {
-      graph = graph;
-      replays = state.replays;
-      lawful = state.lawful;
-      good = state.good;
-      rest = ran.rest;
-      ended = subst HasEnded (sym state.replays) (every.ended b.graph b.history fits state.lawful ended);
-      order = every.order b.graph b.history fits state.lawful ended;
-      results = has_results p known before after b c.honest_workers_give_the_answers.ensures keeps
-          (λ v given. every.plan b.graph b.history v numbering.0 (depth p) fits (ranks_of p b.graph numbering.0 is numbering.1)
-          (λ t lt. let low = numbering.1.below t (omega (arith, lt, task_count p b.graph is, afters_count p)) in omega (arith, low, afters_count p))
-          state.lawful ended given);
-      faults = λ lt. let f = keeps.faults lt in omega (arith, f);
-      others = keeps.others;
-    }
+pub returns-then-ended-clause-files : goal.returns-then-ended-clause-files
+returns-then-ended-clause-files g c =
+    let D : Type 0 = g.row.F.Denot in
+    let n = c.args.options.now.workers in
+    let old : List D = c.args.desks.now.items in
+    let worked : List D = c.run_team-ended.new.desks.items in
+    let team = c.run_team-ended.ensures in
+    let mine : c.replace-mine.result.items ≡ take n old = ap (λ (v : Vec D Global). v.items) c.replace-mine.ensures.value ∙ c.in_ok-rest.ensures.items in
+    let size : c.replace-mine.result.len ≡ n = ap (λ (v : Vec D Global). v.len) c.replace-mine.ensures.value ∙ c.in_ok-rest.ensures.len in
+    let opened : length c.in_ok-service.field-0.passes.items ≡ n = c.in_ok-service.ensures.passes ∙ ap (λ (o : GraphView). o.workers) c.in_ok-graph_of.ensures in
+    let back : c.put_behind.new.desks.items ≡ worked ++ drop n old = c.put_behind.ensures ∙ ap (λ (l : List D). worked ++ l) c.in_ok-rest.ensures.tail in
+    all_files g.F.Files.files g.F.Files.faults (map unit_view c.deref.result.now) n c.run_team-ended.result old c.replace-mine.result.items worked c.in_ok-service.field-0.passes.items c.run_team-ended.new.left.items
+    c.requires.enough mine opened (team.desks ∙ size) (team.passes ∙ size) (λ i p d low. team.worked i p d (omega (arith, size, low)))
+    c.put_behind.new.desks.items back team.files
+
+pub returns-then-ended-clause-counts : goal.returns-then-ended-clause-counts
+returns-then-ended-clause-counts g c =
+    let D : Type 0 = g.row.F.Denot in
+    let n = c.args.options.now.workers in
+    let old : List D = c.args.desks.now.items in
+    let worked : List D = c.run_team-ended.new.desks.items in
+    let team = c.run_team-ended.ensures in
+    let mine : c.replace-mine.result.items ≡ take n old = ap (λ (v : Vec D Global). v.items) c.replace-mine.ensures.value ∙ c.in_ok-rest.ensures.items in
+    let size : c.replace-mine.result.len ≡ n = ap (λ (v : Vec D Global). v.len) c.replace-mine.ensures.value ∙ c.in_ok-rest.ensures.len in
+    let opened : length c.in_ok-service.field-0.passes.items ≡ n = c.in_ok-service.ensures.passes ∙ ap (λ (o : GraphView). o.workers) c.in_ok-graph_of.ensures in
+    let back : c.put_behind.new.desks.items ≡ worked ++ drop n old = c.put_behind.ensures ∙ ap (λ (l : List D). worked ++ l) c.in_ok-rest.ensures.tail in
+    all_counts g.F.Files.files g.F.Files.faults (map unit_view c.deref.result.now) n c.run_team-ended.result old c.replace-mine.result.items worked c.in_ok-service.field-0.passes.items c.run_team-ended.new.left.items
+    c.requires.enough mine opened (team.desks ∙ size) (team.passes ∙ size) (λ i p d low. team.worked i p d (omega (arith, size, low)))
+    c.put_behind.new.desks.items back
+
+pub returns-then-ended-clause-run : goal.returns-then-ended-clause-run
+returns-then-ended-clause-run g c =
+    let D : Type 0 = g.row.F.Denot in
+    let n = c.args.options.now.workers in
+    let old : List D = c.args.desks.now.items in
+    let worked : List D = c.run_team-ended.new.desks.items in
+    let team = c.run_team-ended.ensures in
+    let mine : c.replace-mine.result.items ≡ take n old = ap (λ (v : Vec D Global). v.items) c.replace-mine.ensures.value ∙ c.in_ok-rest.ensures.items in
+    let size : c.replace-mine.result.len ≡ n = ap (λ (v : Vec D Global). v.len) c.replace-mine.ensures.value ∙ c.in_ok-rest.ensures.len in
+    let opened : length c.in_ok-service.field-0.passes.items ≡ n = c.in_ok-service.ensures.passes ∙ ap (λ (o : GraphView). o.workers) c.in_ok-graph_of.ensures in
+    let back : c.put_behind.new.desks.items ≡ worked ++ drop n old = c.put_behind.ensures ∙ ap (λ (l : List D). worked ++ l) c.in_ok-rest.ensures.tail in
+    let new : List D = c.put_behind.new.desks.items in
+    let units : map unit_view c.deref.result.now ≡ plan_units c.args.plan.now = ap (λ (us : List UnitWork). map unit_view us) c.deref.ensures.value ∙ c.in_ok-units.ensures.units in
+    λ d. c.close_service-book.ensures (g.F.Files.files (get_or old 0 d)) (λ i. g.F.Files.faults (get_or old i d)) (λ i. g.F.Files.faults (get_or new i d)) (λ i p low.
+    subst (λ (us : List PlannedUnit). HasComeToTheEnd (g.F.Files.files (get_or old 0 d)) us (g.F.Files.faults (get_or old i d)) (g.F.Files.faults (get_or new i d)) (get_or c.run_team-ended.new.left.items i p)) units
+    (all_come g.F.Files.files g.F.Files.faults (map unit_view c.deref.result.now) n c.run_team-ended.result old c.replace-mine.result.items worked c.in_ok-service.field-0.passes.items c.run_team-ended.new.left.items
+    c.requires.enough mine opened (team.desks ∙ size) (team.passes ∙ size) (λ i p d low. team.worked i p d (omega (arith, size, low)))
+    new back c.requires.alike c.if-ended.true c.in_ok-service.ensures.untouched d i p low))
+
+pub returns-clause-files : goal.returns-clause-files
+returns-clause-files g c =
+    let D : Type 0 = g.row.F.Denot in
+    let n = c.args.options.now.workers in
+    let old : List D = c.args.desks.now.items in
+    let worked : List D = c.run_team-ended.new.desks.items in
+    let team = c.run_team-ended.ensures in
+    let mine : c.replace-mine.result.items ≡ take n old = ap (λ (v : Vec D Global). v.items) c.replace-mine.ensures.value ∙ c.in_ok-rest.ensures.items in
+    let size : c.replace-mine.result.len ≡ n = ap (λ (v : Vec D Global). v.len) c.replace-mine.ensures.value ∙ c.in_ok-rest.ensures.len in
+    let opened : length c.in_ok-service.field-0.passes.items ≡ n = c.in_ok-service.ensures.passes ∙ ap (λ (o : GraphView). o.workers) c.in_ok-graph_of.ensures in
+    let back : c.put_behind.new.desks.items ≡ worked ++ drop n old = c.put_behind.ensures ∙ ap (λ (l : List D). worked ++ l) c.in_ok-rest.ensures.tail in
+    all_files g.F.Files.files g.F.Files.faults (map unit_view c.deref.result.now) n c.run_team-ended.result old c.replace-mine.result.items worked c.in_ok-service.field-0.passes.items c.run_team-ended.new.left.items
+    c.requires.enough mine opened (team.desks ∙ size) (team.passes ∙ size) (λ i p d low. team.worked i p d (omega (arith, size, low)))
+    c.put_behind.new.desks.items back team.files
+
+pub returns-clause-counts : goal.returns-clause-counts
+returns-clause-counts g c =
+    let D : Type 0 = g.row.F.Denot in
+    let n = c.args.options.now.workers in
+    let old : List D = c.args.desks.now.items in
+    let worked : List D = c.run_team-ended.new.desks.items in
+    let team = c.run_team-ended.ensures in
+    let mine : c.replace-mine.result.items ≡ take n old = ap (λ (v : Vec D Global). v.items) c.replace-mine.ensures.value ∙ c.in_ok-rest.ensures.items in
+    let size : c.replace-mine.result.len ≡ n = ap (λ (v : Vec D Global). v.len) c.replace-mine.ensures.value ∙ c.in_ok-rest.ensures.len in
+    let opened : length c.in_ok-service.field-0.passes.items ≡ n = c.in_ok-service.ensures.passes ∙ ap (λ (o : GraphView). o.workers) c.in_ok-graph_of.ensures in
+    let back : c.put_behind.new.desks.items ≡ worked ++ drop n old = c.put_behind.ensures ∙ ap (λ (l : List D). worked ++ l) c.in_ok-rest.ensures.tail in
+    all_counts g.F.Files.files g.F.Files.faults (map unit_view c.deref.result.now) n c.run_team-ended.result old c.replace-mine.result.items worked c.in_ok-service.field-0.passes.items c.run_team-ended.new.left.items
+    c.requires.enough mine opened (team.desks ∙ size) (team.passes ∙ size) (λ i p d low. team.worked i p d (omega (arith, size, low)))
+    c.put_behind.new.desks.items back

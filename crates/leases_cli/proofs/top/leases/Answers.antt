@@ -1,30 +1,27 @@
-use Rattle.std.proofs.Common.{Option, sym, subst}
-use Rattle.command_words.specs.Reading.{command_of}
+use Rattle.std.proofs.Common.{◌≡◌, Option, drop, get_or, sym, subst}
 use Rattle.command_words.specs.declared.commands.Command.{Command}
+use Rattle.leases_cli.specs.Around.{counts_of, desks_used}
 use Rattle.leases_cli.specs.Answered.{Answered}
-use Rattle.leases_cli.proofs.Commands.{bad_words_answered, no_memory_answered, of_first}
-use Rattle.leases_cli.proofs.Completing.{complete_of}
+use Rattle.leases_cli.proofs.Commands.{bad_words_answered, no_command, no_memory_answered}
+use Rattle.leases_cli.proofs.Completing.{carried_out, no_command_complete, no_memory_complete}
 use Rattle.leases_cli.proofs.top.leases.Goals as goal
 
--- ---- a command was carried out on the first desk
+-- ---- a command was carried out
+
+pub returns-in-Ok-clause-rest : goal.returns-in-Ok-clause-rest
+returns-in-Ok-clause-rest g c = subst (λ (command : Option Command). drop (desks_used command) c.perform.new.desks.items ≡ drop (desks_used command) c.args.desks.now.items) (sym c.in-Ok.ensures.ok) c.perform.ensures.rest
 
 pub returns-in-Ok-clause-answer : goal.returns-in-Ok-clause-answer
 returns-in-Ok-clause-answer g c = λ d.
-    of_first
-    (λ x y. Answered (command_of c.args.words.now)
-    (record { source = g.I.Source.seen c.args.input.now; sink = g.O.Sink.seen c.args.out.now; files = g.D.Files.files x; faults = g.D.Files.faults x })
-    (record { source = g.I.Source.seen c.perform.new.input; sink = g.O.Sink.seen c.perform.new.out; files = g.D.Files.files y; faults = g.D.Files.faults y })
-    c.perform.result.status c.perform.result.book)
-    c.args.desks.now.items c.index_mut.result.now c.perform.new.desk d c.requires.desks c.index_mut.ensures.value
-    (subst
+    subst
     (λ (command : Option Command). Answered command
-    (record { source = g.I.Source.seen c.args.input.now; sink = g.O.Sink.seen c.args.out.now; files = g.D.Files.files c.index_mut.result.now; faults = g.D.Files.faults c.index_mut.result.now })
-    (record { source = g.I.Source.seen c.perform.new.input; sink = g.O.Sink.seen c.perform.new.out; files = g.D.Files.files c.perform.new.desk; faults = g.D.Files.faults c.perform.new.desk })
+    (record { source = g.I.Source.seen c.args.input.now; sink = g.O.Sink.seen c.args.out.now; files = g.F.Files.files (get_or c.args.desks.now.items 0 d); faults = counts_of g.F.Files.faults c.args.desks.now.items d })
+    (record { source = g.I.Source.seen c.perform.new.input; sink = g.O.Sink.seen c.perform.new.out; files = g.F.Files.files (get_or c.perform.new.desks.items 0 d); faults = counts_of g.F.Files.faults c.perform.new.desks.items d })
     c.perform.result.status c.perform.result.book)
-    (sym c.in-Ok.ensures.ok) c.perform.ensures.answer)
+    (sym c.in-Ok.ensures.ok) (c.perform.ensures.answer d)
 
 pub returns-in-Ok-clause-complete : goal.returns-in-Ok-clause-complete
-returns-in-Ok-clause-complete g c = λ d. complete_of c.first_cycle_is_unique.ensures _ _ _ _ _ (returns-in-Ok-clause-answer g c d)
+returns-in-Ok-clause-complete g c = λ d. carried_out c.first_cycle_is_unique.ensures c.in-Ok.command _ _ _ _ _ c.in-Ok.ensures.ok c.in-Ok.ensures.bounds (c.perform.ensures.answer d)
 
 -- ---- the words are no command
 
@@ -32,7 +29,7 @@ pub returns-in-Err-NoCommand-clause-answer : goal.returns-in-Err-NoCommand-claus
 returns-in-Err-NoCommand-clause-answer g c = λ d. bad_words_answered _ c.in-Err-NoCommand.field-0 _ _ _ _ c.in-Err-NoCommand.field-0-is c.in-Err-NoCommand.ensures.err c.refuse.ensures.book c.refuse.ensures.status
 
 pub returns-in-Err-NoCommand-clause-complete : goal.returns-in-Err-NoCommand-clause-complete
-returns-in-Err-NoCommand-clause-complete g c = λ d. complete_of c.first_cycle_is_unique.ensures _ _ _ _ _ (returns-in-Err-NoCommand-clause-answer g c d)
+returns-in-Err-NoCommand-clause-complete g c = λ d. no_command_complete _ _ _ _ _ (no_command _ c.in-Err-NoCommand.field-0 c.in-Err-NoCommand.field-0-is c.in-Err-NoCommand.ensures.err)
 
 -- ---- there was no memory to read the words
 
@@ -40,4 +37,4 @@ pub returns-in-Err-NoMemory-clause-answer : goal.returns-in-Err-NoMemory-clause-
 returns-in-Err-NoMemory-clause-answer g c = λ d. no_memory_answered _ _ _ _ c.without_run.ensures.book c.without_run.ensures.status
 
 pub returns-in-Err-NoMemory-clause-complete : goal.returns-in-Err-NoMemory-clause-complete
-returns-in-Err-NoMemory-clause-complete g c = λ d. complete_of c.first_cycle_is_unique.ensures _ _ _ _ _ (returns-in-Err-NoMemory-clause-answer g c d)
+returns-in-Err-NoMemory-clause-complete g c = λ d. no_memory_complete _ _ _ _ c.without_run.ensures.book c.without_run.ensures.status (returns-in-Err-NoMemory-clause-answer g c d)

@@ -1,7 +1,8 @@
-use Rattle.std.proofs.Common.{◌≡◌, ◌≢◌, List, [], ◌∷◌, ◌++◌, Some, None, ◌∙◌, ap, subst, arith}
+use Rattle.std.proofs.Common.{◌≡◌, ◌≢◌, List, [], ◌∷◌, ◌++◌, Some, None, ◌∙◌, sym, ap, subst, arith}
 use Rattle.resource_lock.specs.GraphView.{GraphView}
 use Rattle.resource_lock.specs.StateView.{StateView}
 use Rattle.resource_lock.specs.declared.changes.Change.{Change}
+use Rattle.ready_work.specs.ReadyWork.{IsIndexOf}
 use Rattle.lock_journal.specs.declared.entries.Kind.{Kind}
 use Rattle.lock_journal.specs.declared.transforms.Disposition.TheVariants.{Finished}
 use Rattle.lock_journal.specs.Entry.{Entry, entry, effect}
@@ -14,7 +15,7 @@ use Rattle.lock_journal.proofs.books.Book.run.Given.{Over}
 use Rattle.lock_journal.proofs.books.Book.run.Goals as goal
 
 -- the entry of a transform that finished
-extended : (g : Over) (c : goal.After-settle g) → Extends c.self.inside (record { tentative = c.settle.new.self; history = c.push_finished.new.self }) (entry c.args.worker (g.T.Transform.kind_of c.args.transform.now) (Some c.attempt-disposition.new.self.made))
+extended : (g : Over) (c : goal.After-settle g) → Extends c.self.inside (record { tentative = c.settle.new.self; history = c.push_finished.new.self; ready = c.follow.new.self }) (entry c.args.worker (g.T.Transform.kind_of c.args.transform.now) (Some c.attempt-disposition.new.self.made))
 extended g c =
     record {
       fresh = ap (λ (t : TentativeView). t.made) c.settle.ensures;
@@ -26,6 +27,8 @@ extended g c =
       state = ap (λ (t : TentativeView). t.state) c.settle.ensures ∙ c.attempt-disposition.ensures.made c.in-Finished.is;
       allowed = c.attempt-disposition.ensures.allowed c.in-Finished.is;
       fit = subst IsFitKind c.kind.ensures c.push_finished.ensures.fit;
+      index = subst (λ (o : GraphView). IsIndexOf o c.settle.new.self.state c.follow.new.self) (c.graph.ensures.value ∙ sym (ap (λ (t : TentativeView). t.graph) c.settle.ensures))
+          (subst (λ (s : StateView). IsIndexOf c.graph.result.now s c.follow.new.self) (c.state.ensures.value ∙ sym (ap (λ (t : TentativeView). t.state) c.settle.ensures)) c.follow.ensures);
     }
 
 pub invariant_of-self : goal.invariant_of-self
@@ -35,7 +38,7 @@ pub invariant_of-self-in-Failed : goal.invariant_of-self-in-Failed
 invariant_of-self-in-Failed g c =
     let unfinished : c.attempt-disposition.result ≢ Finished = λ e. let f = c.in-Failed.is in cc in
     let graph : c.self.inside.tentative.graph ≡ c.args.self.now.graph = ap (λ (l : BookView). l.graph) c.self.view_is ∙ c.in_ok-reserve.ensures.same.graph in
-    let more : Extends c.self.inside (record { tentative = c.attempt-disposition.new.self; history = c.push_failed.new.self }) (entry c.args.worker (g.T.Transform.kind_of c.args.transform.now) None) = record {
+    let more : Extends c.self.inside (record { tentative = c.attempt-disposition.new.self; history = c.push_failed.new.self; ready = c.self.inside.ready }) (entry c.args.worker (g.T.Transform.kind_of c.args.transform.now) None) = record {
       fresh = c.attempt-disposition.ensures.fresh unfinished;
       graph = c.attempt-disposition.ensures.graph;
       units = c.push_failed.ensures.units;
@@ -44,6 +47,8 @@ invariant_of-self-in-Failed g c =
       state = c.attempt-disposition.ensures.undone unfinished;
       allowed = record { worker = omega (arith, c.requires, ap (λ (o : GraphView). o.workers) graph); kind = c.attempt-disposition.ensures.kind c.in-Failed.is; finished = tt };
       fit = subst IsFitKind c.kind-in-Failed.ensures c.push_failed.ensures.fit;
+      index = subst (λ (o : GraphView). IsIndexOf o c.attempt-disposition.new.self.state c.self.inside.ready) (sym c.attempt-disposition.ensures.graph)
+          (subst (λ (s : StateView). IsIndexOf c.self.inside.tentative.graph s c.self.inside.ready) (sym (c.attempt-disposition.ensures.undone unfinished)) c.self.invariant.index);
     } in
     sound_extended c.self.inside _ _ c.self.invariant more
 

@@ -1,0 +1,121 @@
+-- From what the passes show at the end of a run to the book that it gives.
+use Rattle.std.proofs.Common.{◌≡◌, ℕ, suc, ◌+◌, ◌-◌, ◌^◌, ◌<◌, ◌≤◌, Bool, true, List, [], ◌∷◌, ◌++◌, length, get_or, map, Option, None, Some, refl, sym, ap, subst, arith, ◌⊎◌, inl, inr}
+use Rattle.std.specs.Prelude.{IfSome}
+use Rattle.std.specs.List.{All, AllByRecursion}
+use Rattle.std.proofs.lemmas.Bool.{cases_lt, ne_eqb}
+use Rattle.item_actions.specs.Files.{Folder}
+use Rattle.item_actions.specs.Value.{IsHonest}
+use Rattle.item_actions.specs.declared.outcomes.Outcome.{Outcome}
+use Rattle.resource_lock.specs.GraphView.{GraphView}
+use Rattle.resource_lock.specs.StateView.{StateView}
+use Rattle.resource_lock.specs.declared.ids.WorkerId.{WorkerId}
+use Rattle.lock_journal.specs.Allowed.{Lawful}
+use Rattle.lock_journal.specs.BookView.{BookView}
+use Rattle.lock_journal.specs.Entry.{Entry, replay}
+use Rattle.plan_reader.specs.PlanView.{PlanView}
+use Rattle.plan_reader.specs.Units.{PlannedUnit, unit_value}
+use Rattle.run_laws.specs.Answers.{IsHonestWorker, answers}
+use Rattle.run_laws.specs.ClosedBy.{closed_by, faults_by, faults_in}
+use Rattle.run_laws.specs.Marks.{IsEnded}
+use Rattle.run_laws.specs.Runs.{ComesTo, GivesClosedOutcomes}
+use Rattle.coordination.specs.Agrees.{Agrees}
+use Rattle.coordination.specs.Holds.{HoldsNothing}
+use Rattle.coordination.specs.Passes.{PassView}
+use Rattle.coordination.specs.Sights.{workers_from}
+use Rattle.build_runner.specs.Points.{HasFinishedWork}
+use Rattle.build_runner.specs.Run.{HasResults, depth}
+use Rattle.build_runner.specs.Units.{given}
+use Rattle.build_runner.specs.Worked.{HasComeToTheEnd, HasWorked}
+use Rattle.build_runner.proofs.Numbered.{element, passes_count, worker_at}
+
+-- what has ended stays so, whatever entries follow
+abbrev pub TasksStay : Type 0
+TasksStay = (g : GraphView) (h later : List Entry) → Lawful g (h ++ later) → All IsEnded (replay g h).tasks → All IsEnded (replay g (h ++ later)).tasks
+
+abbrev pub HonestAnswers : Type 0
+HonestAnswers = (value : ℕ → Outcome) (h : List Entry) → ((w : WorkerId) → IsHonestWorker value h w) → GivesClosedOutcomes (answers value h) h
+
+-- the tasks that a worker saw ended have ended in the book
+ended_in : TasksStay → (p : PassView) (b : BookView) → Agrees p.sight.worker p.sight.seen b → HasFinishedWork p.sight → Lawful b.graph b.history → All IsEnded (replay b.graph b.history).tasks
+ended_in stay p b agrees finished lawful =
+    let g : GraphView = b.graph in
+    let seen : List Entry = p.sight.seen.history in
+    let was : All IsEnded (replay p.sight.seen.graph seen).tasks = subst (λ (s : StateView). All IsEnded s.tasks) finished.sound.replays finished.ended in
+    let here : All IsEnded (replay g seen).tasks = subst (λ (o : GraphView). All IsEnded (replay o seen).tasks) (sym agrees.graph) was in
+    subst (λ (h : List Entry). All IsEnded (replay g h).tasks) (sym agrees.history) (stay g seen agrees.between (subst (Lawful g) agrees.history lawful) here)
+
+-- who made no entry closed nothing
+rest_of : (n : ℕ) (e : Entry) (h : List Entry) → All (λ (e : Entry). e.worker.0 < n) (e ∷ h) → All (λ (e : Entry). e.worker.0 < n) h
+rest_of n e h all k d lt = all (suc k) d (omega (arith, lt))
+
+closed_nothing : (n : ℕ) (w : WorkerId) (h : List Entry) → n ≤ w.0 → All (λ (e : Entry). e.worker.0 < n) h → closed_by w h ≡ []
+closed_nothing n w [] le all = refl
+closed_nothing n w (e ∷ h) le all =
+    let low : e.worker.0 < n = all 0 e (omega arith) in
+    rw (ne_eqb e.worker.0 w.0 (λ is. absurd (omega (arith, low, le, is)))) (closed_nothing n w h le (rest_of n e h all))
+
+module _ (known : Option Folder) (units : List PlannedUnit) (before after : ℕ → ℕ) (ps : List PassView) (n : ℕ) (b : BookView)
+    (are : map (λ (p : PassView). p.sight.worker.0) ps ≡ workers_from 0 n)
+    (agrees : All (λ (p : PassView). Agrees p.sight.worker p.sight.seen b) ps)
+    (entries : All (λ (e : Entry). e.worker.0 < n) b.history)
+    (come : (i : ℕ) (p : PassView) → i < n → HasComeToTheEnd known units (before i) (after i) (get_or ps i p)) where
+  within : (i : ℕ) → i < n → i < length ps
+  within i low = let c = passes_count ps n are in omega (arith, c, low)
+
+  -- the pass of worker i
+  abbrev pass : (i : ℕ) → i < n → PassView
+  pass i low = get_or ps i (element ps i (within i low))
+
+  closings_of : (i : ℕ) (low : i < n) → closed_by (record { 0 = i }) b.history ≡ closed_by (pass i low).sight.worker (pass i low).sight.seen.history
+  closings_of i low =
+      let d : PassView = element ps i (within i low) in
+      subst (λ (w : WorkerId). closed_by w b.history ≡ closed_by (pass i low).sight.worker (pass i low).sight.seen.history) (worker_at ps n i d are low) (agrees i d (within i low)).closings
+
+  pub all_faults : (i : ℕ) → i < n → after i < 2 ^ 64 - 1 → faults_by (record { 0 = i }) b.history + before i ≤ after i
+  all_faults i low lt =
+      let f = (come i (element ps i (within i low)) low).faults lt in
+      let e = ap faults_in (closings_of i low) in
+      omega (arith, f, e)
+
+  pub all_rest : All (λ (p : PassView). HoldsNothing p.sight) ps
+  all_rest i d low = let c = passes_count ps n are in (come i d (omega (arith, c, low))).finished.rests
+
+  pub all_ended : TasksStay → 0 < n → Lawful b.graph b.history → All IsEnded (replay b.graph b.history).tasks
+  all_ended stay some lawful = ended_in stay (pass 0 some) b (agrees 0 (element ps 0 (within 0 some)) (within 0 some)) (come 0 (element ps 0 (within 0 some)) some).finished lawful
+
+  all_honest : (files : Folder) → known ≡ Some files → (w : WorkerId) → IsHonestWorker (given units files) b.history w
+  all_honest files is w = at (cases_lt w.0 n)
+    where
+      at : (w.0 < n) ⊎ (n ≤ w.0) → IsHonestWorker (given units files) b.history w
+      at (inl low) =
+          let p : PassView = pass w.0 low in
+          let h : IsHonestWorker (given units files) p.sight.seen.history p.sight.worker = subst (λ (o : Option Folder). IfSome o (λ files. IsHonestWorker (given units files) p.sight.seen.history p.sight.worker)) is (come w.0 (element ps w.0 (within w.0 low)) low).honest in
+          subst (AllByRecursion (λ d. IsHonest d.outcome (given units files d.unit))) (sym (closings_of w.0 low)) h
+      at (inr past) = subst (AllByRecursion (λ d. IsHonest d.outcome (given units files d.unit))) (sym (closed_nothing n w b.history past entries)) tt
+
+  pub all_are_honest : IfSome known (λ files. (w : WorkerId) → IsHonestWorker (given units files) b.history w)
+  all_are_honest = at known refl
+    where
+      at : (o : Option Folder) → known ≡ o → IfSome o (λ files. (w : WorkerId) → IsHonestWorker (given units files) b.history w)
+      at None e = tt
+      at (Some files) e = all_honest files e
+
+pub has_results : (plan : PlanView) (known : Option Folder) (b : BookView) → HonestAnswers → IfSome known (λ files. (w : WorkerId) → IsHonestWorker (unit_value plan files) b.history w)
+    → ((v : ℕ → Outcome) → GivesClosedOutcomes v b.history → ComesTo b.graph b.history v (depth plan)) → HasResults plan known b
+has_results plan None b give honest every = every
+has_results plan (Some files) b give honest every = every _ (give (unit_value plan files) b.history honest)
+
+-- a worker that began with an empty history
+pub comes_to_the_end : (known : Option Folder) (units : List PlannedUnit) (before after : ℕ) (old new : PassView) (ended : Bool) → HasWorked known units before after old new ended → ended ≡ true → old.sight.seen.history ≡ [] → HasComeToTheEnd known units before after new
+comes_to_the_end known units before after old new ended worked is none = record {
+  faults = λ lt.
+      let f = worked.keeps.faults lt in
+      let z : faults_by old.sight.worker old.sight.seen.history ≡ 0 = ap (λ h. faults_by old.sight.worker h) none in
+      subst (λ (w : WorkerId). faults_by w new.sight.seen.history + before ≤ after) (sym worked.keeps.worker) (omega (arith, f, z));
+  honest = at known worked.keeps.honest;
+  finished = worked.finished is;
+}
+  where
+    at : (o : Option Folder) → IfSome o (λ files. IsHonestWorker (given units files) old.sight.seen.history old.sight.worker → IsHonestWorker (given units files) new.sight.seen.history old.sight.worker) → IfSome o (λ files. IsHonestWorker (given units files) new.sight.seen.history new.sight.worker)
+    at None keeps = tt
+    at (Some files) keeps = subst (λ (w : WorkerId). IsHonestWorker (given units files) new.sight.seen.history w) (sym worked.keeps.worker) (keeps (subst (λ (h : List Entry). IsHonestWorker (given units files) h old.sight.worker) (sym none) tt))

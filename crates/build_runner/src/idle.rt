@@ -1,0 +1,61 @@
+//! An idle worker: it does what is next until all tasks have ended.
+ghost use Rattle.std.specs.Prelude.{◌≡◌, [], All, OnOk, length, map};
+ghost use Rattle.coordination.specs.Holds.{HoldsNothing};
+ghost use Rattle.build_runner.specs.Kept.{HasClosed, Keeps};
+ghost use Rattle.build_runner.specs.Points.{HasFinishedWork};
+ghost use Rattle.build_runner.specs.Units.{RunsInThread, unit_view};
+
+use crate::choices::{Choice, WhatIsNext};
+use crate::items::help;
+use crate::site::Site;
+use crate::tasks::run_task;
+use coordination::{Halt, Pass};
+use lock_journal::kinds::Skip;
+use run_laws::only_items_are_queued;
+use std::sync::Wait;
+use worker_desk::{Files, Gate};
+
+/// Skips a task, unless it can't be skipped any more.
+fn skip<R: Wait, G>(rt: &R, site: &Site<'_, G>, pass: &mut Pass, task: u32) -> Result<(), Halt>
+    requires service { pass.old.service ≡ site.now.service.now.service }
+    requires rests { HoldsNothing pass.old.sight }
+    ensures service { pass.new.service ≡ pass.old.service }
+    ensures closed { HasClosed [] pass.old.sight pass.new.sight }
+    ensures rests { OnOk result (HoldsNothing pass.new.sight) }
+{
+    site.service.with_state_lock(rt, pass, &Skip { task })?;
+    Ok(())
+}
+
+/// Works until all tasks have ended: claims items, skips tasks and runs tasks.
+///
+/// The worker has nothing then. It fails for want of memory, and where the service was stopped.
+pub(crate) fn work_to_the_end<R: Wait, F: Files, G: Gate>(
+    rt: &R,
+    site: &Site<'_, G>,
+    pass: &mut Pass,
+    desk: &mut F,
+) -> Result<(), Halt>
+    requires service { pass.old.service ≡ site.now.service.now.service }
+    requires graph { pass.old.sight.seen.graph ≡ site.now.graph.now }
+    requires units { site.now.graph.now.units ≡ length site.now.units.now }
+    requires in_thread { All (λ u. RunsInThread (unit_view u)) site.now.units.now }
+    requires rests { HoldsNothing pass.old.sight }
+    ensures service { pass.new.service ≡ pass.old.service }
+    ensures files { F.files desk.new ≡ F.files desk.old }
+    ensures keeps { Keeps (F.files desk.old) (map unit_view site.now.units.now) (F.faults desk.old) (F.faults desk.new) pass.old.sight pass.new.sight }
+    ensures finished { OnOk result (HasFinishedWork pass.new.sight) }
+{
+    // The graph fits, so what is queued is an item.
+    let _ = site.graph.tasks();
+    only_items_are_queued();
+    for _ in rt.forever() {
+        match site.service.ask(rt, pass, &WhatIsNext)? {
+            Choice::Claim(unit) => help(rt, site, pass, desk, unit)?,
+            Choice::Skip(task) => skip(rt, site, pass, task)?,
+            Choice::Start(task) => run_task(rt, site, pass, desk, task)?,
+            Choice::Finish => return Ok(()),
+        }
+    }
+    unreachable!()
+}

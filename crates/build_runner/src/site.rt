@@ -1,0 +1,19 @@
+use crate::units::UnitWork;
+use coordination::Coordination;
+use resource_lock::Graph;
+use std::alloc::Global;
+
+/// What the workers of a run share.
+#[derive(Clone, Copy)]
+pub(crate) struct Site<'a, G> {
+    /// The state lock.
+    pub service: &'a Coordination,
+    /// The graph of the plan.
+    pub graph: &'a Graph,
+    /// The units by their numbers.
+    pub units: &'a [UnitWork<'a>],
+    /// What an item passes before it runs.
+    pub gate: &'a G,
+    /// Where files are read to.
+    pub alloc: Global,
+}

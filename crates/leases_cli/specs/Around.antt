@@ -1,0 +1,29 @@
+-- What a call has of the outside, and which of its desks it may use.
+use Rattle.std.specs.Prelude.{ℕ, List, get_or, Option, None, Some}
+use Rattle.item_actions.specs.Files.{Folder}
+use Rattle.worker_desk.specs.SinkView.{SinkView}
+use Rattle.worker_desk.specs.SourceView.{SourceView}
+use Rattle.command_words.specs.declared.commands.Command.{Command}
+use Rattle.command_words.specs.declared.commands.Command.TheVariants.{Run, Worker}
+use Rattle.daemon_worker.specs.Serving.{Outside}
+
+-- what is known of the source, of the sink, and of the desks: the files that all know, and each desk's count of faults by its number
+pub record Around : Type 0 where
+  pub source : SourceView
+  pub sink : SinkView
+  pub files : Option Folder
+  pub faults : ℕ → ℕ
+
+-- the counts of faults of these desks, by their numbers; d stands for each that isn't there
+abbrev pub counts_of : {D : Type 0} → (D → ℕ) → List D → D → ℕ → ℕ
+counts_of faults desks d i = faults (get_or desks i d)
+
+-- what a worker has of it, at the first desk
+abbrev pub at_first_desk : Around → Outside
+at_first_desk o = record { source = o.source; sink = o.sink; files = o.files; faults = o.faults 0 }
+
+-- so many desks a command may use, the first ones: a run has one for each thread
+abbrev pub desks_used : Option Command → ℕ
+desks_used None = 0
+desks_used (Some (Run asked)) = asked.threads
+desks_used (Some Worker) = 1

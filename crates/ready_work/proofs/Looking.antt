@@ -1,0 +1,103 @@
+-- Sets of numbers of which something holds, as numbers are looked at.
+use Rattle.std.proofs.Common.{◌≡◌, ◌≢◌, ℕ, ◌+◌, ◌<◌, ◌≤◌, Bool, true, false, refl, sym, ◌∙◌, subst, arith, ◌⊎◌, inl, inr}
+use Rattle.std.specs.Prelude.{◌↔◌}
+use Rattle.std.proofs.lemmas.Bool.{cases_eq, true≢false}
+use Rattle.ready_work.specs.NumberSetView.{NumberSetView, has, room_of}
+use Rattle.ready_work.specs.Sets.{IsRightAt, IsSetOf, IsSetBelow, Looks, NoNumber}
+
+-- one number was put where it belongs
+pub looks_put : (P : ℕ → Type 0) (t : ℕ) (b : Bool) (old new : NumberSetView) → room_of new ≡ room_of old → has new t ≡ b → ((k : ℕ) → k ≢ t → has new k ≡ has old k) → ((b ≡ true) ↔ P t) → Looks P (λ k. k ≡ t) old new
+looks_put P t b old new room put others means = record {
+  room = room;
+  seen = λ k e. subst (IsRightAt P new) (sym e) right;
+  kept = λ k. kept k (cases_eq k t);
+}
+  where
+    right : IsRightAt P new t
+    right = (λ h. means.0 (sym put ∙ h), λ p. put ∙ means.1 p)
+
+    kept : (k : ℕ) → (k ≡ t) ⊎ (k ≡ t → ⊥) → (has new k ≡ has old k) ⊎ IsRightAt P new k
+    kept k (inl e) = inr (subst (IsRightAt P new) (sym e) right)
+    kept k (inr ne) = inl (others k ne)
+
+-- nothing was looked at
+pub looks_nowhere : (P Seen : ℕ → Type 0) (set : NumberSetView) → ((k : ℕ) → Seen k → ⊥) → Looks P Seen set set
+looks_nowhere P Seen set none = record { room = refl; seen = λ k s. absurd (none k s); kept = λ k. inl refl }
+
+-- what was right stays right
+carried : (P : ℕ → Type 0) (old new : NumberSetView) (k : ℕ) → (has new k ≡ has old k) ⊎ IsRightAt P new k → IsRightAt P old k → IsRightAt P new k
+carried P old new k (inl same) right = (λ h. right.0 (sym same ∙ h), λ p. same ∙ right.1 p)
+carried P old new k (inr right) _ = right
+
+-- numbers were looked at, and then others
+pub looks_then : (P A B Both : ℕ → Type 0) (old mid new : NumberSetView) → ((k : ℕ) → Both k → A k ⊎ B k) → Looks P A old mid → Looks P B mid new → Looks P Both old new
+looks_then P A B Both old mid new cover first second = record {
+  room = second.room ∙ first.room;
+  seen = λ k both. seen k (cover k both);
+  kept = λ k. kept k (first.kept k) (second.kept k);
+}
+  where
+    seen : (k : ℕ) → A k ⊎ B k → IsRightAt P new k
+    seen k (inl a) = carried P mid new k (second.kept k) (first.seen k a)
+    seen k (inr b) = second.seen k b
+
+    kept : (k : ℕ) → (has mid k ≡ has old k) ⊎ IsRightAt P mid k → (has new k ≡ has mid k) ⊎ IsRightAt P new k → (has new k ≡ has old k) ⊎ IsRightAt P new k
+    kept k (inl same) (inl also) = inl (also ∙ same)
+    kept k (inl same) (inr right) = inr right
+    kept k (inr right) also = inr (carried P mid new k also right)
+
+pub looks_fewer : (P A B : ℕ → Type 0) (old new : NumberSetView) → ((k : ℕ) → B k → A k) → Looks P A old new → Looks P B old new
+looks_fewer P A B old new fewer looks = record { room = looks.room; seen = λ k b. looks.seen k (fewer k b); kept = looks.kept }
+
+-- what was left open and then looked at is right
+pub set_looked : (P Before Seen After : ℕ → Type 0) (old new : NumberSetView) → ((k : ℕ) → Before k → Seen k ⊎ After k) → Looks P Seen old new → IsSetOf P Before old → IsSetOf P After new
+set_looked P Before Seen After old new cover looks is = record { each = λ k. at k (is.each k) }
+  where
+    seen : (k : ℕ) → Seen k ⊎ After k → After k ⊎ IsRightAt P new k
+    seen k (inl s) = inr (looks.seen k s)
+    seen k (inr a) = inl a
+
+    at : (k : ℕ) → Before k ⊎ IsRightAt P old k → After k ⊎ IsRightAt P new k
+    at k (inl b) = seen k (cover k b)
+    at k (inr right) = inr (carried P old new k (looks.kept k) right)
+
+-- a set of the numbers of which something holds is one of those of which the same holds, but where that differs
+pub set_moved : (P Q Open : ℕ → Type 0) (set : NumberSetView) → ((k : ℕ) → Open k ⊎ (P k ↔ Q k)) → IsSetOf P NoNumber set → IsSetOf Q Open set
+set_moved P Q Open set same is = record { each = λ k. at k (same k) (is.each k) }
+  where
+    at : (k : ℕ) → Open k ⊎ (P k ↔ Q k) → NoNumber k ⊎ IsRightAt P set k → Open k ⊎ IsRightAt Q set k
+    at k (inl open') _ = inl open'
+    at k (inr eq) (inl none) = absurd none
+    at k (inr eq) (inr right) = inr (λ h. eq.0 (right.0 h), λ q. right.1 (eq.1 q))
+
+pub set_closed : (P Open After : ℕ → Type 0) (set : NumberSetView) → ((k : ℕ) → Open k → After k) → IsSetOf P Open set → IsSetOf P After set
+set_closed P Open After set close is = record { each = λ k. at k (is.each k) }
+  where
+    at : (k : ℕ) → Open k ⊎ IsRightAt P set k → After k ⊎ IsRightAt P set k
+    at k (inl o) = inl (close k o)
+    at k (inr right) = inr right
+
+-- ---- all numbers are looked at, one after another
+
+pub none_below : (P : ℕ → Type 0) (set : NumberSetView) → ((k : ℕ) → has set k ≡ false) → IsSetBelow P 0 set
+none_below P set none = record { each = λ k. inl (omega arith, none k) }
+
+pub one_below : (P : ℕ → Type 0) (n : ℕ) (old new : NumberSetView) → Looks P (λ k. k ≡ n) old new → IsSetBelow P n old → IsSetBelow P (n + 1) new
+one_below P n old new looks is = record { each = λ k. at k (cases_eq k n) (is.each k) }
+  where
+    from : (k : ℕ) → n + 1 ≤ k → has old k ≡ false → (has new k ≡ has old k) ⊎ IsRightAt P new k → ((n + 1 ≤ k) × (has new k ≡ false)) ⊎ IsRightAt P new k
+    from k le none (inl same) = inl (le, same ∙ none)
+    from k le none (inr right) = inr right
+
+    at : (k : ℕ) → (k ≡ n) ⊎ (k ≡ n → ⊥) → ((n ≤ k) × (has old k ≡ false)) ⊎ IsRightAt P old k → ((n + 1 ≤ k) × (has new k ≡ false)) ⊎ IsRightAt P new k
+    at k (inl e) _ = inr (looks.seen k e)
+    at k (inr ne) (inl open') = let le = open'.0 in from k (omega arith) open'.1 (looks.kept k)
+    at k (inr ne) (inr right) = inr (carried P old new k (looks.kept k) right)
+
+-- none is left behind the last
+pub all_below : (P : ℕ → Type 0) (n : ℕ) (set : NumberSetView) → ((k : ℕ) → P k → k < n) → IsSetBelow P n set → IsSetOf P NoNumber set
+all_below P n set within is = record { each = λ k. inr (at k (is.each k)) }
+  where
+    at : (k : ℕ) → ((n ≤ k) × (has set k ≡ false)) ⊎ IsRightAt P set k → IsRightAt P set k
+    at k (inl open') = (λ h. absurd (true≢false (sym h ∙ open'.1)), λ p. let lt = within k p in let le = open'.0 in absurd (omega arith))
+    at k (inr right) = right

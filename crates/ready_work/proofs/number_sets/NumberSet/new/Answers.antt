@@ -1,0 +1,18 @@
+use Rattle.std.proofs.Common.{arith}
+use Rattle.ready_work.proofs.Sets.{has_room, none_has, summarizes_none}
+use Rattle.ready_work.proofs.number_sets.NumberSet.new.Goals as goal
+
+pub invariant_of-result : goal.invariant_of-result
+invariant_of-result c =
+    let len = c.ranges.len.fits in
+    let few = c.in_ok-members.ensures.few in
+    let few_filled = c.in_ok-filled.ensures.few in
+    let count = c.word_count.ensures in
+    let room = c.in_ok-filled.ensures.room in
+    summarizes_none c.in_ok-members.members.words.items c.in_ok-filled.filled.words.items (omega arith) (omega arith) (omega arith) c.in_ok-members.ensures.clear c.in_ok-filled.ensures.clear
+
+pub returns-clause-room : goal.returns-clause-room
+returns-clause-room c = has_room (record { words = c.in_ok-members.members.words.items }) c.args.len c.in_ok-members.ensures.room
+
+pub returns-clause-empty : goal.returns-clause-empty
+returns-clause-empty c = none_has (record { words = c.in_ok-members.members.words.items }) c.in_ok-members.ensures.clear

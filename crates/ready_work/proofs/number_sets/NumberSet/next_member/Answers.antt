@@ -1,0 +1,38 @@
+use Rattle.std.proofs.Common.{◌≡◌, List, ◌<◌, ◌+◌, ◌*◌, ◌^◌, ℕ, w64, sym, subst, arith}
+use Rattle.std.specs.Int.{trailing_zeros}
+use Rattle.ready_work.specs.Lowest.{IsFrom, IsLowest, IsNone}
+use Rattle.ready_work.specs.NumberSetView.{NumberSetView, IsMember}
+use Rattle.ready_work.specs.WordBits.{HasBit}
+use Rattle.ready_work.proofs.Sets.{if_none, lowest_filled, lowest_member, no_member, none_filled, number_fits}
+use Rattle.ready_work.proofs.number_sets.NumberSet.next_member.Goals as goal
+
+-- the next bit is the next member
+shown : (words : List ℕ) (set : NumberSetView) (from n : ℕ) → record { words = words } ≡ set → IsLowest (IsFrom from (HasBit words)) n → IsLowest (IsFrom from (IsMember set)) n
+shown words set from n is low = subst (λ (set : NumberSetView). IsLowest (IsFrom from (IsMember set)) n) is (lowest_member (record { words = words }) from n low)
+
+pub returns-in-Some-clause-some : goal.returns-in-Some-clause-some
+returns-in-Some-clause-some c = shown c.self.inside.members.words.items c.args.self.now c.args.from c.in-Some.number c.self.view_is c.in-Some.ensures.some
+
+pub returns-in_err-place-clause-none : goal.returns-in_err-place-clause-none
+returns-in_err-place-clause-none c = if_none (IsNone (IsFrom c.args.from (IsMember c.args.self.now))) c.from_residual.result
+    (subst (λ (set : NumberSetView). IsNone (IsFrom c.args.from (IsMember set))) c.self.view_is
+    (no_member (record { words = c.self.inside.members.words.items }) c.args.from
+    (none_filled c.self.inside.members.words.items c.self.inside.filled.words.items c.args.from c.self.invariant c.in_default.ensures.none c.in_err-place.ensures.none)))
+
+-- the lowest bit of the next word that isn't 0
+low : (c : goal.After-word) → IsLowest (IsFrom c.args.from (HasBit c.self.inside.members.words.items)) (c.in_ok-place.place * 64 + trailing_zeros w64 c.word.result)
+low c =
+    let fits : c.word.result < 2 ^ 64 = c.word.type_inv in
+    subst (λ (w : ℕ). IsLowest (IsFrom c.args.from (HasBit c.self.inside.members.words.items)) (c.in_ok-place.place * 64 + trailing_zeros w64 w)) (sym c.word.ensures)
+    (lowest_filled c.self.inside.members.words.items c.self.inside.filled.words.items c.args.from c.in_ok-place.place c.self.invariant c.in_default.ensures.none c.in_ok-place.ensures.some (subst (λ (w : ℕ). w < 2 ^ 64) c.word.ensures fits))
+
+pub overflow_add-result : goal.overflow_add-result
+overflow_add-result c =
+    let fits = number_fits c.self.inside.members.words.items c.self.inside.filled.words.items (c.in_ok-place.place * 64 + trailing_zeros w64 c.word.result) c.self.invariant (low c).is.such in
+    omega arith
+
+pub returns-clause-few : goal.returns-clause-few
+returns-clause-few c = number_fits c.self.inside.members.words.items c.self.inside.filled.words.items (c.in_ok-place.place * 64 + trailing_zeros w64 c.word.result) c.self.invariant (low c).is.such
+
+pub returns-clause-some : goal.returns-clause-some
+returns-clause-some c = shown c.self.inside.members.words.items c.args.self.now c.args.from (c.in_ok-place.place * 64 + trailing_zeros w64 c.word.result) c.self.view_is (low c)

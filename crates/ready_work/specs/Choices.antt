@@ -1,0 +1,42 @@
+-- Which unit is queued, which task can be skipped or started, and which unit or task hasn't ended.
+use Rattle.std.specs.Prelude.{ℕ, ◌≡◌, ◌<◌, true, false, None, length}
+use Rattle.std.specs.List.{list_any, list_all}
+use Rattle.resource_lock.specs.GraphView.{GraphView, task_of}
+use Rattle.resource_lock.specs.StateView.{StateView, mark_of, owner_of}
+use Rattle.resource_lock.specs.declared.marks.Mark.TheVariants.{Waiting, Queued}
+use Rattle.resource_lock.specs.declared.marks.MarkId.TheVariants.{Task as TaskOf, Unit as UnitOf}
+use Rattle.resource_lock.specs.Marks.{has_passed, has_fallen, has_ended}
+
+-- the unit is Queued
+pub record IsQueued (g : GraphView) (s : StateView) (u : ℕ) : Type 0 where
+  pub within : u < g.units
+  pub queued : mark_of s (UnitOf u) ≡ Queued
+
+-- the unit hasn't ended
+pub record IsOpenUnit (g : GraphView) (s : StateView) (u : ℕ) : Type 0 where
+  pub within : u < g.units
+  pub unended : has_ended (mark_of s (UnitOf u)) ≡ false
+
+-- it waits, and one that it comes after failed or was skipped
+pub record CanSkip (g : GraphView) (s : StateView) (t : ℕ) : Type 0 where
+  pub within : t < length g.tasks
+  pub waits : mark_of s (TaskOf t) ≡ Waiting
+  pub fallen : list_any (λ k. has_fallen (mark_of s (TaskOf k))) (task_of g t).after ≡ true
+
+-- it waits, and each that it comes after has passed
+pub record IsStartable (g : GraphView) (s : StateView) (t : ℕ) : Type 0 where
+  pub within : t < length g.tasks
+  pub waits : mark_of s (TaskOf t) ≡ Waiting
+  pub passed : list_all (λ k. has_passed (mark_of s (TaskOf k))) (task_of g t).after ≡ true
+
+-- it waits, each that it comes after has passed, and nobody owns its lock
+pub record CanStart (g : GraphView) (s : StateView) (t : ℕ) : Type 0 where
+  pub within : t < length g.tasks
+  pub waits : mark_of s (TaskOf t) ≡ Waiting
+  pub passed : list_all (λ k. has_passed (mark_of s (TaskOf k))) (task_of g t).after ≡ true
+  pub free : owner_of s (task_of g t).lock ≡ None
+
+-- the task hasn't ended
+pub record IsUnended (g : GraphView) (s : StateView) (t : ℕ) : Type 0 where
+  pub within : t < length g.tasks
+  pub unended : has_ended (mark_of s (TaskOf t)) ≡ false

@@ -1,0 +1,9 @@
+pub mod Lowest
+pub mod WordBits
+pub mod NumberSetView
+pub mod NumberSet
+pub mod Sets
+pub mod Choices
+pub mod TaskSets
+pub mod Dependents
+pub mod ReadyWork

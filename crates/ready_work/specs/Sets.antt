@@ -1,0 +1,24 @@
+-- What a set has to do with the numbers of which something holds.
+use Rattle.std.specs.Prelude.{ℕ, ◌≡◌, ◌⊎◌, ◌↔◌, ◌≤◌, true, false}
+use Rattle.ready_work.specs.NumberSetView.{NumberSetView, has, room_of}
+
+-- whether a number is a member says whether it holds of it
+abbrev pub IsRightAt : (ℕ → Type 0) → NumberSetView → ℕ → Type 0
+IsRightAt P set k = (has set k ≡ true) ↔ P k
+
+-- The members are the numbers of which it holds, but for numbers that are left open.
+pub record IsSetOf (P Open : ℕ → Type 0) (set : NumberSetView) : Type 0 where
+  pub each : (k : ℕ) → Open k ⊎ IsRightAt P set k
+
+abbrev pub NoNumber : ℕ → Type 0
+NoNumber k = ⊥
+
+-- The numbers from this one on aren't members yet; the members below are those of which it holds.
+pub record IsSetBelow (P : ℕ → Type 0) (n : ℕ) (set : NumberSetView) : Type 0 where
+  pub each : (k : ℕ) → ((n ≤ k) × (has set k ≡ false)) ⊎ IsRightAt P set k
+
+-- The set is right at the numbers that were seen, and as before or right at others.
+pub record Looks (P Seen : ℕ → Type 0) (old new : NumberSetView) : Type 0 where
+  pub room : room_of new ≡ room_of old
+  pub seen : (k : ℕ) → Seen k → IsRightAt P new k
+  pub kept : (k : ℕ) → (has new k ≡ has old k) ⊎ IsRightAt P new k

@@ -1,0 +1,111 @@
+//! Bits in words.
+ghost use Rattle.std.specs.Int.{bit_at};
+ghost use Rattle.std.specs.Prelude.{◌≡◌, ◌≢◌, ◌<◌, ◌≤◌, ◌+◌, ◌*◌, ◌/◌, ◌^◌, ℕ, IfNone, IfOk, IfSome, length, slice_index_or};
+ghost use Rattle.ready_work.specs.Lowest.{IsFrom, IsLowest, IsNone};
+ghost use Rattle.ready_work.specs.WordBits.{bit_in, bit_of, HasBit, IsInWord};
+
+use std::alloc::{AllocError, Global};
+
+/// Bits, numbered through all words.
+#[derive(Debug, Drop)]
+pub(crate) struct Bits {
+    words: Vec<u64>,
+}
+
+impl Bits {
+    /// Bits that are all clear, as many as are asked for or a few more.
+    pub(crate) fn clear(alloc: Global, len: usize) -> Result<Bits, AllocError>
+        ensures room { IfOk result (λ bits. len ≤ 64 * length bits.words.items) }
+        ensures few { IfOk result (λ bits. 64 * length bits.words.items < len + 64) }
+        ensures clear { IfOk result (λ bits. (i : ℕ) → slice_index_or bits.words.items i 0 ≡ 0) }
+    {
+        let words = vec![in alloc; 0; len.div_ceil(64)]?;
+        Ok(Bits { words })
+    }
+
+    /// How many words there are.
+    pub(crate) fn word_count(&self) -> usize
+        ensures { result ≡ length self.now.words.items }
+    {
+        self.words.len()
+    }
+
+    /// The word at a place.
+    pub(crate) fn word(&self, place: usize) -> u64
+        requires { place < length self.now.words.items }
+        ensures { result ≡ slice_index_or self.now.words.items place 0 }
+    {
+        self.words[place]
+    }
+
+    /// Sets a bit, or clears it.
+    pub(crate) fn put(&mut self, number: usize, is_set: bool)
+        requires { number / 64 < length self.old.words.items }
+        ensures size { length self.new.words.items ≡ length self.old.words.items }
+        ensures put { bit_in self.new.words.items number ≡ bit_of is_set }
+        ensures bits { (k : ℕ) → k ≢ number → bit_in self.new.words.items k ≡ bit_in self.old.words.items k }
+        ensures words { (i : ℕ) → i ≢ number / 64 → slice_index_or self.new.words.items i 0 ≡ slice_index_or self.old.words.items i 0 }
+    {
+        let word = &mut self.words[number / 64];
+        *word = with_bit(*word, number % 64, is_set);
+    }
+
+    /// The lowest bit from a number on that is set.
+    pub(crate) fn next_from(&self, from: usize) -> Option<usize>
+        requires { length self.now.words.items ≤ 2 ^ 26 }
+        ensures some { IfSome result (IsLowest (IsFrom from (HasBit self.now.words.items))) }
+        ensures none { IfNone result (IsNone (IsFrom from (HasBit self.now.words.items))) }
+    {
+        let first = self.next_in_word(from);
+        if first.is_some() {
+            return first;
+        }
+        for place in from / 64 + 1..self.words.len() {
+            let next = self.next_in_word(place * 64);
+            if next.is_some() {
+                return next;
+            }
+        }
+        None
+    }
+
+    /// The lowest bit from a number on that is set in the number's own word.
+    pub(crate) fn next_in_word(&self, from: usize) -> Option<usize>
+        requires { length self.now.words.items ≤ 2 ^ 26 }
+        ensures word { IfSome result (λ k. k / 64 ≡ from / 64) }
+        ensures some { IfSome result (IsLowest (IsFrom from (HasBit self.now.words.items))) }
+        ensures none { IfNone result (IsNone (IsFrom from (IsInWord self.now.words.items (from / 64)))) }
+    {
+        let place = from / 64;
+        if place >= self.words.len() {
+            return None;
+        }
+        let rest = bits_from(self.words[place], from % 64);
+        if rest == 0 {
+            return None;
+        }
+        Some(place * 64 + rest.trailing_zeros() as usize)
+    }
+}
+
+/// The word with the bits below a place cleared.
+fn bits_from(word: u64, place: usize) -> u64
+    requires { place < 64 }
+    ensures below { (i : ℕ) → i < place → bit_at result i ≡ 0 }
+    ensures from { (i : ℕ) → i < 64 → place ≤ i → bit_at result i ≡ bit_at word i }
+{
+    word & (u64::MAX << place)
+}
+
+/// The word with one bit set or cleared.
+fn with_bit(word: u64, place: usize, is_set: bool) -> u64
+    requires { place < 64 }
+    ensures put { bit_at result place ≡ bit_of is_set }
+    ensures others { (i : ℕ) → i < 64 → i ≢ place → bit_at result i ≡ bit_at word i }
+{
+    if is_set {
+        word | (1 << place)
+    } else {
+        word & !(1 << place)
+    }
+}

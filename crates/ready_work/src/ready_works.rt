@@ -1,0 +1,176 @@
+//! The index of what can be done next, which follows the changes of a state.
+ghost use Rattle.std.specs.Prelude.{◌≡◌, ◌↔◌, ◌<◌, ◌≤◌, ℕ, All, IfNone, IfOk, IfSome, IsTrue, List, length, true};
+ghost use Rattle.resource_lock.specs.Change.{NamesOnly};
+ghost use Rattle.resource_lock.specs.GraphView.{GraphView};
+ghost use Rattle.resource_lock.specs.Marks.{has_ended};
+ghost use Rattle.resource_lock.specs.Shape.{BelongsTo};
+ghost use Rattle.resource_lock.specs.StateView.{StateView};
+ghost use Rattle.resource_lock.specs.declared.ids.WorkerId.{WorkerId};
+ghost use Rattle.resource_lock.specs.declared.changes.Change.TheVariants.{Move};
+ghost use Rattle.resource_lock.specs.declared.marks.MarkId.TheVariants as ids;
+ghost use Rattle.ready_work.specs.Choices.{CanSkip, CanStart, IsOpenUnit, IsQueued};
+ghost use Rattle.ready_work.specs.Lowest.{IsFrom, IsLowest, IsNone};
+ghost use Rattle.ready_work.specs.NumberSetView.{room_of};
+ghost use Rattle.ready_work.specs.ReadyWork.{Follows, IsIndexOf, IsMadeFor, Notes, TouchesTask};
+ghost use Rattle.ready_work.specs.Sets.{IsSetOf, NoNumber};
+ghost use Rattle.ready_work.specs.TaskSets.{LooksAt};
+
+use crate::choices::{is_open, is_queued, lock_is_free};
+use crate::dependents::all_dependents;
+use crate::number_sets::NumberSet;
+use crate::task_sets::TaskSets;
+use resource_lock::{Change, Graph, Mark, MarkId, State};
+use std::alloc::{AllocError, Global};
+use task_ranks::dependents_at;
+
+/// The units that are queued, the tasks that can be skipped or started, and the units and tasks
+/// that haven't ended, of a graph and its state. It takes memory only when it is made.
+#[derive(Debug, Drop)]
+pub struct ReadyWork {
+    queued: NumberSet,
+    /// The units that haven't ended.
+    open_units: NumberSet,
+    tasks: TaskSets,
+    /// For each task, the tasks that come after it.
+    dependents: Vec<Vec<usize>>,
+}
+
+impl ReadyWork {
+    /// The index of a graph and its state.
+    pub fn of(alloc: Global, graph: &Graph, state: &State) -> Result<ReadyWork, AllocError>
+        requires { BelongsTo graph.now state.now }
+        ensures { IfOk result (IsIndexOf graph.now state.now) }
+    {
+        let queued = queued_units(alloc, graph, state)?;
+        let open_units = open_units(alloc, graph, state)?;
+        let tasks = TaskSets::of(alloc, graph, state)?;
+        let dependents = all_dependents(alloc, graph)?;
+        Ok(ReadyWork {
+            queued,
+            open_units,
+            tasks,
+            dependents,
+        })
+    }
+
+    /// Follows changes of a worker, from the state before them to this one after them. It takes no
+    /// memory, and looks only at what the changes touch.
+    pub fn follow(&mut self, graph: &Graph, state: &State, changes: &[Change])
+        requires { (before : StateView) × (w : WorkerId) × Follows graph.now before w changes.now state.now self.old }
+        ensures { IsIndexOf graph.now state.now self.new }
+    {
+        for change in changes {
+            self.note(graph, state, *change);
+        }
+    }
+
+    /// The lowest unit that is queued.
+    pub fn first_queued(&self) -> Option<u32>
+        ensures some { (g : GraphView) (s : StateView) → IsIndexOf g s self.now → IfSome result (IsLowest (IsQueued g s)) }
+        ensures none { (g : GraphView) (s : StateView) → IsIndexOf g s self.now → IfNone result (IsNone (IsQueued g s)) }
+    {
+        self.queued.first()
+    }
+
+    /// The lowest unit from a number on that hasn't ended.
+    pub fn first_open_unit(&self, from: u32) -> Option<u32>
+        ensures some { (g : GraphView) (s : StateView) → IsIndexOf g s self.now → IfSome result (IsLowest (IsFrom from (IsOpenUnit g s))) }
+        ensures none { (g : GraphView) (s : StateView) → IsIndexOf g s self.now → IfNone result (IsNone (IsFrom from (IsOpenUnit g s))) }
+    {
+        self.open_units.next_from(from)
+    }
+
+    /// The lowest task that can be skipped.
+    pub fn first_to_skip(&self) -> Option<u32>
+        ensures some { (g : GraphView) (s : StateView) → IsIndexOf g s self.now → IfSome result (IsLowest (CanSkip g s)) }
+        ensures none { (g : GraphView) (s : StateView) → IsIndexOf g s self.now → IfNone result (IsNone (CanSkip g s)) }
+    {
+        self.tasks.skippable.first()
+    }
+
+    /// The lowest task that can be started: whose marks allow it, and whose lock nobody owns.
+    pub fn first_to_start(&self, graph: &Graph, state: &State) -> Option<u32>
+        requires belongs { BelongsTo graph.now state.now }
+        requires index { IsIndexOf graph.now state.now self.now }
+        ensures some { IfSome result (IsLowest (CanStart graph.now state.now)) }
+        ensures none { IfNone result (IsNone (CanStart graph.now state.now)) }
+    {
+        let mut from = 0;
+        while let Some(task) = self.tasks.startable.next_from(from) {
+            if lock_is_free(graph, state, task) {
+                return Some(task);
+            }
+            from = task + 1;
+        }
+        None
+    }
+
+    /// Whether each task has ended.
+    pub fn all_ended(&self) -> bool
+        ensures { (g : GraphView) (s : StateView) → BelongsTo g s → IsIndexOf g s self.now
+            → IsTrue result ↔ All (λ m. has_ended m ≡ true) s.tasks }
+    {
+        self.tasks.unended.first().is_none()
+    }
+
+    /// Looks at what a change touches, in the state that all changes lead to.
+    fn note(&mut self, graph: &Graph, state: &State, change: Change)
+        requires made { IsMadeFor graph.now self.old }
+        requires belongs { BelongsTo graph.now state.now }
+        requires named { NamesOnly state.now change }
+        ensures { Notes graph.now state.now change self.old self.new }
+    {
+        match change {
+            Change::Move(MarkId::Unit(unit), _, _) => {
+                self.queued.put(unit, is_queued(state, unit));
+                self.open_units.put(unit, is_open(state, unit));
+            }
+            Change::Move(MarkId::Task(task), from, to) => self.note_task(
+                graph, state, task, from, to,
+            ),
+            _ => {}
+        }
+    }
+
+    /// Looks at a task whose mark has moved, and at its dependents where it came to its end or
+    /// left it.
+    fn note_task(&mut self, graph: &Graph, state: &State, task: u32, from: Mark, to: Mark)
+        requires made { IsMadeFor graph.now self.old }
+        requires belongs { BelongsTo graph.now state.now }
+        requires within { task < length graph.now.tasks }
+        ensures tasks { LooksAt graph.now state.now (TouchesTask graph.now (Move (ids.Task task) from to)) self.old.tasks self.new.tasks }
+        ensures same { self.new ≡ record self.old { tasks = self.new.tasks } }
+    {
+        self.tasks.look_at(graph, state, task);
+        if from.has_ended() || to.has_ended() {
+            let dependents = dependents_at(&self.dependents, task as usize);
+            self.tasks.look_at_all(graph, state, dependents);
+        }
+    }
+}
+
+/// The units that are queued.
+fn queued_units(alloc: Global, graph: &Graph, state: &State) -> Result<NumberSet, AllocError>
+    requires { BelongsTo graph.now state.now }
+    ensures set { IfOk result (IsSetOf (IsQueued graph.now state.now) NoNumber) }
+    ensures room { IfOk result (λ set. graph.now.units ≤ room_of set) }
+{
+    let mut queued = NumberSet::new(alloc, graph.units())?;
+    for unit in 0..graph.units() {
+        queued.put(unit, is_queued(state, unit));
+    }
+    Ok(queued)
+}
+
+/// The units that haven't ended.
+fn open_units(alloc: Global, graph: &Graph, state: &State) -> Result<NumberSet, AllocError>
+    requires { BelongsTo graph.now state.now }
+    ensures set { IfOk result (IsSetOf (IsOpenUnit graph.now state.now) NoNumber) }
+    ensures room { IfOk result (λ set. graph.now.units ≤ room_of set) }
+{
+    let mut unended = NumberSet::new(alloc, graph.units())?;
+    for unit in 0..graph.units() {
+        unended.put(unit, is_open(state, unit));
+    }
+    Ok(unended)
+}

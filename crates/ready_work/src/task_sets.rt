@@ -1,0 +1,66 @@
+//! The sets of tasks.
+ghost use Rattle.std.specs.Prelude.{◌≡◌, ◌<◌, All, Contains, IfOk, length};
+ghost use Rattle.resource_lock.specs.Fits.{Fits};
+ghost use Rattle.resource_lock.specs.Shape.{BelongsTo};
+ghost use Rattle.ready_work.specs.Sets.{NoNumber};
+ghost use Rattle.ready_work.specs.TaskSets.{AreTaskSets, AreTaskSetsBelow, HasTaskRoom, LooksAt};
+
+use crate::choices::{can_skip, is_startable};
+use crate::number_sets::NumberSet;
+use resource_lock::{Graph, MarkId, State};
+use std::alloc::{AllocError, Global};
+
+/// The tasks that can be skipped, those that can be started, and those that haven't ended.
+#[derive(Debug, Drop)]
+pub(crate) struct TaskSets {
+    pub(crate) skippable: NumberSet,
+    pub(crate) startable: NumberSet,
+    pub(crate) unended: NumberSet,
+}
+
+impl TaskSets {
+    /// The sets of a state.
+    pub(crate) fn of(alloc: Global, graph: &Graph, state: &State) -> Result<TaskSets, AllocError>
+        requires { BelongsTo graph.now state.now }
+        ensures sets { IfOk result (AreTaskSets graph.now state.now NoNumber) }
+        ensures room { IfOk result (HasTaskRoom (length graph.now.tasks)) }
+        ensures fits { Fits graph.now }
+    {
+        let count = graph.tasks().len() as u32;
+        let mut sets = TaskSets {
+            skippable: NumberSet::new(alloc, count)?,
+            startable: NumberSet::new(alloc, count)?,
+            unended: NumberSet::new(alloc, count)?,
+        };
+        for task in 0..count {
+            sets.look_at(graph, state, task);
+        }
+        Ok(sets)
+    }
+
+    /// Puts a task into the sets where it belongs, and into no other.
+    pub(crate) fn look_at(&mut self, graph: &Graph, state: &State, task: u32)
+        requires within { task < length graph.now.tasks }
+        requires belongs { BelongsTo graph.now state.now }
+        requires room { HasTaskRoom (length graph.now.tasks) self.old }
+        ensures { LooksAt graph.now state.now (λ k. k ≡ task) self.old self.new }
+    {
+        self.skippable.put(task, can_skip(graph, state, task));
+        self.startable.put(task, is_startable(graph, state, task));
+        let has_ended = state.mark(MarkId::Task(task)).has_ended();
+        self.unended.put(task, !has_ended);
+    }
+
+    /// Looks at several tasks.
+    pub(crate) fn look_at_all(&mut self, graph: &Graph, state: &State, tasks: &[usize])
+        requires fits { Fits graph.now }
+        requires within { All (λ k. k < length graph.now.tasks) tasks.now }
+        requires belongs { BelongsTo graph.now state.now }
+        requires room { HasTaskRoom (length graph.now.tasks) self.old }
+        ensures { LooksAt graph.now state.now (Contains tasks.now) self.old self.new }
+    {
+        for task in tasks {
+            self.look_at(graph, state, *task as u32);
+        }
+    }
+}

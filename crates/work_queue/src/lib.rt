@@ -1,0 +1,9 @@
+//! What a worker does with an item that it has claimed.
+#![tactic(auto)]
+
+mod items;
+
+pub use items::run_item;
+
+#[cfg(test)]
+mod tests;
