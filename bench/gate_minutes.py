@@ -3,7 +3,7 @@
 
 Starts `rt ci` with the given words in the current folder, passes its output through, and looks twice a second at the
 processes below it, each of which works for one crate. At the end it prints a table, the longest crate first, and ends
-with the status of `rt ci`. What an earlier run passed is kept on this machine and takes no time: with --anew all is done.
+with the status of `rt ci`. At the signal USR1 it prints the table so far. What an earlier run passed is kept on this machine and takes no time: with --anew all is done.
 Not part of the gate. Works on Linux alone.
 
     bench/gate_minutes.py [--anew] [CRATE..]
@@ -14,6 +14,7 @@ import os
 import pathlib
 import re
 import resource
+import signal
 import subprocess
 import sys
 import time
@@ -103,7 +104,7 @@ def whole(number: int, found: dict[int, Process], below: dict[int, list[int]]) -
     return found[number].seconds + sum(whole(child, found, below) for child in below[number])
 
 
-def print_table(crates: dict[str, dict[str, float]], all_seconds: float, passed: float) -> None:
+def print_table(crates: dict[str, dict[str, float]], all_seconds: float | None, passed: float) -> None:
     def row(name: str, kinds: list[float]) -> None:
         print("| " + " | ".join([name, *(f"{seconds / 60:.1f}" for seconds in (*kinds, sum(kinds)))]) + " |")
 
@@ -114,6 +115,9 @@ def print_table(crates: dict[str, dict[str, float]], all_seconds: float, passed:
         row(name, rows[name])
     row("all", [sum(column) for column in zip(*rows.values())] or [0.0] * len(KINDS))
     seen = sum(map(sum, rows.values()))
+    if all_seconds is None:
+        print(f"\nMinutes of a processor, after {passed / 60:.1f} minutes.", flush=True)
+        return
     print(
         f"\nMinutes of a processor. rt ci took {all_seconds / 60:.1f} of them in {passed / 60:.1f} minutes; the"
         f" {(all_seconds - seen) / 60:.1f} that aren't in the table are its own work and what ended unseen."
@@ -128,6 +132,7 @@ def main() -> None:
     start = time.monotonic()
     gate = subprocess.Popen(["rt", "ci", *sys.argv[1:]])
     sampler = Sampler()
+    signal.signal(signal.SIGUSR1, lambda *_: print_table(sampler.by_crate(), None, time.monotonic() - start))
     while gate.poll() is None:
         sampler.look(gate.pid)
         time.sleep(INTERVAL)
