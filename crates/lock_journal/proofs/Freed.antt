@@ -1,9 +1,9 @@
 -- The locks that a worker owns, given back one after another.
-use Rattle.std.proofs.Common.{◌≡◌, ◌≢◌, ℕ, ◌<◌, ◌≤◌, ◌+◌, ◌-◌, length, take, drop, List, [], ◌∷◌, ◌++◌, map, Bool, true, false, ◌&&◌, get_or, cond, refl, sym, ◌∙◌, ap, subst, arith, Option, None, inl, inr}
+use Rattle.std.proofs.Common.{◌≡◌, ◌≢◌, ℕ, ◌<◌, ◌≤◌, ◌+◌, length, take, drop, List, [], ◌∷◌, ◌++◌, map, Bool, true, false, ◌&&◌, get_or, cond, refl, sym, ◌∙◌, ap, subst, arith, Option, None, inl, inr}
 use Rattle.std.specs.List.{AllByRecursion, slice_index_or}
 use Rattle.std.proofs.Math.Bool.{and-true}
 use Rattle.std.proofs.lemmas.Bool.{and_from, cases_Bool}
-use Rattle.std.proofs.lemmas.List.{append_assoc, append-nil, length-append, length-map, length-take-le, map-append, take_all, take_more, take-append-drop, drop_more, length-drop, drop-set-lt, get_or-set_other}
+use Rattle.std.proofs.lemmas.List.{length-append, length-map, length-take-le, map-append, take_all, take_more, take-append-drop, drop_more, length-drop, drop-set-lt, get_or-set_other}
 use Rattle.resource_lock.specs.StateView.{StateView, Holding, empty_holding, holding_of, owner_of, is_owner, owns}
 use Rattle.resource_lock.specs.Change.{make, make_all, can_all}
 use Rattle.resource_lock.specs.GraphView.{GraphView}

@@ -12,3 +12,5 @@ pub mod Taken
 pub mod Freed
 pub mod TakenUp
 pub mod SetDown
+mod Admitting
+mod SameChanges

@@ -1,5 +1,5 @@
 -- A history with one more entry, what it leads to, and the book that has it.
-use Rattle.std.proofs.Common.{◌≡◌, List, [], ◌∷◌, ◌++◌, refl, sym, ◌∙◌, ap, subst}
+use Rattle.std.proofs.Common.{◌≡◌, ◌≤◌, List, [], ◌∷◌, ◌++◌, refl, sym, ◌∙◌, ap, subst}
 use Rattle.std.specs.List.{All}
 use Rattle.std.proofs.lemmas.List.Elements.{All-push}
 use Rattle.resource_lock.specs.StateView.{StateView}
@@ -11,6 +11,7 @@ use Rattle.lock_journal.specs.Allowed.{Allowed, lawful_from, Lawful}
 use Rattle.lock_journal.specs.Bounds.{IsFitKind}
 use Rattle.lock_journal.specs.Book.{IsSound}
 use Rattle.lock_journal.specs.declared.books.Book.TheInside.{Inside}
+use Rattle.lock_journal.specs.declared.kinds.admitting.TheConstants.{MAX_CHANGES}
 
 pub replay_from-push : (s : StateView) (h : List Entry) (e : Entry) → replay_from s (h ++ e ∷ []) ≡ effect (replay_from s h) e
 replay_from-push s [] e = refl
@@ -23,6 +24,7 @@ lawful_from-push g s (f ∷ h) e law allowed = (law.0, lawful_from-push g (effec
 -- b is a with one more entry, which was allowed, with its effect, and with the index of that
 pub record Extends (a b : Inside) (e : Entry) : Type 0 where
   pub fresh : b.tentative.made ≡ []
+  pub room : MAX_CHANGES ≤ b.tentative.room
   pub graph : b.tentative.graph ≡ a.tentative.graph
   pub units : b.history.units ≡ a.history.units
   pub entries : b.history.entries ≡ a.history.entries ++ e ∷ []
@@ -37,6 +39,7 @@ sound_extended a b e sound more =
     let lawful : Lawful a.tentative.graph (a.history.entries ++ e ∷ []) = lawful_from-push a.tentative.graph (opening_of a.tentative.graph) a.history.entries e sound.lawful allowed in
     record {
       fresh = more.fresh;
+      room = more.room;
       units = more.units ∙ sound.units ∙ ap (λ (g : GraphView). g.units) (sym more.graph);
       fit = subst (All (λ e. IsFitKind e.kind)) (sym more.entries) (All-push (λ e. IsFitKind e.kind) a.history.entries e sound.fit more.fit);
       lawful = subst (λ (g : GraphView). Lawful g b.history.entries) (sym more.graph) (subst (Lawful a.tentative.graph) (sym more.entries) lawful);

@@ -1,7 +1,6 @@
 -- A worker with a lease can give it back, and park all that it owns.
 use Rattle.std.proofs.Common.{◌≡◌, ℕ, ◌<◌, ◌+◌, length, drop, get_or, List, [], ◌∷◌, ◌++◌, Bool, true, false, not, ◌&&◌, cond, eqb, refl, sym, ◌∙◌, ap, subst, arith, Option, None, Some, inl, inr}
 use Rattle.std.specs.List.{range_with_len}
-use Rattle.std.proofs.Math.Bool.{and-true}
 use Rattle.std.proofs.lemmas.Bool.{and_parts, and_from, both_ways, cases_Bool, eq-eqb, false_from_ne_true, not_from_false}
 use Rattle.std.proofs.lemmas.List.{drop-set-lt, get_or-set_same, length-drop}
 use Rattle.std.proofs.lemmas.List.Elements.{All-from_get_or}
@@ -13,7 +12,7 @@ use Rattle.resource_lock.specs.Change.{same_mark, can, can_all, make, make_all, 
 use Rattle.resource_lock.specs.Good.{Good}
 use Rattle.resource_lock.specs.GraphView.{GraphView, action_of}
 use Rattle.resource_lock.specs.Ranges.{task_with}
-use Rattle.resource_lock.specs.StateView.{StateView, Holding, holding_of, is_owner, is_parked, mark_of, owner_of, owns, has_parked, IsLockOf, IsWorkerOf}
+use Rattle.resource_lock.specs.StateView.{StateView, Holding, holding_of, is_owner, is_parked, mark_of, owns, has_parked, IsLockOf, IsWorkerOf}
 use Rattle.resource_lock.specs.declared.ids.LockId.{LockId}
 use Rattle.resource_lock.specs.declared.ids.WorkerId.{WorkerId}
 use Rattle.resource_lock.specs.declared.marks.Mark.TheVariants.{Waiting, Running}

@@ -1,11 +1,12 @@
 -- What the fields of a `Book` stand for, and what holds of them.
-use Rattle.std.specs.Prelude.{◌≡◌, [], All, min}
+use Rattle.std.specs.Prelude.{◌≡◌, ◌≤◌, [], All, min}
 use Rattle.ready_work.specs.ReadyWork.{IsIndexOf}
 use Rattle.lock_journal.specs.Entry.{replay}
 use Rattle.lock_journal.specs.Allowed.{Lawful}
 use Rattle.lock_journal.specs.Bounds.{IsFitKind}
 use Rattle.lock_journal.specs.BookView.{BookView}
 use Rattle.lock_journal.specs.declared.books.Book.TheInside.{Inside}
+use Rattle.lock_journal.specs.declared.kinds.admitting.TheConstants.{MAX_CHANGES}
 
 abbrev pub book_view : Inside → BookView
 book_view b = record {
@@ -16,9 +17,10 @@ book_view b = record {
   spare_changes = min b.history.spare_changes b.tentative.room;
 }
 
--- No change is under way, the history is a lawful one of the graph whose outcomes are those of their type, the state is what it leads to, and the index is that of the graph and the state.
+-- No change is under way, and there is room for the changes of any entry. The history is a lawful one of the graph whose outcomes are those of their type, the state is what it leads to, and the index is that of the graph and the state.
 pub record IsSound (b : Inside) : Type 0 where
   pub fresh : b.tentative.made ≡ []
+  pub room : MAX_CHANGES ≤ b.tentative.room
   pub units : b.history.units ≡ b.tentative.graph.units
   pub fit : All (λ e. IsFitKind e.kind) b.history.entries
   pub lawful : Lawful b.tentative.graph b.history.entries

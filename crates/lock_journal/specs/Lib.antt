@@ -12,6 +12,7 @@ pub mod History
 pub mod BookView
 pub mod Book
 pub mod Ran
+pub mod Admitting
 pub mod Waiting
 pub mod Making
 pub mod Taking

@@ -15,6 +15,7 @@ ghost use Rattle.lock_journal.specs.Ran.{HasFinished, HasFailed, IsToRetry};
 
 use crate::entries::Shown;
 use crate::histories::History;
+use crate::kinds::admitting::MAX_CHANGES;
 use crate::tentatives::Tentative;
 use crate::transforms::{Disposition, Transform};
 use item_actions::Outcome;
@@ -22,6 +23,8 @@ use ready_work::ReadyWork;
 use resource_lock::{Change, Graph, Mark, MarkId, State, WorkerId};
 use std::alloc::{AllocError, Global};
 use std::marker::Model;
+
+mod admitting;
 
 /// A graph, the state, and the history that led to it. Of every book the history is lawful, and
 /// the state is what it leads to. An index of the state tells in a few steps what can be done next.
@@ -61,7 +64,8 @@ impl Book {
         ensures changes { IfOk result (λ book. changes ≤ book.spare_changes) }
     {
         let history = History::opening(alloc, graph.units(), entries as usize, changes as usize)?;
-        let tentative = Tentative::opening(alloc, graph, changes as usize)?;
+        let room = changes.max(MAX_CHANGES);
+        let tentative = Tentative::opening(alloc, graph, room as usize)?;
         let ready = ReadyWork::of(alloc, tentative.graph(), tentative.state())?;
         Ok(Book {
             tentative,
@@ -151,8 +155,7 @@ impl Book {
         ensures some { IfSome result (IsLowest (CanStart self.now.graph self.now.state)) }
         ensures none { IfNone result (IsNone (CanStart self.now.graph self.now.state)) }
     {
-        self.ready
-            .first_to_start(self.tentative.graph(), self.tentative.state())
+        self.ready.first_to_start()
     }
 
     /// Whether each task has ended.

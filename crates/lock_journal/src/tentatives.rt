@@ -1,4 +1,4 @@
-ghost use Rattle.std.specs.Prelude.{◌≡◌, ◌<◌, ◌≤◌, ◌≢◌, ◌+◌, [], IsTrue, length, true, false, Some, OnOk, OnErr, IfOk};
+ghost use Rattle.std.specs.Prelude.{◌≡◌, ◌<◌, ◌≤◌, ◌≢◌, ◌+◌, ◌⊎◌, [], IsTrue, length, true, false, Some, OnOk, OnErr, IfOk};
 ghost use Rattle.resource_lock.specs.Change.{can, make_all, NamesOnly};
 ghost use Rattle.resource_lock.specs.Fits.{Fits};
 ghost use Rattle.resource_lock.specs.Good.{Good};
@@ -10,7 +10,10 @@ ghost use Rattle.resource_lock.specs.Trying.{can_own, can_lease};
 ghost use Rattle.lock_journal.specs.Allowed.{Allowed, IsKindOf};
 ghost use Rattle.lock_journal.specs.TentativeView.{SameTentative, noted, settled, taken_back, with_lease, with_lock, without_lease, without_lock};
 ghost use Rattle.lock_journal.specs.Entry.{entry};
+ghost use Rattle.lock_journal.specs.declared.kinds.admitting.TheConstants.{MAX_CHANGES};
 
+use crate::entries::Kind;
+use crate::kinds::admitting::make_given;
 use crate::transforms::{Disposition, Transform};
 use resource_lock::{Change, Graph, LockId, State, WorkerId};
 use std::alloc::{AllocError, Global};
@@ -207,6 +210,35 @@ impl Tentative {
             Disposition::Failed | Disposition::Retry => self.undo(),
         }
         disposition
+    }
+
+    /// Makes the changes of an entry, where it is allowed with them, and answers whether it is. They
+    /// are taken back where it isn't, and unless `keep` says that they stay.
+    pub(crate) fn admit(
+        &mut self,
+        worker: WorkerId,
+        kind: Kind,
+        changes: &[Change],
+        keep: bool,
+    ) -> bool
+        requires worker_in_range { worker.0 < self.old.graph.workers }
+        requires fresh { self.old.made ≡ [] }
+        requires room { MAX_CHANGES ≤ self.old.room }
+        ensures graph { self.new.graph ≡ self.old.graph }
+        ensures room { self.new.room + length self.new.made ≡ self.old.room }
+        ensures allowed { result ≡ true → Allowed self.old.graph self.old.state (entry worker kind (Some changes.now)) }
+        ensures refused { result ≡ false → ¬ Allowed self.old.graph self.old.state (entry worker kind (Some changes.now)) }
+        ensures made { result ≡ true → keep ≡ true → self.new.made ≡ changes.now }
+        ensures state { result ≡ true → keep ≡ true → self.new.state ≡ make_all self.old.state worker changes.now }
+        ensures fresh { result ≡ false ⊎ keep ≡ false → self.new.made ≡ [] }
+        ensures undone { result ≡ false ⊎ keep ≡ false → self.new.state ≡ self.old.state }
+    {
+        self.worker = worker;
+        let allowed = make_given(self, kind, changes);
+        if !allowed || !keep {
+            self.undo();
+        }
+        allowed
     }
 
     /// Forgets the changes made, which are then final.

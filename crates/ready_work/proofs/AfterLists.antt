@@ -32,12 +32,6 @@ after_read {g} {task} tasks i fits is within read =
     let inside : i < length tasks = omega (arith, ap length is, length-map tasks graph_view) in
     subst (λ (t : GraphTaskView). All (λ k. k < length g.tasks) t.after) (ap (λ ts. get_or ts i no_task) (sym is) ∙ get_or-map graph_view tasks i task no_task inside ∙ ap graph_view (sym read)) (fits.after_within i no_task within)
 
--- a task that was read has a lock of the graph
-pub lock_read : {g : GraphView} {task : GraphTask} (tasks : List GraphTask) (i : ℕ) → Fits g → map graph_view tasks ≡ g.tasks → i < length g.tasks → task ≡ get_or tasks i task → task.lock.0 < g.locks
-lock_read {g} {task} tasks i fits is within read =
-    let inside : i < length tasks = omega (arith, ap length is, length-map tasks graph_view) in
-    subst (λ (t : GraphTaskView). t.lock.0 < g.locks) (ap (λ ts. get_or ts i no_task) (sym is) ∙ get_or-map graph_view tasks i task no_task inside ∙ ap graph_view (sym read)) (fits.locks_within i no_task within)
-
 size_of : (g : GraphView) → length (afters_in g.tasks) ≡ length g.tasks
 size_of g = length-map g.tasks (λ (t : GraphTaskView). t.after)
 

@@ -1,5 +1,5 @@
--- What holds of units and tasks that changes don't touch, and the index as it follows changes.
-use Rattle.std.proofs.Common.{◌≡◌, ◌≢◌, ℕ, zero, suc, ◌+◌, ◌<◌, Bool, true, false, not, ◌||◌, ◌&&◌, List, [], ◌∷◌, length, get_or, set, drop, refl, sym, ap, ◌∙◌, subst, arith, ◌⊎◌, inl, inr}
+-- What holds of units, tasks and locks that changes don't touch, and the index as it follows changes.
+use Rattle.std.proofs.Common.{◌≡◌, ◌≢◌, ℕ, zero, suc, ◌+◌, ◌<◌, Bool, true, false, not, ◌||◌, ◌&&◌, List, [], ◌∷◌, length, get_or, set, drop, None, Some, refl, sym, ap, ◌∙◌, subst, arith, ◌⊎◌, inl, inr}
 use Rattle.std.specs.Prelude.{◌↔◌, Contains}
 use Rattle.std.specs.List.{AllByRecursion, list_all, list_any}
 use Rattle.std.proofs.lemmas.Bool.{and_parts, cases_Bool, cases_eq, or_parts}
@@ -7,9 +7,10 @@ use Rattle.std.proofs.lemmas.List.{drop_more, get_or-set_other}
 use Rattle.resource_lock.specs.Change.{NamesOnly, can, can_all, make, make_all, names_only, same_mark}
 use Rattle.resource_lock.specs.GraphView.{GraphView, task_of}
 use Rattle.resource_lock.specs.Marks.{has_ended, has_fallen, has_passed}
-use Rattle.resource_lock.specs.StateView.{StateView, mark_of}
+use Rattle.resource_lock.specs.StateView.{StateView, mark_of, owner_of}
 use Rattle.resource_lock.specs.declared.changes.Change.{Change}
 use Rattle.resource_lock.specs.declared.changes.Change.TheVariants.{Lock, Unlock, Take, Give, Move, Park, Unpark, Enter, Leave}
+use Rattle.resource_lock.specs.declared.ids.LockId.{LockId}
 use Rattle.resource_lock.specs.declared.ids.WorkerId.{WorkerId}
 use Rattle.resource_lock.specs.declared.marks.Mark.{Mark}
 use Rattle.resource_lock.specs.declared.marks.Mark.TheVariants.{Waiting, Queued, Running, Passed, Failed, Skipped}
@@ -17,13 +18,15 @@ use Rattle.resource_lock.specs.declared.marks.MarkId.TheVariants.{Task as TaskOf
 use Rattle.resource_lock.proofs.Lists.{get_or-set_cases}
 use Rattle.resource_lock.proofs.Runs.{all_named_along, same_shape-make_all}
 use Rattle.resource_lock.proofs.Undo.{same_mark_is}
-use Rattle.ready_work.specs.Choices.{CanSkip, IsStartable, IsOpenUnit, IsQueued, IsUnended}
+use Rattle.ready_work.specs.Choices.{CanSkip, IsFree, IsStartable, IsOpenUnit, IsQueued, IsUnended}
 use Rattle.ready_work.specs.Dependents.{AreDependents}
-use Rattle.ready_work.specs.ReadyWork.{Follows, IsIndexBut, Notes, TouchTask, TouchUnit, TouchesTask, TouchesUnit}
+use Rattle.ready_work.specs.ReadyWork.{Follows, IsIndexBut, Notes, TouchLock, TouchTask, TouchUnit, TouchesLock, TouchesTask, TouchesUnit}
+use Rattle.ready_work.specs.Sets.{Looks, NoNumber}
+use Rattle.ready_work.specs.TaskSets.{LooksAt}
 use Rattle.ready_work.specs.declared.ready_works.ReadyWork.{ReadyWork}
-use Rattle.ready_work.proofs.Looking.{set_looked, set_moved}
+use Rattle.ready_work.proofs.Looking.{looks_fewer, looks_nowhere, set_looked, set_moved}
 use Rattle.ready_work.proofs.Members.{all_but, all_same, among_or_not, any_but, any_same}
-use Rattle.ready_work.proofs.TaskLooks.{room_after, sets_looked}
+use Rattle.ready_work.proofs.TaskLooks.{looks_at_fewer, room_after, sets_looked}
 
 -- ---- units
 
@@ -144,7 +147,39 @@ tasks_same g s w (c ∷ cs) t possible =
     at (inr same) (inl touched) = inl (inr touched)
     at (inr same) (inr rest) = inr (record { own = rest.own ∙ same.own; fallen = rest.fallen ∙ same.fallen; passed = rest.passed ∙ same.passed })
 
--- ---- what holds of the same units and tasks in both states
+-- ---- locks
+
+lock_same : (s : StateView) (w : WorkerId) (c : Change) (k : ℕ) → TouchesLock c k ⊎ (owner_of (make s w c) (record { 0 = k }) ≡ owner_of s (record { 0 = k }))
+lock_same s w (Lock l) k = at (cases_eq k l.0)
+  where
+    at : (k ≡ l.0) ⊎ (k ≡ l.0 → ⊥) → (k ≡ l.0) ⊎ (get_or (set s.owners l.0 (Some w)) k None ≡ get_or s.owners k None)
+    at (inl e) = inl e
+    at (inr ne) = inr (get_or-set_other s.owners l.0 k (Some w) None ne)
+lock_same s w (Unlock l) k = at (cases_eq k l.0)
+  where
+    at : (k ≡ l.0) ⊎ (k ≡ l.0 → ⊥) → (k ≡ l.0) ⊎ (get_or (set s.owners l.0 None) k None ≡ get_or s.owners k None)
+    at (inl e) = inl e
+    at (inr ne) = inr (get_or-set_other s.owners l.0 k None None ne)
+lock_same s w (Move (UnitOf u) from to) k = inr refl
+lock_same s w (Move (TaskOf t) from to) k = inr refl
+lock_same s w (Move (ActionOf a) from to) k = inr refl
+lock_same s w Take k = inr refl
+lock_same s w Give k = inr refl
+lock_same s w (Park l) k = inr refl
+lock_same s w (Unpark l) k = inr refl
+lock_same s w Enter k = inr refl
+lock_same s w Leave k = inr refl
+
+locks_same : (s : StateView) (w : WorkerId) (cs : List Change) (k : ℕ) → TouchLock cs k ⊎ (owner_of (make_all s w cs) (record { 0 = k }) ≡ owner_of s (record { 0 = k }))
+locks_same s w [] k = inr refl
+locks_same s w (c ∷ cs) k = at (lock_same s w c k) (locks_same (make s w c) w cs k)
+  where
+    at : TouchesLock c k ⊎ (owner_of (make s w c) (record { 0 = k }) ≡ owner_of s (record { 0 = k })) → TouchLock cs k ⊎ (owner_of (make_all (make s w c) w cs) (record { 0 = k }) ≡ owner_of (make s w c) (record { 0 = k })) → TouchLock (c ∷ cs) k ⊎ (owner_of (make_all (make s w c) w cs) (record { 0 = k }) ≡ owner_of s (record { 0 = k }))
+    at (inl touched) _ = inl (inl touched)
+    at (inr same) (inl touched) = inl (inr touched)
+    at (inr same) (inr rest) = inr (rest ∙ same)
+
+-- ---- what holds of the same units, tasks and locks in both states
 
 same_queued : (g : GraphView) (r s : StateView) (u : ℕ) → mark_of s (UnitOf u) ≡ mark_of r (UnitOf u) → IsQueued g r u ↔ IsQueued g s u
 same_queued g r s u same = (λ q. record { within = q.within; queued = same ∙ q.queued }, λ q. record { within = q.within; queued = sym same ∙ q.queued })
@@ -170,6 +205,9 @@ same_unended g r s t same = (
   λ p. record { within = p.within; unended = ap has_ended (sym same.own) ∙ p.unended },
 )
 
+same_free : (g : GraphView) (r s : StateView) (k : ℕ) → owner_of s (record { 0 = k }) ≡ owner_of r (record { 0 = k }) → IsFree g r k ↔ IsFree g s k
+same_free g r s k same = (λ f. record { within = f.within; free = same ∙ f.free }, λ f. record { within = f.within; free = sym same ∙ f.free })
+
 or_same : {A B C : Type 0} → (B → C) → A ⊎ B → A ⊎ C
 or_same f (inl a) = inl a
 or_same f (inr b) = inr (f b)
@@ -177,16 +215,17 @@ or_same f (inr b) = inr (f b)
 -- ---- the index follows
 
 -- the index of the state before is right after the changes, but for what they touch
-pub index_open : (g : GraphView) (before : StateView) (w : WorkerId) (changes : List Change) (s : StateView) (ready : ReadyWork) → Follows g before w changes s ready → IsIndexBut g s (TouchUnit changes) (TouchTask g changes) ready
-index_open g before w changes s ready f = subst (λ (v : StateView). IsIndexBut g v (TouchUnit changes) (TouchTask g changes) ready) (sym f.state) (record {
+pub index_open : (g : GraphView) (before : StateView) (w : WorkerId) (changes : List Change) (s : StateView) (ready : ReadyWork) → Follows g before w changes s ready → IsIndexBut g s (TouchUnit changes) (TouchTask g changes) (TouchLock changes) ready
+index_open g before w changes s ready f = subst (λ (v : StateView). IsIndexBut g v (TouchUnit changes) (TouchTask g changes) (TouchLock changes) ready) (sym f.state) (record {
   made = f.index.made;
   queued = set_moved (IsQueued g before) (IsQueued g after) (TouchUnit changes) ready.queued (λ u. or_same (same_queued g before after u) (units_same before w changes u)) f.index.queued;
   open_units = set_moved (IsOpenUnit g before) (IsOpenUnit g after) (TouchUnit changes) ready.open_units (λ u. or_same (same_open g before after u) (units_same before w changes u)) f.index.open_units;
   tasks = record {
     skippable = set_moved (CanSkip g before) (CanSkip g after) (TouchTask g changes) ready.tasks.skippable (λ t. or_same (same_skip g before after t) (same t)) f.index.tasks.skippable;
-    startable = set_moved (IsStartable g before) (IsStartable g after) (TouchTask g changes) ready.tasks.startable (λ t. or_same (same_startable g before after t) (same t)) f.index.tasks.startable;
+    startable = set_moved (IsStartable g before) (IsStartable g after) (TouchTask g changes) ready.tasks.startable.tasks (λ t. or_same (same_startable g before after t) (same t)) f.index.tasks.startable;
     unended = set_moved (IsUnended g before) (IsUnended g after) (TouchTask g changes) ready.tasks.unended (λ t. or_same (same_unended g before after t) (same t)) f.index.tasks.unended;
   };
+  free = set_moved (IsFree g before) (IsFree g after) (TouchLock changes) ready.tasks.startable.free (λ l. or_same (same_free g before after l) (locks_same before w changes l)) f.index.free;
 })
   where
     after : StateView
@@ -194,6 +233,20 @@ index_open g before w changes s ready f = subst (λ (v : StateView). IsIndexBut 
 
     same : (t : ℕ) → TouchTask g changes t ⊎ SameTask g before (make_all before w changes) t
     same t = tasks_same g before w changes t f.possible
+
+-- a lock was looked at, and nothing else
+looked_at_lock : (g : GraphView) (s : StateView) (c : Change) (lock : LockId) (old new : ReadyWork) → ((k : ℕ) → TouchesUnit c k → ⊥) → ((k : ℕ) → TouchesTask g c k → ⊥) → ((k : ℕ) → TouchesLock c k → k ≡ lock.0) → new ≡ record old { tasks = new.tasks } → Looks (IsFree g s) (λ l. l ≡ lock.0) old.tasks.startable.free new.tasks.startable.free → LooksAt g s NoNumber old.tasks new.tasks → Notes g s c old new
+looked_at_lock g s c lock old new no_unit no_task own same free tasks = record {
+  dependents = ap (λ (r : ReadyWork). r.dependents) same;
+  queued = subst (Looks (IsQueued g s) (TouchesUnit c) old.queued) (sym (ap (λ (r : ReadyWork). r.queued) same)) (looks_nowhere (IsQueued g s) (TouchesUnit c) old.queued no_unit);
+  open_units = subst (Looks (IsOpenUnit g s) (TouchesUnit c) old.open_units) (sym (ap (λ (r : ReadyWork). r.open_units) same)) (looks_nowhere (IsOpenUnit g s) (TouchesUnit c) old.open_units no_unit);
+  tasks = looks_at_fewer g s NoNumber (TouchesTask g c) old.tasks new.tasks no_task tasks;
+  free = looks_fewer (IsFree g s) (λ l. l ≡ lock.0) (TouchesLock c) old.tasks.startable.free new.tasks.startable.free own free;
+}
+
+pub noted_lock : (g : GraphView) (s : StateView) (c : Change) (lock seen : LockId) (old new : ReadyWork) → (c ≡ Lock lock) ⊎ (c ≡ Unlock lock) → seen ≡ lock → new ≡ record old { tasks = new.tasks } → Looks (IsFree g s) (λ l. l ≡ seen.0) old.tasks.startable.free new.tasks.startable.free → LooksAt g s NoNumber old.tasks new.tasks → Notes g s c old new
+noted_lock g s c lock seen old new (inl is) e same free tasks = subst (λ (d : Change). Notes g s d old new) (sym is) (looked_at_lock g s (Lock lock) seen old new (λ k t. t) (λ k t. t) (λ k own. own ∙ ap (λ (l : LockId). l.0) (sym e)) same free tasks)
+noted_lock g s c lock seen old new (inr is) e same free tasks = subst (λ (d : Change). Notes g s d old new) (sym is) (looked_at_lock g s (Unlock lock) seen old new (λ k t. t) (λ k t. t) (λ k own. own ∙ ap (λ (l : LockId). l.0) (sym e)) same free tasks)
 
 all_at : (s : StateView) (cs : List Change) (i : ℕ) (d : Change) → AllByRecursion (NamesOnly s) cs → i < length cs → NamesOnly s (get_or cs i d)
 all_at s [] i d all lt = absurd (omega arith)
@@ -204,7 +257,7 @@ pub named_after : (g : GraphView) (before : StateView) (w : WorkerId) (changes :
 named_after g before w changes s ready i d f lt = subst (λ (v : StateView). NamesOnly v (get_or changes i d)) (sym f.state) (all_at (make_all before w changes) changes i d (all_named_along before (make_all before w changes) changes (same_shape-make_all before w changes) f.named) lt)
 
 -- what one change touches was looked at
-next_looked : (g : GraphView) (s : StateView) (c : Change) (cs : List Change) (old new : ReadyWork) → Notes g s c old new → IsIndexBut g s (TouchUnit (c ∷ cs)) (TouchTask g (c ∷ cs)) old → IsIndexBut g s (TouchUnit cs) (TouchTask g cs) new
+next_looked : (g : GraphView) (s : StateView) (c : Change) (cs : List Change) (old new : ReadyWork) → Notes g s c old new → IsIndexBut g s (TouchUnit (c ∷ cs)) (TouchTask g (c ∷ cs)) (TouchLock (c ∷ cs)) old → IsIndexBut g s (TouchUnit cs) (TouchTask g cs) (TouchLock cs) new
 next_looked g s c cs old new notes is = record {
   made = record {
     fits = is.made.fits;
@@ -212,11 +265,14 @@ next_looked g s c cs old new notes is = record {
     units = let a = is.made.units in let b = notes.queued.room in omega arith;
     open_units = let a = is.made.open_units in let b = notes.open_units.room in omega arith;
     tasks = room_after (length g.tasks) g s (TouchesTask g c) old.tasks new.tasks notes.tasks is.made.tasks;
+    locks = let a = is.made.locks in let b = notes.free.room in omega arith;
+    task_locks = notes.tasks.locks ∙ is.made.task_locks;
   };
   queued = set_looked (IsQueued g s) (TouchUnit (c ∷ cs)) (TouchesUnit c) (TouchUnit cs) old.queued new.queued (λ u touched. touched) notes.queued is.queued;
   open_units = set_looked (IsOpenUnit g s) (TouchUnit (c ∷ cs)) (TouchesUnit c) (TouchUnit cs) old.open_units new.open_units (λ u touched. touched) notes.open_units is.open_units;
   tasks = sets_looked g s (TouchTask g (c ∷ cs)) (TouchesTask g c) (TouchTask g cs) old.tasks new.tasks (λ t touched. touched) notes.tasks is.tasks;
+  free = set_looked (IsFree g s) (TouchLock (c ∷ cs)) (TouchesLock c) (TouchLock cs) old.tasks.startable.free new.tasks.startable.free (λ l touched. touched) notes.free is.free;
 }
 
-pub index_next : (g : GraphView) (s : StateView) (changes : List Change) (i : ℕ) (d : Change) (old new : ReadyWork) → i < length changes → Notes g s (get_or changes i d) old new → IsIndexBut g s (TouchUnit (drop i changes)) (TouchTask g (drop i changes)) old → IsIndexBut g s (TouchUnit (drop (i + 1) changes)) (TouchTask g (drop (i + 1) changes)) new
-index_next g s changes i d old new lt notes is = next_looked g s (get_or changes i d) (drop (i + 1) changes) old new notes (subst (λ (cs : List Change). IsIndexBut g s (TouchUnit cs) (TouchTask g cs) old) (drop_more changes i d lt) is)
+pub index_next : (g : GraphView) (s : StateView) (changes : List Change) (i : ℕ) (d : Change) (old new : ReadyWork) → i < length changes → Notes g s (get_or changes i d) old new → IsIndexBut g s (TouchUnit (drop i changes)) (TouchTask g (drop i changes)) (TouchLock (drop i changes)) old → IsIndexBut g s (TouchUnit (drop (i + 1) changes)) (TouchTask g (drop (i + 1) changes)) (TouchLock (drop (i + 1) changes)) new
+index_next g s changes i d old new lt notes is = next_looked g s (get_or changes i d) (drop (i + 1) changes) old new notes (subst (λ (cs : List Change). IsIndexBut g s (TouchUnit cs) (TouchTask g cs) (TouchLock cs) old) (drop_more changes i d lt) is)

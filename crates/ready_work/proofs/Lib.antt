@@ -5,3 +5,5 @@ pub mod AfterLists
 pub mod Looking
 pub mod TaskLooks
 pub mod Following
+pub mod Places
+pub mod Heads

@@ -1,9 +1,9 @@
 -- Sets of numbers of which something holds, as numbers are looked at.
-use Rattle.std.proofs.Common.{◌≡◌, ◌≢◌, ℕ, ◌+◌, ◌<◌, ◌≤◌, Bool, true, false, refl, sym, ◌∙◌, subst, arith, ◌⊎◌, inl, inr}
+use Rattle.std.proofs.Common.{◌≡◌, ◌≢◌, ℕ, ◌+◌, ◌<◌, ◌≤◌, Bool, true, false, refl, sym, ap, ◌∙◌, subst, arith, ◌⊎◌, inl, inr}
 use Rattle.std.specs.Prelude.{◌↔◌}
 use Rattle.std.proofs.lemmas.Bool.{cases_eq, true≢false}
 use Rattle.ready_work.specs.NumberSetView.{NumberSetView, has, room_of}
-use Rattle.ready_work.specs.Sets.{IsRightAt, IsSetOf, IsSetBelow, Looks, NoNumber}
+use Rattle.ready_work.specs.Sets.{IsRightAt, IsSetOf, IsSetBelow, Looks, NoNumber, SameNumbers}
 
 -- one number was put where it belongs
 pub looks_put : (P : ℕ → Type 0) (t : ℕ) (b : Bool) (old new : NumberSetView) → room_of new ≡ room_of old → has new t ≡ b → ((k : ℕ) → k ≢ t → has new k ≡ has old k) → ((b ≡ true) ↔ P t) → Looks P (λ k. k ≡ t) old new
@@ -23,6 +23,25 @@ looks_put P t b old new room put others means = record {
 -- nothing was looked at
 pub looks_nowhere : (P Seen : ℕ → Type 0) (set : NumberSetView) → ((k : ℕ) → Seen k → ⊥) → Looks P Seen set set
 looks_nowhere P Seen set none = record { room = refl; seen = λ k s. absurd (none k s); kept = λ k. inl refl }
+
+-- the members stay, and then stay again
+pub same_then : (old mid new : NumberSetView) → SameNumbers old mid → SameNumbers mid new → SameNumbers old new
+same_then old mid new first second = record { room = second.room ∙ first.room; members = λ k. second.members k ∙ first.members k }
+
+-- a number was put, and put back
+pub put_back : (before mid after : NumberSetView) (n : ℕ) → has before n ≡ has after n → room_of mid ≡ room_of before → ((k : ℕ) → k ≢ n → has mid k ≡ has before k) → room_of after ≡ room_of mid → ((k : ℕ) → k ≢ n → has after k ≡ has mid k) → SameNumbers before after
+put_back before mid after n same mid_room mid_others after_room after_others = record { room = after_room ∙ mid_room; members = λ k. at k (cases_eq k n) }
+  where
+    at : (k : ℕ) → (k ≡ n) ⊎ (k ≡ n → ⊥) → has after k ≡ has before k
+    at k (inl e) = ap (has after) e ∙ sym same ∙ ap (has before) (sym e)
+    at k (inr ne) = after_others k ne ∙ mid_others k ne
+
+pub set_same : (P Open : ℕ → Type 0) (old new : NumberSetView) → SameNumbers old new → IsSetOf P Open old → IsSetOf P Open new
+set_same P Open old new same is = record { each = λ k. at k (is.each k) }
+  where
+    at : (k : ℕ) → Open k ⊎ IsRightAt P old k → Open k ⊎ IsRightAt P new k
+    at k (inl o) = inl o
+    at k (inr right) = inr (λ h. right.0 (sym (same.members k) ∙ h), λ p. same.members k ∙ right.1 p)
 
 -- what was right stays right
 carried : (P : ℕ → Type 0) (old new : NumberSetView) (k : ℕ) → (has new k ≡ has old k) ⊎ IsRightAt P new k → IsRightAt P old k → IsRightAt P new k

@@ -1,13 +1,14 @@
 -- A set of numbers by its words and their summary.
-use Rattle.std.proofs.Common.{◌≡◌, ◌≢◌, ℕ, ◌+◌, ◌*◌, ◌/◌, ◌^◌, ◌<◌, ◌≤◌, Bool, true, false, eqb, Option, None, Some, List, length, get_or, w64, subst, ap, arith, ◌⊎◌, inl, inr}
+use Rattle.std.proofs.Common.{◌≡◌, ◌≢◌, ℕ, ◌+◌, ◌*◌, ◌/◌, ◌^◌, ◌<◌, ◌≤◌, Bool, true, false, eqb, Option, None, Some, List, length, get_or, w64, refl, sym, ◌∙◌, subst, ap, arith, ◌⊎◌, inl, inr}
 use Rattle.std.proofs.lemmas.List.{get_or_past}
-use Rattle.std.proofs.lemmas.Bool.{cases_eq, cases_lt, eq-eqb, eqb-true, false_from_ne_true}
+use Rattle.std.proofs.lemmas.List.FromFn.{get_or-map-range_with_len, length-map-range_with_len}
+use Rattle.std.proofs.lemmas.Bool.{cases_eq, cases_lt, eq-eqb, eqb-true, false_from_ne_true, ne_eqb}
 use Rattle.std.specs.Prelude.{IfNone}
 use Rattle.std.specs.Int.{trailing_zeros}
 use Rattle.ready_work.specs.WordBits.{bit_in, bit_of, HasBit, IsInWord}
 use Rattle.ready_work.specs.Lowest.{IsFrom, IsLowest, IsNone, NoneBelow}
-use Rattle.ready_work.specs.NumberSet.{Summarizes}
-use Rattle.ready_work.specs.NumberSetView.{NumberSetView, has, room_of, IsMember}
+use Rattle.ready_work.specs.NumberSet.{Summarizes, set_in}
+use Rattle.ready_work.specs.NumberSetView.{has, room_of, set_where, IsMember}
 use Rattle.ready_work.proofs.Words.{NoneBefore, in_range, all_of_word, lowest_in_next, next_bit, none_in, none_in_all}
 
 -- words that are all 0
@@ -20,31 +21,53 @@ summarizes_none words summary few few_summaries size none clear = record {
   noted = λ i some. absurd (omega (arith, some, none i));
 }
 
-pub none_has : (set : NumberSetView) → ((i : ℕ) → get_or set.words i 0 ≡ 0) → (k : ℕ) → has set k ≡ false
-unfolding has
-none_has set none k = false_from_ne_true (has set k) (λ member. none_in set.words k (none (k / 64)) (eqb-true (bit_in set.words k) 1 member))
+-- ---- the members of a view
+
+pub room_where : (passes : ℕ → Bool) (n : ℕ) → room_of (set_where passes n) ≡ n
+unfolding set_where
+room_where passes n = length-map-range_with_len passes 0 n
+
+pub has_where : (passes : ℕ → Bool) (n k : ℕ) → k < n → has (set_where passes n) k ≡ passes k
+unfolding set_where
+has_where passes n k lt = get_or-map-range_with_len passes 0 n k k false lt (omega arith)
+
+pub none_where : (passes : ℕ → Bool) (n k : ℕ) → n ≤ k → has (set_where passes n) k ≡ false
+none_where passes n k past = get_or_past (set_where passes n).members k false (omega (arith, past, room_where passes n))
+
+pub same_where : (old new : ℕ → Bool) (m n k : ℕ) → m ≡ n → new k ≡ old k → has (set_where new n) k ≡ has (set_where old m) k
+same_where old new m n k size same = at (cases_lt k n)
+  where
+    at : (k < n) ⊎ (n ≤ k) → has (set_where new n) k ≡ has (set_where old m) k
+    at (inl lt) = has_where new n k lt ∙ same ∙ sym (has_where old m k (omega arith))
+    at (inr past) = none_where new n k past ∙ sym (none_where old m k (omega arith))
+
+pub nowhere : (passes : ℕ → Bool) (n : ℕ) → ((k : ℕ) → passes k ≡ false) → (k : ℕ) → has (set_where passes n) k ≡ false
+nowhere passes n none k = at (cases_lt k n)
+  where
+    at : (k < n) ⊎ (n ≤ k) → has (set_where passes n) k ≡ false
+    at (inl lt) = has_where passes n k lt ∙ none k
+    at (inr past) = none_where passes n k past
+
+pub has_set : (words : List ℕ) (k : ℕ) → has (set_in words) k ≡ eqb (bit_in words k) 1
+has_set words k = at (cases_lt k (64 * length words))
+  where
+    at : (k < 64 * length words) ⊎ (64 * length words ≤ k) → has (set_in words) k ≡ eqb (bit_in words k) 1
+    at (inl lt) = has_where (λ i. eqb (bit_in words i) 1) (64 * length words) k lt
+    at (inr past) = none_where (λ i. eqb (bit_in words i) 1) (64 * length words) k past ∙ sym (ne_eqb (bit_in words k) 1 (λ bit. in_range words k (omega arith) bit))
+
+pub room_set : (words : List ℕ) → room_of (set_in words) ≡ 64 * length words
+room_set words = room_where (λ i. eqb (bit_in words i) 1) (64 * length words)
+
+pub none_has : (words : List ℕ) → ((i : ℕ) → get_or words i 0 ≡ 0) → (k : ℕ) → has (set_in words) k ≡ false
+none_has words none k = has_set words k ∙ ne_eqb (bit_in words k) 1 (λ bit. none_in words k (none (k / 64)) bit)
 
 -- what a member is, as a bit
-pub put_member : (set : NumberSetView) (k : ℕ) (b : Bool) → bit_in set.words k ≡ bit_of b → has set k ≡ b
-unfolding has
-put_member set k true is = ap (λ bit. eqb bit 1) is
-put_member set k false is = ap (λ bit. eqb bit 1) is
+pub put_member : (words : List ℕ) (k : ℕ) (b : Bool) → bit_in words k ≡ bit_of b → has (set_in words) k ≡ b
+put_member words k true is = has_set words k ∙ ap (λ bit. eqb bit 1) is
+put_member words k false is = has_set words k ∙ ap (λ bit. eqb bit 1) is
 
-pub same_member : (old new : NumberSetView) (k : ℕ) → bit_in new.words k ≡ bit_in old.words k → has new k ≡ has old k
-unfolding has
-same_member old new k same = ap (λ bit. eqb bit 1) same
-
-pub same_room : (old new : NumberSetView) → length new.words ≡ length old.words → room_of new ≡ room_of old
-unfolding room_of
-same_room old new same = ap (λ n. 64 * n) same
-
-pub in_room : (set : NumberSetView) (n : ℕ) → n < room_of set → n / 64 < length set.words
-unfolding room_of
-in_room set n lt = omega arith
-
-pub has_room : (set : NumberSetView) (n : ℕ) → n ≤ 64 * length set.words → n ≤ room_of set
-unfolding room_of
-has_room set n le = le
+pub same_member : (old new : List ℕ) (k : ℕ) → bit_in new k ≡ bit_in old k → has (set_in new) k ≡ has (set_in old) k
+same_member old new k same = has_set new k ∙ ap (λ bit. eqb bit 1) same ∙ sym (has_set old k)
 
 -- ---- the next member
 
@@ -89,22 +112,34 @@ number_fits words summary n is bit = at (cases_lt (n / 64) (length words))
     at (inl lt) = let few = is.few in omega arith
     at (inr past) = absurd (in_range words n past bit)
 
-pub member_bit : (set : NumberSetView) (k : ℕ) → has set k ≡ true → HasBit set.words k
-unfolding has
-member_bit set k member = eqb-true (bit_in set.words k) 1 member
+pub member_bit : (words : List ℕ) (k : ℕ) → has (set_in words) k ≡ true → HasBit words k
+member_bit words k member = eqb-true (bit_in words k) 1 (sym (has_set words k) ∙ member)
 
-pub bit_member : (set : NumberSetView) (k : ℕ) → HasBit set.words k → has set k ≡ true
-unfolding has
-bit_member set k bit = eq-eqb (bit_in set.words k) 1 bit
+pub bit_member : (words : List ℕ) (k : ℕ) → HasBit words k → has (set_in words) k ≡ true
+bit_member words k bit = has_set words k ∙ eq-eqb (bit_in words k) 1 bit
 
-pub lowest_member : (set : NumberSetView) (from n : ℕ) → IsLowest (IsFrom from (HasBit set.words)) n → IsLowest (IsFrom from (IsMember set)) n
-lowest_member set from n low = record {
-  is = record { past = low.is.past; such = bit_member set n low.is.such };
-  least = λ k lt is. low.least k lt (record { past = is.past; such = member_bit set k is.such });
+pub lowest_member : (words : List ℕ) (from n : ℕ) → IsLowest (IsFrom from (HasBit words)) n → IsLowest (IsFrom from (IsMember (set_in words))) n
+lowest_member words from n low = record {
+  is = record { past = low.is.past; such = bit_member words n low.is.such };
+  least = λ k lt is. low.least k lt (record { past = is.past; such = member_bit words k is.such });
 }
 
-pub no_member : (set : NumberSetView) (from : ℕ) → IsNone (IsFrom from (HasBit set.words)) → IsNone (IsFrom from (IsMember set))
-no_member set from none = record { none = λ k is. none.none k (record { past = is.past; such = member_bit set k is.such }) }
+pub no_member : (words : List ℕ) (from : ℕ) → IsNone (IsFrom from (HasBit words)) → IsNone (IsFrom from (IsMember (set_in words)))
+no_member words from none = record { none = λ k is. none.none k (record { past = is.past; such = member_bit words k is.such }) }
+
+-- whether the next bit is the number's own
+pub own_bit : (words : List ℕ) (from n : ℕ) → IsLowest (IsFrom from (HasBit words)) n → eqb n from ≡ has (set_in words) from
+own_bit words from n low = at (cases_eq n from)
+  where
+    above : (n ≡ from → ⊥) → has (set_in words) from ≡ true → ⊥
+    above ne member = let past = low.is.past in low.least from (omega (arith, past, ne)) (record { past = omega arith; such = member_bit words from member })
+
+    at : (n ≡ from) ⊎ (n ≡ from → ⊥) → eqb n from ≡ has (set_in words) from
+    at (inl e) = eq-eqb n from e ∙ sym (bit_member words from (subst (HasBit words) e low.is.such))
+    at (inr ne) = ne_eqb n from ne ∙ sym (false_from_ne_true (has (set_in words) from) (above ne))
+
+pub no_own_bit : (words : List ℕ) (from : ℕ) → IsNone (IsFrom from (IsInWord words (from / 64))) → false ≡ has (set_in words) from
+no_own_bit words from none = sym (false_from_ne_true (has (set_in words) from) (λ member. none.none from (record { past = omega arith; such = record { place = refl; bit = member_bit words from member } })))
 
 -- from 0 on all numbers are there
 pub lowest_from_0 : (Such : ℕ → Type 0) (n : ℕ) → IsLowest (IsFrom 0 Such) n → IsLowest Such n
@@ -117,3 +152,7 @@ none_from_0 Such none = record { none = λ k is. none.none k (record { past = om
 pub if_none : (Fact : Type 0) (o : Option ℕ) → Fact → IfNone o Fact
 if_none Fact None is = is
 if_none Fact (Some n) is = tt
+
+pub none_then : {P Q : Type 0} (o : Option ℕ) → (P → Q) → IfNone o P → IfNone o Q
+none_then None next is = next is
+none_then (Some n) next is = tt

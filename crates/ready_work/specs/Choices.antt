@@ -29,6 +29,11 @@ pub record IsStartable (g : GraphView) (s : StateView) (t : ℕ) : Type 0 where
   pub waits : mark_of s (TaskOf t) ≡ Waiting
   pub passed : list_all (λ k. has_passed (mark_of s (TaskOf k))) (task_of g t).after ≡ true
 
+-- nobody owns the lock
+pub record IsFree (g : GraphView) (s : StateView) (l : ℕ) : Type 0 where
+  pub within : l < g.locks
+  pub free : owner_of s (record { 0 = l }) ≡ None
+
 -- it waits, each that it comes after has passed, and nobody owns its lock
 pub record CanStart (g : GraphView) (s : StateView) (t : ℕ) : Type 0 where
   pub within : t < length g.tasks

@@ -4,6 +4,11 @@ pub mod NumberSetView
 pub mod NumberSet
 pub mod Sets
 pub mod Choices
+pub mod Table
+pub mod LockOrderView
+pub mod LockOrder
+pub mod StartableTasksView
+pub mod StartableTasks
 pub mod TaskSets
 pub mod Dependents
 pub mod ReadyWork

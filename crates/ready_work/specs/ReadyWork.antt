@@ -1,5 +1,5 @@
 -- The index of what can be done next, and how it follows changes.
-use Rattle.std.specs.Prelude.{ℕ, ◌≡◌, ◌≤◌, ◌⊎◌, ◌||◌, true, List, [], ◌∷◌, length, Contains}
+use Rattle.std.specs.Prelude.{ℕ, ◌≡◌, ◌≤◌, ◌⊎◌, ◌||◌, true, List, [], ◌∷◌, length, map, Contains}
 use Rattle.std.specs.List.{AllByRecursion}
 use Rattle.resource_lock.specs.Change.{NamesOnly, can_all, make_all}
 use Rattle.resource_lock.specs.Fits.{Fits}
@@ -8,33 +8,36 @@ use Rattle.resource_lock.specs.Marks.{has_ended}
 use Rattle.resource_lock.specs.Shape.{BelongsTo}
 use Rattle.resource_lock.specs.StateView.{StateView}
 use Rattle.resource_lock.specs.declared.changes.Change.{Change}
-use Rattle.resource_lock.specs.declared.changes.Change.TheVariants.{Move}
+use Rattle.resource_lock.specs.declared.changes.Change.TheVariants.{Lock, Move, Unlock}
 use Rattle.resource_lock.specs.declared.ids.WorkerId.{WorkerId}
 use Rattle.resource_lock.specs.declared.marks.MarkId.TheVariants.{Task as TaskOf, Unit as UnitOf}
-use Rattle.ready_work.specs.Choices.{IsOpenUnit, IsQueued}
+use Rattle.ready_work.specs.Choices.{IsFree, IsOpenUnit, IsQueued}
 use Rattle.ready_work.specs.Dependents.{AreDependents}
 use Rattle.ready_work.specs.NumberSetView.{room_of}
 use Rattle.ready_work.specs.Sets.{IsSetOf, Looks, NoNumber}
 use Rattle.ready_work.specs.TaskSets.{AreTaskSets, HasTaskRoom, LooksAt}
 use Rattle.ready_work.specs.declared.ready_works.ReadyWork.{ReadyWork}
 
--- the graph fits, the dependents are its own, and there is room for its units and tasks
+-- the graph fits, the dependents and the tasks' locks are its own, and there is room for its units, tasks and locks
 pub record IsMadeFor (g : GraphView) (ready : ReadyWork) : Type 0 where
   pub fits : Fits g
   pub dependents : AreDependents g ready.dependents.items
   pub units : g.units ≤ room_of ready.queued
   pub open_units : g.units ≤ room_of ready.open_units
   pub tasks : HasTaskRoom (length g.tasks) ready.tasks
+  pub locks : g.locks ≤ room_of ready.tasks.startable.free
+  pub task_locks : ready.tasks.startable.locks ≡ map (λ t. t.lock.0) g.tasks
 
--- The index is that of the graph and the state, but for units and tasks that are left open.
-pub record IsIndexBut (g : GraphView) (s : StateView) (OpenUnits OpenTasks : ℕ → Type 0) (ready : ReadyWork) : Type 0 where
+-- The index is that of the graph and the state, but for units, tasks and locks that are left open.
+pub record IsIndexBut (g : GraphView) (s : StateView) (OpenUnits OpenTasks OpenLocks : ℕ → Type 0) (ready : ReadyWork) : Type 0 where
   pub made : IsMadeFor g ready
   pub queued : IsSetOf (IsQueued g s) OpenUnits ready.queued
   pub open_units : IsSetOf (IsOpenUnit g s) OpenUnits ready.open_units
   pub tasks : AreTaskSets g s OpenTasks ready.tasks
+  pub free : IsSetOf (IsFree g s) OpenLocks ready.tasks.startable.free
 
 abbrev pub IsIndexOf : GraphView → StateView → ReadyWork → Type 0
-IsIndexOf g s ready = IsIndexBut g s NoNumber NoNumber ready
+IsIndexOf g s ready = IsIndexBut g s NoNumber NoNumber NoNumber ready
 
 -- the unit's mark is moved
 abbrev pub TouchesUnit : Change → ℕ → Type 0
@@ -46,6 +49,12 @@ abbrev pub TouchesTask : GraphView → Change → ℕ → Type 0
 TouchesTask g (Move (TaskOf t) from to) k = (k ≡ t) ⊎ (((has_ended from || has_ended to) ≡ true) × Contains (task_of g k).after t)
 TouchesTask g _ k = ⊥
 
+-- the lock is taken or given back
+abbrev pub TouchesLock : Change → ℕ → Type 0
+TouchesLock (Lock l) k = k ≡ l.0
+TouchesLock (Unlock l) k = k ≡ l.0
+TouchesLock _ k = ⊥
+
 -- one of the changes does
 abbrev pub TouchUnit : List Change → ℕ → Type 0
 TouchUnit [] k = ⊥
@@ -55,12 +64,17 @@ abbrev pub TouchTask : GraphView → List Change → ℕ → Type 0
 TouchTask g [] k = ⊥
 TouchTask g (c ∷ cs) k = TouchesTask g c k ⊎ TouchTask g cs k
 
+abbrev pub TouchLock : List Change → ℕ → Type 0
+TouchLock [] k = ⊥
+TouchLock (c ∷ cs) k = TouchesLock c k ⊎ TouchLock cs k
+
 -- what a change touches was looked at
 pub record Notes (g : GraphView) (s : StateView) (c : Change) (old new : ReadyWork) : Type 0 where
   pub dependents : new.dependents ≡ old.dependents
   pub queued : Looks (IsQueued g s) (TouchesUnit c) old.queued new.queued
   pub open_units : Looks (IsOpenUnit g s) (TouchesUnit c) old.open_units new.open_units
   pub tasks : LooksAt g s (TouchesTask g c) old.tasks new.tasks
+  pub free : Looks (IsFree g s) (TouchesLock c) old.tasks.startable.free new.tasks.startable.free
 
 -- The index is that of the state before the changes, which the worker could make in turn, and which led to this state of the graph.
 pub record Follows (g : GraphView) (before : StateView) (w : WorkerId) (changes : List Change) (s : StateView) (ready : ReadyWork) : Type 0 where

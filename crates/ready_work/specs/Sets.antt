@@ -22,3 +22,8 @@ pub record Looks (P Seen : ℕ → Type 0) (old new : NumberSetView) : Type 0 wh
   pub room : room_of new ≡ room_of old
   pub seen : (k : ℕ) → Seen k → IsRightAt P new k
   pub kept : (k : ℕ) → (has new k ≡ has old k) ⊎ IsRightAt P new k
+
+-- both have the same members, and room for the same numbers
+pub record SameNumbers (old new : NumberSetView) : Type 0 where
+  pub room : room_of new ≡ room_of old
+  pub members : (k : ℕ) → has new k ≡ has old k

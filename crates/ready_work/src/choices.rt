@@ -44,22 +44,12 @@ pub(crate) fn is_startable(graph: &Graph, state: &State, task: u32) -> bool
     state.mark(MarkId::Task(task)) == Mark::Waiting && state.all_passed(after_of(graph, task))
 }
 
-/// Whether nobody owns a task's lock.
-pub(crate) fn lock_is_free(graph: &Graph, state: &State, task: u32) -> bool
-    requires within { task < length graph.now.tasks }
-    requires belongs { BelongsTo graph.now state.now }
-    ensures { IsTrue result ↔ (owner_of state.now (task_of graph.now task).lock ≡ None) }
+/// Whether nobody owns a lock.
+pub(crate) fn is_free(state: &State, lock: u32) -> bool
+    requires { lock < length state.now.owners }
+    ensures { IsTrue result ↔ (owner_of state.now (record { 0 = lock }) ≡ None) }
 {
-    state.owner(lock_of(graph, task)).is_none()
-}
-
-/// A task's lock.
-fn lock_of(graph: &Graph, task: u32) -> LockId
-    requires { task < length graph.now.tasks }
-    ensures value { result ≡ (task_of graph.now task).lock }
-    ensures in_range { result.0 < graph.now.locks }
-{
-    graph.tasks()[task as usize].lock
+    state.owner(LockId(lock)).is_none()
 }
 
 /// The tasks that a task comes after.

@@ -5,8 +5,10 @@
 mod bits;
 mod choices;
 mod dependents;
+mod lock_orders;
 mod number_sets;
 mod ready_works;
+mod startable_tasks;
 mod task_sets;
 
 pub use number_sets::NumberSet;

@@ -51,6 +51,16 @@ impl NumberSet {
         self.filled.put(place, self.members.word(place) != 0);
     }
 
+    /// Whether a number is a member.
+    pub fn contains(&self, number: u32) -> bool
+        ensures { result ≡ has self.now number }
+    {
+        match self.members.next_in_word(number as usize) {
+            Some(next) => next == number as usize,
+            None => false,
+        }
+    }
+
     /// The lowest member.
     pub fn first(&self) -> Option<u32>
         ensures some { IfSome result (IsLowest (IsMember self.now)) }

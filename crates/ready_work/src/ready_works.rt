@@ -4,22 +4,22 @@ ghost use Rattle.resource_lock.specs.Change.{NamesOnly};
 ghost use Rattle.resource_lock.specs.GraphView.{GraphView};
 ghost use Rattle.resource_lock.specs.Marks.{has_ended};
 ghost use Rattle.resource_lock.specs.Shape.{BelongsTo};
-ghost use Rattle.resource_lock.specs.StateView.{StateView};
+ghost use Rattle.resource_lock.specs.StateView.{StateView, IsLockOf};
 ghost use Rattle.resource_lock.specs.declared.ids.WorkerId.{WorkerId};
 ghost use Rattle.resource_lock.specs.declared.changes.Change.TheVariants.{Move};
 ghost use Rattle.resource_lock.specs.declared.marks.MarkId.TheVariants as ids;
-ghost use Rattle.ready_work.specs.Choices.{CanSkip, CanStart, IsOpenUnit, IsQueued};
+ghost use Rattle.ready_work.specs.Choices.{CanSkip, CanStart, IsFree, IsOpenUnit, IsQueued};
 ghost use Rattle.ready_work.specs.Lowest.{IsFrom, IsLowest, IsNone};
 ghost use Rattle.ready_work.specs.NumberSetView.{room_of};
 ghost use Rattle.ready_work.specs.ReadyWork.{Follows, IsIndexOf, IsMadeFor, Notes, TouchesTask};
-ghost use Rattle.ready_work.specs.Sets.{IsSetOf, NoNumber};
+ghost use Rattle.ready_work.specs.Sets.{IsSetOf, Looks, NoNumber, SameNumbers};
 ghost use Rattle.ready_work.specs.TaskSets.{LooksAt};
 
-use crate::choices::{is_open, is_queued, lock_is_free};
+use crate::choices::{is_free, is_open, is_queued};
 use crate::dependents::all_dependents;
 use crate::number_sets::NumberSet;
 use crate::task_sets::TaskSets;
-use resource_lock::{Change, Graph, Mark, MarkId, State};
+use resource_lock::{Change, Graph, LockId, Mark, MarkId, State};
 use std::alloc::{AllocError, Global};
 use task_ranks::dependents_at;
 
@@ -89,20 +89,11 @@ impl ReadyWork {
     }
 
     /// The lowest task that can be started: whose marks allow it, and whose lock nobody owns.
-    pub fn first_to_start(&self, graph: &Graph, state: &State) -> Option<u32>
-        requires belongs { BelongsTo graph.now state.now }
-        requires index { IsIndexOf graph.now state.now self.now }
-        ensures some { IfSome result (IsLowest (CanStart graph.now state.now)) }
-        ensures none { IfNone result (IsNone (CanStart graph.now state.now)) }
+    pub fn first_to_start(&self) -> Option<u32>
+        ensures some { (g : GraphView) (s : StateView) → IsIndexOf g s self.now → IfSome result (IsLowest (CanStart g s)) }
+        ensures none { (g : GraphView) (s : StateView) → IsIndexOf g s self.now → IfNone result (IsNone (CanStart g s)) }
     {
-        let mut from = 0;
-        while let Some(task) = self.tasks.startable.next_from(from) {
-            if lock_is_free(graph, state, task) {
-                return Some(task);
-            }
-            from = task + 1;
-        }
-        None
+        self.tasks.startable.first()
     }
 
     /// Whether each task has ended.
@@ -128,8 +119,22 @@ impl ReadyWork {
             Change::Move(MarkId::Task(task), from, to) => self.note_task(
                 graph, state, task, from, to,
             ),
+            Change::Lock(lock) | Change::Unlock(lock) => self.note_lock(state, lock),
             _ => {}
         }
+    }
+
+    /// Looks at a lock that was taken or given back.
+    fn note_lock(&mut self, state: &State, lock: LockId)
+        requires within { IsLockOf state.now lock }
+        requires room { lock.0 < room_of self.old.tasks.startable.free }
+        ensures free { (g : GraphView) → BelongsTo g state.now → Looks (IsFree g state.now) (λ l. l ≡ lock.0) self.old.tasks.startable.free self.new.tasks.startable.free }
+        ensures tasks { (g : GraphView) → LooksAt g state.now NoNumber self.old.tasks self.new.tasks }
+        ensures same { self.new ≡ record self.old { tasks = self.new.tasks } }
+    {
+        self.tasks
+            .startable
+            .put_lock(lock.0, is_free(state, lock.0));
     }
 
     /// Looks at a task whose mark has moved, and at its dependents where it came to its end or
@@ -139,6 +144,7 @@ impl ReadyWork {
         requires belongs { BelongsTo graph.now state.now }
         requires within { task < length graph.now.tasks }
         ensures tasks { LooksAt graph.now state.now (TouchesTask graph.now (Move (ids.Task task) from to)) self.old.tasks self.new.tasks }
+        ensures free { SameNumbers self.old.tasks.startable.free self.new.tasks.startable.free }
         ensures same { self.new ≡ record self.old { tasks = self.new.tasks } }
     {
         self.tasks.look_at(graph, state, task);

@@ -2,11 +2,12 @@
 ghost use Rattle.std.specs.Prelude.{◌≡◌, ◌<◌, All, Contains, IfOk, length};
 ghost use Rattle.resource_lock.specs.Fits.{Fits};
 ghost use Rattle.resource_lock.specs.Shape.{BelongsTo};
-ghost use Rattle.ready_work.specs.Sets.{NoNumber};
-ghost use Rattle.ready_work.specs.TaskSets.{AreTaskSets, AreTaskSetsBelow, HasTaskRoom, LooksAt};
+ghost use Rattle.ready_work.specs.Sets.{NoNumber, SameNumbers};
+ghost use Rattle.ready_work.specs.TaskSets.{AreTaskSets, HasLocks, HasTaskRoom, LooksAt};
 
 use crate::choices::{can_skip, is_startable};
 use crate::number_sets::NumberSet;
+use crate::startable_tasks::StartableTasks;
 use resource_lock::{Graph, MarkId, State};
 use std::alloc::{AllocError, Global};
 
@@ -14,7 +15,7 @@ use std::alloc::{AllocError, Global};
 #[derive(Debug, Drop)]
 pub(crate) struct TaskSets {
     pub(crate) skippable: NumberSet,
-    pub(crate) startable: NumberSet,
+    pub(crate) startable: StartableTasks,
     pub(crate) unended: NumberSet,
 }
 
@@ -24,12 +25,13 @@ impl TaskSets {
         requires { BelongsTo graph.now state.now }
         ensures sets { IfOk result (AreTaskSets graph.now state.now NoNumber) }
         ensures room { IfOk result (HasTaskRoom (length graph.now.tasks)) }
+        ensures locks { IfOk result (λ sets. HasLocks graph.now state.now sets.startable) }
         ensures fits { Fits graph.now }
     {
         let count = graph.tasks().len() as u32;
         let mut sets = TaskSets {
             skippable: NumberSet::new(alloc, count)?,
-            startable: NumberSet::new(alloc, count)?,
+            startable: StartableTasks::none(alloc, graph, state)?,
             unended: NumberSet::new(alloc, count)?,
         };
         for task in 0..count {
@@ -43,7 +45,8 @@ impl TaskSets {
         requires within { task < length graph.now.tasks }
         requires belongs { BelongsTo graph.now state.now }
         requires room { HasTaskRoom (length graph.now.tasks) self.old }
-        ensures { LooksAt graph.now state.now (λ k. k ≡ task) self.old self.new }
+        ensures tasks { LooksAt graph.now state.now (λ k. k ≡ task) self.old self.new }
+        ensures free { SameNumbers self.old.startable.free self.new.startable.free }
     {
         self.skippable.put(task, can_skip(graph, state, task));
         self.startable.put(task, is_startable(graph, state, task));
@@ -57,7 +60,8 @@ impl TaskSets {
         requires within { All (λ k. k < length graph.now.tasks) tasks.now }
         requires belongs { BelongsTo graph.now state.now }
         requires room { HasTaskRoom (length graph.now.tasks) self.old }
-        ensures { LooksAt graph.now state.now (Contains tasks.now) self.old self.new }
+        ensures tasks { LooksAt graph.now state.now (Contains tasks.now) self.old self.new }
+        ensures free { SameNumbers self.old.startable.free self.new.startable.free }
     {
         for task in tasks {
             self.look_at(graph, state, *task as u32);

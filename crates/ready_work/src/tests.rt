@@ -114,7 +114,7 @@ fn assert_steps(rt: &impl Abort, graph: &Graph, state: &mut State, ready: &mut R
         move_mark(rt, graph, state, ready, id, to);
         assert_eq!(rt; ready.first_queued(), queued);
         assert_eq!(rt; ready.first_to_skip(), to_skip);
-        assert_eq!(rt; ready.first_to_start(graph, state), to_start);
+        assert_eq!(rt; ready.first_to_start(), to_start);
     }
     assert!(rt; ready.all_ended());
 }

@@ -1,5 +1,5 @@
 //! What the kinds share whose changes the graph, the state and the worker fix.
-ghost use Rattle.std.specs.Prelude.{◌≡◌, ◌<◌, ◌≤◌, ◌↔◌, ℕ, IsTrue, [], false, true, length, Some};
+ghost use Rattle.std.specs.Prelude.{◌≡◌, ◌≢◌, ◌<◌, ◌≤◌, ◌↔◌, ℕ, IsTrue, [], false, true, length, Some};
 ghost use Rattle.resource_lock.specs.Fits.{Fits};
 ghost use Rattle.resource_lock.specs.Shape.{BelongsTo};
 ghost use Rattle.lock_journal.specs.Allowed.{Allowed, IsFixedList, IsKindOf, IsListOf};
@@ -8,6 +8,7 @@ ghost use Rattle.lock_journal.specs.Entry.{entry};
 ghost use Rattle.lock_journal.specs.Making.{Makes};
 ghost use Rattle.lock_journal.specs.Table.{condition, list_of, is_enabled};
 ghost use Rattle.lock_journal.specs.declared.entries.Kind.{Kind};
+ghost use Rattle.lock_journal.specs.declared.entries.Kind.TheVariants as kinds;
 
 use crate::tentatives::Tentative;
 use resource_lock::{Graph, State, WorkerId};
@@ -21,7 +22,8 @@ pub(crate) trait FixedKind {
 
     /// Whether its numbers are the graph's, and it carries no Skipped.
     fn is_in_range(&self, graph: &Graph) -> bool
-        ensures { IsTrue result ↔ IsKindOf graph.now (kind_of self.now) };
+        ensures in_range { IsTrue result ↔ IsKindOf graph.now (kind_of self.now) }
+        ensures fixed { kind_of self.now ≢ kinds.Acquire };
 
     /// Whether its condition holds.
     fn condition_holds(&self, graph: &Graph, state: &State, worker: WorkerId) -> bool
@@ -68,6 +70,7 @@ pub(crate) fn run_fixed<K: FixedKind>(kind: &K, work: &mut Tentative) -> Progres
     ensures sound { result ≡ Progress.NotEnabled → IsSoundTentative work.old }
     ensures not_enabled { result ≡ Progress.NotEnabled
         → (is_enabled work.old.graph work.old.state work.old.worker (K.kind_of kind.now) ≡ false) × IsKindOf work.old.graph (K.kind_of kind.now) }
+    ensures fixed { K.kind_of kind.now ≢ kinds.Acquire }
     ensures out_of_range { result ≡ Progress.OutOfRange → ¬ IsKindOf work.old.graph (K.kind_of kind.now) }
 {
     if !kind.is_in_range(work.graph()) {

@@ -1,6 +1,7 @@
 //! The transforms of the kinds of entry.
 
 mod acquires;
+pub(crate) mod admitting;
 mod blocks;
 mod claims;
 mod closes;

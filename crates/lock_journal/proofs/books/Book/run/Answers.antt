@@ -1,4 +1,4 @@
-use Rattle.std.proofs.Common.{◌≡◌, ◌≢◌, List, [], ◌∷◌, ◌++◌, Some, None, ◌∙◌, sym, ap, subst, arith}
+use Rattle.std.proofs.Common.{◌≡◌, ◌≢◌, length, List, [], ◌∷◌, ◌++◌, Some, None, ◌∙◌, sym, ap, subst, arith}
 use Rattle.resource_lock.specs.GraphView.{GraphView}
 use Rattle.resource_lock.specs.StateView.{StateView}
 use Rattle.resource_lock.specs.declared.changes.Change.{Change}
@@ -19,6 +19,7 @@ extended : (g : Over) (c : goal.After-settle g) → Extends c.self.inside (recor
 extended g c =
     record {
       fresh = ap (λ (t : TentativeView). t.made) c.settle.ensures;
+      room = omega (arith, ap (λ (t : TentativeView). t.room) c.settle.ensures, c.attempt-disposition.ensures.room, c.self.invariant.room);
       graph = ap (λ (t : TentativeView). t.graph) c.settle.ensures ∙ c.attempt-disposition.ensures.graph;
       units = c.push_finished.ensures.units;
       entries = c.push_finished.ensures.entries
@@ -40,6 +41,7 @@ invariant_of-self-in-Failed g c =
     let graph : c.self.inside.tentative.graph ≡ c.args.self.now.graph = ap (λ (l : BookView). l.graph) c.self.view_is ∙ c.in_ok-reserve.ensures.same.graph in
     let more : Extends c.self.inside (record { tentative = c.attempt-disposition.new.self; history = c.push_failed.new.self; ready = c.self.inside.ready }) (entry c.args.worker (g.T.Transform.kind_of c.args.transform.now) None) = record {
       fresh = c.attempt-disposition.ensures.fresh unfinished;
+      room = omega (arith, ap length (c.attempt-disposition.ensures.fresh unfinished), c.attempt-disposition.ensures.room, c.self.invariant.room);
       graph = c.attempt-disposition.ensures.graph;
       units = c.push_failed.ensures.units;
       entries = c.push_failed.ensures.entries

@@ -1,4 +1,4 @@
-use Rattle.std.proofs.Common.{◌≡◌, ◌<◌, ◌≤◌, length, List, [], ◌∷◌, ◌++◌, Bool, true, false, sym, ap, subst, arith}
+use Rattle.std.proofs.Common.{length, List, [], ◌∷◌, Bool, true, ap, subst, arith}
 use Rattle.resource_lock.specs.declared.ids.LockId.{LockId}
 use Rattle.resource_lock.specs.declared.changes.Change.TheVariants.{Give, Enter}
 use Rattle.lock_journal.specs.TentativeView.{TentativeView}

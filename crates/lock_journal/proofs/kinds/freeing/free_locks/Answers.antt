@@ -1,4 +1,4 @@
-use Rattle.std.proofs.Common.{◌<◌, ◌+◌, length, ap, arith}
+use Rattle.std.proofs.Common.{◌+◌, ap, arith}
 use Rattle.resource_lock.specs.GraphView.{GraphView}
 use Rattle.resource_lock.specs.declared.changes.Change.TheVariants.{Unlock}
 use Rattle.lock_journal.proofs.Freed.{lock_at, next_freed, stopped_freed, all_freed, room_freed}

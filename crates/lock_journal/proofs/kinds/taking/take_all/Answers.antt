@@ -1,10 +1,7 @@
-use Rattle.std.proofs.Common.{◌≡◌, ◌<◌, ◌≤◌, ◌+◌, ◌-◌, length, take, get_or, Bool, true, false, sym, ◌∙◌, ap, subst, arith}
+use Rattle.std.proofs.Common.{◌≡◌, ◌+◌, take, get_or, false, ◌∙◌, ap, subst, arith}
 use Rattle.std.proofs.lemmas.List.Elements.{recursion_from_All}
-use Rattle.resource_lock.specs.StateView.{Holding, IsLockOf, has_parked, stands_in}
-use Rattle.resource_lock.specs.Change.{NamesOnly}
-use Rattle.resource_lock.specs.declared.ids.LockId.{LockId}
+use Rattle.resource_lock.specs.StateView.{Holding, has_parked, stands_in}
 use Rattle.resource_lock.specs.declared.changes.Change.TheVariants.{Lock}
-use Rattle.lock_journal.specs.TentativeView.{TentativeView}
 use Rattle.lock_journal.specs.Making.{Makes}
 use Rattle.lock_journal.specs.Taking.{all_taken}
 use Rattle.lock_journal.proofs.Makings.{makes_answer, still_named}

@@ -1,4 +1,4 @@
-use Rattle.std.proofs.Common.{◌≡◌, ◌<◌, ◌+◌, ◌-◌, length, get_or, ap, arith}
+use Rattle.std.proofs.Common.{◌<◌, ◌+◌, ◌-◌, length, get_or, ap, arith}
 use Rattle.resource_lock.specs.StateView.{IsLockOf}
 use Rattle.resource_lock.specs.declared.ids.WorkerId.{WorkerId}
 use Rattle.lock_journal.proofs.TakenUp.{all_parked, next_parked, parked_named, parked_read, room_parked, stopped_parked, there_is}

@@ -1,5 +1,5 @@
 use Rattle.std.proofs.Common.{arith}
-use Rattle.ready_work.proofs.Sets.{has_room, none_has, summarizes_none}
+use Rattle.ready_work.proofs.Sets.{none_has, room_set, summarizes_none}
 use Rattle.ready_work.proofs.number_sets.NumberSet.new.Goals as goal
 
 pub invariant_of-result : goal.invariant_of-result
@@ -12,7 +12,7 @@ invariant_of-result c =
     summarizes_none c.in_ok-members.members.words.items c.in_ok-filled.filled.words.items (omega arith) (omega arith) (omega arith) c.in_ok-members.ensures.clear c.in_ok-filled.ensures.clear
 
 pub returns-clause-room : goal.returns-clause-room
-returns-clause-room c = has_room (record { words = c.in_ok-members.members.words.items }) c.args.len c.in_ok-members.ensures.room
+returns-clause-room c = let room = c.in_ok-members.ensures.room in omega (arith, room_set c.in_ok-members.members.words.items)
 
 pub returns-clause-empty : goal.returns-clause-empty
-returns-clause-empty c = none_has (record { words = c.in_ok-members.members.words.items }) c.in_ok-members.ensures.clear
+returns-clause-empty c = none_has c.in_ok-members.members.words.items c.in_ok-members.ensures.clear

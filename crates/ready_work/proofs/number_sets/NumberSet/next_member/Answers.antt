@@ -1,14 +1,15 @@
 use Rattle.std.proofs.Common.{◌≡◌, List, ◌<◌, ◌+◌, ◌*◌, ◌^◌, ℕ, w64, sym, subst, arith}
 use Rattle.std.specs.Int.{trailing_zeros}
 use Rattle.ready_work.specs.Lowest.{IsFrom, IsLowest, IsNone}
+use Rattle.ready_work.specs.NumberSet.{set_in}
 use Rattle.ready_work.specs.NumberSetView.{NumberSetView, IsMember}
 use Rattle.ready_work.specs.WordBits.{HasBit}
 use Rattle.ready_work.proofs.Sets.{if_none, lowest_filled, lowest_member, no_member, none_filled, number_fits}
 use Rattle.ready_work.proofs.number_sets.NumberSet.next_member.Goals as goal
 
 -- the next bit is the next member
-shown : (words : List ℕ) (set : NumberSetView) (from n : ℕ) → record { words = words } ≡ set → IsLowest (IsFrom from (HasBit words)) n → IsLowest (IsFrom from (IsMember set)) n
-shown words set from n is low = subst (λ (set : NumberSetView). IsLowest (IsFrom from (IsMember set)) n) is (lowest_member (record { words = words }) from n low)
+shown : (words : List ℕ) (set : NumberSetView) (from n : ℕ) → set_in words ≡ set → IsLowest (IsFrom from (HasBit words)) n → IsLowest (IsFrom from (IsMember set)) n
+shown words set from n is low = subst (λ (set : NumberSetView). IsLowest (IsFrom from (IsMember set)) n) is (lowest_member words from n low)
 
 pub returns-in-Some-clause-some : goal.returns-in-Some-clause-some
 returns-in-Some-clause-some c = shown c.self.inside.members.words.items c.args.self.now c.args.from c.in-Some.number c.self.view_is c.in-Some.ensures.some
@@ -16,7 +17,7 @@ returns-in-Some-clause-some c = shown c.self.inside.members.words.items c.args.s
 pub returns-in_err-place-clause-none : goal.returns-in_err-place-clause-none
 returns-in_err-place-clause-none c = if_none (IsNone (IsFrom c.args.from (IsMember c.args.self.now))) c.from_residual.result
     (subst (λ (set : NumberSetView). IsNone (IsFrom c.args.from (IsMember set))) c.self.view_is
-    (no_member (record { words = c.self.inside.members.words.items }) c.args.from
+    (no_member c.self.inside.members.words.items c.args.from
     (none_filled c.self.inside.members.words.items c.self.inside.filled.words.items c.args.from c.self.invariant c.in_default.ensures.none c.in_err-place.ensures.none)))
 
 -- the lowest bit of the next word that isn't 0

@@ -20,7 +20,7 @@ look_at_all-requires-clause-within c =
 
 pub returns-then-has_ended-clause-tasks : goal.returns-then-has_ended-clause-tasks
 returns-then-has_ended-clause-tasks c =
-    looks_at_then c.args.graph.now c.args.state.now (λ (k : ℕ). k ≡ c.args.task) (Contains c.dependents_at-dependents.result.now) (TouchesTask c.args.graph.now (Move (TaskOf c.args.task) c.args.from c.args.to)) c.args.self.now.tasks c.look_at.new.self c.look_at_all.new.self cover c.look_at.ensures c.look_at_all.ensures
+    looks_at_then c.args.graph.now c.args.state.now (λ (k : ℕ). k ≡ c.args.task) (Contains c.dependents_at-dependents.result.now) (TouchesTask c.args.graph.now (Move (TaskOf c.args.task) c.args.from c.args.to)) c.args.self.now.tasks c.look_at.new.self c.look_at_all.new.self cover c.look_at.ensures.tasks c.look_at_all.ensures.tasks
   where
     same : c.dependents_at-dependents.result.now ≡ after (lists_of c.args.self.now.dependents.items) c.args.task
     same = c.dependents_at-dependents.ensures ∙ ap (λ (all : List (Vec ℕ Global)). after (lists_of all) c.args.task) c.deref.ensures.value

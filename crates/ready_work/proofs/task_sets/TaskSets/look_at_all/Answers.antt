@@ -1,6 +1,7 @@
 use Rattle.std.proofs.Common.{◌≡◌, ◌+◌, ℕ, get_or, take, arith}
 use Rattle.std.specs.Prelude.{Contains}
 use Rattle.ready_work.proofs.TaskLooks.{looks_at_then}
+use Rattle.ready_work.proofs.Looking.{same_then}
 use Rattle.ready_work.proofs.Members.{in_more}
 use Rattle.ready_work.proofs.task_sets.TaskSets.look_at_all.Goals as goal
 
@@ -13,5 +14,7 @@ overflow_cast-task c =
 pub loop-task-preserved : goal.loop-task-preserved
 loop-task-preserved c =
     let tasks = c.args.tasks.now in
-    let i = c.loop-task.task-index in
-    looks_at_then c.args.graph.now c.args.state.now (Contains (take i tasks)) (λ (k : ℕ). k ≡ get_or tasks i 0) (Contains (take (i + 1) tasks)) c.args.self.now c.loop-task.self c.look_at.new.self (in_more tasks i c.loop-task-test.true) c.loop-task.invariant c.look_at.ensures
+    let i = c.loop-task.task-index in (
+      looks_at_then c.args.graph.now c.args.state.now (Contains (take i tasks)) (λ (k : ℕ). k ≡ get_or tasks i 0) (Contains (take (i + 1) tasks)) c.args.self.now c.loop-task.self c.look_at.new.self (in_more tasks i c.loop-task-test.true) c.loop-task.invariant.0 c.look_at.ensures.tasks,
+      same_then c.args.self.now.startable.free c.loop-task.self.startable.free c.look_at.new.self.startable.free c.loop-task.invariant.1 c.look_at.ensures.free,
+    )

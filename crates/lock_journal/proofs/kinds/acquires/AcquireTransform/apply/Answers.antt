@@ -1,6 +1,5 @@
-use Rattle.std.proofs.Common.{◌≡◌, ◌<◌, true, sym, ◌∙◌, ap, arith, inl}
+use Rattle.std.proofs.Common.{◌<◌, sym, ◌∙◌, ap, arith, inl}
 use Rattle.resource_lock.specs.declared.ids.WorkerId.{WorkerId}
-use Rattle.lock_journal.specs.Taking.{may_acquire}
 use Rattle.lock_journal.proofs.Makings.{made_is, worked_from}
 use Rattle.lock_journal.proofs.Taken.{all_taken_is, acquire_allowed, acquire_read, few_made}
 use Rattle.lock_journal.proofs.kinds.acquires.AcquireTransform.apply.Goals as goal

@@ -1,4 +1,4 @@
-use Rattle.std.proofs.Common.{◌≡◌, ◌<◌, length, map, arith}
+use Rattle.std.proofs.Common.{arith}
 use Rattle.std.proofs.lemmas.List.{length-map}
 use Rattle.resource_lock.specs.declared.changes.Change.TheVariants.{Unlock}
 use Rattle.lock_journal.specs.Table.{owned}

@@ -1,0 +1,20 @@
+-- The startable tasks, as contracts see them.
+use Rattle.std.specs.Prelude.{ℕ, ◌≡◌, List}
+use Rattle.ready_work.specs.LockOrderView.{lock_at}
+use Rattle.ready_work.specs.NumberSetView.{NumberSetView, IsMember}
+
+-- the lock of each task of the graph, the startable tasks, and the locks that nobody owns
+pub record StartableTasksView : Type 0 where
+  pub locks : List ℕ
+  pub tasks : NumberSetView
+  pub free : NumberSetView
+
+-- a task of those with the lock
+pub record IsWith (locks : List ℕ) (tasks : NumberSetView) (lock t : ℕ) : Type 0 where
+  pub is : IsMember tasks t
+  pub same : lock_at locks t ≡ lock
+
+-- a startable task whose lock nobody owns
+pub record IsUnowned (all : StartableTasksView) (t : ℕ) : Type 0 where
+  pub is : IsMember all.tasks t
+  pub free : IsMember all.free (lock_at all.locks t)
