@@ -5,4 +5,3 @@ pub mod Claiming
 pub mod Parking
 pub mod Resumed
 pub mod Turns
-pub mod OpenItems

@@ -1,5 +1,5 @@
 -- What the calls of the tracker wait for.
-use Rattle.std.specs.Prelude.{ℕ, ◌≡◌, ◌≢◌, Bool, false, ◌&&◌, not, [], ◌∷◌, Option, None, find}
+use Rattle.std.specs.Prelude.{ℕ, ◌≡◌, ◌≢◌, Bool, false, ◌&&◌, [], ◌∷◌, Option, None}
 use Rattle.std.specs.List.{list_all}
 use Rattle.resource_lock.specs.Change.{same_mark}
 use Rattle.resource_lock.specs.GraphView.{GraphView, action_of}
@@ -13,8 +13,9 @@ use Rattle.resource_lock.specs.declared.ids.WorkerId.{WorkerId}
 use Rattle.resource_lock.specs.declared.marks.Mark.TheVariants.{Waiting, Queued}
 use Rattle.resource_lock.specs.declared.marks.MarkId.TheVariants.{Action as ActionOf, Unit as UnitOf}
 use Rattle.lock_journal.specs.BookView.{BookView}
-use Rattle.lock_journal.specs.Table.{earlier_passed, fetch_closed, has_ended}
+use Rattle.lock_journal.specs.Table.{earlier_passed, fetch_closed}
 use Rattle.lock_journal.specs.Taking.{can_take_all}
+use Rattle.coordination.specs.Ready.{first_open}
 
 -- no lease is free for a unit that is Queued
 abbrev pub NeedsLease : ℕ → GraphView → WorkerId → StateView → Type 0
@@ -44,10 +45,6 @@ abbrev pub CannotTakeAgain : Retention → LockId → WorkerId → StateView →
 CannotTakeAgain Retain l w s = can_lease s w ≡ false
 CannotTakeAgain Release l w s = ⊥
 CannotTakeAgain ReleaseAndReacquire l w s = can_take_all s w (l ∷ []) ≡ false
-
--- the first item of an action that hasn't ended
-abbrev pub first_open : GraphView → StateView → ℕ → Option ℕ
-first_open g s a = find (λ u. not (has_ended (mark_of s (UnitOf u)))) (items_of g a)
 
 abbrev pub IsFirstOpen : ℕ → WorkerId → BookView → Option ℕ → Type 0
 IsFirstOpen a w book unit = unit ≡ first_open book.graph book.state a

@@ -12,7 +12,7 @@ mod resuming;
 pub use actions::{park, submit};
 pub use items::{claim, close};
 pub use laws::closing_undoes_claiming;
-pub use open_items::{first_open, ready};
+pub use open_items::ready;
 pub use parked::Parked;
 pub use resuming::{Held, resume};
 

@@ -10,7 +10,8 @@ ghost use Rattle.coordination.specs.Calls.{HasFinished, IsAnswered, WasStopped};
 ghost use Rattle.coordination.specs.Shown.{ShowsTheSame};
 ghost use Rattle.async_tracker.specs.ParkedView.{ParkedView};
 ghost use Rattle.async_tracker.specs.Shows.{IsFree, IsParkedBy, ShowsResumed};
-ghost use Rattle.async_tracker.specs.Waits.{CannotResume, IsFirstOpen, first_open};
+ghost use Rattle.async_tracker.specs.Waits.{CannotResume, IsFirstOpen};
+ghost use Rattle.coordination.specs.Ready.{first_open};
 
 use crate::open_items::FirstOpen;
 use crate::parked::Parked;

@@ -1,6 +1,6 @@
 //! A task with two items, worked by the calls: each call's conditions follow from the clauses of those
 //! before.
-ghost use Rattle.std.specs.Prelude.{◌≡◌, ◌≢◌, ◌<◌, [], ◌∷◌, All, IfOk, IfSome, Ok, OnOk, length, true};
+ghost use Rattle.std.specs.Prelude.{◌≡◌, ◌≢◌, ◌<◌, [], ◌∷◌, All, IfOk, IfSome, Ok, OnOk, length, true, None};
 ghost use Rattle.resource_lock.specs.declared.marks.MarkId.TheVariants as ids;
 ghost use Rattle.item_actions.specs.declared.outcomes.Outcome.TheVariants as outcomes;
 ghost use Rattle.coordination.specs.Holds.{HoldsNothing};
@@ -8,7 +8,7 @@ ghost use Rattle.coordination.specs.Shown.{Shows};
 ghost use Rattle.async_tracker.specs.TwoItems.{CanHelp, HasTwoItems};
 
 use crate::{Held, Parked, claim, close, closing_undoes_claiming, park, resume, submit};
-use coordination::{Coordination, Halt, Opened, Pass, Question, openings_are_at_rest};
+use coordination::{Awaited, Coordination, Halt, Opened, Pass, Question, openings_are_at_rest};
 use item_actions::Outcome;
 use lock_journal::kinds::{End, Start};
 use lock_journal::{Book, Closed, Kind};
@@ -146,6 +146,12 @@ impl Question for HasEntry<'_> {
     ghost answers = { λ _ _ _ _. Unit {0} };
 
     ghost waits_on = { λ _ _ _. ⊥ };
+
+    ghost awaits = { λ _. None };
+
+    fn awaited(&self) -> Option<Awaited> {
+        None
+    }
 
     fn ask(&self, _worker: WorkerId, book: &Book) -> Option<bool> {
         if self.place >= book.len() {

@@ -1,16 +1,17 @@
 //! A section entered and left again, whose conditions follow from what the calls before ensure.
-ghost use Rattle.std.specs.Prelude.{◌≡◌, ◌≤◌, [], OnOk, false, length, true};
+ghost use Rattle.std.specs.Prelude.{◌≡◌, ◌≤◌, [], All, IfOk, OnOk, false, length, true, None};
 ghost use Rattle.std.specs.List.{list_any};
 ghost use Rattle.coordination.specs.Shown.{blocked_shown, claimed_shown, lease_shown, locks_shown, parked_shown};
 ghost use Rattle.lease_service.specs.Shows.{MayTake};
 ghost use Rattle.blocking_section.specs.Sections.{is_unit};
 
 use crate::{StillBlocked, enter, leave};
-use coordination::{Coordination, Halt, Opened, Pass, Question, openings_are_at_rest};
+use coordination::{Awaited, Coordination, Halt, Opened, Pass, Question, openings_are_at_rest};
 use lease_service::{hand_back, take_locks};
 use lock_journal::kinds::{Acquire, HandBack, Shortage};
 use lock_journal::{Book, Kind};
 use resource_lock::{Change, Graph, LockId, WorkerId};
+use std::alloc::Global;
 use std::process::Abort;
 use std::sync::Wait;
 use std::test::Fail;
@@ -71,6 +72,12 @@ impl Question for HasEntry<'_> {
     ghost answers = { λ _ _ _ _. Unit {0} };
 
     ghost waits_on = { λ q _ book. length book.history ≤ q.place };
+
+    ghost awaits = { λ _. None };
+
+    fn awaited(&self) -> Option<Awaited> {
+        None
+    }
 
     fn ask(&self, _worker: WorkerId, book: &Book) -> Option<bool> {
         if book.len() <= self.place {
@@ -164,18 +171,24 @@ fn assert_steps_aside<R: Wait + Abort>(rt: &R, service: &Coordination, pass: &mu
     assert_eq!(rt; step_aside(rt, service, pass), Ok(()));
 }
 
-#[test]
-fn a_section_gives_back_all_meanwhile(rt: HostRuntime) -> Result<(), Fail> {
-    let alloc = rt.alloc();
+/// A service with two workers, two locks and one lease.
+fn open_service(rt: &impl Abort, alloc: Global) -> Result<Opened, Fail>
+    ensures { IfOk result (λ opened. All (λ p. p.service ≡ opened.service.service) opened.passes.items) }
+{
     let tasks = Vec::new(alloc);
     let actions = Vec::new(alloc);
     assert!(rt; Graph::fits(2, 2, 1, &tasks, &actions));
     let book = Book::opening(alloc, Graph::new(2, 2, 1, tasks, actions), 0, 0)?;
     openings_are_at_rest();
+    Ok(Coordination::open(alloc, book)?)
+}
+
+#[test]
+fn a_section_gives_back_all_meanwhile(rt: HostRuntime) -> Result<(), Fail> {
     let Opened {
         service,
         mut passes,
-    } = Coordination::open(alloc, book)?;
+    } = open_service(&rt, rt.alloc())?;
     let mut other = passes.pop().expect(&rt, "two workers");
     let mut pass = passes.pop().expect(&rt, "two workers");
     lend_lock(&rt, &service, &mut pass, &mut other);

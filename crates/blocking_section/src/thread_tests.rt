@@ -1,9 +1,9 @@
 //! A section that is left while another thread has the only lease.
-ghost use Rattle.std.specs.Prelude.{◌≡◌, ◌<◌, [], All, IfOk, length, true};
+ghost use Rattle.std.specs.Prelude.{◌≡◌, ◌<◌, [], All, IfOk, length, true, None};
 ghost use Rattle.coordination.specs.Shown.{claimed_shown, lease_shown};
 
 use crate::{StillBlocked, enter, leave};
-use coordination::{Coordination, Opened, Pass, Question, openings_are_at_rest};
+use coordination::{Awaited, Coordination, Opened, Pass, Question, openings_are_at_rest};
 use lock_journal::Book;
 use lock_journal::kinds::{Acquire, HandBack, Shortage};
 use resource_lock::{Graph, WorkerId};
@@ -26,6 +26,12 @@ impl Question for EntriesFrom {
     ghost answers = { λ _ _ _ _. Unit {0} };
 
     ghost waits_on = { λ q _ book. length book.history < q.least };
+
+    ghost awaits = { λ _. None };
+
+    fn awaited(&self) -> Option<Awaited> {
+        None
+    }
 
     fn ask(&self, _worker: WorkerId, book: &Book) -> Option<()> {
         (book.len() >= self.least).then_some(())

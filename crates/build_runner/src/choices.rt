@@ -1,10 +1,10 @@
 //! What an idle worker does next.
-ghost use Rattle.std.specs.Prelude.{◌<◌, IfNone, IfSome};
-ghost use Rattle.ready_work.specs.Lowest.{IsLowest, IsNone};
-ghost use Rattle.build_runner.specs.Choices.{CanBegin, CanClaim, HasNothingToDo, IsNext};
+ghost use Rattle.std.specs.Prelude.{Some};
+ghost use Rattle.coordination.specs.Ready.{HasNothingToDo};
+ghost use Rattle.coordination.specs.declared.awaited.Awaited.TheVariants as awaited;
+ghost use Rattle.build_runner.specs.Choices.{IsNext};
 
-use crate::ready::{all_ended, lease_is_free};
-use coordination::Question;
+use coordination::{Awaited, Question, all_ended, item_to_claim, task_to_start};
 use lock_journal::Book;
 use resource_lock::WorkerId;
 
@@ -32,6 +32,12 @@ impl Question for WhatIsNext {
 
     ghost waits_on = { λ _ w book. HasNothingToDo book.graph w book.state };
 
+    ghost awaits = { λ _. Some awaited.Work };
+
+    fn awaited(&self) -> Option<Awaited> {
+        Some(Awaited::Work)
+    }
+
     fn ask(&self, worker: WorkerId, book: &Book) -> Option<Choice> {
         if let Some(unit) = item_to_claim(book, worker) {
             return Some(Choice::Claim(unit));
@@ -45,32 +51,6 @@ impl Question for WhatIsNext {
         if all_ended(book) {
             return Some(Choice::Finish);
         }
-        None
-    }
-}
-
-/// The lowest queued item, where there is a lease for it.
-pub(crate) fn item_to_claim(book: &Book, worker: WorkerId) -> Option<u32>
-    requires { worker.0 < book.now.graph.workers }
-    ensures some { IfSome result (IsLowest (CanClaim book.now.graph worker book.now.state)) }
-    ensures none { IfNone result (IsNone (CanClaim book.now.graph worker book.now.state)) }
-{
-    if lease_is_free(book, worker) {
-        book.lowest_queued()
-    } else {
-        None
-    }
-}
-
-/// The lowest task that can be started, where there is a lease for it.
-fn task_to_start(book: &Book, worker: WorkerId) -> Option<u32>
-    requires { worker.0 < book.now.graph.workers }
-    ensures some { IfSome result (IsLowest (CanBegin book.now.graph worker book.now.state)) }
-    ensures none { IfNone result (IsNone (CanBegin book.now.graph worker book.now.state)) }
-{
-    if lease_is_free(book, worker) {
-        book.lowest_to_start()
-    } else {
         None
     }
 }

@@ -2,6 +2,7 @@
 ghost use Rattle.std.specs.Prelude.{◌≡◌, ◌+◌, ◌++◌, ◌<◌, ◌≤◌, ℕ, [], All, IfOk, IsTrue, Option, drop, get_or, length, map, vec_capacity, vec_len};
 ghost use Rattle.item_actions.specs.Files.{Folder};
 ghost use Rattle.resource_lock.specs.Opening.{opening_of};
+ghost use Rattle.resource_lock.specs.declared.limits.TheConstants.{MAX_LEASES, MAX_WORKERS};
 ghost use Rattle.coordination.specs.Passes.{PassView};
 ghost use Rattle.coordination.specs.Sights.{workers_from};
 ghost use Rattle.plan_reader.specs.Graph.{graph_of};
@@ -89,9 +90,9 @@ fn open_service(alloc: Global, graph: Graph) -> Result<Opened, AllocError>
 /// The graph of the plan, as the options have it.
 fn graph_of(alloc: Global, plan: &Plan, options: &RunOptions) -> Result<Graph, AllocError>
     requires some_worker { 1 ≤ options.now.workers }
-    requires few_workers { options.now.workers ≤ 32 }
+    requires few_workers { options.now.workers ≤ MAX_WORKERS }
     requires some_lease { 1 ≤ options.now.max_leases }
-    requires few_leases { options.now.max_leases ≤ 32 }
+    requires few_leases { options.now.max_leases ≤ MAX_LEASES }
     ensures { IfOk result (λ g. g ≡ graph_of plan.now options.now.workers options.now.max_leases options.now.parallel) }
 {
     plan.graph(alloc, options.workers, options.max_leases, options.parallel)
@@ -201,9 +202,9 @@ pub fn run_plan<R: Threads + Wait + Sync, F: Files + Send + Drop, G: Gate + Sync
 ) -> Result<Book, AllocError>
     requires form { IsTrue (can_run plan.now) }
     requires some_worker { 1 ≤ options.now.workers }
-    requires few_workers { options.now.workers ≤ 32 }
+    requires few_workers { options.now.workers ≤ MAX_WORKERS }
     requires some_lease { 1 ≤ options.now.max_leases }
-    requires few_leases { options.now.max_leases ≤ 32 }
+    requires few_leases { options.now.max_leases ≤ MAX_LEASES }
     requires enough { options.now.workers ≤ length desks.old.items }
     requires alike { AreAlike F.files desks.old.items }
     ensures places { length desks.new.items ≡ length desks.old.items }

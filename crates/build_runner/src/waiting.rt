@@ -1,22 +1,23 @@
 //! A parked worker: it runs items until those that it waits for have ended, and resumes.
-ghost use Rattle.std.specs.Prelude.{◌≡◌, ◌<◌, All, IfOk, None, OnOk, length, map};
+ghost use Rattle.std.specs.Prelude.{◌≡◌, ◌<◌, All, IfOk, None, OnOk, Some, length, map};
 ghost use Rattle.resource_lock.specs.GraphView.{action_of};
 ghost use Rattle.resource_lock.specs.Ranges.{lock_with};
 ghost use Rattle.coordination.specs.Agrees.{IsSound};
 ghost use Rattle.coordination.specs.Shown.{ShowsTheSame};
 ghost use Rattle.async_tracker.specs.Shows.{IsParkedBy, ShowsResumed};
-ghost use Rattle.async_tracker.specs.Waits.{first_open};
+ghost use Rattle.coordination.specs.Ready.{first_open};
 ghost use Rattle.build_runner.specs.Kept.{Keeps};
-ghost use Rattle.build_runner.specs.Parked.{HasToWait, IsNextParked};
+ghost use Rattle.coordination.specs.Ready.{HasToWait};
+ghost use Rattle.coordination.specs.declared.awaited.Awaited.TheVariants as awaited;
+ghost use Rattle.build_runner.specs.Parked.{IsNextParked};
 ghost use Rattle.build_runner.specs.Points.{CanHelp};
 ghost use Rattle.build_runner.specs.Units.{RunsInThread, unit_view};
 
-use crate::choices::item_to_claim;
 use crate::items::help;
-use crate::ready::{can_go_on, has_failed};
+use crate::ready::has_failed;
 use crate::site::Site;
 use async_tracker::{Held, Parked, resume};
-use coordination::{Halt, Pass, Question};
+use coordination::{Awaited, Halt, Pass, Question, can_go_on, item_to_claim};
 use lock_journal::Book;
 use resource_lock::WorkerId;
 use run_laws::only_items_are_queued;
@@ -46,6 +47,12 @@ impl Question for WhatIsNextParked {
     ghost answers = { λ q w book choice. q.action < length book.graph.actions → IsNextParked book.graph w book.state q.action choice };
 
     ghost waits_on = { λ q w book. q.action < length book.graph.actions → HasToWait book.graph w book.state q.action };
+
+    ghost awaits = { λ q. Some (awaited.Items q.action) };
+
+    fn awaited(&self) -> Option<Awaited> {
+        Some(Awaited::Items(self.action))
+    }
 
     fn ask(&self, worker: WorkerId, book: &Book) -> Option<ParkedChoice> {
         if self.action as usize >= book.graph().actions().len() {

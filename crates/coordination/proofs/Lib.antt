@@ -9,6 +9,7 @@ pub mod Opening
 pub mod InPlace
 pub mod Following
 pub mod Entries
+pub mod OpenItems
 pub mod Shown
 pub mod Nothing
 pub mod Rests

@@ -1,4 +1,5 @@
 pub mod Shown
+pub mod Ready
 pub mod Lasts
 pub mod Agrees
 pub mod Holds

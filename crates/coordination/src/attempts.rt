@@ -6,31 +6,39 @@ ghost use Rattle.coordination.specs.Wakes.{last_lets_go_on};
 
 use crate::passes::Pass;
 use crate::questions::Question;
+use crate::sleepers::{Sleepers, Wakes};
 use crate::slots::Slot;
 use lock_journal::{Disposition, Transform};
 use resource_lock::WorkerId;
 use std::alloc::AllocError;
 
 impl Slot {
-    // Runs the transform once, unless the book is out, and says whether the last entry can let another
-    // worker go on.
+    // Runs the transform once, unless the book is out, and says whom of the sleepers the last entry
+    // wakes.
     pub fn attempt<T: Transform>(
         &self,
         pass: &mut Pass,
         transform: &T,
-    ) -> Option<(Result<Disposition, AllocError>, bool)>
+        sleepers: &Sleepers,
+    ) -> Option<(Result<Disposition, AllocError>, Wakes)>
         requires { pass.old.service ≡ self.now.table.shared.table_id }
         ensures same { pass.new.service ≡ pass.old.service }
         ensures none { IfNone result (pass.new.sight ≡ pass.old.sight) }
         ensures some { IfSome result (λ r. Attempted (T.kind_of transform.now) (T.makes transform.now) (T.fails_on transform.now) (T.retries_on transform.now) pass.old.sight pass.new.sight r.0) }
-        ensures frees { IfSome result (λ r. r.1 ≡ last_lets_go_on pass.new.sight.seen.history) }
+        ensures frees { IfSome result (λ r. r.1.transforms ≡ last_lets_go_on pass.new.sight.seen.history) }
     {
         if !self.try_take(&mut pass.seat) {
             return None;
         }
-        let (ran, frees) = self.run(&mut pass.seat, pass.worker, &mut pass.part, transform);
+        let (ran, wakes) = self.run(
+            &mut pass.seat,
+            pass.worker,
+            &mut pass.part,
+            transform,
+            sleepers,
+        );
         self.put_back(&mut pass.seat);
-        Some((ran, frees))
+        Some((ran, wakes))
     }
 
     // Asks the question once, unless the book is out.

@@ -1,7 +1,10 @@
-ghost use Rattle.std.specs.Prelude.{◌≡◌, ◌<◌, IfNone, IfSome};
+ghost use Rattle.std.specs.Prelude.{◌≡◌, ◌<◌, IfNone, IfSome, Option};
 ghost use Rattle.resource_lock.specs.declared.ids.WorkerId.{WorkerId};
 ghost use Rattle.lock_journal.specs.BookView.{BookView};
+ghost use Rattle.coordination.specs.Ready.{Waits};
+ghost use Rattle.coordination.specs.declared.awaited.Awaited.{Awaited};
 
+use crate::awaited::Awaited;
 use lock_journal::Book;
 use resource_lock::WorkerId;
 
@@ -16,10 +19,18 @@ pub trait Question {
     /// Where a worker may have to wait for an answer.
     ghost waits_on: { Self → WorkerId → BookView → Type 0 };
 
-    /// The answer, or None where it is to be asked again once the book has another entry, be it a
-    /// failed one. So the answer may depend on anything in the book.
+    /// What ends the wait for an answer; none says that any entry does.
+    ghost awaits: { Self → Option Awaited };
+
+    /// What ends the wait for an answer. None says that any entry does, a failed one too, so the
+    /// answer may depend on anything in the book.
+    fn awaited(&self) -> Option<Awaited>
+        ensures { result ≡ awaits self.now };
+
+    /// The answer, or None where it is to be asked again once what it waits for has come.
     fn ask(&self, worker: WorkerId, book: &Book) -> Option<Self::Answer>
         requires { worker.0 < book.now.graph.workers }
         ensures answers { IfSome result (λ answer. answers self.now worker book.now answer) }
-        ensures waits { IfNone result (waits_on self.now worker book.now) };
+        ensures waits { IfNone result (waits_on self.now worker book.now) }
+        ensures awaits { IfNone result (IfSome (awaits self.now) (Waits book.now.graph worker book.now.state)) };
 }

@@ -7,35 +7,33 @@ ghost use Rattle.coordination.specs.Calls.{AskedInVain, HasFailed, HasFinished, 
 ghost use Rattle.coordination.specs.Sights.{sights_from, workers_from};
 ghost use Rattle.coordination.specs.Together.{ComeTo};
 
+use crate::awaited::Awaited;
 use crate::halts::Halt;
 use crate::lasts::last_numbers;
 use crate::parts::Room;
 use crate::passes::Pass;
 use crate::questions::Question;
 use crate::rule::OpenedWith;
+use crate::sleepers::{Sleepers, Wakes, Woken};
 use crate::slots::Slot;
 use lock_journal::{Book, Disposition, Transform};
+use resource_lock::WorkerId;
 use std::alloc::{AllocError, Global};
 use std::marker::Model;
 use std::snapshot::Snapshot;
 use std::sync::{Condvar, Mutex, MutexGuard, Wait};
 
-/// Who may be asleep.
-#[derive(Clone, Copy, Debug)]
-struct Sleepers {
-    transforms: bool,
-    questions: bool,
-}
-
 /// One book that several workers change, one at a time.
 ///
-/// Whoever looks at the book, or changes it, has the gate locked, and so has who falls asleep.
+/// Whoever looks at the book, or changes it, has the state lock, and so has who falls asleep.
 #[derive(Drop)]
 pub struct Coordination {
     slot: Slot,
-    gate: Mutex<Sleepers>,
-    // Questions wait for this, which comes with each entry.
+    state_lock: Mutex<Sleepers>,
+    // Questions wait for this that wait for any entry.
     entered: Condvar,
+    // A worker waits for its own, by worker, which comes once what its question waits for may be there.
+    own: Vec<Condvar>,
     // Transforms wait for this, which comes with each entry that can let another worker go on.
     freed: Condvar,
 }
@@ -74,15 +72,15 @@ impl Coordination {
         let workers = book.graph().workers();
         let room = Room::of(book.graph());
         let lasts = last_numbers(alloc, &book, workers)?;
+        let own = condvars(alloc, workers)?;
+        let sleepers = Sleepers::nobody(alloc, workers)?;
         let (slot, seat) = Slot::new(alloc, book, &start)?;
         let passes = slot.passes(alloc, seat, workers, room, &lasts)?;
         let service = Coordination {
             slot,
-            gate: Mutex::new(Sleepers {
-                transforms: false,
-                questions: false,
-            }),
+            state_lock: Mutex::new(sleepers),
             entered: Condvar::new(),
+            own,
             freed: Condvar::new(),
         };
         Ok(Opened { service, passes })
@@ -108,15 +106,15 @@ impl Coordination {
         ensures no_memory { result ≡ Err Halt.NoMemory → HasLooked pass.old.sight pass.new.sight }
         ensures stopped { (by : WorkerId) → result ≡ Err (Halt.Stopped by) → WasStopped (T.retries_on transform.now) by pass.old.sight pass.new.sight }
     {
-        let mut guard = self.gate.lock(rt);
+        let mut guard = self.state_lock.lock(rt);
         for _ in rt.forever() {
-            match self.slot.attempt(pass, transform) {
-                Some((Ok(Disposition::Finished), frees)) => {
-                    self.wake_after_entry(guard, frees);
+            match self.slot.attempt(pass, transform, &guard) {
+                Some((Ok(Disposition::Finished), wakes)) => {
+                    self.wake_after_entry(guard, wakes);
                     return Ok(true);
                 }
-                Some((Ok(Disposition::Failed), frees)) => {
-                    self.wake_after_entry(guard, frees);
+                Some((Ok(Disposition::Failed), wakes)) => {
+                    self.wake_after_entry(guard, wakes);
                     return Ok(false);
                 }
                 Some((Err(_), _)) => return Err(Halt::NoMemory),
@@ -135,8 +133,8 @@ impl Coordination {
 
     /// Gets the state lock and asks the question, which makes no entry and changes no state.
     ///
-    /// Where it has no answer yet, the call asks again after an entry, failed ones too, or answers
-    /// that the service was stopped. It never gives `NoMemory`. After `Stopped` the pass is as before,
+    /// Where it has no answer yet, the call asks again once what it waits for has come (`awaited`), or
+    /// answers that the service was stopped. It never gives `NoMemory`. After `Stopped` the pass is as before,
     /// but that it shows by whom.
     pub fn ask<Q: Question, R: Wait>(
         &self,
@@ -151,7 +149,8 @@ impl Coordination {
         ensures stopped { (by : WorkerId) → result ≡ Err (Halt.Stopped by) → AskedInVain (Q.waits_on question.now) by pass.old.sight pass.new.sight }
         ensures memory { result ≢ Err Halt.NoMemory }
     {
-        let mut guard = self.gate.lock(rt);
+        let worker = pass.worker;
+        let mut guard = self.state_lock.lock(rt);
         for _ in rt.forever() {
             match self.slot.attempt_ask(pass, question) {
                 Some(Some(answer)) => return Ok(answer),
@@ -162,8 +161,7 @@ impl Coordination {
                 }
                 None => {}
             }
-            guard.questions = true;
-            guard = self.entered.wait(rt, guard);
+            guard = self.sleep(rt, guard, worker, question.awaited());
         }
         unreachable!()
     }
@@ -175,20 +173,59 @@ impl Coordination {
     pub fn notify_state_change(&self) {
         self.entered.notify_all();
         self.freed.notify_all();
+        self.wake_workers(Woken::All);
     }
 
-    // Lets the gate go after an entry, and wakes the questions, and the transforms too where the entry
-    // can let them go on. It touches no Condvar on which nobody sleeps.
-    fn wake_after_entry(&self, mut guard: MutexGuard<'_, Sleepers>, frees: bool) {
-        let asleep = *guard;
-        guard.questions = false;
-        guard.transforms = asleep.transforms && !frees;
+    // Falls asleep until what the worker waits for may have come, with the state lock free meanwhile.
+    fn sleep<'a, R: Wait>(
+        &'a self,
+        rt: &R,
+        mut guard: MutexGuard<'a, Sleepers>,
+        worker: WorkerId,
+        awaited: Option<Awaited>,
+    ) -> MutexGuard<'a, Sleepers> {
+        match (awaited, self.own.get(worker.0 as usize)) {
+            (Some(_), Some(own)) => {
+                guard.note(worker, awaited);
+                let mut guard = own.wait(rt, guard);
+                guard.note(worker, None);
+                guard
+            }
+            (None, _) | (_, None) => {
+                guard.questions = true;
+                self.entered.wait(rt, guard)
+            }
+        }
+    }
+
+    // Lets the state lock go after an entry, and wakes whom it wakes. It touches no Condvar on which
+    // nobody sleeps.
+    fn wake_after_entry(&self, mut guard: MutexGuard<'_, Sleepers>, wakes: Wakes) {
+        let (questions, wakes) = guard.take(wakes);
         drop(guard);
-        if asleep.questions {
+        if questions {
             self.entered.notify_all();
         }
-        if asleep.transforms && frees {
+        if wakes.transforms {
             self.freed.notify_all();
+        }
+        self.wake_workers(wakes.workers);
+    }
+
+    // Wakes workers that wait for their own Condvar.
+    fn wake_workers(&self, workers: Woken) {
+        match workers {
+            Woken::Nobody => {}
+            Woken::One(worker) => {
+                if let Some(own) = self.own.get(worker.0 as usize) {
+                    own.notify_all();
+                }
+            }
+            Woken::All => {
+                for own in &self.own {
+                    own.notify_all();
+                }
+            }
         }
     }
 
@@ -200,12 +237,16 @@ impl Coordination {
         ensures worker { pass.new.sight.worker ≡ pass.old.sight.worker }
         ensures stopped { HasStopped pass.old.sight pass.new.sight }
     {
-        let guard = self.gate.lock(rt);
+        let guard = self.state_lock.lock(rt);
         match self.slot.mark(&mut pass.seat, pass.worker) {
             None => pass.stopped = true,
             Some(by) => pass.stopped_by = Some(by),
         }
-        self.wake_after_entry(guard, true);
+        let all = Wakes {
+            transforms: true,
+            workers: Woken::All,
+        };
+        self.wake_after_entry(guard, all);
     }
 
     /// Takes the book out for good. Every pass agrees with it, and together their entries and closings
@@ -225,10 +266,20 @@ impl Coordination {
     {
         let Coordination {
             slot,
-            gate: _,
+            state_lock: _,
             entered: _,
+            own: _,
             freed: _,
         } = self;
         slot.close(passes)
     }
+}
+
+// So many Condvars.
+fn condvars(alloc: Global, count: u32) -> Result<Vec<Condvar>, AllocError> {
+    let mut all = Vec::with_capacity(alloc, count as usize)?;
+    for _ in 0..count {
+        all.push(Condvar::new())?;
+    }
+    Ok(all)
 }

@@ -10,7 +10,7 @@ ghost use Rattle.coordination.specs.Wakes.{last_lets_go_on};
 use crate::parts::Part;
 use crate::questions::Question;
 use crate::rule::{Hear, OpenedWith, Order, PutBack, SeatView, Stop, Take};
-use crate::wakes::last_lets_go_on;
+use crate::sleepers::{Sleepers, Wakes, wakes_of};
 use atomic_table::{Seat, Table};
 use lock_journal::{Book, Disposition, Transform};
 use resource_lock::WorkerId;
@@ -37,14 +37,15 @@ impl Slot {
     }
 
     // Runs the transform on the book that the seat holds, has the worker's part follow it, and says
-    // whether the last entry can let another worker go on.
+    // whom of the sleepers the last entry wakes.
     pub fn run<T: Transform>(
         &self,
         seat: &mut Seat<Book, SeatView>,
         worker: WorkerId,
         part: &mut Part,
         transform: &T,
-    ) -> (Result<Disposition, AllocError>, bool)
+        sleepers: &Sleepers,
+    ) -> (Result<Disposition, AllocError>, Wakes)
         requires id { seat.old.table_id ≡ self.now.table.shared.table_id }
         requires held { seat.old.me.1 ≡ (0, carried_book seat.old.me.1) ∷ [] }
         requires known { worker.0 < (carried_book seat.old.me.1).graph.workers }
@@ -57,12 +58,12 @@ impl Slot {
         ensures ran { Ran (T.kind_of transform.now) (T.makes transform.now) (T.fails_on transform.now) (T.retries_on transform.now) worker (carried_book seat.old.me.1) (carried_book seat.new.me.1) result.0 }
         ensures part { IsPartOf (carried_book seat.new.me.1) worker part.new }
         ensures room { HasRoom (carried_book seat.new.me.1).graph.locks (marks_of (carried_book seat.new.me.1).graph) part.new }
-        ensures frees { result.1 ≡ last_lets_go_on (carried_book seat.new.me.1).history }
+        ensures frees { result.1.transforms ≡ last_lets_go_on (carried_book seat.new.me.1).history }
     {
         let book = seat.slot_mut(&self.table.shared, 0);
         let ran = book.run(worker, transform);
         part.follow(worker, book, &ran);
-        (ran, last_lets_go_on(book))
+        (ran, wakes_of(book, sleepers))
     }
 
     // Asks the question of the book that the seat holds.

@@ -1,10 +1,10 @@
 //! Workers in threads of their own. Each test ends after a number of turns.
-ghost use Rattle.std.specs.Prelude.{◌≡◌, ◌<◌, ℕ, All, IfOk, length, map, slice_index_or};
+ghost use Rattle.std.specs.Prelude.{◌≡◌, ◌<◌, ℕ, All, IfOk, None, length, map, slice_index_or};
 ghost use Rattle.lock_journal.specs.Allowed.{IsDisabled, IsFixedList};
 ghost use Rattle.lock_journal.specs.declared.entries.Kind.TheVariants as kinds;
 ghost use Rattle.coordination.specs.Sights.{workers_from};
 
-use crate::{Coordination, Halt, Opened, Pass, Question, openings_are_at_rest};
+use crate::{Awaited, Coordination, Halt, Opened, Pass, Question, openings_are_at_rest};
 use lock_journal::kinds::{End, Start};
 use lock_journal::{Book, Disposition, Kind, Tentative, Transform};
 use resource_lock::{Graph, GraphTask, LockId, Mark, MarkId, WorkerId};
@@ -92,6 +92,12 @@ impl Question for EntriesFrom {
     ghost answers = { λ _ _ book entries. entries ≡ length book.history };
 
     ghost waits_on = { λ q _ book. length book.history < q.least };
+
+    ghost awaits = { λ _. None };
+
+    fn awaited(&self) -> Option<Awaited> {
+        None
+    }
 
     fn ask(&self, _worker: WorkerId, book: &Book) -> Option<u64> {
         let entries = book.len();

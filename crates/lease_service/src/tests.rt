@@ -1,11 +1,11 @@
-ghost use Rattle.std.specs.Prelude.{◌≡◌, ◌<◌, [], All, IfOk, true, false};
+ghost use Rattle.std.specs.Prelude.{◌≡◌, ◌<◌, [], All, IfOk, length, true, false, None};
 ghost use Rattle.lock_journal.specs.Taking.{rises};
 ghost use Rattle.coordination.specs.Shown.{blocked_shown, claimed_shown, parked_shown};
 
 use crate::{
     ProjectLocks, Tried, current_lease, hand_back, run_as_worker, take_locks, try_take_locks,
 };
-use coordination::{Coordination, Halt, Opened, Pass, Question, openings_are_at_rest};
+use coordination::{Awaited, Coordination, Halt, Opened, Pass, Question, openings_are_at_rest};
 use item_actions::Text;
 use lock_journal::Book;
 use resource_lock::{Change, Graph, LockId, WorkerId};
@@ -100,6 +100,12 @@ impl Question for LastIs<'_> {
     ghost answers = { λ _ _ _ _. Unit {0} };
 
     ghost waits_on = { λ _ _ _. ⊥ };
+
+    ghost awaits = { λ _. None };
+
+    fn awaited(&self) -> Option<Awaited> {
+        None
+    }
 
     fn ask(&self, _worker: WorkerId, book: &Book) -> Option<bool> {
         let number = book.len();
@@ -260,6 +266,35 @@ fn wait_for_lock<R: Wait + Abort>(rt: &R, service: &Coordination, pass: &mut Pas
     }
 }
 
+/// Worker 0 takes lock 0.
+fn take_first<R: Wait + Abort>(rt: &R, service: &Coordination, passes: &mut [Pass])
+    requires service { All (λ p. p.service ≡ service.now.service) passes.old }
+    requires three { All (λ p. p.sight.seen.graph.locks ≡ 3) passes.old }
+    requires two { length passes.old ≡ 2 }
+    ensures service { All (λ p. p.service ≡ service.now.service) passes.new }
+    ensures three { All (λ p. p.sight.seen.graph.locks ≡ 3) passes.new }
+{
+    assert_eq!(rt; take(rt, service, &mut passes[0], &[LockId(0)]), Ok(()));
+}
+
+/// Each worker does its part in a thread of its own.
+fn wait_in_threads<R: Threads + Wait + Abort + Sync>(
+    rt: &R,
+    service: &Coordination,
+    passes: &mut [Pass],
+    stops: bool,
+)
+    requires service { All (λ p. p.service ≡ service.now.service) passes.old }
+    requires three { All (λ p. p.sight.seen.graph.locks ≡ 3) passes.old }
+{
+    thread::for_each_mut(
+        rt,
+        passes,
+        2,
+        &|_, pass| { wait_for_lock(rt, service, pass, stops) },
+    );
+}
+
 /// Worker 0 takes lock 0, for which worker 1 then waits in a thread of its own.
 fn play_out<R: Threads + Wait + Abort + Sync>(
     rt: &R,
@@ -271,16 +306,9 @@ fn play_out<R: Threads + Wait + Abort + Sync>(
         mut passes,
     } = open_service(rt, alloc)?;
     assert!(rt; passes.len() == 2);
-    assert_eq!(rt; take(rt, &service, &mut passes[0], &[LockId(0)]), Ok(()));
     let both = passes.as_mut_slice();
-    thread::for_each_mut(
-        rt,
-        both,
-        2,
-        &|_, pass| {
-            wait_for_lock(rt, &service, pass, stops);
-        },
-    );
+    take_first(rt, &service, both);
+    wait_in_threads(rt, &service, both, stops);
     Ok(())
 }
 

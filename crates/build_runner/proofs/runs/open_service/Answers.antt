@@ -1,10 +1,14 @@
-use Rattle.std.proofs.Common.{◌≡◌, [], map}
+use Rattle.std.proofs.Common.{◌≡◌, [], map, subst, sym}
 use Rattle.std.specs.List.{All}
+use Rattle.resource_lock.specs.AtRest.{IsAtRest}
 use Rattle.coordination.specs.Sights.{sights_from}
 use Rattle.coordination.specs.declared.services.Opened.{Opened}
 use Rattle.build_runner.specs.Team.{CanWork}
 use Rattle.build_runner.proofs.AtFirst.{all_ready, all_untouched, from_both, from_ok}
 use Rattle.build_runner.proofs.runs.open_service.Goals as goal
+
+pub open-requires : goal.open-requires
+open-requires c = subst IsAtRest (sym c.in_ok-book.ensures.state) (c.openings_are_at_rest.ensures _)
 
 pub returns-clause-ready : goal.returns-clause-ready
 returns-clause-ready c =

@@ -3,7 +3,7 @@ use Rattle.resource_lock.specs.GraphView.{GraphView}
 use Rattle.resource_lock.specs.declared.graphs.GraphTask.{GraphTask}
 use Rattle.resource_lock.specs.StateView.{StateView}
 use Rattle.lock_journal.proofs.Within.{task_read}
-use Rattle.build_runner.proofs.ready.lock_is_free.Goals as goal
+use Rattle.coordination.proofs.ready.lock_is_free.Goals as goal
 
 pub owner-requires : goal.owner-requires
 owner-requires c =

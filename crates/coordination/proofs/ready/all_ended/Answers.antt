@@ -4,7 +4,7 @@ use Rattle.resource_lock.specs.Marks.{has_ended}
 use Rattle.resource_lock.specs.declared.marks.Mark.{Mark}
 use Rattle.resource_lock.specs.declared.marks.Mark.TheVariants.{Waiting, Queued, Running, Passed, Failed, Skipped}
 use Rattle.run_laws.specs.Marks.{IsEnded}
-use Rattle.build_runner.proofs.ready.all_ended.Goals as goal
+use Rattle.coordination.proofs.ready.all_ended.Goals as goal
 
 is_ended : (m : Mark) → has_ended m ≡ true → IsEnded m
 is_ended Waiting is = absurd (false≢true is)

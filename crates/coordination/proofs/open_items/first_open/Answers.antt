@@ -8,8 +8,8 @@ use Rattle.resource_lock.specs.StateView.{StateView, mark_of}
 use Rattle.resource_lock.specs.declared.graphs.GraphAction.{GraphAction}
 use Rattle.resource_lock.specs.declared.marks.MarkId.TheVariants.{Unit as UnitOf}
 use Rattle.lock_journal.specs.Table.{has_ended}
-use Rattle.async_tracker.proofs.OpenItems.{none_open_in_range, open_in_range}
-use Rattle.async_tracker.proofs.open_items.first_open.Goals as goal
+use Rattle.coordination.proofs.OpenItems.{none_open_in_range, open_in_range}
+use Rattle.coordination.proofs.open_items.first_open.Goals as goal
 
 as_fetches : (b : Bool) → bool_byte b ≡ fetches b
 as_fetches true = refl
