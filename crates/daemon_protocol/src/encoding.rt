@@ -1,15 +1,16 @@
-ghost use Rattle.std.specs.Prelude.{◌≡◌, ◌≤◌, ◌++◌, length, IfOk};
-ghost use Rattle.daemon_protocol.specs.Spelling.{action_bytes, outcome_bytes, body, tag, spelling, IsValid};
+ghost use Rattle.std.specs.Prelude.{◌≡◌, ◌≤◌, ◌++◌, length, IfOk, OnOk};
+ghost use Rattle.daemon_protocol.specs.Spelling.{action_bytes, outcome_bytes, body, tag, spelling, IsValid, ActionFits, OutcomeFits, FrameFits};
 
 use crate::frames::Frame;
 use crate::limits::HEAD_BYTES;
 use item_actions::{ItemAction, Outcome};
 use std::alloc::{AllocError, Global};
 
-/// The bytes of a frame. A request's file has the form of a file's name, and a reply's outcome isn't Skipped.
+/// The bytes of a frame, whose fields then fit them. A request's file has the form of a file's name, and a reply's outcome isn't Skipped.
 pub fn encode(alloc: Global, frame: &Frame) -> Result<Vec<u8>, AllocError>
     requires { IsValid frame.now }
-    ensures { IfOk result (λ bytes. bytes.items ≡ spelling frame.now) }
+    ensures bytes { IfOk result (λ bytes. bytes.items ≡ spelling frame.now) }
+    ensures fits { OnOk result (FrameFits frame.now) }
 {
     let len = body_len(frame);
     let mut bytes = Vec::with_capacity(alloc, HEAD_BYTES + len)?;
@@ -65,7 +66,8 @@ fn outcome_len(outcome: Outcome) -> usize
 
 fn push_body(bytes: &mut Vec<u8>, frame: &Frame) -> Result<(), AllocError>
     requires { IsValid frame.now }
-    ensures { IfOk result (λ _. bytes.new.items ≡ bytes.old.items ++ body frame.now) }
+    ensures bytes { IfOk result (λ _. bytes.new.items ≡ bytes.old.items ++ body frame.now) }
+    ensures fits { OnOk result (FrameFits frame.now) }
 {
     match frame {
         Frame::Request(request) => {
@@ -85,7 +87,8 @@ fn push_body(bytes: &mut Vec<u8>, frame: &Frame) -> Result<(), AllocError>
 }
 
 fn push_action(bytes: &mut Vec<u8>, action: &ItemAction) -> Result<(), AllocError>
-    ensures { IfOk result (λ _. bytes.new.items ≡ bytes.old.items ++ action_bytes action.now) }
+    ensures bytes { IfOk result (λ _. bytes.new.items ≡ bytes.old.items ++ action_bytes action.now) }
+    ensures fits { OnOk result (ActionFits action.now) }
 {
     match action {
         ItemAction::Lines => bytes.push(1)?,
@@ -103,7 +106,8 @@ fn push_action(bytes: &mut Vec<u8>, action: &ItemAction) -> Result<(), AllocErro
 }
 
 fn push_outcome(bytes: &mut Vec<u8>, outcome: &Outcome) -> Result<(), AllocError>
-    ensures { IfOk result (λ _. bytes.new.items ≡ bytes.old.items ++ outcome_bytes outcome.now) }
+    ensures bytes { IfOk result (λ _. bytes.new.items ≡ bytes.old.items ++ outcome_bytes outcome.now) }
+    ensures fits { OnOk result (OutcomeFits outcome.now) }
 {
     match outcome {
         Outcome::Number(number) => {

@@ -1,4 +1,7 @@
+ghost use Rattle.std.specs.Prelude.{◌≡◌, IfOk};
+
 use item_actions::{ItemAction, Outcome, Text};
+use std::alloc::{AllocError, Global};
 use thiserror::Error;
 
 /// A unit of work that a daemon is asked to do.
@@ -8,6 +11,19 @@ pub struct Request {
     pub action: ItemAction,
     /// The name of a file, of the form that `item_actions::is_file_name` tests.
     pub file: Text,
+}
+
+impl Request {
+    /// An equal request. The error is want of memory alone.
+    pub fn copy(&self, alloc: Global) -> Result<Request, AllocError>
+        ensures { IfOk result (λ copy. copy ≡ self.now) }
+    {
+        Ok(Request {
+            unit: self.unit,
+            action: self.action,
+            file: self.file.copy(alloc)?,
+        })
+    }
 }
 
 /// What became of a unit of work.

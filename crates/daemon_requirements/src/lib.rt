@@ -2,6 +2,7 @@
 #![tactic(auto)]
 
 mod copies;
+mod equality;
 mod fields;
 mod links;
 mod names;

@@ -5,6 +5,7 @@ ghost use Rattle.daemon_requirements.specs.Covers.{Covers};
 ghost use Rattle.daemon_requirements.specs.Refusals.{IsCauseOf};
 
 use crate::copies::copy_fields;
+use crate::equality::are_same_fields;
 use crate::fields::RequirementFields;
 use crate::names::first_twice;
 use crate::rules::{Field, REQUIREMENT_TABLE};
@@ -93,6 +94,13 @@ impl Requirements {
             executable, heap_mb, args, properties, variables, debug, assertions, encoding
         );
         true
+    }
+
+    /// Whether the requirements are equal: texts byte for byte, and lists in the same order. It takes no memory.
+    pub fn equals(&self, other: &Requirements) -> bool
+        ensures { IsTrue result ↔ (self.now ≡ other.now) }
+    {
+        are_same_fields(&self.fields, &other.fields)
     }
 
     /// The fields.

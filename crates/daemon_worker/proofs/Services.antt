@@ -24,6 +24,9 @@ use Rattle.daemon_worker.specs.Answer.{Answer, asked, reply, replies, IsHonestAn
 use Rattle.item_actions.specs.Value.{is_fault}
 use Rattle.daemon_worker.specs.declared.serving.TheConstants.{MAX_STREAM_BYTES}
 use Rattle.daemon_worker.specs.Answering.{answer_of, AnswersAs}
+use Rattle.daemon_worker.specs.Ends.{served_of}
+use Rattle.worker_desk.specs.declared.files.DeskFail.{DeskFail}
+use Rattle.worker_desk.specs.declared.files.DeskFail.TheVariants as fails
 use Rattle.daemon_worker.specs.Taking.{Takes, IsTaken, TakesFrame}
 use Rattle.daemon_worker.specs.Serving.{Outside, ending, IsOver, IsEnd, HasAnswered, HasServed, IsServing, ServesOn}
 use Rattle.daemon_worker.specs.declared.serving.Served.{Served}
@@ -189,13 +192,10 @@ served_end {old} {mid} {new} room len held start served counted_as s takes fault
     }
 
 -- no frame was taken
-pub served_untaken : {start old : Outside} {source : SourceView} (room : ℕ) (held : List ℕ) (served : Served) → TakesFrame old.source source room held (Err served) → IsServing start old room
-    → HasServed start (record { source = source; sink = old.sink; files = old.files; faults = old.faults }) served
-served_untaken room held SourceFault took s = served_source_fault room took.0 s took.1 (omega arith) refl took.2 took.3
-served_untaken room held NoMemory took s = served_no_memory room took.0 s took.1 (omega arith) refl
-served_untaken room held SinkFault took s = absurd took
-served_untaken room held Done took s = absurd took
-served_untaken room held (BadFrame place) took s = absurd took
+pub served_untaken : {start old : Outside} {source : SourceView} (room : ℕ) (held : List ℕ) (fail : DeskFail) → TakesFrame old.source source room held (Err fail) → IsServing start old room
+    → HasServed start (record { source = source; sink = old.sink; files = old.files; faults = old.faults }) (served_of fail)
+served_untaken room held fails.Failed took s = served_source_fault room took.0 s took.1 (omega arith) refl took.2 took.3
+served_untaken room held fails.NoMemory took s = served_no_memory room took.0 s took.1 (omega arith) refl
 
 -- no reply was written
 pub served_unanswered : {old mid new : Outside} (room n : ℕ) (held : List ℕ) (r : Asked) (served : Served) → AnswersAs {A = Unit {0}} mid.files mid.faults new.faults mid.sink new.sink r (Err served) → (s : IsServing old mid room)

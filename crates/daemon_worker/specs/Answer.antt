@@ -7,7 +7,7 @@ use Rattle.item_actions.specs.declared.outcomes.Outcome.TheVariants.{Fault, Skip
 use Rattle.daemon_protocol.specs.declared.frames.Request.{Request}
 use Rattle.daemon_protocol.specs.declared.frames.Frame.{Frame}
 use Rattle.daemon_protocol.specs.declared.frames.Frame.TheVariants as frames
-use Rattle.daemon_protocol.specs.Spelling.{spelling}
+use Rattle.daemon_protocol.specs.Spelling.{spelling, OutcomeFits}
 use Rattle.worker_desk.specs.SinkView.{Rises}
 
 -- a request, and the outcome in its reply
@@ -25,9 +25,11 @@ reply a = frames.Reply record { unit = a.request.unit; outcome = a.outcome }
 abbrev pub replies : List Answer → List ℕ
 replies answers = flat_map (λ a. spelling (reply a)) answers
 
--- Each request is worked out. Where the files are known, its outcome is its value, or a fault or want of memory.
+-- Each request is worked out, and its outcome fits the bytes of a reply. Where the files are known, it is the request's value,
+-- or a fault or want of memory.
 pub record IsHonestAnswer (known : Option Folder) (a : Answer) : Type 0 where
   pub ran : a.outcome ≢ Skipped
+  pub fits : OutcomeFits a.outcome
   pub honest : IfSome known (λ files. IsHonest a.outcome (value_on files a.request.action a.request.file))
 
 -- A request was worked out while the count of the files' faults went from before to after.

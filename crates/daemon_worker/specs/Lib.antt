@@ -1,4 +1,5 @@
 pub mod Answer
 pub mod Answering
+pub mod Ends
 pub mod Serving
 pub mod Taking

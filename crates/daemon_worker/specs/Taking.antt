@@ -6,8 +6,8 @@ use Rattle.daemon_protocol.specs.declared.starts.StreamStart.{StreamStart}
 use Rattle.daemon_protocol.specs.declared.starts.StreamStart.TheVariants.{Unfinished, Whole, Refused}
 use Rattle.worker_desk.specs.SinkView.{Rises}
 use Rattle.worker_desk.specs.SourceView.{SourceView}
-use Rattle.daemon_worker.specs.declared.serving.Served.{Served}
-use Rattle.daemon_worker.specs.declared.serving.Served.TheVariants.{SourceFault, NoMemory}
+use Rattle.worker_desk.specs.declared.files.DeskFail.{DeskFail}
+use Rattle.worker_desk.specs.declared.files.DeskFail.TheVariants.{Failed, NoMemory}
 
 -- these bytes were taken, and there was room for them
 pub record Takes (old new : SourceView) (room : ℕ) (held : List ℕ) : Type 0 where
@@ -21,11 +21,10 @@ IsTaken (Whole f n) held room left = n ≡ held
 IsTaken (Refused flaw) held room left = Unit {0}
 IsTaken Unfinished held room left = (held ≡ room) ⊎ IsAtEnd left
 
-abbrev pub TakesFrame : SourceView → SourceView → ℕ → List ℕ → Result StreamStart Served → Type 0
+abbrev pub TakesFrame : SourceView → SourceView → ℕ → List ℕ → Result StreamStart DeskFail → Type 0
 TakesFrame old new room held (Ok start) = Takes old new room held × (start ≡ look held) × IsTaken start (length held) room new.left
-TakesFrame old new room held (Err SourceFault) = (piece : List ℕ) × Takes old new room piece × (look piece ≡ Unfinished) × Rises old.faults new.faults
+TakesFrame old new room held (Err Failed) = (piece : List ℕ) × Takes old new room piece × (look piece ≡ Unfinished) × Rises old.faults new.faults
 TakesFrame old new room held (Err NoMemory) = (piece : List ℕ) × Takes old new room piece
-TakesFrame old new room held (Err _) = ⊥
 
 -- at most so many bytes were taken and held behind the others, and none only at the end
 pub record TakesBehind (old new : SourceView) (held held' : List ℕ) (most count : ℕ) : Type 0 where
@@ -35,8 +34,7 @@ pub record TakesBehind (old new : SourceView) (held held' : List ℕ) (most coun
   pub count_of : length piece ≡ count
   pub end : count ≡ 0 → IsAtEnd new.left
 
-abbrev pub TakesMore : SourceView → SourceView → List ℕ → List ℕ → ℕ → Result ℕ Served → Type 0
+abbrev pub TakesMore : SourceView → SourceView → List ℕ → List ℕ → ℕ → Result ℕ DeskFail → Type 0
 TakesMore old new held held' most (Ok count) = TakesBehind old new held held' most count
-TakesMore old new held held' most (Err SourceFault) = Takes old new 0 [] × Rises old.faults new.faults
+TakesMore old new held held' most (Err Failed) = Takes old new 0 [] × Rises old.faults new.faults
 TakesMore old new held held' most (Err NoMemory) = new ≡ old
-TakesMore old new held held' most (Err _) = ⊥

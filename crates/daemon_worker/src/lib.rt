@@ -6,6 +6,7 @@ mod serving;
 mod taking;
 
 pub use serving::{MAX_STREAM_BYTES, Served, serve};
+pub use taking::take_frame;
 
 #[cfg(test)]
 mod tests;

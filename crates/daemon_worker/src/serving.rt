@@ -5,7 +5,7 @@ use crate::answering::answer;
 use crate::taking::take_frame;
 use daemon_protocol::{Frame, Request, StreamStart};
 use std::alloc::{AllocError, Global};
-use worker_desk::{Files, Sink, Source};
+use worker_desk::{DeskFail, Files, Sink, Source};
 
 /// The most bytes that are taken of a stream, 2^40.
 pub const MAX_STREAM_BYTES: u64 = 1_099_511_627_776;
@@ -33,6 +33,20 @@ impl From<AllocError> for Served {
 
     fn from(_error: AllocError) -> Served {
         Served::NoMemory
+    }
+}
+
+impl From<DeskFail> for Served {
+    ghost use Rattle.std.specs.Prelude.{◌≡◌};
+    ghost use Rattle.daemon_worker.specs.Ends.{served_of};
+
+    ghost from_gives = { λ fail served. served ≡ served_of fail };
+
+    fn from(fail: DeskFail) -> Served {
+        match fail {
+            DeskFail::Failed => Served::SourceFault,
+            DeskFail::NoMemory => Served::NoMemory,
+        }
     }
 }
 

@@ -3,24 +3,24 @@ ghost use Rattle.std.specs.Io.KnownBytes.{Consumes, IsAtEnd, Keeps};
 ghost use Rattle.daemon_protocol.specs.declared.limits.TheConstants.{MAX_FRAME_BYTES};
 ghost use Rattle.worker_desk.specs.SinkView.{Rises};
 ghost use Rattle.daemon_worker.specs.Taking.{TakesFrame, TakesMore};
-ghost use Rattle.daemon_worker.specs.declared.serving.Served.TheVariants.{SourceFault};
+ghost use Rattle.worker_desk.specs.declared.files.DeskFail.TheVariants.{Failed};
 
-use crate::serving::Served;
 use daemon_protocol::{StreamStart, lacking, look};
 use std::alloc::Global;
 use std::cmp::min;
-use worker_desk::Source;
+use worker_desk::{DeskFail, Source};
 
-/// Takes the bytes of the next frame and none behind it.
+/// Takes the bytes of the next frame and none behind it, and at most `room` bytes.
 ///
 /// It answers what stands at the start of the bytes that it holds then. They are no whole frame yet only
-/// where the stream ended, or gave as many bytes as there is room for.
-pub(crate) fn take_frame<S: Source>(
+/// where the stream ended, or gave as many bytes as there is room for. What was held before is forgotten. Failed and
+/// NoMemory come before the frame is whole, and the bytes taken of it are lost.
+pub fn take_frame<S: Source>(
     alloc: Global,
     source: &mut S,
     held: &mut Vec<u8>,
     room: u64,
-) -> Result<StreamStart, Served>
+) -> Result<StreamStart, DeskFail>
     ensures { TakesFrame (S.seen source.old) (S.seen source.new) room held.new.items result }
 {
     held.clear();
@@ -37,7 +37,7 @@ pub(crate) fn take_frame<S: Source>(
 }
 
 // Takes at most so many bytes more, once, and answers how many.
-fn take_more<S: Source>(source: &mut S, held: &mut Vec<u8>, most: usize) -> Result<usize, Served>
+fn take_more<S: Source>(source: &mut S, held: &mut Vec<u8>, most: usize) -> Result<usize, DeskFail>
     requires some { 0 < most }
     requires few { vec_len held.old + most ≤ MAX_FRAME_BYTES }
     ensures { TakesMore (S.seen source.old) (S.seen source.new) held.old.items held.new.items most result }
@@ -50,7 +50,7 @@ fn take_more<S: Source>(source: &mut S, held: &mut Vec<u8>, most: usize) -> Resu
 }
 
 // Takes once, into the bytes from this place on.
-fn take_at<S: Source>(source: &mut S, held: &mut Vec<u8>, place: usize) -> Result<usize, Served>
+fn take_at<S: Source>(source: &mut S, held: &mut Vec<u8>, place: usize) -> Result<usize, DeskFail>
     requires { place < vec_len held.old }
     ensures len { vec_len held.new ≡ vec_len held.old }
     ensures front { take place held.new.items ≡ take place held.old.items }
@@ -59,10 +59,10 @@ fn take_at<S: Source>(source: &mut S, held: &mut Vec<u8>, place: usize) -> Resul
     ensures ok { IfOk result (λ n. Consumes (S.seen source.old).left (S.seen source.new).left (take n (drop place held.new.items))) }
     ensures end { IfOk result (λ n. n ≡ 0 → IsAtEnd (S.seen source.new).left) }
     ensures kept { OnErr result (Keeps (S.seen source.old).left (S.seen source.new).left) }
-    ensures failed { IfErr result (λ served. (served ≡ SourceFault) × Rises (S.seen source.old).faults (S.seen source.new).faults) }
+    ensures failed { IfErr result (λ fail. (fail ≡ Failed) × Rises (S.seen source.old).faults (S.seen source.new).faults) }
 {
     match source.take(&mut held[place..]) {
         Ok(count) => Ok(count),
-        Err(_) => Err(Served::SourceFault),
+        Err(_) => Err(DeskFail::Failed),
     }
 }

@@ -5,7 +5,7 @@ use in_pieces::InPieces;
 use item_actions::Text;
 use std::alloc::{AllocError, Global};
 use std::test::Fail;
-use worker_desk::{FileEntry, FileMap, MemoryDesk, MemorySink, MemorySource, Source};
+use worker_desk::{FileEntry, FileMap, MemoryFiles, MemorySink, MemorySource, Source};
 
 /// A request of unit 7 for the lines of a.txt, and its reply.
 const REQUEST: &[u8; 17] = b"\x01\0\0\0\x0c\0\0\0\x07\x01\0\x05a.txt";
@@ -29,11 +29,11 @@ fn file(alloc: Global, name: &str, bytes: &[u8]) -> Result<FileEntry, AllocError
 }
 
 /// A desk with a.txt and an empty file.
-fn desk(alloc: Global, failing: Vec<u64>) -> Result<MemoryDesk, AllocError> {
+fn desk(alloc: Global, failing: Vec<u64>) -> Result<MemoryFiles, AllocError> {
     let mut files = Vec::new(alloc);
     files.push(file(alloc, "a.txt", b"one\ntwo\nthree\n")?)?;
     files.push(file(alloc, "empty", b"")?)?;
-    MemoryDesk::new(alloc, FileMap::new(files), failing)
+    MemoryFiles::new(alloc, FileMap::new(files), failing)
 }
 
 /// What serving these bytes answers, with its sink, where a call of the source or the sink moves at most so many.

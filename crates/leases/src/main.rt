@@ -11,7 +11,7 @@ use std::process::ExitCode;
 use std::sync::Wait;
 use std::thread::Threads;
 use std::{env, io};
-use worker_desk::{FolderDesk, OpenGate, StdSink, StdSource};
+use worker_desk::{FolderFiles, OpenGate, StdSink, StdSource};
 
 /// As many desks as a run may have threads.
 const DESKS: usize = 32;
@@ -52,12 +52,12 @@ fn words(rt: &HostRuntime, alloc: Global) -> Result<Vec<Text>, Hindrance> {
 }
 
 /// The desks of the current folder.
-fn desks(rt: &HostRuntime, alloc: Global) -> Result<Vec<FolderDesk<&HostRuntime>>, Hindrance>
+fn desks(rt: &HostRuntime, alloc: Global) -> Result<Vec<FolderFiles<&HostRuntime>>, Hindrance>
     ensures { IfOk result (λ desks. length desks.items ≡ 32) }
 {
     let mut desks = Vec::with_capacity(alloc, DESKS)?;
     for _ in 0..DESKS {
-        desks.push(FolderDesk::new(rt))?;
+        desks.push(FolderFiles::new(rt))?;
     }
     Ok(desks)
 }

@@ -9,7 +9,7 @@ use lock_journal::Book;
 use std::alloc::{AllocError, Global};
 use std::sync::Wait;
 use std::thread::Threads;
-use worker_desk::{FileEntry, FileMap, MeetingGate, MemoryDesk, MemorySink, MemorySource};
+use worker_desk::{FileEntry, FileMap, MeetingGate, MemoryFiles, MemorySink, MemorySource};
 
 /// As many desks as a run may have threads.
 const DESKS: usize = 32;
@@ -36,10 +36,10 @@ fn copies_of(alloc: Global, files: &[FileEntry]) -> Result<Vec<FileEntry>, Alloc
 }
 
 /// A desk of these files. Its calls of the numbers in `failing` fail.
-fn desk_of(alloc: Global, files: &[FileEntry], failing: Vec<u64>) -> Result<MemoryDesk, AllocError>
+fn desk_of(alloc: Global, files: &[FileEntry], failing: Vec<u64>) -> Result<MemoryFiles, AllocError>
     ensures { IfOk result (λ desk. desk.files ≡ folder_of files.now) }
 {
-    MemoryDesk::new(alloc, FileMap::new(copies_of(alloc, files)?), failing)
+    MemoryFiles::new(alloc, FileMap::new(copies_of(alloc, files)?), failing)
 }
 
 /// Desks that all have these files. The first one's calls of the numbers in `failing` fail.
@@ -47,7 +47,7 @@ fn desks_of(
     alloc: Global,
     files: &[FileEntry],
     failing: Vec<u64>,
-) -> Result<Vec<MemoryDesk>, AllocError>
+) -> Result<Vec<MemoryFiles>, AllocError>
     ensures count { IfOk result (λ desks. length desks.items ≡ 32) }
     ensures files { IfOk result (λ desks. All (λ desk. desk.files ≡ folder_of files.now) desks.items) }
 {
@@ -60,7 +60,7 @@ fn desks_of(
 }
 
 /// How many calls of the desks failed.
-fn desk_faults(desks: &[MemoryDesk]) -> u128 {
+fn desk_faults(desks: &[MemoryFiles]) -> u128 {
     let mut faults = 0u128;
     for desk in desks {
         faults = faults.saturating_add(u128::from(desk.count()));

@@ -17,7 +17,7 @@ use std::alloc::{AllocError, Global};
 use std::process::Abort;
 use std::sync::Wait;
 use std::test::Fail;
-use worker_desk::{FileEntry, FileMap, Files, MemoryDesk};
+use worker_desk::{FileEntry, FileMap, Files, MemoryFiles};
 
 /// Runs an item that the pass has claimed, with the lease that it took with it.
 fn run_claimed<F: Files>(
@@ -114,13 +114,13 @@ fn has_claimed(pass: &Pass, place: usize, unit: u32) -> bool
 }
 
 /// A desk of one file, whose third call fails.
-fn open_desk(alloc: Global) -> Result<MemoryDesk, AllocError> {
+fn open_desk(alloc: Global) -> Result<MemoryFiles, AllocError> {
     let entry = FileEntry {
         name: Text::from_str(alloc, "a.txt")?,
         bytes: Vec::from_slice(alloc, b"one\ntwo\nthree\n")?,
     };
     let files = FileMap::new(vec![in alloc; entry]?);
-    MemoryDesk::new(alloc, files, vec![in alloc; 2u64]?)
+    MemoryFiles::new(alloc, files, vec![in alloc; 2u64]?)
 }
 
 /// Runs the item on a file, on a missing one, and while the desk fails.

@@ -1,4 +1,4 @@
--- What the sink and the desk in memory hold, and what a call does to it.
+-- What the sink and the files in memory hold, and what a call does to it.
 use Rattle.std.specs.Prelude.{ℕ, ◌-◌, ◌==◌, min, List, [], ◌++◌, length, take, Bool, not, ◌&&◌, ◌||◌, if◌then◌else◌}
 use Rattle.item_actions.specs.Files.{Folder}
 use Rattle.worker_desk.specs.Calls.{CallsView, next_fails, after_call}
@@ -24,11 +24,11 @@ after_put failed store piece = record store {
   log = after_call failed store.log;
 }
 
--- a desk: its files
-pub record MemoryDeskView : Type 0 where
+-- a reader: its files
+pub record MemoryFilesView : Type 0 where
   pub files : Folder
   pub log : CallsView
 
--- the desk after a read
-abbrev pub after_read : MemoryDeskView → MemoryDeskView
+-- the reader after a read
+abbrev pub after_read : MemoryFilesView → MemoryFilesView
 after_read store = record store { log = after_call (next_fails store.log) store.log }

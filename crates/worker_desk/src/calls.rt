@@ -5,7 +5,7 @@ use std::marker::Model;
 
 /// The calls on an object in memory, numbered from 0.
 #[derive(Debug, Drop)]
-pub(crate) struct Calls {
+pub struct Calls {
     failing: Vec<u64>,
     made: u64,
     faults: u64,
@@ -29,6 +29,13 @@ impl Calls {
             made: 0,
             faults: 0,
         }
+    }
+
+    /// How many calls were made, which is the number of the next one; it stands still at 2^64 - 1.
+    pub fn made(&self) -> u64
+        ensures { result ≡ self.now.made }
+    {
+        self.made
     }
 
     /// Whether the next call is to fail by its number.

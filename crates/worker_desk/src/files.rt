@@ -6,6 +6,8 @@ ghost use Rattle.worker_desk.specs.ReadView.{IsWithin, ReadsFrom, read_view};
 
 use item_actions::Text;
 use std::alloc::{AllocError, Global};
+use std::io;
+use std::io::ErrorKind;
 use thiserror::Error;
 
 /// What there is under a file's name.
@@ -40,6 +42,16 @@ impl From<AllocError> for DeskFail {
     }
 }
 
+/// Nothing is counted here.
+impl From<io::Error> for DeskFail {
+    fn from(error: io::Error) -> DeskFail {
+        match error.kind() {
+            ErrorKind::OutOfMemory => DeskFail::NoMemory,
+            _ => DeskFail::Failed,
+        }
+    }
+}
+
 /// Files that are read whole, by their names.
 pub trait Files {
     /// The files by name, where known. No call changes them.
@@ -48,9 +60,13 @@ pub trait Files {
     /// How often the outside failed; it stands still at 2^64 - 1.
     ghost faults: { Self → ℕ };
 
+    /// What a read leaves as it is, besides the files.
+    ghost keeps: { Self → Self → Type 0 };
+
     /// Reads the file of this name, if it has at most `limit` bytes.
     fn read(&mut self, alloc: Global, name: &Text, limit: u64) -> Result<Read, DeskFail>
         ensures files { files self.new ≡ files self.old }
+        ensures keeps { keeps self.old self.new }
         ensures kept { faults self.old ≤ faults self.new }
         ensures failed { IsErrOf result DeskFail.Failed → Rises (faults self.old) (faults self.new) }
         ensures within { IfOk result (λ read. IsWithin limit (read_view read)) }

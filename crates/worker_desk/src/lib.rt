@@ -4,9 +4,9 @@
 mod calls;
 mod file_map;
 mod files;
-mod folder_desk;
+mod folder_files;
 mod gates;
-mod memory_desk;
+mod memory_files;
 mod memory_sink;
 mod memory_source;
 mod pages;
@@ -18,11 +18,12 @@ mod std_sink;
 mod std_source;
 mod work;
 
+pub use calls::Calls;
 pub use file_map::{FileEntry, FileMap};
 pub use files::{DeskFail, Files, Read};
-pub use folder_desk::FolderDesk;
+pub use folder_files::{FolderFiles, read_file};
 pub use gates::{Gate, MeetingGate, OpenGate};
-pub use memory_desk::MemoryDesk;
+pub use memory_files::MemoryFiles;
 pub use memory_sink::MemorySink;
 pub use memory_source::MemorySource;
 pub use pages::Page;

@@ -1,6 +1,6 @@
 use crate::{
-    DeskFail, Failed, FileEntry, FileMap, Files, FolderDesk, MemoryDesk, MemorySink, MemorySource,
-    Page, Read, Source, StdSink, StdSource, put_all, work_out,
+    DeskFail, Failed, FileEntry, FileMap, Files, FolderFiles, MemoryFiles, MemorySink,
+    MemorySource, Page, Read, Source, StdSink, StdSource, put_all, work_out,
 };
 use item_actions::{ItemAction, Outcome, Text};
 use std::alloc::{AllocError, Global};
@@ -77,14 +77,14 @@ fn page_prints_wide_numbers(rt: HostRuntime) -> Result<(), Fail> {
 }
 
 #[test]
-fn desk_in_memory_reads_its_files(rt: HostRuntime) -> Result<(), Fail> {
+fn files_in_memory_are_read(rt: HostRuntime) -> Result<(), Fail> {
     let alloc = rt.alloc();
     let entry = FileEntry {
         name: text(alloc, "a")?,
         bytes: vec![in alloc; 1u8, 2, 3]?,
     };
     let files = FileMap::new(vec![in alloc; entry]?);
-    let mut desk = MemoryDesk::new(alloc, files, vec![in alloc; 3u64]?)?;
+    let mut desk = MemoryFiles::new(alloc, files, vec![in alloc; 3u64]?)?;
     let (here, elsewhere) = (text(alloc, "a")?, text(alloc, "b")?);
     let whole = desk.read(alloc, &here, 3);
     assert!(rt;
@@ -99,7 +99,7 @@ fn desk_in_memory_reads_its_files(rt: HostRuntime) -> Result<(), Fail> {
 }
 
 #[test]
-fn folder_desk_reads_what_a_sink_wrote(rt: HostRuntime) -> Result<(), Fail> {
+fn what_a_sink_wrote_is_read_from_the_folder(rt: HostRuntime) -> Result<(), Fail> {
     let alloc = rt.alloc();
     let name = "worker_desk_written.txt";
     let content = [b'x'; 10000];
@@ -107,7 +107,7 @@ fn folder_desk_reads_what_a_sink_wrote(rt: HostRuntime) -> Result<(), Fail> {
     assert!(rt; put_all(&mut sink, &content).is_ok());
     assert_eq!(rt; sink.count(), 0);
 
-    let mut desk = FolderDesk::new(&rt);
+    let mut desk = FolderFiles::new(&rt);
     let written = text(alloc, name)?;
     let whole = desk.read(alloc, &written, 10000);
     let over = desk.read(alloc, &written, 9999);
@@ -136,11 +136,11 @@ fn varied(alloc: Global, len: u64) -> Result<Vec<u8>, AllocError> {
 }
 
 #[test]
-fn folder_desk_reads_files_of_lengths_about_its_first_room(rt: HostRuntime) -> Result<(), Fail> {
+fn files_of_lengths_about_the_first_room_are_read(rt: HostRuntime) -> Result<(), Fail> {
     let alloc = rt.alloc();
     let name = "worker_desk_lengths.txt";
     let written = text(alloc, name)?;
-    let mut desk = FolderDesk::new(&rt);
+    let mut desk = FolderFiles::new(&rt);
     let lengths: [(u64, u64); 6] = [
         (0, 1),
         (1022, 1023),
@@ -231,7 +231,7 @@ fn item_is_worked_out_on_its_file(rt: HostRuntime) -> Result<(), Fail> {
         name: text(alloc, "a")?,
         bytes: Vec::from_slice(alloc, b"one\ntwo\n")?,
     })?;
-    let mut desk = MemoryDesk::new(alloc, FileMap::new(entries), vec![in alloc; 2u64]?)?;
+    let mut desk = MemoryFiles::new(alloc, FileMap::new(entries), vec![in alloc; 2u64]?)?;
     let rows = [
         ("a", Outcome::Number(2)),
         ("b", Outcome::NotThere),

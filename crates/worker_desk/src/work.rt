@@ -13,6 +13,7 @@ use std::alloc::Global;
 /// failed and their count of faults rose, or NoMemory.
 pub fn work_out<F: Files>(alloc: Global, action: &ItemAction, name: &Text, files: &mut F) -> Outcome
     ensures files { F.files files.new ≡ F.files files.old }
+    ensures keeps { F.keeps files.old files.new }
     ensures kept { F.faults files.old ≤ F.faults files.new }
     ensures ran { result ≢ outcomes.Skipped }
     ensures fault { result ≡ outcomes.Fault → Rises (F.faults files.old) (F.faults files.new) }

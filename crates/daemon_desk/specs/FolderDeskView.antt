@@ -1,0 +1,16 @@
+-- A desk of the current folder, and how it counts.
+use Rattle.std.specs.Prelude.{ℕ, List, Result, Err}
+use Rattle.worker_desk.specs.Calls.{next}
+use Rattle.worker_desk.specs.declared.files.DeskFail.{DeskFail}
+use Rattle.worker_desk.specs.declared.files.DeskFail.TheVariants.{Failed}
+
+-- the program that `self` means, the count of faults, and the count of the requests sent
+pub record FolderDeskView : Type 0 where
+  pub program : List ℕ
+  pub faults : ℕ
+  pub sends : ℕ
+
+-- the desk after this answer of a call: a fault is counted
+abbrev pub after_answer : {T : Type 0} → Result T DeskFail → FolderDeskView → FolderDeskView
+after_answer (Err Failed) desk = record desk { faults = next desk.faults }
+after_answer _ desk = desk

@@ -1,0 +1,29 @@
+-- A desk in memory, and what its calls do to it.
+use Rattle.std.specs.Prelude.{ℕ, List, [], ◌∷◌, ◌++◌, Bool, Option, None, Some}
+use Rattle.item_actions.specs.Files.{Folder}
+use Rattle.worker_desk.specs.Calls.{CallsView, next, after_call}
+use Rattle.daemon_desk.specs.declared.lies.Lie.{Lie}
+use Rattle.daemon_desk.specs.declared.sent.SentRequest.{SentRequest}
+
+pub record MemoryDeskView : Type 0 where
+  pub files : Folder
+  pub lies : List Lie
+  pub log : CallsView
+  pub sends : ℕ
+  pub sent : List SentRequest
+
+-- the files, unless a lie may be told of them
+abbrev pub told : List Lie → Folder → Option Folder
+told [] files = Some files
+told (lie ∷ lies) files = None
+
+abbrev pub known_files : MemoryDeskView → Option Folder
+known_files desk = told desk.lies desk.files
+
+-- the desk after one more call
+abbrev pub called : Bool → MemoryDeskView → MemoryDeskView
+called failed desk = record desk { log = after_call failed desk.log }
+
+-- the desk with one more request sent
+abbrev pub and_sends : MemoryDeskView → SentRequest → MemoryDeskView
+and_sends desk one = record desk { sends = next desk.sends; sent = desk.sent ++ one ∷ [] }

@@ -1,0 +1,32 @@
+-- A daemon's reply to a request.
+use Rattle.std.specs.Prelude.{◌≡◌, ◌≢◌, ◌==◌, ◌&&◌, ℕ, Bool, true, false, Option, IfSome, Result, Ok, Err, if◌then◌else◌}
+use Rattle.item_actions.specs.Files.{Folder}
+use Rattle.item_actions.specs.Value.{IsHonest, value_on}
+use Rattle.item_actions.specs.declared.outcomes.Outcome.{Outcome}
+use Rattle.item_actions.specs.declared.outcomes.Outcome.TheVariants.{Fault, Skipped}
+use Rattle.daemon_protocol.specs.declared.frames.Frame.TheVariants as frames
+use Rattle.daemon_protocol.specs.declared.frames.Reply.{Reply}
+use Rattle.daemon_protocol.specs.declared.frames.Request.{Request}
+use Rattle.daemon_protocol.specs.declared.starts.StreamStart.{StreamStart}
+use Rattle.daemon_protocol.specs.declared.starts.StreamStart.TheVariants.{Whole}
+use Rattle.worker_desk.specs.declared.files.DeskFail.{DeskFail}
+use Rattle.worker_desk.specs.declared.files.DeskFail.TheVariants.{Failed}
+
+-- what a daemon may tell of a request that it worked out
+abbrev pub is_told : Outcome → Bool
+is_told Fault = false
+is_told Skipped = false
+is_told _ = true
+
+-- the reply that stands at the start of an answer, where it is for this unit and tells no fault
+abbrev pub reply_to : ℕ → StreamStart → Result Reply DeskFail
+reply_to unit (Whole (frames.Reply r) n) = if r.unit == unit && is_told r.outcome then Ok r else Err Failed
+reply_to unit _ = Err Failed
+
+-- A reply is for the request's unit and tells no fault. Where the files are known it tells the request's value, or that there
+-- was no memory.
+pub record IsReplyTo (known : Option Folder) (request : Request) (reply : Reply) : Type 0 where
+  pub unit : reply.unit ≡ request.unit
+  pub ran : reply.outcome ≢ Skipped
+  pub worked : reply.outcome ≢ Fault
+  pub honest : IfSome known (λ files. IsHonest reply.outcome (value_on files request.action request.file))

@@ -1,0 +1,120 @@
+ghost use Rattle.std.specs.Prelude.{◌≡◌};
+ghost use Rattle.daemon_desk.specs.FolderDeskView.{after_answer};
+
+use crate::desks::Desk;
+use crate::folder_link::FolderLink;
+use daemon_protocol::{Reply, Request};
+use daemon_requirements::Requirements;
+use item_actions::Text;
+use std::alloc::Global;
+use std::marker::Model;
+use std::process::{Processes, SystemProcess};
+use std::rt;
+use worker_desk::{DeskFail, Files, Read, read_file};
+
+/// A desk that reads the files of the current folder, and whose daemons are child processes in it. It tells neither the
+/// files nor the requests sent.
+#[derive(Drop)]
+pub struct FolderDesk<R: Drop> {
+    rt: R,
+    program: Text,
+    faults: u64,
+    sends: u64,
+}
+
+impl<R: Drop> Model for FolderDesk<R> {
+    ghost use Rattle.daemon_desk.specs.FolderDeskView.{FolderDeskView};
+
+    ghost Value = { FolderDeskView };
+
+    ghost view = { λ d. record { program = d.program; faults = d.faults; sends = d.sends } };
+}
+
+impl<R: Drop> FolderDesk<R> {
+    /// A desk by this runtime. The executable `self` of requirements means `program`.
+    pub fn new(rt: R, program: Text) -> FolderDesk<R>
+        ensures { result ≡ record { program = program; faults = 0; sends = 0 } }
+    {
+        FolderDesk {
+            rt,
+            program,
+            faults: 0,
+            sends: 0,
+        }
+    }
+
+    /// How many calls failed.
+    pub fn count(&self) -> u64
+        ensures { result ≡ self.now.faults }
+    {
+        self.faults
+    }
+
+    // Counts the fault of an answer, and hands the answer on.
+    fn counted<T: Drop>(&mut self, answer: Result<T, DeskFail>) -> Result<T, DeskFail>
+        ensures same { result ≡ answer }
+        ensures counted { self.new ≡ after_answer answer self.old }
+    {
+        if matches!(answer, Err(DeskFail::Failed)) {
+            self.faults = self.faults.saturating_add(1);
+        }
+        answer
+    }
+}
+
+impl<R: rt::Files + Drop> Files for FolderDesk<R> {
+    ghost use Rattle.std.specs.Prelude.{◌≡◌, None};
+
+    ghost files = { λ _. None };
+
+    ghost faults = { λ d. d.faults };
+
+    ghost keeps = { λ old new. new.sends ≡ old.sends };
+
+    fn read(&mut self, alloc: Global, name: &Text, limit: u64) -> Result<Read, DeskFail> {
+        let read = read_file(&self.rt, alloc, name, limit);
+        self.counted(read)
+    }
+}
+
+impl<R: rt::Files + Processes<Started = SystemProcess> + Drop> Desk for FolderDesk<R> {
+    ghost use Rattle.std.specs.Prelude.{None};
+    ghost use Rattle.std.proofs.Common.{rules};
+
+    type Link = FolderLink;
+
+    ghost sends = { λ d. d.sends };
+
+    ghost sent = { λ _. None };
+
+    ghost waiting = { λ link. link.waiting };
+
+    fn start(&mut self, alloc: Global, asked: &Requirements) -> Result<FolderLink, DeskFail> {
+        let link = FolderLink::start(&self.rt, alloc, self.program.as_str(), asked);
+        self.counted(link)
+    }
+
+    fn send(
+        &mut self,
+        alloc: Global,
+        link: &mut FolderLink,
+        request: &Request,
+    ) -> Result<(), DeskFail> {
+        let sent = link.send(alloc, request);
+        if sent.is_ok() {
+            self.sends = self.sends.saturating_add(1);
+        }
+        self.counted(sent)
+    }
+
+    fn receive(&mut self, alloc: Global, link: &mut FolderLink) -> Result<Reply, DeskFail> {
+        let reply = link.receive(alloc);
+        self.counted(reply)
+    }
+
+    fn stop(&mut self, link: FolderLink) {
+        link.stop();
+    }
+
+    ghost reads_send_nothing = { Prim.search rules };
+}

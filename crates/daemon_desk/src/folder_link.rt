@@ -1,0 +1,135 @@
+ghost use Rattle.std.specs.Prelude.{◌≡◌, ◌≢◌, None, Some, IfOk, IfSome, OnOk, OnErr, true};
+ghost use Rattle.item_actions.specs.Forms.{is_file_name};
+ghost use Rattle.daemon_protocol.specs.Spelling.{spelling};
+ghost use Rattle.daemon_protocol.specs.declared.frames.Frame.TheVariants.{Stop};
+ghost use Rattle.daemon_desk.specs.Replies.{IsReplyTo};
+ghost use Rattle.daemon_desk.specs.Requests.{request_in};
+
+use crate::commands::command_of;
+use crate::replies::reply_to;
+use daemon_protocol::{Frame, HEAD_BYTES, MAX_FRAME_BYTES, Reply, Request, encode};
+use daemon_requirements::{Linked, Requirements};
+use daemon_worker::take_frame;
+use std::alloc::Global;
+use std::marker::Model;
+use std::process::{Child, ChildStdin, ChildStdout, Processes, SystemProcess};
+use worker_desk::{DeskFail, StdSink, StdSource, put_all};
+
+/// A link to a child process. It has to be stopped: a drop doesn't wait for the child.
+#[derive(Drop)]
+pub struct FolderLink {
+    made_for: Requirements,
+    waiting: Option<Request>,
+    // The bytes of the reply at hand, kept for their memory.
+    held: Vec<u8>,
+    child: Child<SystemProcess>,
+    input: StdSink<ChildStdin>,
+    output: StdSource<ChildStdout>,
+}
+
+impl Model for FolderLink {
+    ghost use Rattle.daemon_desk.specs.LinkView.{LinkView};
+
+    ghost Value = { LinkView };
+
+    ghost view = { λ link. record { made_for = link.made_for; waiting = link.waiting } };
+}
+
+impl FolderLink {
+    /// Starts a child with these requirements, where `own` is the program that `self` means. Nothing is counted here.
+    pub(crate) fn start<R: Processes<Started = SystemProcess>>(
+        rt: &R,
+        alloc: Global,
+        own: &str,
+        asked: &Requirements,
+    ) -> Result<FolderLink, DeskFail>
+        ensures { IfOk result (λ link. link ≡ record { made_for = asked.now; waiting = None }) }
+    {
+        let made_for = asked.copy(alloc)?;
+        let mut child = command_of(alloc, own, asked)?.spawn(rt)?;
+        match (child.stdin.take(), child.stdout.take()) {
+            (Some(input), Some(output)) => Ok(FolderLink {
+                made_for,
+                waiting: None,
+                held: Vec::new(alloc),
+                child,
+                input: StdSink::new(input),
+                output: StdSource::new(output),
+            }),
+            pipes => {
+                drop(pipes);
+                let _ = child.wait();
+                Err(DeskFail::Failed)
+            }
+        }
+    }
+
+    /// Writes a request to the child. Nothing is counted here.
+    pub(crate) fn send(&mut self, alloc: Global, request: &Request) -> Result<(), DeskFail>
+        requires { is_file_name request.now.file ≡ true }
+        ensures ok { OnOk result (self.new ≡ record self.old { waiting = Some request.now }) }
+        ensures err { OnErr result (self.new ≡ self.old) }
+    {
+        let frame = Frame::Request(request.copy(alloc)?);
+        let bytes = encode(alloc, &frame)?;
+        if put_all(&mut self.input, &bytes).is_err() {
+            return Err(DeskFail::Failed);
+        }
+        self.waiting = request_in(frame);
+        Ok(())
+    }
+
+    /// Reads the reply to the request that waits. Nothing is counted here.
+    pub(crate) fn receive(&mut self, alloc: Global) -> Result<Reply, DeskFail>
+        ensures reply { IfOk result (λ reply. IfSome self.old.waiting (λ request. IsReplyTo None request reply)) }
+        ensures left { self.new ≡ record self.old { waiting = None } }
+    {
+        let Some(request) = self.waiting.take() else {
+            return Err(DeskFail::Failed);
+        };
+        let room = MAX_FRAME_BYTES as u64;
+        let start = take_frame(alloc, &mut self.output, &mut self.held, room)?;
+        reply_to(request.unit, &start)
+    }
+
+    /// Tells the child to stop, closes its pipes, which ends one that doesn't listen, and waits for its end.
+    pub(crate) fn stop(self) {
+        let FolderLink {
+            made_for: _,
+            waiting: _,
+            held: _,
+            mut child,
+            mut input,
+            output,
+        } = self;
+        let _ = put_all(&mut input, &stop_bytes());
+        drop(input);
+        drop(output);
+        let _ = child.wait();
+    }
+}
+
+impl Linked for FolderLink {
+    ghost requirements = { λ link. link.made_for };
+
+    fn made_for(&self) -> &Requirements {
+        &self.made_for
+    }
+}
+
+// The request in a frame, if it is one.
+fn request_in(frame: Frame) -> Option<Request>
+    ensures { result ≡ request_in frame }
+{
+    match frame {
+        Frame::Request(request) => Some(request),
+        _ => None,
+    }
+}
+
+// The bytes of a Stop frame, which take no memory.
+fn stop_bytes() -> [u8; HEAD_BYTES]
+    ensures { result ≡ spelling Stop }
+{
+    [3, 0, 0, 0, 0]
+}

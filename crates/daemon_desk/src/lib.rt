@@ -1,0 +1,21 @@
+//! Worker daemons as the build sees them: started, asked and stopped, in memory or as child processes.
+#![tactic(auto)]
+
+mod commands;
+mod desks;
+mod folder_desk;
+mod folder_link;
+mod lies;
+mod memory_desk;
+mod memory_link;
+mod replies;
+mod sent;
+mod serving;
+
+pub use desks::Desk;
+pub use folder_desk::FolderDesk;
+pub use folder_link::FolderLink;
+pub use lies::Lie;
+pub use memory_desk::MemoryDesk;
+pub use memory_link::MemoryLink;
+pub use sent::SentRequest;

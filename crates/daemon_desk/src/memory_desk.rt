@@ -1,0 +1,209 @@
+ghost use Rattle.std.specs.Prelude.{◌≡◌, ◌↔◌, [], None, Some, IfOk, IfSome, IsTrue, IsSome, OnErr, OnOk, true, false};
+ghost use Rattle.std.specs.Result.{IsErrOf};
+ghost use Rattle.item_actions.specs.Forms.{is_file_name};
+ghost use Rattle.worker_desk.specs.Calls.{no_calls, next_fails};
+ghost use Rattle.worker_desk.specs.ReadView.{ReadsFrom};
+ghost use Rattle.daemon_desk.specs.MemoryDeskView.{called, and_sends, known_files};
+ghost use Rattle.daemon_desk.specs.Replies.{IsReplyTo};
+ghost use Rattle.daemon_desk.specs.Sent.{sent_over};
+
+use crate::desks::Desk;
+use crate::lies::Lie;
+use crate::memory_link::MemoryLink;
+use crate::replies::reply_to;
+use crate::sent::SentRequest;
+use crate::serving::served_reply;
+use daemon_protocol::{Reply, Request, look};
+use daemon_requirements::{Linked, Requirements};
+use item_actions::Text;
+use std::alloc::{AllocError, Global};
+use std::marker::Model;
+use worker_desk::{Calls, DeskFail, FileMap, Files, Read};
+
+/// A desk whose files are in memory, and whose daemons serve over memory on the same files.
+///
+/// Its calls are numbered from 0, all five kinds of them together. A desk with a lie doesn't tell its files.
+#[derive(Debug, Drop)]
+pub struct MemoryDesk {
+    files: FileMap,
+    lies: Vec<Lie>,
+    calls: Calls,
+    sends: u64,
+    sent: Vec<SentRequest>,
+}
+
+impl Model for MemoryDesk {
+    ghost use Rattle.daemon_desk.specs.MemoryDeskView.{MemoryDeskView};
+
+    ghost Value = { MemoryDeskView };
+
+    ghost view = { λ d. record { files = d.files; lies = d.lies.items; log = d.calls; sends = d.sends; sent = d.sent.items } };
+}
+
+impl MemoryDesk {
+    /// A desk of these files. The calls of the numbers in `failing` fail, and at the call of a lie's number a daemon's
+    /// answer is the lie's bytes.
+    pub fn new(alloc: Global, files: FileMap, failing: Vec<u64>, lies: Vec<Lie>) -> MemoryDesk
+        ensures { result ≡ record { files = files; lies = lies.items; log = no_calls failing.items; sends = 0; sent = [] } }
+    {
+        MemoryDesk {
+            files,
+            lies,
+            calls: Calls::new(failing),
+            sends: 0,
+            sent: Vec::new(alloc),
+        }
+    }
+
+    /// How many calls failed.
+    pub fn count(&self) -> u64
+        ensures { result ≡ self.now.log.faults }
+    {
+        self.calls.faults()
+    }
+
+    /// The requests sent, in order.
+    pub fn sent(&self) -> &[SentRequest]
+        ensures { result.now ≡ self.now.sent }
+    {
+        self.sent.as_slice()
+    }
+
+    // Counts a call, and answers whether it fails by its number.
+    fn call_fails(&mut self) -> bool
+        ensures fails { result ≡ next_fails self.old.log }
+        ensures called { self.new ≡ called result self.old }
+    {
+        let fails = self.calls.next_fails();
+        self.calls.add(fails);
+        fails
+    }
+
+    // Counts a request that was sent.
+    fn add(&mut self, sent: SentRequest) -> Result<(), AllocError>
+        ensures ok { IfOk result (λ _. self.new ≡ and_sends self.old sent) }
+        ensures err { OnErr result (self.new ≡ self.old) }
+    {
+        self.sent.push(sent)?;
+        self.sends = self.sends.saturating_add(1);
+        Ok(())
+    }
+
+    // The reply to the request that waits, by the daemon or by the lie at this call. The call isn't counted here.
+    fn reply(&mut self, alloc: Global, link: &mut MemoryLink) -> Result<Reply, DeskFail>
+        ensures same { self.new ≡ self.old }
+        ensures link { link.new ≡ record link.old { waiting = None } }
+        ensures reply { IfOk result (λ reply. IfSome link.old.waiting (λ request. IsReplyTo (known_files self.old) request reply)) }
+    {
+        let Some(request) = link.take_waiting() else {
+            return Err(DeskFail::Failed);
+        };
+        if self.calls.next_fails() {
+            return Err(DeskFail::Failed);
+        }
+        match self.lie() {
+            Some(answer) => {
+                let start = look(alloc, answer)?;
+                reply_to(request.unit, &start)
+            }
+            None => served_reply(alloc, request, &mut self.files),
+        }
+    }
+
+    // The lie at this call, if one is told.
+    fn lie(&self) -> Option<&[u8]>
+        ensures { IsSome result → known_files self.now ≡ None }
+    {
+        let number = self.calls.made();
+        for lie in &self.lies {
+            if lie.call == number {
+                return Some(lie.bytes.as_slice());
+            }
+        }
+        None
+    }
+}
+
+impl Files for MemoryDesk {
+    ghost use Rattle.std.specs.Prelude.{◌≡◌};
+    ghost use Rattle.worker_desk.specs.Calls.{next_fails};
+    ghost use Rattle.daemon_desk.specs.MemoryDeskView.{called, known_files};
+
+    ghost files = { known_files };
+
+    ghost faults = { λ d. d.log.faults };
+
+    ghost keeps = { λ old new. new ≡ called (next_fails old.log) old };
+
+    fn read(&mut self, alloc: Global, name: &Text, limit: u64) -> Result<Read, DeskFail>
+        ensures failed { IsErrOf result DeskFail.Failed ↔ IsTrue (next_fails self.old.log) }
+        ensures after { self.new ≡ called (next_fails self.old.log) self.old }
+        ensures known { ReadsFrom (Some self.old.files) name.now limit result }
+    {
+        if self.call_fails() {
+            return Err(DeskFail::Failed);
+        }
+        Ok(self.files.reading(alloc, name, limit)?)
+    }
+}
+
+impl Desk for MemoryDesk {
+    ghost use Rattle.std.specs.Prelude.{Some};
+    ghost use Rattle.std.proofs.Common.{rules};
+
+    type Link = MemoryLink;
+
+    ghost sends = { λ d. d.sends };
+
+    ghost sent = { λ d. Some d.sent };
+
+    ghost waiting = { λ link. link.waiting };
+
+    fn start(&mut self, alloc: Global, asked: &Requirements) -> Result<MemoryLink, DeskFail>
+        ensures failed { IsErrOf result DeskFail.Failed ↔ IsTrue (next_fails self.old.log) }
+        ensures link { IfOk result (λ link. link ≡ record { made_for = asked.now; waiting = None }) }
+        ensures after { self.new ≡ called (next_fails self.old.log) self.old }
+    {
+        if self.call_fails() {
+            return Err(DeskFail::Failed);
+        }
+        Ok(MemoryLink::new(asked.copy(alloc)?))
+    }
+
+    fn send(
+        &mut self,
+        alloc: Global,
+        link: &mut MemoryLink,
+        request: &Request,
+    ) -> Result<(), DeskFail>
+        requires { is_file_name request.now.file ≡ true }
+        ensures failed { IsErrOf result DeskFail.Failed ↔ IsTrue (next_fails self.old.log) }
+        ensures kept { OnErr result (link.new ≡ link.old) }
+        ensures not { OnErr result (self.new ≡ called (next_fails self.old.log) self.old) }
+        ensures waits { OnOk result (link.new ≡ record link.old { waiting = Some request.now }) }
+        ensures after { OnOk result (self.new ≡ and_sends (called false self.old) (sent_over link.old.made_for request.now)) }
+    {
+        if self.call_fails() {
+            return Err(DeskFail::Failed);
+        }
+        let waiting = request.copy(alloc)?;
+        let sent = SentRequest::of(alloc, link.made_for(), request)?;
+        self.add(sent)?;
+        link.wait_for(waiting);
+        Ok(())
+    }
+
+    fn receive(&mut self, alloc: Global, link: &mut MemoryLink) -> Result<Reply, DeskFail> {
+        let reply = self.reply(alloc, link);
+        self.calls.add(matches!(reply, Err(DeskFail::Failed)));
+        reply
+    }
+
+    fn stop(&mut self, _link: MemoryLink)
+        ensures { self.new ≡ called false self.old }
+    {
+        self.calls.add(false);
+    }
+
+    ghost reads_send_nothing = { Prim.search rules };
+}

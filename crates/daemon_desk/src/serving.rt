@@ -1,0 +1,37 @@
+ghost use Rattle.std.specs.Prelude.{◌≡◌, Some, IfOk, true};
+ghost use Rattle.item_actions.specs.Forms.{is_file_name};
+ghost use Rattle.daemon_desk.specs.Replies.{IsReplyTo};
+
+use crate::replies::reply_to;
+use daemon_protocol::{Frame, HEAD_BYTES, Reply, Request, encode, look, spelled_frames_are_read};
+use daemon_worker::{Served, serve};
+use std::alloc::Global;
+use worker_desk::{DeskFail, FileMap, MemorySink, MemorySource};
+
+/// The most bytes of a reply: its head, the unit, and a digest behind the byte that says so.
+const MAX_REPLY_BYTES: u64 = HEAD_BYTES as u64 + 37;
+
+/// The reply of a worker that serves over memory.
+pub(crate) fn served_reply(
+    alloc: Global,
+    request: Request,
+    files: &mut FileMap,
+) -> Result<Reply, DeskFail>
+    requires { is_file_name request.file ≡ true }
+    ensures files { files.new ≡ files.old }
+    ensures reply { IfOk result (λ reply. IsReplyTo (Some files.old) request reply) }
+{
+    spelled_frames_are_read();
+    let unit = request.unit;
+    let bytes = encode(alloc, &Frame::Request(request))?;
+    let mut source = MemorySource::new(bytes, Vec::new(alloc));
+    let mut sink = MemorySink::limited(alloc, MAX_REPLY_BYTES)?;
+    match serve(alloc, &mut source, &mut sink, files) {
+        Served::Done => {
+            let start = look(alloc, sink.taken())?;
+            reply_to(unit, &start)
+        }
+        Served::NoMemory => Err(DeskFail::NoMemory),
+        _ => Err(DeskFail::Failed),
+    }
+}

@@ -1,0 +1,93 @@
+//! The calls of the pool behind its lock, which is held for one call at a time: a daemon starts and works without it.
+ghost use Rattle.std.specs.Prelude.{◌≡◌, ◌≤◌, IfErr, IfOk, IfSome};
+ghost use Rattle.std.specs.Result.{IsErrOf};
+ghost use Rattle.daemon_requirements.specs.Covers.{Covers};
+ghost use Rattle.worker_desk.specs.SinkView.{Rises};
+
+use daemon_desk::Desk;
+use daemon_manager::{Pool, Reserved};
+use daemon_requirements::{Linked, Requirements};
+use std::alloc::{AllocError, Global};
+use std::sync::{Mutex, Wait};
+use worker_desk::DeskFail;
+
+/// The pool of a run's daemons, which its workers share.
+pub type PoolLock<L> = Mutex<Pool<L>>;
+
+/// Reserves an idle daemon that covers what is asked, or starts one. Where there is no memory to keep a daemon that was
+/// started, it is stopped.
+pub(crate) fn reserve<R: Wait, D: Desk>(
+    rt: &R,
+    alloc: Global,
+    desk: &mut D,
+    pool: &PoolLock<D::Link>,
+    unit: u32,
+    asked: &Requirements,
+) -> Result<Reserved<D::Link>, DeskFail>
+    ensures covers { IfOk result (λ reserved. Covers (D.Link.requirements reserved.link) asked.now) }
+    ensures files { D.files desk.new ≡ D.files desk.old }
+    ensures kept { D.faults desk.old ≤ D.faults desk.new }
+    ensures failed { IsErrOf result DeskFail.Failed → Rises (D.faults desk.old) (D.faults desk.new) }
+    ensures sends { D.sends desk.new ≡ D.sends desk.old }
+    ensures sent { D.sent desk.new ≡ D.sent desk.old }
+{
+    if let Some(reserved) = reserve_idle(rt, pool, unit, asked)? {
+        return Ok(reserved);
+    }
+    let requirements = asked.copy(alloc)?;
+    let link = desk.start(alloc, asked)?;
+    match adopt(rt, pool, link, requirements, unit) {
+        Ok(reserved) => Ok(reserved),
+        Err(link) => {
+            desk.stop(link);
+            Err(DeskFail::NoMemory)
+        }
+    }
+}
+
+/// Reserves the last released idle daemon that covers what is asked, if one does.
+fn reserve_idle<R: Wait, L: Linked + Drop>(
+    rt: &R,
+    pool: &PoolLock<L>,
+    unit: u32,
+    asked: &Requirements,
+) -> Result<Option<Reserved<L>>, AllocError>
+    ensures { IfOk result (λ found. IfSome found (λ reserved. Covers (L.requirements reserved.link) asked.now)) }
+{
+    pool.lock(rt).reserve_idle(unit, asked)
+}
+
+/// Takes a daemon in that was started with these requirements. Where there is no memory its link comes back.
+fn adopt<R: Wait, L: Linked + Drop>(
+    rt: &R,
+    pool: &PoolLock<L>,
+    link: L,
+    requirements: Requirements,
+    unit: u32,
+) -> Result<Reserved<L>, L>
+    requires { L.requirements link ≡ requirements }
+    ensures adopted { IfOk result (λ reserved. reserved.link ≡ link) }
+    ensures link { IfErr result (λ returned. returned ≡ link) }
+{
+    pool.lock(rt).adopt(link, requirements, unit)
+}
+
+/// Gives a daemon back, and the link of another to stop, where one too many is idle.
+pub(crate) fn release<R: Wait, L: Linked + Drop>(
+    rt: &R,
+    pool: &PoolLock<L>,
+    reserved: Reserved<L>,
+) -> Option<L> {
+    pool.lock(rt).release(reserved)
+}
+
+/// Lets a daemon be one that failed, and gives its link to stop.
+pub(crate) fn fail<R: Wait, L: Linked + Drop>(
+    rt: &R,
+    pool: &PoolLock<L>,
+    reserved: Reserved<L>,
+) -> L
+    ensures { result ≡ reserved.link }
+{
+    pool.lock(rt).fail(reserved)
+}

@@ -1,0 +1,6 @@
+pub mod Calls
+pub mod Events
+pub mod IdleOrder
+pub mod LedgerView
+pub mod Lending
+pub mod PoolView

@@ -1,0 +1,18 @@
+//! The pool of worker daemons: which are idle, and everything that happened to each.
+#![tactic(auto)]
+
+mod events;
+mod idle;
+mod laws;
+mod ledger;
+mod pools;
+mod reserved;
+
+pub use events::{DaemonState, Event};
+pub use idle::MAX_IDLE_DAEMONS;
+pub use laws::{busy_daemons_are_given_to_nobody_else, events_about_others_leave_a_daemon_alone};
+pub use pools::Pool;
+pub use reserved::Reserved;
+
+#[cfg(test)]
+mod tests;

@@ -1,0 +1,35 @@
+ghost use Rattle.std.specs.Prelude.{◌≡◌};
+ghost use Rattle.std.specs.Borrow.{sem};
+ghost use Rattle.daemon_manager.specs.Lending.{lends_link};
+
+/// A daemon that works for a unit, with the link to it. Who has the value owns the link.
+#[derive(Drop)]
+pub struct Reserved<L> {
+    pub(crate) daemon: u64,
+    pub(crate) unit: u32,
+    pub(crate) link: L,
+}
+
+impl<L> Reserved<L> {
+    /// The daemon's number.
+    pub fn daemon(&self) -> u64
+        ensures { result ≡ self.now.daemon }
+    {
+        self.daemon
+    }
+
+    /// The number of the unit that it was reserved for.
+    pub fn unit(&self) -> u32
+        ensures { result ≡ self.now.unit }
+    {
+        self.unit
+    }
+
+    /// The link to the daemon.
+    pub fn link(&mut self) -> &mut L
+        ensures* writes_back { sem 𝓛 (lends_link L.row self.entry result) }
+        ensures value { result.now ≡ self.old.link }
+    {
+        &mut self.link
+    }
+}
