@@ -1,0 +1,5 @@
+use Rattle.worker_desk.proofs.Telling.{printed_from_blank}
+use Rattle.generated_plan.proofs.plans.make_plan.Goals as goal
+
+pub returns : goal.returns
+returns g c = c.end.ensures _ _ (printed_from_blank _ _ _ _ _ c.new-page.ensures c.write_plan.ensures)

@@ -1,0 +1,116 @@
+-- The laws of the second line.
+use Rattle.std.proofs.Common.{◌≡◌, ◌≢◌, ℕ, ◌+◌, ◌<◌, ◌≤◌, List, [], ◌∷◌, ◌++◌, Option, Some, None, Bool, true, false, refl, sym, ap, subst, ◌∙◌, append_assoc, append-nil, arith, decimal, codes, nat_eq, cond}
+use Rattle.std.proofs.lemmas.Bool.{ne_eqb, eqb-false}
+use Rattle.history_text.specs.Text.{parallel_text}
+use Rattle.history_text.specs.Fitting.{HeadFits}
+use Rattle.history_reader.specs.declared.heads.Settings.{Settings}
+use Rattle.history_reader.specs.Lines.{second_line, IsSaidBy, OpensNone}
+use Rattle.history_reader.specs.Reading.{◌>>=◌, on, after, branch, plain, number_at, count_at, parallel_at, settings_at, begins_with_digit}
+use Rattle.history_reader.proofs.Numbers.{number_again, number_taken}
+use Rattle.history_reader.proofs.Words.{Spelled, some_is, none_some, bind_some, after_taken, either, plain_spelled}
+
+record CountRead (text : List ℕ) (y : ℕ × List ℕ) : Type 0 where
+  is : text ≡ decimal y.0 ++ y.1
+  some : 1 ≤ y.0
+  few : y.0 ≤ 32
+
+count_taken : (text : List ℕ) (y : ℕ × List ℕ) → count_at text ≡ Some y → CountRead text y
+unfolding count_at
+count_taken text y e =
+    let n = bind_some (number_at 33 text) _ y e in
+    let a = number_taken 33 text n.0 (omega arith) (omega arith) n.1 in
+    at n.0 a.0 a.1 (nat_eq n.0.0 0) refl n.2
+  where
+    at : (n : ℕ × List ℕ) → n.0 < 33 → text ≡ decimal n.0 ++ n.1 → (b : Bool) → nat_eq n.0 0 ≡ b → cond (nat_eq n.0 0) None (Some n) ≡ Some y → CountRead text y
+    at n few is true s h = absurd (none_some (sym (ap (λ b. cond b None (Some n)) s) ∙ h))
+    at n few is false s h =
+        let ne : n.0 ≢ 0 = eqb-false n.0 0 s in
+        subst (λ z. CountRead text z) (some_is (sym (ap (λ b. cond b None (Some n)) s) ∙ h)) (record { is = is; some = omega arith; few = omega arith })
+
+count_again : (n : ℕ) (rest : List ℕ) → 1 ≤ n → n ≤ 32 → begins_with_digit rest ≡ false → count_at (decimal n ++ rest) ≡ Some (n, rest)
+unfolding count_at
+count_again n rest some few nd =
+    let ne : n ≢ 0 = omega arith in
+    ap (λ r. r >>= λ k. cond (nat_eq k.0 0) None (Some k)) (number_again 33 n rest (omega arith) (omega arith) nd)
+    ∙ ap (λ b. cond b None (Some (n, rest))) (ne_eqb n 0 ne)
+
+abbrev Any : Bool → Type 0
+Any p = Unit {0}
+
+parallel_taken : (text : List ℕ) (y : Bool × List ℕ) → parallel_at text ≡ Some y → Spelled parallel_text Any text y
+unfolding parallel_at
+parallel_taken text y e =
+    either _ text _ _ y e (λ rest is k. plain_spelled parallel_text Any true text rest y tt is k) (λ e.
+    either _ text _ _ y e (λ rest is k. plain_spelled parallel_text Any false text rest y tt is k) (λ e. absurd (none_some e)))
+
+parallel_again : (p : Bool) (rest : List ℕ) → parallel_at (parallel_text p ++ rest) ≡ Some (p, rest)
+unfolding parallel_at branch
+parallel_again true rest = refl
+parallel_again false rest = refl
+
+pub record SettingsRead (text : List ℕ) (y : Settings × List ℕ) : Type 0 where
+  pub is : text ≡ second_line y.0.workers y.0.max y.0.parallel ++ y.1
+  pub fits : HeadFits y.0.workers y.0.max
+
+seven : (a b c d e f g rest : List ℕ) → a ++ (b ++ (c ++ (d ++ (e ++ (f ++ (g ++ rest)))))) ≡ (a ++ b ++ c ++ d ++ e ++ f ++ g) ++ rest
+seven a b c d e f g rest = simp append_assoc
+
+pub settings_taken : (text : List ℕ) (y : Settings × List ℕ) → settings_at text ≡ Some y → SettingsRead text y
+unfolding settings_at
+settings_taken text y e =
+    let front = bind_some (after (codes "workers ") text) _ y e in
+    let w = bind_some (count_at front.0) _ y front.2 in
+    let gap = bind_some (after (codes " max ") w.0.1) _ y w.2 in
+    let m = bind_some (count_at gap.0) _ y gap.2 in
+    let gap' = bind_some (after (codes " parallel ") m.0.1) _ y m.2 in
+    let p = bind_some (parallel_at gap'.0) _ y gap'.2 in
+    let end = bind_some (after (codes "\n") p.0.1) _ y p.2 in
+    let a = count_taken front.0 w.0 w.1 in
+    let b = count_taken gap.0 m.0 m.1 in
+    let c = parallel_taken gap'.0 p.0 p.1 in
+    let whole : text ≡ codes "workers " ++ (decimal w.0.0 ++ (codes " max " ++ (decimal m.0.0 ++ (codes " parallel " ++ (parallel_text p.0.0 ++ (codes "\n" ++ end.0)))))) =
+    after_taken (codes "workers ") text front.0 front.1 ∙ ap (λ l. codes "workers " ++ l) (a.is ∙ ap (λ l. decimal w.0.0 ++ l) (after_taken (codes " max ") w.0.1 gap.0 gap.1
+    ∙ ap (λ l. codes " max " ++ l) (b.is ∙ ap (λ l. decimal m.0.0 ++ l) (after_taken (codes " parallel ") m.0.1 gap'.0 gap'.1
+    ∙ ap (λ l. codes " parallel " ++ l) (c.is ∙ ap (λ l. parallel_text p.0.0 ++ l) (after_taken (codes "\n") p.0.1 end.0 end.1)))))) in
+    subst (λ z. SettingsRead text z) (some_is end.2) (record {
+      is = whole ∙ seven (codes "workers ") (decimal w.0.0) (codes " max ") (decimal m.0.0) (codes " parallel ") (parallel_text p.0.0) (codes "\n") end.0;
+      fits = record { some_worker = a.some; few_workers = a.few; some_lease = b.some; few_leases = b.few };
+    })
+
+abbrev pub said : ℕ → ℕ → Bool → Settings
+said w m p = record { workers = w; max = m; parallel = p }
+
+pub settings_again : (w m : ℕ) (p : Bool) (rest : List ℕ) → HeadFits w m → settings_at (second_line w m p ++ rest) ≡ Some (said w m p, rest)
+unfolding settings_at
+settings_again w m p rest fits =
+    let regroup : second_line w m p ++ rest ≡ codes "workers " ++ (decimal w ++ (codes " max " ++ (decimal m ++ (codes " parallel " ++ (parallel_text p ++ (codes "\n" ++ rest)))))) =
+    sym (seven (codes "workers ") (decimal w) (codes " max ") (decimal m) (codes " parallel ") (parallel_text p) (codes "\n") rest) in
+    ap settings_at regroup
+    ∙ (ap (λ r. r >>= λ w. after (codes " max ") w.1 >>= λ r'. count_at r' >>= λ m. after (codes " parallel ") m.1 >>= λ r''. parallel_at r'' >>= λ p. after (codes "\n") p.1 >>= λ rest. Some (said w.0 m.0 p.0, rest))
+    (count_again w (codes " max " ++ (decimal m ++ (codes " parallel " ++ (parallel_text p ++ (codes "\n" ++ rest))))) fits.some_worker fits.few_workers refl)
+    ∙ (ap (λ r. r >>= λ m. after (codes " parallel ") m.1 >>= λ r''. parallel_at r'' >>= λ p. after (codes "\n") p.1 >>= λ rest. Some (said w m.0 p.0, rest))
+    (count_again m (codes " parallel " ++ (parallel_text p ++ (codes "\n" ++ rest))) fits.some_lease fits.few_leases refl)
+    ∙ ap (λ r. r >>= λ p. after (codes "\n") p.1 >>= λ rest. Some (said w m p.0, rest)) (parallel_again p (codes "\n" ++ rest))))
+
+pub whole_settings : (line rest : List ℕ) (s : Settings) → Some (s, rest) ≡ settings_at line → rest ≡ [] → IsSaidBy line s
+whole_settings line rest s read none =
+    let a = settings_taken line (s, rest) (sym read) in
+    record {
+      spelled = a.is ∙ (ap (λ r. second_line s.workers s.max s.parallel ++ r) none ∙ append-nil (second_line s.workers s.max s.parallel));
+      fits = a.fits;
+    }
+
+reads_whole : (line : List ℕ) (w m : ℕ) (p : Bool) → HeadFits w m → line ≡ second_line w m p → settings_at line ≡ Some (said w m p, [])
+reads_whole line w m p fits is = ap settings_at (is ∙ sym (append-nil (second_line w m p))) ∙ settings_again w m p [] fits
+
+abbrev found : Settings → List ℕ → Option (Settings × List ℕ)
+found x rest = Some (x, rest)
+
+rest_is : {e f : Settings} {r s : List ℕ} → found e r ≡ found f s → r ≡ s
+rest_is e = ap (λ x. x.1) (some_is e)
+
+pub more_than_settings : (line rest : List ℕ) (s : Settings) → Some (s, rest) ≡ settings_at line → (rest ≡ [] → ⊥) → OpensNone line
+more_than_settings line rest s read some w m p fits is = some (rest_is (read ∙ reads_whole line w m p fits is))
+
+pub no_settings : (line : List ℕ) → None ≡ settings_at line → OpensNone line
+no_settings line read w m p fits is = none_some (read ∙ reads_whole line w m p fits is)

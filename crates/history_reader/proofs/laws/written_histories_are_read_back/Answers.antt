@@ -1,0 +1,5 @@
+use Rattle.history_reader.proofs.ReadLaws.{given_back}
+use Rattle.history_reader.proofs.laws.written_histories_are_read_back.Goals as goal
+
+pub returns : goal.returns
+returns c = given_back

@@ -1,0 +1,5 @@
+pub mod Plain
+pub mod HistoryView
+pub mod Reading
+pub mod Lines
+pub mod Grammar

@@ -1,0 +1,93 @@
+-- Lines: where one ends, and what each of a history's says.
+use Rattle.std.specs.Prelude.{ℕ, ◌≡◌, ◌≢◌, ◌+◌, List, [], ◌∷◌, ◌++◌, length, codes, decimal, Bool, true, not, ◌⊎◌, nat_eq, Result, Ok, Err}
+use Rattle.std.specs.List.{list_all}
+use Rattle.lock_journal.specs.Entry.{Entry}
+use Rattle.history_text.specs.Text.{parallel_text, entry_text, end_text}
+use Rattle.history_text.specs.Fitting.{HeadFits, EntryFits}
+use Rattle.history_reader.specs.HistoryView.{HistoryView}
+use Rattle.history_reader.specs.declared.heads.Settings.{Settings}
+use Rattle.history_reader.specs.declared.fails.ReadFail.{ReadFail}
+use Rattle.history_reader.specs.declared.fails.ReadFail.TheVariants.{Wrong, Memory}
+use Rattle.history_reader.specs.declared.fails.TextFail.{TextFail}
+use Rattle.history_reader.specs.declared.fails.TextFail.TheVariants.{Stops, NoMemory}
+use Rattle.history_reader.specs.declared.histories.HistoryLine.{HistoryLine}
+use Rattle.history_reader.specs.declared.histories.HistoryLine.TheVariants as lines
+
+-- no line ends in the text
+abbrev pub is_unbroken : List ℕ → Bool
+is_unbroken text = list_all (λ b. not (nat_eq b 10)) text
+
+-- one line, with its end
+pub record IsLine (line : List ℕ) : Type 0 where
+  pub front : List ℕ
+  pub unbroken : is_unbroken front ≡ true
+  pub is : line ≡ front ++ codes "\n"
+
+-- the text behind the line is more: the line has its end, or is the last piece of the text
+abbrev pub IsLineBefore : List ℕ → List ℕ → Type 0
+IsLineBefore line more = IsLine line ⊎ ((is_unbroken line ≡ true) × (more ≡ []))
+
+-- the first line of a text, and what is behind it
+pub record BeginsWithLine (text line more : List ℕ) : Type 0 where
+  pub is : text ≡ line ++ more
+  pub line_before : IsLineBefore line more
+
+abbrev pub first_line : List ℕ
+first_line = codes "history 1\n"
+
+abbrev pub second_line : ℕ → ℕ → Bool → List ℕ
+second_line workers max_leases parallel = codes "workers " ++ decimal workers ++ codes " max " ++ decimal max_leases ++ codes " parallel " ++ parallel_text parallel ++ codes "\n"
+
+-- the second line of a history, which has no entries yet
+pub record Opens (line : List ℕ) (h : HistoryView) : Type 0 where
+  pub spelled : line ≡ second_line h.workers h.max h.parallel
+  pub fits : HeadFits h.workers h.max
+  pub no_entries : h.entries ≡ []
+
+-- the line is no second line of a history
+abbrev pub OpensNone : List ℕ → Type 0
+OpensNone line = (workers max_leases : ℕ) (parallel : Bool) → HeadFits workers max_leases → line ≢ second_line workers max_leases parallel
+
+-- what the second line says
+pub record IsSaidBy (line : List ℕ) (s : Settings) : Type 0 where
+  pub spelled : line ≡ second_line s.workers s.max s.parallel
+  pub fits : HeadFits s.workers s.max
+
+-- the line is spelled from a value that fits, or from none
+abbrev pub IsReadAs : {X Y : Type 0} → (Y → List ℕ) → (Y → Type 0) → List ℕ → (X → Y) → Result X ReadFail → Type 0
+IsReadAs spell fits line view (Ok x) = (line ≡ spell (view x)) × fits (view x)
+IsReadAs {X} {Y} spell fits line view (Err Wrong) = (y : Y) → fits y → line ≢ spell y
+IsReadAs spell fits line view (Err Memory) = Unit {0}
+
+-- the number of the entry that would follow
+abbrev pub next_number : HistoryView → ℕ
+next_number h = length h.entries + 1
+
+-- the line is that of the entry that follows, and new has it
+pub record AddsEntry (old : HistoryView) (line : List ℕ) (new : HistoryView) : Type 0 where
+  pub entry : Entry
+  pub fits : EntryFits entry
+  pub spelled : line ≡ entry_text (next_number old) entry
+  pub is : new ≡ record old { entries = old.entries ++ entry ∷ [] }
+
+-- the line is the end of the history
+pub record Ends (old : HistoryView) (line : List ℕ) (new : HistoryView) : Type 0 where
+  pub spelled : line ≡ end_text (length old.entries)
+  pub kept : new ≡ old
+
+-- the line is neither
+pub record IsWrongAfter (h : HistoryView) (line : List ℕ) : Type 0 where
+  pub no_entry : (e : Entry) → EntryFits e → line ≢ entry_text (next_number h) e
+  pub no_end : line ≢ end_text (length h.entries)
+
+pub record StopsIt (old : HistoryView) (line : List ℕ) (new : HistoryView) (n : ℕ) : Type 0 where
+  pub number : n ≡ next_number old
+  pub wrong : IsWrongAfter old line
+  pub kept : new ≡ old
+
+-- what is said of one more line
+abbrev pub TakesLine : HistoryView → List ℕ → HistoryView → Result HistoryLine TextFail → Type 0
+TakesLine old line new (Ok lines.Entry) = AddsEntry old line new
+TakesLine old line new (Ok lines.End) = Ends old line new
+TakesLine old line new (Err (Stops n)) = StopsIt old line new n
+TakesLine old line new (Err NoMemory) = new ≡ old

@@ -1,0 +1,85 @@
+ghost use Rattle.std.specs.Prelude.{◌≡◌, IfSome, IfNone};
+ghost use Rattle.history_reader.specs.HistoryView.{history_view};
+ghost use Rattle.history_reader.specs.Lines.{next_number, Opens, OpensNone, TakesLine};
+
+use crate::entries::{is_end_line, read_entry_line};
+use crate::fails::{ReadFail, TextFail};
+use crate::heads::read_settings_line;
+use lock_journal::Kind;
+use resource_lock::{Change, WorkerId};
+use std::alloc::Global;
+
+/// A history that was read from its text.
+#[derive(Debug, Drop)]
+pub struct History {
+    /// How many workers there are: 1 to 32 in what was read.
+    pub workers: u32,
+    /// How many leases may be out at once: 1 to 32 in what was read.
+    pub max: u32,
+    /// Whether each project has a lock of its own.
+    pub parallel: bool,
+    /// The entries, in order.
+    pub entries: Vec<HistoryEntry>,
+}
+
+/// An entry of a history.
+#[derive(Debug, Drop)]
+pub struct HistoryEntry {
+    /// The worker that ran the transform.
+    pub worker: WorkerId,
+    /// What the entry is for.
+    pub kind: Kind,
+    /// The changes that were made, in order, or none where the transform failed.
+    pub changes: Option<Vec<Change>>,
+}
+
+/// What a line of a history is.
+#[derive(Clone, Copy, Debug, PartialEq, Eq)]
+pub enum HistoryLine {
+    /// The line of one more entry.
+    Entry,
+    /// The last line.
+    End,
+}
+
+impl History {
+    /// A history without entries, by its second line, which comes with its line end. None comes exactly
+    /// where the line isn't one. It takes no memory.
+    pub fn opening(alloc: Global, line: &[u8]) -> Option<History>
+        ensures some { IfSome result (λ h. Opens line.now (history_view h)) }
+        ensures none { IfNone result (OpensNone line.now) }
+    {
+        let settings = read_settings_line(line)?;
+        Some(History {
+            workers: settings.workers,
+            max: settings.max,
+            parallel: settings.parallel,
+            entries: Vec::new(alloc),
+        })
+    }
+
+    /// The number of the entry that would follow.
+    pub fn next_number(&self) -> u64
+        ensures { result ≡ next_number (history_view self.now) }
+    {
+        self.entries.len() as u64 + 1
+    }
+
+    /// Takes one more line with its line end. An entry's line is added; the end line says that the
+    /// history ends here. Stops comes where the line is neither, with the number of the entry that
+    /// would follow. At the end line, at Stops and at NoMemory the history is as before.
+    pub fn take_line(&mut self, alloc: Global, line: &[u8]) -> Result<HistoryLine, TextFail>
+        ensures { TakesLine (history_view self.old) line.now (history_view self.new) result }
+    {
+        let number = self.next_number();
+        match read_entry_line(alloc, number, line) {
+            Ok(entry) => {
+                self.entries.push(entry)?;
+                Ok(HistoryLine::Entry)
+            }
+            Err(ReadFail::Memory) => Err(TextFail::NoMemory),
+            Err(ReadFail::Wrong) if is_end_line(line, number - 1) => Ok(HistoryLine::End),
+            Err(ReadFail::Wrong) => Err(TextFail::Stops(number)),
+        }
+    }
+}
