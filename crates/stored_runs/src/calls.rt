@@ -4,6 +4,7 @@ ghost use Rattle.worker_desk.specs.Folders.{folder_of};
 
 use crate::cases::Case;
 use anyhow::Result;
+use item_actions::Text;
 use leases_cli::{Ended, Status, leases};
 use lock_journal::Book;
 use std::alloc::{AllocError, Global};
@@ -113,15 +114,39 @@ fn print_output(rt: &HostRuntime, bytes: &[u8]) -> Result<()> {
     Ok(())
 }
 
-/// Makes the call of a case, and prints the case's name, how the call ended, how many calls of the outside failed,
-/// whether two items ran at once, where the case asks for that, and what was written.
-pub(crate) fn print_answer<T: Threads + Wait + Sync>(
-    rt: &HostRuntime,
+/// Makes the call of the program at desks that all have these files, and says how many calls of the desks failed.
+/// No clause speaks of it: what it does is printed and compared.
+fn call_at_desks<T: Threads + Wait + Sync>(
     threads: &T,
-    name: &str,
+    alloc: Global,
+    case: (&[Text], &[FileEntry], Vec<u64>),
+    input: &mut MemorySource,
+    gate: &MeetingGate,
+    out: &mut MemorySink,
+) -> Result<(Ended, u128), AllocError> {
+    let (words, files, failing_reads) = case;
+    let mut desks = desks_of(alloc, files, failing_reads)?;
+    let ended = leases(threads, alloc, words, &mut desks, input, gate, out);
+    Ok((ended, desk_faults(&desks)))
+}
+
+/// What a call answered.
+#[derive(Drop)]
+pub(crate) struct Answer {
+    ended: Ended,
+    /// How many calls of the outside failed.
+    faults: u128,
+    /// Whether two items ran at once, where the case asks for that.
+    met: bool,
+    out: MemorySink,
+}
+
+/// Makes the call of a case.
+pub(crate) fn answer_to<T: Threads + Wait + Sync>(
+    threads: &T,
+    alloc: Global,
     case: Case,
-) -> Result<()> {
-    let alloc = rt.alloc();
+) -> Result<Answer, AllocError> {
     let Case {
         words,
         files,
@@ -133,21 +158,31 @@ pub(crate) fn print_answer<T: Threads + Wait + Sync>(
         turns,
     } = case;
     let gate = MeetingGate::new(turns);
-    let mut desks = desks_of(alloc, &files, failing_reads)?;
     let mut input = MemorySource::new(input, failing_takes);
     let mut out = MemorySink::new(alloc, room, failing_puts)?;
-    let ended = leases(
-        threads, alloc, &words, &mut desks, &mut input, &gate, &mut out,
-    );
-    println!(rt; "=== {name}")?;
-    print_end(rt, &ended)?;
+    let at_desks = (words.as_slice(), files.as_slice(), failing_reads);
+    let (ended, desk_faults) = call_at_desks(
+        threads, alloc, at_desks, &mut input, &gate, &mut out,
+    )?;
     let others = u128::from(input.count()) + u128::from(out.count());
-    let faults = desk_faults(&desks).saturating_add(others);
-    if faults > 0 {
-        print!(rt; ", {faults} faults")?;
+    Ok(Answer {
+        ended,
+        faults: desk_faults.saturating_add(others),
+        met: gate.met(),
+        out,
+    })
+}
+
+/// Prints the case's name, how its call ended, how many calls of the outside failed, whether two items met, and what
+/// was written.
+pub(crate) fn print_answer(rt: &HostRuntime, name: &str, answer: &Answer) -> Result<()> {
+    println!(rt; "=== {name}")?;
+    print_end(rt, &answer.ended)?;
+    if answer.faults > 0 {
+        print!(rt; ", {} faults", answer.faults)?;
     }
-    if gate.met() {
+    if answer.met {
         print!(rt; ", two items met")?;
     }
-    print_output(rt, out.taken())
+    print_output(rt, answer.out.taken())
 }

@@ -8,7 +8,7 @@
 mod calls;
 mod cases;
 
-use crate::calls::print_answer;
+use crate::calls::{answer_to, print_answer};
 use crate::cases::Case;
 use anyhow::Result;
 use std::sync::Wait;
@@ -26,7 +26,8 @@ fn run_file<T: Threads + Wait + Sync>(rt: &HostRuntime, threads: &T, text: &str)
         let mut case = Case::new(rt.alloc());
         case.add_sections(rt.alloc(), shared)?;
         case.add_sections(rt.alloc(), part)?;
-        print_answer(rt, threads, part.lines().next().unwrap_or(""), case)?;
+        let answer = answer_to(threads, rt.alloc(), case)?;
+        print_answer(rt, part.lines().next().unwrap_or(""), &answer)?;
     }
     Ok(())
 }
