@@ -11,9 +11,30 @@ mod cases;
 use crate::calls::{answer_to, print_answer};
 use crate::cases::Case;
 use anyhow::Result;
+use std::alloc::Global;
 use std::sync::Wait;
 use std::thread::Threads;
 use std::{env, fs};
+
+/// The case whose sections these texts have.
+fn case_of(alloc: Global, shared: &str, part: &str) -> Result<Case> {
+    let mut case = Case::new(alloc);
+    case.add_sections(alloc, shared)?;
+    case.add_sections(alloc, part)?;
+    Ok(case)
+}
+
+/// Makes the call of a case, and prints what it answered.
+fn run_case<T: Threads + Wait + Sync>(
+    rt: &HostRuntime,
+    threads: &T,
+    shared: &str,
+    part: &str,
+) -> Result<()> {
+    let case = case_of(rt.alloc(), shared, part)?;
+    let answer = answer_to(threads, rt.alloc(), case)?;
+    print_answer(rt, part.lines().next().unwrap_or(""), &answer)
+}
 
 /// Makes the calls of a case file, in order.
 fn run_file<T: Threads + Wait + Sync>(rt: &HostRuntime, threads: &T, text: &str) -> Result<()> {
@@ -23,11 +44,7 @@ fn run_file<T: Threads + Wait + Sync>(rt: &HostRuntime, threads: &T, text: &str)
         return Ok(());
     };
     for part in parts {
-        let mut case = Case::new(rt.alloc());
-        case.add_sections(rt.alloc(), shared)?;
-        case.add_sections(rt.alloc(), part)?;
-        let answer = answer_to(threads, rt.alloc(), case)?;
-        print_answer(rt, part.lines().next().unwrap_or(""), &answer)?;
+        run_case(rt, threads, shared, part)?;
     }
     Ok(())
 }
