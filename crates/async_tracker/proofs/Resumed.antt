@@ -40,7 +40,7 @@ use Rattle.coordination.specs.declared.rule.Sight.{Sight}
 use Rattle.coordination.proofs.Entries.{belongs_sound, good_sound}
 use Rattle.async_tracker.specs.ParkedView.{ParkedView}
 use Rattle.async_tracker.specs.Shows.{HasParkedLast, IsFree, IsParkedBy, ShowsResumed, lease_on_resume, locks_on_resume, parked_on_resume}
-use Rattle.coordination.specs.Ready.{first_open}
+use Rattle.worker_choices.specs.Ready.{first_open}
 use Rattle.async_tracker.specs.Waits.{CannotResume, CannotTakeAgain, IsFirstOpen}
 use Rattle.coordination.proofs.Shown.{Leaves, shows_left}
 use Rattle.async_tracker.proofs.Claims.{action_runs, unit_claimed}

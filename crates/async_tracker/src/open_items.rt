@@ -8,9 +8,10 @@ ghost use Rattle.lock_journal.specs.Table.{has_ended};
 ghost use Rattle.async_tracker.specs.Waits.{IsFirstOpen};
 
 use crate::parked::Parked;
-use coordination::{Awaited, Question, first_open};
+use coordination::Question;
 use lock_journal::Book;
 use resource_lock::WorkerId;
+use worker_choices::{Awaited, first_open};
 
 /// Asks for the first item of an action that hasn't ended. It has an answer at once.
 #[derive(Clone, Copy, Debug)]

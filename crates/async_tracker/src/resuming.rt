@@ -11,7 +11,7 @@ ghost use Rattle.coordination.specs.Shown.{ShowsTheSame};
 ghost use Rattle.async_tracker.specs.ParkedView.{ParkedView};
 ghost use Rattle.async_tracker.specs.Shows.{IsFree, IsParkedBy, ShowsResumed};
 ghost use Rattle.async_tracker.specs.Waits.{CannotResume, IsFirstOpen};
-ghost use Rattle.coordination.specs.Ready.{first_open};
+ghost use Rattle.worker_choices.specs.Ready.{first_open};
 
 use crate::open_items::FirstOpen;
 use crate::parked::Parked;

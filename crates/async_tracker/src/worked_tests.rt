@@ -8,7 +8,7 @@ ghost use Rattle.coordination.specs.Shown.{Shows};
 ghost use Rattle.async_tracker.specs.TwoItems.{CanHelp, HasTwoItems};
 
 use crate::{Held, Parked, claim, close, closing_undoes_claiming, park, resume, submit};
-use coordination::{Awaited, Coordination, Halt, Opened, Pass, Question, openings_are_at_rest};
+use coordination::{Coordination, Halt, Opened, Pass, Question, openings_are_at_rest};
 use item_actions::Outcome;
 use lock_journal::kinds::{End, Start};
 use lock_journal::{Book, Closed, Kind};
@@ -19,6 +19,7 @@ use std::alloc::Global;
 use std::process::Abort;
 use std::sync::Wait;
 use std::test::Fail;
+use worker_choices::Awaited;
 
 /// Starts the task. False says that it can't be started.
 fn start<R: Wait>(rt: &R, service: &Coordination, pass: &mut Pass) -> Result<bool, Halt>

@@ -6,7 +6,7 @@ ghost use Rattle.lease_service.specs.Shows.{MayTake};
 ghost use Rattle.blocking_section.specs.Sections.{is_unit};
 
 use crate::{StillBlocked, enter, leave};
-use coordination::{Awaited, Coordination, Halt, Opened, Pass, Question, openings_are_at_rest};
+use coordination::{Coordination, Halt, Opened, Pass, Question, openings_are_at_rest};
 use lease_service::{hand_back, take_locks};
 use lock_journal::kinds::{Acquire, HandBack, Shortage};
 use lock_journal::{Book, Kind};
@@ -15,6 +15,7 @@ use std::alloc::Global;
 use std::process::Abort;
 use std::sync::Wait;
 use std::test::Fail;
+use worker_choices::Awaited;
 
 /// Gives back all that the pass has, and takes it again.
 fn step_aside<R: Wait>(rt: &R, service: &Coordination, pass: &mut Pass) -> Result<(), Halt>

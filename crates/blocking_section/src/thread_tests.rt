@@ -3,7 +3,7 @@ ghost use Rattle.std.specs.Prelude.{◌≡◌, ◌<◌, [], All, IfOk, length, t
 ghost use Rattle.coordination.specs.Shown.{claimed_shown, lease_shown};
 
 use crate::{StillBlocked, enter, leave};
-use coordination::{Awaited, Coordination, Opened, Pass, Question, openings_are_at_rest};
+use coordination::{Coordination, Opened, Pass, Question, openings_are_at_rest};
 use lock_journal::Book;
 use lock_journal::kinds::{Acquire, HandBack, Shortage};
 use resource_lock::{Graph, WorkerId};
@@ -13,6 +13,7 @@ use std::sync::Wait;
 use std::test::Fail;
 use std::thread;
 use std::thread::Threads;
+use worker_choices::Awaited;
 
 /// Waits until there are so many entries.
 #[derive(Clone, Copy, Debug)]

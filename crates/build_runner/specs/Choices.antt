@@ -6,7 +6,7 @@ use Rattle.resource_lock.specs.declared.ids.WorkerId.{WorkerId}
 use Rattle.run_laws.specs.Marks.{IsEnded}
 use Rattle.ready_work.specs.Choices.{CanSkip}
 use Rattle.ready_work.specs.Lowest.{IsLowest, IsNone}
-use Rattle.coordination.specs.Ready.{CanBegin, CanClaim}
+use Rattle.worker_choices.specs.Ready.{CanBegin, CanClaim}
 use Rattle.build_runner.specs.declared.choices.Choice.{Choice}
 use Rattle.build_runner.specs.declared.choices.Choice.TheVariants.{Claim, Skip, Start, Finish}
 

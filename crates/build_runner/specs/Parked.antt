@@ -9,7 +9,7 @@ use Rattle.resource_lock.specs.declared.ids.WorkerId.{WorkerId}
 use Rattle.resource_lock.specs.declared.marks.Mark.TheVariants.{Failed}
 use Rattle.resource_lock.specs.declared.marks.MarkId.TheVariants.{Unit as UnitOf}
 use Rattle.ready_work.specs.Lowest.{IsLowest}
-use Rattle.coordination.specs.Ready.{CanClaim, CanGoOn}
+use Rattle.worker_choices.specs.Ready.{CanClaim, CanGoOn}
 use Rattle.build_runner.specs.declared.waiting.ParkedChoice.{ParkedChoice}
 use Rattle.build_runner.specs.declared.waiting.ParkedChoice.TheVariants.{Resume, Claim}
 

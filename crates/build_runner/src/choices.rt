@@ -1,12 +1,13 @@
 //! What an idle worker does next.
 ghost use Rattle.std.specs.Prelude.{Some};
-ghost use Rattle.coordination.specs.Ready.{HasNothingToDo};
-ghost use Rattle.coordination.specs.declared.awaited.Awaited.TheVariants as awaited;
+ghost use Rattle.worker_choices.specs.Ready.{HasNothingToDo};
+ghost use Rattle.worker_choices.specs.declared.awaited.Awaited.TheVariants as awaited;
 ghost use Rattle.build_runner.specs.Choices.{IsNext};
 
-use coordination::{Awaited, Question, all_ended, item_to_claim, task_to_start};
+use coordination::Question;
 use lock_journal::Book;
 use resource_lock::WorkerId;
+use worker_choices::{Awaited, all_ended, item_to_claim, task_to_start};
 
 /// What an idle worker does next.
 #[derive(Clone, Copy, Debug)]

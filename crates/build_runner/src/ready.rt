@@ -1,11 +1,10 @@
 //! What the state of a book has ready for its workers.
-ghost use Rattle.std.specs.Prelude.{◌≡◌, ◌<◌, ◌≤◌, ◌+◌, ◌^◌, length};
-ghost use Rattle.resource_lock.specs.GraphView.{action_of};
-ghost use Rattle.resource_lock.specs.Ranges.{units_in};
+ghost use Rattle.std.specs.Prelude.{◌≡◌, ◌<◌, length};
 ghost use Rattle.build_runner.specs.Parked.{has_failed};
 
 use lock_journal::Book;
-use resource_lock::{Graph, GraphAction, Mark, MarkId};
+use lock_journal::kinds::action_of;
+use resource_lock::{Mark, MarkId};
 
 /// Whether a unit of an action has failed.
 pub(crate) fn has_failed(book: &Book, action: u32) -> bool
@@ -16,14 +15,4 @@ pub(crate) fn has_failed(book: &Book, action: u32) -> bool
     let end = found.first_unit + u32::from(found.fetch) + found.items;
     let state = book.state();
     (found.first_unit..end).any(|unit| state.mark(MarkId::Unit(unit)) == Mark::Failed)
-}
-
-/// An action of the graph.
-fn action_of(graph: &Graph, action: u32) -> GraphAction
-    requires { action < length graph.now.actions }
-    ensures value { result ≡ action_of graph.now action }
-    ensures units { result.first_unit + units_in result ≤ graph.now.units }
-    ensures few { graph.now.units < 2 ^ 32 }
-{
-    graph.actions()[action as usize]
 }

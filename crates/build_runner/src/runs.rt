@@ -19,8 +19,9 @@ use crate::team::{Worker, all_ended, part, seat, work};
 use crate::units::units_of;
 use coordination::{Coordination, Opened, Pass, openings_are_at_rest};
 use lock_journal::Book;
+use lock_journal::kinds::MAX_CHANGES;
 use plan_reader::Plan;
-use resource_lock::{Graph, MAX_ACTIONS_PER_TASK, MAX_UNITS};
+use resource_lock::Graph;
 use run_laws::{every_run_comes_to_its_plan, histories_go_on, honest_workers_give_the_answers};
 use std::alloc::{AllocError, Global};
 use std::mem;
@@ -49,11 +50,6 @@ const CHANGES_AN_ACTION: u64 = 1 + 4 + 4;
 /// The most changes of a unit's entries: an item is queued, claimed with a lease, and closed. A fetch
 /// blocks the worker, with its lock and the lease given back, and unblocks it.
 const CHANGES_A_UNIT: u64 = 5 + 5;
-
-/// The most changes that an entry asks room for before it is made. It is an end's, which may skip
-/// each action of its task and each unit: one change for each, and three that end the task and give
-/// its lock and the lease back.
-const MAX_CHANGES: u64 = 3 + MAX_ACTIONS_PER_TASK as u64 + MAX_UNITS;
 
 /// A book of the graph without an entry, and with room for those of a whole run.
 ///

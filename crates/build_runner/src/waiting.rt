@@ -5,10 +5,10 @@ ghost use Rattle.resource_lock.specs.Ranges.{lock_with};
 ghost use Rattle.coordination.specs.Agrees.{IsSound};
 ghost use Rattle.coordination.specs.Shown.{ShowsTheSame};
 ghost use Rattle.async_tracker.specs.Shows.{IsParkedBy, ShowsResumed};
-ghost use Rattle.coordination.specs.Ready.{first_open};
+ghost use Rattle.worker_choices.specs.Ready.{first_open};
 ghost use Rattle.build_runner.specs.Kept.{Keeps};
-ghost use Rattle.coordination.specs.Ready.{HasToWait};
-ghost use Rattle.coordination.specs.declared.awaited.Awaited.TheVariants as awaited;
+ghost use Rattle.worker_choices.specs.Ready.{HasToWait};
+ghost use Rattle.worker_choices.specs.declared.awaited.Awaited.TheVariants as awaited;
 ghost use Rattle.build_runner.specs.Parked.{IsNextParked};
 ghost use Rattle.build_runner.specs.Points.{CanHelp};
 ghost use Rattle.build_runner.specs.Units.{RunsInThread, unit_view};
@@ -17,11 +17,12 @@ use crate::items::help;
 use crate::ready::has_failed;
 use crate::site::Site;
 use async_tracker::{Held, Parked, resume};
-use coordination::{Awaited, Halt, Pass, Question, can_go_on, item_to_claim};
+use coordination::{Halt, Pass, Question};
 use lock_journal::Book;
 use resource_lock::WorkerId;
 use run_laws::only_items_are_queued;
 use std::sync::Wait;
+use worker_choices::{Awaited, can_go_on, item_to_claim};
 use worker_desk::{Files, Gate};
 
 /// What a parked worker does next.

@@ -9,6 +9,3 @@ mod reading;
 pub use commands::{Command, RunWords, WordsFail};
 pub use numbers::MAX_COUNT;
 pub use reading::read_command;
-
-#[cfg(test)]
-mod tests;

@@ -9,9 +9,9 @@ pub mod Opening
 pub mod InPlace
 pub mod Following
 pub mod Entries
-pub mod OpenItems
 pub mod Shown
 pub mod Nothing
 pub mod Rests
 pub mod Totals
 pub mod Together
+pub mod FirstSights

@@ -84,18 +84,24 @@ runs_none s w nothing =
       | UnitOf u ↦ still_not w (get_or s.units u Waiting) (none_passes (runs_by w) Waiting 0 s.units refl (empty_map unit_at us second.1) u)
     ]
 
--- a fresh part is that of any worker of a state at rest
-pub fresh_part : (book : BookView) (room : Room) (w : WorkerId) (last : ℕ) (part : Part) → IsAtRest book.state → IsFreshPart room last part → last ≡ last_of w book.history → IsPartOf book w part
-fresh_part book room w last part rest r is =
-    let s : StateView = book.state in
-    let owner : (i : ℕ) → is_owner (get_or s.owners i None) w ≡ false = λ i. ap (λ o. is_owner o w) (rest.owners (record { 0 = i })) in
+-- in a state at rest a worker owns no lock and runs nothing
+pub owns_nothing : (s : StateView) (w : WorkerId) → IsAtRest s → owned s w ≡ []
+owns_nothing s w rest = no_locks 0 s.owners w (λ i. ap (λ o. is_owner o w) (rest.owners (record { 0 = i })))
+
+pub runs_nothing : (s : StateView) (w : WorkerId) → IsAtRest s → claimed s w ≡ []
+runs_nothing s w rest =
     let tasks = no_places (runs_by w) Waiting 0 s.tasks (λ i. not_by w (get_or s.tasks i Waiting) (rest.marks w (TaskOf i))) in
     let actions = no_places (runs_by w) Waiting 0 s.actions (λ i. not_by w (get_or s.actions i Waiting) (rest.marks w (ActionOf i))) in
-    let units = no_places (runs_by w) Waiting 0 s.units (λ i. not_by w (get_or s.units i Waiting) (rest.marks w (UnitOf i))) in record {
-      has = record {
-        holding = (λ i. record { lease = r.lease i; parked = r.parked i; blocked = r.blocked i }) ∙ sym (rest.holdings w);
-        locks = r.locks ∙ sym (no_locks 0 s.owners w owner);
-        claimed = r.claimed ∙ sym (λ i. marks_in (tasks i) (actions i) (units i));
-      };
-      last = r.number ∙ is;
-    }
+    let units = no_places (runs_by w) Waiting 0 s.units (λ i. not_by w (get_or s.units i Waiting) (rest.marks w (UnitOf i))) in
+    λ i. marks_in (tasks i) (actions i) (units i)
+
+-- a fresh part is that of any worker of a state at rest
+pub fresh_part : (book : BookView) (room : Room) (w : WorkerId) (last : ℕ) (part : Part) → IsAtRest book.state → IsFreshPart room last part → last ≡ last_of w book.history → IsPartOf book w part
+fresh_part book room w last part rest r is = record {
+  has = record {
+    holding = (λ i. record { lease = r.lease i; parked = r.parked i; blocked = r.blocked i }) ∙ sym (rest.holdings w);
+    locks = r.locks ∙ sym (owns_nothing book.state w rest);
+    claimed = r.claimed ∙ sym (runs_nothing book.state w rest);
+  };
+  last = r.number ∙ is;
+}

@@ -1,10 +1,8 @@
 pub mod Shown
-pub mod Ready
 pub mod Lasts
 pub mod Agrees
 pub mod Holds
 pub mod Sights
-pub mod Wakes
 pub mod Rule
 pub mod Attempts
 pub mod Calls

@@ -2,7 +2,7 @@
 ghost use Rattle.std.specs.Prelude.{◌≡◌, ◌<◌, IfNone, IfSome};
 ghost use Rattle.coordination.specs.Attempts.{Asked, Attempted};
 ghost use Rattle.coordination.specs.Sights.{hearing};
-ghost use Rattle.coordination.specs.Wakes.{last_lets_go_on};
+ghost use Rattle.worker_choices.specs.Wakes.{last_lets_go_on};
 
 use crate::passes::Pass;
 use crate::questions::Question;

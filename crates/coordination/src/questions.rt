@@ -1,12 +1,12 @@
 ghost use Rattle.std.specs.Prelude.{◌≡◌, ◌<◌, IfNone, IfSome, Option};
 ghost use Rattle.resource_lock.specs.declared.ids.WorkerId.{WorkerId};
 ghost use Rattle.lock_journal.specs.BookView.{BookView};
-ghost use Rattle.coordination.specs.Ready.{Waits};
-ghost use Rattle.coordination.specs.declared.awaited.Awaited.{Awaited};
+ghost use Rattle.worker_choices.specs.Ready.{Waits};
+ghost use Rattle.worker_choices.specs.declared.awaited.Awaited.{Awaited};
 
-use crate::awaited::Awaited;
 use lock_journal::Book;
 use resource_lock::WorkerId;
+use worker_choices::Awaited;
 
 /// What a worker asks of the locked book, without an entry.
 pub trait Question {

@@ -9,6 +9,7 @@ ghost use Rattle.coordination.specs.Parts.{IsRoomOf};
 ghost use Rattle.coordination.specs.Sights.{sights_from, starting, workers_from};
 ghost use Rattle.coordination.specs.Together.{ComeTo};
 
+use crate::lasts::last_numbers;
 use crate::parts::{Part, Room};
 use crate::passes::Pass;
 use crate::rule::{OneWorker, OpenedWith, SeatView, Sit};
@@ -17,10 +18,29 @@ use atomic_table::{Refused, Seat, Table};
 use lock_journal::Book;
 use resource_lock::WorkerId;
 use std::alloc::{AllocError, Global};
+use std::snapshot::Snapshot;
 
 impl Slot {
+    // A slot with the book in it, in which nobody has anything, and a pass for each worker of its graph.
+    pub fn opening(alloc: Global, book: Book) -> Result<(Slot, Vec<Pass>), AllocError>
+        requires { IsAtRest book.state }
+        ensures book { IfOk result (λ made. made.0.table.shared.key.book.value ≡ book) }
+        ensures passes { IfOk result (λ made. map (λ p. p.sight) made.1.items ≡ sights_from 0 book.graph.workers book) }
+        ensures ids { IfOk result (λ made. All (λ p. p.service ≡ made.0.table.shared.table_id) made.1.items) }
+    {
+        let start = OpenedWith {
+            book: Snapshot::of(&book),
+        };
+        let workers = book.graph().workers();
+        let room = Room::of(book.graph());
+        let lasts = last_numbers(alloc, &book, workers)?;
+        let (slot, seat) = Slot::new(alloc, book, &start)?;
+        let passes = slot.passes(alloc, seat, workers, room, &lasts)?;
+        Ok((slot, passes))
+    }
+
     // A slot with the book in it, and a seat with all workers of its graph.
-    pub fn new(
+    fn new(
         alloc: Global,
         book: Book,
         start: &OpenedWith,
@@ -41,7 +61,7 @@ impl Slot {
     }
 
     // A pass for each worker.
-    pub fn passes(
+    fn passes(
         &self,
         alloc: Global,
         mut seat: Seat<Book, SeatView>,

@@ -7,21 +7,17 @@ ghost use Rattle.coordination.specs.Calls.{AskedInVain, HasFailed, HasFinished, 
 ghost use Rattle.coordination.specs.Sights.{sights_from, workers_from};
 ghost use Rattle.coordination.specs.Together.{ComeTo};
 
-use crate::awaited::Awaited;
 use crate::halts::Halt;
-use crate::lasts::last_numbers;
-use crate::parts::Room;
 use crate::passes::Pass;
 use crate::questions::Question;
-use crate::rule::OpenedWith;
-use crate::sleepers::{Sleepers, Wakes, Woken};
+use crate::sleepers::{Sleepers, Wakes};
 use crate::slots::Slot;
 use lock_journal::{Book, Disposition, Transform};
 use resource_lock::WorkerId;
 use std::alloc::{AllocError, Global};
 use std::marker::Model;
-use std::snapshot::Snapshot;
 use std::sync::{Condvar, Mutex, MutexGuard, Wait};
+use worker_choices::{Awaited, Woken};
 
 /// One book that several workers change, one at a time.
 ///
@@ -57,7 +53,7 @@ pub struct Opened {
 
 impl Coordination {
     /// A service that keeps the book, in which nobody has anything, with a pass for each worker of
-    /// its graph. It fails for want of memory alone.
+    /// its graph. Each has seen this book. It fails for want of memory alone.
     pub fn open(alloc: Global, book: Book) -> Result<Opened, AllocError>
         requires { IsAtRest book.state }
         ensures book { IfOk result (λ opened. opened.service.book ≡ book) }
@@ -65,24 +61,12 @@ impl Coordination {
         ensures len { IfOk result (λ opened. length opened.passes.items ≡ book.graph.workers) }
         ensures workers { IfOk result (λ opened. map (λ p. p.sight.worker.0) opened.passes.items ≡ workers_from 0 book.graph.workers) }
         ensures service { IfOk result (λ opened. All (λ p. p.service ≡ opened.service.service) opened.passes.items) }
+        ensures seen { IfOk result (λ opened. All (λ p. p.sight.seen ≡ book) opened.passes.items) }
+        ensures rest { IfOk result (λ opened. All (λ p. HoldsNothing p.sight) opened.passes.items) }
     {
-        let start = OpenedWith {
-            book: Snapshot::of(&book),
-        };
-        let workers = book.graph().workers();
-        let room = Room::of(book.graph());
-        let lasts = last_numbers(alloc, &book, workers)?;
-        let own = condvars(alloc, workers)?;
-        let sleepers = Sleepers::nobody(alloc, workers)?;
-        let (slot, seat) = Slot::new(alloc, book, &start)?;
-        let passes = slot.passes(alloc, seat, workers, room, &lasts)?;
-        let service = Coordination {
-            slot,
-            state_lock: Mutex::new(sleepers),
-            entered: Condvar::new(),
-            own,
-            freed: Condvar::new(),
-        };
+        let waiting = Waiting::of(alloc, book.graph().workers())?;
+        let (slot, passes) = Slot::opening(alloc, book)?;
+        let service = service_of(slot, waiting);
         Ok(Opened { service, passes })
     }
 
@@ -198,8 +182,8 @@ impl Coordination {
         }
     }
 
-    // Lets the state lock go after an entry, and wakes whom it wakes. It touches no Condvar on which
-    // nobody sleeps.
+    // Lets the state lock go after an entry, and wakes whom it wakes. Where it wakes one worker or none,
+    // it touches no Condvar on which nobody sleeps.
     fn wake_after_entry(&self, mut guard: MutexGuard<'_, Sleepers>, wakes: Wakes) {
         let (questions, wakes) = guard.take(wakes);
         drop(guard);
@@ -272,6 +256,37 @@ impl Coordination {
             freed: _,
         } = self;
         slot.close(passes)
+    }
+}
+
+/// What those wait with who wait in a service: who sleeps, and each worker's own Condvar.
+#[derive(Drop)]
+struct Waiting {
+    sleepers: Sleepers,
+    own: Vec<Condvar>,
+}
+
+impl Waiting {
+    // For so many workers, none of whom sleeps.
+    fn of(alloc: Global, workers: u32) -> Result<Waiting, AllocError> {
+        let sleepers = Sleepers::nobody(alloc, workers)?;
+        let own = condvars(alloc, workers)?;
+        Ok(Waiting { sleepers, own })
+    }
+}
+
+// The service over a slot.
+fn service_of(slot: Slot, waiting: Waiting) -> Coordination
+    ensures service { result.service ≡ slot.table.shared.table_id }
+    ensures book { result.book ≡ slot.table.shared.key.book.value }
+{
+    let Waiting { sleepers, own } = waiting;
+    Coordination {
+        slot,
+        state_lock: Mutex::new(sleepers),
+        entered: Condvar::new(),
+        own,
+        freed: Condvar::new(),
     }
 }
 

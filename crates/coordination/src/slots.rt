@@ -5,7 +5,7 @@ ghost use Rattle.coordination.specs.Agrees.{IsSound};
 ghost use Rattle.coordination.specs.Parts.{HasRoom, IsPartOf, marks_of};
 ghost use Rattle.coordination.specs.Rule.{AddsOwn, Hears, Taken, carried_book};
 ghost use Rattle.coordination.specs.Sights.{holding, one, seeing, sight_of, stopping};
-ghost use Rattle.coordination.specs.Wakes.{last_lets_go_on};
+ghost use Rattle.worker_choices.specs.Wakes.{last_lets_go_on};
 
 use crate::parts::Part;
 use crate::questions::Question;

@@ -13,6 +13,3 @@ pub use idle::MAX_IDLE_DAEMONS;
 pub use laws::{busy_daemons_are_given_to_nobody_else, events_about_others_leave_a_daemon_alone};
 pub use pools::Pool;
 pub use reserved::Reserved;
-
-#[cfg(test)]
-mod tests;

@@ -15,6 +15,3 @@ pub use frames::{Frame, FrameRefusal, Reply, Request};
 pub use laws::{read_frames_are_spelled, spelled_frames_are_read, streams_have_one_reading};
 pub use limits::{HEAD_BYTES, MAX_BODY_BYTES, MAX_FRAME_BYTES};
 pub use starts::{Flaw, StreamStart, lacking, look};
-
-#[cfg(test)]
-mod tests;

@@ -15,6 +15,3 @@ pub use links::Linked;
 pub use requirement::{MAX_HEAP_MB, PairList, RequirementRefusal, Requirements};
 pub use rules::{FieldRule, FieldTable, REQUIREMENT_TABLE};
 pub use work::{Isolation, Work};
-
-#[cfg(test)]
-mod tests;

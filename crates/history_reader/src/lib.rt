@@ -23,6 +23,3 @@ pub use laws::{
 };
 pub use read::read_history;
 pub use tokens::next_line;
-
-#[cfg(test)]
-mod tests;

@@ -29,6 +29,3 @@ pub use needles::Needle;
 pub use outcome_kinds::OutcomeKind;
 pub use outcomes::Outcome;
 pub use texts::{Text, TextRefusal};
-
-#[cfg(test)]
-mod tests;

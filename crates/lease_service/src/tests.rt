@@ -5,7 +5,7 @@ ghost use Rattle.coordination.specs.Shown.{blocked_shown, claimed_shown, parked_
 use crate::{
     ProjectLocks, Tried, current_lease, hand_back, run_as_worker, take_locks, try_take_locks,
 };
-use coordination::{Awaited, Coordination, Halt, Opened, Pass, Question, openings_are_at_rest};
+use coordination::{Coordination, Halt, Opened, Pass, Question, openings_are_at_rest};
 use item_actions::Text;
 use lock_journal::Book;
 use resource_lock::{Change, Graph, LockId, WorkerId};
@@ -15,6 +15,7 @@ use std::sync::Wait;
 use std::test::Fail;
 use std::thread;
 use std::thread::Threads;
+use worker_choices::Awaited;
 
 /// A service of two workers, with three locks, as many leases as workers and no task.
 fn open_service(rt: &impl Abort, alloc: Global) -> Result<Opened, Fail>

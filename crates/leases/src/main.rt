@@ -2,9 +2,10 @@
 #![tactic(auto)]
 
 ghost use Rattle.std.specs.Prelude.{◌≡◌, IfOk, length};
+ghost use Rattle.leases_cli.specs.declared.top.TheConstants.{DESKS};
 
 use item_actions::Text;
-use leases_cli::{Status, leases};
+use leases_cli::{DESKS, Status, leases};
 use std::alloc::{AllocError, AllocFailed, Global};
 use std::io::ErrorKind;
 use std::process::ExitCode;
@@ -12,9 +13,6 @@ use std::sync::Wait;
 use std::thread::Threads;
 use std::{env, io};
 use worker_desk::{FolderFiles, OpenGate, StdSink, StdSource};
-
-/// As many desks as a run may have threads.
-const DESKS: usize = 32;
 
 /// Why nothing could be begun.
 #[derive(Clone, Copy)]
@@ -53,7 +51,7 @@ fn words(rt: &HostRuntime, alloc: Global) -> Result<Vec<Text>, Hindrance> {
 
 /// The desks of the current folder.
 fn desks(rt: &HostRuntime, alloc: Global) -> Result<Vec<FolderFiles<&HostRuntime>>, Hindrance>
-    ensures { IfOk result (λ desks. length desks.items ≡ 32) }
+    ensures { IfOk result (λ desks. length desks.items ≡ DESKS) }
 {
     let mut desks = Vec::with_capacity(alloc, DESKS)?;
     for _ in 0..DESKS {

@@ -7,5 +7,5 @@ mod top;
 mod worker;
 
 pub use status::Status;
-pub use top::{Ended, leases};
+pub use top::{DESKS, Ended, leases};
 pub use worker::serve_worker;

@@ -12,6 +12,7 @@ ghost use Rattle.build_runner.specs.Run.{AreAlike, IsRunOf};
 ghost use Rattle.command_words.specs.Reading.{HasBounds, IsBounded, command_of};
 ghost use Rattle.command_words.specs.declared.commands.Command.TheVariants as commands;
 ghost use Rattle.leases_cli.specs.declared.status.Status.TheVariants as status;
+ghost use Rattle.leases_cli.specs.declared.top.TheConstants.{DESKS};
 ghost use Rattle.leases_cli.specs.Around.{counts_of, desks_used};
 ghost use Rattle.leases_cli.specs.Worker.{HasWorked};
 ghost use Rattle.leases_cli.specs.Answered.{Answered, RunAnswered, IsToldAs, all_pass, have_all_passed, history_asked, options_of, run_text, text_by_book, values_or_closings};
@@ -28,13 +29,16 @@ use history_text::{results_go_by_number, write_history, write_results};
 use item_actions::{MAX_FILE_BYTES, Text};
 use lock_journal::Book;
 use plan_reader::{Plan, PlanFail, PlanRefusal, read_plan};
-use resource_lock::{Mark, MarkId, State};
+use resource_lock::{MAX_WORKERS, Mark, MarkId, State};
 use run_laws::outcomes_go_by_number;
 use std::alloc::Global;
 use std::sync::Wait;
 use std::thread::Threads;
 use task_ranks::first_cycle_is_unique;
 use worker_desk::{DeskFail, Failed, Files, Gate, Page, Read, Sink, Source};
+
+/// How many desks a call is given: as many as a run may have threads.
+pub const DESKS: usize = MAX_WORKERS as usize;
 
 /// How a call ended, and the book of the run, if a run ended.
 #[derive(Drop)]
@@ -204,9 +208,9 @@ fn run<R: Threads + Wait + Sync, F: Files + Send + Drop, G: Gate + Sync, O: Sink
     out: &mut O,
 ) -> Ended
     requires bounds { HasBounds asked.now }
-    requires desks { length desks.old.items ≡ 32 }
+    requires desks { length desks.old.items ≡ DESKS }
     requires alike { AreAlike F.files desks.old.items }
-    ensures places { length desks.new.items ≡ 32 }
+    ensures places { length desks.new.items ≡ DESKS }
     ensures files { (i : ℕ) (d : F) → F.files (get_or desks.new.items i d) ≡ F.files (get_or desks.old.items i d) }
     ensures counts { (i : ℕ) (d : F) → F.faults (get_or desks.old.items i d) ≤ F.faults (get_or desks.new.items i d) }
     ensures rest { drop asked.now.threads desks.new.items ≡ drop asked.now.threads desks.old.items }
@@ -261,9 +265,9 @@ fn perform<R: Threads + Wait + Sync, F: Files + Send + Drop, I: Source, G: Gate 
     out: &mut O,
 ) -> Ended
     requires bounded { IsBounded command.now }
-    requires desks { length desks.old.items ≡ 32 }
+    requires desks { length desks.old.items ≡ DESKS }
     requires alike { AreAlike F.files desks.old.items }
-    ensures places { length desks.new.items ≡ 32 }
+    ensures places { length desks.new.items ≡ DESKS }
     ensures files { (i : ℕ) (d : F) → F.files (get_or desks.new.items i d) ≡ F.files (get_or desks.old.items i d) }
     ensures counts { (i : ℕ) (d : F) → F.faults (get_or desks.old.items i d) ≤ F.faults (get_or desks.new.items i d) }
     ensures rest { drop (desks_used (Some command.now)) desks.new.items ≡ drop (desks_used (Some command.now)) desks.old.items }
@@ -283,8 +287,8 @@ fn perform<R: Threads + Wait + Sync, F: Files + Send + Drop, I: Source, G: Gate 
 
 /// Does what the words after the program's name ask for.
 ///
-/// They are read by `command_words::read_command`. There are 32 desks, and where they know their files all
-/// know the same. For `run` the plan is read through the first desk, and run on as many threads as the words
+/// They are read by `command_words::read_command`. There are `DESKS` desks, and where they know their files
+/// all know the same. For `run` the plan is read through the first desk, and run on as many threads as the words
 /// say: thread i has the desk with number i, and each item passes the gate. What the words ask for is written
 /// to `out`. For `worker` the requests that the input gives are answered on `out` by the files of the first
 /// desk; no other command takes anything from the input. The answer and its cause are those of the contract.
@@ -300,9 +304,9 @@ pub fn leases<R: Threads + Wait + Sync, F: Files + Send + Drop, I: Source, G: Ga
     gate: &G,
     out: &mut O,
 ) -> Ended
-    requires desks { length desks.old.items ≡ 32 }
+    requires desks { length desks.old.items ≡ DESKS }
     requires alike { AreAlike F.files desks.old.items }
-    ensures places { length desks.new.items ≡ 32 }
+    ensures places { length desks.new.items ≡ DESKS }
     ensures files { (i : ℕ) (d : F) → F.files (get_or desks.new.items i d) ≡ F.files (get_or desks.old.items i d) }
     ensures counts { (i : ℕ) (d : F) → F.faults (get_or desks.old.items i d) ≤ F.faults (get_or desks.new.items i d) }
     ensures rest { drop (desks_used (command_of words.now)) desks.new.items ≡ drop (desks_used (command_of words.now)) desks.old.items }

@@ -21,6 +21,3 @@ pub use laws::{
 pub use plan_table::{Part, Place, PlanFail, PlanRefusal, Which};
 pub use plans::{Plan, PlanAction, PlanTask};
 pub use read::read_plan;
-
-#[cfg(test)]
-mod tests;

@@ -28,6 +28,3 @@ pub use refusals::{Part, Place, PlanFail, PlanRefusal, Which};
 pub use search::{PlaceTest, first_place, places};
 pub use table_refusals::table_refusal;
 pub use values::text_of;
-
-#[cfg(test)]
-mod tests;

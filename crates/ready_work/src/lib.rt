@@ -13,6 +13,3 @@ mod task_sets;
 
 pub use number_sets::NumberSet;
 pub use ready_works::ReadyWork;
-
-#[cfg(test)]
-mod tests;

@@ -21,6 +21,3 @@ pub use limits::{
 };
 pub use marks::{Mark, MarkId};
 pub use states::State;
-
-#[cfg(test)]
-mod tests;

@@ -1,19 +1,17 @@
 //! The call that a case asks for, and what is printed of it.
 ghost use Rattle.std.specs.Prelude.{◌≡◌, All, IfOk, length};
 ghost use Rattle.worker_desk.specs.Folders.{folder_of};
+ghost use Rattle.leases_cli.specs.declared.top.TheConstants.{DESKS};
 
 use crate::cases::Case;
 use anyhow::Result;
 use item_actions::Text;
-use leases_cli::{Ended, Status, leases};
+use leases_cli::{DESKS, Ended, Status, leases};
 use lock_journal::Book;
 use std::alloc::{AllocError, Global};
 use std::sync::Wait;
 use std::thread::Threads;
 use worker_desk::{FileEntry, FileMap, MeetingGate, MemoryFiles, MemorySink, MemorySource};
-
-/// As many desks as a run may have threads.
-const DESKS: usize = 32;
 
 /// An equal file.
 fn copy_of(alloc: Global, file: &FileEntry) -> Result<FileEntry, AllocError>
@@ -49,7 +47,7 @@ fn desks_of(
     files: &[FileEntry],
     failing: Vec<u64>,
 ) -> Result<Vec<MemoryFiles>, AllocError>
-    ensures count { IfOk result (λ desks. length desks.items ≡ 32) }
+    ensures count { IfOk result (λ desks. length desks.items ≡ DESKS) }
     ensures files { IfOk result (λ desks. All (λ desk. desk.files ≡ folder_of files.now) desks.items) }
 {
     let mut desks = Vec::with_capacity(alloc, DESKS)?;

@@ -32,8 +32,3 @@ pub use sources::Source;
 pub use std_sink::StdSink;
 pub use std_source::StdSource;
 pub use work::work_out;
-
-#[cfg(test)]
-mod gate_tests;
-#[cfg(test)]
-mod tests;

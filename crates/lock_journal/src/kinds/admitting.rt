@@ -30,7 +30,7 @@ use resource_lock::{Change, Graph, LockId, MAX_ACTIONS_PER_TASK, MAX_LOCKS, MAX_
 
 /// At most how many changes an entry has. It is an end's, which may skip each action of its task and
 /// each unit: one change for each, and three that end the task and give its lock and the lease back.
-pub(crate) const MAX_CHANGES: u64 = 3 + MAX_ACTIONS_PER_TASK as u64 + MAX_UNITS;
+pub const MAX_CHANGES: u64 = 3 + MAX_ACTIONS_PER_TASK as u64 + MAX_UNITS;
 
 /// Makes the changes given, where an entry of the kind is allowed with them, and answers whether it
 /// is. Where it isn't, some changes may be made.

@@ -22,12 +22,14 @@ mod taking;
 mod unblocks;
 
 pub use acquires::{Acquire, Shortage};
+pub use admitting::MAX_CHANGES;
 pub use blocks::Block;
 pub use claims::Claim;
 pub use closes::Close;
 pub use ends::End;
 pub use hand_backs::HandBack;
 pub use parks::Park;
+pub use ranges::action_of;
 pub use resumes::Resume;
 pub use skips::Skip;
 pub use starts::Start;

@@ -49,7 +49,7 @@ pub(crate) fn actions_of(graph: &Graph, task: u32) -> Span
 }
 
 /// An action of the graph.
-pub(crate) fn action_of(graph: &Graph, action: u32) -> GraphAction
+pub fn action_of(graph: &Graph, action: u32) -> GraphAction
     requires { action < length graph.now.actions }
     ensures value { result ≡ action_of graph.now action }
     ensures task { result.task < length graph.now.tasks }

@@ -1,5 +1,5 @@
 use Rattle.std.proofs.Common.{◌≡◌, Err, None, ap, subst, ◌∙◌}
-use Rattle.coordination.specs.Ready.{first_open}
+use Rattle.worker_choices.specs.Ready.{first_open}
 use Rattle.async_tracker.proofs.Resumed.{none_open_found}
 use Rattle.build_runner.proofs.Keeping.{finished_closes, keeps_still, keeps_then, of_ok, some_or_none, stopped_closes}
 use Rattle.build_runner.proofs.waiting.wait_for_items.Goals as goal

@@ -1,13 +1,15 @@
-use Rattle.std.proofs.Common.{ℕ, ap, ◌∙◌}
-use Rattle.resource_lock.specs.GraphView.{GraphView}
-use Rattle.coordination.specs.Sights.{workers_from}
 use Rattle.coordination.proofs.Closing.{length_first, workers_first}
+use Rattle.coordination.proofs.FirstSights.{all_rest, all_saw}
 use Rattle.coordination.proofs.services.Coordination.open.Goals as goal
 
 pub returns-clause-len : goal.returns-clause-len
-returns-clause-len c =
-    length_first c.in_ok-passes.passes.items _ _ c.in_ok-passes.ensures.passes ∙ (c.workers-workers.ensures ∙ ap (λ (g : GraphView). g.workers) c.graph.ensures.value)
+returns-clause-len c = length_first c.in_ok-slot.passes.items _ _ c.in_ok-slot.ensures.passes
 
 pub returns-clause-workers : goal.returns-clause-workers
-returns-clause-workers c =
-    workers_first c.in_ok-passes.passes.items _ _ c.in_ok-passes.ensures.passes ∙ ap (λ (n : ℕ). workers_from 0 n) (c.workers-workers.ensures ∙ ap (λ (g : GraphView). g.workers) c.graph.ensures.value)
+returns-clause-workers c = workers_first c.in_ok-slot.passes.items _ _ c.in_ok-slot.ensures.passes
+
+pub returns-clause-seen : goal.returns-clause-seen
+returns-clause-seen c = all_saw c.in_ok-slot.passes.items _ _ c.in_ok-slot.ensures.passes
+
+pub returns-clause-rest : goal.returns-clause-rest
+returns-clause-rest c = all_rest c.in_ok-slot.passes.items _ c.requires (all_saw c.in_ok-slot.passes.items _ _ c.in_ok-slot.ensures.passes)

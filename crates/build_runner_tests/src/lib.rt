@@ -1,0 +1,5 @@
+//! Tests of `build_runner`.
+#![tactic(auto)]
+
+#[cfg(test)]
+mod faulty_runs;

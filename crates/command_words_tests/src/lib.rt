@@ -1,0 +1,5 @@
+//! Tests of `command_words`.
+#![tactic(auto)]
+
+#[cfg(test)]
+mod tests;

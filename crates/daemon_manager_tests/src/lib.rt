@@ -1,0 +1,5 @@
+//! Tests of `daemon_manager`.
+#![tactic(auto)]
+
+#[cfg(test)]
+mod tests;

@@ -1,0 +1,5 @@
+//! Tests of `daemon_protocol`.
+#![tactic(auto)]
+
+#[cfg(test)]
+mod tests;

@@ -1,0 +1,5 @@
+//! Tests of `daemon_requirements`.
+#![tactic(auto)]
+
+#[cfg(test)]
+mod tests;

@@ -1,0 +1,5 @@
+//! Tests of `history_reader`.
+#![tactic(auto)]
+
+#[cfg(test)]
+mod tests;

@@ -1,0 +1,5 @@
+//! Tests of `item_actions`.
+#![tactic(auto)]
+
+#[cfg(test)]
+mod tests;

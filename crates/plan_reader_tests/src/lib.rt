@@ -1,0 +1,5 @@
+//! Tests of `plan_reader`.
+#![tactic(auto)]
+
+#[cfg(test)]
+mod tests;

@@ -1,0 +1,5 @@
+//! Tests of `plan_table`.
+#![tactic(auto)]
+
+#[cfg(test)]
+mod tests;

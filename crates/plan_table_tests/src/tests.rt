@@ -1,0 +1,107 @@
+use plan_table::*;
+use std::test::Fail;
+use toml::Value;
+
+/// Requirements with every key.
+const EVERY_KEY: &str = r#"
+[[requirements]]
+name = "large"
+executable = "java"
+heap_mb = 2048
+args = ["-v", ""]
+properties = { b = "2", a = "1" }
+variables = { "PATH:X" = "" }
+debug = true
+assertions = true
+encoding = "US-ASCII"
+"#;
+
+fn has_properties(requirements: &Value) -> bool {
+    let mut names = match properties_of(requirements) {
+        Some(properties) => properties.keys(),
+        None => return false,
+    };
+    names.next().is_some_and(|name| name.as_str() == "a")
+        && names.next().is_some_and(|name| name.as_str() == "b")
+        && names.next().is_none()
+}
+
+fn is_large(requirements: &Value) -> bool {
+    name_of(requirements) == "large"
+        && executable_of(requirements) == "java"
+        && heap_of(requirements) == 2048
+        && args_of(requirements).len() == 2
+        && args_of(requirements)
+            .first()
+            .is_some_and(|argument| text_of(argument) == "-v")
+        && has_properties(requirements)
+        && variables_of(requirements).is_some_and(|variables| variables.len() == 1)
+        && debug_of(requirements)
+        && assertions_of(requirements)
+        && encoding_of(requirements) == "US-ASCII"
+}
+
+#[test]
+fn every_key_of_requirements_is_read(rt: HostRuntime) -> Result<(), Fail> {
+    let document = read_document(rt.alloc(), EVERY_KEY.as_bytes())?;
+    assert!(rt;
+        requirements_of(&document)
+            .first()
+            .is_some_and(|large| is_large(large))
+    );
+    Ok(())
+}
+
+/// A plan without the keys that have a default.
+const NO_KEY: &str = r#"
+task = [{ name = "t", project = "p", action = [{ item = [{ do = "lines", file = "a" }] }] }]
+requirements = [{ name = "r" }]
+"#;
+
+fn is_plain_item(item: &Value) -> bool {
+    isolation_of(item) == "none" && requirements_name_of(item).is_none() && needle_of(item) == ""
+}
+
+fn is_plain_action(action: &Value) -> bool {
+    wait_of(action) == "release_and_reacquire"
+        && fetch_of(action).is_none()
+        && items_of(action)
+            .first()
+            .is_some_and(|item| is_plain_item(item))
+}
+
+fn is_plain_task(task: &Value) -> bool {
+    after_of(task).is_empty()
+        && actions_of(task)
+            .first()
+            .is_some_and(|action| is_plain_action(action))
+}
+
+fn are_plain(requirements: &Value) -> bool {
+    executable_of(requirements) == "self"
+        && heap_of(requirements) == 512
+        && args_of(requirements).is_empty()
+        && properties_of(requirements).is_none()
+        && variables_of(requirements).is_none()
+        && !debug_of(requirements)
+        && !assertions_of(requirements)
+        && encoding_of(requirements) == "UTF-8"
+}
+
+#[test]
+fn absent_keys_have_their_defaults(rt: HostRuntime) -> Result<(), Fail> {
+    let document = read_document(rt.alloc(), NO_KEY.as_bytes())?;
+    assert_eq!(rt; table_refusal(&document), None);
+    assert!(rt; projects_of(&document).is_empty());
+    assert!(rt;
+        tasks_of(&document)
+            .first()
+            .is_some_and(|task| is_plain_task(task))
+    );
+    assert!(rt;
+        requirements_of(&document)
+            .first()
+            .is_some_and(|plain| are_plain(plain))
+    );
+    Ok(())
+}

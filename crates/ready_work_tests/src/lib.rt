@@ -1,0 +1,5 @@
+//! Tests of `ready_work`.
+#![tactic(auto)]
+
+#[cfg(test)]
+mod tests;

@@ -1,0 +1,5 @@
+//! Tests of `resource_lock`.
+#![tactic(auto)]
+
+#[cfg(test)]
+mod tests;
