@@ -1,4 +1,7 @@
 pub mod Numbers
 pub mod Rules
 pub mod Failing
+pub mod Matching
+pub mod Run
+pub mod Make
 pub mod Reading

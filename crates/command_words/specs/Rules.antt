@@ -1,4 +1,4 @@
--- The arguments behind `run`, as the parser has them.
+-- The arguments behind a command's name, as the parsers have them.
 use Rattle.std.specs.Prelude.{codes, true, Some}
 use Rattle.clap.specs.Walk.{Rule, Text}
 use Rattle.clap.specs.Simple.{App, Shape, new_rule, new_app, with_rule, on_top}
@@ -11,8 +11,9 @@ option_rule name = record (new_rule name) { long = Some name; action = Some Set 
 abbrev pub flag_rule : Text → Rule
 flag_rule name = record (new_rule name) { long = Some name; action = Some SetTrue }
 
-abbrev pub plan_rule : Rule
-plan_rule = record (new_rule (codes "PLAN")) { required = true; action = Some Set }
+-- a value that has to stand there, by its place
+abbrev pub required_rule : Text → Rule
+required_rule name = record (new_rule name) { required = true; action = Some Set }
 
 -- the words begin behind the command's name, and there are no flags but its own
 abbrev pub bare : Shape → Shape
@@ -23,6 +24,9 @@ bare_app name = on_top bare (new_app name)
 
 unfoldable pub run_app : App
 run_app =
-    with_rule (with_rule (with_rule (with_rule (with_rule (with_rule (bare_app (codes "run")) plan_rule)
+    with_rule (with_rule (with_rule (with_rule (with_rule (with_rule (bare_app (codes "run")) (required_rule (codes "PLAN")))
     (option_rule (codes "max-workers"))) (option_rule (codes "threads")))
     (flag_rule (codes "parallel"))) (flag_rule (codes "history"))) (flag_rule (codes "summary"))
+
+unfoldable pub make_app : App
+make_app = with_rule (with_rule (bare_app (codes "make")) (required_rule (codes "SEED"))) (required_rule (codes "FILE"))

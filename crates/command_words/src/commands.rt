@@ -11,6 +11,8 @@ pub enum Command {
     Run(RunWords),
     /// Answers the requests of a stream.
     Worker,
+    /// Prints a large plan that is made from a number.
+    Make(MakeWords),
 }
 
 /// What the words of `run` ask for.
@@ -28,6 +30,15 @@ pub struct RunWords {
     pub history: bool,
     /// Whether of the results the summary alone is printed.
     pub summary: bool,
+}
+
+/// What the words of `make` ask for.
+#[derive(Debug, Drop)]
+pub struct MakeWords {
+    /// The number that the plan is made from.
+    pub seed: u64,
+    /// The file of each item, by a name of the form that `item_actions::is_file_name` tests.
+    pub file: Text,
 }
 
 /// Why words give no command.

@@ -2,10 +2,13 @@
 #![tactic(auto)]
 
 mod commands;
+mod make;
+mod matching;
 mod numbers;
 mod parser;
 mod reading;
+mod run;
 
-pub use commands::{Command, RunWords, WordsFail};
+pub use commands::{Command, MakeWords, RunWords, WordsFail};
 pub use numbers::MAX_COUNT;
 pub use reading::read_command;

@@ -1,12 +1,14 @@
 //! Numbers in words.
-ghost use Rattle.command_words.specs.Numbers.{count_of, in_bounds, is_numeral};
+ghost use Rattle.command_words.specs.Numbers.{count_of, in_bounds, is_numeral, seed_of, value_of};
 ghost use Rattle.std.specs.Char.{is_ascii_digit};
 ghost use Rattle.std.specs.List.{list_all};
-ghost use Rattle.std.specs.Prelude.{true, IfSome, ◌≡◌, ◌≤◌};
-ghost use Rattle.std.specs.Str.Parse.{digits_value};
+ghost use Rattle.std.specs.Prelude.{IfSome, ◌≡◌, ◌≤◌};
 
-/// The most digits of a number.
-const MAX_DIGITS: usize = 10;
+/// The most digits of a number of threads or of leases.
+const MAX_COUNT_DIGITS: usize = 10;
+
+/// The most digits of the number that a plan is made from.
+const MAX_SEED_DIGITS: usize = 20;
 
 /// The greatest number of threads, and of leases.
 pub const MAX_COUNT: u32 = 32;
@@ -17,19 +19,20 @@ fn are_digits(bytes: &[u8]) -> bool
     bytes.iter().all(|b| b.is_ascii_digit())
 }
 
-fn is_numeral(text: &str) -> bool
-    ensures { result ≡ is_numeral text.now }
+fn is_numeral(text: &str, max_digits: usize) -> bool
+    ensures { result ≡ is_numeral max_digits text.now }
 {
-    1 <= text.len() && text.len() <= MAX_DIGITS && are_digits(text.as_bytes())
+    1 <= text.len() && text.len() <= max_digits && are_digits(text.as_bytes())
 }
 
-fn value_of(text: &str) -> u64
-    requires { is_numeral text.now ≡ true }
-    ensures { result ≡ digits_value 10 text.now }
+/// The number below 2^64 that a text writes with digits, at least one and not too many.
+fn value_of(text: &str, max_digits: usize) -> Option<u64>
+    ensures { result ≡ value_of max_digits text.now }
 {
-    match text.parse::<u64>() {
-        Ok(value) => value,
-        Err(_) => unreachable!(),
+    if is_numeral(text, max_digits) {
+        text.parse::<u64>().ok()
+    } else {
+        None
     }
 }
 
@@ -45,15 +48,19 @@ fn in_bounds(value: u64) -> Option<u32>
     }
 }
 
-/// The number, 1 to `MAX_COUNT`, that a text writes with 1 to `MAX_DIGITS` digits.
+/// The number, 1 to `MAX_COUNT`, that a text writes with 1 to `MAX_COUNT_DIGITS` digits.
 pub(crate) fn count_of(text: &str) -> Option<u32>
     ensures value { result ≡ count_of text.now }
     ensures some { IfSome result (λ n. 1 ≤ n) }
     ensures few { IfSome result (λ n. n ≤ MAX_COUNT) }
 {
-    if is_numeral(text) {
-        in_bounds(value_of(text))
-    } else {
-        None
-    }
+    let value = value_of(text, MAX_COUNT_DIGITS)?;
+    in_bounds(value)
+}
+
+/// The number below 2^64 that a text writes with 1 to `MAX_SEED_DIGITS` digits.
+pub(crate) fn seed_of(text: &str) -> Option<u64>
+    ensures { result ≡ seed_of text.now }
+{
+    value_of(text, MAX_SEED_DIGITS)
 }

@@ -1,6 +1,6 @@
-//! The parser of the words after `run`.
+//! The parsers of the words behind a command's name.
 ghost use Rattle.clap.specs.Simple.{app_of, with_rule};
-ghost use Rattle.command_words.specs.Rules.{bare_app, flag_rule, option_rule, plan_rule, run_app};
+ghost use Rattle.command_words.specs.Rules.{bare_app, flag_rule, make_app, option_rule, required_rule, run_app};
 ghost use Rattle.std.specs.Prelude.{codes, IfOk, ◌≡◌};
 
 use clap::{Arg, ArgAction, Command};
@@ -37,13 +37,15 @@ fn bare_command<'a>(alloc: Global, name: &'a str) -> Command<'a>
         .disable_version_flag(true)
 }
 
-fn with_plan<'a>(alloc: Global, command: Command<'a>) -> Result<Command<'a>, AllocError>
-    ensures { IfOk result (λ c. app_of c ≡ with_rule (app_of command.entry) plan_rule) }
+fn with_required<'a>(
+    alloc: Global,
+    command: Command<'a>,
+    name: &'a str,
+) -> Result<Command<'a>, AllocError>
+    ensures { IfOk result (λ c. app_of c ≡ with_rule (app_of command.entry) (required_rule name.entry.now)) }
 {
-    let plan = Arg::new(alloc, "PLAN")
-        .required(true)
-        .action(ArgAction::Set);
-    command.arg(plan)
+    let argument = Arg::new(alloc, name).required(true).action(ArgAction::Set);
+    command.arg(argument)
 }
 
 fn with_options<'a>(alloc: Global, command: Command<'a>) -> Result<Command<'a>, AllocError>
@@ -64,13 +66,23 @@ fn with_flags<'a>(alloc: Global, command: Command<'a>) -> Result<Command<'a>, Al
     Ok(command)
 }
 
-/// The parser: PLAN, which is required, two options with a value each, and three flags.
+/// The parser of `run`: PLAN, which is required, two options with a value each, and three flags.
 #[tactic(auto, unfolding(crate::specs::Rules::run_app))]
 pub(crate) fn run_command<'a>(alloc: Global) -> Result<Command<'a>, AllocError>
     ensures { IfOk result (λ c. app_of c ≡ run_app) }
 {
-    let command = with_plan(alloc, bare_command(alloc, "run"))?;
+    let command = with_required(alloc, bare_command(alloc, "run"), "PLAN")?;
     let command = with_options(alloc, command)?;
     let command = with_flags(alloc, command)?;
+    Ok(command)
+}
+
+/// The parser of `make`: SEED and FILE, which are required.
+#[tactic(auto, unfolding(crate::specs::Rules::make_app))]
+pub(crate) fn make_command<'a>(alloc: Global) -> Result<Command<'a>, AllocError>
+    ensures { IfOk result (λ c. app_of c ≡ make_app) }
+{
+    let command = with_required(alloc, bare_command(alloc, "make"), "SEED")?;
+    let command = with_required(alloc, command, "FILE")?;
     Ok(command)
 }

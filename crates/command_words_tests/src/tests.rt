@@ -48,8 +48,22 @@ static COMMANDS: [(&str, &str); 35] = [
     ("run|../a:b", "../a:b 2 2"),
 ];
 
+/// Words with `|` between them that are the command `make`, with its number and its file.
+static MAKES: [(&str, u64, &str); 10] = [
+    ("make|0|a.txt", 0, "a.txt"),
+    ("make|7|src/a-b_c.rs", 7, "src/a-b_c.rs"),
+    ("make|007|a.txt", 7, "a.txt"),
+    ("make|00000000000000000000|a", 0, "a"),
+    ("make|00000000000000000007|a", 7, "a"),
+    ("make|18446744073709551615|a.txt", u64::MAX, "a.txt"),
+    ("make|9223372036854775808|a.txt", 1 << 63, "a.txt"),
+    ("make|--|1|a.txt", 1, "a.txt"),
+    ("make|1|--|-a", 1, "-a"),
+    ("make|1|a..b/...", 1, "a..b/..."),
+];
+
 /// Words with `|` between them that are no command.
-static NO_COMMANDS: [&str; 14] = [
+static NO_COMMANDS: [&str; 33] = [
     "run",
     "run|p|q",
     "run|p|--max-workers",
@@ -64,6 +78,25 @@ static NO_COMMANDS: [&str; 14] = [
     "build|p",
     "Worker",
     "--help|worker",
+    "make",
+    "make|0",
+    "make|a.txt",
+    "make|0|a.txt|b.txt",
+    "make|a.txt|0",
+    "make|18446744073709551616|a.txt",
+    "make|99999999999999999999|a.txt",
+    "make|000000000000000000000|a.txt",
+    "make||a.txt",
+    "make|+1|a.txt",
+    "make|-1|a.txt",
+    "make|1x|a.txt",
+    "make|1|",
+    "make|1|/a",
+    "make|1|a//b",
+    "make|1|../a",
+    "make|1|a b",
+    "make|1|a.txt|--history",
+    "make|--help",
 ];
 
 /// Words with `|` between them that are the worker's command.
@@ -110,6 +143,19 @@ fn words_behind_worker_are_not_looked_at(rt: HostRuntime) -> Result<(), Fail> {
         let words = words_of(rt.alloc(), line)?;
         let read = read_command(rt.alloc(), &words);
         assert!(rt; matches!(read, Ok(Command::Worker)), "{line}");
+    }
+    Ok(())
+}
+
+#[test]
+fn words_of_make_are_a_number_and_a_file(rt: HostRuntime) -> Result<(), Fail> {
+    for (line, seed, file) in &MAKES {
+        let words = words_of(rt.alloc(), line)?;
+        let Ok(Command::Make(make)) = read_command(rt.alloc(), &words) else {
+            return Err(Fail::new(*line));
+        };
+        assert_eq!(rt; make.seed, *seed);
+        assert_eq!(rt; make.file.as_str(), *file);
     }
     Ok(())
 }

@@ -8,7 +8,7 @@ use Rattle.worker_desk.proofs.Printing.{wrote_nothing}
 use Rattle.build_runner.specs.Run.{AreAlike}
 use Rattle.command_words.specs.Failing.{NoMemoryOr}
 use Rattle.command_words.specs.declared.commands.Command.{Command}
-use Rattle.command_words.specs.declared.commands.Command.TheVariants.{Run, Worker}
+use Rattle.command_words.specs.declared.commands.Command.TheVariants.{Run, Worker, Make}
 use Rattle.command_words.specs.declared.commands.WordsFail.{WordsFail}
 use Rattle.command_words.specs.declared.commands.WordsFail.TheVariants.{NoCommand}
 use Rattle.daemon_protocol.specs.StreamStart.{nothing}
@@ -48,6 +48,7 @@ at_no_memory : (command : Option Command) (o : Around) → Answered command o o 
 at_no_memory None o = (refl, inl (refl, wrote_nothing o.sink))
 at_no_memory (Some (Run asked)) o = inl (refl, wrote_nothing o.sink)
 at_no_memory (Some Worker) o = (refl, (ends.NoMemory, served_nothing (at_first_desk o), refl))
+at_no_memory (Some (Make asked)) o = (refl, inl (refl, wrote_nothing o.sink))
 
 -- nothing was done for want of memory
 pub no_memory_answered : (command : Option Command) (o : Around) (status : Status) (book : Option BookView) → book ≡ None → status ≡ NoMemory → Answered command o o status book

@@ -1,5 +1,5 @@
 -- A call that met no fault has succeeded, unless there was no memory.
-use Rattle.std.proofs.Common.{◌≡◌, ℕ, ◌+◌, ◌<◌, ◌≤◌, Bool, true, false, cond, inl, inr, List, [], ◌∷◌, Option, None, Some, refl, sym, ◌∙◌, ap, subst, arith}
+use Rattle.std.proofs.Common.{◌≡◌, ℕ, ◌+◌, ◌<◌, ◌≤◌, ◌⊎◌, Bool, true, false, cond, inl, inr, List, [], ◌∷◌, Option, None, Some, refl, sym, ◌∙◌, ap, subst, arith}
 use Rattle.std.specs.Prelude.{sum_by, unwrap_or}
 use Rattle.std.specs.List.{All, AllByRecursion}
 use Rattle.std.proofs.lemmas.Bool.{cases_lt, ne_eqb}
@@ -18,8 +18,9 @@ use Rattle.build_runner.specs.Run.{IsRunOf}
 use Rattle.build_runner.specs.declared.options.RunOptions.{RunOptions}
 use Rattle.command_words.specs.Reading.{IsBounded}
 use Rattle.command_words.specs.declared.commands.Command.{Command}
-use Rattle.command_words.specs.declared.commands.Command.TheVariants.{Run, Worker}
+use Rattle.command_words.specs.declared.commands.Command.TheVariants.{Run, Worker, Make}
 use Rattle.command_words.specs.declared.commands.RunWords.{RunWords}
+use Rattle.command_words.specs.declared.commands.MakeWords.{MakeWords}
 use Rattle.daemon_worker.specs.Answer.{Answer, replies, IsHonestAnswer}
 use Rattle.daemon_worker.specs.Serving.{Outside, IsEnd}
 use Rattle.daemon_worker.specs.declared.serving.Served.{Served}
@@ -29,6 +30,7 @@ use Rattle.leases_cli.specs.Answered.{Answered, RunAnswered, IsNamedRun, all_pas
 use Rattle.leases_cli.specs.Causes.{IsPlanAt, IsReadCause}
 use Rattle.leases_cli.specs.Complete.{MetNoFault, MetNoFaults, HasNoFault, HasPlan, HasSucceeded, HasValue, IsByFrames, HasWorkedWell, Succeeds, IsComplete, status_by}
 use Rattle.leases_cli.specs.Worker.{HasWorked}
+use Rattle.leases_cli.specs.Make.{HasMade, MakeAnswered}
 use Rattle.leases_cli.proofs.Readings.{FirstCycleOnce, one_plan, not_refused}
 use Rattle.leases_cli.specs.declared.status.Status.{Status}
 use Rattle.leases_cli.specs.declared.status.Status.TheVariants.{Passed, TaskFailed, BadWords, BadPlan, NoPlan, PlanFault, SinkFault, BadFrame, SourceFault, NoMemory}
@@ -137,31 +139,52 @@ worker_succeeds files old new status known calm quiet source w =
       w.2,
     )
 
+-- ---- a plan that is made
+
+made_whole : (asked : MakeWords) (old new : SinkView) (status : Status) → MetNoFault old.faults new.faults → HasMade asked.seed asked.file old new status → status ≡ Passed
+made_whole asked old new Passed quiet m = refl
+made_whole asked old new SinkFault quiet m = absurd (not_risen old.faults new.faults quiet m.faults)
+made_whole asked old new TaskFailed quiet m = absurd m
+made_whole asked old new BadWords quiet m = absurd m
+made_whole asked old new (BadPlan refusal) quiet m = absurd m
+made_whole asked old new NoPlan quiet m = absurd m
+made_whole asked old new PlanFault quiet m = absurd m
+made_whole asked old new (BadFrame place) quiet m = absurd m
+made_whole asked old new SourceFault quiet m = absurd m
+made_whole asked old new NoMemory quiet m = absurd m
+
+make_succeeds : (asked : MakeWords) (old new : SinkView) (status : Status) → MetNoFault old.faults new.faults → MakeAnswered asked old new status → (status ≡ Passed) ⊎ (status ≡ NoMemory)
+make_succeeds asked old new status quiet (inl lacking) = inr lacking.0
+make_succeeds asked old new status quiet (inr made) = inl (made_whole asked old new status quiet made)
+
 -- ---- the call
 
-succeeds : (once : FirstCycleOnce) (command : Command) (files : Folder) (old new : Around) (status : Status) (book : Option BookView) → IsBounded command → old.files ≡ Some files → MetNoFaults (desks_used (Some command)) old.faults new.faults → MetNoFault old.sink.faults new.sink.faults → Answered (Some command) old new status book → Succeeds (Some command) files old new status book
-succeeds once (Run asked) files old new status book bounded known calm quiet a = λ plan has.
+succeeds : (once : FirstCycleOnce) (command : Command) (old new : Around) (status : Status) (book : Option BookView) → IsBounded command → MetNoFaults (desks_used (Some command)) old.faults new.faults → MetNoFault old.sink.faults new.sink.faults → Answered (Some command) old new status book → Succeeds (Some command) old new status book
+succeeds once (Run asked) old new status book bounded calm quiet a = λ files known plan has.
     run_succeeds once asked files plan has old.faults new.faults old.sink new.sink bounded.some_thread calm quiet status book
     (subst (λ (o : Option Folder). RunAnswered asked o old.faults new.faults old.sink new.sink status book) known a)
-succeeds once Worker files old new status book bounded known calm quiet a = λ source. worker_succeeds files (at_first_desk old) (at_first_desk new) status known (calm 0 (omega arith)) quiet source a.1
+succeeds once Worker old new status book bounded calm quiet a = λ files known source.
+    worker_succeeds files (at_first_desk old) (at_first_desk new) status known (calm 0 (omega arith)) quiet source a.1
+succeeds once (Make asked) old new status book bounded calm quiet a = make_succeeds asked old.sink new.sink status quiet a.1
 
 -- a command was carried out
 pub carried_out : (once : FirstCycleOnce) (command : Command) (words : Option Command) (old new : Around) (status : Status) (book : Option BookView) → words ≡ Some command → IsBounded command → Answered (Some command) old new status book → IsComplete words old new status book
 carried_out once command words old new status book is bounded a =
-    subst (λ (c : Option Command). IsComplete c old new status book) (sym is) (λ files known calm quiet. succeeds once command files old new status book bounded known calm quiet a)
+    subst (λ (c : Option Command). IsComplete c old new status book) (sym is) (λ calm quiet. succeeds once command old new status book bounded calm quiet a)
 
 -- words that are no command are owed nothing
 pub no_command_complete : (words : Option Command) (old new : Around) (status : Status) (book : Option BookView) → words ≡ None → IsComplete words old new status book
-no_command_complete words old new status book is = subst (λ (c : Option Command). IsComplete c old new status book) (sym is) (λ files known calm quiet. tt)
+no_command_complete words old new status book is = subst (λ (c : Option Command). IsComplete c old new status book) (sym is) (λ calm quiet. tt)
 
-at_no_memory : (words : Option Command) (files : Folder) (o : Around) → Answered words o o NoMemory None → o.files ≡ Some files → MetNoFaults (desks_used words) o.faults o.faults → MetNoFault o.sink.faults o.sink.faults → Succeeds words files o o NoMemory None
-at_no_memory None files o a known calm quiet = tt
-at_no_memory (Some (Run asked)) files o a known calm quiet = λ plan has. refl
-at_no_memory (Some Worker) files o a known calm quiet = λ source. worker_succeeds files (at_first_desk o) (at_first_desk o) NoMemory known (calm 0 (omega arith)) quiet source a.1
+at_no_memory : (words : Option Command) (o : Around) → Answered words o o NoMemory None → MetNoFaults (desks_used words) o.faults o.faults → MetNoFault o.sink.faults o.sink.faults → Succeeds words o o NoMemory None
+at_no_memory None o a calm quiet = tt
+at_no_memory (Some (Run asked)) o a calm quiet = λ files known plan has. refl
+at_no_memory (Some Worker) o a calm quiet = λ files known source. worker_succeeds files (at_first_desk o) (at_first_desk o) NoMemory known (calm 0 (omega arith)) quiet source a.1
+at_no_memory (Some (Make asked)) o a calm quiet = inr refl
 
 -- there was no memory to read the words
 pub no_memory_complete : (words : Option Command) (o : Around) (status : Status) (book : Option BookView) → book ≡ None → status ≡ NoMemory → Answered words o o status book → IsComplete words o o status book
-no_memory_complete words o status book without is a = λ files known calm quiet.
-    subst (Succeeds words files o o status) (sym without)
-    (subst (λ (s : Status). Succeeds words files o o s None) (sym is)
-    (at_no_memory words files o (subst (λ (s : Status). Answered words o o s None) is (subst (Answered words o o status) without a)) known calm quiet))
+no_memory_complete words o status book without is a = λ calm quiet.
+    subst (Succeeds words o o status) (sym without)
+    (subst (λ (s : Status). Succeeds words o o s None) (sym is)
+    (at_no_memory words o (subst (λ (s : Status). Answered words o o s None) is (subst (Answered words o o status) without a)) calm quiet))

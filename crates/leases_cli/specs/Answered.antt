@@ -22,12 +22,13 @@ use Rattle.build_runner.specs.declared.options.RunOptions.{RunOptions}
 use Rattle.history_text.specs.Text.{history_text}
 use Rattle.history_text.specs.Results.{results_text, summary_text, task_marks}
 use Rattle.command_words.specs.declared.commands.Command.{Command}
-use Rattle.command_words.specs.declared.commands.Command.TheVariants.{Run, Worker}
+use Rattle.command_words.specs.declared.commands.Command.TheVariants.{Run, Worker, Make}
 use Rattle.command_words.specs.declared.commands.RunWords.{RunWords}
 use Rattle.leases_cli.specs.Around.{Around, at_first_desk}
 use Rattle.leases_cli.specs.Causes.{IsPlanAt, IsReadCause}
 use Rattle.leases_cli.specs.Lines.{line_of}
 use Rattle.leases_cli.specs.Worker.{HasWorked}
+use Rattle.leases_cli.specs.Make.{MakeAnswered}
 use Rattle.leases_cli.specs.declared.status.Status.{Status}
 use Rattle.leases_cli.specs.declared.status.Status.TheVariants.{Passed, TaskFailed, BadWords, SinkFault, NoMemory}
 
@@ -113,3 +114,4 @@ abbrev pub Answered : Option Command → Around → Around → Status → Option
 Answered None old new status book = (book ≡ None) × IsRefusedFor (λ refusal. refusal ≡ BadWords) old.sink new.sink status
 Answered (Some (Run asked)) old new status book = RunAnswered asked old.files old.faults new.faults old.sink new.sink status book
 Answered (Some Worker) old new status book = (book ≡ None) × HasWorked (at_first_desk old) (at_first_desk new) status
+Answered (Some (Make asked)) old new status book = (book ≡ None) × MakeAnswered asked old.sink new.sink status

@@ -4,7 +4,7 @@ use Rattle.item_actions.specs.Files.{Folder}
 use Rattle.worker_desk.specs.SinkView.{SinkView}
 use Rattle.worker_desk.specs.SourceView.{SourceView}
 use Rattle.command_words.specs.declared.commands.Command.{Command}
-use Rattle.command_words.specs.declared.commands.Command.TheVariants.{Run, Worker}
+use Rattle.command_words.specs.declared.commands.Command.TheVariants.{Run, Worker, Make}
 use Rattle.daemon_worker.specs.Serving.{Outside}
 
 -- what is known of the source, of the sink, and of the desks: the files that all know, and each desk's count of faults by its number
@@ -27,3 +27,4 @@ abbrev pub desks_used : Option Command → ℕ
 desks_used None = 0
 desks_used (Some (Run asked)) = asked.threads
 desks_used (Some Worker) = 1
+desks_used (Some (Make asked)) = 0

@@ -9,7 +9,7 @@ use Rattle.lock_journal.specs.BookView.{BookView}
 use Rattle.plan_reader.specs.PlanView.{PlanView}
 use Rattle.run_laws.specs.ClosedBy.{faults_by}
 use Rattle.command_words.specs.declared.commands.Command.{Command}
-use Rattle.command_words.specs.declared.commands.Command.TheVariants.{Run, Worker}
+use Rattle.command_words.specs.declared.commands.Command.TheVariants.{Run, Worker, Make}
 use Rattle.command_words.specs.declared.commands.RunWords.{RunWords}
 use Rattle.daemon_worker.specs.Answer.{Answer}
 use Rattle.daemon_worker.specs.Serving.{Outside, HasServed}
@@ -75,13 +75,17 @@ HasWorkedWell files old new status = (end : Served) × HasServedWell files old n
 
 -- ---- the call
 
--- by the command, where these are the files, and neither the desks that it may use nor the sink met a fault
-abbrev pub Succeeds : Option Command → Folder → Around → Around → Status → Option BookView → Type 0
-Succeeds None files old new status book = Unit {0}
-Succeeds (Some (Run asked)) files old new status book = (plan : PlanView) → HasPlan asked files plan → HasSucceeded plan files status book
-Succeeds (Some Worker) files old new status book = MetNoFault old.source.faults new.source.faults → HasWorkedWell files (at_first_desk old) (at_first_desk new) status
+-- where the files are known, of these files
+abbrev pub OfKnown : Option Folder → (Folder → Type 0) → Type 0
+OfKnown known P = (files : Folder) → known ≡ Some files → P files
 
--- where the files are known
+-- by the command
+abbrev pub Succeeds : Option Command → Around → Around → Status → Option BookView → Type 0
+Succeeds None old new status book = Unit {0}
+Succeeds (Some (Run asked)) old new status book = OfKnown old.files (λ files. (plan : PlanView) → HasPlan asked files plan → HasSucceeded plan files status book)
+Succeeds (Some Worker) old new status book = OfKnown old.files (λ files. MetNoFault old.source.faults new.source.faults → HasWorkedWell files (at_first_desk old) (at_first_desk new) status)
+Succeeds (Some (Make asked)) old new status book = (status ≡ Passed) ⊎ (status ≡ NoMemory)
+
+-- where neither the desks that the command may use nor the sink met a fault
 abbrev pub IsComplete : Option Command → Around → Around → Status → Option BookView → Type 0
-IsComplete command old new status book =
-    (files : Folder) → old.files ≡ Some files → MetNoFaults (desks_used command) old.faults new.faults → MetNoFault old.sink.faults new.sink.faults → Succeeds command files old new status book
+IsComplete command old new status book = MetNoFaults (desks_used command) old.faults new.faults → MetNoFault old.sink.faults new.sink.faults → Succeeds command old new status book

@@ -7,7 +7,7 @@ use plan_reader::PlanRefusal;
 #[derive(Clone, Copy, Debug, PartialEq, Eq)]
 pub enum Status {
     /// Every task passed; or a worker's requests were all answered, up to a Stop or to the end of the input between
-    /// two frames.
+    /// two frames; or the whole plan was made.
     Passed,
     /// A task failed or was skipped.
     TaskFailed,

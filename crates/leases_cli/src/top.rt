@@ -9,7 +9,8 @@ ghost use Rattle.plan_reader.specs.Units.{plan_units};
 ghost use Rattle.run_laws.specs.Marks.{HasEnded};
 ghost use Rattle.item_actions.specs.Files.{Folder};
 ghost use Rattle.build_runner.specs.Run.{AreAlike, IsRunOf};
-ghost use Rattle.command_words.specs.Reading.{HasBounds, IsBounded, command_of};
+ghost use Rattle.command_words.specs.Reading.{IsBounded, command_of};
+ghost use Rattle.command_words.specs.Run.{HasBounds};
 ghost use Rattle.command_words.specs.declared.commands.Command.TheVariants as commands;
 ghost use Rattle.leases_cli.specs.declared.status.Status.TheVariants as status;
 ghost use Rattle.leases_cli.specs.declared.top.TheConstants.{DESKS};
@@ -20,6 +21,7 @@ ghost use Rattle.leases_cli.specs.Complete.{IsComplete};
 ghost use Rattle.leases_cli.specs.Reported.{IsReported};
 ghost use Rattle.leases_cli.specs.Causes.{IsPlanAt, IsPlanToRun, IsReadCause, IsRefusedBy, OrNoMemory};
 
+use crate::make::make_plan;
 use crate::refusals::print_refusal;
 use crate::status::Status;
 use crate::worker::serve_worker;
@@ -282,6 +284,7 @@ fn perform<R: Threads + Wait + Sync, F: Files + Send + Drop, I: Source, G: Gate 
     match command {
         Command::Run(asked) => run(rt, alloc, asked, desks, gate, out),
         Command::Worker => work(alloc, desks, input, out),
+        Command::Make(asked) => without_run(make_plan(asked.seed, &asked.file, out)),
     }
 }
 
@@ -291,7 +294,8 @@ fn perform<R: Threads + Wait + Sync, F: Files + Send + Drop, I: Source, G: Gate 
 /// all know the same. For `run` the plan is read through the first desk, and run on as many threads as the words
 /// say: thread i has the desk with number i, and each item passes the gate. What the words ask for is written
 /// to `out`. For `worker` the requests that the input gives are answered on `out` by the files of the first
-/// desk; no other command takes anything from the input. The answer and its cause are those of the contract.
+/// desk; no other command takes anything from the input. For `make` the plan is written to `out` that the number makes
+/// for the file; no desk is used. The answer and its cause are those of the contract.
 ///
 /// At SinkFault the beginning of the text or of the replies was written, and at NoMemory nothing, but by a
 /// worker its replies up to then.

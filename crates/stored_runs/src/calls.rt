@@ -8,6 +8,7 @@ use anyhow::Result;
 use item_actions::Text;
 use leases_cli::{DESKS, Ended, Status, leases};
 use lock_journal::Book;
+use sha2::{Digest, Sha256};
 use std::alloc::{AllocError, Global};
 use std::sync::Wait;
 use std::thread::Threads;
@@ -97,6 +98,14 @@ fn print_end(rt: &HostRuntime, ended: &Ended) -> Result<()> {
     Ok(())
 }
 
+/// Prints the digest of what was written.
+fn print_digest(rt: &HostRuntime, bytes: &[u8]) -> Result<()> {
+    let digest = Sha256::digest(bytes);
+    let digest = hex::encode(rt.alloc(), digest)?;
+    println!(rt; ", {} bytes, digest {digest}", bytes.len())?;
+    Ok(())
+}
+
 /// Prints what was written: as it stands where it is a text, and else in hexadecimal digits.
 fn print_output(rt: &HostRuntime, bytes: &[u8]) -> Result<()> {
     println!(rt; ", {} bytes", bytes.len())?;
@@ -137,6 +146,8 @@ pub(crate) struct Answer {
     /// Whether two items ran at once, where the case asks for that.
     met: bool,
     out: MemorySink,
+    /// Whether of what was written the digest is printed.
+    digest: bool,
 }
 
 /// Makes the call of a case.
@@ -154,6 +165,7 @@ pub(crate) fn answer_to<T: Threads + Wait + Sync>(
         room,
         failing_puts,
         turns,
+        digest,
     } = case;
     let gate = MeetingGate::new(turns);
     let mut input = MemorySource::new(input, failing_takes);
@@ -168,6 +180,7 @@ pub(crate) fn answer_to<T: Threads + Wait + Sync>(
         faults: desk_faults.saturating_add(others),
         met: gate.met(),
         out,
+        digest,
     })
 }
 
@@ -182,5 +195,9 @@ pub(crate) fn print_answer(rt: &HostRuntime, name: &str, answer: &Answer) -> Res
     if answer.met {
         print!(rt; ", two items met")?;
     }
-    print_output(rt, answer.out.taken())
+    if answer.digest {
+        print_digest(rt, answer.out.taken())
+    } else {
+        print_output(rt, answer.out.taken())
+    }
 }

@@ -5,7 +5,7 @@ use std::alloc::Global;
 use worker_desk::FileEntry;
 
 /// More bytes than a call writes.
-const AMPLE: u64 = 200_000;
+const AMPLE: u64 = 2_000_000;
 
 /// One call of the program: its words, its files, its input, and what of the outside fails.
 #[derive(Drop)]
@@ -26,6 +26,8 @@ pub(crate) struct Case {
     pub(crate) failing_puts: Vec<u64>,
     /// For how many turns units 0 and 1 wait for each other.
     pub(crate) turns: u64,
+    /// Whether of what is written the digest is printed.
+    pub(crate) digest: bool,
 }
 
 /// The bytes that hexadecimal digits give; spaces between them don't count.
@@ -46,6 +48,7 @@ impl Case {
             room: AMPLE,
             failing_puts: Vec::new(alloc),
             turns: 0,
+            digest: false,
         }
     }
 
@@ -67,6 +70,7 @@ impl Case {
     /// - `fail read N`, `fail take N`, `fail put N`: this call fails of the first desk, the input or the output.
     /// - `room N`: the output takes so many bytes.
     /// - `meet N`: units 0 and 1 wait for each other for so many turns.
+    /// - `digest`: what is written isn't printed, but its SHA-256 digest.
     fn add_section(&mut self, alloc: Global, section: &str) -> Result<()> {
         let section = section.trim_end_matches('\n');
         let (head, lines) = section.split_once('\n').unwrap_or((section, ""));
@@ -84,6 +88,7 @@ impl Case {
             "fail" => self.add_failure(rest)?,
             "room" => self.room = rest.parse::<u64>()?,
             "meet" => self.turns = rest.parse::<u64>()?,
+            "digest" => self.digest = true,
             _ => return Err(anyhow!("no such section: {kind}")),
         }
         Ok(())

@@ -1,8 +1,6 @@
-use Rattle.command_words.proofs.Numerals.{numeral_parses}
+use Rattle.std.proofs.Common.{◌∙◌, sym}
+use Rattle.command_words.proofs.Numerals.{numeral_read}
 use Rattle.command_words.proofs.numbers.value_of.Goals as goal
 
-pub unreachable-requires : goal.unreachable-requires
-unreachable-requires c =
-    let e = numeral_parses c.args.text.now c.parse.result c.parse.ensures.value.0 c.requires in
-    let other = c.in-Err.is in
-    cc
+pub returns-then-is_numeral : goal.returns-then-is_numeral
+returns-then-is_numeral c = c.ok.ensures.value ∙ numeral_read c.args.max_digits c.args.text.now c.parse.result c.parse.ensures.value.0 (sym c.if-is_numeral.ensures)
