@@ -15,7 +15,7 @@ use Rattle.history_reader.proofs.SettingsLaws.{said, settings_again}
 use Rattle.history_reader.proofs.LineLaws.{entry_line, end_line, first_is_line, second_is_line}
 
 -- no line of an entry with this number is in front
-abbrev NoEntryAt : ℕ → List ℕ → Type 0
+abbrev pub NoEntryAt : ℕ → List ℕ → Type 0
 NoEntryAt n text = (e : Entry) (more : List ℕ) → EntryFits e → text ≢ entry_text n e ++ more
 
 record SameRead {A : Type 0} (x y : A) (r s : List ℕ) : Type 0 where
@@ -66,14 +66,14 @@ no_entry_is_end : (n m : ℕ) → NoEntryAt n (end_text m)
 no_entry_is_end n m e rest fits is = no_entry_at_end n m [] e rest fits (append-nil (end_text m) ∙ is)
 
 -- the same head, the same entries and the same rest
-record SameLines (h k : HistoryView) (r s : List ℕ) : Type 0 where
+pub record SameLines (h k : HistoryView) (r s : List ℕ) : Type 0 where
   pub history : h ≡ k
   pub rest : r ≡ s
 
 abbrev put : Settings → List Entry → HistoryView
 put s es = record { workers = s.workers; max = s.max; parallel = s.parallel; entries = es }
 
-same_from : (h k : HistoryView) (r s : List ℕ) → HistoryFits h → HistoryFits k → NoEntryAt (next_number h) r → NoEntryAt (next_number k) s → lines_of h ++ r ≡ lines_of k ++ s → SameLines h k r s
+pub same_from : (h k : HistoryView) (r s : List ℕ) → HistoryFits h → HistoryFits k → NoEntryAt (next_number h) r → NoEntryAt (next_number k) s → lines_of h ++ r ≡ lines_of k ++ s → SameLines h k r s
 same_from h k r s a b no_r no_s is =
     let heads = same_head h k (numbered entry_text 1 h.entries ++ r) (numbered entry_text 1 k.entries ++ s) a.head b.head
     (sym (append_assoc (head_of h) (numbered entry_text 1 h.entries) r) ∙ (is ∙ append_assoc (head_of k) (numbered entry_text 1 k.entries) s)) in

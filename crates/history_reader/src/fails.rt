@@ -44,6 +44,17 @@ pub enum TextFail {
     NoMemory,
 }
 
+impl From<AllocError> for TextFail {
+    ghost use Rattle.std.specs.Prelude.{◌≡◌};
+    ghost use Rattle.history_reader.specs.declared.fails.TextFail.TheVariants.{NoMemory};
+
+    ghost from_gives = { λ _ fail. fail ≡ NoMemory };
+
+    fn from(_error: AllocError) -> TextFail {
+        TextFail::NoMemory
+    }
+}
+
 impl<T: Drop> From<AllocFailed<T>> for TextFail {
     ghost use Rattle.std.specs.Prelude.{◌≡◌};
     ghost use Rattle.history_reader.specs.declared.fails.TextFail.TheVariants.{NoMemory};

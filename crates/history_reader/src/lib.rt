@@ -10,6 +10,7 @@ mod heads;
 mod histories;
 mod kinds;
 mod laws;
+mod lines;
 mod outcomes;
 mod read;
 mod tokens;
@@ -21,5 +22,6 @@ pub use histories::{History, HistoryEntry, HistoryLine};
 pub use laws::{
     a_line_more, each_value_has_one_text, texts_stop_at_one_place, written_histories_are_read_back,
 };
+pub use lines::{LineValue, read_line};
 pub use read::read_history;
 pub use tokens::next_line;

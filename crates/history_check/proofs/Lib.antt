@@ -1,0 +1,6 @@
+pub mod Supplies
+pub mod Verdicts
+pub mod Passing
+pub mod Steps
+pub mod OneAnswer
+pub mod Given

@@ -1,0 +1,122 @@
+-- What the check of an input answers, and what it takes of it.
+use Rattle.std.specs.Prelude.{ℕ, ◌≡◌, ◌+◌, ◌-◌, ◌<◌, ◌≤◌, ◌⊎◌, true, List, [], ◌++◌, length, take, Option, Some, None, Result, Ok, Err}
+use Rattle.std.specs.Io.KnownBytes.{Consumes}
+use Rattle.worker_desk.specs.SinkView.{Rises}
+use Rattle.worker_desk.specs.SourceView.{SourceView}
+use Rattle.plan_reader.specs.PlanView.{PlanView}
+use Rattle.plan_reader.specs.Graph.{graph_of}
+use Rattle.history_reader.specs.HistoryView.{HistoryView}
+use Rattle.history_reader.specs.Lines.{is_unbroken, first_line}
+use Rattle.history_reader.specs.Grammar.{HistoryFits, lines_of}
+use Rattle.history_check.specs.Taking.{Takes}
+use Rattle.history_check.specs.CheckView.{CheckView, IsCheckOf}
+use Rattle.history_check.specs.Verdict.{IsVerdict}
+use Rattle.history_check.specs.Naming.{ArePassedOver, Names, Breaks}
+use Rattle.history_check.specs.declared.checks.Checked.{Checked}
+use Rattle.history_check.specs.declared.checks.Checked.TheVariants as checked
+use Rattle.history_check.specs.declared.fails.CheckFail.{CheckFail}
+use Rattle.history_check.specs.declared.fails.CheckFail.TheVariants.{SourceFault, NoMemory}
+use Rattle.history_check.specs.declared.inputs.TheConstants.{MAX_INPUT_BYTES}
+
+-- the bytes that may still be taken, as far as they are known
+abbrev pub still_given : ℕ → Option (List ℕ) → List ℕ
+still_given room None = []
+still_given room (Some left) = take room left
+
+-- all bytes that may be taken: these, and what may still be taken behind them
+abbrev pub all_given : List ℕ → Option (List ℕ) → List ℕ
+all_given came left = came ++ still_given (MAX_INPUT_BYTES - length came) left
+
+-- What came is the text of a history behind lines that are passed over, and this is the answer to its entries.
+pub record AnswersHistory (p : PlanView) (came : List ℕ) (a : Checked) : Type 0 where
+  pub history : HistoryView
+  pub names : Names came history
+  pub verdict : IsVerdict (graph_of p history.workers history.max history.parallel) history.entries a
+
+-- Of all bytes the text stops being a history at the number that is answered.
+pub record AnswersBreak (all : List ℕ) (a : Checked) : Type 0 where
+  pub number : ℕ
+  pub breaks : Breaks all number
+  pub answer : a ≡ checked.NotLawful number
+
+abbrev pub IsAnswer : PlanView → List ℕ → List ℕ → Checked → Type 0
+IsAnswer p came all a = AnswersHistory p came a ⊎ AnswersBreak all a
+
+-- nothing, the first line, or the lines so far of a history
+abbrev pub IsFront : List ℕ → Type 0
+IsFront front = (front ≡ []) ⊎ (front ≡ first_line) ⊎ ((h : HistoryView) × HistoryFits h × (front ≡ lines_of h))
+
+-- Lines are passed over, a history may have begun, and behind its last line there is no other whole one: nothing is decided.
+pub record IsUndecided (came : List ℕ) : Type 0 where
+  pub passed : List ℕ
+  pub over : ArePassedOver passed
+  pub front : List ℕ
+  pub begun : IsFront front
+  pub piece : List ℕ
+  pub unbroken : is_unbroken piece ≡ true
+  pub is : came ≡ passed ++ front ++ piece
+
+-- what was taken where the check fails
+abbrev pub Fails : SourceView → SourceView → CheckFail → Type 0
+Fails old new SourceFault = (came : List ℕ) × Takes old new MAX_INPUT_BYTES came × IsUndecided came × Rises old.faults new.faults
+Fails old new NoMemory = (came : List ℕ) × Takes old new MAX_INPUT_BYTES came
+
+-- what was taken, and what is answered of it
+abbrev pub Answers : PlanView → SourceView → SourceView → Checked → Type 0
+Answers p old new a = (came : List ℕ) × Takes old new MAX_INPUT_BYTES came × IsAnswer p came (all_given came new.left) a
+
+abbrev pub HasChecked : PlanView → SourceView → SourceView → Result Checked CheckFail → Type 0
+HasChecked p old new (Ok a) = Answers p old new a
+HasChecked p old new (Err fail) = Fails old new fail
+
+-- Lines that are passed over were taken and this behind them, and so many bytes more may be taken.
+pub record HasTaken (start now : SourceView) (room : ℕ) (front : List ℕ) : Type 0 where
+  pub passed : List ℕ
+  pub over : ArePassedOver passed
+  pub taken : Consumes start.left now.left (passed ++ front)
+  pub faults : start.faults ≤ now.faults
+  pub limit : length (passed ++ front) + room ≡ MAX_INPUT_BYTES
+
+-- no text of a history, for any plan
+abbrev pub FindsNone : SourceView → SourceView → Type 0
+FindsNone start now = (came : List ℕ) × Takes start now MAX_INPUT_BYTES came × Breaks (all_given came now.left) 0
+
+abbrev pub FindsHead : SourceView → SourceView → Result (Option ℕ) CheckFail → Type 0
+FindsHead start now (Ok (Some room)) = HasTaken start now room first_line
+FindsHead start now (Ok None) = FindsNone start now
+FindsHead start now (Err fail) = Fails start now fail
+
+-- The lines of a history were taken, of which the check is.
+pub record IsUnderway (p : PlanView) (start now : SourceView) (room : ℕ) (c : CheckView) : Type 0 where
+  pub history : HistoryView
+  pub fits : HistoryFits history
+  pub taken : HasTaken start now room (lines_of history)
+  pub check : IsCheckOf p history c
+
+abbrev pub TakesHead : PlanView → SourceView → SourceView → ℕ → List ℕ → Result (Option CheckView) CheckFail → Type 0
+TakesHead p start now room line (Ok (Some c)) = IsUnderway p start now (room - length line) c
+TakesHead p start now room line (Ok None) = FindsNone start now
+TakesHead p start now room line (Err fail) = Fails start now fail
+
+-- a check that opens has counted no entry, and there was room for the line
+abbrev pub OpensWithin : ℕ → List ℕ → Result (Option CheckView) CheckFail → Type 0
+OpensWithin room line (Ok (Some c)) = (c.count ≡ 0) × (length line ≤ room)
+OpensWithin room line (Ok None) = Unit {0}
+OpensWithin room line (Err fail) = Unit {0}
+
+-- no more room is left than there was
+abbrev pub FindsRoom : Result (Option ℕ) CheckFail → Type 0
+FindsRoom (Ok (Some room)) = room ≤ MAX_INPUT_BYTES
+FindsRoom (Ok None) = Unit {0}
+FindsRoom (Err fail) = Unit {0}
+
+-- where no answer comes, a line was taken for which there was room, and at most an entry more is counted
+abbrev pub Shortens : CheckView → CheckView → ℕ → List ℕ → Result (Option Checked) CheckFail → Type 0
+Shortens old new room line (Ok None) = (0 < length line) × (length line ≤ room) × (new.count ≤ old.count + 1)
+Shortens old new room line (Ok (Some a)) = Unit {0}
+Shortens old new room line (Err fail) = Unit {0}
+
+abbrev pub GoesOn : PlanView → SourceView → SourceView → ℕ → CheckView → Result (Option Checked) CheckFail → Type 0
+GoesOn p start now room c (Ok None) = IsUnderway p start now room c
+GoesOn p start now room c (Ok (Some a)) = Answers p start now a
+GoesOn p start now room c (Err fail) = Fails start now fail

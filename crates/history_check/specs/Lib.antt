@@ -1,0 +1,5 @@
+pub mod Taking
+pub mod Verdict
+pub mod CheckView
+pub mod Naming
+pub mod Checking

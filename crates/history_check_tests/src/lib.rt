@@ -1,0 +1,5 @@
+//! Tests of `history_check`.
+#![tactic(auto)]
+
+#[cfg(test)]
+mod tests;
