@@ -15,11 +15,15 @@ use Rattle.command_words.specs.Failing.{NoMemoryOr}
 use Rattle.command_words.specs.Matching.{asked_of}
 use Rattle.command_words.specs.declared.commands.WordsFail.{WordsFail}
 use Rattle.command_words.specs.declared.commands.WordsFail.TheVariants.{NoCommand, NoMemory}
-use Rattle.command_words.specs.Rules.{make_app, run_app}
+use Rattle.command_words.specs.Rules.{check_app, make_app, run_app}
 
 pub run_app-is_free : is_simple_and_free run_app ≡ true
 unfolding run_app clap_on_literals
 run_app-is_free = refl
+
+pub check_app-is_free : is_simple_and_free check_app ≡ true
+unfolding check_app clap_on_literals
+check_app-is_free = refl
 
 pub make_app-is_free : is_simple_and_free make_app ≡ true
 unfolding make_app clap_on_literals

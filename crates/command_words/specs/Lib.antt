@@ -3,5 +3,6 @@ pub mod Rules
 pub mod Failing
 pub mod Matching
 pub mod Run
+pub mod Check
 pub mod Make
 pub mod Reading

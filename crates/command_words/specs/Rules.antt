@@ -28,5 +28,8 @@ run_app =
     (option_rule (codes "max-workers"))) (option_rule (codes "threads")))
     (flag_rule (codes "parallel"))) (flag_rule (codes "history"))) (flag_rule (codes "summary"))
 
+unfoldable pub check_app : App
+check_app = with_rule (bare_app (codes "check")) (required_rule (codes "PLAN"))
+
 unfoldable pub make_app : App
 make_app = with_rule (with_rule (bare_app (codes "make")) (required_rule (codes "SEED"))) (required_rule (codes "FILE"))

@@ -11,6 +11,8 @@ pub enum Command {
     Run(RunWords),
     /// Answers the requests of a stream.
     Worker,
+    /// Checks a history against the plan in the file of this name: 1 to 255 bytes, none of them zero.
+    Check(Text),
     /// Prints a large plan that is made from a number.
     Make(MakeWords),
 }

@@ -1,6 +1,6 @@
 //! The parsers of the words behind a command's name.
 ghost use Rattle.clap.specs.Simple.{app_of, with_rule};
-ghost use Rattle.command_words.specs.Rules.{bare_app, flag_rule, make_app, option_rule, required_rule, run_app};
+ghost use Rattle.command_words.specs.Rules.{bare_app, check_app, flag_rule, make_app, option_rule, required_rule, run_app};
 ghost use Rattle.std.specs.Prelude.{codes, IfOk, ◌≡◌};
 
 use clap::{Arg, ArgAction, Command};
@@ -74,6 +74,15 @@ pub(crate) fn run_command<'a>(alloc: Global) -> Result<Command<'a>, AllocError>
     let command = with_required(alloc, bare_command(alloc, "run"), "PLAN")?;
     let command = with_options(alloc, command)?;
     let command = with_flags(alloc, command)?;
+    Ok(command)
+}
+
+/// The parser of `check`: PLAN, which is required.
+#[tactic(auto, unfolding(crate::specs::Rules::check_app))]
+pub(crate) fn check_command<'a>(alloc: Global) -> Result<Command<'a>, AllocError>
+    ensures { IfOk result (λ c. app_of c ≡ check_app) }
+{
+    let command = with_required(alloc, bare_command(alloc, "check"), "PLAN")?;
     Ok(command)
 }
 

@@ -2,6 +2,7 @@ ghost use Rattle.command_words.specs.Failing.{NoMemoryOr};
 ghost use Rattle.command_words.specs.Reading.{IsBounded, command_of};
 ghost use Rattle.std.specs.Prelude.{map, IfErr, IfOk, None, Some, ◌≡◌};
 
+use crate::check::read_check;
 use crate::commands::{Command, WordsFail};
 use crate::make::read_make;
 use crate::run::read_run;
@@ -20,10 +21,11 @@ fn borrowed(alloc: Global, words: &[Text]) -> Result<Vec<&str>, AllocError>
 
 /// The command that the words after the program's name are.
 ///
-/// The first word is the command's name, `run`, `worker` or `make`. Behind `run` stand the name of the plan's
-/// file and, in any order, `--max-workers` and `--threads` with a number each, `--parallel`, `--history` and
-/// `--summary`. What stands behind `worker` isn't looked at. Behind `make` stand a number below 2^64, with 1 to
-/// 20 digits, and the name of a file. NoCommand comes exactly where the words are none.
+/// The first word is the command's name, `run`, `worker`, `check` or `make`. Behind `run` stand the name of the
+/// plan's file and, in any order, `--max-workers` and `--threads` with a number each, `--parallel`, `--history`
+/// and `--summary`. What stands behind `worker` isn't looked at. Behind `check` stands the name of the plan's file
+/// alone. Behind `make` stand a number below 2^64, with 1 to 20 digits, and the name of a file. NoCommand comes
+/// exactly where the words are none.
 pub fn read_command(alloc: Global, words: &[Text]) -> Result<Command, WordsFail>
     ensures ok { IfOk result (λ command. command_of words.now ≡ Some command) }
     ensures bounds { IfOk result IsBounded }
@@ -39,6 +41,11 @@ pub fn read_command(alloc: Global, words: &[Text]) -> Result<Command, WordsFail>
             Ok(Command::Run(run))
         }
         "worker" => Ok(Command::Worker),
+        "check" => {
+            let rest = borrowed(alloc, rest)?;
+            let plan = read_check(alloc, &rest)?;
+            Ok(Command::Check(plan))
+        }
         "make" => {
             let rest = borrowed(alloc, rest)?;
             let make = read_make(alloc, &rest)?;

@@ -41,7 +41,8 @@ fn has_zero(bytes: &[u8]) -> bool
     bytes.iter().any(|b| *b == 0)
 }
 
-fn is_plan_name(text: &str) -> bool
+/// Whether a text may be the name of a plan's file.
+pub(crate) fn is_plan_name(text: &str) -> bool
     ensures { result ≡ is_plan_name text.now }
 {
     1 <= text.len() && text.len() <= MAX_PLAN_NAME_BYTES && !has_zero(text.as_bytes())

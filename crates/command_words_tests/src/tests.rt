@@ -62,8 +62,16 @@ static MAKES: [(&str, u64, &str); 10] = [
     ("make|1|a..b/...", 1, "a..b/..."),
 ];
 
+/// Words with `|` between them that are the command `check`, with the name of the plan's file.
+static CHECKS: [(&str, &str); 4] = [
+    ("check|p", "p"),
+    ("check|../a:b c", "../a:b c"),
+    ("check|--|--history", "--history"),
+    ("check|--|p", "p"),
+];
+
 /// Words with `|` between them that are no command.
-static NO_COMMANDS: [&str; 33] = [
+static NO_COMMANDS: [&str; 41] = [
     "run",
     "run|p|q",
     "run|p|--max-workers",
@@ -78,6 +86,14 @@ static NO_COMMANDS: [&str; 33] = [
     "build|p",
     "Worker",
     "--help|worker",
+    "check",
+    "check|",
+    "check|p|q",
+    "check|p|--history",
+    "check|--threads|1|p",
+    "check|--help",
+    "Check|p",
+    "checks|p",
     "make",
     "make|0",
     "make|a.txt",
@@ -148,6 +164,18 @@ fn words_behind_worker_are_not_looked_at(rt: HostRuntime) -> Result<(), Fail> {
 }
 
 #[test]
+fn words_of_check_are_a_plan(rt: HostRuntime) -> Result<(), Fail> {
+    for (line, expected) in &CHECKS {
+        let words = words_of(rt.alloc(), line)?;
+        let Ok(Command::Check(plan)) = read_command(rt.alloc(), &words) else {
+            return Err(Fail::new(*line));
+        };
+        assert_eq!(rt; plan.as_str(), *expected);
+    }
+    Ok(())
+}
+
+#[test]
 fn words_of_make_are_a_number_and_a_file(rt: HostRuntime) -> Result<(), Fail> {
     for (line, seed, file) in &MAKES {
         let words = words_of(rt.alloc(), line)?;
@@ -174,13 +202,17 @@ fn other_words_are_no_command(rt: HostRuntime) -> Result<(), Fail> {
 
 #[test]
 fn plan_has_1_to_255_bytes_and_none_is_zero(rt: HostRuntime) -> Result<(), Fail> {
-    for (length, is_command) in [(254usize, true), (255, true), (256, false)] {
-        let mut words = words_of(rt.alloc(), "run")?;
-        let name = "x".repeat(rt.alloc(), length)?;
-        words.push(Text::from_str(rt.alloc(), name.as_str())?)?;
-        assert_eq!(rt; read_command(rt.alloc(), &words).is_ok(), is_command);
+    for command in ["run", "check"] {
+        for (length, is_command) in [(254usize, true), (255, true), (256, false)] {
+            let mut words = words_of(rt.alloc(), command)?;
+            let name = "x".repeat(rt.alloc(), length)?;
+            words.push(Text::from_str(rt.alloc(), name.as_str())?)?;
+            assert_eq!(rt; read_command(rt.alloc(), &words).is_ok(), is_command);
+        }
     }
-    let words = words_of(rt.alloc(), "run|a\0b")?;
-    assert!(rt; read_command(rt.alloc(), &words).is_err());
+    for line in ["run|a\0b", "check|a\0b"] {
+        let words = words_of(rt.alloc(), line)?;
+        assert!(rt; read_command(rt.alloc(), &words).is_err());
+    }
     Ok(())
 }

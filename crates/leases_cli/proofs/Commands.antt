@@ -8,14 +8,15 @@ use Rattle.worker_desk.proofs.Printing.{wrote_nothing}
 use Rattle.build_runner.specs.Run.{AreAlike}
 use Rattle.command_words.specs.Failing.{NoMemoryOr}
 use Rattle.command_words.specs.declared.commands.Command.{Command}
-use Rattle.command_words.specs.declared.commands.Command.TheVariants.{Run, Worker, Make}
+use Rattle.command_words.specs.declared.commands.Command.TheVariants.{Run, Worker, Check, Make}
 use Rattle.command_words.specs.declared.commands.WordsFail.{WordsFail}
 use Rattle.command_words.specs.declared.commands.WordsFail.TheVariants.{NoCommand}
 use Rattle.daemon_protocol.specs.StreamStart.{nothing}
 use Rattle.daemon_worker.specs.Serving.{Outside, HasServed}
 use Rattle.daemon_worker.specs.declared.serving.Served.TheVariants as ends
 use Rattle.leases_cli.specs.Around.{Around, at_first_desk}
-use Rattle.leases_cli.specs.Answered.{Answered, IsToldAs}
+use Rattle.leases_cli.specs.Answered.{Answered}
+use Rattle.leases_cli.specs.Told.{IsToldAs}
 use Rattle.leases_cli.specs.declared.status.Status.{Status}
 use Rattle.leases_cli.specs.declared.status.Status.TheVariants.{BadWords, NoMemory}
 
@@ -48,6 +49,7 @@ at_no_memory : (command : Option Command) (o : Around) → Answered command o o 
 at_no_memory None o = (refl, inl (refl, wrote_nothing o.sink))
 at_no_memory (Some (Run asked)) o = inl (refl, wrote_nothing o.sink)
 at_no_memory (Some Worker) o = (refl, (ends.NoMemory, served_nothing (at_first_desk o), refl))
+at_no_memory (Some (Check name)) o = (refl, inl (record { source = refl; refused = inl (refl, wrote_nothing o.sink) }))
 at_no_memory (Some (Make asked)) o = (refl, inl (refl, wrote_nothing o.sink))
 
 -- nothing was done for want of memory

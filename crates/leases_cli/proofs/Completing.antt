@@ -1,5 +1,5 @@
 -- A call that met no fault has succeeded, unless there was no memory.
-use Rattle.std.proofs.Common.{◌≡◌, ℕ, ◌+◌, ◌<◌, ◌≤◌, ◌⊎◌, Bool, true, false, cond, inl, inr, List, [], ◌∷◌, Option, None, Some, refl, sym, ◌∙◌, ap, subst, arith}
+use Rattle.std.proofs.Common.{◌≡◌, ℕ, ◌+◌, ◌<◌, ◌≤◌, ◌⊎◌, Bool, true, false, cond, inl, inr, List, [], ◌∷◌, Option, None, Some, Result, Ok, Err, refl, sym, ◌∙◌, ap, subst, arith}
 use Rattle.std.specs.Prelude.{sum_by, unwrap_or}
 use Rattle.std.specs.List.{All, AllByRecursion}
 use Rattle.std.proofs.lemmas.Bool.{cases_lt, ne_eqb}
@@ -18,22 +18,28 @@ use Rattle.build_runner.specs.Run.{IsRunOf}
 use Rattle.build_runner.specs.declared.options.RunOptions.{RunOptions}
 use Rattle.command_words.specs.Reading.{IsBounded}
 use Rattle.command_words.specs.declared.commands.Command.{Command}
-use Rattle.command_words.specs.declared.commands.Command.TheVariants.{Run, Worker, Make}
+use Rattle.command_words.specs.declared.commands.Command.TheVariants.{Run, Worker, Check, Make}
 use Rattle.command_words.specs.declared.commands.RunWords.{RunWords}
 use Rattle.command_words.specs.declared.commands.MakeWords.{MakeWords}
+use Rattle.history_check.specs.Checking.{HasChecked}
+use Rattle.history_check.specs.declared.checks.Checked.{Checked}
+use Rattle.history_check.specs.declared.checks.Checked.TheVariants as checked
+use Rattle.history_check.specs.declared.fails.CheckFail.{CheckFail}
+use Rattle.history_check.specs.declared.fails.CheckFail.TheVariants as fails
 use Rattle.daemon_worker.specs.Answer.{Answer, replies, IsHonestAnswer}
 use Rattle.daemon_worker.specs.Serving.{Outside, IsEnd}
 use Rattle.daemon_worker.specs.declared.serving.Served.{Served}
 use Rattle.daemon_worker.specs.declared.serving.Served.TheVariants as ends
 use Rattle.leases_cli.specs.Around.{Around, at_first_desk, desks_used}
 use Rattle.leases_cli.specs.Answered.{Answered, RunAnswered, IsNamedRun, all_pass, values_or_closings}
-use Rattle.leases_cli.specs.Causes.{IsPlanAt, IsReadCause}
-use Rattle.leases_cli.specs.Complete.{MetNoFault, MetNoFaults, HasNoFault, HasPlan, HasSucceeded, HasValue, IsByFrames, HasWorkedWell, Succeeds, IsComplete, status_by}
+use Rattle.leases_cli.specs.Causes.{IsFileOf, IsFileCause, IsPlanAt, IsReadCause}
+use Rattle.leases_cli.specs.Complete.{MetNoFault, MetNoFaults, HasNoFault, HasPlan, HasSucceeded, HasValue, IsByFrames, HasWorkedWell, HasPlanFile, HasVerdict, Succeeds, IsComplete, status_by}
 use Rattle.leases_cli.specs.Worker.{HasWorked}
+use Rattle.leases_cli.specs.Check.{HasCheckedHistory, IsFoundTold}
 use Rattle.leases_cli.specs.Make.{HasMade, MakeAnswered}
-use Rattle.leases_cli.proofs.Readings.{FirstCycleOnce, one_plan, not_refused}
+use Rattle.leases_cli.proofs.Readings.{FirstCycleOnce, one_file, no_refusal, one_plan, not_refused}
 use Rattle.leases_cli.specs.declared.status.Status.{Status}
-use Rattle.leases_cli.specs.declared.status.Status.TheVariants.{Passed, TaskFailed, BadWords, BadPlan, NoPlan, PlanFault, SinkFault, BadFrame, SourceFault, NoMemory}
+use Rattle.leases_cli.specs.declared.status.Status.TheVariants.{Passed, TaskFailed, BadWords, BadPlan, NoPlan, PlanFault, SinkFault, BadFrame, SourceFault, NotLawful, NoMemory}
 
 some_is : {X : Type 0} {x y : X} → Some x ≡ Some y → x ≡ y
 some_is {x = x} e = ap (λ o. unwrap_or o x) e
@@ -85,6 +91,7 @@ module _ (once : FirstCycleOnce) (asked : RunWords) (files : Folder) (plan : Pla
     no_cause SinkFault c = c
     no_cause (BadFrame place) c = c
     no_cause SourceFault c = c
+    no_cause (NotLawful n) c = c
     no_cause NoMemory c = c
 
     run_succeeds : (status : Status) (book : Option BookView) → RunAnswered asked (Some files) before after old new status book → HasSucceeded plan files status book
@@ -97,6 +104,7 @@ module _ (once : FirstCycleOnce) (asked : RunWords) (files : Folder) (plan : Pla
     run_succeeds PlanFault (Some b) a = absurd a
     run_succeeds (BadFrame place) (Some b) a = absurd a
     run_succeeds SourceFault (Some b) a = absurd a
+    run_succeeds (NotLawful n) (Some b) a = absurd a
     run_succeeds NoMemory (Some b) a = absurd a
     run_succeeds status None (inl lacking) = lacking.0
     run_succeeds status None (inr refused) = absurd (no_cause refused.0 refused.1)
@@ -151,11 +159,56 @@ made_whole asked old new NoPlan quiet m = absurd m
 made_whole asked old new PlanFault quiet m = absurd m
 made_whole asked old new (BadFrame place) quiet m = absurd m
 made_whole asked old new SourceFault quiet m = absurd m
+made_whole asked old new (NotLawful n) quiet m = absurd m
 made_whole asked old new NoMemory quiet m = absurd m
 
 make_succeeds : (asked : MakeWords) (old new : SinkView) (status : Status) → MetNoFault old.faults new.faults → MakeAnswered asked old new status → (status ≡ Passed) ⊎ (status ≡ NoMemory)
 make_succeeds asked old new status quiet (inl lacking) = inr lacking.0
 make_succeeds asked old new status quiet (inr made) = inl (made_whole asked old new status quiet made)
+
+-- ---- a check
+
+module _ (once : FirstCycleOnce) (name : List ℕ) (files : Folder) (plan : PlanView) (has : HasPlanFile name files plan) where
+  same_file : (found : PlanView) → IsFileOf (Some files) name found → found ≡ plan
+  same_file found named =
+      let bytes = some_is (sym named.1 ∙ has.file) in
+      one_file once has.bytes plan found has.reading (rw bytes at named.2)
+
+  no_file_cause : (before after : ℕ) (refusal : Status) → MetNoFault before after → IsFileCause (Some files) before after name refusal → ⊥
+  no_file_cause before after (BadPlan refusal) calm c =
+      let bytes = some_is (sym c.1 ∙ has.file) in
+      no_refusal once has.bytes plan refusal has.reading (rw bytes at c.2)
+  no_file_cause before after NoPlan calm c = let none = sym c ∙ has.file in cc none
+  no_file_cause before after PlanFault calm c = not_risen before after calm c
+  no_file_cause before after BadWords calm c = c
+  no_file_cause before after Passed calm c = c
+  no_file_cause before after TaskFailed calm c = c
+  no_file_cause before after SinkFault calm c = c
+  no_file_cause before after (BadFrame place) calm c = c
+  no_file_cause before after SourceFault calm c = c
+  no_file_cause before after (NotLawful n) calm c = c
+  no_file_cause before after NoMemory calm c = c
+
+-- what was found of a source that didn't fail is an answer, which was told by a sink that didn't
+verdict_told : (plan : PlanView) (old new : Outside) (found : Result Checked CheckFail) (status : Status) → MetNoFault old.source.faults new.source.faults → MetNoFault old.sink.faults new.sink.faults → HasChecked plan old.source new.source found → IsFoundTold found old.sink new.sink status
+    → HasVerdict plan old.source new.source status
+verdict_told plan old new (Ok (checked.Lawful n)) status source quiet h (inl told) = inl (checked.Lawful n, h, told.0)
+verdict_told plan old new (Ok (checked.Lawful n)) status source quiet h (inr broke) = absurd (not_risen old.sink.faults new.sink.faults quiet broke.1.faults)
+verdict_told plan old new (Ok (checked.NotLawful n)) status source quiet h (inl told) = inl (checked.NotLawful n, h, told.0)
+verdict_told plan old new (Ok (checked.NotLawful n)) status source quiet h (inr broke) = absurd (not_risen old.sink.faults new.sink.faults quiet broke.1.faults)
+verdict_told plan old new (Err fails.SourceFault) status source quiet h told = absurd (not_risen old.source.faults new.source.faults source h.3)
+verdict_told plan old new (Err fails.NoMemory) status source quiet h told = inr told.0
+
+check_succeeds : (once : FirstCycleOnce) (name : List ℕ) (files : Folder) (plan : PlanView) (old new : Outside) (status : Status) → HasPlanFile name files plan → old.files ≡ Some files → MetNoFault old.faults new.faults → MetNoFault old.sink.faults new.sink.faults
+    → MetNoFault old.source.faults new.source.faults → HasCheckedHistory name old new status → HasVerdict plan old.source new.source status
+check_succeeds once name files plan old new status has known calm quiet source (inl not) =
+    elim not.refused [
+      | inl lacking ↦ inr lacking.0
+      | inr refused ↦ absurd (no_file_cause once name files plan has old.faults new.faults refused.0 calm (subst (λ (o : Option Folder). IsFileCause o old.faults new.faults name refused.0) known refused.1))
+    ]
+check_succeeds once name files plan old new status has known calm quiet source (inr c) =
+    let same = same_file once name files plan has c.plan (subst (λ (o : Option Folder). IsFileOf o name c.plan) known c.named) in
+    subst (λ (p : PlanView). HasVerdict p old.source new.source status) same (verdict_told c.plan old new c.found status source quiet c.checked c.told)
 
 -- ---- the call
 
@@ -165,6 +218,8 @@ succeeds once (Run asked) old new status book bounded calm quiet a = λ files kn
     (subst (λ (o : Option Folder). RunAnswered asked o old.faults new.faults old.sink new.sink status book) known a)
 succeeds once Worker old new status book bounded calm quiet a = λ files known source.
     worker_succeeds files (at_first_desk old) (at_first_desk new) status known (calm 0 (omega arith)) quiet source a.1
+succeeds once (Check name) old new status book bounded calm quiet a = λ files known source plan has.
+    check_succeeds once name files plan (at_first_desk old) (at_first_desk new) status has known (calm 0 (omega arith)) quiet source a.1
 succeeds once (Make asked) old new status book bounded calm quiet a = make_succeeds asked old.sink new.sink status quiet a.1
 
 -- a command was carried out
@@ -180,6 +235,7 @@ at_no_memory : (words : Option Command) (o : Around) → Answered words o o NoMe
 at_no_memory None o a calm quiet = tt
 at_no_memory (Some (Run asked)) o a calm quiet = λ files known plan has. refl
 at_no_memory (Some Worker) o a calm quiet = λ files known source. worker_succeeds files (at_first_desk o) (at_first_desk o) NoMemory known (calm 0 (omega arith)) quiet source a.1
+at_no_memory (Some (Check name)) o a calm quiet = λ files known source plan has. inr refl
 at_no_memory (Some (Make asked)) o a calm quiet = inr refl
 
 -- there was no memory to read the words

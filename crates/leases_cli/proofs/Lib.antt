@@ -1,5 +1,6 @@
 pub mod NeverNotYet
 pub mod Readings
 pub mod Reports
+pub mod Checks
 pub mod Commands
 pub mod Completing

@@ -21,7 +21,9 @@ use Rattle.plan_reader.specs.Search.{refusal_before, refusal_behind, cycle_refus
 use Rattle.plan_reader.specs.Reading.{Reads, ReadsBy, AnswersBy, Answer, answer_to, Refuses}
 use Rattle.build_runner.specs.CanRun.{can_run}
 use Rattle.leases_cli.proofs.NeverNotYet.{never_not_yet}
-use Rattle.leases_cli.specs.Causes.{HasBytes, IsRefusal, IsRefusedBy, IsRefusedAt, IsPlanToRun}
+use Rattle.leases_cli.specs.Causes.{HasBytes, IsFileOf, IsNoFileOf, IsFileCause, IsRefusal, IsRefusedAt, IsPlanAt, IsPlanToRun, IsReadCause, OrNoMemory}
+use Rattle.leases_cli.specs.declared.status.Status.{Status}
+use Rattle.leases_cli.specs.declared.status.Status.TheVariants.{Passed, TaskFailed, BadWords, BadPlan, NoPlan, PlanFault, SinkFault, BadFrame, SourceFault, NotLawful, NoMemory}
 
 -- ---- a file that is too long
 
@@ -29,20 +31,20 @@ long_by : (bytes : List ℕ) (b : Bool) → nat_lt max_file_bytes (length bytes)
 long_by bytes true e long = rw e refl
 long_by bytes false e long = absurd (cc long)
 
-in_too_long : (files : Folder) (name : List ℕ) → TooLong ≡ reading (file_of files name) max_file_bytes → IsRefusedAt (Some files) name refusal.TooLong
+in_too_long : (files : Folder) (name : List ℕ) → TooLong ≡ reading (file_of files name) max_file_bytes → IsNoFileOf (Some files) name refusal.TooLong
 in_too_long files name e = at (file_of files name) refl e
   where
-    at : (found : Option (List ℕ)) → file_of files name ≡ found → TooLong ≡ reading found max_file_bytes → IsRefusedAt (Some files) name refusal.TooLong
+    at : (found : Option (List ℕ)) → file_of files name ≡ found → TooLong ≡ reading found max_file_bytes → IsNoFileOf (Some files) name refusal.TooLong
     at None f long = absurd (cc long)
-    at (Some bytes) f long = (bytes, f, inl (λ e. cc e, long_by bytes (nat_lt max_file_bytes (length bytes)) refl (sym long)))
+    at (Some bytes) f long = (bytes, f, long_by bytes (nat_lt max_file_bytes (length bytes)) refl (sym long))
 
 of_length : (bytes : List ℕ) → length bytes ≡ 4194305 → Reads bytes (Err refusal.TooLong)
 of_length bytes e = rw e refl
 
-untold : (n : ℕ) → n ≡ 4194305 → (name : List ℕ) → IsRefusedAt None name refusal.TooLong
-untold n e name = (replicate n 0, tt, inl (λ e. cc e, of_length (replicate n 0) (length-replicate n 0 ∙ e)))
+untold : (n : ℕ) → n ≡ 4194305 → (name : List ℕ) → IsNoFileOf None name refusal.TooLong
+untold n e name = (replicate n 0, tt, of_length (replicate n 0) (length-replicate n 0 ∙ e))
 
-pub too_long_is_refused : (known : Option Folder) (name : List ℕ) (read : Read) → read ≡ reads.TooLong → ReadsFrom known name max_file_bytes (Ok read) → IsRefusedAt known name refusal.TooLong
+pub too_long_is_refused : (known : Option Folder) (name : List ℕ) (read : Read) → read ≡ reads.TooLong → ReadsFrom known name max_file_bytes (Ok read) → IsNoFileOf known name refusal.TooLong
 too_long_is_refused None name read e h = untold 4194305 refl name
 too_long_is_refused (Some files) name read e h = in_too_long files name (ap read_as (sym e) ∙ h)
 
@@ -60,17 +62,39 @@ has_bytes (Some files) name read bytes e h = at (file_of files name) refl (ap re
     at None f e = absurd (cc e)
     at (Some found) f e = bytes_by files name bytes.items found (nat_lt max_file_bytes (length found)) f e
 
+pub file_of_plan : (known : Option Folder) (name : List ℕ) (read : Read) (bytes : Vec ℕ Global) → read ≡ reads.Bytes bytes → ReadsFrom known name max_file_bytes (Ok read)
+    → (given : List ℕ) → given ≡ bytes.items → (plan : PlanView) → Reads given (Ok plan) → IsFileOf known name plan
+file_of_plan known name read bytes e h given same plan said = (bytes.items, has_bytes known name read bytes e h, subst (λ (x : List ℕ). Reads x (Ok plan)) same said)
+
+pub refused_at : (known : Option Folder) (name : List ℕ) (read : Read) (bytes : Vec ℕ Global) → read ≡ reads.Bytes bytes → ReadsFrom known name max_file_bytes (Ok read)
+    → (given : List ℕ) → given ≡ bytes.items → (f : PlanFail) (r : PlanRefusal) → f ≡ fail.Refused r → Refuses (Reads given) f → IsNoFileOf known name r
+refused_at known name read bytes e h given same f r is refused = (bytes.items, has_bytes known name read bytes e h, subst (λ (x : List ℕ). Refuses (Reads x) (fail.Refused r)) same (subst (Refuses (Reads given)) is refused))
+
+-- ---- a plan that can be run
+
 -- the refusal that was read
 read_refusal : (bytes : List ℕ) (r : PlanRefusal) → Reads bytes (Err r) → IsRefusal bytes r
 read_refusal bytes r reads = inl (λ is. never_not_yet bytes (subst (λ (x : PlanRefusal). Reads bytes (Err x)) is reads), reads)
 
-pub refused_by : (bytes : List ℕ) (f : PlanFail) → Refuses (Reads bytes) f → IsRefusedBy bytes f
-refused_by bytes fail.NoMemory h = tt
-refused_by bytes (fail.Refused r) h = read_refusal bytes r h
+-- why no plan is read is why none is read that can be run
+pub read_cause : (known : Option Folder) (before after : ℕ) (name : List ℕ) (s : Status) → OrNoMemory (IsFileCause known before after name s) s → OrNoMemory (IsReadCause known before after name s) s
+read_cause known before after name (BadPlan r) c = (c.0, c.1, read_refusal c.0 r c.2)
+read_cause known before after name NoPlan c = c
+read_cause known before after name PlanFault c = c
+read_cause known before after name NoMemory c = c
+read_cause known before after name Passed c = c
+read_cause known before after name TaskFailed c = c
+read_cause known before after name BadWords c = c
+read_cause known before after name SinkFault c = c
+read_cause known before after name (BadFrame place) c = c
+read_cause known before after name SourceFault c = c
+read_cause known before after name (NotLawful n) c = c
 
-pub refused_at : (known : Option Folder) (name : List ℕ) (read : Read) (bytes : Vec ℕ Global) → read ≡ reads.Bytes bytes → ReadsFrom known name max_file_bytes (Ok read)
-    → (given : List ℕ) → given ≡ bytes.items → (f : PlanFail) (r : PlanRefusal) → f ≡ fail.Refused r → IsRefusedBy given f → IsRefusedAt known name r
-refused_at known name read bytes e h given same f r is refused = (bytes.items, has_bytes known name read bytes e h, subst (λ (x : List ℕ). IsRefusal x r) same (subst (IsRefusedBy given) is refused))
+pub plan_to_run : (known : Option Folder) (name : List ℕ) (plan : PlanView) → IsFileOf known name plan → can_run plan ≡ true → IsPlanAt known name plan
+plan_to_run known name plan c can = (c.0, c.1, (c.2, can))
+
+pub not_yet : (known : Option Folder) (name : List ℕ) (plan : PlanView) → IsFileOf known name plan → can_run plan ≡ false → IsRefusedAt known name refusal.NotYet
+not_yet known name plan c cannot = (c.0, c.1, inr (refl, (plan, c.2, cannot)))
 
 -- ---- a text has one answer
 
@@ -91,6 +115,13 @@ module _ (once : FirstCycleOnce) where
 
   reads_once : (bytes : List ℕ) (a b : Answer) → Reads bytes a → Reads bytes b → a ≡ b
   reads_once bytes a b x y = reads_by_once (document_reading bytes) a b x y
+
+  -- a file is one plan, and isn't refused
+  pub one_file : (bytes : List ℕ) (plan found : PlanView) → Reads bytes (Ok plan) → Reads bytes (Ok found) → found ≡ plan
+  one_file bytes plan found x y = let e = reads_once bytes (Ok found) (Ok plan) y x in cc e
+
+  pub no_refusal : (bytes : List ℕ) (plan : PlanView) (r : PlanRefusal) → Reads bytes (Ok plan) → Reads bytes (Err r) → ⊥
+  no_refusal bytes plan r x y = let e = reads_once bytes (Ok plan) (Err r) x y in cc e
 
   pub one_plan : (bytes : List ℕ) (plan found : PlanView) → IsPlanToRun bytes plan → IsPlanToRun bytes found → found ≡ plan
   one_plan bytes plan found x y = let e = reads_once bytes (Ok found) (Ok plan) y.0 x.0 in cc e

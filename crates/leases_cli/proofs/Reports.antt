@@ -27,10 +27,11 @@ use Rattle.history_text.specs.Results.{results_text, summary_text, task_marks}
 use Rattle.worker_desk.specs.SinkView.{SinkView, Wrote}
 use Rattle.worker_desk.proofs.Printing.{wrote_nothing}
 use Rattle.leases_cli.specs.Causes.{IsReadCause, OrNoMemory}
-use Rattle.leases_cli.specs.Answered.{IsToldAs, RunAnswered, IsNamedRun, all_pass, have_all_passed, history_asked, run_text, text_by_book, values_or_closings}
+use Rattle.leases_cli.specs.Answered.{RunAnswered, IsNamedRun, all_pass, have_all_passed, history_asked, run_text, text_by_book, values_or_closings}
 use Rattle.leases_cli.specs.Reported.{IsReported}
+use Rattle.leases_cli.specs.Told.{IsToldAs, IsRefusedFor}
 use Rattle.leases_cli.specs.declared.status.Status.{Status}
-use Rattle.leases_cli.specs.declared.status.Status.TheVariants.{Passed, TaskFailed, BadWords, BadPlan, NoPlan, PlanFault, SinkFault, BadFrame, SourceFault, NoMemory}
+use Rattle.leases_cli.specs.declared.status.Status.TheVariants.{Passed, TaskFailed, BadWords, BadPlan, NoPlan, PlanFault, SinkFault, BadFrame, SourceFault, NotLawful, NoMemory}
 
 -- what the laws say that are called
 abbrev pub UnitsByNumber : Type 0
@@ -106,6 +107,7 @@ reported_answers asked known before after old new plan b book status e run repor
     by_status PlanFault r = absurd r
     by_status (BadFrame place) r = absurd r
     by_status SourceFault r = absurd r
+    by_status (NotLawful n) r = absurd r
     by_status NoMemory r = absurd r
 
 no_memory_or : (P : Type 0) (refusal : Status) → OrNoMemory P refusal → (refusal ≡ NoMemory) ⊎ ((refusal ≢ NoMemory) × P)
@@ -119,12 +121,19 @@ no_memory_or P PlanFault cause = inr ((λ e. cc e), cause)
 no_memory_or P SinkFault cause = inr ((λ e. cc e), cause)
 no_memory_or P (BadFrame place) cause = inr ((λ e. cc e), cause)
 no_memory_or P SourceFault cause = inr ((λ e. cc e), cause)
+no_memory_or P (NotLawful n) cause = inr ((λ e. cc e), cause)
+
+-- a refusal that was told but for want of memory has its cause
+pub refused_for : (IsCause : Status → Type 0) (old new : SinkView) (refusal status : Status) → (refusal ≡ NoMemory → (status ≡ NoMemory) × (new ≡ old)) → (refusal ≢ NoMemory → IsToldAs refusal old new status)
+    → OrNoMemory (IsCause refusal) refusal → IsRefusedFor IsCause old new status
+refused_for IsCause old new refusal status memory told cause =
+    elim (no_memory_or (IsCause refusal) refusal cause) [
+      | inl lacking ↦ inl ((memory lacking).0, subst (λ (s : SinkView). Wrote old s []) (sym (memory lacking).1) (wrote_nothing old))
+      | inr caused ↦ inr (refusal, caused.1, told caused.0)
+    ]
 
 -- a refusal of the plan that was told is the answer
 pub refusal_answers : (asked : RunWords) (known : Option Folder) (before after : ℕ → ℕ) (old new : SinkView) (refusal : Status) (book : Option BookView) (status : Status) → book ≡ None → (refusal ≡ NoMemory → (status ≡ NoMemory) × (new ≡ old)) → (refusal ≢ NoMemory → IsToldAs refusal old new status)
     → OrNoMemory (IsReadCause known (before 0) (after 0) asked.plan refusal) refusal → RunAnswered asked known before after old new status book
 refusal_answers asked known before after old new refusal book status without memory told cause =
-    subst (RunAnswered asked known before after old new status) (sym without) (elim (no_memory_or (IsReadCause known (before 0) (after 0) asked.plan refusal) refusal cause) [
-      | inl lacking ↦ inl ((memory lacking).0, subst (λ (s : SinkView). Wrote old s []) (sym (memory lacking).1) (wrote_nothing old))
-      | inr caused ↦ inr (refusal, caused.1, told caused.0)
-    ])
+    subst (RunAnswered asked known before after old new status) (sym without) (refused_for (IsReadCause known (before 0) (after 0) asked.plan) old new refusal status memory told cause)

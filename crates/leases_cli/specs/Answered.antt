@@ -1,5 +1,5 @@
 -- What a call answers, and why.
-use Rattle.std.specs.Prelude.{ℕ, ◌≡◌, ◌⊎◌, Bool, true, false, if◌then◌else◌, List, [], ◌++◌, length, Option, None, Some}
+use Rattle.std.specs.Prelude.{ℕ, ◌≡◌, Bool, true, false, if◌then◌else◌, List, [], ◌++◌, length, Option, None, Some}
 use Rattle.std.specs.List.{list_all, range_with_len}
 use Rattle.item_actions.specs.Files.{Folder}
 use Rattle.item_actions.specs.declared.outcomes.Outcome.{Outcome}
@@ -22,15 +22,16 @@ use Rattle.build_runner.specs.declared.options.RunOptions.{RunOptions}
 use Rattle.history_text.specs.Text.{history_text}
 use Rattle.history_text.specs.Results.{results_text, summary_text, task_marks}
 use Rattle.command_words.specs.declared.commands.Command.{Command}
-use Rattle.command_words.specs.declared.commands.Command.TheVariants.{Run, Worker, Make}
+use Rattle.command_words.specs.declared.commands.Command.TheVariants.{Run, Worker, Check, Make}
 use Rattle.command_words.specs.declared.commands.RunWords.{RunWords}
 use Rattle.leases_cli.specs.Around.{Around, at_first_desk}
 use Rattle.leases_cli.specs.Causes.{IsPlanAt, IsReadCause}
-use Rattle.leases_cli.specs.Lines.{line_of}
+use Rattle.leases_cli.specs.Told.{IsRefusedFor}
 use Rattle.leases_cli.specs.Worker.{HasWorked}
+use Rattle.leases_cli.specs.Check.{HasCheckedHistory}
 use Rattle.leases_cli.specs.Make.{MakeAnswered}
 use Rattle.leases_cli.specs.declared.status.Status.{Status}
-use Rattle.leases_cli.specs.declared.status.Status.TheVariants.{Passed, TaskFailed, BadWords, SinkFault, NoMemory}
+use Rattle.leases_cli.specs.declared.status.Status.TheVariants.{Passed, TaskFailed, BadWords, SinkFault}
 
 abbrev pub options_of : RunWords → RunOptions
 options_of run = record { workers = run.threads; max_leases = run.max_leases; parallel = run.parallel }
@@ -74,16 +75,6 @@ text_by_book asked plan b = results_asked asked plan (task_marks b.state) (outco
 abbrev pub run_text : RunWords → PlanView → Option Folder → BookView → List ℕ
 run_text asked plan known b = text_by_plan asked plan (values_or_closings plan known b.history) b
 
--- ---- a refusal
-
--- the line of a refusal was written, or the sink failed in it
-abbrev pub IsToldAs : Status → SinkView → SinkView → Status → Type 0
-IsToldAs refusal old new status = ((status ≡ refusal) × Wrote old new (line_of refusal)) ⊎ ((status ≡ SinkFault) × Broke old new (line_of refusal))
-
--- there was no memory, and nothing was written; or a refusal was written that has its cause
-abbrev pub IsRefusedFor : (Status → Type 0) → SinkView → SinkView → Status → Type 0
-IsRefusedFor IsCause old new status = ((status ≡ NoMemory) × Wrote old new []) ⊎ ((refusal : Status) × IsCause refusal × IsToldAs refusal old new status)
-
 -- ---- the answer
 
 -- of the run of some plan this holds
@@ -114,4 +105,5 @@ abbrev pub Answered : Option Command → Around → Around → Status → Option
 Answered None old new status book = (book ≡ None) × IsRefusedFor (λ refusal. refusal ≡ BadWords) old.sink new.sink status
 Answered (Some (Run asked)) old new status book = RunAnswered asked old.files old.faults new.faults old.sink new.sink status book
 Answered (Some Worker) old new status book = (book ≡ None) × HasWorked (at_first_desk old) (at_first_desk new) status
+Answered (Some (Check name)) old new status book = (book ≡ None) × HasCheckedHistory name (at_first_desk old) (at_first_desk new) status
 Answered (Some (Make asked)) old new status book = (book ≡ None) × MakeAnswered asked old.sink new.sink status

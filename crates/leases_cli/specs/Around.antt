@@ -1,10 +1,10 @@
 -- What a call has of the outside, and which of its desks it may use.
-use Rattle.std.specs.Prelude.{ℕ, List, get_or, Option, None, Some}
+use Rattle.std.specs.Prelude.{ℕ, Bool, true, false, List, get_or, Option, None, Some}
 use Rattle.item_actions.specs.Files.{Folder}
 use Rattle.worker_desk.specs.SinkView.{SinkView}
 use Rattle.worker_desk.specs.SourceView.{SourceView}
 use Rattle.command_words.specs.declared.commands.Command.{Command}
-use Rattle.command_words.specs.declared.commands.Command.TheVariants.{Run, Worker, Make}
+use Rattle.command_words.specs.declared.commands.Command.TheVariants.{Run, Worker, Check, Make}
 use Rattle.daemon_worker.specs.Serving.{Outside}
 
 -- what is known of the source, of the sink, and of the desks: the files that all know, and each desk's count of faults by its number
@@ -27,4 +27,13 @@ abbrev pub desks_used : Option Command → ℕ
 desks_used None = 0
 desks_used (Some (Run asked)) = asked.threads
 desks_used (Some Worker) = 1
+desks_used (Some (Check name)) = 1
 desks_used (Some (Make asked)) = 0
+
+-- whether a command may take from the input
+abbrev pub takes_input : Option Command → Bool
+takes_input None = false
+takes_input (Some (Run asked)) = false
+takes_input (Some Worker) = true
+takes_input (Some (Check name)) = true
+takes_input (Some (Make asked)) = false

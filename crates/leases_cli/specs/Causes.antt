@@ -4,8 +4,6 @@ use Rattle.item_actions.specs.Files.{Folder, file_of}
 use Rattle.worker_desk.specs.SinkView.{Rises}
 use Rattle.plan_table.specs.declared.refusals.PlanRefusal.{PlanRefusal}
 use Rattle.plan_table.specs.declared.refusals.PlanRefusal.TheVariants.{NotYet}
-use Rattle.plan_table.specs.declared.refusals.PlanFail.{PlanFail}
-use Rattle.plan_table.specs.declared.refusals.PlanFail.TheVariants as fail
 use Rattle.plan_reader.specs.PlanView.{PlanView}
 use Rattle.plan_reader.specs.Reading.{Reads}
 use Rattle.build_runner.specs.CanRun.{can_run}
@@ -21,6 +19,25 @@ HasBytes (Some files) name bytes = file_of files name ≡ Some bytes
 abbrev pub LacksFile : Option Folder → List ℕ → Type 0
 LacksFile None name = Unit {0}
 LacksFile (Some files) name = file_of files name ≡ None
+
+-- ---- a plan
+
+-- the file of this name is this plan
+abbrev pub IsFileOf : Option Folder → List ℕ → PlanView → Type 0
+IsFileOf known name plan = (bytes : List ℕ) × HasBytes known name bytes × Reads bytes (Ok plan)
+
+-- the file of this name is no plan, and this is its first refusal
+abbrev pub IsNoFileOf : Option Folder → List ℕ → PlanRefusal → Type 0
+IsNoFileOf known name refusal = (bytes : List ℕ) × HasBytes known name bytes × Reads bytes (Err refusal)
+
+-- Why no plan is read under a name: it is refused, there is none, or the outside failed.
+abbrev pub IsFileCause : Option Folder → ℕ → ℕ → List ℕ → Status → Type 0
+IsFileCause known before after name (BadPlan refusal) = IsNoFileOf known name refusal
+IsFileCause known before after name NoPlan = LacksFile known name
+IsFileCause known before after name PlanFault = Rises before after
+IsFileCause known before after name _ = ⊥
+
+-- ---- a plan that can be run
 
 -- the bytes are this plan, and it can be run
 abbrev pub IsPlanToRun : List ℕ → PlanView → Type 0
@@ -42,7 +59,7 @@ IsPlanAt known name plan = (bytes : List ℕ) × HasBytes known name bytes × Is
 abbrev pub IsRefusedAt : Option Folder → List ℕ → PlanRefusal → Type 0
 IsRefusedAt known name refusal = (bytes : List ℕ) × HasBytes known name bytes × IsRefusal bytes refusal
 
--- Why no plan is read under a name: it is refused, there is none, or the outside failed.
+-- Why no plan that can be run is read under a name: it is refused, there is none, or the outside failed.
 abbrev pub IsReadCause : Option Folder → ℕ → ℕ → List ℕ → Status → Type 0
 IsReadCause known before after name (BadPlan refusal) = IsRefusedAt known name refusal
 IsReadCause known before after name NoPlan = LacksFile known name
@@ -53,8 +70,3 @@ IsReadCause known before after name _ = ⊥
 abbrev pub OrNoMemory : Type 0 → Status → Type 0
 OrNoMemory P NoMemory = Unit {0}
 OrNoMemory P status = P
-
--- memory was wanting, or the bytes are refused so
-abbrev pub IsRefusedBy : List ℕ → PlanFail → Type 0
-IsRefusedBy bytes (fail.Refused refusal) = IsRefusal bytes refusal
-IsRefusedBy bytes fail.NoMemory = Unit {0}

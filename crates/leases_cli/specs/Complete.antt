@@ -1,5 +1,5 @@
 -- What a call comes to where nothing failed.
-use Rattle.std.specs.Prelude.{ℕ, ◌≡◌, ◌-◌, ◌^◌, ◌<◌, ◌⊎◌, List, Option, None, Some, Bool, true, false}
+use Rattle.std.specs.Prelude.{ℕ, ◌≡◌, ◌-◌, ◌^◌, ◌<◌, ◌⊎◌, List, Option, None, Some, Ok, Bool, true, false}
 use Rattle.std.specs.List.{AllByRecursion}
 use Rattle.item_actions.specs.Files.{Folder, file_of}
 use Rattle.item_actions.specs.Value.{value_on}
@@ -9,8 +9,13 @@ use Rattle.lock_journal.specs.BookView.{BookView}
 use Rattle.plan_reader.specs.PlanView.{PlanView}
 use Rattle.run_laws.specs.ClosedBy.{faults_by}
 use Rattle.command_words.specs.declared.commands.Command.{Command}
-use Rattle.command_words.specs.declared.commands.Command.TheVariants.{Run, Worker, Make}
+use Rattle.command_words.specs.declared.commands.Command.TheVariants.{Run, Worker, Check, Make}
 use Rattle.command_words.specs.declared.commands.RunWords.{RunWords}
+use Rattle.worker_desk.specs.SourceView.{SourceView}
+use Rattle.plan_reader.specs.Reading.{Reads}
+use Rattle.history_check.specs.Checking.{HasChecked}
+use Rattle.history_check.specs.declared.checks.Checked.{Checked}
+use Rattle.history_check.specs.declared.checks.Checked.TheVariants as checked
 use Rattle.daemon_worker.specs.Answer.{Answer}
 use Rattle.daemon_worker.specs.Serving.{Outside, HasServed}
 use Rattle.daemon_worker.specs.declared.serving.Served.{Served}
@@ -20,7 +25,7 @@ use Rattle.leases_cli.specs.Answered.{all_pass, values_or_closings}
 use Rattle.leases_cli.specs.Causes.{IsPlanToRun}
 use Rattle.leases_cli.specs.Worker.{status_of}
 use Rattle.leases_cli.specs.declared.status.Status.{Status}
-use Rattle.leases_cli.specs.declared.status.Status.TheVariants.{Passed, TaskFailed, NoMemory}
+use Rattle.leases_cli.specs.declared.status.Status.TheVariants.{Passed, TaskFailed, NotLawful, NoMemory}
 
 -- a count of faults didn't rise
 pub record MetNoFault (before after : ℕ) : Type 0 where
@@ -73,6 +78,22 @@ pub record HasServedWell (files : Folder) (old new : Outside) (end : Served) : T
 abbrev pub HasWorkedWell : Folder → Outside → Outside → Status → Type 0
 HasWorkedWell files old new status = (end : Served) × HasServedWell files old new end × (status ≡ status_of end)
 
+-- ---- a check
+
+-- the file of this name is this plan
+pub record HasPlanFile (name : List ℕ) (files : Folder) (plan : PlanView) : Type 0 where
+  pub bytes : List ℕ
+  pub file : file_of files name ≡ Some bytes
+  pub reading : Reads bytes (Ok plan)
+
+abbrev pub status_found : Checked → Status
+status_found (checked.Lawful n) = Passed
+status_found (checked.NotLawful n) = NotLawful n
+
+-- the input was answered by this plan, and the status is that of the answer; or there was no memory
+abbrev pub HasVerdict : PlanView → SourceView → SourceView → Status → Type 0
+HasVerdict plan old new status = ((a : Checked) × HasChecked plan old new (Ok a) × (status ≡ status_found a)) ⊎ (status ≡ NoMemory)
+
 -- ---- the call
 
 -- where the files are known, of these files
@@ -84,6 +105,8 @@ abbrev pub Succeeds : Option Command → Around → Around → Status → Option
 Succeeds None old new status book = Unit {0}
 Succeeds (Some (Run asked)) old new status book = OfKnown old.files (λ files. (plan : PlanView) → HasPlan asked files plan → HasSucceeded plan files status book)
 Succeeds (Some Worker) old new status book = OfKnown old.files (λ files. MetNoFault old.source.faults new.source.faults → HasWorkedWell files (at_first_desk old) (at_first_desk new) status)
+Succeeds (Some (Check name)) old new status book =
+    OfKnown old.files (λ files. MetNoFault old.source.faults new.source.faults → (plan : PlanView) → HasPlanFile name files plan → HasVerdict plan old.source new.source status)
 Succeeds (Some (Make asked)) old new status book = (status ≡ Passed) ⊎ (status ≡ NoMemory)
 
 -- where neither the desks that the command may use nor the sink met a fault

@@ -1,8 +1,10 @@
 pub mod Lines
 pub mod Around
 pub mod Causes
+pub mod Told
 pub mod Reported
 pub mod Worker
+pub mod Check
 pub mod Make
 pub mod Answered
 pub mod Complete

@@ -9,7 +9,7 @@ use Rattle.plan_table.specs.declared.refusals.PlanRefusal.{PlanRefusal}
 use Rattle.plan_table.specs.declared.refusals.PlanRefusal.TheVariants as refusal
 use Rattle.plan_table.specs.First.{place_of}
 use Rattle.leases_cli.specs.declared.status.Status.{Status}
-use Rattle.leases_cli.specs.declared.status.Status.TheVariants.{Passed, TaskFailed, BadWords, BadPlan, NoPlan, PlanFault, SinkFault, BadFrame, SourceFault, NoMemory}
+use Rattle.leases_cli.specs.declared.status.Status.TheVariants.{Passed, TaskFailed, BadWords, BadPlan, NoPlan, PlanFault, SinkFault, BadFrame, SourceFault, NotLawful, NoMemory}
 
 abbrev pub number_of : Status → ℕ
 number_of Passed = 0
@@ -21,6 +21,7 @@ number_of PlanFault = 5
 number_of SinkFault = 6
 number_of (BadFrame place) = 7
 number_of SourceFault = 8
+number_of (NotLawful n) = 9
 number_of NoMemory = 10
 
 -- ---- the refusal of a plan
@@ -65,10 +66,20 @@ place_text p = part_word p.part ++ codes " " ++ decimal p.number
 abbrev pub bad_plan_line : PlanRefusal → List ℕ
 bad_plan_line r = codes "bad plan " ++ label_of r ++ codes " at " ++ place_text (place_of r) ++ codes "\n"
 
+-- ---- what is said of a history
+
+abbrev pub lawful_line : ℕ → List ℕ
+lawful_line n = codes "lawful " ++ decimal n ++ codes "\n"
+
+abbrev pub not_lawful_line : ℕ → List ℕ
+not_lawful_line n = codes "not lawful at " ++ decimal n ++ codes "\n"
+
 -- ---- a refusal's line; where a run or a worker ended, nothing is printed besides the texts and the replies
 abbrev pub line_of : Status → List ℕ
 line_of BadWords = codes "bad words\n"
 line_of (BadPlan r) = bad_plan_line r
 line_of NoPlan = codes "no plan\n"
 line_of PlanFault = codes "plan not read\n"
+line_of SourceFault = codes "input not read\n"
+line_of (NotLawful n) = not_lawful_line n
 line_of _ = []

@@ -1,13 +1,16 @@
 //! The program as one call: reads the words, and runs a plan and prints what the words ask for,
-//! serves as a worker, or prints a large plan.
+//! serves as a worker, checks a printed history, or prints a large plan.
 #![tactic(auto)]
 
+mod check;
 mod make;
+mod plans;
 mod refusals;
 mod status;
 mod top;
 mod worker;
 
+pub use check::check_history;
 pub use make::make_plan;
 pub use status::Status;
 pub use top::{DESKS, Ended, leases};

@@ -1,6 +1,8 @@
 //! The lines of refusals. They take no memory.
-ghost use Rattle.leases_cli.specs.Lines.{bad_plan_line, excess_label, label_of, line_of, part_word, place_text};
-ghost use Rattle.std.specs.Prelude.{◌≡◌};
+ghost use Rattle.leases_cli.specs.Lines.{bad_plan_line, excess_label, label_of, line_of, not_lawful_line, part_word, place_text};
+ghost use Rattle.leases_cli.specs.Told.{IsToldAs};
+ghost use Rattle.leases_cli.specs.declared.status.Status.TheVariants as status;
+ghost use Rattle.std.specs.Prelude.{◌≡◌, ◌≢◌};
 ghost use Rattle.worker_desk.specs.PageView.{Adds};
 ghost use Rattle.worker_desk.specs.SinkView.{Prints};
 
@@ -74,6 +76,14 @@ fn write_bad_plan<K: Sink>(refusal: PlanRefusal, page: &mut Page, sink: &mut K)
     page.text(sink, b"\n");
 }
 
+fn write_not_lawful<K: Sink>(number: u64, page: &mut Page, sink: &mut K)
+    ensures { Adds (K.seen sink.old) page.old (K.seen sink.new) page.new (not_lawful_line number) }
+{
+    page.text(sink, b"not lawful at ");
+    page.number(sink, number);
+    page.text(sink, b"\n");
+}
+
 /// Writes the line of a refusal. The other statuses have none.
 fn write_refusal<K: Sink>(refusal: &Status, page: &mut Page, sink: &mut K)
     ensures { Adds (K.seen sink.old) page.old (K.seen sink.new) page.new (line_of refusal.now) }
@@ -83,20 +93,42 @@ fn write_refusal<K: Sink>(refusal: &Status, page: &mut Page, sink: &mut K)
         Status::BadPlan(refusal) => write_bad_plan(*refusal, page, sink),
         Status::NoPlan => page.text(sink, b"no plan\n"),
         Status::PlanFault => page.text(sink, b"plan not read\n"),
+        Status::SourceFault => page.text(sink, b"input not read\n"),
+        Status::NotLawful(number) => write_not_lawful(*number, page, sink),
         Status::Passed
         | Status::TaskFailed
         | Status::SinkFault
         | Status::BadFrame(_)
-        | Status::SourceFault
         | Status::NoMemory => {}
     }
 }
 
 /// Prints the line of a refusal.
-pub(crate) fn print_refusal<K: Sink>(refusal: &Status, sink: &mut K) -> Result<(), Failed>
+fn print_refusal<K: Sink>(refusal: &Status, sink: &mut K) -> Result<(), Failed>
     ensures { Prints (K.seen sink.old) (K.seen sink.new) (line_of refusal.now) result }
 {
     let mut page = Page::new();
     write_refusal(refusal, &mut page, sink);
     page.end(sink)
+}
+
+/// Writes the line of a refusal, and says how that ended.
+pub(crate) fn told<O: Sink>(refusal: Status, out: &mut O) -> Status
+    ensures { IsToldAs refusal (O.seen out.old) (O.seen out.new) result }
+{
+    match print_refusal(&refusal, out) {
+        Ok(()) => refusal,
+        Err(Failed) => Status::SinkFault,
+    }
+}
+
+/// Writes the line of a refusal, but where there was no memory.
+pub(crate) fn told_but_no_memory<O: Sink>(refusal: Status, out: &mut O) -> Status
+    ensures no_memory { refusal ≡ status.NoMemory → (result ≡ status.NoMemory) × (O.seen out.new ≡ O.seen out.old) }
+    ensures told { refusal ≢ status.NoMemory → IsToldAs refusal (O.seen out.old) (O.seen out.new) result }
+{
+    match refusal {
+        Status::NoMemory => Status::NoMemory,
+        _ => told(refusal, out),
+    }
 }

@@ -7,7 +7,7 @@ use plan_reader::PlanRefusal;
 #[derive(Clone, Copy, Debug, PartialEq, Eq)]
 pub enum Status {
     /// Every task passed; or a worker's requests were all answered, up to a Stop or to the end of the input between
-    /// two frames; or the whole plan was made.
+    /// two frames; or all entries of the checked history are lawful; or the whole plan was made.
     Passed,
     /// A task failed or was skipped.
     TaskFailed,
@@ -24,8 +24,11 @@ pub enum Status {
     /// A worker found neither a request nor a Stop at this place of its input, or its input gave 2^40 bytes. Each
     /// request before it was answered.
     BadFrame(u64),
-    /// A worker's input failed. Each request that had come whole was answered.
+    /// The input of a worker or of a check failed. A worker has answered each request that had come whole.
     SourceFault,
+    /// The entry of this number is the first of the checked history that isn't allowed after those before it, or
+    /// the text stops being a history at this number.
+    NotLawful(u64),
     /// There was no memory. Nothing was written, but by a worker its replies up to then.
     NoMemory,
 }
@@ -45,6 +48,7 @@ impl Status {
             Status::SinkFault => 6,
             Status::BadFrame(_) => 7,
             Status::SourceFault => 8,
+            Status::NotLawful(_) => 9,
             Status::NoMemory => 10,
         }
     }

@@ -1,4 +1,4 @@
-ghost use Rattle.std.specs.Prelude.{◌≡◌, ◌≢◌, ◌≤◌, ℕ, true, [], List, Option, Some, None, IfOk, IfErr, length, drop, get_or, if◌then◌else◌};
+ghost use Rattle.std.specs.Prelude.{◌≡◌, ◌≢◌, ◌≤◌, ℕ, true, false, [], List, Option, Some, None, IfOk, IfErr, length, drop, get_or, if◌then◌else◌};
 ghost use Rattle.std.specs.List.{list_all, range_with_len};
 ghost use Rattle.resource_lock.specs.StateView.{mark_of};
 ghost use Rattle.resource_lock.specs.declared.marks.MarkId.TheVariants as ids;
@@ -11,33 +11,36 @@ ghost use Rattle.item_actions.specs.Files.{Folder};
 ghost use Rattle.build_runner.specs.Run.{AreAlike, IsRunOf};
 ghost use Rattle.command_words.specs.Reading.{IsBounded, command_of};
 ghost use Rattle.command_words.specs.Run.{HasBounds};
-ghost use Rattle.command_words.specs.declared.commands.Command.TheVariants as commands;
 ghost use Rattle.leases_cli.specs.declared.status.Status.TheVariants as status;
 ghost use Rattle.leases_cli.specs.declared.top.TheConstants.{DESKS};
-ghost use Rattle.leases_cli.specs.Around.{counts_of, desks_used};
+ghost use Rattle.leases_cli.specs.Around.{counts_of, desks_used, takes_input};
 ghost use Rattle.leases_cli.specs.Worker.{HasWorked};
-ghost use Rattle.leases_cli.specs.Answered.{Answered, RunAnswered, IsToldAs, all_pass, have_all_passed, history_asked, options_of, run_text, text_by_book, values_or_closings};
+ghost use Rattle.leases_cli.specs.Answered.{Answered, RunAnswered, all_pass, have_all_passed, history_asked, options_of, run_text, text_by_book, values_or_closings};
+ghost use Rattle.leases_cli.specs.Check.{HasCheckedHistory};
 ghost use Rattle.leases_cli.specs.Complete.{IsComplete};
 ghost use Rattle.leases_cli.specs.Reported.{IsReported};
-ghost use Rattle.leases_cli.specs.Causes.{IsPlanAt, IsPlanToRun, IsReadCause, IsRefusedBy, OrNoMemory};
+ghost use Rattle.leases_cli.specs.Told.{IsToldAs};
+ghost use Rattle.leases_cli.specs.Causes.{IsFileCause, IsFileOf, IsPlanAt, IsReadCause, OrNoMemory};
 
+use crate::check::check_history;
 use crate::make::make_plan;
-use crate::refusals::print_refusal;
+use crate::plans::read;
+use crate::refusals::{told, told_but_no_memory};
 use crate::status::Status;
 use crate::worker::serve_worker;
 use build_runner::{RunOptions, can_run, run_plan};
 use command_words::{Command, RunWords, WordsFail, read_command};
 use history_text::{results_go_by_number, write_history, write_results};
-use item_actions::{MAX_FILE_BYTES, Text};
+use item_actions::Text;
 use lock_journal::Book;
-use plan_reader::{Plan, PlanFail, PlanRefusal, read_plan};
+use plan_reader::{Plan, PlanRefusal};
 use resource_lock::{MAX_WORKERS, Mark, MarkId, State};
 use run_laws::outcomes_go_by_number;
 use std::alloc::Global;
 use std::sync::Wait;
 use std::thread::Threads;
 use task_ranks::first_cycle_is_unique;
-use worker_desk::{DeskFail, Failed, Files, Gate, Page, Read, Sink, Source};
+use worker_desk::{Failed, Files, Gate, Page, Sink, Source};
 
 /// How many desks a call is given: as many as a run may have threads.
 pub const DESKS: usize = MAX_WORKERS as usize;
@@ -49,44 +52,21 @@ pub struct Ended {
     pub book: Option<Book>,
 }
 
-/// The plan that bytes are, if it can be run.
-fn plan_to_run(alloc: Global, bytes: &[u8]) -> Result<Plan, PlanFail>
-    ensures plan { IfOk result (λ plan. IsPlanToRun bytes.now plan) }
-    ensures refused { IfErr result (IsRefusedBy bytes.now) }
-{
-    let plan = match read_plan(alloc, bytes) {
-        Ok(plan) => plan,
-        Err(fail) => return Err(fail),
-    };
-    if can_run(&plan) {
-        Ok(plan)
-    } else {
-        Err(PlanFail::Refused(PlanRefusal::NotYet))
-    }
-}
-
-/// The plan of this name, or the refusal.
-fn read<F: Files>(alloc: Global, name: &Text, desk: &mut F) -> Result<Plan, Status>
-    ensures files { F.files desk.new ≡ F.files desk.old }
-    ensures count { F.faults desk.old ≤ F.faults desk.new }
-    ensures plan { IfOk result (λ plan. IsPlanAt (F.files desk.old) name.now plan) }
-    ensures refused { IfErr result (λ status. OrNoMemory (IsReadCause (F.files desk.old) (F.faults desk.old) (F.faults desk.new) name.now status) status) }
-{
-    match desk.read(alloc, name, MAX_FILE_BYTES) {
-        Ok(Read::Bytes(bytes)) => match plan_to_run(alloc, bytes.as_slice()) {
-            Ok(plan) => Ok(plan),
-            Err(PlanFail::Refused(refusal)) => Err(Status::BadPlan(refusal)),
-            Err(PlanFail::NoMemory) => Err(Status::NoMemory),
-        },
-        Ok(Read::TooLong) => Err(Status::BadPlan(PlanRefusal::TooLong)),
-        Ok(Read::NotThere) => Err(Status::NoPlan),
-        Err(DeskFail::Failed) => Err(Status::PlanFault),
-        Err(DeskFail::NoMemory) => Err(Status::NoMemory),
-    }
-}
-
 /// The plan of this name by the first desk, or the refusal.
 fn read_first<F: Files>(alloc: Global, name: &Text, desks: &mut Vec<F>) -> Result<Plan, Status>
+    requires { 1 ≤ length desks.old.items }
+    ensures places { length desks.new.items ≡ length desks.old.items }
+    ensures files { (i : ℕ) (d : F) → F.files (get_or desks.new.items i d) ≡ F.files (get_or desks.old.items i d) }
+    ensures counts { (i : ℕ) (d : F) → F.faults (get_or desks.old.items i d) ≤ F.faults (get_or desks.new.items i d) }
+    ensures rest { drop 1 desks.new.items ≡ drop 1 desks.old.items }
+    ensures plan { (d : F) → IfOk result (λ plan. IsFileOf (F.files (get_or desks.old.items 0 d)) name.now plan) }
+    ensures refused { (d : F) → IfErr result (λ status. OrNoMemory (IsFileCause (F.files (get_or desks.old.items 0 d)) (F.faults (get_or desks.old.items 0 d)) (F.faults (get_or desks.new.items 0 d)) name.now status) status) }
+{
+    read(alloc, name, &mut desks[0])
+}
+
+/// The plan of this name by the first desk, if it can be run, or the refusal.
+fn read_to_run<F: Files>(alloc: Global, name: &Text, desks: &mut Vec<F>) -> Result<Plan, Status>
     requires { 1 ≤ length desks.old.items }
     ensures places { length desks.new.items ≡ length desks.old.items }
     ensures files { (i : ℕ) (d : F) → F.files (get_or desks.new.items i d) ≡ F.files (get_or desks.old.items i d) }
@@ -95,7 +75,15 @@ fn read_first<F: Files>(alloc: Global, name: &Text, desks: &mut Vec<F>) -> Resul
     ensures plan { (d : F) → IfOk result (λ plan. IsPlanAt (F.files (get_or desks.old.items 0 d)) name.now plan) }
     ensures refused { (d : F) → IfErr result (λ status. OrNoMemory (IsReadCause (F.files (get_or desks.old.items 0 d)) (F.faults (get_or desks.old.items 0 d)) (F.faults (get_or desks.new.items 0 d)) name.now status) status) }
 {
-    read(alloc, name, &mut desks[0])
+    let plan = match read_first(alloc, name, desks) {
+        Ok(plan) => plan,
+        Err(refusal) => return Err(refusal),
+    };
+    if can_run(&plan) {
+        Ok(plan)
+    } else {
+        Err(Status::BadPlan(PlanRefusal::NotYet))
+    }
 }
 
 /// Writes the history of a run, where the words ask for it.
@@ -168,10 +156,7 @@ fn refuse<O: Sink>(refusal: Status, out: &mut O) -> Ended
     ensures book { result.book ≡ None }
     ensures status { IsToldAs refusal (O.seen out.old) (O.seen out.new) result.status }
 {
-    without_run(match print_refusal(&refusal, out) {
-        Ok(()) => refusal,
-        Err(Failed) => Status::SinkFault,
-    })
+    without_run(told(refusal, out))
 }
 
 /// Writes the line of a refusal, but where there was no memory.
@@ -180,10 +165,7 @@ fn refuse_plan<O: Sink>(refusal: Status, out: &mut O) -> Ended
     ensures no_memory { refusal ≡ status.NoMemory → (result.status ≡ status.NoMemory) × (O.seen out.new ≡ O.seen out.old) }
     ensures told { refusal ≢ status.NoMemory → IsToldAs refusal (O.seen out.old) (O.seen out.new) result.status }
 {
-    match refusal {
-        Status::NoMemory => without_run(Status::NoMemory),
-        _ => refuse(refusal, out),
-    }
+    without_run(told_but_no_memory(refusal, out))
 }
 
 /// Prints a run of the plan, and says how it went by the plan.
@@ -219,7 +201,7 @@ fn run<R: Threads + Wait + Sync, F: Files + Send + Drop, G: Gate + Sync, O: Sink
     ensures refused { result.book ≡ None → result.status ≢ status.NoMemory → drop 1 desks.new.items ≡ drop 1 desks.old.items }
     ensures answer { (d : F) → RunAnswered asked.now (F.files (get_or desks.old.items 0 d)) (counts_of F.faults desks.old.items d) (counts_of F.faults desks.new.items d) (O.seen out.old) (O.seen out.new) result.status result.book }
 {
-    let plan = match read_first(alloc, &asked.plan, desks) {
+    let plan = match read_to_run(alloc, &asked.plan, desks) {
         Ok(plan) => plan,
         Err(refusal) => return refuse_plan(refusal, out),
     };
@@ -256,6 +238,29 @@ fn work<F: Files, I: Source, O: Sink>(
     without_run(serve_worker(alloc, &mut desks[0], input, out))
 }
 
+/// Checks a history against the plan of this name by the first desk.
+fn check<F: Files, I: Source, O: Sink>(
+    alloc: Global,
+    plan: &Text,
+    desks: &mut Vec<F>,
+    input: &mut I,
+    out: &mut O,
+) -> Ended
+    requires { 1 ≤ length desks.old.items }
+    ensures places { length desks.new.items ≡ length desks.old.items }
+    ensures files { (i : ℕ) (d : F) → F.files (get_or desks.new.items i d) ≡ F.files (get_or desks.old.items i d) }
+    ensures counts { (i : ℕ) (d : F) → F.faults (get_or desks.old.items i d) ≤ F.faults (get_or desks.new.items i d) }
+    ensures rest { drop 1 desks.new.items ≡ drop 1 desks.old.items }
+    ensures input_count { (I.seen input.old).faults ≤ (I.seen input.new).faults }
+    ensures book { result.book ≡ None }
+    ensures checked { (d : F) → HasCheckedHistory plan.now
+        record { source = I.seen input.old; sink = O.seen out.old; files = F.files (get_or desks.old.items 0 d); faults = F.faults (get_or desks.old.items 0 d) }
+        record { source = I.seen input.new; sink = O.seen out.new; files = F.files (get_or desks.new.items 0 d); faults = F.faults (get_or desks.new.items 0 d) }
+        result.status }
+{
+    without_run(check_history(alloc, plan, &mut desks[0], input, out))
+}
+
 /// Carries a command out.
 fn perform<R: Threads + Wait + Sync, F: Files + Send + Drop, I: Source, G: Gate + Sync, O: Sink>(
     rt: &R,
@@ -274,7 +279,7 @@ fn perform<R: Threads + Wait + Sync, F: Files + Send + Drop, I: Source, G: Gate 
     ensures counts { (i : ℕ) (d : F) → F.faults (get_or desks.old.items i d) ≤ F.faults (get_or desks.new.items i d) }
     ensures rest { drop (desks_used (Some command.now)) desks.new.items ≡ drop (desks_used (Some command.now)) desks.old.items }
     ensures refused { result.book ≡ None → result.status ≢ status.NoMemory → drop 1 desks.new.items ≡ drop 1 desks.old.items }
-    ensures input { command.now ≢ commands.Worker → I.seen input.new ≡ I.seen input.old }
+    ensures input { takes_input (Some command.now) ≡ false → I.seen input.new ≡ I.seen input.old }
     ensures input_count { (I.seen input.old).faults ≤ (I.seen input.new).faults }
     ensures answer { (d : F) → Answered (Some command.now)
         record { source = I.seen input.old; sink = O.seen out.old; files = F.files (get_or desks.old.items 0 d); faults = counts_of F.faults desks.old.items d }
@@ -284,6 +289,7 @@ fn perform<R: Threads + Wait + Sync, F: Files + Send + Drop, I: Source, G: Gate 
     match command {
         Command::Run(asked) => run(rt, alloc, asked, desks, gate, out),
         Command::Worker => work(alloc, desks, input, out),
+        Command::Check(plan) => check(alloc, plan, desks, input, out),
         Command::Make(asked) => without_run(make_plan(asked.seed, &asked.file, out)),
     }
 }
@@ -294,8 +300,10 @@ fn perform<R: Threads + Wait + Sync, F: Files + Send + Drop, I: Source, G: Gate 
 /// all know the same. For `run` the plan is read through the first desk, and run on as many threads as the words
 /// say: thread i has the desk with number i, and each item passes the gate. What the words ask for is written
 /// to `out`. For `worker` the requests that the input gives are answered on `out` by the files of the first
-/// desk; no other command takes anything from the input. For `make` the plan is written to `out` that the number makes
-/// for the file; no desk is used. The answer and its cause are those of the contract.
+/// desk. For `check` the plan is read through the first desk, and the history that the input gives is checked against
+/// it; what is found is written to `out`. No other command takes anything from the input. For `make` the plan is
+/// written to `out` that the number makes for the file; no desk is used. The answer and its cause are those of the
+/// contract.
 ///
 /// At SinkFault the beginning of the text or of the replies was written, and at NoMemory nothing, but by a
 /// worker its replies up to then.
@@ -315,7 +323,7 @@ pub fn leases<R: Threads + Wait + Sync, F: Files + Send + Drop, I: Source, G: Ga
     ensures counts { (i : ℕ) (d : F) → F.faults (get_or desks.old.items i d) ≤ F.faults (get_or desks.new.items i d) }
     ensures rest { drop (desks_used (command_of words.now)) desks.new.items ≡ drop (desks_used (command_of words.now)) desks.old.items }
     ensures refused { result.book ≡ None → result.status ≢ status.NoMemory → drop 1 desks.new.items ≡ drop 1 desks.old.items }
-    ensures input { command_of words.now ≢ Some commands.Worker → I.seen input.new ≡ I.seen input.old }
+    ensures input { takes_input (command_of words.now) ≡ false → I.seen input.new ≡ I.seen input.old }
     ensures input_count { (I.seen input.old).faults ≤ (I.seen input.new).faults }
     ensures answer { (d : F) → Answered (command_of words.now)
         record { source = I.seen input.old; sink = O.seen out.old; files = F.files (get_or desks.old.items 0 d); faults = counts_of F.faults desks.old.items d }

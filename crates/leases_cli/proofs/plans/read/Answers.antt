@@ -1,5 +1,5 @@
-use Rattle.leases_cli.proofs.Readings.{refused_at, too_long_is_refused}
-use Rattle.leases_cli.proofs.top.read.Goals as goal
+use Rattle.leases_cli.proofs.Readings.{file_of_plan, refused_at, too_long_is_refused}
+use Rattle.leases_cli.proofs.plans.read.Goals as goal
 
 pub returns-in-Ok-TooLong-clause-refused : goal.returns-in-Ok-TooLong-clause-refused
 returns-in-Ok-TooLong-clause-refused g c = too_long_is_refused (g.F.Files.files c.args.desk.now) c.args.name.now c.in-Ok-TooLong.field-0 c.in-Ok-TooLong.field-0-is c.in-Ok-TooLong.ensures.known
@@ -7,4 +7,9 @@ returns-in-Ok-TooLong-clause-refused g c = too_long_is_refused (g.F.Files.files 
 pub returns-in-Err-Refused-clause-refused : goal.returns-in-Err-Refused-clause-refused
 returns-in-Err-Refused-clause-refused g c =
     refused_at (g.F.Files.files c.args.desk.now) c.args.name.now c.in-Ok-Bytes.field-0 c.in-Ok-Bytes.bytes c.in-Ok-Bytes.field-0-is c.in-Ok-Bytes.ensures.known c.as_slice.result.now c.as_slice.ensures.value
-    c.in-Err-Refused.field-0 c.in-Err-Refused.refusal c.in-Err-Refused.field-0-is c.in-Err-Refused.ensures.refused
+    c.in-Err-Refused.field-0 c.in-Err-Refused.refusal c.in-Err-Refused.field-0-is c.in-Err-Refused.ensures
+
+pub returns-in-Ok-clause-plan : goal.returns-in-Ok-clause-plan
+returns-in-Ok-clause-plan g c =
+    file_of_plan (g.F.Files.files c.args.desk.now) c.args.name.now c.in-Ok-Bytes.field-0 c.in-Ok-Bytes.bytes c.in-Ok-Bytes.field-0-is c.in-Ok-Bytes.ensures.known c.as_slice.result.now c.as_slice.ensures.value
+    c.in-Ok.plan c.in-Ok.ensures
