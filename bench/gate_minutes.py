@@ -3,7 +3,8 @@
 
 Starts `rt ci` with the given words in the current folder, passes its output through, and looks twice a second at the
 processes below it, each of which works for one crate. At the end it prints a table, the longest crate first, and ends
-with the status of `rt ci`. At the signal USR1 it prints the table so far. What an earlier run passed is kept on this machine and takes no time: with --anew all is done.
+with the status of `rt ci`. At the signal USR1 it prints the table so far, and at TERM too, before it ends `rt ci`. What an
+earlier run passed is kept on this machine and takes no time: with --anew all is done.
 Not part of the gate. Works on Linux alone.
 
     bench/gate_minutes.py [--anew] [CRATE..]
@@ -132,7 +133,17 @@ def main() -> None:
     start = time.monotonic()
     gate = subprocess.Popen(["rt", "ci", *sys.argv[1:]])
     sampler = Sampler()
-    signal.signal(signal.SIGUSR1, lambda *_: print_table(sampler.by_crate(), None, time.monotonic() - start))
+
+    def print_so_far(*_: object) -> None:
+        print_table(sampler.by_crate(), None, time.monotonic() - start)
+
+    def end_early(*_: object) -> None:
+        gate.terminate()
+        print_so_far()
+        sys.exit(1)
+
+    signal.signal(signal.SIGUSR1, print_so_far)
+    signal.signal(signal.SIGTERM, end_early)
     while gate.poll() is None:
         sampler.look(gate.pid)
         time.sleep(INTERVAL)
