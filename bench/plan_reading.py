@@ -1,17 +1,19 @@
 #!/usr/bin/env python3
 """Counts instructions and memory of the reading of large plans.
 
-Makes its own plans in a temporary folder and runs `leases run` on them under valgrind's callgrind. Each plan is
-refused after it was read whole, so what is counted is the reading alone: a plan within all limits by its last task,
-whose two actions today's engine doesn't run, and a chain of too many tasks by its number of tasks. Not part of the
-gate. Skips, with status 0, where valgrind or GNU time is missing.
+Makes its own plans in a temporary folder and runs the program `plan_probe` on them under valgrind's callgrind: it reads
+a file and the plan in it, and does no more. Of each plan within the limits the names in `after` are in the order of
+the tasks, and once more in a random order. A chain of too many tasks is refused by its number of tasks. Not part of
+the gate. Skips, with status 0, where valgrind, GNU time or `rt` is missing.
 
     bench/plan_reading.py [PROGRAM [PART..]]
 
-Each PART is a number: a plan with that part of the limits is read, and no chains.
+PROGRAM is a plan_probe that was built before; without it one is proved and built, which takes long. Each PART is a
+number: plans with that part of the limits are read, and no chains.
 """
 
 import pathlib
+import random
 import sys
 import tempfile
 
@@ -26,29 +28,32 @@ TASKS = 2048
 NAMES = 64
 ITEMS = 8192
 CHAIN = 100_000
-NOT_YET = "bad plan 14 NotYet at plan 0\n"
-TOO_MANY = "bad plan 12 TooMany tasks at plan 0\n"
+TOO_MANY = "plan 0: there are too many tasks\n"
+
+# The crates that the program stands on.
+BELOW = ["item_actions", "resource_lock", "task_ranks", "worker_desk", "daemon_requirements", "plan_table", "plan_reader"]
 
 
 def task_name(task: int) -> str:
     return f"a-task-named-{task:06}"
 
 
-def plan_text(part: int) -> str:
-    """A plan with one part in `part` of the most that there may be of each."""
+def plan_text(part: int, order: random.Random | None = None) -> str:
+    """A plan with one part in `part` of the most that there may be of each. An order shuffles the names in `after`."""
     tasks = TASKS // part
     lines = []
     for project in range(PROJECTS // part):
         lines += ["[[project]]", f'name = "project-{project:03}"']
     for task in range(tasks):
-        after = ", ".join(f'"{task_name(other)}"' for other in range(max(0, task - NAMES), task))
+        others = list(range(max(0, task - NAMES), task))
+        if order is not None:
+            order.shuffle(others)
+        after = ", ".join(f'"{task_name(other)}"' for other in others)
         project = task % (PROJECTS // part)
         lines += ["[[task]]", f'name = "{task_name(task)}"', f'project = "project-{project:03}"', f"after = [{after}]"]
-        actions = 2 if task == tasks - 1 else 1
-        for _ in range(actions):
-            lines += ["[[task.action]]", 'wait = "retain"']
-            for item in range(ITEMS // TASKS // actions):
-                lines += ["[[task.action.item]]", 'do = "words"', f'file = "src/file-{item}.txt"']
+        lines += ["[[task.action]]", 'wait = "retain"']
+        for item in range(ITEMS // TASKS):
+            lines += ["[[task.action.item]]", 'do = "words"', f'file = "src/file-{item}.txt"']
     return "\n".join(lines) + "\n"
 
 
@@ -68,7 +73,7 @@ def chain_text(tasks: int) -> str:
 
 def measure_plan(program: str, name: str, text: str, expected: str) -> int:
     """Prints the figures of a plan. Its instructions are given back."""
-    words = [program, "run", "plan.toml"]
+    words = [program, "plan.toml"]
     with tempfile.TemporaryDirectory() as folder_name:
         folder = pathlib.Path(folder_name)
         (folder / "plan.toml").write_text(text)
@@ -82,16 +87,16 @@ def measure_plan(program: str, name: str, text: str, expected: str) -> int:
 
 
 def measure_part(program: str, part: int) -> int:
-    return measure_plan(program, f"a plan of 1/{part} of the limits", plan_text(part), NOT_YET)
+    """Prints the figures of both plans. The instructions of the one whose names are in order are given back."""
+    expected = f"{TASKS // part} tasks\n"
+    counts = [
+        measure_plan(program, f"1/{part} of the limits, {name}", plan_text(part, order), expected)
+        for name, order in (("in order", None), ("in a random order", random.Random(5)))
+    ]
+    return counts[0]
 
 
-def main() -> None:
-    measure.skip_without("valgrind", "time")
-    program = measure.leases_program()
-    if len(sys.argv) > 2:
-        for word in sys.argv[2:]:
-            measure_part(program, int(word))
-        return
+def measure_all(program: str) -> None:
     counts = {part: measure_part(program, part) for part in (8, 4, 2, 1)}
     print(f"growth from 1/8 to the whole: {counts[1] / counts[8]:.2f}")
     chains = [
@@ -99,6 +104,21 @@ def main() -> None:
         for tasks in (CHAIN // 2, CHAIN)
     ]
     print(f"growth from {CHAIN // 2} to {CHAIN} tasks: {chains[1] / chains[0]:.2f}")
+
+
+def main() -> None:
+    measure.skip_without("valgrind", "time", "rt")
+    if len(sys.argv) > 1:
+        program = str(pathlib.Path(sys.argv[1]).resolve())
+        for word in sys.argv[2:]:
+            measure_part(program, int(word))
+        if len(sys.argv) == 2:
+            measure_all(program)
+        return
+    with tempfile.TemporaryDirectory() as name:
+        workshop = measure.Workshop(pathlib.Path(name), BELOW)
+        workshop.add("plan_probe", "item_actions", "worker_desk", "plan_reader", "anyhow")
+        measure_all(workshop.build("plan_probe"))
 
 
 if __name__ == "__main__":

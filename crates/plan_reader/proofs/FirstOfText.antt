@@ -36,7 +36,6 @@ of_text bytes (refusal.ReleaseNotLast p) h = in_document h (omega arith)
 of_text bytes (refusal.ClassLoader p) h = in_document h (omega arith)
 of_text bytes (refusal.TooMany w p) h = in_document h (omega arith)
 of_text bytes (refusal.BadRequirements p) h = in_document h (omega arith)
-of_text bytes refusal.NotYet h = in_document h (omega arith)
 
 -- a refusal of the document is one of the text
 text_holds : (bytes : List ℕ) (d : Data) (s : PlanRefusal) → document_of bytes ≡ Some d → DocumentHolds d s → TextHolds bytes s
@@ -54,7 +53,6 @@ text_holds bytes d (refusal.ReleaseNotLast p) is h = rw is h
 text_holds bytes d (refusal.ClassLoader p) is h = rw is h
 text_holds bytes d (refusal.TooMany w p) is h = rw is h
 text_holds bytes d (refusal.BadRequirements p) is h = rw is h
-text_holds bytes d refusal.NotYet is h = absurd h
 
 module _ (bytes : List ℕ) where
   abbrev IsShort : Type 0

@@ -17,3 +17,6 @@ pub mod FirstOfText
 pub mod Answering
 pub mod OneAnswer
 pub mod Positions
+pub mod Sound
+pub mod Near
+pub mod Marks

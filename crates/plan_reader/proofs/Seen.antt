@@ -83,7 +83,6 @@ seen d (refusal.ReleaseNotLast p) h = by_row ReleaseNotLast h refl refl
 seen d (refusal.ClassLoader p) h = by_row ClassLoader h refl refl
 seen d (refusal.TooMany w p) h = by_limit w h refl refl
 seen d (refusal.BadRequirements p) h = by_row BadRequirements h refl refl
-seen d refusal.NotYet h = absurd h
 
 -- a refusal that tables give by themselves is one of the document
 pub tabled : (d : Data) (s : PlanRefusal) → TableHolds d s → DocumentHolds d s × (cause_number s < 6)
@@ -101,7 +100,6 @@ tabled d (refusal.ReleaseNotLast p) h = absurd h
 tabled d (refusal.ClassLoader p) h = absurd h
 tabled d (refusal.TooMany w p) h = absurd h
 tabled d (refusal.BadRequirements p) h = absurd h
-tabled d refusal.NotYet h = absurd h
 
 -- ---- what a refusal of one number says
 

@@ -7,6 +7,7 @@ pub mod Names
 pub mod Rooms
 pub mod Rows
 pub mod Search
+pub mod Sound
 pub mod Planned
 pub mod Reading
 pub mod First

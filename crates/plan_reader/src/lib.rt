@@ -2,9 +2,11 @@
 #![tactic(auto)]
 
 mod graphs;
+mod key_values;
 mod known;
 mod laws;
 mod limits;
+mod look;
 mod name_table;
 mod names;
 mod parts;

@@ -1,5 +1,5 @@
 //! Names with their numbers.
-ghost use Rattle.std.specs.Prelude.{◌≡◌, None, Some, IfOk, MatchResult, position};
+ghost use Rattle.std.specs.Prelude.{◌≡◌, length, None, Some, IsTrue, IfOk, MatchResult, position};
 ghost use Rattle.std.specs.Str.{bytes_eq};
 ghost use Rattle.plan_reader.specs.NameNumbers.{texts, has_name, first_repeat, number_of, AreNumbered};
 
@@ -16,14 +16,14 @@ pub(crate) struct NameTable<'a> {
 }
 
 impl<'a> Model for NameTable<'a> {
-    ghost use Rattle.std.specs.Prelude.{List, ℕ};
-    ghost use Rattle.plan_reader.specs.NameNumbers.{texts, AreNumbered};
+    ghost use Rattle.std.specs.Prelude.{◌≡◌, List, ℕ, None};
+    ghost use Rattle.plan_reader.specs.NameNumbers.{texts, first_repeat, AreNumbered};
 
     ghost Value = { List (List ℕ) };
 
     ghost view = { λ a. texts a.names.items };
 
-    ghost invariant = { λ a. AreNumbered (texts a.names.items) a.numbers };
+    ghost invariant = { λ a. AreNumbered (texts a.names.items) a.numbers × (first_repeat (texts a.names.items) ≡ None) };
 }
 
 /// The number of each name, or the first place whose name stood before.
@@ -60,6 +60,13 @@ impl<'a> NameTable<'a> {
         }
     }
 
+    /// How many names there are.
+    pub(crate) fn len(&self) -> usize
+        ensures { result ≡ length self.now }
+    {
+        self.names.len()
+    }
+
     /// Whether a name is one of these.
     pub(crate) fn has(&self, name: &str) -> bool
         ensures { result ≡ has_name self.now name.now }
@@ -72,6 +79,38 @@ impl<'a> NameTable<'a> {
         ensures { result ≡ position (bytes_eq name.now) self.now }
     {
         self.numbers.get(name).copied()
+    }
+
+    /// Whether the name stands at this place.
+    fn stands_at(&self, place: usize, name: &str) -> bool
+        ensures { IsTrue result → position (bytes_eq name.now) self.now ≡ Some place }
+    {
+        place < self.names.len() && self.names[place] == name
+    }
+
+    /// The number of a name, if it is one of these. It is looked for at the guess first.
+    fn place_near(&self, guess: usize, name: &str) -> Option<usize>
+        ensures { result ≡ position (bytes_eq name.now) self.now }
+    {
+        if self.stands_at(guess, name) {
+            Some(guess)
+        } else {
+            self.place_of(name)
+        }
+    }
+
+    /// The number of a name, if it is one of these. It is looked for at the guess first. A number that is no `u32` is
+    /// answered as want of memory: so many names don't fit.
+    pub(crate) fn number_near(&self, guess: u32, name: &str) -> Result<Option<u32>, AllocError>
+        ensures { IfOk result (λ o. o ≡ position (bytes_eq name.now) self.now) }
+    {
+        match self.place_near(guess as usize, name) {
+            Some(place) => match u32::try_from(place) {
+                Ok(number) => Ok(Some(number)),
+                Err(_) => Err(AllocError),
+            },
+            None => Ok(None),
+        }
     }
 
     /// The number of a name, and 0 where it is none of these. A number that is no `u32` is answered as want of

@@ -1,19 +1,19 @@
 //! The names of a plan, and their numbers.
-ghost use Rattle.std.specs.Prelude.{◌≡◌, true, map, None, Some, IfOk, IfErr, MatchResult, option_map, length, position};
+ghost use Rattle.std.specs.Prelude.{◌≡◌, ◌==◌, ◌<◌, ◌≤◌, ℕ, slice_index, true, map, None, Some, IfOk, IfErr, MatchResult, option_map, length, position};
 ghost use Rattle.std.specs.Str.{bytes_eq};
 ghost use Rattle.toml.specs.View.{view};
 ghost use Rattle.plan_table.specs.Document.{is_numbered};
-ghost use Rattle.plan_table.specs.Keys.{name_of, after_of};
+ghost use Rattle.plan_table.specs.Keys.{name_of, tasks_of, after_of};
 ghost use Rattle.plan_table.specs.Search.{places};
 ghost use Rattle.plan_table.specs.Values.{text_of};
-ghost use Rattle.plan_reader.specs.NameNumbers.{texts, has_name, first_repeat, number_of};
-ghost use Rattle.plan_reader.specs.Names.{dependency_numbers, dependencies_of, once};
+ghost use Rattle.plan_reader.specs.NameNumbers.{texts, first_repeat};
+ghost use Rattle.plan_reader.specs.Names.{names_in, known_numbers, known_rows, AreMarked};
+ghost use Rattle.indexmap.specs.IndexSet.{insert_key};
 ghost use Rattle.plan_reader.specs.Search.{first_twice, twice_in};
 ghost use Rattle.plan_reader.specs.Reading.{RefusesBy};
 ghost use Rattle.task_ranks.specs.Rank.{lists_of};
 
 use crate::name_table::NameTable;
-use indexmap::IndexSet;
 use plan_table::{
     Part, Place, PlanFail, PlanRefusal, after_of, name_of, places, tasks_of, text_of,
 };
@@ -74,47 +74,99 @@ pub(crate) fn copy_numbers(alloc: Global, numbers: &[u32]) -> Result<Vec<u32>, A
     Ok(copy)
 }
 
-/// The numbers of the tasks of these names, each once.
-fn numbers_of(alloc: Global, names: &NameTable, values: &[Value]) -> Result<Vec<u32>, AllocError>
-    ensures { IfOk result (λ numbers. numbers.items ≡ once (map (λ v. number_of (names.now) (text_of (view v))) values.now)) }
+/// Puts a number behind the others if it isn't among them. Those that are there have the mark.
+#[tactic(auto, using(crate::proofs::Marks::marked_anew, crate::proofs::Marks::added, crate::proofs::Marks::kept))]
+fn add_number(
+    numbers: &mut Vec<u32>,
+    marks: &mut [usize],
+    mark: usize,
+    number: u32,
+) -> Result<(), AllocError>
+    requires within { number < length marks.old }
+    requires marked { AreMarked marks.old mark numbers.old.items }
+    ensures marked { IfOk result (λ _. AreMarked marks.new mark numbers.new.items) }
+    ensures added { IfOk result (λ _. numbers.new.items ≡ insert_key (λ m n. m == n) numbers.old.items number) }
 {
-    let mut numbers = IndexSet::with_capacity(alloc, values.len())?;
-    for value in values {
-        numbers.insert(names.number_of(text_of(value))?)?;
+    if marks[number as usize] != mark {
+        marks[number as usize] = mark;
+        numbers.push(number)?;
     }
-    copy_numbers(alloc, numbers.as_slice())
+    Ok(())
+}
+
+/// The numbers of the tasks of these names, each once, or None where one of them is no task's. The guess is where the
+/// first of them is looked for first, and each other one behind the one before it: names often stand in their order.
+fn numbers_of(
+    alloc: Global,
+    names: &NameTable,
+    marks: &mut [usize],
+    mark: usize,
+    guess: &mut u32,
+    values: &[Value],
+) -> Result<Option<Vec<u32>>, AllocError>
+    requires len { length marks.old ≡ length names.now }
+    requires fresh { (k : ℕ) → slice_index marks.old k < mark }
+    ensures marks { IfOk result (λ _. (k : ℕ) → slice_index marks.new k ≤ mark) }
+    ensures numbers { IfOk result (λ o. option_map (λ v. v.items) o ≡ known_numbers names.now (map (λ v. text_of (view v)) values.now)) }
+{
+    let mut numbers = Vec::with_capacity(alloc, values.len())?;
+    for value in values {
+        match names.number_near(*guess, text_of(value))? {
+            Some(number) => {
+                add_number(&mut numbers, marks, mark, number)?;
+                *guess = number.saturating_add(1);
+            }
+            None => return Ok(None),
+        }
+    }
+    Ok(Some(numbers))
 }
 
 fn dependency_numbers(
     alloc: Global,
     names: &NameTable,
+    marks: &mut [usize],
+    mark: usize,
+    guess: &mut u32,
     task: &Value,
-) -> Result<Vec<u32>, AllocError>
-    ensures { IfOk result (λ numbers. numbers.items ≡ dependency_numbers (names.now) (view task.now)) }
+) -> Result<Option<Vec<u32>>, AllocError>
+    requires len { length marks.old ≡ length names.now }
+    requires fresh { (k : ℕ) → slice_index marks.old k < mark }
+    ensures marks { IfOk result (λ _. (k : ℕ) → slice_index marks.new k ≤ mark) }
+    ensures numbers { IfOk result (λ o. option_map (λ v. v.items) o ≡ known_numbers names.now (after_of (view task.now))) }
 {
-    let numbers = numbers_of(alloc, names, after_of(task))?;
+    let numbers = numbers_of(alloc, names, marks, mark, guess, after_of(task))?;
     Ok(numbers)
 }
 
-fn rows_of(alloc: Global, names: &NameTable, tasks: &[Value]) -> Result<Vec<Vec<u32>>, AllocError>
-    ensures { IfOk result (λ rows. lists_of rows.items ≡ map (λ v. dependency_numbers (names.now) (view v)) tasks.now) }
+fn rows_of(
+    alloc: Global,
+    names: &NameTable,
+    tasks: &[Value],
+) -> Result<Option<Vec<Vec<u32>>>, AllocError>
+    ensures { IfOk result (λ o. option_map (λ rows. lists_of rows.items) o ≡ known_rows names.now (map view tasks.now)) }
 {
     let mut rows = Vec::with_capacity(alloc, tasks.len())?;
-    for task in tasks {
-        rows.push(dependency_numbers(alloc, names, task)?)?;
+    let mut marks = vec![in alloc; 0; names.len()]?;
+    let mut guess = 0;
+    for (number, task) in tasks.iter().enumerate() {
+        match dependency_numbers(alloc, names, &mut marks, number + 1, &mut guess, task)? {
+            Some(row) => rows.push(row)?,
+            None => return Ok(None),
+        }
     }
-    Ok(rows)
+    Ok(Some(rows))
 }
 
 /// For each task the numbers of the tasks that it comes after, each once, in the order in which they are first
-/// written.
+/// written. None where one of the names is no task's. Each name is looked up once.
 pub(crate) fn dependencies_of(
     alloc: Global,
     names: &NameTable,
     document: &Value,
-) -> Result<Vec<Vec<u32>>, AllocError>
+) -> Result<Option<Vec<Vec<u32>>>, AllocError>
     requires { names.now ≡ map name_of (places (view document.now) Part.Task) }
-    ensures { IfOk result (λ rows. lists_of rows.items ≡ dependencies_of (view document.now)) }
+    ensures { IfOk result (λ o. option_map (λ rows. lists_of rows.items) o ≡ known_rows (names_in (view document.now)).tasks (tasks_of (view document.now))) }
 {
     let rows = rows_of(alloc, names, tasks_of(document))?;
     Ok(rows)

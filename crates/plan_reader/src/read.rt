@@ -10,6 +10,7 @@ ghost use Rattle.plan_reader.specs.Search.{twice_refusal, row_refusal, rows_refu
 ghost use Rattle.plan_reader.specs.Reading.{AnswersRanks, AnswersBy, Reads, Gives, RefusesBy, RefusesCycle};
 
 use crate::known::Known;
+use crate::look::refuses_nothing;
 use crate::names::{Names, dependencies_of, numbered_names};
 use crate::parts::{projects_of_plan, tasks_of_plan};
 use crate::plans::Plan;
@@ -33,14 +34,37 @@ fn check(row: Row, names: &Names, document: &Value) -> Result<(), PlanFail>
     }
 }
 
-fn check_before(names: &Names, document: &Value) -> Result<(), PlanFail>
+/// The numbers of the tasks that each task comes after, where each of the names is a task's.
+fn known_dependencies(
+    alloc: Global,
+    names: &Names,
+    document: &Value,
+) -> Result<Vec<Vec<u32>>, PlanFail>
     requires names { name_lists names.now ≡ names_in (view document.now) }
     requires numbered { is_numbered (view document.now) ≡ true }
+    ensures dependencies { IfOk result (λ rows. lists_of rows.items ≡ dependencies_of (view document.now)) }
+    ensures ok { IfOk result (λ _. row_refusal (view document.now) Row.NoSuchTask ≡ None) }
+    ensures err { IfErr result (RefusesBy (row_refusal (view document.now) Row.NoSuchTask)) }
+{
+    match dependencies_of(alloc, &names.tasks, document)? {
+        Some(dependencies) => Ok(dependencies),
+        None => {
+            check(Row::NoSuchTask, names, document)?;
+            unreachable!()
+        }
+    }
+}
+
+/// The same, where no row before Cycle refuses anything.
+fn check_before(alloc: Global, names: &Names, document: &Value) -> Result<Vec<Vec<u32>>, PlanFail>
+    requires names { name_lists names.now ≡ names_in (view document.now) }
+    requires numbered { is_numbered (view document.now) ≡ true }
+    ensures dependencies { IfOk result (λ rows. lists_of rows.items ≡ dependencies_of (view document.now)) }
     ensures ok { IfOk result (λ _. rows_refusal rows_before (view document.now) ≡ None) }
     ensures err { IfErr result (RefusesBy (rows_refusal rows_before (view document.now))) }
 {
     check(Row::NoSuchProject, names, document)?;
-    check(Row::NoSuchTask, names, document)
+    known_dependencies(alloc, names, document)
 }
 
 fn check_behind(names: &Names, document: &Value) -> Result<(), PlanFail>
@@ -76,6 +100,9 @@ fn check_table(document: &Value) -> Result<(), PlanFail>
     ensures ok { IfOk result (λ _. table_refusal (view document.now) ≡ None) }
     ensures err { IfErr result (RefusesBy (table_refusal (view document.now))) }
 {
+    if refuses_nothing(document) {
+        return Ok(());
+    }
     match table_refusal(document) {
         Some(refusal) => Err(PlanFail::Refused(refusal)),
         None => Ok(()),
@@ -110,16 +137,21 @@ fn plan_of(
 }
 
 /// The plan of a document in which nothing is refused before Cycle, or the first refusal.
-fn read_ranked(alloc: Global, names: &Names, document: &Value) -> Result<Plan, PlanFail>
+fn read_ranked(
+    alloc: Global,
+    names: &Names,
+    dependencies: &[Vec<u32>],
+    document: &Value,
+) -> Result<Plan, PlanFail>
     requires names { name_lists names.now ≡ names_in (view document.now) }
+    requires dependencies { lists_of dependencies.now ≡ dependencies_of (view document.now) }
     requires numbered { is_numbered (view document.now) ≡ true }
     requires before { refusal_before (view document.now) ≡ None }
     ensures { Gives (AnswersRanks (view document.now)) result }
 {
-    let dependencies = dependencies_of(alloc, &names.tasks, document)?;
-    check_ranks(alloc, &dependencies)?;
+    check_ranks(alloc, dependencies)?;
     check_behind(names, document)?;
-    plan_of(alloc, names, &dependencies, document)
+    plan_of(alloc, names, dependencies, document)
 }
 
 /// The plan of a document whose names are these, or the first refusal.
@@ -130,8 +162,8 @@ fn read_named(alloc: Global, names: &Names, document: &Value) -> Result<Plan, Pl
     requires once { twice_refusal (view document.now) ≡ None }
     ensures { Gives (AnswersBy (refusal_before (view document.now)) (view document.now)) result }
 {
-    check_before(names, document)?;
-    read_ranked(alloc, names, document)
+    let dependencies = check_before(alloc, names, document)?;
+    read_ranked(alloc, names, &dependencies, document)
 }
 
 /// The plan of a document, or the first refusal behind those of its text.
@@ -152,8 +184,8 @@ fn read_tables(alloc: Global, document: &Value) -> Result<Plan, PlanFail>
 }
 
 /// Reads a plan, or answers why the text is none: with the refusal that stands first in `PlanRefusal`, at the
-/// first of its places, which are the plan, then the projects, the tasks and the requirements by number. NotYet is
-/// never among them. NoMemory says nothing of the text.
+/// first of its places, which are the plan, then the projects, the tasks and the requirements by number. NoMemory
+/// says nothing of the text.
 pub fn read_plan(alloc: Global, bytes: &[u8]) -> Result<Plan, PlanFail>
     ensures { Gives (Reads bytes.now) result }
 {

@@ -83,7 +83,6 @@ by_test d (refusal.ReleaseNotLast p) h = absurd h
 by_test d (refusal.ClassLoader p) h = absurd h
 by_test d (refusal.TooMany w p) h = absurd h
 by_test d (refusal.BadRequirements p) h = absurd h
-by_test d refusal.NotYet h = absurd h
 
 -- ---- none
 

@@ -29,7 +29,6 @@ cause_number (refusal.ReleaseNotLast p) = 10
 cause_number (refusal.ClassLoader p) = 11
 cause_number (refusal.TooMany w p) = 12
 cause_number (refusal.BadRequirements p) = 13
-cause_number refusal.NotYet = 14
 
 -- the place, and the plan where the whole text is meant
 abbrev pub place_of : PlanRefusal → Place

@@ -24,7 +24,7 @@ impl PlanRefusal {
         ensures { result ≡ place_of self.now }
     {
         match self {
-            PlanRefusal::TooLong | PlanRefusal::NotToml | PlanRefusal::NotYet => Place {
+            PlanRefusal::TooLong | PlanRefusal::NotToml => Place {
                 part: Part::Plan,
                 number: 0,
             },

@@ -92,9 +92,6 @@ pub enum PlanRefusal {
     /// The requirements of an item aren't there, or a heap is outside 1 to 65,536 MB.
     #[error("{0}: there are no such requirements, or their heap is out of range")]
     BadRequirements(Place),
-    /// The text is a plan that this version doesn't run.
-    #[error("this version doesn't run the plan")]
-    NotYet,
 }
 
 /// Why no plan was read.

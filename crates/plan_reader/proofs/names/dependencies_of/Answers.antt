@@ -1,11 +1,11 @@
-use Rattle.std.proofs.Common.{map, ap, sym, ◌∙◌}
+use Rattle.std.proofs.Common.{ap, ◌∙◌}
 use Rattle.toml.specs.View.{view}
-use Rattle.plan_reader.specs.Names.{names_in, dependency_numbers}
-use Rattle.plan_reader.proofs.Lists.{map_of_elements}
+use Rattle.plan_table.specs.Keys.{tasks_of}
+use Rattle.plan_reader.specs.Names.{known_rows}
 use Rattle.plan_reader.proofs.names.dependencies_of.Goals as goal
 
 pub returns : goal.returns
 returns c =
     c.in_ok-rows.ensures
-    ∙ ap (λ names. map (λ v. dependency_numbers names (view v)) c.tasks_of.result.now) c.requires
-    ∙ sym (map_of_elements (dependency_numbers (names_in (view c.args.document.now)).tasks) _ _ c.tasks_of.ensures)
+    ∙ ap (known_rows c.args.names.now) c.tasks_of.ensures
+    ∙ ap (λ names. known_rows names (tasks_of (view c.args.document.now))) c.requires
