@@ -25,6 +25,7 @@ asked rows max_leases threads = record {
   max_leases = max_leases;
   parallel = is_on (codes "parallel") rows;
   history = is_on (codes "history") rows;
+  daemons = is_on (codes "daemons") rows;
   summary = is_on (codes "summary") rows;
 }
 

@@ -57,16 +57,17 @@ fn with_options<'a>(alloc: Global, command: Command<'a>) -> Result<Command<'a>, 
 }
 
 fn with_flags<'a>(alloc: Global, command: Command<'a>) -> Result<Command<'a>, AllocError>
-    ensures { IfOk result (λ c. app_of c ≡ with_rule (with_rule (with_rule (app_of command.entry)
-        (flag_rule (codes "parallel"))) (flag_rule (codes "history"))) (flag_rule (codes "summary"))) }
+    ensures { IfOk result (λ c. app_of c ≡ with_rule (with_rule (with_rule (with_rule (app_of command.entry)
+        (flag_rule (codes "parallel"))) (flag_rule (codes "history"))) (flag_rule (codes "daemons"))) (flag_rule (codes "summary"))) }
 {
     let command = with_flag(alloc, command, "parallel")?;
     let command = with_flag(alloc, command, "history")?;
+    let command = with_flag(alloc, command, "daemons")?;
     let command = with_flag(alloc, command, "summary")?;
     Ok(command)
 }
 
-/// The parser of `run`: PLAN, which is required, two options with a value each, and three flags.
+/// The parser of `run`: PLAN, which is required, two options with a value each, and four flags.
 #[tactic(auto, unfolding(crate::specs::Rules::run_app))]
 pub(crate) fn run_command<'a>(alloc: Global) -> Result<Command<'a>, AllocError>
     ensures { IfOk result (λ c. app_of c ≡ run_app) }

@@ -70,6 +70,7 @@ fn run_words(alloc: Global, matches: &ArgMatches<'_>) -> Result<RunWords, WordsF
         max_leases,
         parallel: is_on(matches, "parallel"),
         history: is_on(matches, "history"),
+        daemons: is_on(matches, "daemons"),
         summary: is_on(matches, "summary"),
     })
 }

@@ -4,7 +4,7 @@ use std::alloc::{AllocError, Global};
 use std::test::Fail;
 
 /// Words with `|` between them, and the command that they are.
-static COMMANDS: [(&str, &str); 35] = [
+static COMMANDS: [(&str, &str); 36] = [
     ("run|p", "p 2 2"),
     ("run|--max-workers|4|p", "p 4 4"),
     ("run|p|--max-workers|4", "p 4 4"),
@@ -34,10 +34,11 @@ static COMMANDS: [(&str, &str); 35] = [
         "p 3 2 parallel summary",
     ),
     (
-        "run|p|--history|--summary|--parallel",
-        "p 2 2 parallel history summary",
+        "run|p|--daemons|--history|--summary|--parallel",
+        "p 2 2 parallel history daemons summary",
     ),
     ("run|p|--history", "p 2 2 history"),
+    ("run|p|--daemons", "p 2 2 daemons"),
     ("run|p|--summary", "p 2 2 summary"),
     ("run|p|--threads|1", "p 2 1"),
     ("run|p|--max-workers|1", "p 1 1"),
@@ -132,6 +133,7 @@ fn spelled(alloc: Global, run: &RunWords) -> Result<String, AllocError> {
     for (name, is_on) in [
         (" parallel", run.parallel),
         (" history", run.history),
+        (" daemons", run.daemons),
         (" summary", run.summary),
     ] {
         if is_on {

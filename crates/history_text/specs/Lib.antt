@@ -1,3 +1,4 @@
 pub mod Text
+pub mod Events
 pub mod Fitting
 pub mod Results

@@ -1,4 +1,4 @@
-//! The texts of a run: its results, and its history. Printing takes no memory.
+//! The texts of a run: its results, its history, and what happened to its daemons. Printing takes no memory.
 //!
 //! Each call adds a text to a page, which can take several texts one after another.
 #![tactic(auto)]
@@ -7,6 +7,7 @@ mod changes;
 mod counts;
 mod endings;
 mod entries;
+mod events;
 mod histories;
 mod laws;
 mod outcomes;
@@ -14,6 +15,7 @@ mod results;
 mod summaries;
 mod units;
 
+pub use events::write_events;
 pub use histories::write_history;
 pub use laws::results_go_by_number;
 pub use results::write_results;

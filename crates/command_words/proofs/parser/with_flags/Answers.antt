@@ -5,5 +5,6 @@ use Rattle.command_words.proofs.parser.with_flags.Goals as goal
 
 pub returns : goal.returns
 returns c =
-    c.in_ok-command-3.ensures ∙ ap (λ (a : App). with_rule a (flag_rule (codes "summary")))
-    (c.in_ok-command-2.ensures ∙ ap (λ (a : App). with_rule a (flag_rule (codes "history"))) c.in_ok-command.ensures)
+    c.in_ok-command-4.ensures ∙ ap (λ (a : App). with_rule a (flag_rule (codes "summary")))
+    (c.in_ok-command-3.ensures ∙ ap (λ (a : App). with_rule a (flag_rule (codes "daemons")))
+    (c.in_ok-command-2.ensures ∙ ap (λ (a : App). with_rule a (flag_rule (codes "history"))) c.in_ok-command.ensures))

@@ -1,0 +1,50 @@
+//! Inputs that fail, and inputs that are as long as an input may be.
+use crate::answers::{answer_to, print_answer};
+use anyhow::Result;
+use history_check::{CheckFail, MAX_INPUT_BYTES, check_input};
+use plan_reader::Plan;
+use std::alloc::{AllocError, Global};
+use worker_desk::MemorySource;
+
+/// An input that gives the history, and whose call of this number fails.
+fn failing_input(alloc: Global, history: &[u8], call: u64) -> Result<MemorySource, AllocError> {
+    let mut failing = Vec::new(alloc);
+    failing.push(call)?;
+    Ok(MemorySource::new(Vec::from_slice(alloc, history)?, failing))
+}
+
+/// Checks the history from inputs of which one call fails, and prints how many of them are answered so. Each call takes
+/// one byte.
+pub(crate) fn check_failing_inputs(rt: &HostRuntime, plan: &Plan, history: &[u8]) -> Result<()> {
+    let mut faults = 0u64;
+    for call in 0..history.len() as u64 {
+        let mut input = failing_input(rt.alloc(), history, call)?;
+        let answer = check_input(rt.alloc(), plan, &mut input);
+        if answer == Err(CheckFail::SourceFault) {
+            faults = faults.saturating_add(1);
+        }
+    }
+    println!(rt; "{faults} calls of an input fail, and each is told")?;
+    Ok(())
+}
+
+/// The history behind empty lines, of so many bytes together.
+fn long_input(alloc: Global, history: &[u8], len: usize) -> Result<Vec<u8>, AllocError> {
+    let mut text = Vec::with_capacity(alloc, len)?;
+    for _ in 0..len.saturating_sub(history.len()) {
+        text.push(b'\n')?;
+    }
+    text.extend_from_slice(history)?;
+    Ok(text)
+}
+
+/// Checks inputs of the most bytes that are taken, and of one more.
+pub(crate) fn check_long_inputs(rt: &HostRuntime, plan: &Plan, history: &[u8]) -> Result<()> {
+    let most = MAX_INPUT_BYTES as usize;
+    for len in [most, most + 1] {
+        print!(rt; "{len} bytes: ")?;
+        let text = long_input(rt.alloc(), history, len)?;
+        print_answer(rt, answer_to(rt.alloc(), plan, text)?)?;
+    }
+    Ok(())
+}
