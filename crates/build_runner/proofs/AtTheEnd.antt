@@ -54,6 +54,14 @@ closed_nothing n w (e ∷ h) le all =
     let low : e.worker.0 < n = all 0 e (omega arith) in
     rw (ne_eqb e.worker.0 w.0 (λ is. absurd (omega (arith, low, le, is)))) (closed_nothing n w h le (rest_of n e h all))
 
+-- what worker i closed in the book, its pass saw
+pub closings_in : (ps : List PassView) (n : ℕ) (b : BookView) → map (λ (p : PassView). p.sight.worker.0) ps ≡ workers_from 0 n → All (λ (p : PassView). Agrees p.sight.worker p.sight.seen b) ps
+    → (i : ℕ) (p : PassView) → i < n → closed_by (record { 0 = i }) b.history ≡ closed_by (get_or ps i p).sight.worker (get_or ps i p).sight.seen.history
+closings_in ps n b are agrees i p low =
+    let count = passes_count ps n are in
+    let own : PassView = get_or ps i p in
+    subst (λ (w : WorkerId). closed_by w b.history ≡ closed_by own.sight.worker own.sight.seen.history) (worker_at ps n i p are low) (agrees i p (omega (arith, count, low))).closings
+
 module _ (known : Option Folder) (units : List PlannedUnit) (before after : ℕ → ℕ) (ps : List PassView) (n : ℕ) (b : BookView)
     (are : map (λ (p : PassView). p.sight.worker.0) ps ≡ workers_from 0 n)
     (agrees : All (λ (p : PassView). Agrees p.sight.worker p.sight.seen b) ps)
@@ -67,9 +75,7 @@ module _ (known : Option Folder) (units : List PlannedUnit) (before after : ℕ 
   pass i low = get_or ps i (element ps i (within i low))
 
   closings_of : (i : ℕ) (low : i < n) → closed_by (record { 0 = i }) b.history ≡ closed_by (pass i low).sight.worker (pass i low).sight.seen.history
-  closings_of i low =
-      let d : PassView = element ps i (within i low) in
-      subst (λ (w : WorkerId). closed_by w b.history ≡ closed_by (pass i low).sight.worker (pass i low).sight.seen.history) (worker_at ps n i d are low) (agrees i d (within i low)).closings
+  closings_of i low = closings_in ps n b are agrees i (element ps i (within i low)) low
 
   pub all_faults : (i : ℕ) → i < n → after i < 2 ^ 64 - 1 → faults_by (record { 0 = i }) b.history + before i ≤ after i
   all_faults i low lt =

@@ -19,16 +19,15 @@ use Rattle.plan_reader.specs.Units.{PlannedUnit}
 use Rattle.run_laws.specs.Answers.{IsHonestWorker}
 use Rattle.run_laws.specs.ClosedBy.{closed_at, closed_by, closed_in, closed_of, faults_by, faults_in}
 use Rattle.run_laws.proofs.Growing.{closed_by-push}
-use Rattle.coordination.specs.Agrees.{Agrees, Finds}
+use Rattle.coordination.specs.Agrees.{Finds}
 use Rattle.coordination.specs.Attempts.{Cause, Making}
 use Rattle.coordination.specs.Calls.{AskedInVain, HasFailed, HasFinished, HasLooked, HasStopped, IsAnswered, WasStopped}
-use Rattle.coordination.specs.Sights.{hearing, seeing, stopping}
 use Rattle.coordination.specs.declared.halts.Halt.{Halt}
 use Rattle.coordination.specs.declared.rule.Sight.{Sight}
 use Rattle.build_runner.specs.Kept.{HasClosed, Keeps}
 use Rattle.build_runner.specs.Units.{given}
 
-all_append : {X : Type 0} (P : X → Type 0) (xs ys : List X) → AllByRecursion P xs → AllByRecursion P ys → AllByRecursion P (xs ++ ys)
+pub all_append : {X : Type 0} (P : X → Type 0) (xs ys : List X) → AllByRecursion P xs → AllByRecursion P ys → AllByRecursion P (xs ++ ys)
 all_append P [] ys a b = b
 all_append P (x ∷ xs) ys a b = (a.0, all_append P xs ys a.1 b)
 

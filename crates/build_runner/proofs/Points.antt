@@ -1,5 +1,5 @@
 -- What a worker has at one point of a run, by what it had at the point before.
-use Rattle.std.proofs.Common.{arith, Some, Result, Ok, ◌≡◌, ℕ, zero, suc, ◌<◌, Bool, true, false, cond, List, [], ◌∷◌, ◌++◌, inl, inr, refl, sym, ap, ◌∙◌, subst, Contains}
+use Rattle.std.proofs.Common.{arith, Some, Result, Ok, ◌≡◌, ℕ, ◌<◌, Bool, true, false, cond, List, [], ◌∷◌, ◌++◌, inl, inr, refl, sym, ap, ◌∙◌, subst, Contains}
 use Rattle.std.specs.Prelude.{nat_lt}
 use Rattle.std.specs.List.{list_all, list_any}
 use Rattle.std.proofs.lemmas.Bool.{eq-eqb, false≢true, le-ltb}
@@ -8,7 +8,7 @@ use Rattle.resource_lock.specs.Change.{holding_after, same_mark, without_last}
 use Rattle.resource_lock.specs.GraphView.{GraphView, action_of, task_of}
 use Rattle.resource_lock.specs.Fits.{Fits}
 use Rattle.resource_lock.specs.Ranges.{IsActionOf, IsFetchOf, actions_of, lock_with, task_with, units_of}
-use Rattle.resource_lock.specs.StateView.{Holding, StateView, empty_holding, holding_of, mark_of, runs_by, stands_in}
+use Rattle.resource_lock.specs.StateView.{Holding, StateView, holding_of, mark_of, runs_by, stands_in}
 use Rattle.resource_lock.specs.declared.changes.Change.{Change}
 use Rattle.resource_lock.specs.declared.changes.Change.TheVariants.{Unlock, Give, Move}
 use Rattle.resource_lock.specs.declared.graphs.GraphAction.{GraphAction}
@@ -31,9 +31,9 @@ use Rattle.coordination.specs.Holds.{HoldsNothing}
 use Rattle.coordination.specs.Shown.{Shows, ShowsTheSame, blocked_shown, claimed_shown, lease_shown, locks_shown, parked_shown}
 use Rattle.coordination.specs.declared.rule.Sight.{Sight}
 use Rattle.coordination.proofs.Shown.{failed_shows, shows_left}
-use Rattle.async_tracker.specs.Shows.{IsFree, IsIdleOrParked, OwnsToPark, is_action, is_unit, locks_on_park, parked_on_park, ShowsParked, ShowsResumed, WorksOn}
+use Rattle.async_tracker.specs.Shows.{IsIdleOrParked, OwnsToPark, is_action, is_unit, locks_on_park, parked_on_park, ShowsParked, ShowsResumed, WorksOn}
 use Rattle.blocking_section.specs.Sections.{HasSetDown, HasTakenUp}
-use Rattle.build_runner.specs.Points.{CanHelp, HasReleasedTask, IsFetchIn, IsInTask, RunsTask}
+use Rattle.build_runner.specs.Points.{CanHelp, IsFetchIn, IsInTask, RunsTask}
 
 not_below : (n : ℕ) → nat_lt n n ≡ false
 not_below n = le-ltb n n (omega arith)
@@ -59,6 +59,17 @@ by_parts : (h : Holding) (leased : Bool) (put_by : List LockId) (b : Bool) → h
 by_parts h leased put_by b e f k = λ i. record { lease = e i; parked = f i; blocked = k i }
 
 -- what the pass shows is what it showed
+
+pub shows_then : {a b c : Sight} → ShowsTheSame a b → ShowsTheSame b c → ShowsTheSame a c
+shows_then p q = record {
+  worker = q.worker ∙ p.worker;
+  graph = q.graph ∙ p.graph;
+  locks = q.locks ∙ p.locks;
+  lease = q.lease ∙ p.lease;
+  claimed = q.claimed ∙ p.claimed;
+  parked = q.parked ∙ p.parked;
+  blocked = q.blocked ∙ p.blocked;
+}
 
 pub same_rests : {a c : Sight} → ShowsTheSame a c → HoldsNothing a → HoldsNothing c
 same_rests {a} {c} same rests = record {

@@ -13,11 +13,11 @@ use Rattle.build_runner.proofs.Numbered.{element}
 pub written_back : {X : Type 0} (xs ys : List X) (n : ℕ) → length xs ≡ n → take n (xs ++ drop (length xs) ys) ≡ xs
 written_back xs ys n is = take_at xs (drop (length xs) ys) n is
 
--- what holds of each pass holds of each worker's
-pub of_each : {W : Type 0} (pass : W → PassView) (P : PassView → Type 0) (ws : List W) (ps : List PassView) → map pass ws ≡ ps → All P ps → All (λ w. P (pass w)) ws
-of_each pass P ws ps is all k d low =
-    let l : k < length (map pass ws) = omega (arith, length-map ws pass, low) in
-    subst P (get_or-map pass ws k d (pass d) low) (subst (All P) (sym is) all k (pass d) l)
+-- what holds of each of these holds of what each is made of, as of each pass and of each worker's
+pub of_each : {W V : Type 0} (part : W → V) (P : V → Type 0) (ws : List W) (vs : List V) → map part ws ≡ vs → All P vs → All (λ w. P (part w)) ws
+of_each part P ws vs is all k d low =
+    let l : k < length (map part ws) = omega (arith, length-map ws part, low) in
+    subst P (get_or-map part ws k d (part d) low) (subst (All P) (sym is) all k (part d) l)
 
 pub worked_as : {known known' : Option Folder} {units units' : List PlannedUnit} {before before' after after' : ℕ} {old old' new new' : PassView} {ended ended' : Bool}
     → known' ≡ known → units' ≡ units → before' ≡ before → after' ≡ after → old' ≡ old → new' ≡ new → (ended' ≡ true → ended ≡ true)
@@ -59,3 +59,17 @@ module _ {W D : Type 0} (pass : W → PassView) (desk : W → D) (ended : W → 
       let before : get_or passes i p ≡ pass (get_or old i w) = ap (λ (l : List PassView). get_or l i p) (sym passes_are) ∙ get_or-map pass old i w p l in
       let after : get_or left i p ≡ pass (get_or new i w) = ap (λ (l : List PassView). get_or l i p) (sym left_are) ∙ get_or-map pass new i w p m in
       worked_as (ap files was) refl (ap faults was) (ap faults is) before after (λ t. all t i w m) (each i w l)
+
+  -- what holds of each worker, of its desk and its pass before and after, holds of the desks and the passes
+  pub each_related : (R : D → D → PassView → PassView → Type 0) (r : Bool) → (r ≡ true → All (λ w. ended w ≡ true) new)
+      → ((i : ℕ) (w : W) → i < length old → ended (get_or new i w) ≡ true → R (desk (get_or old i w)) (desk (get_or new i w)) (pass (get_or old i w)) (pass (get_or new i w)))
+      → (i : ℕ) (p : PassView) (d : D) → i < length mine → r ≡ true → R (get_or mine i d) (get_or desks i d) (get_or passes i p) (get_or left i p)
+  each_related R r all each i p d low is =
+      let l : i < length old = omega (arith, count, low) in
+      let m : i < length new = omega (arith, long, l) in
+      let w : W = element old i l in
+      let was : get_or mine i d ≡ desk (get_or old i w) = ap (λ (l : List D). get_or l i d) (sym mine_are) ∙ get_or-map desk old i w d l in
+      let now : get_or desks i d ≡ desk (get_or new i w) = ap (λ (l : List D). get_or l i d) (sym desks_are) ∙ get_or-map desk new i w d m in
+      let before : get_or passes i p ≡ pass (get_or old i w) = ap (λ (l : List PassView). get_or l i p) (sym passes_are) ∙ get_or-map pass old i w p l in
+      let after : get_or left i p ≡ pass (get_or new i w) = ap (λ (l : List PassView). get_or l i p) (sym left_are) ∙ get_or-map pass new i w p m in
+      rw (was, now, before, after) (each i w l (all is i w m))

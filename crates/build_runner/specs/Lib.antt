@@ -1,9 +1,10 @@
-pub mod CanRun
 pub mod Units
 pub mod Choices
 pub mod Parked
 pub mod Kept
+pub mod Sent
 pub mod Points
 pub mod Worked
 pub mod Team
+pub mod Prepared
 pub mod Run

@@ -1,15 +1,14 @@
 -- What a worker has at each point of a run.
 use Rattle.std.specs.Prelude.{ℕ, ◌≡◌, ◌⊎◌, true, false, [], ◌∷◌, All}
-use Rattle.resource_lock.specs.GraphView.{GraphView, task_of, action_of}
+use Rattle.resource_lock.specs.GraphView.{GraphView, task_of}
 use Rattle.resource_lock.specs.Ranges.{IsFetchOf, task_with}
-use Rattle.resource_lock.specs.declared.marks.MarkId.TheVariants.{Task as TaskOf, Action as ActionOf}
+use Rattle.resource_lock.specs.declared.marks.MarkId.TheVariants.{Task as TaskOf}
 use Rattle.run_laws.specs.Marks.{IsEnded}
 use Rattle.coordination.specs.Agrees.{IsSound}
 use Rattle.coordination.specs.Holds.{HoldsNothing}
 use Rattle.coordination.specs.Shown.{blocked_shown, claimed_shown, lease_shown, locks_shown, parked_shown}
 use Rattle.coordination.specs.declared.rule.Sight.{Sight}
-use Rattle.async_tracker.specs.ParkedView.{ParkedView}
-use Rattle.async_tracker.specs.Shows.{IsFree, IsIdleOrParked, IsParkedBy}
+use Rattle.async_tracker.specs.Shows.{IsFree, IsIdleOrParked}
 
 -- The worker runs the task, with its lock and a lease, and nothing else.
 pub record RunsTask (t : ℕ) (s : Sight) : Type 0 where

@@ -1,6 +1,7 @@
 -- The units of a plan by their numbers, and what each gives.
-use Rattle.std.specs.Prelude.{ℕ, ◌≡◌, List, None, slice_get}
+use Rattle.std.specs.Prelude.{ℕ, ◌≡◌, true, List, None, slice_get}
 use Rattle.item_actions.specs.Files.{Folder}
+use Rattle.item_actions.specs.Forms.{is_file_name}
 use Rattle.item_actions.specs.declared.outcomes.Outcome.{Outcome}
 use Rattle.plan_reader.specs.PlanView.{work_view}
 use Rattle.plan_reader.specs.Units.{PlannedUnit, item_unit, value_in}
@@ -16,6 +17,6 @@ unit_view (Item work) = item_unit (work_view work.now)
 abbrev pub given : List PlannedUnit → Folder → ℕ → Outcome
 given units files u = value_in files (slice_get units u)
 
--- the unit runs in the worker's own thread
-abbrev pub RunsInThread : PlannedUnit → Type 0
-RunsInThread u = u.process ≡ None
+-- the unit's file has the form of a file's name
+abbrev pub HasFileName : PlannedUnit → Type 0
+HasFileName u = is_file_name u.file ≡ true

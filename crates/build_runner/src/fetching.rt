@@ -8,25 +8,30 @@ ghost use Rattle.plan_reader.specs.Units.{value_in};
 ghost use Rattle.worker_desk.specs.SinkView.{Rises};
 ghost use Rattle.build_runner.specs.Kept.{HasClosed, Keeps};
 ghost use Rattle.build_runner.specs.Points.{IsFetchIn, RunsTask};
+ghost use Rattle.build_runner.specs.Sent.{AreFetched, HasSent, sent_view};
 ghost use Rattle.build_runner.specs.Units.{given, unit_view};
 
 use crate::site::Site;
 use crate::units::UnitWork;
 use blocking_section::{Blocked, StillBlocked, enter, leave};
 use coordination::{Halt, Pass};
+use daemon_desk::Desk;
+use daemon_requirements::Linked;
 use item_actions::{ItemAction, Outcome};
 use lock_journal::Closed;
 use std::alloc::Global;
 use std::sync::Wait;
-use worker_desk::{Files, work_out};
+use worker_desk::work_out;
 
-/// What a fetch gives: the number of the file's bytes.
-fn fetched<F: Files>(alloc: Global, desk: &mut F, work: UnitWork<'_>) -> Outcome
-    ensures files { F.files desk.new ≡ F.files desk.old }
-    ensures count { F.faults desk.old ≤ F.faults desk.new }
+/// What a fetch gives: the number of the file's bytes. Reading sends nothing.
+fn fetched<D: Desk>(alloc: Global, desk: &mut D, work: UnitWork<'_>) -> Outcome
+    ensures files { D.files desk.new ≡ D.files desk.old }
+    ensures count { D.faults desk.old ≤ D.faults desk.new }
     ensures ran { result ≢ outcomes.Skipped }
-    ensures fault { result ≡ outcomes.Fault → Rises (F.faults desk.old) (F.faults desk.new) }
-    ensures honest { IfSome (F.files desk.old) (λ files. IsHonest result (value_in files (Some (unit_view work.entry)))) }
+    ensures fault { result ≡ outcomes.Fault → Rises (D.faults desk.old) (D.faults desk.new) }
+    ensures honest { IfSome (D.files desk.old) (λ files. IsHonest result (value_in files (Some (unit_view work.entry)))) }
+    ensures sends { D.sends desk.new ≡ D.sends desk.old }
+    ensures sent { D.sent desk.new ≡ D.sent desk.old }
 {
     match work {
         UnitWork::Fetch(file) => work_out(alloc, &ItemAction::Bytes, file, desk),
@@ -35,21 +40,23 @@ fn fetched<F: Files>(alloc: Global, desk: &mut F, work: UnitWork<'_>) -> Outcome
 }
 
 /// Reads a fetch, by its number.
-fn read_fetch<F: Files, G>(site: &Site<'_, G>, desk: &mut F, unit: u32) -> Outcome
+fn read_fetch<D: Desk, G, L: Linked>(site: &Site<'_, G, L>, desk: &mut D, unit: u32) -> Outcome
     requires within { unit < length site.now.units.now }
-    ensures files { F.files desk.new ≡ F.files desk.old }
-    ensures count { F.faults desk.old ≤ F.faults desk.new }
+    ensures files { D.files desk.new ≡ D.files desk.old }
+    ensures count { D.faults desk.old ≤ D.faults desk.new }
     ensures ran { result ≢ outcomes.Skipped }
-    ensures fault { result ≡ outcomes.Fault → Rises (F.faults desk.old) (F.faults desk.new) }
-    ensures honest { IfSome (F.files desk.old) (λ files. IsHonest result (given (map unit_view site.now.units.now) files unit)) }
+    ensures fault { result ≡ outcomes.Fault → Rises (D.faults desk.old) (D.faults desk.new) }
+    ensures honest { IfSome (D.files desk.old) (λ files. IsHonest result (given (map unit_view site.now.units.now) files unit)) }
+    ensures sends { D.sends desk.new ≡ D.sends desk.old }
+    ensures sent { D.sent desk.new ≡ D.sent desk.old }
 {
     fetched(site.alloc, desk, site.units[unit as usize])
 }
 
 /// Gives back the lease and the lock round the reading of a fetch of the worker's task.
-fn enter_for<R: Wait, G>(
+fn enter_for<R: Wait, G, L: Linked>(
     rt: &R,
-    site: &Site<'_, G>,
+    site: &Site<'_, G, L>,
     pass: &mut Pass,
     task: u32,
     unit: u32,
@@ -69,9 +76,9 @@ fn enter_for<R: Wait, G>(
 }
 
 /// Takes the lease and the lock again, and closes the fetch with what it gave.
-fn leave_with<R: Wait, G>(
+fn leave_with<R: Wait, G, L: Linked>(
     rt: &R,
-    site: &Site<'_, G>,
+    site: &Site<'_, G, L>,
     pass: &mut Pass,
     blocked: Blocked,
     closed: Closed,
@@ -96,11 +103,11 @@ fn leave_with<R: Wait, G>(
 /// Reads the file that a task fetches before an action's items, with neither lock nor lease.
 ///
 /// The worker has both again then. It fails for want of memory, and where the service was stopped.
-pub(crate) fn fetch<R: Wait, F: Files, G>(
+pub(crate) fn fetch<R: Wait, D: Desk, G, L: Linked>(
     rt: &R,
-    site: &Site<'_, G>,
+    site: &Site<'_, G, L>,
     pass: &mut Pass,
-    desk: &mut F,
+    desk: &mut D,
     task: u32,
     unit: u32,
 ) -> Result<(), Halt>
@@ -108,11 +115,13 @@ pub(crate) fn fetch<R: Wait, F: Files, G>(
     requires graph { pass.old.sight.seen.graph ≡ site.now.graph.now }
     requires units { site.now.graph.now.units ≡ length site.now.units.now }
     requires within { unit < site.now.graph.now.units }
+    requires fetches { AreFetched site.now.graph.now (map unit_view site.now.units.now) }
     requires fetch { IsFetchIn site.now.graph.now task unit }
     requires runs { RunsTask task pass.old.sight }
     ensures service { pass.new.service ≡ pass.old.service }
-    ensures files { F.files desk.new ≡ F.files desk.old }
-    ensures keeps { Keeps (F.files desk.old) (map unit_view site.now.units.now) (F.faults desk.old) (F.faults desk.new) pass.old.sight pass.new.sight }
+    ensures files { D.files desk.new ≡ D.files desk.old }
+    ensures keeps { Keeps (D.files desk.old) (map unit_view site.now.units.now) (D.faults desk.old) (D.faults desk.new) pass.old.sight pass.new.sight }
+    ensures sent { OnOk result (HasSent (map unit_view site.now.units.now) (sent_view D.sends D.sent desk.old) (sent_view D.sends D.sent desk.new) pass.old.sight pass.new.sight) }
     ensures runs { OnOk result (RunsTask task pass.new.sight) }
 {
     let blocked = enter_for(rt, site, pass, task, unit)?;

@@ -3,20 +3,28 @@ ghost use Rattle.std.specs.Prelude.{◌≡◌, [], All, OnOk, length, map};
 ghost use Rattle.coordination.specs.Holds.{HoldsNothing};
 ghost use Rattle.build_runner.specs.Kept.{HasClosed, Keeps};
 ghost use Rattle.build_runner.specs.Points.{HasFinishedWork};
-ghost use Rattle.build_runner.specs.Units.{RunsInThread, unit_view};
+ghost use Rattle.build_runner.specs.Sent.{AreFetched, HasSent, sent_view};
+ghost use Rattle.build_runner.specs.Units.{HasFileName, unit_view};
 
 use crate::choices::{Choice, WhatIsNext};
 use crate::items::help;
 use crate::site::Site;
 use crate::tasks::run_task;
 use coordination::{Halt, Pass};
+use daemon_desk::Desk;
+use daemon_requirements::Linked;
 use lock_journal::kinds::Skip;
 use run_laws::only_items_are_queued;
 use std::sync::Wait;
-use worker_desk::{Files, Gate};
+use worker_desk::Gate;
 
 /// Skips a task, unless it can't be skipped any more.
-fn skip<R: Wait, G>(rt: &R, site: &Site<'_, G>, pass: &mut Pass, task: u32) -> Result<(), Halt>
+fn skip<R: Wait, G, L: Linked>(
+    rt: &R,
+    site: &Site<'_, G, L>,
+    pass: &mut Pass,
+    task: u32,
+) -> Result<(), Halt>
     requires service { pass.old.service ≡ site.now.service.now.service }
     requires rests { HoldsNothing pass.old.sight }
     ensures service { pass.new.service ≡ pass.old.service }
@@ -30,20 +38,22 @@ fn skip<R: Wait, G>(rt: &R, site: &Site<'_, G>, pass: &mut Pass, task: u32) -> R
 /// Works until all tasks have ended: claims items, skips tasks and runs tasks.
 ///
 /// The worker has nothing then. It fails for want of memory, and where the service was stopped.
-pub(crate) fn work_to_the_end<R: Wait, F: Files, G: Gate>(
+pub(crate) fn work_to_the_end<R: Wait, D: Desk, G: Gate>(
     rt: &R,
-    site: &Site<'_, G>,
+    site: &Site<'_, G, D::Link>,
     pass: &mut Pass,
-    desk: &mut F,
+    desk: &mut D,
 ) -> Result<(), Halt>
     requires service { pass.old.service ≡ site.now.service.now.service }
     requires graph { pass.old.sight.seen.graph ≡ site.now.graph.now }
     requires units { site.now.graph.now.units ≡ length site.now.units.now }
-    requires in_thread { All (λ u. RunsInThread (unit_view u)) site.now.units.now }
+    requires fetches { AreFetched site.now.graph.now (map unit_view site.now.units.now) }
+    requires named { All (λ u. HasFileName (unit_view u)) site.now.units.now }
     requires rests { HoldsNothing pass.old.sight }
     ensures service { pass.new.service ≡ pass.old.service }
-    ensures files { F.files desk.new ≡ F.files desk.old }
-    ensures keeps { Keeps (F.files desk.old) (map unit_view site.now.units.now) (F.faults desk.old) (F.faults desk.new) pass.old.sight pass.new.sight }
+    ensures files { D.files desk.new ≡ D.files desk.old }
+    ensures keeps { Keeps (D.files desk.old) (map unit_view site.now.units.now) (D.faults desk.old) (D.faults desk.new) pass.old.sight pass.new.sight }
+    ensures sent { OnOk result (HasSent (map unit_view site.now.units.now) (sent_view D.sends D.sent desk.old) (sent_view D.sends D.sent desk.new) pass.old.sight pass.new.sight) }
     ensures finished { OnOk result (HasFinishedWork pass.new.sight) }
 {
     // The graph fits, so what is queued is an item.

@@ -1,6 +1,7 @@
 //! An item that a worker claims, runs and closes, and a fetch that it reads.
 ghost use Rattle.std.specs.Prelude.{◌≡◌, ◌≢◌, ◌≤◌, ◌<◌, ◌∷◌, [], Contains, All, IfSome, Ok, OnErr, OnOk, Some, length, map, true};
-ghost use Rattle.item_actions.specs.Value.{IsHonest};
+ghost use Rattle.item_actions.specs.Value.{IsHonest, value_on};
+ghost use Rattle.item_actions.specs.declared.actions.ItemAction.TheVariants as actions;
 ghost use Rattle.item_actions.specs.declared.outcomes.Outcome.TheVariants as outcomes;
 ghost use Rattle.resource_lock.specs.declared.marks.MarkId.TheVariants as ids;
 ghost use Rattle.coordination.specs.Shown.{ShowsTheSame, claimed_shown, lease_shown};
@@ -9,70 +10,90 @@ ghost use Rattle.plan_reader.specs.Units.{value_in};
 ghost use Rattle.worker_desk.specs.SinkView.{Rises};
 ghost use Rattle.build_runner.specs.Kept.{HasClosed, Keeps};
 ghost use Rattle.build_runner.specs.Points.{CanHelp};
-ghost use Rattle.build_runner.specs.Units.{RunsInThread, given, unit_view};
+ghost use Rattle.build_runner.specs.Sent.{HasSent, SentFor, SentForUnit, sent_view};
+ghost use Rattle.build_runner.specs.Units.{HasFileName, given, unit_view};
 
 use crate::site::Site;
 use crate::units::UnitWork;
 use async_tracker::{claim, close, closing_undoes_claiming};
 use coordination::{Halt, Pass};
-use item_actions::{ItemAction, Outcome};
+use daemon_desk::Desk;
+use daemon_requirements::Linked;
+use item_actions::{ItemAction, Outcome, Text};
 use lease_service::{Lease, current_lease};
 use lock_journal::Closed;
 use std::alloc::Global;
 use std::sync::Wait;
 use work_queue::run_item;
-use worker_desk::{Files, Gate, work_out};
+use worker_desk::{Gate, work_out};
 
 /// What a unit gives.
-fn outcome_of<F: Files>(
-    alloc: Global,
+fn outcome_of<R: Wait, D: Desk, G>(
+    rt: &R,
+    site: &Site<'_, G, D::Link>,
     lease: &Lease<'_>,
-    desk: &mut F,
+    desk: &mut D,
     unit: u32,
     work: UnitWork<'_>,
 ) -> Outcome
     requires claimed { Contains (claimed_shown lease.now.sight) (ids.Unit unit) }
-    requires in_thread { RunsInThread (unit_view work) }
-    ensures files { F.files desk.new ≡ F.files desk.old }
-    ensures count { F.faults desk.old ≤ F.faults desk.new }
+    requires named { HasFileName (unit_view work) }
+    ensures files { D.files desk.new ≡ D.files desk.old }
+    ensures count { D.faults desk.old ≤ D.faults desk.new }
     ensures ran { result ≢ outcomes.Skipped }
-    ensures fault { result ≡ outcomes.Fault → Rises (F.faults desk.old) (F.faults desk.new) }
-    ensures honest { IfSome (F.files desk.old) (λ files. IsHonest result (value_in files (Some (unit_view work.entry)))) }
+    ensures fault { result ≡ outcomes.Fault → Rises (D.faults desk.old) (D.faults desk.new) }
+    ensures honest { IfSome (D.files desk.old) (λ files. IsHonest result (value_in files (Some (unit_view work.entry)))) }
+    ensures sent { SentForUnit (Some (unit_view work.entry)) (record { unit = unit; outcome = result }) (sent_view D.sends D.sent desk.old) (sent_view D.sends D.sent desk.new) }
 {
     match work {
-        UnitWork::Item(work) => run_item(alloc, lease, desk, unit, work),
-        UnitWork::Fetch(file) => work_out(alloc, &ItemAction::Bytes, file, desk),
+        UnitWork::Item(work) => run_item(rt, site.alloc, lease, desk, site.pool, unit, work),
+        UnitWork::Fetch(file) => read_file(site.alloc, desk, file),
     }
 }
 
+/// The number of a file's bytes. Reading sends nothing.
+fn read_file<D: Desk>(alloc: Global, desk: &mut D, file: &Text) -> Outcome
+    ensures files { D.files desk.new ≡ D.files desk.old }
+    ensures count { D.faults desk.old ≤ D.faults desk.new }
+    ensures ran { result ≢ outcomes.Skipped }
+    ensures fault { result ≡ outcomes.Fault → Rises (D.faults desk.old) (D.faults desk.new) }
+    ensures honest { IfSome (D.files desk.old) (λ known. IsHonest result (value_on known actions.Bytes file.now)) }
+    ensures sends { D.sends desk.new ≡ D.sends desk.old }
+    ensures sent { D.sent desk.new ≡ D.sent desk.old }
+{
+    work_out(alloc, &ItemAction::Bytes, file, desk)
+}
+
 /// Runs a unit that the worker has claimed, and says what it gives.
-fn run_claimed<F: Files, G: Gate>(
-    site: &Site<'_, G>,
+fn run_claimed<R: Wait, D: Desk, G: Gate>(
+    rt: &R,
+    site: &Site<'_, G, D::Link>,
     pass: &Pass,
-    desk: &mut F,
+    desk: &mut D,
     unit: u32,
 ) -> Outcome
     requires lease { lease_shown pass.now.sight ≡ true }
     requires claimed { Contains (claimed_shown pass.now.sight) (ids.Unit unit) }
     requires within { unit < length site.now.units.now }
-    requires in_thread { All (λ u. RunsInThread (unit_view u)) site.now.units.now }
-    ensures files { F.files desk.new ≡ F.files desk.old }
-    ensures count { F.faults desk.old ≤ F.faults desk.new }
+    requires named { All (λ u. HasFileName (unit_view u)) site.now.units.now }
+    ensures files { D.files desk.new ≡ D.files desk.old }
+    ensures count { D.faults desk.old ≤ D.faults desk.new }
     ensures ran { result ≢ outcomes.Skipped }
-    ensures fault { result ≡ outcomes.Fault → Rises (F.faults desk.old) (F.faults desk.new) }
-    ensures honest { IfSome (F.files desk.old) (λ files. IsHonest result (given (map unit_view site.now.units.now) files unit)) }
+    ensures fault { result ≡ outcomes.Fault → Rises (D.faults desk.old) (D.faults desk.new) }
+    ensures honest { IfSome (D.files desk.old) (λ files. IsHonest result (given (map unit_view site.now.units.now) files unit)) }
+    ensures sent { SentFor (map unit_view site.now.units.now) (record { unit = unit; outcome = result }) (sent_view D.sends D.sent desk.old) (sent_view D.sends D.sent desk.new) }
 {
     let Some(lease) = current_lease(pass) else {
         unreachable!()
     };
     site.gate.enter(pass.worker().0, unit);
-    outcome_of(site.alloc, &lease, desk, unit, site.units[unit as usize])
+    outcome_of(rt, site, &lease, desk, unit, site.units[unit as usize])
 }
 
 /// Claims an item. False says that it isn't queued any more.
-fn claim_item<R: Wait, G>(
+fn claim_item<R: Wait, G, L: Linked>(
     rt: &R,
-    site: &Site<'_, G>,
+    site: &Site<'_, G, L>,
     pass: &mut Pass,
     unit: u32,
 ) -> Result<bool, Halt>
@@ -88,9 +109,9 @@ fn claim_item<R: Wait, G>(
 }
 
 /// Closes an item that the worker has claimed.
-fn close_item<R: Wait, G>(
+fn close_item<R: Wait, G, L: Linked>(
     rt: &R,
-    site: &Site<'_, G>,
+    site: &Site<'_, G, L>,
     pass: &mut Pass,
     closed: Closed,
 ) -> Result<(), Halt>
@@ -113,27 +134,28 @@ fn close_item<R: Wait, G>(
 /// Claims an item, runs it and closes it, unless another worker was faster.
 ///
 /// The pass then shows what it showed. It fails for want of memory, and where the service was stopped.
-pub(crate) fn help<R: Wait, F: Files, G: Gate>(
+pub(crate) fn help<R: Wait, D: Desk, G: Gate>(
     rt: &R,
-    site: &Site<'_, G>,
+    site: &Site<'_, G, D::Link>,
     pass: &mut Pass,
-    desk: &mut F,
+    desk: &mut D,
     unit: u32,
 ) -> Result<(), Halt>
     requires service { pass.old.service ≡ site.now.service.now.service }
     requires item { IsItemHere pass.old.sight.seen.graph unit }
     requires helps { CanHelp pass.old.sight }
     requires within { unit < length site.now.units.now }
-    requires in_thread { All (λ u. RunsInThread (unit_view u)) site.now.units.now }
+    requires named { All (λ u. HasFileName (unit_view u)) site.now.units.now }
     ensures service { pass.new.service ≡ pass.old.service }
-    ensures files { F.files desk.new ≡ F.files desk.old }
-    ensures keeps { Keeps (F.files desk.old) (map unit_view site.now.units.now) (F.faults desk.old) (F.faults desk.new) pass.old.sight pass.new.sight }
+    ensures files { D.files desk.new ≡ D.files desk.old }
+    ensures keeps { Keeps (D.files desk.old) (map unit_view site.now.units.now) (D.faults desk.old) (D.faults desk.new) pass.old.sight pass.new.sight }
+    ensures sent { OnOk result (HasSent (map unit_view site.now.units.now) (sent_view D.sends D.sent desk.old) (sent_view D.sends D.sent desk.new) pass.old.sight pass.new.sight) }
     ensures shows { OnOk result (ShowsTheSame pass.old.sight pass.new.sight) }
 {
     closing_undoes_claiming();
     if !claim_item(rt, site, pass, unit)? {
         return Ok(());
     }
-    let outcome = run_claimed(site, pass, desk, unit);
+    let outcome = run_claimed(rt, site, pass, desk, unit);
     close_item(rt, site, pass, Closed { unit, outcome })
 }

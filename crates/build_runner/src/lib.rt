@@ -1,13 +1,16 @@
-//! Runs a plan on several threads: each worker has a pass and a desk, and all share one book.
+//! Runs a plan on several threads: each worker has a pass and a desk, and all share one book and one
+//! pool of worker daemons.
 #![tactic(auto)]
 
 mod choices;
+mod daemons;
 mod fetching;
-mod forms;
 mod idle;
 mod items;
 mod options;
+mod prepared;
 mod ready;
+mod run_end;
 mod runs;
 mod site;
 mod tasks;
@@ -15,6 +18,6 @@ mod team;
 mod units;
 mod waiting;
 
-pub use forms::can_run;
 pub use options::RunOptions;
+pub use run_end::RunEnd;
 pub use runs::run_plan;

@@ -7,37 +7,42 @@ ghost use Rattle.async_tracker.specs.Shows.{IsParkedBy, ShowsParked};
 ghost use Rattle.coordination.specs.Holds.{HoldsNothing};
 ghost use Rattle.build_runner.specs.Kept.{HasClosed, Keeps};
 ghost use Rattle.build_runner.specs.Points.{CanHelp, IsInTask, RunsTask};
-ghost use Rattle.build_runner.specs.Units.{RunsInThread, unit_view};
+ghost use Rattle.build_runner.specs.Sent.{AreFetched, HasSent, sent_view};
+ghost use Rattle.build_runner.specs.Units.{HasFileName, unit_view};
 
 use crate::fetching::fetch;
 use crate::site::Site;
 use crate::waiting::wait_for_items;
 use async_tracker::{Parked, park, submit};
 use coordination::{Halt, Pass};
+use daemon_desk::Desk;
+use daemon_requirements::Linked;
 use lock_journal::kinds::{End, Start};
 use resource_lock::{Graph, GraphAction};
 use std::ops::Range;
 use std::sync::Wait;
-use worker_desk::{Files, Gate};
+use worker_desk::Gate;
 
 /// Reads the file that an action fetches, if it has a fetch.
-fn fetch_first<R: Wait, F: Files, G>(
+fn fetch_first<R: Wait, D: Desk, G>(
     rt: &R,
-    site: &Site<'_, G>,
+    site: &Site<'_, G, D::Link>,
     pass: &mut Pass,
-    desk: &mut F,
+    desk: &mut D,
     task: u32,
     action: u32,
 ) -> Result<(), Halt>
     requires service { pass.old.service ≡ site.now.service.now.service }
     requires graph { pass.old.sight.seen.graph ≡ site.now.graph.now }
     requires units { site.now.graph.now.units ≡ length site.now.units.now }
+    requires fetches { AreFetched site.now.graph.now (map unit_view site.now.units.now) }
     requires task { task < length site.now.graph.now.tasks }
     requires action { IsActionOf site.now.graph.now task action }
     requires runs { RunsTask task pass.old.sight }
     ensures service { pass.new.service ≡ pass.old.service }
-    ensures files { F.files desk.new ≡ F.files desk.old }
-    ensures keeps { Keeps (F.files desk.old) (map unit_view site.now.units.now) (F.faults desk.old) (F.faults desk.new) pass.old.sight pass.new.sight }
+    ensures files { D.files desk.new ≡ D.files desk.old }
+    ensures keeps { Keeps (D.files desk.old) (map unit_view site.now.units.now) (D.faults desk.old) (D.faults desk.new) pass.old.sight pass.new.sight }
+    ensures sent { OnOk result (HasSent (map unit_view site.now.units.now) (sent_view D.sends D.sent desk.old) (sent_view D.sends D.sent desk.new) pass.old.sight pass.new.sight) }
     ensures runs { OnOk result (RunsTask task pass.new.sight) }
 {
     let found = action_of(site.graph, task, action);
@@ -61,9 +66,9 @@ fn action_of(graph: &Graph, task: u32, action: u32) -> GraphAction
 }
 
 /// Queues the items of an action of the worker's task, and parks.
-fn queue_items<R: Wait, G>(
+fn queue_items<R: Wait, G, L: Linked>(
     rt: &R,
-    site: &Site<'_, G>,
+    site: &Site<'_, G, L>,
     pass: &mut Pass,
     task: u32,
     action: u32,
@@ -90,24 +95,26 @@ fn queue_items<R: Wait, G>(
 /// Runs an action of the worker's task: its fetch, if it has one, and its items, which other workers
 /// run too. It says whether the worker goes on with the next action: no unit of this one failed, and
 /// the worker has its lease again.
-fn run_action<R: Wait, F: Files, G: Gate>(
+fn run_action<R: Wait, D: Desk, G: Gate>(
     rt: &R,
-    site: &Site<'_, G>,
+    site: &Site<'_, G, D::Link>,
     pass: &mut Pass,
-    desk: &mut F,
+    desk: &mut D,
     task: u32,
     action: u32,
 ) -> Result<bool, Halt>
     requires service { pass.old.service ≡ site.now.service.now.service }
     requires graph { pass.old.sight.seen.graph ≡ site.now.graph.now }
     requires units { site.now.graph.now.units ≡ length site.now.units.now }
-    requires in_thread { All (λ u. RunsInThread (unit_view u)) site.now.units.now }
+    requires fetches { AreFetched site.now.graph.now (map unit_view site.now.units.now) }
+    requires named { All (λ u. HasFileName (unit_view u)) site.now.units.now }
     requires task { task < length site.now.graph.now.tasks }
     requires action { IsActionOf site.now.graph.now task action }
     requires runs { RunsTask task pass.old.sight }
     ensures service { pass.new.service ≡ pass.old.service }
-    ensures files { F.files desk.new ≡ F.files desk.old }
-    ensures keeps { Keeps (F.files desk.old) (map unit_view site.now.units.now) (F.faults desk.old) (F.faults desk.new) pass.old.sight pass.new.sight }
+    ensures files { D.files desk.new ≡ D.files desk.old }
+    ensures keeps { Keeps (D.files desk.old) (map unit_view site.now.units.now) (D.faults desk.old) (D.faults desk.new) pass.old.sight pass.new.sight }
+    ensures sent { OnOk result (HasSent (map unit_view site.now.units.now) (sent_view D.sends D.sent desk.old) (sent_view D.sends D.sent desk.new) pass.old.sight pass.new.sight) }
     ensures goes_on { result ≡ Ok true → RunsTask task pass.new.sight }
     ensures in_task { OnOk result (IsInTask task pass.new.sight) }
 {
@@ -118,22 +125,24 @@ fn run_action<R: Wait, F: Files, G: Gate>(
 }
 
 /// Runs the actions of the worker's task, up to the first with a unit that failed.
-fn run_actions<R: Wait, F: Files, G: Gate>(
+fn run_actions<R: Wait, D: Desk, G: Gate>(
     rt: &R,
-    site: &Site<'_, G>,
+    site: &Site<'_, G, D::Link>,
     pass: &mut Pass,
-    desk: &mut F,
+    desk: &mut D,
     task: u32,
 ) -> Result<(), Halt>
     requires service { pass.old.service ≡ site.now.service.now.service }
     requires graph { pass.old.sight.seen.graph ≡ site.now.graph.now }
     requires units { site.now.graph.now.units ≡ length site.now.units.now }
-    requires in_thread { All (λ u. RunsInThread (unit_view u)) site.now.units.now }
+    requires fetches { AreFetched site.now.graph.now (map unit_view site.now.units.now) }
+    requires named { All (λ u. HasFileName (unit_view u)) site.now.units.now }
     requires task { task < length site.now.graph.now.tasks }
     requires runs { RunsTask task pass.old.sight }
     ensures service { pass.new.service ≡ pass.old.service }
-    ensures files { F.files desk.new ≡ F.files desk.old }
-    ensures keeps { Keeps (F.files desk.old) (map unit_view site.now.units.now) (F.faults desk.old) (F.faults desk.new) pass.old.sight pass.new.sight }
+    ensures files { D.files desk.new ≡ D.files desk.old }
+    ensures keeps { Keeps (D.files desk.old) (map unit_view site.now.units.now) (D.faults desk.old) (D.faults desk.new) pass.old.sight pass.new.sight }
+    ensures sent { OnOk result (HasSent (map unit_view site.now.units.now) (sent_view D.sends D.sent desk.old) (sent_view D.sends D.sent desk.new) pass.old.sight pass.new.sight) }
     ensures in_task { OnOk result (IsInTask task pass.new.sight) }
 {
     let Range { start, end } = actions_of(site.graph, task);
@@ -157,7 +166,12 @@ fn actions_of(graph: &Graph, task: u32) -> Range<u32>
 }
 
 /// Ends the worker's task, which gives back what the worker has.
-fn end<R: Wait, G>(rt: &R, site: &Site<'_, G>, pass: &mut Pass, task: u32) -> Result<(), Halt>
+fn end<R: Wait, G, L: Linked>(
+    rt: &R,
+    site: &Site<'_, G, L>,
+    pass: &mut Pass,
+    task: u32,
+) -> Result<(), Halt>
     requires service { pass.old.service ≡ site.now.service.now.service }
     requires task { task < length pass.old.sight.seen.graph.tasks }
     requires in_task { IsInTask task pass.old.sight }
@@ -172,22 +186,24 @@ fn end<R: Wait, G>(rt: &R, site: &Site<'_, G>, pass: &mut Pass, task: u32) -> Re
 /// Starts a task and runs it to its end, unless it can't be started any more.
 ///
 /// The worker has nothing then. It fails for want of memory, and where the service was stopped.
-pub(crate) fn run_task<R: Wait, F: Files, G: Gate>(
+pub(crate) fn run_task<R: Wait, D: Desk, G: Gate>(
     rt: &R,
-    site: &Site<'_, G>,
+    site: &Site<'_, G, D::Link>,
     pass: &mut Pass,
-    desk: &mut F,
+    desk: &mut D,
     task: u32,
 ) -> Result<(), Halt>
     requires service { pass.old.service ≡ site.now.service.now.service }
     requires graph { pass.old.sight.seen.graph ≡ site.now.graph.now }
     requires units { site.now.graph.now.units ≡ length site.now.units.now }
-    requires in_thread { All (λ u. RunsInThread (unit_view u)) site.now.units.now }
+    requires fetches { AreFetched site.now.graph.now (map unit_view site.now.units.now) }
+    requires named { All (λ u. HasFileName (unit_view u)) site.now.units.now }
     requires task { task < length site.now.graph.now.tasks }
     requires rests { HoldsNothing pass.old.sight }
     ensures service { pass.new.service ≡ pass.old.service }
-    ensures files { F.files desk.new ≡ F.files desk.old }
-    ensures keeps { Keeps (F.files desk.old) (map unit_view site.now.units.now) (F.faults desk.old) (F.faults desk.new) pass.old.sight pass.new.sight }
+    ensures files { D.files desk.new ≡ D.files desk.old }
+    ensures keeps { Keeps (D.files desk.old) (map unit_view site.now.units.now) (D.faults desk.old) (D.faults desk.new) pass.old.sight pass.new.sight }
+    ensures sent { OnOk result (HasSent (map unit_view site.now.units.now) (sent_view D.sends D.sent desk.old) (sent_view D.sends D.sent desk.new) pass.old.sight pass.new.sight) }
     ensures rests { OnOk result (HoldsNothing pass.new.sight) }
 {
     if !start(rt, site, pass, task)? {
@@ -198,7 +214,12 @@ pub(crate) fn run_task<R: Wait, F: Files, G: Gate>(
 }
 
 /// Starts a task. False says that it can't be started any more.
-fn start<R: Wait, G>(rt: &R, site: &Site<'_, G>, pass: &mut Pass, task: u32) -> Result<bool, Halt>
+fn start<R: Wait, G, L: Linked>(
+    rt: &R,
+    site: &Site<'_, G, L>,
+    pass: &mut Pass,
+    task: u32,
+) -> Result<bool, Halt>
     requires service { pass.old.service ≡ site.now.service.now.service }
     requires task { task < length pass.old.sight.seen.graph.tasks }
     requires rests { HoldsNothing pass.old.sight }

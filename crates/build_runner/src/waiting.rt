@@ -11,19 +11,21 @@ ghost use Rattle.worker_choices.specs.Ready.{HasToWait};
 ghost use Rattle.worker_choices.specs.declared.awaited.Awaited.TheVariants as awaited;
 ghost use Rattle.build_runner.specs.Parked.{IsNextParked};
 ghost use Rattle.build_runner.specs.Points.{CanHelp};
-ghost use Rattle.build_runner.specs.Units.{RunsInThread, unit_view};
+ghost use Rattle.build_runner.specs.Sent.{HasSent, sent_view};
+ghost use Rattle.build_runner.specs.Units.{HasFileName, unit_view};
 
 use crate::items::help;
 use crate::ready::has_failed;
 use crate::site::Site;
 use async_tracker::{Held, Parked, resume};
 use coordination::{Halt, Pass, Question};
+use daemon_desk::Desk;
 use lock_journal::Book;
 use resource_lock::WorkerId;
 use run_laws::only_items_are_queued;
 use std::sync::Wait;
 use worker_choices::{Awaited, can_go_on, item_to_claim};
-use worker_desk::{Files, Gate};
+use worker_desk::Gate;
 
 /// What a parked worker does next.
 #[derive(Clone, Copy, Debug)]
@@ -68,22 +70,23 @@ impl Question for WhatIsNextParked {
 }
 
 /// Runs items until those of the action have ended. It says whether a unit of the action has failed.
-fn help_until_over<R: Wait, F: Files, G: Gate>(
+fn help_until_over<R: Wait, D: Desk, G: Gate>(
     rt: &R,
-    site: &Site<'_, G>,
+    site: &Site<'_, G, D::Link>,
     pass: &mut Pass,
-    desk: &mut F,
+    desk: &mut D,
     action: u32,
 ) -> Result<bool, Halt>
     requires service { pass.old.service ≡ site.now.service.now.service }
     requires graph { pass.old.sight.seen.graph ≡ site.now.graph.now }
     requires units { site.now.graph.now.units ≡ length site.now.units.now }
-    requires in_thread { All (λ u. RunsInThread (unit_view u)) site.now.units.now }
+    requires named { All (λ u. HasFileName (unit_view u)) site.now.units.now }
     requires in_range { action < length site.now.graph.now.actions }
     requires helps { CanHelp pass.old.sight }
     ensures service { pass.new.service ≡ pass.old.service }
-    ensures files { F.files desk.new ≡ F.files desk.old }
-    ensures keeps { Keeps (F.files desk.old) (map unit_view site.now.units.now) (F.faults desk.old) (F.faults desk.new) pass.old.sight pass.new.sight }
+    ensures files { D.files desk.new ≡ D.files desk.old }
+    ensures keeps { Keeps (D.files desk.old) (map unit_view site.now.units.now) (D.faults desk.old) (D.faults desk.new) pass.old.sight pass.new.sight }
+    ensures sent { OnOk result (HasSent (map unit_view site.now.units.now) (sent_view D.sends D.sent desk.old) (sent_view D.sends D.sent desk.new) pass.old.sight pass.new.sight) }
     ensures shows { OnOk result (ShowsTheSame pass.old.sight pass.new.sight) }
     ensures sound { OnOk result (IsSound pass.new.sight.seen) }
     ensures over { OnOk result (first_open pass.new.sight.seen.graph pass.new.sight.seen.state action ≡ None) }
@@ -102,23 +105,24 @@ fn help_until_over<R: Wait, F: Files, G: Gate>(
 
 /// Runs items until those of the action have ended, and resumes. It says whether a unit of the action
 /// has failed.
-pub(crate) fn wait_for_items<R: Wait, F: Files, G: Gate>(
+pub(crate) fn wait_for_items<R: Wait, D: Desk, G: Gate>(
     rt: &R,
-    site: &Site<'_, G>,
+    site: &Site<'_, G, D::Link>,
     pass: &mut Pass,
-    desk: &mut F,
+    desk: &mut D,
     parked: Parked,
 ) -> Result<bool, Halt>
     requires service { pass.old.service ≡ site.now.service.now.service }
     requires graph { pass.old.sight.seen.graph ≡ site.now.graph.now }
     requires units { site.now.graph.now.units ≡ length site.now.units.now }
-    requires in_thread { All (λ u. RunsInThread (unit_view u)) site.now.units.now }
+    requires named { All (λ u. HasFileName (unit_view u)) site.now.units.now }
     requires in_range { parked.action < length site.now.graph.now.actions }
     requires own { IsParkedBy pass.old.sight parked }
     requires helps { CanHelp pass.old.sight }
     ensures service { pass.new.service ≡ pass.old.service }
-    ensures files { F.files desk.new ≡ F.files desk.old }
-    ensures keeps { Keeps (F.files desk.old) (map unit_view site.now.units.now) (F.faults desk.old) (F.faults desk.new) pass.old.sight pass.new.sight }
+    ensures files { D.files desk.new ≡ D.files desk.old }
+    ensures keeps { Keeps (D.files desk.old) (map unit_view site.now.units.now) (D.faults desk.old) (D.faults desk.new) pass.old.sight pass.new.sight }
+    ensures sent { OnOk result (HasSent (map unit_view site.now.units.now) (sent_view D.sends D.sent desk.old) (sent_view D.sends D.sent desk.new) pass.old.sight pass.new.sight) }
     ensures shows { OnOk result (ShowsResumed (action_of site.now.graph.now parked.action).retention (lock_with site.now.graph.now parked.action) parked.action pass.old.sight pass.new.sight) }
 {
     let failed = help_until_over(rt, site, pass, desk, parked.action())?;

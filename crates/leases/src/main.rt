@@ -4,6 +4,7 @@
 ghost use Rattle.std.specs.Prelude.{◌≡◌, IfOk, length};
 ghost use Rattle.leases_cli.specs.declared.top.TheConstants.{DESKS};
 
+use daemon_desk::FolderDesk;
 use item_actions::Text;
 use leases_cli::{DESKS, Status, leases};
 use std::alloc::{AllocError, AllocFailed, Global};
@@ -12,7 +13,7 @@ use std::process::ExitCode;
 use std::sync::Wait;
 use std::thread::Threads;
 use std::{env, io};
-use worker_desk::{FolderFiles, OpenGate, StdSink, StdSource};
+use worker_desk::{OpenGate, StdSink, StdSource};
 
 /// Why nothing could be begun.
 #[derive(Clone, Copy)]
@@ -35,27 +36,44 @@ impl<T: Drop> From<AllocFailed<T>> for Hindrance {
     }
 }
 
-/// The words after the program's name.
-fn words(rt: &HostRuntime, alloc: Global) -> Result<Vec<Text>, Hindrance> {
-    let args = match env::args(rt) {
+/// How the program was called.
+#[derive(Drop)]
+struct Call {
+    /// The name that it was called by, which starts it again as a worker. It is empty where there was none.
+    program: Text,
+    /// The words after it.
+    words: Vec<Text>,
+}
+
+/// Reads how the program was called.
+fn read_call(rt: &HostRuntime, alloc: Global) -> Result<Call, Hindrance> {
+    let mut args = match env::args(rt) {
         Ok(args) => args,
         Err(error) if error.kind() == ErrorKind::OutOfMemory => return Err(Hindrance::Memory),
         Err(_) => return Err(Hindrance::Words),
     };
+    let program = match args.next() {
+        Some(arg) => Text::from_str(alloc, arg.as_str())?,
+        None => Text::from_str(alloc, "")?,
+    };
     let mut words = Vec::new(alloc);
-    for arg in args.skip(1) {
+    for arg in args {
         words.push(Text::from_str(alloc, arg.as_str())?)?;
     }
-    Ok(words)
+    Ok(Call { program, words })
 }
 
-/// The desks of the current folder.
-fn desks(rt: &HostRuntime, alloc: Global) -> Result<Vec<FolderFiles<&HostRuntime>>, Hindrance>
+/// The desks of the current folder. Daemons that are asked for as `self` are this program.
+fn desks<'a>(
+    rt: &'a HostRuntime,
+    alloc: Global,
+    program: &Text,
+) -> Result<Vec<FolderDesk<&'a HostRuntime>>, Hindrance>
     ensures { IfOk result (λ desks. length desks.items ≡ DESKS) }
 {
     let mut desks = Vec::with_capacity(alloc, DESKS)?;
     for _ in 0..DESKS {
-        desks.push(FolderFiles::new(rt))?;
+        desks.push(FolderDesk::new(rt, program.copy(alloc)?))?;
     }
     Ok(desks)
 }
@@ -63,8 +81,8 @@ fn desks(rt: &HostRuntime, alloc: Global) -> Result<Vec<FolderFiles<&HostRuntime
 /// Does what the words ask for.
 fn run<T: Threads + Wait + Sync>(rt: &HostRuntime, threads: &T) -> Result<Status, Hindrance> {
     let alloc = rt.alloc();
-    let words = words(rt, alloc)?;
-    let mut desks = desks(rt, alloc)?;
+    let Call { program, words } = read_call(rt, alloc)?;
+    let mut desks = desks(rt, alloc, &program)?;
     let mut input = StdSource::new(rt.stdin());
     let mut out = StdSink::new(io::writer(rt));
     let ended = leases(

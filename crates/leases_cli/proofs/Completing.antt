@@ -14,6 +14,7 @@ use Rattle.lock_journal.specs.Entry.{Entry}
 use Rattle.worker_desk.specs.SinkView.{SinkView, Rises}
 use Rattle.plan_reader.specs.PlanView.{PlanView}
 use Rattle.run_laws.specs.ClosedBy.{closed_by, faults_in}
+use Rattle.daemon_manager.specs.declared.events.Event.{Event}
 use Rattle.build_runner.specs.Run.{IsRunOf}
 use Rattle.build_runner.specs.declared.options.RunOptions.{RunOptions}
 use Rattle.command_words.specs.Reading.{IsBounded}
@@ -30,14 +31,14 @@ use Rattle.daemon_worker.specs.Answer.{Answer, replies, IsHonestAnswer}
 use Rattle.daemon_worker.specs.Serving.{Outside, IsEnd}
 use Rattle.daemon_worker.specs.declared.serving.Served.{Served}
 use Rattle.daemon_worker.specs.declared.serving.Served.TheVariants as ends
-use Rattle.leases_cli.specs.Around.{Around, at_first_desk, desks_used}
+use Rattle.leases_cli.specs.Around.{Around, DesksView, at_first_desk, desks_used}
 use Rattle.leases_cli.specs.Answered.{Answered, RunAnswered, IsNamedRun, all_pass, values_or_closings}
-use Rattle.leases_cli.specs.Causes.{IsFileOf, IsFileCause, IsPlanAt, IsReadCause}
-use Rattle.leases_cli.specs.Complete.{MetNoFault, MetNoFaults, HasNoFault, HasPlan, HasSucceeded, HasValue, IsByFrames, HasWorkedWell, HasPlanFile, HasVerdict, Succeeds, IsComplete, status_by}
+use Rattle.leases_cli.specs.Causes.{IsFileOf, IsFileCause}
+use Rattle.leases_cli.specs.Complete.{MetNoFault, MetNoFaults, HasNoFault, HasPlan, HasSucceeded, HasValue, IsByFrames, HasWorkedWell, HasVerdict, Succeeds, IsComplete, status_by}
 use Rattle.leases_cli.specs.Worker.{HasWorked}
 use Rattle.leases_cli.specs.Check.{HasCheckedHistory, IsFoundTold}
 use Rattle.leases_cli.specs.Make.{HasMade, MakeAnswered}
-use Rattle.leases_cli.proofs.Readings.{FirstCycleOnce, one_file, no_refusal, one_plan, not_refused}
+use Rattle.leases_cli.proofs.Readings.{FirstCycleOnce, one_file, no_refusal}
 use Rattle.leases_cli.specs.declared.status.Status.{Status}
 use Rattle.leases_cli.specs.declared.status.Status.TheVariants.{Passed, TaskFailed, BadWords, BadPlan, NoPlan, PlanFault, SinkFault, BadFrame, SourceFault, NotLawful, NoMemory}
 
@@ -46,6 +47,29 @@ some_is {x = x} e = ap (λ o. unwrap_or o x) e
 
 not_risen : (before after : ℕ) → MetNoFault before after → Rises before after → ⊥
 not_risen before after calm rises = let same = calm.same in let below = calm.below in omega arith
+
+-- ---- a plan that is read
+
+module _ (once : FirstCycleOnce) (name : List ℕ) (files : Folder) (plan : PlanView) (has : HasPlan name files plan) where
+  same_plan : (found : PlanView) → IsFileOf (Some files) name found → found ≡ plan
+  same_plan found named =
+      let bytes = some_is (sym named.1 ∙ has.file) in
+      one_file once has.bytes plan found has.reading (rw bytes at named.2)
+
+  no_cause : (before after : ℕ) (refusal : Status) → MetNoFault before after → IsFileCause (Some files) before after name refusal → ⊥
+  no_cause before after (BadPlan refusal) calm c =
+      let bytes = some_is (sym c.1 ∙ has.file) in
+      no_refusal once has.bytes plan refusal has.reading (rw bytes at c.2)
+  no_cause before after NoPlan calm c = let none = sym c ∙ has.file in cc none
+  no_cause before after PlanFault calm c = not_risen before after calm c
+  no_cause before after BadWords calm c = c
+  no_cause before after Passed calm c = c
+  no_cause before after TaskFailed calm c = c
+  no_cause before after SinkFault calm c = c
+  no_cause before after (BadFrame place) calm c = c
+  no_cause before after SourceFault calm c = c
+  no_cause before after (NotLawful n) calm c = c
+  no_cause before after NoMemory calm c = c
 
 -- ---- a run
 
@@ -66,48 +90,31 @@ no_fault plan options known before after b run calm = λ w. elim (cases_lt w.0 o
   | inr past ↦ ap faults_in (closed_by_none w options.workers b.history run.workers past)
 ]
 
-module _ (once : FirstCycleOnce) (asked : RunWords) (files : Folder) (plan : PlanView) (has : HasPlan asked files plan) where
-  same_plan : (found : PlanView) → IsPlanAt (Some files) asked.plan found → found ≡ plan
-  same_plan found named =
-      let bytes = some_is (sym named.1 ∙ has.file) in
-      one_plan once has.bytes plan found has.reading (rw bytes at named.2)
-
-  module _ (before after : ℕ → ℕ) (old new : SinkView) (some : 1 ≤ asked.threads) (calm : MetNoFaults asked.threads before after) (quiet : MetNoFault old.faults new.faults) where
-    ran : (found : PlanView) (b : BookView) (passed : Bool) → IsNamedRun asked (Some files) before after found b → all_pass found b.graph (values_or_closings found (Some files) b.history) ≡ passed → HasNoFault b × (status_by passed ≡ status_by (all_pass plan b.graph (values_or_closings plan (Some files) b.history)))
+module _ (once : FirstCycleOnce) (asked : RunWords) (files : Folder) (plan : PlanView) (has : HasPlan asked.plan files plan) where
+  module _ (before after : DesksView) (old new : SinkView) (known : before.files ≡ Some files) (some : 1 ≤ asked.threads) (calm : MetNoFaults asked.threads before.faults after.faults) (quiet : MetNoFault old.faults new.faults) where
+    ran : (found : PlanView) (b : BookView) (passed : Bool) → IsNamedRun asked before after found b → all_pass found b.graph (values_or_closings found before.files b.history) ≡ passed → HasNoFault b × (status_by passed ≡ status_by (all_pass plan b.graph (values_or_closings plan (Some files) b.history)))
     ran found b passed run pass = (
-      no_fault found _ (Some files) before after b run.run calm,
-      ap status_by (sym pass ∙ ap (λ p. all_pass p b.graph (values_or_closings p (Some files) b.history)) (same_plan found run.named)),
+      no_fault found _ before.files before.faults after.faults b run.run calm,
+      ap status_by
+          (sym pass ∙ (ap (λ (o : Option Folder). all_pass found b.graph (values_or_closings found o b.history)) known
+          ∙ ap (λ p. all_pass p b.graph (values_or_closings p (Some files) b.history)) (same_plan once asked.plan files plan has found (subst (λ (o : Option Folder). IsFileOf o asked.plan found) known run.named)))),
     )
 
-    no_cause : (refusal : Status) → IsReadCause (Some files) (before 0) (after 0) asked.plan refusal → ⊥
-    no_cause (BadPlan refusal) c =
-        let bytes = some_is (sym c.1 ∙ has.file) in
-        not_refused once has.bytes plan refusal has.reading (rw bytes at c.2)
-    no_cause NoPlan c = let none = sym c ∙ has.file in cc none
-    no_cause PlanFault c = not_risen (before 0) (after 0) (calm 0 (omega (arith, some))) c
-    no_cause BadWords c = c
-    no_cause Passed c = c
-    no_cause TaskFailed c = c
-    no_cause SinkFault c = c
-    no_cause (BadFrame place) c = c
-    no_cause SourceFault c = c
-    no_cause (NotLawful n) c = c
-    no_cause NoMemory c = c
-
-    run_succeeds : (status : Status) (book : Option BookView) → RunAnswered asked (Some files) before after old new status book → HasSucceeded plan files status book
-    run_succeeds Passed (Some b) a = ran a.0 b true a.1 a.2.0
-    run_succeeds TaskFailed (Some b) a = ran a.0 b false a.1 a.2.0
-    run_succeeds SinkFault (Some b) a = absurd (not_risen old.faults new.faults quiet a.2.faults)
-    run_succeeds BadWords (Some b) a = absurd a
-    run_succeeds (BadPlan refusal) (Some b) a = absurd a
-    run_succeeds NoPlan (Some b) a = absurd a
-    run_succeeds PlanFault (Some b) a = absurd a
-    run_succeeds (BadFrame place) (Some b) a = absurd a
-    run_succeeds SourceFault (Some b) a = absurd a
-    run_succeeds (NotLawful n) (Some b) a = absurd a
-    run_succeeds NoMemory (Some b) a = absurd a
-    run_succeeds status None (inl lacking) = lacking.0
-    run_succeeds status None (inr refused) = absurd (no_cause refused.0 refused.1)
+    run_succeeds : (status : Status) (book : Option BookView) (events : List Event) → RunAnswered asked before after old new status book events → HasSucceeded plan files status book
+    run_succeeds Passed (Some b) events a = ran a.0 b true a.1 a.2.0
+    run_succeeds TaskFailed (Some b) events a = ran a.0 b false a.1 a.2.0
+    run_succeeds SinkFault (Some b) events a = absurd (not_risen old.faults new.faults quiet a.2.faults)
+    run_succeeds BadWords (Some b) events a = absurd a
+    run_succeeds (BadPlan refusal) (Some b) events a = absurd a
+    run_succeeds NoPlan (Some b) events a = absurd a
+    run_succeeds PlanFault (Some b) events a = absurd a
+    run_succeeds (BadFrame place) (Some b) events a = absurd a
+    run_succeeds SourceFault (Some b) events a = absurd a
+    run_succeeds (NotLawful n) (Some b) events a = absurd a
+    run_succeeds NoMemory (Some b) events a = absurd a
+    run_succeeds status None events (inl lacking) = lacking.0
+    run_succeeds status None events (inr refused) =
+        absurd (no_cause once asked.plan files plan has (before.faults 0) (after.faults 0) refused.0 (calm 0 (omega (arith, some))) (subst (λ (o : Option Folder). IsFileCause o (before.faults 0) (after.faults 0) asked.plan refused.0) known refused.1))
 
 -- ---- a worker
 
@@ -168,27 +175,6 @@ make_succeeds asked old new status quiet (inr made) = inl (made_whole asked old 
 
 -- ---- a check
 
-module _ (once : FirstCycleOnce) (name : List ℕ) (files : Folder) (plan : PlanView) (has : HasPlanFile name files plan) where
-  same_file : (found : PlanView) → IsFileOf (Some files) name found → found ≡ plan
-  same_file found named =
-      let bytes = some_is (sym named.1 ∙ has.file) in
-      one_file once has.bytes plan found has.reading (rw bytes at named.2)
-
-  no_file_cause : (before after : ℕ) (refusal : Status) → MetNoFault before after → IsFileCause (Some files) before after name refusal → ⊥
-  no_file_cause before after (BadPlan refusal) calm c =
-      let bytes = some_is (sym c.1 ∙ has.file) in
-      no_refusal once has.bytes plan refusal has.reading (rw bytes at c.2)
-  no_file_cause before after NoPlan calm c = let none = sym c ∙ has.file in cc none
-  no_file_cause before after PlanFault calm c = not_risen before after calm c
-  no_file_cause before after BadWords calm c = c
-  no_file_cause before after Passed calm c = c
-  no_file_cause before after TaskFailed calm c = c
-  no_file_cause before after SinkFault calm c = c
-  no_file_cause before after (BadFrame place) calm c = c
-  no_file_cause before after SourceFault calm c = c
-  no_file_cause before after (NotLawful n) calm c = c
-  no_file_cause before after NoMemory calm c = c
-
 -- what was found of a source that didn't fail is an answer, which was told by a sink that didn't
 verdict_told : (plan : PlanView) (old new : Outside) (found : Result Checked CheckFail) (status : Status) → MetNoFault old.source.faults new.source.faults → MetNoFault old.sink.faults new.sink.faults → HasChecked plan old.source new.source found → IsFoundTold found old.sink new.sink status
     → HasVerdict plan old.source new.source status
@@ -199,48 +185,47 @@ verdict_told plan old new (Ok (checked.NotLawful n)) status source quiet h (inr 
 verdict_told plan old new (Err fails.SourceFault) status source quiet h told = absurd (not_risen old.source.faults new.source.faults source h.3)
 verdict_told plan old new (Err fails.NoMemory) status source quiet h told = inr told.0
 
-check_succeeds : (once : FirstCycleOnce) (name : List ℕ) (files : Folder) (plan : PlanView) (old new : Outside) (status : Status) → HasPlanFile name files plan → old.files ≡ Some files → MetNoFault old.faults new.faults → MetNoFault old.sink.faults new.sink.faults
+check_succeeds : (once : FirstCycleOnce) (name : List ℕ) (files : Folder) (plan : PlanView) (old new : Outside) (status : Status) → HasPlan name files plan → old.files ≡ Some files → MetNoFault old.faults new.faults → MetNoFault old.sink.faults new.sink.faults
     → MetNoFault old.source.faults new.source.faults → HasCheckedHistory name old new status → HasVerdict plan old.source new.source status
 check_succeeds once name files plan old new status has known calm quiet source (inl not) =
     elim not.refused [
       | inl lacking ↦ inr lacking.0
-      | inr refused ↦ absurd (no_file_cause once name files plan has old.faults new.faults refused.0 calm (subst (λ (o : Option Folder). IsFileCause o old.faults new.faults name refused.0) known refused.1))
+      | inr refused ↦ absurd (no_cause once name files plan has old.faults new.faults refused.0 calm (subst (λ (o : Option Folder). IsFileCause o old.faults new.faults name refused.0) known refused.1))
     ]
 check_succeeds once name files plan old new status has known calm quiet source (inr c) =
-    let same = same_file once name files plan has c.plan (subst (λ (o : Option Folder). IsFileOf o name c.plan) known c.named) in
+    let same = same_plan once name files plan has c.plan (subst (λ (o : Option Folder). IsFileOf o name c.plan) known c.named) in
     subst (λ (p : PlanView). HasVerdict p old.source new.source status) same (verdict_told c.plan old new c.found status source quiet c.checked c.told)
 
 -- ---- the call
 
-succeeds : (once : FirstCycleOnce) (command : Command) (old new : Around) (status : Status) (book : Option BookView) → IsBounded command → MetNoFaults (desks_used (Some command)) old.faults new.faults → MetNoFault old.sink.faults new.sink.faults → Answered (Some command) old new status book → Succeeds (Some command) old new status book
-succeeds once (Run asked) old new status book bounded calm quiet a = λ files known plan has.
-    run_succeeds once asked files plan has old.faults new.faults old.sink new.sink bounded.some_thread calm quiet status book
-    (subst (λ (o : Option Folder). RunAnswered asked o old.faults new.faults old.sink new.sink status book) known a)
-succeeds once Worker old new status book bounded calm quiet a = λ files known source.
+succeeds : (once : FirstCycleOnce) (command : Command) (old new : Around) (status : Status) (book : Option BookView) (events : List Event) → IsBounded command → MetNoFaults (desks_used (Some command)) old.desks.faults new.desks.faults → MetNoFault old.sink.faults new.sink.faults → Answered (Some command) old new status book events → Succeeds (Some command) old new status book
+succeeds once (Run asked) old new status book events bounded calm quiet a = λ files known plan has.
+    run_succeeds once asked files plan has old.desks new.desks old.sink new.sink known bounded.some_thread calm quiet status book events a
+succeeds once Worker old new status book events bounded calm quiet a = λ files known source.
     worker_succeeds files (at_first_desk old) (at_first_desk new) status known (calm 0 (omega arith)) quiet source a.1
-succeeds once (Check name) old new status book bounded calm quiet a = λ files known source plan has.
+succeeds once (Check name) old new status book events bounded calm quiet a = λ files known source plan has.
     check_succeeds once name files plan (at_first_desk old) (at_first_desk new) status has known (calm 0 (omega arith)) quiet source a.1
-succeeds once (Make asked) old new status book bounded calm quiet a = make_succeeds asked old.sink new.sink status quiet a.1
+succeeds once (Make asked) old new status book events bounded calm quiet a = make_succeeds asked old.sink new.sink status quiet a.1
 
 -- a command was carried out
-pub carried_out : (once : FirstCycleOnce) (command : Command) (words : Option Command) (old new : Around) (status : Status) (book : Option BookView) → words ≡ Some command → IsBounded command → Answered (Some command) old new status book → IsComplete words old new status book
-carried_out once command words old new status book is bounded a =
-    subst (λ (c : Option Command). IsComplete c old new status book) (sym is) (λ calm quiet. succeeds once command old new status book bounded calm quiet a)
+pub carried_out : (once : FirstCycleOnce) (command : Command) (words : Option Command) (old new : Around) (status : Status) (book : Option BookView) (events : List Event) → words ≡ Some command → IsBounded command → Answered (Some command) old new status book events → IsComplete words old new status book
+carried_out once command words old new status book events is bounded a =
+    subst (λ (c : Option Command). IsComplete c old new status book) (sym is) (λ calm quiet. succeeds once command old new status book events bounded calm quiet a)
 
 -- words that are no command are owed nothing
 pub no_command_complete : (words : Option Command) (old new : Around) (status : Status) (book : Option BookView) → words ≡ None → IsComplete words old new status book
 no_command_complete words old new status book is = subst (λ (c : Option Command). IsComplete c old new status book) (sym is) (λ calm quiet. tt)
 
-at_no_memory : (words : Option Command) (o : Around) → Answered words o o NoMemory None → MetNoFaults (desks_used words) o.faults o.faults → MetNoFault o.sink.faults o.sink.faults → Succeeds words o o NoMemory None
-at_no_memory None o a calm quiet = tt
-at_no_memory (Some (Run asked)) o a calm quiet = λ files known plan has. refl
-at_no_memory (Some Worker) o a calm quiet = λ files known source. worker_succeeds files (at_first_desk o) (at_first_desk o) NoMemory known (calm 0 (omega arith)) quiet source a.1
-at_no_memory (Some (Check name)) o a calm quiet = λ files known source plan has. inr refl
-at_no_memory (Some (Make asked)) o a calm quiet = inr refl
+at_no_memory : (words : Option Command) (o : Around) (events : List Event) → Answered words o o NoMemory None events → MetNoFaults (desks_used words) o.desks.faults o.desks.faults → MetNoFault o.sink.faults o.sink.faults → Succeeds words o o NoMemory None
+at_no_memory None o events a calm quiet = tt
+at_no_memory (Some (Run asked)) o events a calm quiet = λ files known plan has. refl
+at_no_memory (Some Worker) o events a calm quiet = λ files known source. worker_succeeds files (at_first_desk o) (at_first_desk o) NoMemory known (calm 0 (omega arith)) quiet source a.1
+at_no_memory (Some (Check name)) o events a calm quiet = λ files known source plan has. inr refl
+at_no_memory (Some (Make asked)) o events a calm quiet = inr refl
 
 -- there was no memory to read the words
-pub no_memory_complete : (words : Option Command) (o : Around) (status : Status) (book : Option BookView) → book ≡ None → status ≡ NoMemory → Answered words o o status book → IsComplete words o o status book
-no_memory_complete words o status book without is a = λ calm quiet.
+pub no_memory_complete : (words : Option Command) (o : Around) (status : Status) (book : Option BookView) (events : List Event) → book ≡ None → status ≡ NoMemory → Answered words o o status book events → IsComplete words o o status book
+no_memory_complete words o status book events without is a = λ calm quiet.
     subst (Succeeds words o o status) (sym without)
     (subst (λ (s : Status). Succeeds words o o s None) (sym is)
-    (at_no_memory words o (subst (λ (s : Status). Answered words o o s None) is (subst (Answered words o o status) without a)) calm quiet))
+    (at_no_memory words o events (subst (λ (s : Status). Answered words o o s None events) is (subst (λ (b : Option BookView). Answered words o o status b events) without a)) calm quiet))

@@ -1,4 +1,3 @@
-pub mod NeverNotYet
 pub mod Readings
 pub mod Reports
 pub mod Checks

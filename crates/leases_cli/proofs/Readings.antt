@@ -1,5 +1,5 @@
 -- What reading a file says of the plan in it, and that a text has one answer.
-use Rattle.std.proofs.Common.{◌≡◌, ℕ, Bool, true, false, List, length, Option, None, Some, refl, sym, ◌∙◌, ap, subst, cond, inl, inr, Vec, Global}
+use Rattle.std.proofs.Common.{◌≡◌, ℕ, Bool, true, false, List, length, Option, None, Some, refl, sym, ◌∙◌, ap, subst, cond, Vec, Global}
 use Rattle.std.specs.Prelude.{nat_lt, Result, Ok, Err, replicate}
 use Rattle.std.specs.Option.{option_or}
 use Rattle.std.proofs.lemmas.List.{length-replicate}
@@ -19,11 +19,7 @@ use Rattle.plan_reader.specs.PlanView.{PlanView}
 use Rattle.plan_reader.specs.Planned.{plan_of}
 use Rattle.plan_reader.specs.Search.{refusal_before, refusal_behind, cycle_refusal}
 use Rattle.plan_reader.specs.Reading.{Reads, ReadsBy, AnswersBy, Answer, answer_to, Refuses}
-use Rattle.build_runner.specs.CanRun.{can_run}
-use Rattle.leases_cli.proofs.NeverNotYet.{never_not_yet}
-use Rattle.leases_cli.specs.Causes.{HasBytes, IsFileOf, IsNoFileOf, IsFileCause, IsRefusal, IsRefusedAt, IsPlanAt, IsPlanToRun, IsReadCause, OrNoMemory}
-use Rattle.leases_cli.specs.declared.status.Status.{Status}
-use Rattle.leases_cli.specs.declared.status.Status.TheVariants.{Passed, TaskFailed, BadWords, BadPlan, NoPlan, PlanFault, SinkFault, BadFrame, SourceFault, NotLawful, NoMemory}
+use Rattle.leases_cli.specs.Causes.{HasBytes, IsFileOf, IsNoFileOf}
 
 -- ---- a file that is too long
 
@@ -70,32 +66,6 @@ pub refused_at : (known : Option Folder) (name : List ℕ) (read : Read) (bytes 
     → (given : List ℕ) → given ≡ bytes.items → (f : PlanFail) (r : PlanRefusal) → f ≡ fail.Refused r → Refuses (Reads given) f → IsNoFileOf known name r
 refused_at known name read bytes e h given same f r is refused = (bytes.items, has_bytes known name read bytes e h, subst (λ (x : List ℕ). Refuses (Reads x) (fail.Refused r)) same (subst (Refuses (Reads given)) is refused))
 
--- ---- a plan that can be run
-
--- the refusal that was read
-read_refusal : (bytes : List ℕ) (r : PlanRefusal) → Reads bytes (Err r) → IsRefusal bytes r
-read_refusal bytes r reads = inl (λ is. never_not_yet bytes (subst (λ (x : PlanRefusal). Reads bytes (Err x)) is reads), reads)
-
--- why no plan is read is why none is read that can be run
-pub read_cause : (known : Option Folder) (before after : ℕ) (name : List ℕ) (s : Status) → OrNoMemory (IsFileCause known before after name s) s → OrNoMemory (IsReadCause known before after name s) s
-read_cause known before after name (BadPlan r) c = (c.0, c.1, read_refusal c.0 r c.2)
-read_cause known before after name NoPlan c = c
-read_cause known before after name PlanFault c = c
-read_cause known before after name NoMemory c = c
-read_cause known before after name Passed c = c
-read_cause known before after name TaskFailed c = c
-read_cause known before after name BadWords c = c
-read_cause known before after name SinkFault c = c
-read_cause known before after name (BadFrame place) c = c
-read_cause known before after name SourceFault c = c
-read_cause known before after name (NotLawful n) c = c
-
-pub plan_to_run : (known : Option Folder) (name : List ℕ) (plan : PlanView) → IsFileOf known name plan → can_run plan ≡ true → IsPlanAt known name plan
-plan_to_run known name plan c can = (c.0, c.1, (c.2, can))
-
-pub not_yet : (known : Option Folder) (name : List ℕ) (plan : PlanView) → IsFileOf known name plan → can_run plan ≡ false → IsRefusedAt known name refusal.NotYet
-not_yet known name plan c cannot = (c.0, c.1, inr (refl, (plan, c.2, cannot)))
-
 -- ---- a text has one answer
 
 -- what the law says that is called
@@ -122,15 +92,3 @@ module _ (once : FirstCycleOnce) where
 
   pub no_refusal : (bytes : List ℕ) (plan : PlanView) (r : PlanRefusal) → Reads bytes (Ok plan) → Reads bytes (Err r) → ⊥
   no_refusal bytes plan r x y = let e = reads_once bytes (Ok plan) (Err r) x y in cc e
-
-  pub one_plan : (bytes : List ℕ) (plan found : PlanView) → IsPlanToRun bytes plan → IsPlanToRun bytes found → found ≡ plan
-  one_plan bytes plan found x y = let e = reads_once bytes (Ok found) (Ok plan) y.0 x.0 in cc e
-
-  -- what can be run isn't refused
-  pub not_refused : (bytes : List ℕ) (plan : PlanView) (r : PlanRefusal) → IsPlanToRun bytes plan → IsRefusal bytes r → ⊥
-  not_refused bytes plan r x (inl reads) = let e = reads_once bytes (Ok plan) (Err r) x.0 reads.1 in cc e
-  not_refused bytes plan r x (inr later) =
-      let same = reads_once bytes (Ok plan) (Ok later.1.0) x.0 later.1.1 in
-      let can : can_run plan ≡ true = x.1 in
-      let cannot : can_run later.1.0 ≡ false = later.1.2 in
-      cc (same, can, cannot)

@@ -20,14 +20,16 @@ use Rattle.plan_reader.specs.Units.{plan_units}
 use Rattle.run_laws.specs.ByNumber.{outcome_by}
 use Rattle.run_laws.specs.Outcomes.{task_outcome}
 use Rattle.run_laws.specs.Runs.{ComesTo}
+use Rattle.daemon_manager.specs.declared.events.Event.{Event}
 use Rattle.build_runner.specs.Run.{HasResults, IsRunOf, depth}
 use Rattle.build_runner.specs.declared.options.RunOptions.{RunOptions}
 use Rattle.command_words.specs.declared.commands.RunWords.{RunWords}
 use Rattle.history_text.specs.Results.{results_text, summary_text, task_marks}
 use Rattle.worker_desk.specs.SinkView.{SinkView, Wrote}
 use Rattle.worker_desk.proofs.Printing.{wrote_nothing}
-use Rattle.leases_cli.specs.Causes.{IsReadCause, OrNoMemory}
-use Rattle.leases_cli.specs.Answered.{RunAnswered, IsNamedRun, all_pass, have_all_passed, history_asked, run_text, text_by_book, values_or_closings}
+use Rattle.leases_cli.specs.Around.{DesksView}
+use Rattle.leases_cli.specs.Causes.{IsFileCause, OrNoMemory}
+use Rattle.leases_cli.specs.Answered.{RunAnswered, IsNamedRun, all_pass, behind_results, have_all_passed, run_text, text_by_book, values_or_closings}
 use Rattle.leases_cli.specs.Reported.{IsReported}
 use Rattle.leases_cli.specs.Told.{IsToldAs, IsRefusedFor}
 use Rattle.leases_cli.specs.declared.status.Status.{Status}
@@ -70,10 +72,10 @@ module _ (plan : PlanView) (options : RunOptions) (known : Option Folder) (befor
       same_on_range (λ t. has_passed (mark_of b.state (TaskOf t))) (λ t. has_passed (task_outcome b.graph (values_or_closings plan known b.history) (depth plan) t)) 0 (length b.graph.tasks)
       (λ t lt. ap has_passed (task_mark t (omega arith)))
 
-  pub same_text : (asked : RunWords) → UnitsByNumber → ByNumber results_text → ByNumber summary_text → Fits b.graph → text_by_book asked plan b ≡ run_text asked plan known b
-  same_text asked units results summary fits =
+  pub same_text : (asked : RunWords) (events : List Event) → UnitsByNumber → ByNumber results_text → ByNumber summary_text → Fits b.graph → text_by_book asked plan b events ≡ run_text asked plan known b events
+  same_text asked events units results summary fits =
       let v = values_or_closings plan known b.history in
-      ap (λ text. text ++ history_asked asked b)
+      ap (λ text. text ++ behind_results asked b events)
       (either_by_number asked.summary results summary plan (task_marks b.state) (task_outcome b.graph v (depth plan)) (outcome_in b.history) (outcome_by b.graph v (depth plan))
       (λ t lt. task_mark t (omega (arith, tasks_in_graph)))
       (λ u lt. units b.graph b.history v (depth plan) u fits (comes_to plan known b run.results) (omega (arith, ap (λ (o : GraphView). o.units) run.graph))))
@@ -94,10 +96,10 @@ earlier_start plan options known known' start before after b e le run = record {
 }
 
 -- what was reported of a run is its answer
-pub reported_answers : (asked : RunWords) (known : Option Folder) (before after : ℕ → ℕ) (old new : SinkView) (plan : PlanView) (b : BookView) (book : Option BookView) (status : Status) → book ≡ Some b → IsNamedRun asked known before after plan b → IsReported (all_pass plan b.graph (values_or_closings plan known b.history)) old new (run_text asked plan known b) status → RunAnswered asked known before after old new status book
-reported_answers asked known before after old new plan b book status e run reported = subst (RunAnswered asked known before after old new status) (sym e) (by_status status reported)
+pub reported_answers : (asked : RunWords) (before after : DesksView) (old new : SinkView) (plan : PlanView) (b : BookView) (events : List Event) (book : Option BookView) (status : Status) → book ≡ Some b → IsNamedRun asked before after plan b → IsReported (all_pass plan b.graph (values_or_closings plan before.files b.history)) old new (run_text asked plan before.files b events) status → RunAnswered asked before after old new status book events
+reported_answers asked before after old new plan b events book status e run reported = subst (λ (o : Option BookView). RunAnswered asked before after old new status o events) (sym e) (by_status status reported)
   where
-    by_status : (s : Status) → IsReported (all_pass plan b.graph (values_or_closings plan known b.history)) old new (run_text asked plan known b) s → RunAnswered asked known before after old new s (Some b)
+    by_status : (s : Status) → IsReported (all_pass plan b.graph (values_or_closings plan before.files b.history)) old new (run_text asked plan before.files b events) s → RunAnswered asked before after old new s (Some b) events
     by_status Passed r = (plan, run, r)
     by_status TaskFailed r = (plan, run, r)
     by_status SinkFault r = (plan, run, r)
@@ -133,7 +135,7 @@ refused_for IsCause old new refusal status memory told cause =
     ]
 
 -- a refusal of the plan that was told is the answer
-pub refusal_answers : (asked : RunWords) (known : Option Folder) (before after : ℕ → ℕ) (old new : SinkView) (refusal : Status) (book : Option BookView) (status : Status) → book ≡ None → (refusal ≡ NoMemory → (status ≡ NoMemory) × (new ≡ old)) → (refusal ≢ NoMemory → IsToldAs refusal old new status)
-    → OrNoMemory (IsReadCause known (before 0) (after 0) asked.plan refusal) refusal → RunAnswered asked known before after old new status book
-refusal_answers asked known before after old new refusal book status without memory told cause =
-    subst (RunAnswered asked known before after old new status) (sym without) (refused_for (IsReadCause known (before 0) (after 0) asked.plan) old new refusal status memory told cause)
+pub refusal_answers : (asked : RunWords) (before after : DesksView) (old new : SinkView) (refusal : Status) (book : Option BookView) (events : List Event) (status : Status) → book ≡ None → (refusal ≡ NoMemory → (status ≡ NoMemory) × (new ≡ old)) → (refusal ≢ NoMemory → IsToldAs refusal old new status)
+    → OrNoMemory (IsFileCause before.files (before.faults 0) (after.faults 0) asked.plan refusal) refusal → RunAnswered asked before after old new status book events
+refusal_answers asked before after old new refusal book events status without memory told cause =
+    subst (λ (o : Option BookView). RunAnswered asked before after old new status o events) (sym without) (refused_for (IsFileCause before.files (before.faults 0) (after.faults 0) asked.plan) old new refusal status memory told cause)

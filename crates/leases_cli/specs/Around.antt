@@ -3,24 +3,36 @@ use Rattle.std.specs.Prelude.{ℕ, Bool, true, false, List, get_or, Option, None
 use Rattle.item_actions.specs.Files.{Folder}
 use Rattle.worker_desk.specs.SinkView.{SinkView}
 use Rattle.worker_desk.specs.SourceView.{SourceView}
+use Rattle.daemon_desk.specs.declared.sent.SentRequest.{SentRequest}
+use Rattle.daemon_items.specs.Requests.{SentView}
+use Rattle.build_runner.specs.Sent.{sent_view}
 use Rattle.command_words.specs.declared.commands.Command.{Command}
 use Rattle.command_words.specs.declared.commands.Command.TheVariants.{Run, Worker, Check, Make}
 use Rattle.daemon_worker.specs.Serving.{Outside}
 
--- what is known of the source, of the sink, and of the desks: the files that all know, and each desk's count of faults by its number
+-- what is known of the desks: the files that all know, and by its number each desk's count of faults and what it has sent
+pub record DesksView : Type 0 where
+  pub files : Option Folder
+  pub faults : ℕ → ℕ
+  pub sent : ℕ → SentView
+
+-- the same of these desks, by what is known of a desk; d stands for each that isn't there
+abbrev pub desks_view : {D : Type 0} → (D → Option Folder) → (D → ℕ) → (D → ℕ) → (D → Option (List SentRequest)) → List D → D → DesksView
+desks_view files faults sends sent desks d = record {
+  files = files (get_or desks 0 d);
+  faults = λ i. faults (get_or desks i d);
+  sent = λ i. sent_view sends sent (get_or desks i d);
+}
+
+-- what is known of the source, of the sink, and of the desks
 pub record Around : Type 0 where
   pub source : SourceView
   pub sink : SinkView
-  pub files : Option Folder
-  pub faults : ℕ → ℕ
-
--- the counts of faults of these desks, by their numbers; d stands for each that isn't there
-abbrev pub counts_of : {D : Type 0} → (D → ℕ) → List D → D → ℕ → ℕ
-counts_of faults desks d i = faults (get_or desks i d)
+  pub desks : DesksView
 
 -- what a worker has of it, at the first desk
 abbrev pub at_first_desk : Around → Outside
-at_first_desk o = record { source = o.source; sink = o.sink; files = o.files; faults = o.faults 0 }
+at_first_desk o = record { source = o.source; sink = o.sink; files = o.desks.files; faults = o.desks.faults 0 }
 
 -- so many desks a command may use, the first ones: a run has one for each thread
 abbrev pub desks_used : Option Command → ℕ

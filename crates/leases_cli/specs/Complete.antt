@@ -10,7 +10,6 @@ use Rattle.plan_reader.specs.PlanView.{PlanView}
 use Rattle.run_laws.specs.ClosedBy.{faults_by}
 use Rattle.command_words.specs.declared.commands.Command.{Command}
 use Rattle.command_words.specs.declared.commands.Command.TheVariants.{Run, Worker, Check, Make}
-use Rattle.command_words.specs.declared.commands.RunWords.{RunWords}
 use Rattle.worker_desk.specs.SourceView.{SourceView}
 use Rattle.plan_reader.specs.Reading.{Reads}
 use Rattle.history_check.specs.Checking.{HasChecked}
@@ -22,7 +21,6 @@ use Rattle.daemon_worker.specs.declared.serving.Served.{Served}
 use Rattle.daemon_worker.specs.declared.serving.Served.TheVariants as ends
 use Rattle.leases_cli.specs.Around.{Around, at_first_desk, desks_used}
 use Rattle.leases_cli.specs.Answered.{all_pass, values_or_closings}
-use Rattle.leases_cli.specs.Causes.{IsPlanToRun}
 use Rattle.leases_cli.specs.Worker.{status_of}
 use Rattle.leases_cli.specs.declared.status.Status.{Status}
 use Rattle.leases_cli.specs.declared.status.Status.TheVariants.{Passed, TaskFailed, NotLawful, NoMemory}
@@ -36,13 +34,13 @@ pub record MetNoFault (before after : ℕ) : Type 0 where
 abbrev pub MetNoFaults : ℕ → (ℕ → ℕ) → (ℕ → ℕ) → Type 0
 MetNoFaults n before after = (i : ℕ) → i < n → MetNoFault (before i) (after i)
 
--- ---- a run
-
--- the files have this plan under the name that is asked for
-pub record HasPlan (asked : RunWords) (files : Folder) (plan : PlanView) : Type 0 where
+-- the file of this name is this plan
+pub record HasPlan (name : List ℕ) (files : Folder) (plan : PlanView) : Type 0 where
   pub bytes : List ℕ
-  pub file : file_of files asked.plan ≡ Some bytes
-  pub reading : IsPlanToRun bytes plan
+  pub file : file_of files name ≡ Some bytes
+  pub reading : Reads bytes (Ok plan)
+
+-- ---- a run
 
 abbrev pub status_by : Bool → Status
 status_by true = Passed
@@ -80,12 +78,6 @@ HasWorkedWell files old new status = (end : Served) × HasServedWell files old n
 
 -- ---- a check
 
--- the file of this name is this plan
-pub record HasPlanFile (name : List ℕ) (files : Folder) (plan : PlanView) : Type 0 where
-  pub bytes : List ℕ
-  pub file : file_of files name ≡ Some bytes
-  pub reading : Reads bytes (Ok plan)
-
 abbrev pub status_found : Checked → Status
 status_found (checked.Lawful n) = Passed
 status_found (checked.NotLawful n) = NotLawful n
@@ -103,12 +95,12 @@ OfKnown known P = (files : Folder) → known ≡ Some files → P files
 -- by the command
 abbrev pub Succeeds : Option Command → Around → Around → Status → Option BookView → Type 0
 Succeeds None old new status book = Unit {0}
-Succeeds (Some (Run asked)) old new status book = OfKnown old.files (λ files. (plan : PlanView) → HasPlan asked files plan → HasSucceeded plan files status book)
-Succeeds (Some Worker) old new status book = OfKnown old.files (λ files. MetNoFault old.source.faults new.source.faults → HasWorkedWell files (at_first_desk old) (at_first_desk new) status)
+Succeeds (Some (Run asked)) old new status book = OfKnown old.desks.files (λ files. (plan : PlanView) → HasPlan asked.plan files plan → HasSucceeded plan files status book)
+Succeeds (Some Worker) old new status book = OfKnown old.desks.files (λ files. MetNoFault old.source.faults new.source.faults → HasWorkedWell files (at_first_desk old) (at_first_desk new) status)
 Succeeds (Some (Check name)) old new status book =
-    OfKnown old.files (λ files. MetNoFault old.source.faults new.source.faults → (plan : PlanView) → HasPlanFile name files plan → HasVerdict plan old.source new.source status)
+    OfKnown old.desks.files (λ files. MetNoFault old.source.faults new.source.faults → (plan : PlanView) → HasPlan name files plan → HasVerdict plan old.source new.source status)
 Succeeds (Some (Make asked)) old new status book = (status ≡ Passed) ⊎ (status ≡ NoMemory)
 
 -- where neither the desks that the command may use nor the sink met a fault
 abbrev pub IsComplete : Option Command → Around → Around → Status → Option BookView → Type 0
-IsComplete command old new status book = MetNoFaults (desks_used command) old.faults new.faults → MetNoFault old.sink.faults new.sink.faults → Succeeds command old new status book
+IsComplete command old new status book = MetNoFaults (desks_used command) old.desks.faults new.desks.faults → MetNoFault old.sink.faults new.sink.faults → Succeeds command old new status book

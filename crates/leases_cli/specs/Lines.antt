@@ -52,7 +52,6 @@ label_of (refusal.ReleaseNotLast p) = codes "10 ReleaseNotLast"
 label_of (refusal.ClassLoader p) = codes "11 ClassLoader"
 label_of (refusal.TooMany w p) = excess_label w
 label_of (refusal.BadRequirements p) = codes "13 BadRequirements"
-label_of refusal.NotYet = codes "14 NotYet"
 
 abbrev pub part_word : Part → List ℕ
 part_word Plan = codes "plan"

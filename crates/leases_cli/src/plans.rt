@@ -11,6 +11,7 @@ use worker_desk::{DeskFail, Files, Read};
 /// The plan of this name, or the refusal.
 pub(crate) fn read<F: Files>(alloc: Global, name: &Text, desk: &mut F) -> Result<Plan, Status>
     ensures files { F.files desk.new ≡ F.files desk.old }
+    ensures keeps { F.keeps desk.old desk.new }
     ensures count { F.faults desk.old ≤ F.faults desk.new }
     ensures plan { IfOk result (λ plan. IsFileOf (F.files desk.old) name.now plan) }
     ensures refused { IfErr result (λ status. OrNoMemory (IsFileCause (F.files desk.old) (F.faults desk.old) (F.faults desk.new) name.now status) status) }

@@ -43,7 +43,6 @@ fn label_of(refusal: PlanRefusal) -> &'static [u8]
         PlanRefusal::ClassLoader(_) => b"11 ClassLoader",
         PlanRefusal::TooMany(which, _) => excess_label(which),
         PlanRefusal::BadRequirements(_) => b"13 BadRequirements",
-        PlanRefusal::NotYet => b"14 NotYet",
     }
 }
 

@@ -8,19 +8,21 @@ ghost use Rattle.worker_desk.specs.SinkView.{Prints};
 ghost use Rattle.plan_reader.specs.Units.{plan_units};
 ghost use Rattle.run_laws.specs.Marks.{HasEnded};
 ghost use Rattle.item_actions.specs.Files.{Folder};
+ghost use Rattle.daemon_manager.specs.Events.{IsLegal, NoneIdle};
 ghost use Rattle.build_runner.specs.Run.{AreAlike, IsRunOf};
+ghost use Rattle.build_runner.specs.Sent.{sent_view};
 ghost use Rattle.command_words.specs.Reading.{IsBounded, command_of};
 ghost use Rattle.command_words.specs.Run.{HasBounds};
 ghost use Rattle.leases_cli.specs.declared.status.Status.TheVariants as status;
 ghost use Rattle.leases_cli.specs.declared.top.TheConstants.{DESKS};
-ghost use Rattle.leases_cli.specs.Around.{counts_of, desks_used, takes_input};
+ghost use Rattle.leases_cli.specs.Around.{desks_used, desks_view, takes_input};
 ghost use Rattle.leases_cli.specs.Worker.{HasWorked};
-ghost use Rattle.leases_cli.specs.Answered.{Answered, RunAnswered, all_pass, have_all_passed, history_asked, options_of, run_text, text_by_book, values_or_closings};
+ghost use Rattle.leases_cli.specs.Answered.{Answered, AreEventsOf, RunAnswered, all_pass, events_asked, have_all_passed, history_asked, options_of, run_text, text_by_book, values_or_closings};
 ghost use Rattle.leases_cli.specs.Check.{HasCheckedHistory};
 ghost use Rattle.leases_cli.specs.Complete.{IsComplete};
 ghost use Rattle.leases_cli.specs.Reported.{IsReported};
 ghost use Rattle.leases_cli.specs.Told.{IsToldAs};
-ghost use Rattle.leases_cli.specs.Causes.{IsFileCause, IsFileOf, IsPlanAt, IsReadCause, OrNoMemory};
+ghost use Rattle.leases_cli.specs.Causes.{IsFileCause, IsFileOf, OrNoMemory};
 
 use crate::check::check_history;
 use crate::make::make_plan;
@@ -28,12 +30,14 @@ use crate::plans::read;
 use crate::refusals::{told, told_but_no_memory};
 use crate::status::Status;
 use crate::worker::serve_worker;
-use build_runner::{RunOptions, can_run, run_plan};
+use build_runner::{RunEnd, RunOptions, run_plan};
 use command_words::{Command, RunWords, WordsFail, read_command};
-use history_text::{results_go_by_number, write_history, write_results};
+use daemon_desk::Desk;
+use daemon_manager::Event;
+use history_text::{results_go_by_number, write_events, write_history, write_results};
 use item_actions::Text;
 use lock_journal::Book;
-use plan_reader::{Plan, PlanRefusal};
+use plan_reader::Plan;
 use resource_lock::{MAX_WORKERS, Mark, MarkId, State};
 use run_laws::outcomes_go_by_number;
 use std::alloc::Global;
@@ -45,45 +49,28 @@ use worker_desk::{Failed, Files, Gate, Page, Sink, Source};
 /// How many desks a call is given: as many as a run may have threads.
 pub const DESKS: usize = MAX_WORKERS as usize;
 
-/// How a call ended, and the book of the run, if a run ended.
+/// How a call ended.
 #[derive(Drop)]
 pub struct Ended {
     pub status: Status,
+    /// The book of the run, if a run ended.
     pub book: Option<Book>,
+    /// What happened to the run's daemons. They are none where no run ended.
+    pub events: Vec<Event>,
 }
 
-/// The plan of this name by the first desk, or the refusal.
-fn read_first<F: Files>(alloc: Global, name: &Text, desks: &mut Vec<F>) -> Result<Plan, Status>
+/// The plan of this name by the first desk, or the refusal. No request is sent.
+fn read_first<D: Desk>(alloc: Global, name: &Text, desks: &mut Vec<D>) -> Result<Plan, Status>
     requires { 1 ≤ length desks.old.items }
     ensures places { length desks.new.items ≡ length desks.old.items }
-    ensures files { (i : ℕ) (d : F) → F.files (get_or desks.new.items i d) ≡ F.files (get_or desks.old.items i d) }
-    ensures counts { (i : ℕ) (d : F) → F.faults (get_or desks.old.items i d) ≤ F.faults (get_or desks.new.items i d) }
+    ensures files { (i : ℕ) (d : D) → D.files (get_or desks.new.items i d) ≡ D.files (get_or desks.old.items i d) }
+    ensures counts { (i : ℕ) (d : D) → D.faults (get_or desks.old.items i d) ≤ D.faults (get_or desks.new.items i d) }
     ensures rest { drop 1 desks.new.items ≡ drop 1 desks.old.items }
-    ensures plan { (d : F) → IfOk result (λ plan. IsFileOf (F.files (get_or desks.old.items 0 d)) name.now plan) }
-    ensures refused { (d : F) → IfErr result (λ status. OrNoMemory (IsFileCause (F.files (get_or desks.old.items 0 d)) (F.faults (get_or desks.old.items 0 d)) (F.faults (get_or desks.new.items 0 d)) name.now status) status) }
+    ensures sent { (i : ℕ) (d : D) → sent_view D.sends D.sent (get_or desks.new.items i d) ≡ sent_view D.sends D.sent (get_or desks.old.items i d) }
+    ensures plan { (d : D) → IfOk result (λ plan. IsFileOf (D.files (get_or desks.old.items 0 d)) name.now plan) }
+    ensures refused { (d : D) → IfErr result (λ status. OrNoMemory (IsFileCause (D.files (get_or desks.old.items 0 d)) (D.faults (get_or desks.old.items 0 d)) (D.faults (get_or desks.new.items 0 d)) name.now status) status) }
 {
     read(alloc, name, &mut desks[0])
-}
-
-/// The plan of this name by the first desk, if it can be run, or the refusal.
-fn read_to_run<F: Files>(alloc: Global, name: &Text, desks: &mut Vec<F>) -> Result<Plan, Status>
-    requires { 1 ≤ length desks.old.items }
-    ensures places { length desks.new.items ≡ length desks.old.items }
-    ensures files { (i : ℕ) (d : F) → F.files (get_or desks.new.items i d) ≡ F.files (get_or desks.old.items i d) }
-    ensures counts { (i : ℕ) (d : F) → F.faults (get_or desks.old.items i d) ≤ F.faults (get_or desks.new.items i d) }
-    ensures rest { drop 1 desks.new.items ≡ drop 1 desks.old.items }
-    ensures plan { (d : F) → IfOk result (λ plan. IsPlanAt (F.files (get_or desks.old.items 0 d)) name.now plan) }
-    ensures refused { (d : F) → IfErr result (λ status. OrNoMemory (IsReadCause (F.files (get_or desks.old.items 0 d)) (F.faults (get_or desks.old.items 0 d)) (F.faults (get_or desks.new.items 0 d)) name.now status) status) }
-{
-    let plan = match read_first(alloc, name, desks) {
-        Ok(plan) => plan,
-        Err(refusal) => return Err(refusal),
-    };
-    if can_run(&plan) {
-        Ok(plan)
-    } else {
-        Err(Status::BadPlan(PlanRefusal::NotYet))
-    }
 }
 
 /// Writes the history of a run, where the words ask for it.
@@ -95,16 +82,31 @@ fn write_history_asked<O: Sink>(asked: &RunWords, book: &Book, page: &mut Page, 
     }
 }
 
+/// Writes what happened to the daemons of a run, where the words ask for it.
+fn write_events_asked<O: Sink>(asked: &RunWords, events: &[Event], page: &mut Page, out: &mut O)
+    ensures { Adds (O.seen out.old) page.old (O.seen out.new) page.new (events_asked asked.now events.now) }
+{
+    if asked.daemons {
+        write_events(events, page, out);
+    }
+}
+
 /// Prints what the words ask for of a run.
-fn print_run<O: Sink>(asked: &RunWords, plan: &Plan, book: &Book, out: &mut O) -> Result<(), Failed>
-    requires tasks { length book.now.graph.tasks ≡ length plan.now.tasks }
-    requires units { book.now.graph.units ≡ length (plan_units plan.now) }
-    requires ended { HasEnded book.now.state }
-    ensures { Prints (O.seen out.old) (O.seen out.new) (text_by_book asked.now plan.now book.now) result }
+fn print_run<O: Sink>(
+    asked: &RunWords,
+    plan: &Plan,
+    end: &RunEnd,
+    out: &mut O,
+) -> Result<(), Failed>
+    requires tasks { length end.now.book.graph.tasks ≡ length plan.now.tasks }
+    requires units { end.now.book.graph.units ≡ length (plan_units plan.now) }
+    requires ended { HasEnded end.now.book.state }
+    ensures { Prints (O.seen out.old) (O.seen out.new) (text_by_book asked.now plan.now end.now.book end.now.events.items) result }
 {
     let mut page = Page::new();
-    write_results(plan, book, asked.summary, &mut page, out);
-    write_history_asked(asked, book, &mut page, out);
+    write_results(plan, &end.book, asked.summary, &mut page, out);
+    write_history_asked(asked, &end.book, &mut page, out);
+    write_events_asked(asked, &end.events, &mut page, out);
     page.end(out)
 }
 
@@ -124,86 +126,101 @@ fn all_passed(book: &Book) -> bool
 }
 
 /// Prints a run, and says how it went.
-fn report<O: Sink>(asked: &RunWords, plan: &Plan, book: Book, out: &mut O) -> Ended
-    requires tasks { length book.graph.tasks ≡ length plan.now.tasks }
-    requires units { book.graph.units ≡ length (plan_units plan.now) }
-    requires ended { HasEnded book.state }
-    ensures book { result.book ≡ Some book }
-    ensures status { IsReported (have_all_passed book) (O.seen out.old) (O.seen out.new) (text_by_book asked.now plan.now book) result.status }
+fn report<O: Sink>(asked: &RunWords, plan: &Plan, end: RunEnd, out: &mut O) -> Ended
+    requires tasks { length end.book.graph.tasks ≡ length plan.now.tasks }
+    requires units { end.book.graph.units ≡ length (plan_units plan.now) }
+    requires ended { HasEnded end.book.state }
+    requires legal { IsLegal end.events.items }
+    requires none_idle { NoneIdle end.events.items }
+    ensures book { result.book ≡ Some end.book }
+    ensures events { AreEventsOf result.book result.events.items }
+    ensures status { IsReported (have_all_passed end.book) (O.seen out.old) (O.seen out.new) (text_by_book asked.now plan.now end.book result.events.items) result.status }
 {
-    let passed = all_passed(&book);
-    let status = match print_run(asked, plan, &book, out) {
+    let passed = all_passed(&end.book);
+    let status = match print_run(asked, plan, &end, out) {
         Ok(()) if passed => Status::Passed,
         Ok(()) => Status::TaskFailed,
         Err(Failed) => Status::SinkFault,
     };
     Ended {
         status,
-        book: Some(book),
+        book: Some(end.book),
+        events: end.events,
     }
 }
 
 /// The end of a call in which no run ended.
-fn without_run(status: Status) -> Ended
+fn without_run(alloc: Global, status: Status) -> Ended
     ensures book { result.book ≡ None }
+    ensures events { AreEventsOf result.book result.events.items }
     ensures status { result.status ≡ status }
 {
-    Ended { status, book: None }
+    Ended {
+        status,
+        book: None,
+        events: Vec::new(alloc),
+    }
 }
 
 /// Writes the line of a refusal.
-fn refuse<O: Sink>(refusal: Status, out: &mut O) -> Ended
+fn refuse<O: Sink>(alloc: Global, refusal: Status, out: &mut O) -> Ended
     ensures book { result.book ≡ None }
+    ensures events { AreEventsOf result.book result.events.items }
     ensures status { IsToldAs refusal (O.seen out.old) (O.seen out.new) result.status }
 {
-    without_run(told(refusal, out))
+    without_run(alloc, told(refusal, out))
 }
 
 /// Writes the line of a refusal, but where there was no memory.
-fn refuse_plan<O: Sink>(refusal: Status, out: &mut O) -> Ended
+fn refuse_plan<O: Sink>(alloc: Global, refusal: Status, out: &mut O) -> Ended
     ensures book { result.book ≡ None }
+    ensures events { AreEventsOf result.book result.events.items }
     ensures no_memory { refusal ≡ status.NoMemory → (result.status ≡ status.NoMemory) × (O.seen out.new ≡ O.seen out.old) }
     ensures told { refusal ≢ status.NoMemory → IsToldAs refusal (O.seen out.old) (O.seen out.new) result.status }
 {
-    without_run(told_but_no_memory(refusal, out))
+    without_run(alloc, told_but_no_memory(refusal, out))
 }
 
 /// Prints a run of the plan, and says how it went by the plan.
-fn report_run<O: Sink>(asked: &RunWords, plan: &Plan, book: Book, out: &mut O) -> Ended
-    requires { (known : Option Folder) × (before : ℕ → ℕ) × (after : ℕ → ℕ) × IsRunOf plan.now (options_of asked.now) known before after book }
-    ensures book { result.book ≡ Some book }
-    ensures status { (known : Option Folder) (before after : ℕ → ℕ) → IsRunOf plan.now (options_of asked.now) known before after book
-        → IsReported (all_pass plan.now book.graph (values_or_closings plan.now known book.history)) (O.seen out.old) (O.seen out.new) (run_text asked.now plan.now known book) result.status }
+fn report_run<O: Sink>(asked: &RunWords, plan: &Plan, end: RunEnd, out: &mut O) -> Ended
+    requires run { (known : Option Folder) × (before : ℕ → ℕ) × (after : ℕ → ℕ) × IsRunOf plan.now (options_of asked.now) known before after end.book }
+    requires legal { IsLegal end.events.items }
+    requires none_idle { NoneIdle end.events.items }
+    ensures book { result.book ≡ Some end.book }
+    ensures events { AreEventsOf result.book result.events.items }
+    ensures status { (known : Option Folder) (before after : ℕ → ℕ) → IsRunOf plan.now (options_of asked.now) known before after end.book
+        → IsReported (all_pass plan.now end.book.graph (values_or_closings plan.now known end.book.history)) (O.seen out.old) (O.seen out.new) (run_text asked.now plan.now known end.book result.events.items) result.status }
 {
-    let _ = book.graph();
+    let _ = end.book.graph();
     outcomes_go_by_number();
     results_go_by_number();
-    report(asked, plan, book, out)
+    report(asked, plan, end, out)
 }
 
 /// Reads a plan through the first desk, runs it on as many threads as the words say, each with a desk
 /// of its own, and prints.
-fn run<R: Threads + Wait + Sync, F: Files + Send + Drop, G: Gate + Sync, O: Sink>(
+fn run<R: Threads + Wait + Sync, D: Desk + Send + Drop, G: Gate + Sync, O: Sink>(
     rt: &R,
     alloc: Global,
     asked: &RunWords,
-    desks: &mut Vec<F>,
+    desks: &mut Vec<D>,
     gate: &G,
     out: &mut O,
 ) -> Ended
     requires bounds { HasBounds asked.now }
     requires desks { length desks.old.items ≡ DESKS }
-    requires alike { AreAlike F.files desks.old.items }
+    requires alike { AreAlike D.files desks.old.items }
     ensures places { length desks.new.items ≡ DESKS }
-    ensures files { (i : ℕ) (d : F) → F.files (get_or desks.new.items i d) ≡ F.files (get_or desks.old.items i d) }
-    ensures counts { (i : ℕ) (d : F) → F.faults (get_or desks.old.items i d) ≤ F.faults (get_or desks.new.items i d) }
+    ensures files { (i : ℕ) (d : D) → D.files (get_or desks.new.items i d) ≡ D.files (get_or desks.old.items i d) }
+    ensures counts { (i : ℕ) (d : D) → D.faults (get_or desks.old.items i d) ≤ D.faults (get_or desks.new.items i d) }
     ensures rest { drop asked.now.threads desks.new.items ≡ drop asked.now.threads desks.old.items }
     ensures refused { result.book ≡ None → result.status ≢ status.NoMemory → drop 1 desks.new.items ≡ drop 1 desks.old.items }
-    ensures answer { (d : F) → RunAnswered asked.now (F.files (get_or desks.old.items 0 d)) (counts_of F.faults desks.old.items d) (counts_of F.faults desks.new.items d) (O.seen out.old) (O.seen out.new) result.status result.book }
+    ensures events { AreEventsOf result.book result.events.items }
+    ensures answer { (d : D) → RunAnswered asked.now (desks_view D.files D.faults D.sends D.sent desks.old.items d) (desks_view D.files D.faults D.sends D.sent desks.new.items d) (O.seen out.old) (O.seen out.new) result.status result.book result.events.items }
 {
-    let plan = match read_to_run(alloc, &asked.plan, desks) {
+    let plan = match read_first(alloc, &asked.plan, desks) {
         Ok(plan) => plan,
-        Err(refusal) => return refuse_plan(refusal, out),
+        Err(refusal) => return refuse_plan(alloc, refusal, out),
     };
     let options = RunOptions {
         workers: asked.threads,
@@ -211,8 +228,8 @@ fn run<R: Threads + Wait + Sync, F: Files + Send + Drop, G: Gate + Sync, O: Sink
         parallel: asked.parallel,
     };
     match run_plan(rt, alloc, &plan, &options, desks, gate) {
-        Ok(book) => report_run(asked, &plan, book, out),
-        Err(_) => without_run(Status::NoMemory),
+        Ok(end) => report_run(asked, &plan, end, out),
+        Err(_) => without_run(alloc, Status::NoMemory),
     }
 }
 
@@ -230,12 +247,13 @@ fn work<F: Files, I: Source, O: Sink>(
     ensures rest { drop 1 desks.new.items ≡ drop 1 desks.old.items }
     ensures input_count { (I.seen input.old).faults ≤ (I.seen input.new).faults }
     ensures book { result.book ≡ None }
+    ensures events { AreEventsOf result.book result.events.items }
     ensures worked { (d : F) → HasWorked
         record { source = I.seen input.old; sink = O.seen out.old; files = F.files (get_or desks.old.items 0 d); faults = F.faults (get_or desks.old.items 0 d) }
         record { source = I.seen input.new; sink = O.seen out.new; files = F.files (get_or desks.new.items 0 d); faults = F.faults (get_or desks.new.items 0 d) }
         result.status }
 {
-    without_run(serve_worker(alloc, &mut desks[0], input, out))
+    without_run(alloc, serve_worker(alloc, &mut desks[0], input, out))
 }
 
 /// Checks a history against the plan of this name by the first desk.
@@ -253,91 +271,100 @@ fn check<F: Files, I: Source, O: Sink>(
     ensures rest { drop 1 desks.new.items ≡ drop 1 desks.old.items }
     ensures input_count { (I.seen input.old).faults ≤ (I.seen input.new).faults }
     ensures book { result.book ≡ None }
+    ensures events { AreEventsOf result.book result.events.items }
     ensures checked { (d : F) → HasCheckedHistory plan.now
         record { source = I.seen input.old; sink = O.seen out.old; files = F.files (get_or desks.old.items 0 d); faults = F.faults (get_or desks.old.items 0 d) }
         record { source = I.seen input.new; sink = O.seen out.new; files = F.files (get_or desks.new.items 0 d); faults = F.faults (get_or desks.new.items 0 d) }
         result.status }
 {
-    without_run(check_history(alloc, plan, &mut desks[0], input, out))
+    without_run(alloc, check_history(alloc, plan, &mut desks[0], input, out))
 }
 
 /// Carries a command out.
-fn perform<R: Threads + Wait + Sync, F: Files + Send + Drop, I: Source, G: Gate + Sync, O: Sink>(
+fn perform<R: Threads + Wait + Sync, D: Desk + Send + Drop, I: Source, G: Gate + Sync, O: Sink>(
     rt: &R,
     alloc: Global,
     command: &Command,
-    desks: &mut Vec<F>,
+    desks: &mut Vec<D>,
     input: &mut I,
     gate: &G,
     out: &mut O,
 ) -> Ended
     requires bounded { IsBounded command.now }
     requires desks { length desks.old.items ≡ DESKS }
-    requires alike { AreAlike F.files desks.old.items }
+    requires alike { AreAlike D.files desks.old.items }
     ensures places { length desks.new.items ≡ DESKS }
-    ensures files { (i : ℕ) (d : F) → F.files (get_or desks.new.items i d) ≡ F.files (get_or desks.old.items i d) }
-    ensures counts { (i : ℕ) (d : F) → F.faults (get_or desks.old.items i d) ≤ F.faults (get_or desks.new.items i d) }
+    ensures files { (i : ℕ) (d : D) → D.files (get_or desks.new.items i d) ≡ D.files (get_or desks.old.items i d) }
+    ensures counts { (i : ℕ) (d : D) → D.faults (get_or desks.old.items i d) ≤ D.faults (get_or desks.new.items i d) }
     ensures rest { drop (desks_used (Some command.now)) desks.new.items ≡ drop (desks_used (Some command.now)) desks.old.items }
     ensures refused { result.book ≡ None → result.status ≢ status.NoMemory → drop 1 desks.new.items ≡ drop 1 desks.old.items }
     ensures input { takes_input (Some command.now) ≡ false → I.seen input.new ≡ I.seen input.old }
     ensures input_count { (I.seen input.old).faults ≤ (I.seen input.new).faults }
-    ensures answer { (d : F) → Answered (Some command.now)
-        record { source = I.seen input.old; sink = O.seen out.old; files = F.files (get_or desks.old.items 0 d); faults = counts_of F.faults desks.old.items d }
-        record { source = I.seen input.new; sink = O.seen out.new; files = F.files (get_or desks.new.items 0 d); faults = counts_of F.faults desks.new.items d }
-        result.status result.book }
+    ensures events { AreEventsOf result.book result.events.items }
+    ensures answer { (d : D) → Answered (Some command.now)
+        record { source = I.seen input.old; sink = O.seen out.old; desks = desks_view D.files D.faults D.sends D.sent desks.old.items d }
+        record { source = I.seen input.new; sink = O.seen out.new; desks = desks_view D.files D.faults D.sends D.sent desks.new.items d }
+        result.status result.book result.events.items }
 {
     match command {
         Command::Run(asked) => run(rt, alloc, asked, desks, gate, out),
         Command::Worker => work(alloc, desks, input, out),
         Command::Check(plan) => check(alloc, plan, desks, input, out),
-        Command::Make(asked) => without_run(make_plan(asked.seed, &asked.file, out)),
+        Command::Make(asked) => without_run(alloc, make_plan(asked.seed, &asked.file, out)),
     }
 }
 
 /// Does what the words after the program's name ask for.
 ///
-/// They are read by `command_words::read_command`. There are `DESKS` desks, and where they know their files
-/// all know the same. For `run` the plan is read through the first desk, and run on as many threads as the words
-/// say: thread i has the desk with number i, and each item passes the gate. What the words ask for is written
-/// to `out`. For `worker` the requests that the input gives are answered on `out` by the files of the first
-/// desk. For `check` the plan is read through the first desk, and the history that the input gives is checked against
-/// it; what is found is written to `out`. No other command takes anything from the input. For `make` the plan is
-/// written to `out` that the number makes for the file; no desk is used. The answer and its cause are those of the
-/// contract.
+/// They are read by `command_words::read_command`. There are `DESKS` desks, and where they know their files all know
+/// the same. For `run` the plan is read through the first desk, and run on as many threads as the words say: thread i
+/// has the desk with number i, and each item passes the gate. An item in a process is worked out by a daemon of the
+/// pool that the threads share. A thread starts one by its own desk where no idle daemon covers what is asked, and at
+/// the end the idle ones are stopped through the first desk. Where a run ended, each thread's desk sent, from the
+/// call's beginning to its end, the requests of those units that the thread closed, in the order in which it closed
+/// them, and no other request. For an item in a process that is one request, where the item ended with neither `Fault`
+/// nor `NoMemory`, and else at most one: the unit's number, its action and its file, over a link that was made for
+/// requirements that cover those asked. For any other unit it is none. What the words ask for is written to `out`, with
+/// `--daemons` also what happened to the daemons, which the answer has too. For `worker` the requests that the input
+/// gives are answered on `out` by the files of the first desk. For `check` the plan is read through the first desk, and
+/// the history that the input gives is checked against it; what is found is written to `out`. No other command takes
+/// anything from the input. For `make` the plan is written to `out` that the number makes for the file; no desk is
+/// used. The answer and its cause are those of the contract.
 ///
 /// At SinkFault the beginning of the text or of the replies was written, and at NoMemory nothing, but by a
 /// worker its replies up to then.
-pub fn leases<R: Threads + Wait + Sync, F: Files + Send + Drop, I: Source, G: Gate + Sync, O: Sink>(
+pub fn leases<R: Threads + Wait + Sync, D: Desk + Send + Drop, I: Source, G: Gate + Sync, O: Sink>(
     rt: &R,
     alloc: Global,
     words: &[Text],
-    desks: &mut Vec<F>,
+    desks: &mut Vec<D>,
     input: &mut I,
     gate: &G,
     out: &mut O,
 ) -> Ended
     requires desks { length desks.old.items ≡ DESKS }
-    requires alike { AreAlike F.files desks.old.items }
+    requires alike { AreAlike D.files desks.old.items }
     ensures places { length desks.new.items ≡ DESKS }
-    ensures files { (i : ℕ) (d : F) → F.files (get_or desks.new.items i d) ≡ F.files (get_or desks.old.items i d) }
-    ensures counts { (i : ℕ) (d : F) → F.faults (get_or desks.old.items i d) ≤ F.faults (get_or desks.new.items i d) }
+    ensures files { (i : ℕ) (d : D) → D.files (get_or desks.new.items i d) ≡ D.files (get_or desks.old.items i d) }
+    ensures counts { (i : ℕ) (d : D) → D.faults (get_or desks.old.items i d) ≤ D.faults (get_or desks.new.items i d) }
     ensures rest { drop (desks_used (command_of words.now)) desks.new.items ≡ drop (desks_used (command_of words.now)) desks.old.items }
     ensures refused { result.book ≡ None → result.status ≢ status.NoMemory → drop 1 desks.new.items ≡ drop 1 desks.old.items }
     ensures input { takes_input (command_of words.now) ≡ false → I.seen input.new ≡ I.seen input.old }
     ensures input_count { (I.seen input.old).faults ≤ (I.seen input.new).faults }
-    ensures answer { (d : F) → Answered (command_of words.now)
-        record { source = I.seen input.old; sink = O.seen out.old; files = F.files (get_or desks.old.items 0 d); faults = counts_of F.faults desks.old.items d }
-        record { source = I.seen input.new; sink = O.seen out.new; files = F.files (get_or desks.new.items 0 d); faults = counts_of F.faults desks.new.items d }
-        result.status result.book }
-    ensures complete { (d : F) → IsComplete (command_of words.now)
-        record { source = I.seen input.old; sink = O.seen out.old; files = F.files (get_or desks.old.items 0 d); faults = counts_of F.faults desks.old.items d }
-        record { source = I.seen input.new; sink = O.seen out.new; files = F.files (get_or desks.new.items 0 d); faults = counts_of F.faults desks.new.items d }
+    ensures events { AreEventsOf result.book result.events.items }
+    ensures answer { (d : D) → Answered (command_of words.now)
+        record { source = I.seen input.old; sink = O.seen out.old; desks = desks_view D.files D.faults D.sends D.sent desks.old.items d }
+        record { source = I.seen input.new; sink = O.seen out.new; desks = desks_view D.files D.faults D.sends D.sent desks.new.items d }
+        result.status result.book result.events.items }
+    ensures complete { (d : D) → IsComplete (command_of words.now)
+        record { source = I.seen input.old; sink = O.seen out.old; desks = desks_view D.files D.faults D.sends D.sent desks.old.items d }
+        record { source = I.seen input.new; sink = O.seen out.new; desks = desks_view D.files D.faults D.sends D.sent desks.new.items d }
         result.status result.book }
 {
     first_cycle_is_unique();
     match read_command(alloc, words) {
         Ok(command) => perform(rt, alloc, &command, desks, input, gate, out),
-        Err(WordsFail::NoCommand) => refuse(Status::BadWords, out),
-        Err(WordsFail::NoMemory) => without_run(Status::NoMemory),
+        Err(WordsFail::NoCommand) => refuse(alloc, Status::BadWords, out),
+        Err(WordsFail::NoMemory) => without_run(alloc, Status::NoMemory),
     }
 }

@@ -1,10 +1,12 @@
 //! The call that a case asks for, and what is printed of it.
-ghost use Rattle.std.specs.Prelude.{◌≡◌, All, IfOk, length};
+ghost use Rattle.std.specs.Prelude.{◌≡◌, All, IfOk, Some, length};
 ghost use Rattle.worker_desk.specs.Folders.{folder_of};
+ghost use Rattle.daemon_desk.specs.MemoryDeskView.{known_files};
 ghost use Rattle.leases_cli.specs.declared.top.TheConstants.{DESKS};
 
 use crate::cases::Case;
 use anyhow::Result;
+use daemon_desk::MemoryDesk;
 use item_actions::Text;
 use leases_cli::{DESKS, Ended, Status, leases};
 use lock_journal::Book;
@@ -12,7 +14,7 @@ use sha2::{Digest, Sha256};
 use std::alloc::{AllocError, Global};
 use std::sync::Wait;
 use std::thread::Threads;
-use worker_desk::{FileEntry, FileMap, MeetingGate, MemoryFiles, MemorySink, MemorySource};
+use worker_desk::{FileEntry, FileMap, MeetingGate, MemorySink, MemorySource};
 
 /// An equal file.
 fn copy_of(alloc: Global, file: &FileEntry) -> Result<FileEntry, AllocError>
@@ -36,10 +38,11 @@ fn copies_of(alloc: Global, files: &[FileEntry]) -> Result<Vec<FileEntry>, Alloc
 }
 
 /// A desk of these files. Its calls of the numbers in `failing` fail.
-fn desk_of(alloc: Global, files: &[FileEntry], failing: Vec<u64>) -> Result<MemoryFiles, AllocError>
-    ensures { IfOk result (λ desk. desk.files ≡ folder_of files.now) }
+fn desk_of(alloc: Global, files: &[FileEntry], failing: Vec<u64>) -> Result<MemoryDesk, AllocError>
+    ensures { IfOk result (λ desk. known_files desk ≡ Some (folder_of files.now)) }
 {
-    MemoryFiles::new(alloc, FileMap::new(copies_of(alloc, files)?), failing)
+    let files = FileMap::new(copies_of(alloc, files)?);
+    Ok(MemoryDesk::new(alloc, files, failing, Vec::new(alloc)))
 }
 
 /// Desks that all have these files. The first one's calls of the numbers in `failing` fail.
@@ -47,9 +50,9 @@ fn desks_of(
     alloc: Global,
     files: &[FileEntry],
     failing: Vec<u64>,
-) -> Result<Vec<MemoryFiles>, AllocError>
+) -> Result<Vec<MemoryDesk>, AllocError>
     ensures count { IfOk result (λ desks. length desks.items ≡ DESKS) }
-    ensures files { IfOk result (λ desks. All (λ desk. desk.files ≡ folder_of files.now) desks.items) }
+    ensures files { IfOk result (λ desks. All (λ desk. known_files desk ≡ Some (folder_of files.now)) desks.items) }
 {
     let mut desks = Vec::with_capacity(alloc, DESKS)?;
     desks.push(desk_of(alloc, files, failing)?)?;
@@ -60,7 +63,7 @@ fn desks_of(
 }
 
 /// How many calls of the desks failed.
-fn desk_faults(desks: &[MemoryFiles]) -> u128 {
+fn desk_faults(desks: &[MemoryDesk]) -> u128 {
     let mut faults = 0u128;
     for desk in desks {
         faults = faults.saturating_add(u128::from(desk.count()));
@@ -131,16 +134,60 @@ fn call_at_desks<T: Threads + Wait + Sync>(
     gate: &MeetingGate,
     out: &mut MemorySink,
 ) -> Result<(Ended, u128), AllocError> {
-    let (words, files, failing_reads) = case;
-    let mut desks = desks_of(alloc, files, failing_reads)?;
+    let (words, files, failing_calls) = case;
+    let mut desks = desks_of(alloc, files, failing_calls)?;
     let ended = leases(threads, alloc, words, &mut desks, input, gate, out);
     Ok((ended, desk_faults(&desks)))
+}
+
+/// Whether the program itself finds what a run of the words printed lawful, with as many entries as the run's book has.
+/// None says that no history was asked for, or that the run didn't end.
+fn is_found_lawful<T: Threads + Wait + Sync>(
+    threads: &T,
+    alloc: Global,
+    words: &[Text],
+    files: &[FileEntry],
+    ended: &Ended,
+    printed: &[u8],
+) -> Result<Option<bool>> {
+    let (Some(book), Status::Passed | Status::TaskFailed) = (&ended.book, ended.status) else {
+        return Ok(None);
+    };
+    if !words.iter().any(|word| word.as_str() == "--history") {
+        return Ok(None);
+    }
+    let Some(plan) = words.iter().find(|word| names_file(files, word)) else {
+        return Ok(None);
+    };
+    let mut check = Vec::with_capacity(alloc, 2)?;
+    check.push(Text::from_str(alloc, "check")?)?;
+    check.push(plan.copy(alloc)?)?;
+    let mut input = MemorySource::new(Vec::from_slice(alloc, printed)?, Vec::new(alloc));
+    let mut out = MemorySink::limited(alloc, u64::from(u32::MAX))?;
+    let at_desks = (check.as_slice(), files, Vec::new(alloc));
+    call_at_desks(
+        threads,
+        alloc,
+        at_desks,
+        &mut input,
+        &MeetingGate::new(0),
+        &mut out,
+    )?;
+    let lawful = format!(in alloc; "lawful {}\n", book.len())?;
+    Ok(Some(out.taken() == lawful.as_bytes()))
+}
+
+/// Whether one of the files has this name.
+fn names_file(files: &[FileEntry], name: &Text) -> bool {
+    files.iter().any(|file| file.name.as_str() == name.as_str())
 }
 
 /// What a call answered.
 #[derive(Drop)]
 pub(crate) struct Answer {
     ended: Ended,
+    /// Whether its history, if one was asked for, is found lawful.
+    lawful: Option<bool>,
     /// How many calls of the outside failed.
     faults: u128,
     /// Whether two items ran at once, where the case asks for that.
@@ -150,16 +197,16 @@ pub(crate) struct Answer {
     digest: bool,
 }
 
-/// Makes the call of a case.
+/// Makes the call of a case, and has the history checked that it printed.
 pub(crate) fn answer_to<T: Threads + Wait + Sync>(
     threads: &T,
     alloc: Global,
     case: Case,
-) -> Result<Answer, AllocError> {
+) -> Result<Answer> {
     let Case {
         words,
         files,
-        failing_reads,
+        failing_calls,
         input,
         failing_takes,
         room,
@@ -170,13 +217,15 @@ pub(crate) fn answer_to<T: Threads + Wait + Sync>(
     let gate = MeetingGate::new(turns);
     let mut input = MemorySource::new(input, failing_takes);
     let mut out = MemorySink::new(alloc, room, failing_puts)?;
-    let at_desks = (words.as_slice(), files.as_slice(), failing_reads);
+    let at_desks = (words.as_slice(), files.as_slice(), failing_calls);
     let (ended, desk_faults) = call_at_desks(
         threads, alloc, at_desks, &mut input, &gate, &mut out,
     )?;
     let others = u128::from(input.count()) + u128::from(out.count());
+    let lawful = is_found_lawful(threads, alloc, &words, &files, &ended, out.taken())?;
     Ok(Answer {
         ended,
+        lawful,
         faults: desk_faults.saturating_add(others),
         met: gate.met(),
         out,
@@ -184,11 +233,16 @@ pub(crate) fn answer_to<T: Threads + Wait + Sync>(
     })
 }
 
-/// Prints the case's name, how its call ended, how many calls of the outside failed, whether two items met, and what
-/// was written.
+/// Prints the case's name, how its call ended, whether the history that it printed is found lawful, how many calls of the
+/// outside failed, whether two items met, and what was written.
 pub(crate) fn print_answer(rt: &HostRuntime, name: &str, answer: &Answer) -> Result<()> {
     println!(rt; "=== {name}")?;
     print_end(rt, &answer.ended)?;
+    match answer.lawful {
+        Some(true) => print!(rt; ", lawful")?,
+        Some(false) => print!(rt; ", not found lawful")?,
+        None => {}
+    }
     if answer.faults > 0 {
         print!(rt; ", {} faults", answer.faults)?;
     }

@@ -14,8 +14,8 @@ pub(crate) struct Case {
     pub(crate) words: Vec<Text>,
     /// The files, which each desk has.
     pub(crate) files: Vec<FileEntry>,
-    /// The first desk's calls that fail, numbered from 0.
-    pub(crate) failing_reads: Vec<u64>,
+    /// The first desk's calls that fail, numbered from 0, whether they read a file or have to do with a daemon.
+    pub(crate) failing_calls: Vec<u64>,
     /// The bytes of the input.
     pub(crate) input: Vec<u8>,
     /// The input's calls that fail.
@@ -42,7 +42,7 @@ impl Case {
         Case {
             words: Vec::new(alloc),
             files: Vec::new(alloc),
-            failing_reads: Vec::new(alloc),
+            failing_calls: Vec::new(alloc),
             input: Vec::new(alloc),
             failing_takes: Vec::new(alloc),
             room: AMPLE,
@@ -67,7 +67,7 @@ impl Case {
     /// - `each N`: the other lines stand N times more in the last file, with the turn's number for `{n}`.
     /// - `fill N TEXT`: the text stands N times more in the last file.
     /// - `input DIGITS`: further bytes of the input.
-    /// - `fail read N`, `fail take N`, `fail put N`: this call fails of the first desk, the input or the output.
+    /// - `fail desk N`, `fail take N`, `fail put N`: this call fails of the first desk, the input or the output.
     /// - `room N`: the output takes so many bytes.
     /// - `meet N`: units 0 and 1 wait for each other for so many turns.
     /// - `digest`: what is written isn't printed, but its SHA-256 digest.
@@ -151,7 +151,7 @@ impl Case {
         let (call, number) = rest.split_once(' ').unwrap_or((rest, ""));
         let number = number.parse::<u64>()?;
         match call {
-            "read" => self.failing_reads.push(number)?,
+            "desk" => self.failing_calls.push(number)?,
             "take" => self.failing_takes.push(number)?,
             "put" => self.failing_puts.push(number)?,
             _ => return Err(anyhow!("no such call: {call}")),

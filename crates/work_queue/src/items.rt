@@ -1,40 +1,63 @@
-ghost use Rattle.std.specs.Prelude.{◌≡◌, ◌≢◌, ◌≤◌, Contains, IfSome};
+ghost use Rattle.std.specs.Prelude.{◌≡◌, ◌≢◌, ◌≤◌, Contains, IfSome, true};
+ghost use Rattle.item_actions.specs.Forms.{is_file_name};
 ghost use Rattle.item_actions.specs.Value.{IsHonest, value_on};
 ghost use Rattle.item_actions.specs.declared.outcomes.Outcome.TheVariants as outcomes;
-ghost use Rattle.daemon_requirements.specs.declared.work.Isolation.TheVariants as isolations;
 ghost use Rattle.resource_lock.specs.declared.marks.MarkId.TheVariants as ids;
 ghost use Rattle.coordination.specs.Shown.{claimed_shown};
 ghost use Rattle.worker_desk.specs.SinkView.{Rises};
+ghost use Rattle.daemon_items.specs.Requests.{request_for};
+ghost use Rattle.work_queue.specs.Sends.{SendsFor};
 
+use daemon_desk::Desk;
+use daemon_items::{PoolLock, work_in_daemon};
 use daemon_requirements::{Isolation, Work};
 use item_actions::Outcome;
 use lease_service::Lease;
 use std::alloc::Global;
-use worker_desk::{Files, work_out};
+use std::sync::Wait;
+use worker_desk::work_out;
 
-/// Runs an item in the worker's own thread: works its action out on its file.
+/// Runs an item: works its action out on its file, in the worker's own thread or in a daemon of the pool.
 ///
 /// The pass of the lease has claimed the item. While the item runs the lease borrows the pass, so the
 /// worker takes part in no transform. Where the files are known the outcome is the action's value on
-/// them, NotThere or TooLong; else Fault, where the files failed and their count of faults rose, or
-/// NoMemory.
-pub fn run_item<F: Files>(
+/// them, NotThere or TooLong; else Fault, where the desk failed and its count of faults rose, or
+/// NoMemory. For an item in the worker's own thread nothing is sent. For one in a process at most one
+/// request is sent, this unit's, to a daemon that covers what is asked; it is sent where the outcome is
+/// neither Fault nor NoMemory.
+pub fn run_item<R: Wait, D: Desk>(
+    rt: &R,
     alloc: Global,
     lease: &Lease<'_>,
-    files: &mut F,
+    desk: &mut D,
+    pool: &PoolLock<D::Link>,
     unit: u32,
     work: &Work,
 ) -> Outcome
     requires claimed { Contains (claimed_shown lease.now.sight) (ids.Unit unit) }
-    requires in_thread { work.now.isolation ≡ isolations.InThread }
-    ensures files { F.files files.new ≡ F.files files.old }
-    ensures kept { F.faults files.old ≤ F.faults files.new }
+    requires form { is_file_name work.now.file ≡ true }
+    ensures files { D.files desk.new ≡ D.files desk.old }
+    ensures kept { D.faults desk.old ≤ D.faults desk.new }
     ensures ran { result ≢ outcomes.Skipped }
-    ensures fault { result ≡ outcomes.Fault → Rises (F.faults files.old) (F.faults files.new) }
-    ensures honest { IfSome (F.files files.old) (λ known. IsHonest result (value_on known work.now.action work.now.file)) }
+    ensures fault { result ≡ outcomes.Fault → Rises (D.faults desk.old) (D.faults desk.new) }
+    ensures honest { IfSome (D.files desk.old) (λ known. IsHonest result (value_on known work.now.action work.now.file)) }
+    ensures sent { SendsFor work.now.isolation (record { count = D.sends desk.old; requests = D.sent desk.old }) (record { count = D.sends desk.new; requests = D.sent desk.new }) (request_for unit work.now) result }
 {
     match &work.isolation {
-        Isolation::InThread => work_out(alloc, &work.action, &work.file, files),
-        Isolation::Process(_) => unreachable!(),
+        Isolation::InThread => work_in_thread(alloc, desk, work),
+        Isolation::Process(asked) => work_in_daemon(rt, alloc, desk, pool, unit, work, asked),
     }
+}
+
+// Works an item out in the worker's own thread, which sends nothing.
+fn work_in_thread<D: Desk>(alloc: Global, desk: &mut D, work: &Work) -> Outcome
+    ensures files { D.files desk.new ≡ D.files desk.old }
+    ensures kept { D.faults desk.old ≤ D.faults desk.new }
+    ensures ran { result ≢ outcomes.Skipped }
+    ensures fault { result ≡ outcomes.Fault → Rises (D.faults desk.old) (D.faults desk.new) }
+    ensures honest { IfSome (D.files desk.old) (λ known. IsHonest result (value_on known work.now.action work.now.file)) }
+    ensures sends { D.sends desk.new ≡ D.sends desk.old }
+    ensures sent { D.sent desk.new ≡ D.sent desk.old }
+{
+    work_out(alloc, &work.action, &work.file, desk)
 }

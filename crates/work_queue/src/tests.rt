@@ -1,41 +1,45 @@
-//! A claimed item, run on files in memory.
+//! A claimed item, run in the worker's own thread and in a daemon, on files in memory.
 ghost use Rattle.std.specs.Prelude.{◌≡◌, All, Contains, IfOk, IfSome, IsTrue, true};
+ghost use Rattle.item_actions.specs.Forms.{is_file_name};
 ghost use Rattle.item_actions.specs.Value.{IsHonest, value_on};
-ghost use Rattle.daemon_requirements.specs.declared.work.Isolation.TheVariants as isolations;
 ghost use Rattle.resource_lock.specs.declared.marks.MarkId.TheVariants as ids;
 ghost use Rattle.coordination.specs.Shown.{claimed_shown, lease_shown};
 
 use crate::run_item;
 use coordination::{Coordination, Opened, Pass, openings_are_at_rest};
-use daemon_requirements::{Isolation, Work};
-use item_actions::{ItemAction, Outcome, Text};
+use daemon_desk::{Desk, MemoryDesk};
+use daemon_items::PoolLock;
+use daemon_manager::Pool;
+use daemon_requirements::{Isolation, RequirementFields, Requirements, Work};
+use item_actions::{ItemAction, Outcome, Text, is_file_name};
 use lease_service::current_lease;
 use lock_journal::Book;
 use lock_journal::kinds::{Claim, Park, Start, Submit};
 use resource_lock::{Graph, GraphAction, GraphTask, LockId, MarkId, Retention};
 use std::alloc::{AllocError, Global};
 use std::process::Abort;
-use std::sync::Wait;
+use std::sync::{Mutex, Wait};
 use std::test::Fail;
-use worker_desk::{FileEntry, FileMap, Files, MemoryFiles};
+use worker_desk::{FileEntry, FileMap};
 
 /// Runs an item that the pass has claimed, with the lease that it took with it.
-fn run_claimed<F: Files>(
+fn run_claimed<R: Wait, D: Desk>(
+    rt: &R,
     alloc: Global,
     pass: &Pass,
-    files: &mut F,
-    unit: u32,
+    desk: &mut D,
+    pool: &PoolLock<D::Link>,
     work: &Work,
 ) -> Outcome
     requires lease { lease_shown pass.now.sight ≡ true }
-    requires claimed { Contains (claimed_shown pass.now.sight) (ids.Unit unit) }
-    requires in_thread { work.now.isolation ≡ isolations.InThread }
-    ensures honest { IfSome (F.files files.old) (λ known. IsHonest result (value_on known work.now.action work.now.file)) }
+    requires claimed { Contains (claimed_shown pass.now.sight) (ids.Unit 1) }
+    requires form { is_file_name work.now.file ≡ true }
+    ensures honest { IfSome (D.files desk.old) (λ known. IsHonest result (value_on known work.now.action work.now.file)) }
 {
     let Some(lease) = current_lease(pass) else {
         unreachable!()
     };
-    run_item(alloc, &lease, files, unit, work)
+    run_item(rt, alloc, &lease, desk, pool, 1, work)
 }
 
 /// A service of one worker, and a task with one action of two items.
@@ -89,14 +93,36 @@ fn claim_second<R: Wait + Abort>(rt: &R, service: &Coordination, pass: &mut Pass
 }
 
 /// The lines of a file.
-fn lines_of(alloc: Global, name: &str) -> Result<Work, AllocError>
-    ensures { IfOk result (λ work. work.isolation ≡ isolations.InThread) }
+fn lines_of(
+    rt: &impl Abort,
+    alloc: Global,
+    name: &str,
+    isolation: Isolation,
+) -> Result<Work, AllocError>
+    ensures { IfOk result (λ work. is_file_name work.file ≡ true) }
 {
+    let file = Text::from_str(alloc, name)?;
+    assert!(rt; is_file_name(file.bytes()));
     Ok(Work {
         action: ItemAction::Lines,
-        file: Text::from_str(alloc, name)?,
-        isolation: Isolation::InThread,
+        file,
+        isolation,
     })
+}
+
+/// What an item in a process asks of its daemon.
+fn asked(alloc: Global) -> Result<Requirements, Fail> {
+    let fields = RequirementFields {
+        executable: Text::from_str(alloc, "self")?,
+        heap_mb: 512,
+        args: Vec::new(alloc),
+        properties: Vec::new(alloc),
+        variables: Vec::new(alloc),
+        debug: false,
+        assertions: false,
+        encoding: Text::from_str(alloc, "UTF-8")?,
+    };
+    Ok(Requirements::of(fields)?)
 }
 
 /// Whether the mark at a place of those that the pass has claimed is the unit's.
@@ -113,37 +139,64 @@ fn has_claimed(pass: &Pass, place: usize, unit: u32) -> bool
     }
 }
 
-/// A desk of one file, whose third call fails.
-fn open_desk(alloc: Global) -> Result<MemoryFiles, AllocError> {
+/// A desk of one file, whose call of this number fails.
+fn open_desk(alloc: Global, failing: u64) -> Result<MemoryDesk, AllocError> {
     let entry = FileEntry {
         name: Text::from_str(alloc, "a.txt")?,
         bytes: Vec::from_slice(alloc, b"one\ntwo\nthree\n")?,
     };
     let files = FileMap::new(vec![in alloc; entry]?);
-    MemoryFiles::new(alloc, files, vec![in alloc; 2u64]?)
+    let failing = vec![in alloc; failing]?;
+    Ok(MemoryDesk::new(alloc, files, failing, Vec::new(alloc)))
 }
 
-/// Runs the item on a file, on a missing one, and while the desk fails.
-fn assert_outcomes(rt: &impl Abort, alloc: Global, pass: &Pass) -> Result<(), AllocError>
+/// Runs the item in the worker's own thread: on a file, on a missing one, and while the desk fails.
+fn assert_in_thread<R: Wait + Abort>(rt: &R, alloc: Global, pass: &Pass) -> Result<(), Fail>
     requires lease { lease_shown pass.now.sight ≡ true }
     requires claimed { Contains (claimed_shown pass.now.sight) (ids.Unit 1) }
 {
-    let mut desk = open_desk(alloc)?;
-    let (here, missing) = (lines_of(alloc, "a.txt")?, lines_of(alloc, "b.txt")?);
-    assert_eq!(rt;
-        run_claimed(alloc, pass, &mut desk, 1, &here),
-        Outcome::Number(3)
-    );
-    assert_eq!(rt;
-        run_claimed(alloc, pass, &mut desk, 1, &missing),
-        Outcome::NotThere
-    );
-    assert_eq!(rt;
-        run_claimed(alloc, pass, &mut desk, 1, &here),
-        Outcome::Fault
-    );
+    let mut desk = open_desk(alloc, 2)?;
+    let pool = Mutex::new(Pool::new(alloc)?);
+    let here = lines_of(rt, alloc, "a.txt", Isolation::InThread)?;
+    let missing = lines_of(rt, alloc, "b.txt", Isolation::InThread)?;
+    let first = run_claimed(rt, alloc, pass, &mut desk, &pool, &here);
+    assert_eq!(rt; first, Outcome::Number(3));
+    let second = run_claimed(rt, alloc, pass, &mut desk, &pool, &missing);
+    assert_eq!(rt; second, Outcome::NotThere);
+    let third = run_claimed(rt, alloc, pass, &mut desk, &pool, &here);
+    assert_eq!(rt; third, Outcome::Fault);
     assert_eq!(rt; desk.count(), 1);
+    assert_eq!(rt; desk.sent().len(), 0);
     Ok(())
+}
+
+/// Runs the item in a process: once by a daemon that is started, and once where the idle one fails.
+fn assert_in_daemons<R: Wait + Abort>(rt: &R, alloc: Global, pass: &Pass) -> Result<(), Fail>
+    requires lease { lease_shown pass.now.sight ≡ true }
+    requires claimed { Contains (claimed_shown pass.now.sight) (ids.Unit 1) }
+{
+    // Start, send and receive are the calls 0 to 2, so the second item's send fails.
+    let mut desk = open_desk(alloc, 3)?;
+    let pool = Mutex::new(Pool::new(alloc)?);
+    let work = lines_of(rt, alloc, "a.txt", Isolation::Process(asked(alloc)?))?;
+    let first = run_claimed(rt, alloc, pass, &mut desk, &pool, &work);
+    assert_eq!(rt; first, Outcome::Number(3));
+    let second = run_claimed(rt, alloc, pass, &mut desk, &pool, &work);
+    assert_eq!(rt; second, Outcome::Fault);
+    assert_eq!(rt; desk.count(), 1);
+    assert_eq!(rt; desk.sent().len(), 1);
+    // Started, reserved, released, reserved and failed.
+    assert_eq!(rt; pool.into_inner().events().len(), 5);
+    Ok(())
+}
+
+/// Runs the item in both ways.
+fn assert_outcomes<R: Wait + Abort>(rt: &R, alloc: Global, pass: &Pass) -> Result<(), Fail>
+    requires lease { lease_shown pass.now.sight ≡ true }
+    requires claimed { Contains (claimed_shown pass.now.sight) (ids.Unit 1) }
+{
+    assert_in_thread(rt, alloc, pass)?;
+    assert_in_daemons(rt, alloc, pass)
 }
 
 #[test]

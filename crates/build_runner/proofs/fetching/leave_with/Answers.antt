@@ -1,4 +1,4 @@
-use Rattle.std.proofs.Common.{Some, OnOk, ap, sym, subst, ◌∙◌, Err}
+use Rattle.std.proofs.Common.{Some, ap, subst, ◌∙◌, Err}
 use Rattle.lock_journal.specs.declared.entries.Kind.TheVariants.{Unblock}
 use Rattle.lock_journal.specs.Allowed.{IsFixedList}
 use Rattle.coordination.specs.Calls.{HasFinished}

@@ -9,7 +9,7 @@ use Rattle.build_runner.proofs.Keeping.{on_ok}
 use Rattle.build_runner.proofs.items.help.Goals as goal
 
 pub run_claimed-outcome-requires-clause-claimed : goal.run_claimed-outcome-requires-clause-claimed
-run_claimed-outcome-requires-clause-claimed g c =
+run_claimed-outcome-requires-clause-claimed g c κs within =
     let shows = c.claim_item.ensures.shows (search rules) in
     subst (λ (ms : List MarkId). Contains ms (UnitOf c.args.unit)) (sym shows.claimed) (has_member mark_before (UnitOf c.args.unit) (claimed_shown c.args.pass.now.sight))
 

@@ -7,12 +7,12 @@ use Rattle.plan_reader.specs.IsPlan.{dependencies}
 use Rattle.plan_reader.specs.Units.{plan_units}
 use Rattle.run_laws.specs.Marks.{HasEnded}
 use Rattle.build_runner.specs.Run.{depth}
-use Rattle.build_runner.proofs.AtTheEnd.{all_are_honest, all_ended, all_faults, all_rest, has_results}
+use Rattle.build_runner.proofs.AtTheEnd.{all_are_honest, all_ended, all_faults, all_rest, closings_in, has_results}
 use Rattle.build_runner.proofs.Ranks.{afters_count, in_range, no_cycle, ranks_of, task_count}
 use Rattle.build_runner.proofs.runs.close_service.Goals as goal
 
-pub returns : goal.returns
-returns c = λ known before after come.
+pub returns-clause-run : goal.returns-clause-run
+returns-clause-run c = λ known before after come.
     let plan = c.args.plan.now in
     let options = c.args.options.now in
     let n = options.workers in
@@ -44,3 +44,6 @@ returns c = λ known before after come.
       workers = entries;
       faults = all_faults known units before after ps n b are agrees entries come;
     }
+
+pub returns-clause-closings : goal.returns-clause-closings
+returns-clause-closings c = closings_in c.args.left.items c.args.options.now.workers c.finish-book.result c.requires.workers c.finish-book.ensures.agrees

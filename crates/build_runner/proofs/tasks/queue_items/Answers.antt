@@ -1,10 +1,9 @@
-use Rattle.std.proofs.Common.{◌≡◌, ap, refl, subst, sym, ◌∙◌}
+use Rattle.std.proofs.Common.{refl, subst, sym, ◌∙◌}
 use Rattle.resource_lock.specs.Fits.{Fits}
 use Rattle.resource_lock.specs.GraphView.{GraphView, action_of}
-use Rattle.resource_lock.specs.Ranges.{IsActionOf, lock_with}
-use Rattle.async_tracker.specs.Shows.{ShowsParked}
+use Rattle.resource_lock.specs.Ranges.{IsActionOf}
 use Rattle.build_runner.proofs.Keeping.{closes_then, gave_closes}
-use Rattle.build_runner.proofs.Points.{owns_for, parked_from, same_runs, works_for}
+use Rattle.build_runner.proofs.Points.{owns_for, same_runs, works_for}
 use Rattle.build_runner.proofs.tasks.queue_items.Goals as goal
 
 pub submit-requires-clause-works : goal.submit-requires-clause-works

@@ -1,4 +1,4 @@
-use Rattle.std.proofs.Common.{◌≡◌, ℕ, Ok, ap, subst, sym, ◌∙◌}
+use Rattle.std.proofs.Common.{◌≡◌, ℕ, ap, map, subst, sym, ◌∙◌}
 use Rattle.resource_lock.specs.Fits.{Fits}
 use Rattle.resource_lock.specs.GraphView.{GraphView, action_of, task_of}
 use Rattle.resource_lock.specs.Ranges.{IsActionOf, lock_with}
@@ -8,6 +8,8 @@ use Rattle.async_tracker.specs.Shows.{ShowsParked, ShowsResumed}
 use Rattle.build_runner.specs.Points.{IsInTask, RunsTask}
 use Rattle.build_runner.proofs.Keeping.{if_ok, of_ok}
 use Rattle.build_runner.proofs.Points.{ok_is, own_task, resumed, with_lease}
+use Rattle.build_runner.specs.Units.{unit_view}
+use Rattle.build_runner.proofs.Sending.{sent_next}
 use Rattle.build_runner.proofs.tasks.run_action.Goals as goal
 
 -- the worker after its fetch, parked, and after it resumed
@@ -36,3 +38,13 @@ returns-else-not-failed-clause-in_task g c =
     (of_ok c.fetch_first.result c.in_ok-fetch_first.field-0 c.in_ok-fetch_first.was c.fetch_first.ensures.runs)
     (of_ok c.queue_items.result c.in_ok-parked.parked c.in_ok-parked.was q.shows)
     (of_ok c.wait_for_items.result c.in_ok-failed.failed c.in_ok-failed.was c.wait_for_items.ensures.shows)
+
+pub returns-then-not-failed-clause-sent : goal.returns-then-not-failed-clause-sent
+returns-then-not-failed-clause-sent g c =
+    sent_next (map unit_view c.args.site.now.units.now) (of_ok c.fetch_first.result c.in_ok-fetch_first.field-0 c.in_ok-fetch_first.was c.fetch_first.ensures.sent) c.queue_items.ensures.closed
+    (of_ok c.wait_for_items.result c.in_ok-failed.failed c.in_ok-failed.was c.wait_for_items.ensures.sent)
+
+pub returns-else-not-failed-clause-sent : goal.returns-else-not-failed-clause-sent
+returns-else-not-failed-clause-sent g c =
+    sent_next (map unit_view c.args.site.now.units.now) (of_ok c.fetch_first.result c.in_ok-fetch_first.field-0 c.in_ok-fetch_first.was c.fetch_first.ensures.sent) c.queue_items.ensures.closed
+    (of_ok c.wait_for_items.result c.in_ok-failed.failed c.in_ok-failed.was c.wait_for_items.ensures.sent)

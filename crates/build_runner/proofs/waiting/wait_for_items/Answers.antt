@@ -1,7 +1,9 @@
-use Rattle.std.proofs.Common.{◌≡◌, Err, None, ap, subst, ◌∙◌}
+use Rattle.std.proofs.Common.{◌≡◌, Err, None, ap, map, refl, subst, ◌∙◌}
 use Rattle.worker_choices.specs.Ready.{first_open}
 use Rattle.async_tracker.proofs.Resumed.{none_open_found}
 use Rattle.build_runner.proofs.Keeping.{finished_closes, keeps_still, keeps_then, of_ok, some_or_none, stopped_closes}
+use Rattle.build_runner.specs.Units.{unit_view}
+use Rattle.build_runner.proofs.Sending.{sent_nothing, sent_then}
 use Rattle.build_runner.proofs.waiting.wait_for_items.Goals as goal
 
 pub unreachable-requires : goal.unreachable-requires
@@ -15,9 +17,14 @@ unreachable-requires g c =
 
 pub returns-in-Ok-clause-keeps : goal.returns-in-Ok-clause-keeps
 returns-in-Ok-clause-keeps g c =
-    keeps_then _ _ _ _ _ c.help_until_over.ensures.keeps (keeps_still _ _ (g.F.Files.faults c.help_until_over.new.desk) (finished_closes (of_ok c.resume.result c.in-Ok.field-0 c.in-Ok.is c.resume.ensures.entry)))
+    keeps_then _ _ _ _ _ c.help_until_over.ensures.keeps (keeps_still _ _ (g.D.Files.faults c.help_until_over.new.desk) (finished_closes (of_ok c.resume.result c.in-Ok.field-0 c.in-Ok.is c.resume.ensures.entry)))
 
 pub returns-in-Err-Stopped-clause-keeps : goal.returns-in-Err-Stopped-clause-keeps
 returns-in-Err-Stopped-clause-keeps g c =
     let stopped = (c.resume.ensures.stopped c.in-Err-Stopped.field-0-0 c.in-Err-Stopped.by (c.in-Err-Stopped.is ∙ ap Err c.in-Err-Stopped.field-0-is)).1 in
-    keeps_then _ _ _ _ _ c.help_until_over.ensures.keeps (keeps_still _ _ (g.F.Files.faults c.help_until_over.new.desk) (stopped_closes stopped))
+    keeps_then _ _ _ _ _ c.help_until_over.ensures.keeps (keeps_still _ _ (g.D.Files.faults c.help_until_over.new.desk) (stopped_closes stopped))
+
+pub returns-in-Ok-clause-sent : goal.returns-in-Ok-clause-sent
+returns-in-Ok-clause-sent g c =
+    let units = map unit_view c.args.site.now.units.now in
+    sent_then units (of_ok c.help_until_over.result c.in_ok-failed.failed c.in_ok-failed.was c.help_until_over.ensures.sent) (sent_nothing units (finished_closes (of_ok c.resume.result c.in-Ok.field-0 c.in-Ok.is c.resume.ensures.entry)) refl)

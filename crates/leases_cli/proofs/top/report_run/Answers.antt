@@ -5,18 +5,19 @@ use Rattle.leases_cli.proofs.Reports.{tasks_in_graph, same_pass, same_text}
 use Rattle.leases_cli.proofs.top.report_run.Goals as goal
 
 pub report-requires-clause-tasks : goal.report-requires-clause-tasks
-report-requires-clause-tasks g c = tasks_in_graph c.args.plan.now (options_of c.args.asked.now) c.requires.0 c.requires.1 c.requires.2 c.args.book c.requires.3
+report-requires-clause-tasks g c = tasks_in_graph c.args.plan.now (options_of c.args.asked.now) c.requires.run.0 c.requires.run.1 c.requires.run.2 c.args.end.book c.requires.run.3
 
 pub returns-clause-status : goal.returns-clause-status
 returns-clause-status g c = λ known before after run.
     let asked = c.args.asked.now in
     let plan = c.args.plan.now in
-    let b = c.args.book in
+    let b = c.args.end.book in
+    let events = c.report.result.events.items in
     let old = g.O.Sink.seen c.args.out.now in
     let new = g.O.Sink.seen c.report.new.out in
     let status = c.report.result.status in
     let laws = c.results_go_by_number.ensures in
-    subst (λ (passed : Bool). IsReported passed old new (run_text asked plan known b) status) (same_pass plan (options_of asked) known before after b run)
+    subst (λ (passed : Bool). IsReported passed old new (run_text asked plan known b events) status) (same_pass plan (options_of asked) known before after b run)
     (subst (λ (text : List ℕ). IsReported (have_all_passed b) old new text status)
-    (same_text plan (options_of asked) known before after b run asked c.outcomes_go_by_number.ensures laws.results laws.summary c.graph.ensures.fits)
+    (same_text plan (options_of asked) known before after b run asked events c.outcomes_go_by_number.ensures laws.results laws.summary c.graph.ensures.fits)
     c.report.ensures.status)

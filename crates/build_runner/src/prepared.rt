@@ -1,0 +1,147 @@
+//! What a run takes memory for, before any desk moves.
+ghost use Rattle.std.specs.Prelude.{◌≡◌, ◌≤◌, [], All, IfOk, length, map, vec_capacity};
+ghost use Rattle.resource_lock.specs.Opening.{opening_of};
+ghost use Rattle.resource_lock.specs.declared.limits.TheConstants.{MAX_LEASES, MAX_WORKERS};
+ghost use Rattle.coordination.specs.Sights.{workers_from};
+ghost use Rattle.plan_reader.specs.Graph.{graph_of};
+ghost use Rattle.build_runner.specs.Prepared.{IsPrepared};
+ghost use Rattle.build_runner.specs.Team.{CanWork};
+
+use crate::options::RunOptions;
+use crate::team::Worker;
+use crate::units::{UnitWork, units_of};
+use coordination::{Coordination, Opened, Pass, openings_are_at_rest};
+use lock_journal::Book;
+use lock_journal::kinds::MAX_CHANGES;
+use plan_reader::Plan;
+use resource_lock::Graph;
+use std::alloc::{AllocError, Global};
+
+/// The entries of a task, beside those of its actions: start and end, or skip alone.
+const ENTRIES_A_TASK: u64 = 2;
+
+/// The entries of an action, beside those of its units: submit, park, resume.
+const ENTRIES_AN_ACTION: u64 = 3;
+
+/// The entries of a unit: claim and close, or block and unblock.
+const ENTRIES_A_UNIT: u64 = 2;
+
+/// The most changes of a task's entries: start takes the lock and the lease, and end gives them back.
+/// Each moves the task's mark.
+const CHANGES_A_TASK: u64 = 3 + 3;
+
+/// The most changes of an action's entries: it is queued; park gives back and parks the lock, gives the
+/// lease, and resume takes them again. Each moves the action's mark.
+const CHANGES_AN_ACTION: u64 = 1 + 4 + 4;
+
+/// The most changes of a unit's entries: an item is queued, claimed with a lease, and closed. A fetch
+/// blocks the worker, with its lock and the lease given back, and unblocks it.
+const CHANGES_A_UNIT: u64 = 5 + 5;
+
+/// A book of the graph without an entry, and with room for those of a whole run.
+///
+/// It fails where there is no memory for that room.
+fn open_book(alloc: Global, graph: Graph) -> Result<Book, AllocError>
+    ensures graph { IfOk result (λ book. book.graph ≡ graph) }
+    ensures state { IfOk result (λ book. book.state ≡ opening_of graph) }
+    ensures history { IfOk result (λ book. book.history ≡ []) }
+{
+    let tasks = graph.tasks().len() as u64;
+    let actions = graph.actions().len() as u64;
+    let units = u64::from(graph.units());
+    let entries = ENTRIES_A_TASK * tasks + ENTRIES_AN_ACTION * actions + ENTRIES_A_UNIT * units;
+    let changes = CHANGES_A_TASK * tasks
+        + CHANGES_AN_ACTION * actions
+        + CHANGES_A_UNIT * units
+        + MAX_CHANGES;
+    Book::opening(alloc, graph, entries, changes)
+}
+
+/// The service over a book of the graph, with a pass for each worker.
+fn open_service(alloc: Global, graph: Graph) -> Result<Opened, AllocError>
+    ensures graph { IfOk result (λ opened. opened.service.book.graph ≡ graph) }
+    ensures passes { IfOk result (λ opened. length opened.passes.items ≡ graph.workers) }
+    ensures ready { IfOk result (λ opened. All (CanWork opened.service graph) opened.passes.items) }
+    ensures untouched { IfOk result (λ opened. All (λ p. p.sight.seen.history ≡ []) opened.passes.items) }
+    ensures workers { IfOk result (λ opened. map (λ p. p.sight.worker.0) opened.passes.items ≡ workers_from 0 graph.workers) }
+{
+    openings_are_at_rest();
+    let book = open_book(alloc, graph)?;
+    Coordination::open(alloc, book)
+}
+
+/// The graph of the plan, as the options have it.
+fn graph_of(alloc: Global, plan: &Plan, options: &RunOptions) -> Result<Graph, AllocError>
+    requires some_worker { 1 ≤ options.now.workers }
+    requires few_workers { options.now.workers ≤ MAX_WORKERS }
+    requires some_lease { 1 ≤ options.now.max_leases }
+    requires few_leases { options.now.max_leases ≤ MAX_LEASES }
+    ensures { IfOk result (λ g. g ≡ graph_of plan.now options.now.workers options.now.max_leases options.now.parallel) }
+{
+    plan.graph(alloc, options.workers, options.max_leases, options.parallel)
+}
+
+/// Room for the workers, and for the passes and desks that they leave.
+#[derive(Drop)]
+pub(crate) struct Room<D> {
+    pub team: Vec<Worker<D>>,
+    pub passes: Vec<Pass>,
+    pub desks: Vec<D>,
+}
+
+impl<D: Drop> Room<D> {
+    /// Room for so many workers, and for all desks.
+    fn new(alloc: Global, workers: usize, desks: usize) -> Result<Room<D>, AllocError>
+        ensures empty { IfOk result (λ room. (room.team.items ≡ []) × (room.passes.items ≡ []) × (room.desks.items ≡ [])) }
+        ensures workers { IfOk result (λ room. (workers ≤ vec_capacity room.team) × (workers ≤ vec_capacity room.passes)) }
+        ensures desks { IfOk result (λ room. desks ≤ vec_capacity room.desks) }
+    {
+        Ok(Room {
+            team: Vec::with_capacity(alloc, workers)?,
+            passes: Vec::with_capacity(alloc, workers)?,
+            desks: Vec::with_capacity(alloc, desks)?,
+        })
+    }
+}
+
+/// What a run has before it begins.
+#[derive(Drop)]
+pub(crate) struct Prepared<'a, D> {
+    /// The graph of the plan.
+    pub graph: Graph,
+    /// The units by their numbers.
+    pub units: Vec<UnitWork<'a>>,
+    /// The service, over a book of that graph.
+    pub service: Coordination,
+    /// A pass for each worker.
+    pub passes: Vec<Pass>,
+    pub room: Room<D>,
+}
+
+impl<'a, D: Drop> Prepared<'a, D> {
+    /// What a run of the plan needs, and room for so many desks. It fails for want of memory.
+    pub fn new(
+        alloc: Global,
+        plan: &'a Plan,
+        options: &RunOptions,
+        desks: usize,
+    ) -> Result<Prepared<'a, D>, AllocError>
+        requires some_worker { 1 ≤ options.now.workers }
+        requires few_workers { options.now.workers ≤ MAX_WORKERS }
+        requires some_lease { 1 ≤ options.now.max_leases }
+        requires few_leases { options.now.max_leases ≤ MAX_LEASES }
+        ensures { IfOk result (IsPrepared plan.now options.now desks) }
+    {
+        let room = Room::new(alloc, options.workers as usize, desks)?;
+        let units = units_of(alloc, plan)?;
+        let Opened { service, passes } = open_service(alloc, graph_of(alloc, plan, options)?)?;
+        let graph = graph_of(alloc, plan, options)?;
+        Ok(Prepared {
+            graph,
+            units,
+            service,
+            passes,
+            room,
+        })
+    }
+}

@@ -1,0 +1,11 @@
+use daemon_manager::Event;
+use lock_journal::Book;
+
+/// What a run leaves.
+#[derive(Drop)]
+pub struct RunEnd {
+    /// All that its workers did.
+    pub book: Book,
+    /// All that happened to its worker daemons, in this order. None of them is idle any more.
+    pub events: Vec<Event>,
+}
