@@ -2,8 +2,9 @@
 """Counts what `leases make` takes a byte, and what `leases check` takes an entry of a history.
 
 Makes a plan by `make`, runs it on one thread, and has half of the printed history checked and all of it. The plan's reading is
-counted with an empty input and left out. Makes its files in a temporary folder. Not part of the gate. Skips, with status 0, where
-valgrind or strace is missing.
+counted with an empty input and left out. Then lawful histories of 32 and 64 MiB are checked, in which one worker takes and gives
+back the same locks all the time, and their time and peak memory are told. Makes its files in a temporary folder. Not part of the
+gate. Skips, with status 0, where valgrind, strace or GNU time is missing.
 
     bench/commands.py [PROGRAM]
 """
@@ -16,10 +17,46 @@ import measure
 
 MOST_A_BYTE = 60
 MOST_AN_ENTRY = 1_500
+MOST_TIMES_THE_TEXT = 3
+MIB = 2**20
+
+PLAN_OF_TWO_LOCKS = """project = [{ name = "app" }, { name = "lib" }]
+task = [{ name = "a", project = "app" }]
+"""
+
+# What one worker does over and over.
+ENTRIES = [
+    "acquire | lock 0, lock 1, take",
+    "block - | give, unlock 0, park 0, unlock 1, park 1, enter",
+    "unblock - | leave, unpark 1, lock 1, unpark 0, lock 0, take",
+    "handback | unlock 0, unlock 1, give",
+]
+
+
+def repeated_history(most: int) -> tuple[int, bytes]:
+    """A lawful history of about so many bytes, and how many entries it has."""
+    lines, size = ["history 1\n", "workers 1 max 1 parallel yes\n"], 0
+    while size < most - 200:
+        lines.append(f"{len(lines) - 1} w0 {ENTRIES[(len(lines) - 2) % len(ENTRIES)]}\n")
+        size += len(lines[-1])
+    entries = len(lines) - 2
+    return entries, "".join([*lines, f"end {entries}\n"]).encode()
+
+
+def check_large(program: str, folder: pathlib.Path) -> None:
+    (folder / "plan.toml").write_text(PLAN_OF_TWO_LOCKS)
+    for size in [32 * MIB, 64 * MIB]:
+        entries, text = repeated_history(size)
+        (folder / "history.txt").write_bytes(text)
+        usage = measure.usage_of(["sh", "-c", f'exec "{program}" check plan.toml < history.txt'], folder)
+        print(
+            f"check: {entries} entries in {len(text)} bytes, {usage.seconds:.1f} s, peak memory {usage.kilobytes} KB,"
+            f" {usage.kilobytes * 1024 / len(text):.2f} times the text (goal: at most {MOST_TIMES_THE_TEXT})"
+        )
 
 
 def main() -> None:
-    measure.skip_without("valgrind", "strace")
+    measure.skip_without("valgrind", "strace", "time")
     program = measure.leases_program()
     with tempfile.TemporaryDirectory() as name:
         folder = pathlib.Path(name)
@@ -41,6 +78,7 @@ def main() -> None:
                 f"check: {entries} entries of {len(text) / entries:.0f} bytes, {(count - reading) / entries:.0f} instructions an entry"
                 f" (goal: at most {MOST_AN_ENTRY}), {reads / len(text):.2f} system calls a byte"
             )
+        check_large(program, folder)
 
 
 if __name__ == "__main__":

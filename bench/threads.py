@@ -1,9 +1,9 @@
 #!/usr/bin/env python3
 """Runs plans on several threads: whether they end, whether they print what one thread prints, and how long they take.
 
-Random plans are run with several numbers of threads and leases and compared with one thread; the seed is printed. Plans that
-contend for two locks are run many times, each with a time limit. Then plans of few large files, of many small tasks and of a
-chain of tasks are timed. Not part of the gate.
+Random plans are run with several numbers of threads and leases and compared with one thread, and the program checks each
+history that it printed; the seed is printed. Plans that contend for two locks are run many times, each with a time limit.
+Then plans of few large files, of many small tasks and of a chain of tasks are timed. Not part of the gate.
 
     bench/threads.py [PROGRAM [PLANS [RUNS]]]
 """
@@ -76,9 +76,22 @@ def compare_random_plans(program: str, folder: pathlib.Path, plans: int) -> None
         for threads in (1, 2, 5, 32):
             words = ["--threads", str(threads), "--max-workers", str(draw.randint(1, threads))]
             words += ["--parallel"] * draw.randint(0, 1)
-            if run(program, folder, *words) != expected:
+            status, printed = run(program, folder, "--history", *words)
+            results, _, history = printed.partition(b"history 1\n")
+            if (status, results) != expected:
                 sys.exit(f"plan {number} with {words} didn't print what one thread prints:\n{(folder / 'plan.toml').read_text()}")
-    print("  each printed what one thread prints")
+            check_history(program, folder, history)
+    print("  each printed what one thread prints, and a lawful history")
+
+
+def check_history(program: str, folder: pathlib.Path, history: bytes) -> None:
+    """The history behind its first line is found lawful, with as many entries as its last line says."""
+    entries = history.split(b"\n")[-2].removeprefix(b"end ")
+    found = subprocess.run(
+        [program, "check", "plan.toml"], cwd=folder, input=b"history 1\n" + history, capture_output=True, timeout=LIMIT
+    )
+    if found.stdout != b"lawful " + entries + b"\n":
+        sys.exit(f"a history is found {found.stdout!r}:\n{(folder / 'plan.toml').read_text()}{history.decode()}")
 
 
 def contended_plan() -> str:
