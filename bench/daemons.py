@@ -42,7 +42,7 @@ def requirements(name: str, *args: str, executable: str = str(STRANGE), heap: in
 
 
 def plan_text(items: list[str], *asked: str) -> str:
-    """A plan of one task with items that each name their requirements, 64 an action."""
+    """A plan of one task with items that each name their requirements, 1,024 an action."""
     actions = []
     for start in range(0, len(items), 1024):
         rows = [f'{{ do = "lines", file = "a.txt", isolation = "process", requirements = "{name}" }}' for name in items[start : start + 1024]]

@@ -27,7 +27,7 @@ MOST_GROWTH = 4.3
 MOST_KILOBYTES = 40 * 1024
 
 # The functions whose difference is a run without the reading of its files. The plan is read by another function.
-RUN_OF_A_PLAN = "build_runner::runs::run_plan"
+RUN_OF_A_PLAN = "build_runner::runs::run_book"
 READING_OF_FILES = "FolderDeskFiles::read"
 
 
@@ -53,7 +53,9 @@ def inclusive(profile: pathlib.Path, name: str) -> int:
     call = ["callgrind_annotate", "--inclusive=yes", str(profile)]
     table = subprocess.run(call, capture_output=True, text=True).stdout
     found = re.search(r"^\s*([\d,]+) .*" + re.escape(name), table, re.MULTILINE)
-    return int(found.group(1).replace(",", "")) if found is not None else 0
+    if found is None:
+        sys.exit(f"callgrind names no function {name}")
+    return int(found.group(1).replace(",", ""))
 
 
 def measure_plan(program: str, items: int) -> int:
