@@ -1,6 +1,6 @@
 pub mod Steps
 pub mod Replays
-pub mod Pushes
+pub mod Stored
 pub mod Outcomes
 pub mod Makings
 pub mod Within

@@ -8,6 +8,7 @@ use Rattle.resource_lock.specs.declared.marks.MarkId.TheVariants.{Unit as UnitOf
 use Rattle.item_actions.specs.declared.outcomes.Outcome.{Outcome}
 use Rattle.item_actions.specs.declared.outcomes.Outcome.TheVariants as outcomes
 use Rattle.lock_journal.specs.Entry.{Entry}
+use Rattle.lock_journal.specs.declared.entries.Closed.{Closed}
 use Rattle.lock_journal.specs.declared.entries.Kind.{Kind}
 use Rattle.lock_journal.specs.declared.entries.Kind.TheVariants.{Close, Unblock}
 
@@ -16,6 +17,12 @@ abbrev pub closing_of : ℕ → Kind → List Outcome
 closing_of u (Close d) = if d.unit == u then d.outcome ∷ [] else []
 closing_of u (Unblock (Some d)) = if d.unit == u then d.outcome ∷ [] else []
 closing_of u _ = []
+
+-- the closing that the kind carries
+abbrev pub closed_by : Kind → List Closed
+closed_by (Close d) = d ∷ []
+closed_by (Unblock (Some d)) = d ∷ []
+closed_by _ = []
 
 -- the unit that it closes, where it closes one, is among the first n
 abbrev pub ClosesWithin : ℕ → Kind → Type 0

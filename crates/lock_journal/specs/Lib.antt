@@ -2,6 +2,7 @@ pub mod Entry
 pub mod Table
 pub mod Allowed
 pub mod Closings
+pub mod LastChanges
 pub mod Bounds
 pub mod TentativeView
 pub mod Tentative

@@ -1,15 +1,57 @@
 -- What a stored entry stands for.
-use Rattle.std.specs.Prelude.{ℕ, ◌≡◌, ◌≤◌, true, List, None, Some, slice_range, if◌then◌else◌}
+use Rattle.std.specs.Prelude.{ℕ, ◌≤◌, ◌<◌, ◌^◌, List, [], ◌∷◌, length, None, Some, slice_index_or, slice_range, if◌then◌else◌}
 use Rattle.resource_lock.specs.declared.changes.Change.{Change}
+use Rattle.item_actions.specs.declared.outcomes.Outcome.TheVariants as outcomes
 use Rattle.lock_journal.specs.Entry.{Entry, entry}
-use Rattle.lock_journal.specs.declared.histories.StoredEntry.{StoredEntry}
+use Rattle.lock_journal.specs.declared.entries.Closed.{Closed}
+use Rattle.lock_journal.specs.declared.entries.Kind.{Kind}
+use Rattle.lock_journal.specs.declared.entries.Kind.TheVariants.{Start, Skip, Submit, Park, Resume, Claim, Close, Block, Unblock, End, Acquire, HandBack}
+use Rattle.lock_journal.specs.declared.stored_entries.StoredEntry.{StoredEntry}
+use Rattle.lock_journal.specs.declared.stored_entries.StoredKind.{StoredKind}
+use Rattle.lock_journal.specs.declared.stored_entries.StoredKind.TheVariants as stored
 
--- the entry, whose changes stand among those of all entries
-abbrev pub entry_from : List Change → StoredEntry → Entry
-entry_from changes k = entry k.worker k.kind (if k.failed then None else Some (slice_range changes k.start k.end))
+-- the closing at a place
+abbrev pub closing_at : List Closed → ℕ → Closed
+closing_at closings place = slice_index_or closings place (record { unit = 0; outcome = outcomes.Skipped })
 
--- its range lies within the first n changes, and is empty where it failed
-pub record IsWithin (n : ℕ) (k : StoredEntry) : Type 0 where
-  pub ordered : k.start ≤ k.end
-  pub bounded : k.end ≤ n
-  pub failed : k.failed ≡ true → k.start ≡ k.end
+-- the kind that is stored so, where these are the closings of all entries
+abbrev pub kind_from : List Closed → StoredKind → ℕ → Kind
+kind_from closings stored.Start n = Start n
+kind_from closings stored.Skip n = Skip n
+kind_from closings stored.Submit n = Submit n
+kind_from closings stored.Park n = Park n
+kind_from closings stored.Resume n = Resume n
+kind_from closings stored.Claim n = Claim n
+kind_from closings stored.Close n = Close (closing_at closings n)
+kind_from closings stored.BlockForFetch n = Block (Some n)
+kind_from closings stored.Block n = Block None
+kind_from closings stored.UnblockAfterFetch n = Unblock (Some (closing_at closings n))
+kind_from closings stored.Unblock n = Unblock None
+kind_from closings stored.End n = End n
+kind_from closings stored.Acquire n = Acquire
+kind_from closings stored.HandBack n = HandBack
+
+-- the number is the place of one of so many closings, or has 32 bits
+abbrev pub IsNumberOf : ℕ → StoredKind → ℕ → Type 0
+IsNumberOf closings stored.Close n = n < closings
+IsNumberOf closings stored.UnblockAfterFetch n = n < closings
+IsNumberOf closings _ n = n < 2 ^ 32
+
+-- where the changes end that come before those of these entries, of so many in all
+abbrev pub end_before : List StoredEntry → ℕ → ℕ
+end_before [] changes = changes
+end_before (k ∷ ks) changes = k.start
+
+-- the entry, whose changes end there among those of all entries
+abbrev pub entry_from : List Change → List Closed → ℕ → StoredEntry → Entry
+entry_from changes closings end k = entry k.worker (kind_from closings k.kind k.number) (if k.failed then None else Some (slice_range changes k.start end))
+
+-- the entries in order: the changes of each end where those of the next begin
+abbrev pub entries_from : List Change → List Closed → List StoredEntry → List Entry
+entries_from changes closings [] = []
+entries_from changes closings (k ∷ ks) = entry_from changes closings (end_before ks (length changes)) k ∷ entries_from changes closings ks
+
+-- of so many changes and closings, each entry has a range and a number
+abbrev pub AreStored : ℕ → ℕ → List StoredEntry → Type 0
+AreStored changes closings [] = Unit {0}
+AreStored changes closings (k ∷ ks) = (k.start ≤ end_before ks changes) × IsNumberOf closings k.kind k.number × AreStored changes closings ks

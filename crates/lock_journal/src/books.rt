@@ -9,6 +9,7 @@ ghost use Rattle.ready_work.specs.Lowest.{IsFrom, IsLowest, IsNone};
 ghost use Rattle.lock_journal.specs.Entry.{replay};
 ghost use Rattle.lock_journal.specs.Shown.{entry_shown};
 ghost use Rattle.lock_journal.specs.Closings.{outcome_of};
+ghost use Rattle.lock_journal.specs.LastChanges.{last_changes};
 ghost use Rattle.lock_journal.specs.Allowed.{Lawful};
 ghost use Rattle.lock_journal.specs.Bounds.{IsFitKind};
 ghost use Rattle.lock_journal.specs.Ran.{HasFinished, HasFailed, IsToRetry};
@@ -109,6 +110,14 @@ impl Book {
         ensures no_changes { IsTrue result.failed → result.changes.now ≡ [] }
     {
         self.history.entry(place)
+    }
+
+    /// The changes of the history's last entry, in order. Where it failed, or there is no entry, there
+    /// are none.
+    pub fn last_changes(&self) -> &[Change]
+        ensures { result.now ≡ last_changes self.now.history }
+    {
+        self.history.last_changes()
     }
 
     /// A unit's outcome: that of its closing entry, or Skipped where it was skipped. None where it

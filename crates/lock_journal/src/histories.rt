@@ -4,29 +4,23 @@ ghost use Rattle.lock_journal.specs.Entry.{entry};
 ghost use Rattle.lock_journal.specs.Shown.{entry_shown};
 ghost use Rattle.lock_journal.specs.Closings.{closing_of, last_or, outcome_in, ClosesWithin};
 ghost use Rattle.lock_journal.specs.HistoryView.{SameHistory};
+ghost use Rattle.lock_journal.specs.LastChanges.{last_changes};
 ghost use Rattle.item_actions.specs.declared.outcomes.Outcome.TheVariants as outcomes;
 
-use crate::entries::{Kind, Shown};
+use crate::entries::{Closed, Kind, Shown};
+use crate::stored_entries::{StoredEntry, changes_of, end_before, kind_of, store_kind};
 use item_actions::Outcome;
 use resource_lock::{Change, WorkerId};
 use std::alloc::{AllocError, Global};
 use std::marker::Model;
 
-/// An entry, with the range of its changes among those of all entries.
-#[derive(Clone, Copy, Debug)]
-struct StoredEntry {
-    worker: WorkerId,
-    kind: Kind,
-    failed: bool,
-    start: usize,
-    end: usize,
-}
-
-/// The entries so far, and each unit's outcome by them.
+/// The entries so far, and each unit's outcome by them. The changes of all entries stand in a row, and
+/// so do the closings that their kinds carry.
 #[derive(Debug, Drop)]
 pub(crate) struct History {
     stored: Vec<StoredEntry>,
     changes: Vec<Change>,
+    closings: Vec<Closed>,
     outcomes: Vec<Outcome>,
 }
 
@@ -58,22 +52,26 @@ impl History {
         Ok(History {
             stored: Vec::with_capacity(alloc, entries)?,
             changes: Vec::with_capacity(alloc, changes)?,
+            closings: Vec::with_capacity(alloc, entries)?,
             outcomes: vec![in alloc; Outcome::Skipped; units as usize]?,
         })
     }
 
     /// How many entries there are.
+    #[tactic(auto, using(crate::proofs::Stored::length_of_entries))]
     pub(crate) fn len(&self) -> u64
         ensures { result ≡ length self.now.entries }
     {
         self.stored.len() as u64
     }
 
-    /// How many more entries there is room for.
+    /// How many more entries there is room for, also where each has a closing.
     pub(crate) fn spare_entries(&self) -> u64
         ensures { result ≡ self.now.spare_entries }
     {
-        (self.stored.capacity() - self.stored.len()) as u64
+        let entries = self.stored.capacity() - self.stored.len();
+        let closings = self.closings.capacity() - self.closings.len();
+        entries.min(closings) as u64
     }
 
     /// How many more changes there is room for.
@@ -91,21 +89,35 @@ impl History {
         ensures full { OnErr result ((self.old.spare_entries < entries) ⊎ (self.old.spare_changes < changes)) }
     {
         self.stored.try_reserve(entries)?;
+        self.closings.try_reserve(entries)?;
         self.changes.try_reserve(changes)
     }
 
     /// The entry at a place, counted from 0.
+    #[tactic(auto, using(crate::proofs::Stored::length_of_entries))]
     pub(crate) fn entry(&self, place: u64) -> Shown<'_>
         requires { place < length self.now.entries }
         ensures shown { slice_get self.now.entries place ≡ Some (entry_shown result) }
         ensures no_changes { IsTrue result.failed → result.changes.now ≡ [] }
     {
-        let stored = self.stored[place as usize];
+        let place = place as usize;
+        let stored = self.stored[place];
+        let end = end_before(&self.stored[place + 1..], self.changes.len());
         Shown {
             worker: stored.worker,
-            kind: stored.kind,
+            kind: kind_of(stored, &self.closings),
             failed: stored.failed,
-            changes: &self.changes[stored.start..stored.end],
+            changes: changes_of(stored, end, &self.changes),
+        }
+    }
+
+    /// The changes of the last entry. Where it failed, or there is no entry, there are none.
+    pub(crate) fn last_changes(&self) -> &[Change]
+        ensures { result.now ≡ last_changes self.now.entries }
+    {
+        match self.stored.last() {
+            Some(last) => changes_of(*last, self.changes.len(), &self.changes),
+            None => &[],
         }
     }
 
@@ -124,7 +136,7 @@ impl History {
         requires closes { ClosesWithin self.old.units kind }
         ensures entries { self.new.entries ≡ self.old.entries ++ entry worker kind (Some changes.now) ∷ [] }
         ensures units { self.new.units ≡ self.old.units }
-        ensures spare_entries { self.new.spare_entries + 1 ≡ self.old.spare_entries }
+        ensures spare_entries { self.old.spare_entries ≤ self.new.spare_entries + 1 }
         ensures spare_changes { self.old.spare_changes ≤ self.new.spare_changes + length changes.now }
         ensures fit { IsFitKind kind }
     {
@@ -133,12 +145,13 @@ impl History {
         // There is room, so this takes no memory.
         let _ = self.changes.extend_from_slice(changes);
         set_outcome(&mut self.outcomes, kind);
+        let (kind, number) = store_kind(kind, &mut self.closings);
         self.stored.push_reserved(StoredEntry {
+            start,
+            number,
             worker,
             kind,
             failed: false,
-            start,
-            end: self.changes.len(),
         });
     }
 
@@ -147,18 +160,18 @@ impl History {
         requires { 0 < self.old.spare_entries }
         ensures entries { self.new.entries ≡ self.old.entries ++ entry worker kind None ∷ [] }
         ensures units { self.new.units ≡ self.old.units }
-        ensures spare_entries { self.new.spare_entries + 1 ≡ self.old.spare_entries }
+        ensures spare_entries { self.old.spare_entries ≤ self.new.spare_entries + 1 }
         ensures spare_changes { self.new.spare_changes ≡ self.old.spare_changes }
         ensures fit { IsFitKind kind }
     {
         note_bounds(kind);
-        let end = self.changes.len();
+        let (kind, number) = store_kind(kind, &mut self.closings);
         self.stored.push_reserved(StoredEntry {
+            start: self.changes.len(),
+            number,
             worker,
             kind,
             failed: true,
-            start: end,
-            end,
         });
     }
 }

@@ -6,6 +6,7 @@ mod books;
 mod entries;
 mod histories;
 pub mod kinds;
+mod stored_entries;
 mod tentatives;
 mod transforms;
 
