@@ -1,20 +1,18 @@
 -- A worker's part of a book after a transform of the worker.
-use Rattle.std.proofs.Common.{◌≡◌, ℕ, ◌-◌, Bool, true, false, cond, List, [], ◌∷◌, ◌++◌, length, length-append, get_or, Result, Ok, Some, None, refl, sym, ap, ◌∙◌, subst, arith}
+use Rattle.std.proofs.Common.{◌≡◌, ℕ, ◌-◌, List, [], ◌∷◌, ◌++◌, length, length-append, Result, Ok, Some, None, refl, sym, ap, ◌∙◌, subst, arith}
 use Rattle.std.specs.Prelude.{slice_get}
 use Rattle.std.proofs.Math.Seq.{get_or-append_seam}
-use Rattle.std.proofs.lemmas.Option.{get_or_from_slice_get}
+use Rattle.std.proofs.lemmas.Option.{slice_get-get_or}
 use Rattle.resource_lock.specs.Change.{make_all}
 use Rattle.resource_lock.specs.Good.{Good}
 use Rattle.resource_lock.specs.GraphView.{GraphView}
 use Rattle.resource_lock.specs.Shape.{BelongsTo}
 use Rattle.resource_lock.specs.StateView.{StateView}
-use Rattle.resource_lock.specs.declared.changes.Change.{Change}
 use Rattle.resource_lock.specs.declared.ids.WorkerId.{WorkerId}
 use Rattle.resource_lock.proofs.Runs.{belongs_along, same_shape-make_all, worker_from}
 use Rattle.lock_journal.specs.Entry.{Entry, entry}
 use Rattle.lock_journal.specs.BookView.{BookView}
-use Rattle.lock_journal.specs.Shown.{entry_shown}
-use Rattle.lock_journal.specs.declared.entries.Shown.{Shown}
+use Rattle.lock_journal.specs.LastChanges.{last_changes, made_by}
 use Rattle.lock_journal.specs.declared.transforms.Disposition.{Disposition}
 use Rattle.lock_journal.specs.declared.transforms.Disposition.TheVariants.{Finished, Failed}
 use Rattle.run_laws.proofs.Named.{belongs, good}
@@ -49,22 +47,16 @@ room_out g s part b room = record {
   park_room = omega (arith, b.locks, room.park_room);
 }
 
-not_failed : (failed : Bool) (xs cs : List Change) → cond failed None (Some xs) ≡ Some cs → xs ≡ cs
-not_failed true xs cs is = absurd (cc)
-not_failed false xs cs is = cc
+last_of_more : (h : List Entry) (e : Entry) → slice_get (h ++ e ∷ []) (length (h ++ e ∷ []) - 1) ≡ Some e
+last_of_more h e =
+    let count = length-append h (e ∷ []) in
+    let place : length (h ++ e ∷ []) - 1 ≡ length h = omega arith in
+    ap (slice_get (h ++ e ∷ [])) place ∙ slice_get-get_or (h ++ e ∷ []) (length h) e (omega arith) ∙ ap Some (get_or-append_seam h e [] e)
 
 module _ {E : Type 0} (w : WorkerId) (old new : BookView) (part : Part) (f : Follows {E = E} w old new (Ok Finished) part) where
-  -- the last entry shows its changes
-  pub shown_changes : (n : ℕ) (shown : Shown) → n ≡ length new.history → slice_get new.history (n - 1) ≡ Some (entry_shown shown) → shown.changes.now ≡ f.grew.1
-  shown_changes n shown long at =
-      let e : Entry = entry w f.grew.0 (Some f.grew.1) in
-      let history : new.history ≡ old.history ++ e ∷ [] = f.grew.2.history in
-      let count = length-append old.history (e ∷ []) in
-      let same_length = ap (λ (h : List Entry). length h) history in
-      let place : n - 1 ≡ length old.history = omega arith in
-      let here : get_or new.history (n - 1) e ≡ entry_shown shown = get_or_from_slice_get new.history (n - 1) (entry_shown shown) e at in
-      let there : get_or new.history (n - 1) e ≡ e = (λ i. get_or (history i) (place i) e) ∙ get_or-append_seam old.history e [] e in
-      not_failed shown.failed shown.changes.now f.grew.1 (ap (λ (x : Entry). x.changes) (sym here ∙ there))
+  -- the last entry's changes are those that were made
+  pub changes_made : last_changes new.history ≡ f.grew.1
+  changes_made = ap last_changes f.grew.2.history ∙ ap made_by (last_of_more old.history (entry w f.grew.0 (Some f.grew.1)))
 
   pub leads_from : (n : ℕ) → LeadsOn old.state w (record part { last = n }) f.grew.1
   leads_from n =

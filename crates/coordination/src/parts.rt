@@ -67,8 +67,7 @@ impl Part {
         match ran {
             Ok(Disposition::Finished) => {
                 self.last = book.len();
-                let own = book.entry(self.last - 1);
-                self.note_all(worker, own.changes);
+                self.note_all(worker, book.last_changes());
             }
             Ok(Disposition::Failed) => self.last = book.len(),
             Ok(Disposition::Retry) | Err(_) => {}

@@ -38,6 +38,5 @@ fn any_lets_go_on(changes: &[Change]) -> bool
 pub fn last_lets_go_on(book: &Book) -> bool
     ensures { result ≡ last_lets_go_on book.now.history }
 {
-    let entries = book.len();
-    entries > 0 && any_lets_go_on(book.entry(entries - 1).changes)
+    any_lets_go_on(book.last_changes())
 }

@@ -1,10 +1,10 @@
-use Rattle.std.proofs.Common.{rules, List, [], Ok, sym, subst}
+use Rattle.std.proofs.Common.{rules, List, [], Ok, sym, ◌∙◌, subst}
 use Rattle.resource_lock.specs.Change.{make_all}
 use Rattle.resource_lock.specs.declared.changes.Change.{Change}
 use Rattle.lock_journal.specs.declared.transforms.Disposition.TheVariants.{Finished, Failed}
 use Rattle.coordination.specs.Parts.{Follows, LeadsOn}
 use Rattle.coordination.specs.declared.parts.Part.{Part}
-use Rattle.coordination.proofs.Entries.{follows_at, leads_from, part_after, part_failed, room_after, shown_changes}
+use Rattle.coordination.proofs.Entries.{changes_made, follows_at, leads_from, part_after, part_failed, room_after}
 use Rattle.coordination.proofs.parts.Part.follow.Goals as goal
 
 pub note_all-requires : goal.note_all-requires
@@ -15,7 +15,7 @@ note_all-requires c =
     let part : Part = c.args.self.now in
     let f : Follows w old new (Ok Finished) part = follows_at w old new c.args.ran.now (Ok Finished) part (search rules) c.requires.1 in
     let n = c.len-self.result in
-    let is = shown_changes w old new part f n c.entry-own.result c.len-self.ensures c.entry-own.ensures.shown in
+    let is = c.last_changes.ensures ∙ changes_made w old new part f in
     (old.state, subst (LeadsOn old.state w (record part { last = n })) (sym is) (leads_from w old new part f n))
 
 pub returns-in-Ok-Finished-clause-part : goal.returns-in-Ok-Finished-clause-part
@@ -26,7 +26,7 @@ returns-in-Ok-Finished-clause-part c =
     let part : Part = c.args.self.now in
     let f : Follows w old new (Ok Finished) part = follows_at w old new c.args.ran.now (Ok Finished) part (search rules) c.requires.1 in
     let n = c.len-self.result in
-    let is = shown_changes w old new part f n c.entry-own.result c.len-self.ensures c.entry-own.ensures.shown in
+    let is = c.last_changes.ensures ∙ changes_made w old new part f in
     let leads = subst (λ (cs : List Change). LeadsOn (make_all old.state w cs) w c.note_all.new.self []) is
     (c.note_all.ensures.leads old.state (subst (LeadsOn old.state w (record part { last = n })) (sym is) (leads_from w old new part f n))) in
     part_after w old new part f c.note_all.new.self n leads c.note_all.ensures.last c.len-self.ensures
@@ -39,7 +39,7 @@ returns-in-Ok-Finished-clause-room c =
     let part : Part = c.args.self.now in
     let f : Follows w old new (Ok Finished) part = follows_at w old new c.args.ran.now (Ok Finished) part (search rules) c.requires.1 in
     let n = c.len-self.result in
-    let is = shown_changes w old new part f n c.entry-own.result c.len-self.ensures c.entry-own.ensures.shown in
+    let is = c.last_changes.ensures ∙ changes_made w old new part f in
     let leads = subst (λ (cs : List Change). LeadsOn (make_all old.state w cs) w c.note_all.new.self []) is
     (c.note_all.ensures.leads old.state (subst (LeadsOn old.state w (record part { last = n })) (sym is) (leads_from w old new part f n))) in
     room_after w old new part f c.note_all.new.self n leads
