@@ -1,24 +1,27 @@
 -- What is stored of a history, and of one with one more entry.
-use Rattle.std.proofs.Common.{◌≡◌, ℕ, suc, zero, ◌≤◌, ◌<◌, ◌+◌, ◌-◌, Bool, true, false, length, take, drop, List, [], ◌∷◌, ◌++◌, cond, Some, None, refl, sym, ◌∙◌, ap, subst, arith}
-use Rattle.std.specs.Prelude.{slice_get}
+use Rattle.std.proofs.Common.{◌≡◌, ℕ, suc, zero, ◌≤◌, ◌<◌, ◌+◌, ◌-◌, inl, inr, Bool, true, false, length, take, drop, List, [], ◌∷◌, ◌++◌, cond, Some, None, refl, sym, ◌∙◌, ap, subst, arith}
+use Rattle.std.specs.Prelude.{◌^◌, ◌==◌, slice_get}
 use Rattle.std.specs.List.{slice_range, slice_index_or}
 use Rattle.std.proofs.lemmas.Option.{slice_get_read, slice_get_within}
-use Rattle.std.proofs.lemmas.List.{drop_all, drop_at, take_all, take-append-le, drop-append-le, length-drop, length-append, get_or_append_left}
+use Rattle.std.proofs.lemmas.List.{drop_all, drop_at, take_all, take-append-le, drop-append-le, length-drop, length-append, get_or_append_left, get_or_past}
+use Rattle.std.proofs.Math.Seq.{get_or-append_seam}
 use Rattle.resource_lock.specs.declared.changes.Change.{Change}
+use Rattle.item_actions.specs.declared.outcomes.Outcome.{Outcome}
 use Rattle.item_actions.specs.declared.outcomes.Outcome.TheVariants as outcomes
 use Rattle.lock_journal.specs.Entry.{entry}
-use Rattle.lock_journal.specs.StoredEntry.{AreStored, IsNumberOf, closing_at, end_before, entries_from, entry_from, kind_from}
-use Rattle.lock_journal.specs.Closings.{closing_of, where_finished, last_or, outcome_in}
-use Rattle.lock_journal.specs.History.{history_view, IsSound}
+use Rattle.lock_journal.specs.StoredEntry.{AreStored, IsNumberOf, closing_at, end_before, entries_from, entry_from, kind_from, place_after}
+use Rattle.lock_journal.specs.Closings.{closed_by, closing_of, where_finished, last_or, outcome_in}
+use Rattle.lock_journal.specs.History.{history_view, IsPlaceOf, IsSound}
 use Rattle.lock_journal.specs.HistoryView.{HistoryView}
 use Rattle.lock_journal.specs.LastChanges.{last_changes, made_by, made_where_finished}
 use Rattle.lock_journal.specs.declared.entries.Closed.{Closed}
 use Rattle.lock_journal.specs.declared.entries.Kind.{Kind}
-use Rattle.lock_journal.specs.declared.entries.Kind.TheVariants.{Close, Unblock}
+use Rattle.lock_journal.specs.declared.entries.Kind.TheVariants.{Start, Skip, Submit, Park, Resume, Claim, Close, Block, Unblock, End, Acquire, HandBack}
 use Rattle.lock_journal.specs.declared.stored_entries.StoredEntry.{StoredEntry}
 use Rattle.lock_journal.specs.declared.stored_entries.StoredKind.{StoredKind}
 use Rattle.lock_journal.specs.declared.stored_entries.StoredKind.TheVariants as stored
 use Rattle.lock_journal.specs.declared.histories.History.TheInside.{Inside}
+use Rattle.lock_journal.specs.declared.histories.TheConstants.{NOWHERE}
 use Rattle.lock_journal.proofs.Outcomes.{outcome_in-push}
 
 pub length_of_entries : (cs : List Change) (ds : List Closed) (ks : List StoredEntry) → length (entries_from cs ds ks) ≡ length ks
@@ -175,6 +178,50 @@ module _ (cs new : List Change) (ds more : List Closed) (k : StoredEntry) (start
     stored-push ks number h.2,
   )
 
+-- a unit whose closing stood at p has it at q in the closings es, and the outcomes came to it
+pub record Moved (ds es : List Closed) (os : List Outcome) (p q : ℕ) : Type 0 where
+  pub place : IsPlaceOf (length es) q
+  pub outcome : (closing_at es q).outcome ≡ last_or (closing_at ds p).outcome os
+
+-- nothing came to it
+pub not_moved : (ds more : List Closed) (p : ℕ) → length (ds ++ more) < 2 ^ 63 → IsPlaceOf (length ds) p → Moved ds (ds ++ more) [] p p
+not_moved ds more p small (inl within) = record {
+  place = inl (omega (arith, within, length-append ds more));
+  outcome = ap (λ (d : Closed). d.outcome) (closing_at-append ds more p within);
+}
+not_moved ds more p small (inr nowhere) =
+    let none : Closed = record { unit = 0; outcome = outcomes.Skipped } in
+    let long : length (ds ++ more) ≡ length ds + length more = length-append ds more in
+    record {
+      place = inr nowhere;
+      outcome = ap (λ (d : Closed). d.outcome) (get_or_past (ds ++ more) p none (omega (arith, small, nowhere)) ∙ sym (get_or_past ds p none (omega (arith, small, nowhere, long))));
+    }
+
+moved_where : (ds : List Closed) (d : Closed) (b : Bool) (p : ℕ) → length (ds ++ d ∷ []) < 2 ^ 63 → IsPlaceOf (length ds) p
+    → Moved ds (ds ++ d ∷ []) (cond b (d.outcome ∷ []) []) p (place_after (cond b (d.outcome ∷ []) []) (length ds) p)
+moved_where ds d true p small at = record {
+  place = inl (omega (arith, length-append ds (d ∷ [])));
+  outcome = ap (λ (x : Closed). x.outcome) (get_or-append_seam ds d [] (record { unit = 0; outcome = outcomes.Skipped }));
+}
+moved_where ds d false p small at = not_moved ds (d ∷ []) p small at
+
+-- a finished entry of the kind came
+pub moved : (ds : List Closed) (kind : Kind) (u p : ℕ) → length (ds ++ closed_by kind) < 2 ^ 63 → IsPlaceOf (length ds) p
+    → Moved ds (ds ++ closed_by kind) (closing_of u kind) p (place_after (closing_of u kind) (length ds) p)
+moved ds (Start n) u p small at = not_moved ds [] p small at
+moved ds (Skip n) u p small at = not_moved ds [] p small at
+moved ds (Submit n) u p small at = not_moved ds [] p small at
+moved ds (Park n) u p small at = not_moved ds [] p small at
+moved ds (Resume n) u p small at = not_moved ds [] p small at
+moved ds (Claim n) u p small at = not_moved ds [] p small at
+moved ds (Close d) u p small at = moved_where ds d (d.unit == u) p small at
+moved ds (Block n) u p small at = not_moved ds [] p small at
+moved ds (Unblock (Some d)) u p small at = moved_where ds d (d.unit == u) p small at
+moved ds (Unblock None) u p small at = not_moved ds [] p small at
+moved ds (End n) u p small at = not_moved ds [] p small at
+moved ds Acquire u p small at = not_moved ds [] p small at
+moved ds HandBack u p small at = not_moved ds [] p small at
+
 -- b is a with one more entry, stored as k, whose changes are new
 pub record Adds (a b : Inside) (k : StoredEntry) (kind : Kind) (new : List Change) (more : List Closed) : Type 0 where
   pub stored : b.stored.items ≡ a.stored.items ++ k ∷ []
@@ -183,8 +230,7 @@ pub record Adds (a b : Inside) (k : StoredEntry) (kind : Kind) (new : List Chang
   pub start : k.start ≡ length a.changes.items
   pub number : IsNumberOf (length b.closings.items) k.kind k.number
   pub kind_is : kind_from b.closings.items k.kind k.number ≡ kind
-  pub closed : (u : ℕ) → slice_index_or b.outcomes.items u outcomes.Skipped
-      ≡ last_or (slice_index_or a.outcomes.items u outcomes.Skipped) (where_finished (cond k.failed None (Some new)) (closing_of u kind))
+  pub moved : (u : ℕ) → Moved a.closings.items b.closings.items (where_finished (cond k.failed None (Some new)) (closing_of u kind)) (slice_index_or a.closed_at.items u NOWHERE) (slice_index_or b.closed_at.items u NOWHERE)
 
 module _ (a b : Inside) (k : StoredEntry) (kind : Kind) (new : List Change) (more : List Closed) (sound : IsSound a) (adds : Adds a b k kind new more) where
   pub entries_added : (history_view b).entries ≡ (history_view a).entries ++ entry k.worker kind (cond k.failed None (Some new)) ∷ []
@@ -203,8 +249,9 @@ module _ (a b : Inside) (k : StoredEntry) (kind : Kind) (new : List Change) (mor
         (subst (λ (cs : List Change). AreStored (length cs) (length b.closings.items) (a.stored.items ++ k ∷ [])) (sym adds.changes)
         (subst (λ (ds : List Closed). AreStored (length (a.changes.items ++ new)) (length ds) (a.stored.items ++ k ∷ [])) (sym adds.closings)
         (stored-push a.changes.items new a.closings.items more k adds.start a.stored.items (subst (λ (ds : List Closed). IsNumberOf (length ds) k.kind k.number) adds.closings adds.number) sound.stored)));
+    placed = λ u. (adds.moved u).place;
     closed = λ u.
-        adds.closed u
+        (adds.moved u).outcome
         ∙ ap (λ o. last_or o (where_finished (cond k.failed None (Some new)) (closing_of u kind))) (sound.closed u)
         ∙ sym (outcome_in-push (history_view a).entries (entry k.worker kind (cond k.failed None (Some new))) u)
         ∙ ap (λ es. outcome_in es u) (sym entries_added);

@@ -1,6 +1,7 @@
 -- What a stored entry stands for.
 use Rattle.std.specs.Prelude.{ℕ, ◌≤◌, ◌<◌, ◌^◌, List, [], ◌∷◌, length, None, Some, slice_index_or, slice_range, if◌then◌else◌}
 use Rattle.resource_lock.specs.declared.changes.Change.{Change}
+use Rattle.item_actions.specs.declared.outcomes.Outcome.{Outcome}
 use Rattle.item_actions.specs.declared.outcomes.Outcome.TheVariants as outcomes
 use Rattle.lock_journal.specs.Entry.{Entry, entry}
 use Rattle.lock_journal.specs.declared.entries.Closed.{Closed}
@@ -13,6 +14,11 @@ use Rattle.lock_journal.specs.declared.stored_entries.StoredKind.TheVariants as 
 -- the closing at a place
 abbrev pub closing_at : List Closed → ℕ → Closed
 closing_at closings place = slice_index_or closings place (record { unit = 0; outcome = outcomes.Skipped })
+
+-- where a unit's closing stands after an entry that gives it these outcomes, by a closing at that place
+abbrev pub place_after : List Outcome → ℕ → ℕ → ℕ
+place_after [] place old = old
+place_after (o ∷ os) place old = place
 
 -- the kind that is stored so, where these are the closings of all entries
 abbrev pub kind_from : List Closed → StoredKind → ℕ → Kind

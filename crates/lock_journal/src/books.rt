@@ -230,7 +230,7 @@ impl Book {
         match disposition {
             Disposition::Finished => {
                 self.history
-                    .push_finished(worker, transform.kind(), self.tentative.made());
+                    .push_finished(worker, &transform.kind(), self.tentative.made());
                 self.ready.follow(
                     self.tentative.graph(),
                     self.tentative.state(),
@@ -238,7 +238,7 @@ impl Book {
                 );
                 self.tentative.settle();
             }
-            Disposition::Failed => self.history.push_failed(worker, transform.kind()),
+            Disposition::Failed => self.history.push_failed(worker, &transform.kind()),
             Disposition::Retry => {}
         }
         Ok(disposition)

@@ -2,10 +2,11 @@ ghost use Rattle.std.specs.Prelude.{◌≡◌, ◌<◌, ◌≤◌, ◌+◌, ◌�
 ghost use Rattle.lock_journal.specs.Bounds.{IsFitKind, IsFitOutcome};
 ghost use Rattle.lock_journal.specs.Entry.{entry};
 ghost use Rattle.lock_journal.specs.Shown.{entry_shown};
-ghost use Rattle.lock_journal.specs.Closings.{closing_of, last_or, outcome_in, ClosesWithin};
+ghost use Rattle.lock_journal.specs.Closings.{closing_of, outcome_in, ClosesWithin};
+ghost use Rattle.lock_journal.specs.StoredEntry.{closing_at, place_after};
 ghost use Rattle.lock_journal.specs.HistoryView.{SameHistory};
 ghost use Rattle.lock_journal.specs.LastChanges.{last_changes};
-ghost use Rattle.item_actions.specs.declared.outcomes.Outcome.TheVariants as outcomes;
+ghost use Rattle.lock_journal.specs.declared.histories.TheConstants.{NOWHERE};
 
 use crate::entries::{Closed, Kind, Shown};
 use crate::stored_entries::{StoredEntry, changes_of, end_before, kind_of, store_kind};
@@ -14,14 +15,17 @@ use resource_lock::{Change, WorkerId};
 use std::alloc::{AllocError, Global};
 use std::marker::Model;
 
-/// The entries so far, and each unit's outcome by them. The changes of all entries stand in a row, and
-/// so do the closings that their kinds carry.
+/// Where a unit's closing stands that has none.
+const NOWHERE: usize = usize::MAX;
+
+/// The entries so far. The changes of all entries stand in a row, and so do the closings that their
+/// kinds carry. Of each unit it is kept where its last closing stands.
 #[derive(Debug, Drop)]
 pub(crate) struct History {
     stored: Vec<StoredEntry>,
     changes: Vec<Change>,
     closings: Vec<Closed>,
-    outcomes: Vec<Outcome>,
+    closed_at: Vec<usize>,
 }
 
 impl Model for History {
@@ -53,7 +57,7 @@ impl History {
             stored: Vec::with_capacity(alloc, entries)?,
             changes: Vec::with_capacity(alloc, changes)?,
             closings: Vec::with_capacity(alloc, entries)?,
-            outcomes: vec![in alloc; Outcome::Skipped; units as usize]?,
+            closed_at: vec![in alloc; NOWHERE; units as usize]?,
         })
     }
 
@@ -126,25 +130,25 @@ impl History {
         requires { unit < self.now.units }
         ensures { result ≡ outcome_in self.now.entries unit }
     {
-        self.outcomes[unit as usize]
+        outcome_at(&self.closings, self.closed_at[unit as usize])
     }
 
     /// Adds a finished entry.
-    pub(crate) fn push_finished(&mut self, worker: WorkerId, kind: Kind, changes: &[Change])
+    pub(crate) fn push_finished(&mut self, worker: WorkerId, kind: &Kind, changes: &[Change])
         requires some_entry { 0 < self.old.spare_entries }
         requires some_changes { length changes.now ≤ self.old.spare_changes }
-        requires closes { ClosesWithin self.old.units kind }
-        ensures entries { self.new.entries ≡ self.old.entries ++ entry worker kind (Some changes.now) ∷ [] }
+        requires closes { ClosesWithin self.old.units kind.now }
+        ensures entries { self.new.entries ≡ self.old.entries ++ entry worker kind.now (Some changes.now) ∷ [] }
         ensures units { self.new.units ≡ self.old.units }
         ensures spare_entries { self.old.spare_entries ≤ self.new.spare_entries + 1 }
         ensures spare_changes { self.old.spare_changes ≤ self.new.spare_changes + length changes.now }
-        ensures fit { IsFitKind kind }
+        ensures fit { IsFitKind kind.now }
     {
         note_bounds(kind);
         let start = self.changes.len();
         // There is room, so this takes no memory.
         let _ = self.changes.extend_from_slice(changes);
-        set_outcome(&mut self.outcomes, kind);
+        set_place(&mut self.closed_at, kind, self.closings.len());
         let (kind, number) = store_kind(kind, &mut self.closings);
         self.stored.push_reserved(StoredEntry {
             start,
@@ -156,13 +160,13 @@ impl History {
     }
 
     /// Adds a failed entry.
-    pub(crate) fn push_failed(&mut self, worker: WorkerId, kind: Kind)
+    pub(crate) fn push_failed(&mut self, worker: WorkerId, kind: &Kind)
         requires { 0 < self.old.spare_entries }
-        ensures entries { self.new.entries ≡ self.old.entries ++ entry worker kind None ∷ [] }
+        ensures entries { self.new.entries ≡ self.old.entries ++ entry worker kind.now None ∷ [] }
         ensures units { self.new.units ≡ self.old.units }
         ensures spare_entries { self.old.spare_entries ≤ self.new.spare_entries + 1 }
         ensures spare_changes { self.new.spare_changes ≡ self.old.spare_changes }
-        ensures fit { IsFitKind kind }
+        ensures fit { IsFitKind kind.now }
     {
         note_bounds(kind);
         let (kind, number) = store_kind(kind, &mut self.closings);
@@ -176,26 +180,33 @@ impl History {
     }
 }
 
-/// Sets the outcome of the unit that a finished entry of the kind closes, if it closes one.
-fn set_outcome(all: &mut [Outcome], kind: Kind)
-    requires { ClosesWithin (length all.old) kind }
-    ensures len { length all.new ≡ length all.old }
-    ensures last { (u : ℕ) → slice_index_or all.new u outcomes.Skipped
-        ≡ last_or (slice_index_or all.old u outcomes.Skipped) (closing_of u kind) }
+/// The outcome of the closing at a place, or Skipped where there is none.
+fn outcome_at(closings: &[Closed], place: usize) -> Outcome
+    ensures { result ≡ (closing_at closings.now place).outcome }
 {
-    match kind {
-        Kind::Close(closed) | Kind::Unblock(Some(closed)) => {
-            all[closed.unit as usize] = closed.outcome;
-        }
+    match closings.get(place) {
+        Some(closed) => closed.outcome,
+        None => Outcome::Skipped,
+    }
+}
+
+/// Sets the place of the closing of the unit that a finished entry of the kind closes, if it closes one.
+fn set_place(all: &mut [usize], kind: &Kind, place: usize)
+    requires { ClosesWithin (length all.old) kind.now }
+    ensures len { length all.new ≡ length all.old }
+    ensures places { (u : ℕ) → slice_index_or all.new u NOWHERE ≡ place_after (closing_of u kind.now) place (slice_index_or all.old u NOWHERE) }
+{
+    match *kind {
+        Kind::Close(closed) | Kind::Unblock(Some(closed)) => all[closed.unit as usize] = place,
         _ => {}
     }
 }
 
 /// Does nothing. Its contract is what the type of a kind holds.
-fn note_bounds(kind: Kind)
-    ensures { IsFitKind kind }
+fn note_bounds(kind: &Kind)
+    ensures { IsFitKind kind.now }
 {
-    match kind {
+    match *kind {
         Kind::Close(closed) | Kind::Unblock(Some(closed)) => note_outcome_bounds(closed.outcome),
         _ => {}
     }

@@ -40,15 +40,15 @@ pub enum StoredKind {
 }
 
 /// What is stored of a kind, with its number. Its closing, if it has one, comes last in the closings.
-pub fn store_kind(kind: Kind, closings: &mut Vec<Closed>) -> (StoredKind, usize)
+pub fn store_kind(kind: &Kind, closings: &mut Vec<Closed>) -> (StoredKind, usize)
     requires { vec_len closings.old < vec_capacity closings.old }
-    ensures kind { kind_from closings.new.items result.0 result.1 ≡ kind }
+    ensures kind { kind_from closings.new.items result.0 result.1 ≡ kind.now }
     ensures number { IsNumberOf (length closings.new.items) result.0 result.1 }
-    ensures items { closings.new.items ≡ closings.old.items ++ closed_by kind }
+    ensures items { closings.new.items ≡ closings.old.items ++ closed_by kind.now }
     ensures len { vec_len closings.new ≤ vec_len closings.old + 1 }
     ensures capacity { vec_capacity closings.new ≡ vec_capacity closings.old }
 {
-    match kind {
+    match *kind {
         Kind::Start(task) => (StoredKind::Start, task as usize),
         Kind::Skip(task) => (StoredKind::Skip, task as usize),
         Kind::Submit(action) => (StoredKind::Submit, action as usize),

@@ -48,7 +48,7 @@ impl Book {
         ensures full { OnErr result (self.old.spare_entries < 1) }
     {
         self.reserve(1, 0)?;
-        self.history.push_failed(worker, kind);
+        self.history.push_failed(worker, &kind);
         Ok(true)
     }
 
@@ -91,7 +91,7 @@ impl Book {
         if !self.tentative.admit(worker, kind, changes, true) {
             return false;
         }
-        self.history.push_finished(worker, kind, changes);
+        self.history.push_finished(worker, &kind, changes);
         self.ready
             .follow(self.tentative.graph(), self.tentative.state(), changes);
         self.tentative.settle();
