@@ -1,3 +1,4 @@
+mod Digits
 mod Gathering
 pub mod Printing
 pub mod Telling

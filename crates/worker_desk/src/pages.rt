@@ -3,10 +3,13 @@ ghost use Rattle.worker_desk.specs.SinkView.{SinkView, Prints};
 ghost use Rattle.worker_desk.specs.PageView.{blank, Adds, Printed};
 
 use crate::sinks::{Failed, Sink, put_all};
-use itoa::Buffer;
+use itoa::{Buffer, write_digits};
 use std::marker::Model;
 
 const MAX_WAITING_BYTES: usize = 4096;
+
+/// The most digits of a number that is written straight onto the page.
+const SHORT_DIGITS: usize = 5;
 
 /// Text that is gathered before it goes to a sink, so that many short texts cost few calls of it.
 ///
@@ -50,6 +53,7 @@ impl Page {
     }
 
     // Puts a piece that fits behind what waits.
+    #[inline(always)]
     fn copy(&mut self, piece: &[u8])
         requires { length self.old.waiting + length piece.now ≤ MAX_WAITING_BYTES }
         ensures { self.new ≡ record self.old { waiting = self.old.waiting ++ piece.now } }
@@ -59,7 +63,22 @@ impl Page {
         self.len = end;
     }
 
+    // Puts the digits of a number behind what waits, where they fit.
+    #[inline(always)]
+    #[tactic(auto, using(crate::proofs::Digits::written_behind))]
+    fn copy_digits(&mut self, n: u64, count: usize)
+        requires count { count ≡ length (decimal n) }
+        requires room { length self.old.waiting + count ≤ MAX_WAITING_BYTES }
+        ensures { self.new ≡ record self.old { waiting = self.old.waiting ++ decimal n } }
+    {
+        let end = self.len + count;
+        write_digits(n, &mut self.bytes, end);
+        self.len = end;
+    }
+
     // Sends what waits.
+    #[cold]
+    #[inline(never)]
     fn flush<K: Sink>(&mut self, sink: &mut K)
         ensures adds { Adds (K.seen sink.old) self.old (K.seen sink.new) self.new [] }
         ensures empty { self.new.waiting ≡ [] }
@@ -71,6 +90,8 @@ impl Page {
     }
 
     // Sends a piece past the page, where nothing waits.
+    #[cold]
+    #[inline(never)]
     fn through<K: Sink>(&mut self, sink: &mut K, piece: &[u8])
         requires { self.old.waiting ≡ [] }
         ensures { Adds (K.seen sink.old) self.old (K.seen sink.new) self.new piece.now }
@@ -81,6 +102,7 @@ impl Page {
     }
 
     // Sends what waits where a piece of this length doesn't fit behind it.
+    #[inline(always)]
     fn make_room<K: Sink>(&mut self, sink: &mut K, len: usize)
         ensures adds { Adds (K.seen sink.old) self.old (K.seen sink.new) self.new [] }
         ensures room { (len + length self.new.waiting ≤ MAX_WAITING_BYTES) ⊎ (self.new.waiting ≡ []) }
@@ -91,6 +113,8 @@ impl Page {
     }
 
     /// Tells a text to the sink.
+    // Inlined, since most pieces are literals of a few bytes: then they are stored, and not copied by a call.
+    #[inline(always)]
     pub fn text<K: Sink>(&mut self, sink: &mut K, piece: &[u8])
         ensures { Adds (K.seen sink.old) self.old (K.seen sink.new) self.new piece.now }
     {
@@ -103,7 +127,27 @@ impl Page {
     }
 
     /// Tells a number in decimal digits.
+    // Most numbers are short. Where they fit, their digits are written where they stay.
+    #[tactic(auto, using(crate::proofs::Digits::short_numbers))]
     pub fn number<K: Sink>(&mut self, sink: &mut K, n: u64)
+        ensures { Adds (K.seen sink.old) self.old (K.seen sink.new) self.new (decimal n) }
+    {
+        if self.room() < SHORT_DIGITS {
+            return self.long_number(sink, n);
+        }
+        match n {
+            0..10 => self.copy_digits(n, 1),
+            10..100 => self.copy_digits(n, 2),
+            100..1_000 => self.copy_digits(n, 3),
+            1_000..10_000 => self.copy_digits(n, 4),
+            10_000..100_000 => self.copy_digits(n, SHORT_DIGITS),
+            _ => self.long_number(sink, n),
+        }
+    }
+
+    // Tells a number of any length.
+    #[inline(never)]
+    fn long_number<K: Sink>(&mut self, sink: &mut K, n: u64)
         ensures { Adds (K.seen sink.old) self.old (K.seen sink.new) self.new (decimal n) }
     {
         let mut digits = Buffer::new();
