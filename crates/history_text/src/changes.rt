@@ -46,10 +46,10 @@ fn write_move<K: Sink>(id: MarkId, from: Mark, to: Mark, page: &mut Page, sink: 
     write_mark(to, page, sink);
 }
 
-fn write_change<K: Sink>(change: Change, page: &mut Page, sink: &mut K)
-    ensures { Adds (K.seen sink.old) page.old (K.seen sink.new) page.new (change_text change) }
+fn write_change<K: Sink>(change: &Change, page: &mut Page, sink: &mut K)
+    ensures { Adds (K.seen sink.old) page.old (K.seen sink.new) page.new (change_text change.now) }
 {
-    match change {
+    match *change {
         Change::Lock(lock) => write_numbered(b"lock ", lock.0, page, sink),
         Change::Unlock(lock) => write_numbered(b"unlock ", lock.0, page, sink),
         Change::Take => page.text(sink, b"take"),
@@ -67,7 +67,7 @@ fn write_further<K: Sink>(changes: &[Change], page: &mut Page, sink: &mut K)
 {
     for change in changes {
         page.text(sink, b", ");
-        write_change(*change, page, sink);
+        write_change(change, page, sink);
     }
 }
 
@@ -77,7 +77,7 @@ fn write_changes<K: Sink>(changes: &[Change], page: &mut Page, sink: &mut K)
     match changes {
         [] => page.text(sink, b"nothing"),
         [first, further @ ..] => {
-            write_change(*first, page, sink);
+            write_change(first, page, sink);
             write_further(further, page, sink);
         }
     }
