@@ -7,6 +7,7 @@ use resource_lock::{Change, Mark, MarkId};
 use worker_desk::{Page, Sink};
 
 /// Writes a word and a number.
+#[inline(always)]
 pub(crate) fn write_numbered<K: Sink>(word: &[u8], number: u32, page: &mut Page, sink: &mut K)
     ensures { Adds (K.seen sink.old) page.old (K.seen sink.new) page.new (word.now ++ decimal number) }
 {
@@ -15,6 +16,7 @@ pub(crate) fn write_numbered<K: Sink>(word: &[u8], number: u32, page: &mut Page,
 }
 
 /// Writes a space and a mark.
+#[inline(always)]
 pub(crate) fn write_mark<K: Sink>(mark: Mark, page: &mut Page, sink: &mut K)
     ensures { Adds (K.seen sink.old) page.old (K.seen sink.new) page.new (codes " " ++ mark_text mark) }
 {
@@ -28,6 +30,7 @@ pub(crate) fn write_mark<K: Sink>(mark: Mark, page: &mut Page, sink: &mut K)
     }
 }
 
+#[inline(always)]
 fn write_id<K: Sink>(id: MarkId, page: &mut Page, sink: &mut K)
     ensures { Adds (K.seen sink.old) page.old (K.seen sink.new) page.new (id_text id) }
 {
@@ -38,6 +41,7 @@ fn write_id<K: Sink>(id: MarkId, page: &mut Page, sink: &mut K)
     }
 }
 
+#[inline(always)]
 fn write_move<K: Sink>(id: MarkId, from: Mark, to: Mark, page: &mut Page, sink: &mut K)
     ensures { Adds (K.seen sink.old) page.old (K.seen sink.new) page.new (change_text (Change.Move id from to)) }
 {
@@ -46,6 +50,8 @@ fn write_move<K: Sink>(id: MarkId, from: Mark, to: Mark, page: &mut Page, sink: 
     write_mark(to, page, sink);
 }
 
+// Inlined, as what it calls is: a call would cost as much as the few bytes that are written.
+#[inline(always)]
 fn write_change<K: Sink>(change: &Change, page: &mut Page, sink: &mut K)
     ensures { Adds (K.seen sink.old) page.old (K.seen sink.new) page.new (change_text change.now) }
 {
