@@ -1,7 +1,7 @@
 -- How many digits the text of a number has, and digits that were written behind what stood before.
 use Rattle.std.proofs.Common.{◌≡◌, ℕ, ◌+◌, ◌/◌, ◌<◌, ◌≤◌, List, ◌++◌, length, take, drop, decimal, sym, ap, ◌∙◌, arith}
 use Rattle.std.proofs.Math.Seq.{take-add, take-append_seam}
-use Rattle.itoa.proofs.Decimal.{length_one, length_two, length_pair, length_four}
+use Rattle.itoa.proofs.Decimal.{length_one, length_two, length_pair}
 
 pub one_digit : (n : ℕ) → n < 10 → length (decimal n) ≡ 1
 one_digit n below = length_one n below
@@ -15,10 +15,7 @@ three_digits n from below = omega (arith, length_pair n from (omega arith), leng
 pub four_digits : (n : ℕ) → 1000 ≤ n → n < 10000 → length (decimal n) ≡ 4
 four_digits n from below = omega (arith, length_pair n (omega arith) (omega arith), length_two (n / 100) (omega arith) (omega arith))
 
-pub five_digits : (n : ℕ) → 10000 ≤ n → n < 100000 → length (decimal n) ≡ 5
-five_digits n from below = omega (arith, length_four n from (omega arith), length_one (n / 10000) (omega arith))
-
-pub ruleset short_numbers = (one_digit, two_digits, three_digits, four_digits, five_digits)
+pub ruleset short_numbers = (one_digit, two_digits, three_digits, four_digits)
 
 pub written_behind : (old new digits rest : List ℕ) (start end : ℕ) → start + length digits ≡ end → drop start new ≡ digits ++ rest → take start new ≡ take start old → take end new ≡ take start old ++ digits
 written_behind old new digits rest start end ends written before =

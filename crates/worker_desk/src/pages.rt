@@ -9,7 +9,7 @@ use std::marker::Model;
 const MAX_WAITING_BYTES: usize = 4096;
 
 /// The most digits of a number that is written straight onto the page.
-const SHORT_DIGITS: usize = 5;
+const SHORT_DIGITS: usize = 4;
 
 /// Text that is gathered before it goes to a sink, so that many short texts cost few calls of it.
 ///
@@ -127,7 +127,7 @@ impl Page {
     }
 
     /// Tells a number in decimal digits.
-    // Most numbers are short. Where they fit, their digits are written where they stay.
+    // Most numbers are short. Where they fit, their digits are written where they stay, and nothing is called.
     #[tactic(auto, using(crate::proofs::Digits::short_numbers))]
     pub fn number<K: Sink>(&mut self, sink: &mut K, n: u64)
         ensures { Adds (K.seen sink.old) self.old (K.seen sink.new) self.new (decimal n) }
@@ -139,8 +139,7 @@ impl Page {
             0..10 => self.copy_digits(n, 1),
             10..100 => self.copy_digits(n, 2),
             100..1_000 => self.copy_digits(n, 3),
-            1_000..10_000 => self.copy_digits(n, 4),
-            10_000..100_000 => self.copy_digits(n, SHORT_DIGITS),
+            1_000..10_000 => self.copy_digits(n, SHORT_DIGITS),
             _ => self.long_number(sink, n),
         }
     }
