@@ -21,7 +21,7 @@ use item_actions::{ItemAction, Outcome};
 use lock_journal::Closed;
 use std::alloc::Global;
 use std::sync::Wait;
-use worker_desk::work_out;
+use work_queue::work_in_thread;
 
 /// What a fetch gives: the number of the file's bytes. Reading sends nothing.
 fn fetched<D: Desk>(alloc: Global, desk: &mut D, work: UnitWork<'_>) -> Outcome
@@ -34,8 +34,8 @@ fn fetched<D: Desk>(alloc: Global, desk: &mut D, work: UnitWork<'_>) -> Outcome
     ensures sent { D.sent desk.new ≡ D.sent desk.old }
 {
     match work {
-        UnitWork::Fetch(file) => work_out(alloc, &ItemAction::Bytes, file, desk),
-        UnitWork::Item(work) => work_out(alloc, &work.action, &work.file, desk),
+        UnitWork::Fetch(file) => work_in_thread(alloc, desk, &ItemAction::Bytes, file),
+        UnitWork::Item(work) => work_in_thread(alloc, desk, &work.action, &work.file),
     }
 }
 

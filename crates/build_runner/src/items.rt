@@ -1,7 +1,6 @@
 //! An item that a worker claims, runs and closes, and a fetch that it reads.
 ghost use Rattle.std.specs.Prelude.{◌≡◌, ◌≢◌, ◌≤◌, ◌<◌, ◌∷◌, [], Contains, All, IfSome, Ok, OnErr, OnOk, Some, length, map, true};
-ghost use Rattle.item_actions.specs.Value.{IsHonest, value_on};
-ghost use Rattle.item_actions.specs.declared.actions.ItemAction.TheVariants as actions;
+ghost use Rattle.item_actions.specs.Value.{IsHonest};
 ghost use Rattle.item_actions.specs.declared.outcomes.Outcome.TheVariants as outcomes;
 ghost use Rattle.resource_lock.specs.declared.marks.MarkId.TheVariants as ids;
 ghost use Rattle.coordination.specs.Shown.{ShowsTheSame, claimed_shown, lease_shown};
@@ -19,13 +18,12 @@ use async_tracker::{claim, close, closing_undoes_claiming};
 use coordination::{Halt, Pass};
 use daemon_desk::Desk;
 use daemon_requirements::Linked;
-use item_actions::{ItemAction, Outcome, Text};
+use item_actions::{ItemAction, Outcome};
 use lease_service::{Lease, current_lease};
 use lock_journal::Closed;
-use std::alloc::Global;
 use std::sync::Wait;
-use work_queue::run_item;
-use worker_desk::{Gate, work_out};
+use work_queue::{run_item, work_in_thread};
+use worker_desk::Gate;
 
 /// What a unit gives.
 fn outcome_of<R: Wait, D: Desk, G>(
@@ -47,21 +45,8 @@ fn outcome_of<R: Wait, D: Desk, G>(
 {
     match work {
         UnitWork::Item(work) => run_item(rt, site.alloc, lease, desk, site.pool, unit, work),
-        UnitWork::Fetch(file) => read_file(site.alloc, desk, file),
+        UnitWork::Fetch(file) => work_in_thread(site.alloc, desk, &ItemAction::Bytes, file),
     }
-}
-
-/// The number of a file's bytes. Reading sends nothing.
-fn read_file<D: Desk>(alloc: Global, desk: &mut D, file: &Text) -> Outcome
-    ensures files { D.files desk.new ≡ D.files desk.old }
-    ensures count { D.faults desk.old ≤ D.faults desk.new }
-    ensures ran { result ≢ outcomes.Skipped }
-    ensures fault { result ≡ outcomes.Fault → Rises (D.faults desk.old) (D.faults desk.new) }
-    ensures honest { IfSome (D.files desk.old) (λ known. IsHonest result (value_on known actions.Bytes file.now)) }
-    ensures sends { D.sends desk.new ≡ D.sends desk.old }
-    ensures sent { D.sent desk.new ≡ D.sent desk.old }
-{
-    work_out(alloc, &ItemAction::Bytes, file, desk)
 }
 
 /// Runs a unit that the worker has claimed, and says what it gives.

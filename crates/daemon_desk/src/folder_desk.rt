@@ -10,7 +10,7 @@ use std::alloc::Global;
 use std::marker::Model;
 use std::process::{Processes, SystemProcess};
 use std::rt;
-use worker_desk::{DeskFail, Files, Read, read_file};
+use worker_desk::{DeskFail, FileBytes, Files, Read, read_file};
 
 /// A desk that reads the files of the current folder, and whose daemons are child processes in it. It tells neither the
 /// files nor the requests sent.
@@ -18,6 +18,8 @@ use worker_desk::{DeskFail, Files, Read, read_file};
 pub struct FolderDesk<R: Drop> {
     rt: R,
     program: Text,
+    // What the next file is read into. It holds the last one's memory, where that was given back.
+    spare: FileBytes,
     faults: u64,
     sends: u64,
 }
@@ -32,12 +34,13 @@ impl<R: Drop> Model for FolderDesk<R> {
 
 impl<R: Drop> FolderDesk<R> {
     /// A desk by this runtime. The executable `self` of requirements means `program`.
-    pub fn new(rt: R, program: Text) -> FolderDesk<R>
+    pub fn new(rt: R, alloc: Global, program: Text) -> FolderDesk<R>
         ensures { result ≡ record { program = program; faults = 0; sends = 0 } }
     {
         FolderDesk {
             rt,
             program,
+            spare: FileBytes::new(alloc),
             faults: 0,
             sends: 0,
         }
@@ -72,8 +75,12 @@ impl<R: rt::Files + Drop> Files for FolderDesk<R> {
     ghost keeps = { λ old new. new.sends ≡ old.sends };
 
     fn read(&mut self, alloc: Global, name: &Text, limit: u64) -> Result<Read, DeskFail> {
-        let read = read_file(&self.rt, alloc, name, limit);
+        let read = read_file(&self.rt, alloc, name, limit, &mut self.spare);
         self.counted(read)
+    }
+
+    fn give_back(&mut self, bytes: FileBytes) {
+        self.spare = bytes;
     }
 }
 

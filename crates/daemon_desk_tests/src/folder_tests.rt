@@ -53,7 +53,7 @@ fn child_answers<R: rt::Files + Processes<Started = SystemProcess> + Abort>(
 ) -> Result<(Answers, u64), Fail> {
     let variable = pair(alloc, "BYTES", REPLIES[1].0)?;
     let asked = asking(alloc, executable, REPLIES[0].0, variable)?;
-    let mut desk = FolderDesk::new(rt, Text::from_str(alloc, program)?);
+    let mut desk = FolderDesk::new(rt, alloc, Text::from_str(alloc, program)?);
     let answers = ask_twice(rt, alloc, &mut desk, &asked)?;
     Ok((answers, desk.count()))
 }
@@ -90,7 +90,7 @@ fn a_missing_program_and_a_child_that_ends_are_faults(rt: HostRuntime) -> Result
 #[test]
 fn reads_of_the_folder_are_counted_where_they_fail(rt: HostRuntime) -> Result<(), Fail> {
     let alloc = rt.alloc();
-    let mut desk = FolderDesk::new(&rt, Text::from_str(alloc, "sh")?);
+    let mut desk = FolderDesk::new(&rt, alloc, Text::from_str(alloc, "sh")?);
     let missing = desk.read(alloc, &Text::from_str(alloc, "daemon_desk_none")?, 10);
     assert!(rt; matches!(missing, Ok(Read::NotThere)));
     assert_eq!(rt; desk.count(), 0);

@@ -73,7 +73,7 @@ fn desks<'a>(
 {
     let mut desks = Vec::with_capacity(alloc, DESKS)?;
     for _ in 0..DESKS {
-        desks.push(FolderDesk::new(rt, program.copy(alloc)?))?;
+        desks.push(FolderDesk::new(rt, alloc, program.copy(alloc)?))?;
     }
     Ok(desks)
 }

@@ -1,5 +1,5 @@
 -- What reading a file says of the plan in it, and that a text has one answer.
-use Rattle.std.proofs.Common.{◌≡◌, ℕ, Bool, true, false, List, length, Option, None, Some, refl, sym, ◌∙◌, ap, subst, cond, Vec, Global}
+use Rattle.std.proofs.Common.{◌≡◌, ℕ, Bool, true, false, List, length, Option, None, Some, refl, sym, ◌∙◌, ap, subst, cond}
 use Rattle.std.specs.Prelude.{nat_lt, Result, Ok, Err, replicate}
 use Rattle.std.specs.Option.{option_or}
 use Rattle.std.proofs.lemmas.List.{length-replicate}
@@ -50,21 +50,21 @@ bytes_by : (files : Folder) (name read bytes : List ℕ) (b : Bool) → file_of 
 bytes_by files name read bytes true f e = absurd (cc e)
 bytes_by files name read bytes false f e = f ∙ ap Some (let same : Bytes read ≡ Bytes bytes = e in cc same)
 
-has_bytes : (known : Option Folder) (name : List ℕ) (read : Read) (bytes : Vec ℕ Global) → read ≡ reads.Bytes bytes → ReadsFrom known name max_file_bytes (Ok read) → HasBytes known name bytes.items
+has_bytes : (known : Option Folder) (name : List ℕ) (read : Read) (bytes : List ℕ) → read ≡ reads.Bytes bytes → ReadsFrom known name max_file_bytes (Ok read) → HasBytes known name bytes
 has_bytes None name read bytes e h = tt
 has_bytes (Some files) name read bytes e h = at (file_of files name) refl (ap read_as (sym e) ∙ h)
   where
-    at : (found : Option (List ℕ)) → file_of files name ≡ found → Bytes bytes.items ≡ reading found max_file_bytes → file_of files name ≡ Some bytes.items
+    at : (found : Option (List ℕ)) → file_of files name ≡ found → Bytes bytes ≡ reading found max_file_bytes → file_of files name ≡ Some bytes
     at None f e = absurd (cc e)
-    at (Some found) f e = bytes_by files name bytes.items found (nat_lt max_file_bytes (length found)) f e
+    at (Some found) f e = bytes_by files name bytes found (nat_lt max_file_bytes (length found)) f e
 
-pub file_of_plan : (known : Option Folder) (name : List ℕ) (read : Read) (bytes : Vec ℕ Global) → read ≡ reads.Bytes bytes → ReadsFrom known name max_file_bytes (Ok read)
-    → (given : List ℕ) → given ≡ bytes.items → (plan : PlanView) → Reads given (Ok plan) → IsFileOf known name plan
-file_of_plan known name read bytes e h given same plan said = (bytes.items, has_bytes known name read bytes e h, subst (λ (x : List ℕ). Reads x (Ok plan)) same said)
+pub file_of_plan : (known : Option Folder) (name : List ℕ) (read : Read) (bytes : List ℕ) → read ≡ reads.Bytes bytes → ReadsFrom known name max_file_bytes (Ok read)
+    → (given : List ℕ) → given ≡ bytes → (plan : PlanView) → Reads given (Ok plan) → IsFileOf known name plan
+file_of_plan known name read bytes e h given same plan said = (bytes, has_bytes known name read bytes e h, subst (λ (x : List ℕ). Reads x (Ok plan)) same said)
 
-pub refused_at : (known : Option Folder) (name : List ℕ) (read : Read) (bytes : Vec ℕ Global) → read ≡ reads.Bytes bytes → ReadsFrom known name max_file_bytes (Ok read)
-    → (given : List ℕ) → given ≡ bytes.items → (f : PlanFail) (r : PlanRefusal) → f ≡ fail.Refused r → Refuses (Reads given) f → IsNoFileOf known name r
-refused_at known name read bytes e h given same f r is refused = (bytes.items, has_bytes known name read bytes e h, subst (λ (x : List ℕ). Refuses (Reads x) (fail.Refused r)) same (subst (Refuses (Reads given)) is refused))
+pub refused_at : (known : Option Folder) (name : List ℕ) (read : Read) (bytes : List ℕ) → read ≡ reads.Bytes bytes → ReadsFrom known name max_file_bytes (Ok read)
+    → (given : List ℕ) → given ≡ bytes → (f : PlanFail) (r : PlanRefusal) → f ≡ fail.Refused r → Refuses (Reads given) f → IsNoFileOf known name r
+refused_at known name read bytes e h given same f r is refused = (bytes, has_bytes known name read bytes e h, subst (λ (x : List ℕ). Refuses (Reads x) (fail.Refused r)) same (subst (Refuses (Reads given)) is refused))
 
 -- ---- a text has one answer
 

@@ -17,7 +17,7 @@ pub(crate) fn read<F: Files>(alloc: Global, name: &Text, desk: &mut F) -> Result
     ensures refused { IfErr result (λ status. OrNoMemory (IsFileCause (F.files desk.old) (F.faults desk.old) (F.faults desk.new) name.now status) status) }
 {
     match desk.read(alloc, name, MAX_FILE_BYTES) {
-        Ok(Read::Bytes(bytes)) => match read_plan(alloc, bytes.as_slice()) {
+        Ok(Read::Bytes(bytes)) => match read_plan(alloc, bytes.as_bytes()) {
             Ok(plan) => Ok(plan),
             Err(PlanFail::Refused(refusal)) => Err(Status::BadPlan(refusal)),
             Err(PlanFail::NoMemory) => Err(Status::NoMemory),

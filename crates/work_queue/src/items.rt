@@ -11,7 +11,7 @@ ghost use Rattle.work_queue.specs.Sends.{SendsFor};
 use daemon_desk::Desk;
 use daemon_items::{PoolLock, work_in_daemon};
 use daemon_requirements::{Isolation, Work};
-use item_actions::Outcome;
+use item_actions::{ItemAction, Outcome, Text};
 use lease_service::Lease;
 use std::alloc::Global;
 use std::sync::Wait;
@@ -44,20 +44,28 @@ pub fn run_item<R: Wait, D: Desk>(
     ensures sent { SendsFor work.now.isolation (record { count = D.sends desk.old; requests = D.sent desk.old }) (record { count = D.sends desk.new; requests = D.sent desk.new }) (request_for unit work.now) result }
 {
     match &work.isolation {
-        Isolation::InThread => work_in_thread(alloc, desk, work),
+        Isolation::InThread => work_in_thread(alloc, desk, &work.action, &work.file),
         Isolation::Process(asked) => work_in_daemon(rt, alloc, desk, pool, unit, work, asked),
     }
 }
 
-// Works an item out in the worker's own thread, which sends nothing.
-fn work_in_thread<D: Desk>(alloc: Global, desk: &mut D, work: &Work) -> Outcome
+/// Works an action out on a file in the worker's own thread, which sends nothing.
+///
+/// Where the files are known the outcome is the action's value on them, NotThere or TooLong; else Fault, where the desk failed
+/// and its count of faults rose, or NoMemory.
+pub fn work_in_thread<D: Desk>(
+    alloc: Global,
+    desk: &mut D,
+    action: &ItemAction,
+    file: &Text,
+) -> Outcome
     ensures files { D.files desk.new ≡ D.files desk.old }
     ensures kept { D.faults desk.old ≤ D.faults desk.new }
     ensures ran { result ≢ outcomes.Skipped }
     ensures fault { result ≡ outcomes.Fault → Rises (D.faults desk.old) (D.faults desk.new) }
-    ensures honest { IfSome (D.files desk.old) (λ known. IsHonest result (value_on known work.now.action work.now.file)) }
+    ensures honest { IfSome (D.files desk.old) (λ known. IsHonest result (value_on known action.now file.now)) }
     ensures sends { D.sends desk.new ≡ D.sends desk.old }
     ensures sent { D.sent desk.new ≡ D.sent desk.old }
 {
-    work_out(alloc, &work.action, &work.file, desk)
+    work_out(alloc, action, file, desk)
 }

@@ -3,7 +3,7 @@
 
 mod items;
 
-pub use items::run_item;
+pub use items::{run_item, work_in_thread};
 
 #[cfg(test)]
 mod tests;

@@ -1,6 +1,6 @@
 pub mod Calls
 pub mod Folders
-pub mod ReadBufferView
+pub mod Gathers
 pub mod Memory
 pub mod PageView
 pub mod ReadView

@@ -17,7 +17,7 @@ reading (Some bytes) limit = if nat_lt limit (length bytes) then TooLong else By
 
 -- an answer as a reading
 abbrev pub read_view : Read → ReadView
-read_view (read.Bytes v) = Bytes v.items
+read_view (read.Bytes bytes) = Bytes bytes
 read_view read.NotThere = NotThere
 read_view read.TooLong = TooLong
 

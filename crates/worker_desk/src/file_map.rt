@@ -3,6 +3,7 @@ ghost use Rattle.item_actions.specs.Files.{file_of};
 ghost use Rattle.worker_desk.specs.Folders.{folder_of};
 ghost use Rattle.worker_desk.specs.ReadView.{reading, read_view};
 
+use crate::file_bytes::FileBytes;
 use crate::files::{DeskFail, Files, Read};
 use item_actions::Text;
 use std::alloc::{AllocError, Global};
@@ -45,7 +46,7 @@ impl FileMap {
         match self.find(name) {
             None => Ok(Read::NotThere),
             Some(bytes) if bytes.len() as u64 > limit => Ok(Read::TooLong),
-            Some(bytes) => Ok(Read::Bytes(Vec::from_slice(alloc, bytes)?)),
+            Some(bytes) => Ok(Read::Bytes(FileBytes::of(Vec::from_slice(alloc, bytes)?))),
         }
     }
 

@@ -4,6 +4,7 @@ ghost use Rattle.item_actions.specs.Files.{Folder};
 ghost use Rattle.worker_desk.specs.SinkView.{Rises};
 ghost use Rattle.worker_desk.specs.ReadView.{IsWithin, ReadsFrom, read_view};
 
+use crate::file_bytes::FileBytes;
 use item_actions::Text;
 use std::alloc::{AllocError, Global};
 use std::io;
@@ -14,7 +15,7 @@ use thiserror::Error;
 #[derive(Debug, Drop)]
 pub enum Read {
     /// The file's bytes.
-    Bytes(Vec<u8>),
+    Bytes(FileBytes),
     /// There is no file of that name.
     NotThere,
     /// The file has more bytes than the limit.
@@ -71,4 +72,11 @@ pub trait Files {
         ensures failed { IsErrOf result DeskFail.Failed → Rises (faults self.old) (faults self.new) }
         ensures within { IfOk result (λ read. IsWithin limit (read_view read)) }
         ensures known { ReadsFrom (files self.old) name.now limit result };
+
+    /// Gives the bytes of a file back that are done with. A later read may use their memory.
+    fn give_back(&mut self, bytes: FileBytes)
+        ensures { self.new ≡ self.old }
+    {
+        drop(bytes);
+    }
 }

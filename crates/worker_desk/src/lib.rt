@@ -2,6 +2,7 @@
 #![tactic(auto)]
 
 mod calls;
+mod file_bytes;
 mod file_map;
 mod files;
 mod folder_files;
@@ -10,7 +11,6 @@ mod memory_files;
 mod memory_sink;
 mod memory_source;
 mod pages;
-mod read_buffers;
 mod retries;
 mod sinks;
 mod sources;
@@ -19,6 +19,7 @@ mod std_source;
 mod work;
 
 pub use calls::Calls;
+pub use file_bytes::FileBytes;
 pub use file_map::{FileEntry, FileMap};
 pub use files::{DeskFail, Files, Read};
 pub use folder_files::{FolderFiles, read_file};

@@ -20,7 +20,11 @@ pub fn work_out<F: Files>(alloc: Global, action: &ItemAction, name: &Text, files
     ensures honest { IfSome (F.files files.old) (λ known. IsHonest result (value_on known action.now name.now)) }
 {
     match files.read(alloc, name, MAX_FILE_BYTES) {
-        Ok(Read::Bytes(bytes)) => act(action, bytes.as_slice()),
+        Ok(Read::Bytes(bytes)) => {
+            let outcome = act(action, bytes.as_bytes());
+            files.give_back(bytes);
+            outcome
+        }
         Ok(Read::NotThere) => Outcome::NotThere,
         Ok(Read::TooLong) => Outcome::TooLong,
         Err(DeskFail::Failed) => Outcome::Fault,

@@ -88,7 +88,7 @@ fn files_in_memory_are_read(rt: HostRuntime) -> Result<(), Fail> {
     let (here, elsewhere) = (text(alloc, "a")?, text(alloc, "b")?);
     let whole = desk.read(alloc, &here, 3);
     assert!(rt;
-        matches!(&whole, Ok(Read::Bytes(bytes)) if bytes.as_slice() == [1, 2, 3].as_slice())
+        matches!(&whole, Ok(Read::Bytes(bytes)) if bytes.as_bytes() == [1, 2, 3].as_slice())
     );
     assert!(rt; matches!(desk.read(alloc, &here, 2), Ok(Read::TooLong)));
     assert!(rt; matches!(desk.read(alloc, &elsewhere, 3), Ok(Read::NotThere)));
@@ -107,7 +107,7 @@ fn what_a_sink_wrote_is_read_from_the_folder(rt: HostRuntime) -> Result<(), Fail
     assert!(rt; put_all(&mut sink, &content).is_ok());
     assert_eq!(rt; sink.count(), 0);
 
-    let mut desk = FolderFiles::new(&rt);
+    let mut desk = FolderFiles::new(&rt, alloc);
     let written = text(alloc, name)?;
     let whole = desk.read(alloc, &written, 10000);
     let over = desk.read(alloc, &written, 9999);
@@ -118,7 +118,7 @@ fn what_a_sink_wrote_is_read_from_the_folder(rt: HostRuntime) -> Result<(), Fail
     assert_eq!(rt; desk.count(), 2);
     fs::remove_file(&rt, name)?;
 
-    assert!(rt; matches!(&whole, Ok(Read::Bytes(bytes)) if bytes.as_slice() == content.as_slice()));
+    assert!(rt; matches!(&whole, Ok(Read::Bytes(bytes)) if bytes.as_bytes() == content.as_slice()));
     assert!(rt; matches!(over, Ok(Read::TooLong)));
     assert!(rt; matches!(missing, Ok(Read::NotThere)));
     assert!(rt; matches!(folder, Err(DeskFail::Failed)));
@@ -140,7 +140,7 @@ fn files_of_lengths_about_the_first_room_are_read(rt: HostRuntime) -> Result<(),
     let alloc = rt.alloc();
     let name = "worker_desk_lengths.txt";
     let written = text(alloc, name)?;
-    let mut desk = FolderFiles::new(&rt);
+    let mut desk = FolderFiles::new(&rt, alloc);
     let lengths: [(u64, u64); 6] = [
         (0, 1),
         (1022, 1023),
@@ -155,7 +155,7 @@ fn files_of_lengths_about_the_first_room_are_read(rt: HostRuntime) -> Result<(),
         assert!(rt; put_all(&mut sink, &content).is_ok());
         let whole = desk.read(alloc, &written, len);
         assert!(rt;
-            matches!(&whole, Ok(Read::Bytes(bytes)) if bytes.as_slice() == content.as_slice()),
+            matches!(&whole, Ok(Read::Bytes(bytes)) if bytes.as_bytes() == content.as_slice()),
             "{len} bytes"
         );
         assert!(rt;
@@ -165,8 +165,30 @@ fn files_of_lengths_about_the_first_room_are_read(rt: HostRuntime) -> Result<(),
     }
     fs::write(&rt, name, b"")?;
     assert!(rt;
-        matches!(desk.read(alloc, &written, 0), Ok(Read::Bytes(bytes)) if bytes.is_empty())
+        matches!(desk.read(alloc, &written, 0), Ok(Read::Bytes(bytes)) if bytes.as_bytes().is_empty())
     );
+    fs::remove_file(&rt, name)?;
+    assert_eq!(rt; desk.count(), 0);
+    Ok(())
+}
+
+#[test]
+fn files_are_read_into_memory_that_was_given_back(rt: HostRuntime) -> Result<(), Fail> {
+    let alloc = rt.alloc();
+    let name = "worker_desk_given_back.txt";
+    let written = text(alloc, name)?;
+    let mut desk = FolderFiles::new(&rt, alloc);
+    for len in [5000u64, 3, 1024, 0, 6000, 4999] {
+        let content = varied(alloc, len)?;
+        fs::write(&rt, name, content.as_slice())?;
+        assert!(rt; matches!(desk.read(alloc, &written, len / 2), Ok(Read::TooLong)) == (len > 0));
+        let Ok(Read::Bytes(bytes)) = desk.read(alloc, &written, len) else {
+            assert!(rt; false, "{len} bytes");
+            continue;
+        };
+        assert_eq!(rt; bytes.as_bytes(), content.as_slice(), "{len} bytes");
+        desk.give_back(bytes);
+    }
     fs::remove_file(&rt, name)?;
     assert_eq!(rt; desk.count(), 0);
     Ok(())
