@@ -6,7 +6,9 @@ ghost use Rattle.plan_table.specs.Forms.{is_name_byte, is_name};
 ghost use Rattle.plan_reader.specs.Sound.{fits_name, fits_names, fits_argument, fits_arguments, fits_setting, fits_settings, fits_file_name, fits_needle, fits_executable, fits_encoding, fits_wait, fits_do, fits_isolation, fits, all_fit};
 
 use item_actions::{ActionKind, is_file_name};
-use plan_table::{is_encoding, is_executable, is_key, is_needle, is_value, text_of};
+use plan_table::{
+    MAX_NAME_BYTES, is_encoding, is_executable, is_key, is_needle, is_value, text_of,
+};
 use resource_lock::Retention;
 use toml::{Table, Value};
 
@@ -38,17 +40,22 @@ fn is_name_byte(byte: u8) -> bool
     NAME_BYTES[byte as usize] != b','
 }
 
+/// Looks at each byte, since nearly always all of them are of names, and a loop with one way out is faster.
 fn are_name_bytes(bytes: &[u8]) -> bool
     ensures { result ≡ list_all is_name_byte bytes.now }
 {
-    bytes.iter().all(|byte| is_name_byte(*byte))
+    let mut are = true;
+    for byte in bytes {
+        are &= is_name_byte(*byte);
+    }
+    are
 }
 
 /// Whether the bytes have the form of a name.
 fn is_name(bytes: &[u8]) -> bool
     ensures { result ≡ is_name bytes.now }
 {
-    !bytes.is_empty() && bytes.len() <= 64 && are_name_bytes(bytes)
+    !bytes.is_empty() && bytes.len() <= MAX_NAME_BYTES && are_name_bytes(bytes)
 }
 
 fn fits_name(value: &Value) -> bool

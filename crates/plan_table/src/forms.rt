@@ -3,6 +3,9 @@ ghost use Rattle.std.specs.Prelude.{◌≡◌, not};
 ghost use Rattle.std.specs.List.{list_any, list_all};
 ghost use Rattle.plan_table.specs.Forms.{is_letter_or_digit, is_joining, is_name_byte, has_length, has_byte, is_name, is_needle, is_executable, is_encoding, is_value, is_key};
 
+/// The most bytes of a name.
+pub const MAX_NAME_BYTES: usize = 64;
+
 fn is_letter_or_digit(b: u8) -> bool
     ensures { result ≡ is_letter_or_digit b }
 {
@@ -44,7 +47,7 @@ fn has_byte(bytes: &[u8], b: u8) -> bool
 pub fn is_name(bytes: &[u8]) -> bool
     ensures { result ≡ is_name bytes.now }
 {
-    has_length(bytes, 1, 64) && are_name_bytes(bytes)
+    has_length(bytes, 1, MAX_NAME_BYTES) && are_name_bytes(bytes)
 }
 
 /// Whether the bytes have the form of a needle: 1 to 64 bytes, a zero byte among them or not.
