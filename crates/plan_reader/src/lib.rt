@@ -2,6 +2,7 @@
 #![tactic(auto)]
 
 mod graphs;
+mod guesses;
 mod key_values;
 mod known;
 mod laws;

@@ -3,16 +3,18 @@ ghost use Rattle.std.specs.Prelude.{◌≡◌, length, None, Some, IsTrue, IfOk,
 ghost use Rattle.std.specs.Str.{bytes_eq};
 ghost use Rattle.plan_reader.specs.NameNumbers.{texts, has_name, first_repeat, number_of, AreNumbered};
 
+use crate::guesses::Guesses;
 use std::alloc::{AllocError, Global};
 use std::collections::BTreeMap;
 use std::marker::Model;
 
-/// Names, each with the number of its place. They are looked up by the order of their bytes, so that no choice of
-/// names makes that slow.
+/// Names, each with the number of its place. A name is looked for where it is guessed to stand, and then by the order
+/// of its bytes, so that no choice of names makes that slow.
 #[derive(Drop)]
 pub(crate) struct NameTable<'a> {
     names: Vec<&'a str>,
     numbers: BTreeMap<&'a str, usize>,
+    guesses: Guesses,
 }
 
 impl<'a> Model for NameTable<'a> {
@@ -55,7 +57,14 @@ impl<'a> NameTable<'a> {
             (λ i. first_repeat (texts names.entry.items) ≡ Some i)) }
     {
         match numbers_of(alloc, names.as_slice())? {
-            Ok(numbers) => Ok(Ok(NameTable { names, numbers })),
+            Ok(numbers) => {
+                let guesses = Guesses::new(alloc, names.as_slice())?;
+                Ok(Ok(NameTable {
+                    names,
+                    numbers,
+                    guesses,
+                }))
+            }
             Err(number) => Ok(Err(number)),
         }
     }
@@ -67,15 +76,8 @@ impl<'a> NameTable<'a> {
         self.names.len()
     }
 
-    /// Whether a name is one of these.
-    pub(crate) fn has(&self, name: &str) -> bool
-        ensures { result ≡ has_name self.now name.now }
-    {
-        self.numbers.contains_key(name)
-    }
-
-    /// The number of a name, if it is one of these.
-    pub(crate) fn place_of(&self, name: &str) -> Option<usize>
+    /// The number of a name by the order of its bytes, if it is one of these.
+    fn place_by_order(&self, name: &str) -> Option<usize>
         ensures { result ≡ position (bytes_eq name.now) self.now }
     {
         self.numbers.get(name).copied()
@@ -86,6 +88,25 @@ impl<'a> NameTable<'a> {
         ensures { IsTrue result → position (bytes_eq name.now) self.now ≡ Some place }
     {
         place < self.names.len() && self.names[place] == name
+    }
+
+    /// The number of a name, if it is one of these.
+    pub(crate) fn place_of(&self, name: &str) -> Option<usize>
+        ensures { result ≡ position (bytes_eq name.now) self.now }
+    {
+        let place = self.guesses.place_of(name);
+        if self.stands_at(place, name) {
+            Some(place)
+        } else {
+            self.place_by_order(name)
+        }
+    }
+
+    /// Whether a name is one of these.
+    pub(crate) fn has(&self, name: &str) -> bool
+        ensures { result ≡ has_name self.now name.now }
+    {
+        self.place_of(name).is_some()
     }
 
     /// The number of a name, if it is one of these. It is looked for at the guess first.
