@@ -1,7 +1,8 @@
 -- Names that are numbered in their order, over plain lists.
 use Rattle.std.proofs.Common.{◌≡◌, ◌==◌, ℕ, ◌+◌, ◌<◌, true, false, cond, is_some, Option, Some, None, List, [], ◌∷◌, ◌++◌, map, length, take, get_or, Bor, Vec, Global, refl, ap, sym, subst, ◌∙◌, inl, inr, position, bytes_eq, arith}
 use Rattle.std.proofs.lemmas.Bool.{cases_Bool, true≢false}
-use Rattle.std.proofs.lemmas.List.{length-map, get_or-map, map_more, take_more, length-take}
+use Rattle.std.proofs.lemmas.List.{length-map, length-append, get_or-map, map_more, take_more, take_all, length-take}
+use Rattle.std.proofs.Math.Seq.{get_or-append_seam}
 use Rattle.std.proofs.lemmas.List.Sums.{fold_push}
 use Rattle.std.proofs.lemmas.Map.Text.{btree_map_updates_str}
 use Rattle.std.proofs.lemmas.Slice.Eq.{bytes_eq-Decides}
@@ -80,7 +81,7 @@ once_more number xs i x n old new within is same so_far made =
 -- ---- rows
 
 -- the row at a number, where the rows are those of the values
-pub row_at : {X : Type 0} (row : X → List ℕ) (rows : List (Vec ℕ Global)) (xs : List X) (i : ℕ) (r : Vec ℕ Global) (x : X) → lists_of rows ≡ map row xs → i < length xs
+row_at : {X : Type 0} (row : X → List ℕ) (rows : List (Vec ℕ Global)) (xs : List X) (i : ℕ) (r : Vec ℕ Global) (x : X) → lists_of rows ≡ map row xs → i < length xs
     → r ≡ get_or rows i r → x ≡ get_or xs i x → r.items ≡ row x
 row_at row rows xs i r x are within at is =
     let long : i < length rows = omega (arith, within, sym (length-map rows (λ v. v.items)) ∙ ap length are ∙ length-map xs row) in
@@ -89,3 +90,20 @@ row_at row rows xs i r x are within at is =
     ∙ ap (λ ls. get_or ls i []) are
     ∙ get_or-map row xs i x [] within
     ∙ ap row (sym is)
+
+-- as many rows as values
+as_many : {X : Type 0} (row : X → List ℕ) (rows : List (Vec ℕ Global)) (xs : List X) → lists_of rows ≡ map row xs → length rows ≡ length xs
+as_many row rows xs are = sym (length-map rows (λ v. v.items)) ∙ ap length are ∙ length-map xs row
+
+-- the row that is next, behind those that are done
+pub next_within : {X : Type 0} (row : X → List ℕ) (rows done rest : List (Vec ℕ Global)) (r : Vec ℕ Global) (xs : List X) → lists_of rows ≡ map row xs → rows ≡ done ++ r ∷ rest → length done < length xs
+next_within row rows done rest r xs are next = omega (arith, as_many row rows xs are, ap length next ∙ length-append done (r ∷ rest))
+
+pub next_row : {X : Type 0} (row : X → List ℕ) (rows done rest : List (Vec ℕ Global)) (r : Vec ℕ Global) (xs : List X) (x : X) → lists_of rows ≡ map row xs → rows ≡ done ++ r ∷ rest
+    → x ≡ get_or xs (length done) x → r.items ≡ row x
+next_row row rows done rest r xs x are next is =
+    row_at row rows xs (length done) r x are (next_within row rows done rest r xs are next) (sym (ap (λ rs. get_or rs (length done) r) next ∙ get_or-append_seam done r rest r)) is
+
+-- all rows are done
+pub all_done : {X : Type 0} (row : X → List ℕ) (rows done : List (Vec ℕ Global)) (xs : List X) → lists_of rows ≡ map row xs → rows ≡ done → take (length done) xs ≡ xs
+all_done row rows done xs are all = take_all (length done) xs (omega (arith, as_many row rows xs are, ap length all))

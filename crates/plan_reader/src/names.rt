@@ -63,17 +63,6 @@ pub(crate) fn numbered_names<'a>(
     }
 }
 
-/// The same numbers.
-pub(crate) fn copy_numbers(alloc: Global, numbers: &[u32]) -> Result<Vec<u32>, AllocError>
-    ensures { IfOk result (λ copy. copy.items ≡ numbers.now) }
-{
-    let mut copy = Vec::with_capacity(alloc, numbers.len())?;
-    for number in numbers {
-        copy.push(*number)?;
-    }
-    Ok(copy)
-}
-
 /// Puts a number behind the others if it isn't among them. Those that are there have the mark.
 #[tactic(auto, using(crate::proofs::Marks::marked_anew, crate::proofs::Marks::added, crate::proofs::Marks::kept))]
 fn add_number(

@@ -9,7 +9,6 @@ ghost use Rattle.plan_reader.specs.Names.{names_in, name_lists, dependency_numbe
 ghost use Rattle.plan_reader.specs.Planned.{count_of, action_of_kind, action_named, default_requirements, process_of, work_of, retention_named, action_of, task_of, all_requirements};
 
 use crate::known::Known;
-use crate::names::copy_numbers;
 use crate::plans::{PlanAction, PlanTask};
 use daemon_requirements::{Isolation, Work};
 use item_actions::{ActionKind, ItemAction, Needle, Text};
@@ -155,16 +154,16 @@ fn task_of(
     alloc: Global,
     known: &Known,
     task: &Value,
-    after: &[u32],
+    after: Vec<u32>,
 ) -> Result<PlanTask, AllocError>
     requires default { known.now.default.now ≡ default_requirements }
-    requires after { after.now ≡ dependency_numbers (name_lists known.now.names.now).tasks (view task.now) }
+    requires after { after.items ≡ dependency_numbers (name_lists known.now.names.now).tasks (view task.now) }
     ensures { IfOk result (λ t. plan_task_view t ≡ task_of (name_lists known.now.names.now) known.now.profiles.now (view task.now)) }
 {
     Ok(PlanTask {
         name: Text::from_str(alloc, name_of(task))?,
         project: known.names.projects.number_of(project_of(task))?,
-        after: copy_numbers(alloc, after)?,
+        after,
         actions: actions_of_task(alloc, known, task)?,
     })
 }
@@ -173,15 +172,16 @@ fn plan_tasks_of(
     alloc: Global,
     known: &Known,
     values: &[Value],
-    dependencies: &[Vec<u32>],
+    dependencies: Vec<Vec<u32>>,
 ) -> Result<Vec<PlanTask>, AllocError>
     requires default { known.now.default.now ≡ default_requirements }
-    requires dependencies { lists_of dependencies.now ≡ map (λ v. dependency_numbers (name_lists known.now.names.now).tasks (view v)) values.now }
+    requires dependencies { lists_of dependencies.items ≡ map (λ v. dependency_numbers (name_lists known.now.names.now).tasks (view v)) values.now }
     ensures { IfOk result (λ tasks. map plan_task_view tasks.items ≡ map (λ v. task_of (name_lists known.now.names.now) known.now.profiles.now (view v)) values.now) }
 {
     let mut tasks = Vec::with_capacity(alloc, values.len())?;
-    for (number, value) in values.iter().enumerate() {
-        tasks.push(task_of(alloc, known, value, &dependencies[number])?)?;
+    for after in dependencies {
+        let number = tasks.len();
+        tasks.push(task_of(alloc, known, &values[number], after)?)?;
     }
     Ok(tasks)
 }
@@ -191,11 +191,11 @@ pub(crate) fn tasks_of_plan(
     alloc: Global,
     known: &Known,
     document: &Value,
-    dependencies: &[Vec<u32>],
+    dependencies: Vec<Vec<u32>>,
 ) -> Result<Vec<PlanTask>, AllocError>
     requires default { known.now.default.now ≡ default_requirements }
     requires names { name_lists known.now.names.now ≡ names_in (view document.now) }
-    requires dependencies { lists_of dependencies.now ≡ dependencies_of (view document.now) }
+    requires dependencies { lists_of dependencies.items ≡ dependencies_of (view document.now) }
     ensures { IfOk result (λ tasks. map plan_task_view tasks.items ≡ map (task_of (names_in (view document.now)) known.now.profiles.now) (tasks_of (view document.now))) }
 {
     let tasks = plan_tasks_of(alloc, known, tasks_of(document), dependencies)?;

@@ -113,11 +113,11 @@ fn check_table(document: &Value) -> Result<(), PlanFail>
 fn plan_of(
     alloc: Global,
     names: &Names,
-    dependencies: &[Vec<u32>],
+    dependencies: Vec<Vec<u32>>,
     document: &Value,
 ) -> Result<Plan, PlanFail>
     requires names { name_lists names.now ≡ names_in (view document.now) }
-    requires dependencies { lists_of dependencies.now ≡ dependencies_of (view document.now) }
+    requires dependencies { lists_of dependencies.items ≡ dependencies_of (view document.now) }
     requires before { refusal_before (view document.now) ≡ None }
     requires ranked { IsFirstCycle (dependencies_of (view document.now)) None }
     requires behind { refusal_behind (view document.now) ≡ None }
@@ -140,16 +140,16 @@ fn plan_of(
 fn read_ranked(
     alloc: Global,
     names: &Names,
-    dependencies: &[Vec<u32>],
+    dependencies: Vec<Vec<u32>>,
     document: &Value,
 ) -> Result<Plan, PlanFail>
     requires names { name_lists names.now ≡ names_in (view document.now) }
-    requires dependencies { lists_of dependencies.now ≡ dependencies_of (view document.now) }
+    requires dependencies { lists_of dependencies.items ≡ dependencies_of (view document.now) }
     requires numbered { is_numbered (view document.now) ≡ true }
     requires before { refusal_before (view document.now) ≡ None }
     ensures { Gives (AnswersRanks (view document.now)) result }
 {
-    check_ranks(alloc, dependencies)?;
+    check_ranks(alloc, &dependencies)?;
     check_behind(names, document)?;
     plan_of(alloc, names, dependencies, document)
 }
@@ -163,7 +163,7 @@ fn read_named(alloc: Global, names: &Names, document: &Value) -> Result<Plan, Pl
     ensures { Gives (AnswersBy (refusal_before (view document.now)) (view document.now)) result }
 {
     let dependencies = check_before(alloc, names, document)?;
-    read_ranked(alloc, names, &dependencies, document)
+    read_ranked(alloc, names, dependencies, document)
 }
 
 /// The plan of a document, or the first refusal behind those of its text.
