@@ -4,16 +4,37 @@ use anyhow::Result;
 use history_check::{CheckFail, MAX_INPUT_BYTES, check_input};
 use plan_reader::Plan;
 use std::alloc::{AllocError, Global};
-use worker_desk::MemorySource;
+use std::cmp::min;
+use worker_desk::{Failed, MemorySource, Source};
 
-/// An input that gives the history, and whose call of this number fails.
-fn failing_input(alloc: Global, history: &[u8], call: u64) -> Result<MemorySource, AllocError> {
-    let mut failing = Vec::new(alloc);
-    failing.push(call)?;
-    Ok(MemorySource::new(Vec::from_slice(alloc, history)?, failing))
+/// A source whose calls give one byte at most.
+#[derive(Drop)]
+struct ByteByByte<I: Source> {
+    source: I,
 }
 
-/// Checks the history from inputs of which one call fails, and prints how many of them are answered so. Each call takes
+impl<I: Source> Source for ByteByByte<I> {
+    ghost seen = { λ s. I.seen s.source };
+
+    fn take(&mut self, buffer: &mut [u8]) -> Result<usize, Failed> {
+        let most = min(buffer.len(), 1);
+        self.source.take(&mut buffer[..most])
+    }
+}
+
+/// An input that gives the history byte by byte, and whose call of this number fails.
+fn failing_input(
+    alloc: Global,
+    history: &[u8],
+    call: u64,
+) -> Result<ByteByByte<MemorySource>, AllocError> {
+    let mut failing = Vec::new(alloc);
+    failing.push(call)?;
+    let source = MemorySource::new(Vec::from_slice(alloc, history)?, failing);
+    Ok(ByteByByte { source })
+}
+
+/// Checks the history from inputs of which one call fails, and prints how many of them are answered so. Each call gives
 /// one byte.
 pub(crate) fn check_failing_inputs(rt: &HostRuntime, plan: &Plan, history: &[u8]) -> Result<()> {
     let mut faults = 0u64;

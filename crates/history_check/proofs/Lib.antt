@@ -4,3 +4,5 @@ pub mod Passing
 pub mod Steps
 pub mod OneAnswer
 pub mod Given
+pub mod EndLines
+pub mod Rooms

@@ -1,12 +1,13 @@
 -- What was taken of an input, line by line.
 use Rattle.std.proofs.Common.{◌≡◌, ℕ, zero, suc, ◌+◌, ◌-◌, Bool, true, false, List, [], ◌∷◌, ◌++◌, length, take, length-append, Option, Some, None, refl, sym, ap, subst, ◌∙◌, append_assoc, append-nil, arith, inl, inr, ◌⊎◌}
 use Rattle.std.specs.List.{AllByRecursion, concat}
-use Rattle.std.specs.Io.KnownBytes.{Consumes, IsAtEnd}
+use Rattle.std.specs.Io.KnownBytes.{Consumes}
 use Rattle.std.proofs.KnownBytes.{Consumes-nil, Consumes-trans}
 use Rattle.worker_desk.specs.SinkView.{Rises}
 use Rattle.worker_desk.specs.SourceView.{SourceView}
 use Rattle.history_reader.specs.Lines.{is_unbroken, IsLine, IsLineBefore, BeginsWithLine}
-use Rattle.history_check.specs.Taking.{Takes, IsCutOff, EndsLine, LosesPiece}
+use Rattle.history_check.specs.LinesView.{LinesView}
+use Rattle.history_check.specs.Taking.{Takes, TakesNext, IsOver, IsCutOff, EndsLine, LosesPiece}
 use Rattle.history_check.specs.Naming.{IsOtherLine, ArePassedOver}
 use Rattle.history_check.specs.Checking.{still_given, all_given, IsFront, Fails, HasTaken}
 use Rattle.history_check.specs.declared.fails.CheckFail.{CheckFail}
@@ -31,39 +32,56 @@ one_passed passed line over other = record {
   is = ap (λ bs. bs ++ line) over.is ∙ sym (concat_more over.lines line);
 }
 
-pub starts : (start : SourceView) → HasTaken start start MAX_INPUT_BYTES []
-starts start = record { passed = []; over = none_passed; taken = Consumes-nil start.left; faults = omega arith; limit = omega arith }
+pub starts : (start : SourceView) (lines : LinesView) → lines.ahead ≡ [] → lines.room ≡ MAX_INPUT_BYTES → HasTaken start start lines []
+starts start lines none room = record {
+  passed = [];
+  over = none_passed;
+  taken = subst (Consumes start.left start.left) (sym none) (Consumes-nil start.left);
+  faults = omega arith;
+  limit = omega (arith, ap length none, room);
+}
 
-pub taken_more : {start mid now : SourceView} (room : ℕ) (front line : List ℕ) → HasTaken start mid room front → Takes mid now room line → HasTaken start now (room - length line) (front ++ line)
-taken_more {start} {mid} {now} room front line so_far takes =
-    let whole : (so_far.passed ++ front) ++ line ≡ so_far.passed ++ (front ++ line) = append_assoc so_far.passed front line in
-    let long : length ((so_far.passed ++ front) ++ line) ≡ length (so_far.passed ++ front) + length line = length-append (so_far.passed ++ front) line in
-    let same : length (so_far.passed ++ (front ++ line)) ≡ length ((so_far.passed ++ front) ++ line) = ap length (sym whole) in
+-- what a piece more makes of the bytes
+piece_more : (passed front ahead piece : List ℕ) → (passed ++ (front ++ ahead)) ++ piece ≡ passed ++ (front ++ (ahead ++ piece))
+piece_more passed front ahead piece = append_assoc passed (front ++ ahead) piece ∙ ap (λ bs. passed ++ bs) (append_assoc front ahead piece)
+
+line_more : (passed front line ahead : List ℕ) → passed ++ (front ++ (line ++ ahead)) ≡ passed ++ ((front ++ line) ++ ahead)
+line_more passed front line ahead = ap (λ bs. passed ++ bs) (sym (append_assoc front line ahead))
+
+pub taken_more : {start mid now : SourceView} {was is : LinesView} (front : List ℕ) → HasTaken start mid was front → TakesNext mid now was is → HasTaken start now is (front ++ is.line)
+taken_more {start} {mid} {now} {was} {is} front so_far next =
+    let whole : (so_far.passed ++ (front ++ was.ahead)) ++ next.piece ≡ so_far.passed ++ ((front ++ is.line) ++ is.ahead) =
+    piece_more so_far.passed front was.ahead next.piece ∙ (ap (λ bs. so_far.passed ++ (front ++ bs)) next.bytes ∙ line_more so_far.passed front is.line is.ahead) in
+    let long : length ((so_far.passed ++ (front ++ was.ahead)) ++ next.piece) ≡ length (so_far.passed ++ (front ++ was.ahead)) + length next.piece = length-append (so_far.passed ++ (front ++ was.ahead)) next.piece in
+    let same : length (so_far.passed ++ ((front ++ is.line) ++ is.ahead)) ≡ length ((so_far.passed ++ (front ++ was.ahead)) ++ next.piece) = ap length (sym whole) in
     record {
       passed = so_far.passed;
       over = so_far.over;
-      taken = subst (Consumes start.left now.left) whole (Consumes-trans start.left mid.left now.left (so_far.passed ++ front) line so_far.taken takes.taken);
-      faults = omega (arith, so_far.faults, takes.faults);
-      limit = omega (arith, so_far.limit, takes.few, long, same);
+      taken = subst (Consumes start.left now.left) whole (Consumes-trans start.left mid.left now.left (so_far.passed ++ (front ++ was.ahead)) next.piece so_far.taken next.takes.taken);
+      faults = omega (arith, so_far.faults, next.takes.faults);
+      limit = omega (arith, so_far.limit, next.room, long, same);
     }
 
-pub taken_past : {start now : SourceView} (room : ℕ) (line : List ℕ) → HasTaken start now room ([] ++ line) → IsOtherLine line → HasTaken start now room []
-taken_past {start} {now} room line so_far other = record {
-  passed = so_far.passed ++ line;
-  over = one_passed so_far.passed line so_far.over other;
-  taken = subst (Consumes start.left now.left) (sym (append-nil (so_far.passed ++ line))) so_far.taken;
+pub taken_past : {start now : SourceView} {lines : LinesView} → HasTaken start now lines ([] ++ lines.line) → IsOtherLine lines.line → HasTaken start now lines []
+taken_past {start} {now} {lines} so_far other = record {
+  passed = so_far.passed ++ lines.line;
+  over = one_passed so_far.passed lines.line so_far.over other;
+  taken = subst (Consumes start.left now.left) (sym (append_assoc so_far.passed lines.line lines.ahead)) so_far.taken;
   faults = so_far.faults;
-  limit = ap (λ bs. length bs + room) (append-nil (so_far.passed ++ line)) ∙ so_far.limit;
+  limit = ap (λ bs. length bs + lines.room) (append_assoc so_far.passed lines.line lines.ahead) ∙ so_far.limit;
 }
 
-pub came : {start now : SourceView} (room : ℕ) (front : List ℕ) (so_far : HasTaken start now room front) → Takes start now MAX_INPUT_BYTES (so_far.passed ++ front)
-came room front so_far = record { taken = so_far.taken; faults = so_far.faults; few = omega (arith, so_far.limit) }
+pub came : {start now : SourceView} {lines : LinesView} (front : List ℕ) (so_far : HasTaken start now lines front) → Takes start now MAX_INPUT_BYTES (so_far.passed ++ (front ++ lines.ahead))
+came front so_far = record { taken = so_far.taken; faults = so_far.faults; few = omega (arith, so_far.limit) }
 
--- what may still be taken
-pub given_behind : {start now : SourceView} (room : ℕ) (front : List ℕ) (so_far : HasTaken start now room front) → all_given (so_far.passed ++ front) now.left ≡ so_far.passed ++ (front ++ still_given room now.left)
-given_behind {start} {now} room front so_far =
-    let left : MAX_INPUT_BYTES - length (so_far.passed ++ front) ≡ room = omega (arith, so_far.limit) in
-    ap (λ n. (so_far.passed ++ front) ++ still_given n now.left) left ∙ append_assoc so_far.passed front (still_given room now.left)
+-- what is ahead, and what may still be taken behind it
+abbrev pub to_come : LinesView → Option (List ℕ) → List ℕ
+to_come lines left = lines.ahead ++ still_given lines.room left
+
+pub given_behind : {start now : SourceView} {lines : LinesView} (front : List ℕ) (so_far : HasTaken start now lines front) → all_given (so_far.passed ++ (front ++ lines.ahead)) now.left ≡ so_far.passed ++ (front ++ to_come lines now.left)
+given_behind {start} {now} {lines} front so_far =
+    let left : MAX_INPUT_BYTES - length (so_far.passed ++ (front ++ lines.ahead)) ≡ lines.room = omega (arith, so_far.limit) in
+    ap (λ n. (so_far.passed ++ (front ++ lines.ahead)) ++ still_given n now.left) left ∙ piece_more so_far.passed front lines.ahead (still_given lines.room now.left)
 
 nil_cons : {b : ℕ} {bytes : List ℕ} → b ∷ bytes ≡ [] → ⊥
 nil_cons e = cc
@@ -73,50 +91,58 @@ take_none zero bytes is = refl
 take_none (suc n) [] is = refl
 take_none (suc n) (b ∷ bytes) is = absurd (nil_cons is)
 
-no_more : (left : Option (List ℕ)) (room : ℕ) (line : List ℕ) → (length line ≡ room) ⊎ IsAtEnd left → still_given (room - length line) left ≡ []
-no_more None room line over = refl
-no_more (Some bytes) room line (inl full) = let none : room - length line ≡ 0 = omega (arith, full) in ap (λ n. take n bytes) none
-no_more (Some bytes) room line (inr end) = take_none (room - length line) bytes end
+no_more : (left : Option (List ℕ)) (lines : LinesView) → IsOver left lines → still_given lines.room left ≡ []
+no_more None lines over = refl
+no_more (Some bytes) lines (inl full) = ap (λ n. take n bytes) full
+no_more (Some bytes) lines (inr end) = take_none lines.room bytes end
 
-pub cut_off : (left : Option (List ℕ)) (room : ℕ) (line : List ℕ) → IsCutOff left room line → still_given (room - length line) left ≡ []
-cut_off left room line cut = no_more left room line cut.over
+pub cut_off : (left : Option (List ℕ)) (lines : LinesView) → IsCutOff left lines → to_come lines left ≡ []
+cut_off left lines cut = ap (λ bs. bs ++ still_given lines.room left) cut.alone ∙ no_more left lines cut.over
 
-pub line_before : (left : Option (List ℕ)) (room : ℕ) (line : List ℕ) → IsLine line ⊎ IsCutOff left room line → IsLineBefore line (still_given (room - length line) left)
-line_before left room line (inl whole) = inl whole
-line_before left room line (inr cut) = inr (cut.unbroken, cut_off left room line cut)
+pub line_before : (left : Option (List ℕ)) (lines : LinesView) → IsLine lines.line ⊎ IsCutOff left lines → IsLineBefore lines.line (to_come lines left)
+line_before left lines (inl whole) = inl whole
+line_before left lines (inr cut) = inr (cut.unbroken, cut_off left lines cut)
 
-pub alone : (left : Option (List ℕ)) (room : ℕ) (line : List ℕ) → IsLine line ⊎ IsCutOff left room line → BeginsWithLine line line []
-alone left room line (inl whole) = record { is = sym (append-nil line); line_before = inl whole }
-alone left room line (inr cut) = record { is = sym (append-nil line); line_before = inr (cut.unbroken, refl) }
+pub alone : (left : Option (List ℕ)) (lines : LinesView) → IsLine lines.line ⊎ IsCutOff left lines → BeginsWithLine lines.line lines.line []
+alone left lines (inl whole) = record { is = sym (append-nil lines.line); line_before = inl whole }
+alone left lines (inr cut) = record { is = sym (append-nil lines.line); line_before = inr (cut.unbroken, refl) }
 
-pub ends_either : (left : Option (List ℕ)) (room : ℕ) (line : List ℕ) (whole : Bool) → EndsLine left room line whole → IsLine line ⊎ IsCutOff left room line
-ends_either left room line true ends = inl ends
-ends_either left room line false ends = inr ends
+pub ends_either : (left : Option (List ℕ)) (lines : LinesView) (whole : Bool) → EndsLine left lines whole → IsLine lines.line ⊎ IsCutOff left lines
+ends_either left lines true ends = inl ends
+ends_either left lines false ends = inr ends
 
-pub source_failed : {start mid now : SourceView} (room : ℕ) (front piece : List ℕ) → HasTaken start mid room front → IsFront front → Takes mid now room piece → is_unbroken piece ≡ true → Rises mid.faults now.faults → Fails start now SourceFault
-unfolding taken_more
-source_failed {start} {mid} {now} room front piece so_far begun takes unbroken rises =
-    let more = taken_more room front piece so_far takes in (
-      more.passed ++ (front ++ piece),
-      came (room - length piece) (front ++ piece) more,
-      record {
-        passed = so_far.passed;
-        over = so_far.over;
-        front = front;
-        begun = begun;
-        piece = piece;
-        unbroken = unbroken;
-        is = sym (append_assoc so_far.passed front piece);
-      },
-      omega (arith, rises, so_far.faults),
-    )
+-- a piece more was taken
+piece_taken : {start mid now : SourceView} {was : LinesView} (front piece : List ℕ) (so_far : HasTaken start mid was front) → Takes mid now was.room piece → Takes start now MAX_INPUT_BYTES (so_far.passed ++ (front ++ (was.ahead ++ piece)))
+piece_taken {start} {mid} {now} {was} front piece so_far takes =
+    let bytes : (so_far.passed ++ (front ++ was.ahead)) ++ piece ≡ so_far.passed ++ (front ++ (was.ahead ++ piece)) = piece_more so_far.passed front was.ahead piece in
+    let long : length ((so_far.passed ++ (front ++ was.ahead)) ++ piece) ≡ length (so_far.passed ++ (front ++ was.ahead)) + length piece = length-append (so_far.passed ++ (front ++ was.ahead)) piece in
+    let same : length (so_far.passed ++ (front ++ (was.ahead ++ piece))) ≡ length ((so_far.passed ++ (front ++ was.ahead)) ++ piece) = ap length (sym bytes) in
+    record {
+      taken = subst (Consumes start.left now.left) bytes (Consumes-trans start.left mid.left now.left (so_far.passed ++ (front ++ was.ahead)) piece so_far.taken takes.taken);
+      faults = omega (arith, so_far.faults, takes.faults);
+      few = omega (arith, so_far.limit, takes.few, long, same);
+    }
 
-pub memory_failed : {start mid now : SourceView} (room : ℕ) (front piece : List ℕ) → HasTaken start mid room front → Takes mid now room piece → Fails start now NoMemory
-memory_failed room front piece so_far takes =
-    let more = taken_more room front piece so_far takes in
-    (more.passed ++ (front ++ piece), came (room - length piece) (front ++ piece) more)
+pub source_failed : {start mid now : SourceView} {was : LinesView} (front piece : List ℕ) → HasTaken start mid was front → IsFront front → Takes mid now was.room piece → is_unbroken (was.ahead ++ piece) ≡ true → Rises mid.faults now.faults → Fails start now SourceFault
+source_failed {start} {mid} {now} {was} front piece so_far begun takes unbroken rises = (
+  so_far.passed ++ (front ++ (was.ahead ++ piece)),
+  piece_taken front piece so_far takes,
+  record {
+    passed = so_far.passed;
+    over = so_far.over;
+    front = front;
+    begun = begun;
+    piece = was.ahead ++ piece;
+    unbroken = unbroken;
+    is = sym (append_assoc so_far.passed front (was.ahead ++ piece));
+  },
+  omega (arith, rises, so_far.faults),
+)
+
+pub memory_failed : {start mid now : SourceView} {was : LinesView} (front piece : List ℕ) → HasTaken start mid was front → Takes mid now was.room piece → Fails start now NoMemory
+memory_failed front piece so_far takes = (so_far.passed ++ (front ++ (_ ++ piece)), piece_taken front piece so_far takes)
 
 -- no line was taken
-pub line_failed : (start mid now : SourceView) (room : ℕ) (front : List ℕ) (fail : CheckFail) → HasTaken start mid room front → IsFront front → LosesPiece mid now room fail → Fails start now fail
-line_failed start mid now room front SourceFault so_far begun lost = source_failed room front lost.0 so_far begun lost.1 lost.2 lost.3
-line_failed start mid now room front NoMemory so_far begun lost = memory_failed room front lost.0 so_far lost.1
+pub line_failed : (start mid now : SourceView) (was : LinesView) (front : List ℕ) (fail : CheckFail) → HasTaken start mid was front → IsFront front → LosesPiece mid now was fail → Fails start now fail
+line_failed start mid now was front SourceFault so_far begun lost = source_failed front lost.0 so_far begun lost.1 lost.2 lost.3
+line_failed start mid now was front NoMemory so_far begun lost = memory_failed front lost.0 so_far lost.1

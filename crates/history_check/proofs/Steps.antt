@@ -1,5 +1,5 @@
 -- What a line makes of what was taken so far, and of the answer.
-use Rattle.std.proofs.Common.{◌≡◌, ◌≢◌, ℕ, ◌+◌, ◌-◌, ◌<◌, ◌≤◌, Bool, true, false, List, [], ◌++◌, length, Option, Some, None, Result, Ok, Err, refl, sym, ap, subst, ◌∙◌, append_assoc, append-nil, arith, inl, inr, ◌⊎◌}
+use Rattle.std.proofs.Common.{◌≡◌, ◌≢◌, ℕ, ◌+◌, ◌<◌, ◌≤◌, Bool, true, false, List, [], ◌∷◌, ◌++◌, length, Option, Some, None, Result, Ok, Err, refl, sym, ap, subst, ◌∙◌, append_assoc, append-nil, arith, inl, inr, ◌⊎◌}
 use Rattle.resource_lock.specs.GraphView.{GraphView}
 use Rattle.worker_desk.specs.SourceView.{SourceView}
 use Rattle.plan_reader.specs.PlanView.{PlanView}
@@ -11,11 +11,12 @@ use Rattle.history_reader.proofs.Splits.{same_line}
 use Rattle.history_reader.proofs.LineLaws.{entry_line, end_line}
 use Rattle.history_reader.proofs.TextLaws.{first_wrong, second_wrong}
 use Rattle.history_reader.proofs.ReadLaws.{ReadSoFar, at_start, read_on, read_ended, opened_so_far}
-use Rattle.history_check.specs.Taking.{Takes, IsCutOff, EndsLine, LosesPiece}
+use Rattle.history_check.specs.LinesView.{LinesView}
+use Rattle.history_check.specs.Taking.{TakesNext, IsCutOff, EndsLine, StaysWithin, LosesPiece}
 use Rattle.history_check.specs.CheckView.{CheckView, IsCheckOf, OpensCheck, CheckGoesOn}
 use Rattle.history_check.specs.Verdict.{IsVerdict}
 use Rattle.history_check.specs.Naming.{BeginsHistory, BreaksBehind}
-use Rattle.history_check.specs.Checking.{still_given, Answers, Fails, FindsNone, FindsHead, HasTaken, IsUnderway, TakesHead, GoesOn, HasChecked, Shortens}
+use Rattle.history_check.specs.Checking.{unread, Answers, Fails, FindsNone, FindsHead, HasTaken, HasRoom, IsUnderway, TakesHead, GoesOn, HasChecked, Shortens}
 use Rattle.history_check.specs.declared.checks.Checked.{Checked}
 use Rattle.history_check.specs.declared.checks.Checked.TheVariants as checked
 use Rattle.history_check.specs.declared.fails.CheckFail.{CheckFail}
@@ -25,85 +26,84 @@ use Rattle.history_reader.specs.declared.histories.HistoryLine.TheVariants as li
 use Rattle.history_reader.specs.declared.fails.TextFail.{TextFail}
 use Rattle.history_reader.specs.declared.fails.TextFail.TheVariants.{Stops}
 use Rattle.std.specs.Prelude.{IsErrAnd}
-use Rattle.history_check.proofs.Passing.{taken_more, taken_past, came, given_behind, line_before, alone, cut_off, ends_either, memory_failed, line_failed}
+use Rattle.history_check.proofs.Passing.{taken_more, taken_past, came, to_come, given_behind, line_before, alone, cut_off, ends_either, memory_failed, line_failed}
 
 in_head : (text : List ℕ) → StopsAt text 0 → StopsInHead text 0
 in_head text (inl a) = a
 in_head text (inr b) = absurd (let number : 0 ≡ length b.before.entries + 1 = b.number in omega arith)
 
 -- the head lacks: what is behind the lines passed over isn't the first line, and no line
-pub no_head : {start now : SourceView} (room left : ℕ) (line : List ℕ) → left ≡ room - length line → (so_far : HasTaken start now left ([] ++ line)) → IsCutOff now.left room line → line ≢ first_line → FindsNone start now
-no_head {start} {now} room left line is so_far cut other =
-    let none : still_given left now.left ≡ [] = ap (λ n. still_given n now.left) is ∙ cut_off now.left room line cut in
-    let whole : line ++ still_given left now.left ≡ line = ap (λ bs. line ++ bs) none ∙ append-nil line in (
-      so_far.passed ++ line,
-      came left ([] ++ line) so_far,
+pub no_head : {start now : SourceView} {is : LinesView} → (so_far : HasTaken start now is ([] ++ is.line)) → IsCutOff now.left is → is.line ≢ first_line → FindsNone start now
+no_head {start} {now} {is} so_far cut other =
+    let none : to_come is now.left ≡ [] = cut_off now.left is cut in
+    let whole : is.line ++ to_come is now.left ≡ is.line = ap (λ bs. is.line ++ bs) none ∙ append-nil is.line in (
+      so_far.passed ++ (([] ++ is.line) ++ is.ahead),
+      came ([] ++ is.line) so_far,
       record {
         passed = so_far.passed;
         over = so_far.over;
-        text = line ++ still_given left now.left;
+        text = is.line ++ to_come is now.left;
         begins = inr (ap is_unbroken whole ∙ cut.unbroken);
-        stops = inl (in_head (line ++ still_given left now.left) (first_wrong line (still_given left now.left) (inr (cut.unbroken, none)) other));
-        is = given_behind left ([] ++ line) so_far;
+        stops = inl (in_head (is.line ++ to_come is now.left) (first_wrong is.line (to_come is now.left) (inr (cut.unbroken, none)) other));
+        is = given_behind ([] ++ is.line) so_far;
       },
     )
 
 -- the second line is wrong or lacks
-pub no_second : {start mid now : SourceView} (room : ℕ) (line : List ℕ) → HasTaken start mid room first_line → Takes mid now room line → IsLine line ⊎ IsCutOff now.left room line → OpensNone line → FindsNone start now
-no_second {start} {mid} {now} room line so_far takes ends none =
-    let more = taken_more room first_line line so_far takes in
-    let rest = still_given (room - length line) now.left in (
-      more.passed ++ (first_line ++ line),
-      came (room - length line) (first_line ++ line) more,
+pub no_second : {start mid now : SourceView} {was is : LinesView} → HasTaken start mid was first_line → TakesNext mid now was is → IsLine is.line ⊎ IsCutOff now.left is → OpensNone is.line → FindsNone start now
+no_second {start} {mid} {now} {was} {is} so_far next ends none =
+    let more = taken_more first_line so_far next in
+    let rest = to_come is now.left in (
+      more.passed ++ ((first_line ++ is.line) ++ is.ahead),
+      came (first_line ++ is.line) more,
       record {
         passed = more.passed;
         over = more.over;
-        text = first_line ++ (line ++ rest);
-        begins = inl (record { more = line ++ rest; is = refl });
-        stops = inl (in_head (first_line ++ (line ++ rest)) (second_wrong line rest (line_before now.left room line ends) none));
-        is = given_behind (room - length line) (first_line ++ line) more ∙ ap (λ bs. more.passed ++ bs) (append_assoc first_line line rest);
+        text = first_line ++ (is.line ++ rest);
+        begins = inl (record { more = is.line ++ rest; is = refl });
+        stops = inl (in_head (first_line ++ (is.line ++ rest)) (second_wrong is.line rest (line_before now.left is ends) none));
+        is = given_behind (first_line ++ is.line) more ∙ ap (λ bs. more.passed ++ bs) (append_assoc first_line is.line rest);
       },
     )
 
 -- the head is whole
-pub head_taken : {p : PlanView} {start mid now : SourceView} {h : HistoryView} {c : CheckView} (room : ℕ) (line : List ℕ) → HasTaken start mid room first_line → Takes mid now room line → Opens line h → IsCheckOf p h c → IsUnderway p start now (room - length line) c
-head_taken {p} {start} {mid} {now} {h} {c} room line so_far takes opens check =
-    let opened : ReadSoFar (first_line ++ line) h [] = opened_so_far {text = first_line ++ line} {first = first_line} {second = line} {rest = line} {more = []} {h = h} refl refl (sym (append-nil line)) opens in
-    let same : first_line ++ line ≡ lines_of h = opened.is ∙ append-nil (lines_of h) in
+pub head_taken : {p : PlanView} {start mid now : SourceView} {was is : LinesView} {h : HistoryView} {c : CheckView} → HasTaken start mid was first_line → TakesNext mid now was is → Opens is.line h → IsCheckOf p h c → IsUnderway p start now is c
+head_taken {p} {start} {mid} {now} {was} {is} {h} {c} so_far next opens check =
+    let opened : ReadSoFar (first_line ++ is.line) h [] = opened_so_far {text = first_line ++ is.line} {first = first_line} {second = is.line} {rest = is.line} {more = []} {h = h} refl refl (sym (append-nil is.line)) opens in
+    let same : first_line ++ is.line ≡ lines_of h = opened.is ∙ append-nil (lines_of h) in
     record {
       history = h;
       fits = opened.fits;
-      taken = subst (HasTaken start now (room - length line)) same (taken_more room first_line line so_far takes);
+      taken = subst (HasTaken start now is) same (taken_more first_line so_far next);
       check = check;
     }
 
 -- an entry came
-pub entry_taken : {p : PlanView} {start mid now : SourceView} {c d : CheckView} {k : HistoryView} (room : ℕ) (line : List ℕ) (u : IsUnderway p start mid room c) → Takes mid now room line → IsLine line ⊎ IsCutOff now.left room line → AddsEntry u.history line k → IsCheckOf p k d → IsUnderway p start now (room - length line) d
-entry_taken {p} {start} {mid} {now} {c} {d} {k} room line u takes ends added check =
-    let read : ReadSoFar (lines_of u.history ++ line) k [] = read_on {text = lines_of u.history ++ line} {rest = line} {line = line} {more = []} {h = u.history} {k = k} (at_start u.fits) (alone now.left room line ends) added in
-    let same : lines_of u.history ++ line ≡ lines_of k = read.is ∙ append-nil (lines_of k) in
+pub entry_taken : {p : PlanView} {start mid now : SourceView} {was is : LinesView} {c d : CheckView} {k : HistoryView} (u : IsUnderway p start mid was c) → TakesNext mid now was is → IsLine is.line ⊎ IsCutOff now.left is → AddsEntry u.history is.line k → IsCheckOf p k d → IsUnderway p start now is d
+entry_taken {p} {start} {mid} {now} {was} {is} {c} {d} {k} u next ends added check =
+    let read : ReadSoFar (lines_of u.history ++ is.line) k [] = read_on {text = lines_of u.history ++ is.line} {rest = is.line} {line = is.line} {more = []} {h = u.history} {k = k} (at_start u.fits) (alone now.left is ends) added in
+    let same : lines_of u.history ++ is.line ≡ lines_of k = read.is ∙ append-nil (lines_of k) in
     record {
       history = k;
       fits = read.fits;
-      taken = subst (HasTaken start now (room - length line)) same (taken_more room (lines_of u.history) line u.taken takes);
+      taken = subst (HasTaken start now is) same (taken_more (lines_of u.history) u.taken next);
       check = check;
     }
 
--- the end came
-pub end_taken : {p : PlanView} {start mid now : SourceView} {c d : CheckView} {k : HistoryView} (room : ℕ) (line : List ℕ) (a : Checked) (u : IsUnderway p start mid room c) → Takes mid now room line → IsLine line ⊎ IsCutOff now.left room line → Ends u.history line k → IsCheckOf p k d → IsVerdict d.graph k.entries a → Answers p start now a
-end_taken {p} {start} {mid} {now} {c} {d} {k} room line a u takes ends ended check verdict =
-    let more = taken_more room (lines_of u.history) line u.taken takes in
-    let front : List ℕ = lines_of u.history ++ line in (
-      more.passed ++ (lines_of u.history ++ line),
-      came (room - length line) (lines_of u.history ++ line) more,
+-- the end came, and nothing is ahead
+pub end_taken : {p : PlanView} {start mid now : SourceView} {was is : LinesView} {c d : CheckView} {k : HistoryView} (a : Checked) (u : IsUnderway p start mid was c) → TakesNext mid now was is → IsLine is.line ⊎ IsCutOff now.left is → is.ahead ≡ [] → Ends u.history is.line k → IsCheckOf p k d → IsVerdict d.graph k.entries a → Answers p start now a
+end_taken {p} {start} {mid} {now} {was} {is} {c} {d} {k} a u next ends none ended check verdict =
+    let more = taken_more (lines_of u.history) u.taken next in (
+      more.passed ++ ((lines_of u.history ++ is.line) ++ is.ahead),
+      came (lines_of u.history ++ is.line) more,
       inl (record {
         history = k;
         names = record {
           passed = more.passed;
           over = more.over;
-          text = lines_of u.history ++ line;
-          history = read_ended {text = lines_of u.history ++ line} {rest = line} {line = line} {more = []} {h = u.history} {k = k} (at_start u.fits) (alone now.left room line ends) ended refl;
-          is = refl;
+          text = lines_of u.history ++ is.line;
+          history = read_ended {text = lines_of u.history ++ is.line} {rest = is.line} {line = is.line} {more = []} {h = u.history} {k = k} (at_start u.fits) (alone now.left is ends) ended refl;
+          is = ap (λ bs. more.passed ++ ((lines_of u.history ++ is.line) ++ bs)) none ∙ ap (λ bs. more.passed ++ bs) (append-nil (lines_of u.history ++ is.line));
         };
         verdict = subst (λ (g : GraphView). IsVerdict g k.entries a) check.graph verdict;
       }),
@@ -129,21 +129,21 @@ begins_first h rest = record {
 }
 
 -- the text stops being a history
-pub stop_taken : {p : PlanView} {start mid now : SourceView} {c : CheckView} {k : HistoryView} (room n : ℕ) (line : List ℕ) (u : IsUnderway p start mid room c) → Takes mid now room line → IsLine line ⊎ IsCutOff now.left room line → StopsIt u.history line k n → Answers p start now (checked.NotLawful n)
-stop_taken {p} {start} {mid} {now} {c} {k} room n line u takes ends stops =
-    let more = taken_more room (lines_of u.history) line u.taken takes in
-    let rest = still_given (room - length line) now.left in (
-      more.passed ++ (lines_of u.history ++ line),
-      came (room - length line) (lines_of u.history ++ line) more,
+pub stop_taken : {p : PlanView} {start mid now : SourceView} {was is : LinesView} {c : CheckView} {k : HistoryView} (n : ℕ) (u : IsUnderway p start mid was c) → TakesNext mid now was is → IsLine is.line ⊎ IsCutOff now.left is → StopsIt u.history is.line k n → Answers p start now (checked.NotLawful n)
+stop_taken {p} {start} {mid} {now} {was} {is} {c} {k} n u next ends stops =
+    let more = taken_more (lines_of u.history) u.taken next in
+    let rest = to_come is now.left in (
+      more.passed ++ ((lines_of u.history ++ is.line) ++ is.ahead),
+      came (lines_of u.history ++ is.line) more,
       inr (record {
         number = n;
         breaks = record {
           passed = more.passed;
           over = more.over;
-          text = lines_of u.history ++ (line ++ rest);
-          begins = inl (begins_first u.history (line ++ rest));
-          stops = inr (broken u.history line rest n u.fits (line_before now.left room line ends) stops.number stops.wrong);
-          is = given_behind (room - length line) (lines_of u.history ++ line) more ∙ ap (λ bs. more.passed ++ bs) (append_assoc (lines_of u.history) line rest);
+          text = lines_of u.history ++ (is.line ++ rest);
+          begins = inl (begins_first u.history (is.line ++ rest));
+          stops = inr (broken u.history is.line rest n u.fits (line_before now.left is ends) stops.number stops.wrong);
+          is = given_behind (lines_of u.history ++ is.line) more ∙ ap (λ bs. more.passed ++ bs) (append_assoc (lines_of u.history) is.line rest);
         };
         answer = refl;
       }),
@@ -159,6 +159,10 @@ none_found found = (found.0, found.1, inr (record { number = 0; breaks = found.2
 abbrev Goes : CheckView → CheckView → List ℕ → Result HistoryLine TextFail → Type 0
 Goes c d text r = (p : PlanView) (h : HistoryView) → IsCheckOf p h c → CheckGoesOn p h text d r
 
+-- a line was taken, or what there was of it
+abbrev Took : ℕ → SourceView → SourceView → LinesView → LinesView → Bool → Type 0
+Took least mid now was is whole = TakesNext mid now was is × EndsLine now.left is whole × StaysWithin least is
+
 abbrev one_taken : HistoryLine → Result HistoryLine TextFail
 one_taken a = Ok a
 
@@ -170,75 +174,85 @@ goes_there : {c d : CheckView} {line text : List ℕ} (p : PlanView) (h : Histor
 goes_there {c} {d} {line} {text} p h r s same is goes check =
     subst (λ (x : Result HistoryLine TextFail). CheckGoesOn p h line d x) is (subst (λ (t : List ℕ). CheckGoesOn p h t d r) same (goes p h check))
 
-pub on_entry : {p : PlanView} {start mid now : SourceView} {c d : CheckView} (room : ℕ) (line text : List ℕ) (whole : Bool) (a : HistoryLine) (u : IsUnderway p start mid room c) → Takes mid now room line × EndsLine now.left room line whole → text ≡ line → a ≡ lines.Entry → Goes c d text (one_taken a) → IsUnderway p start now (room - length line) d
-on_entry {p} {start} {mid} {now} {c} {d} room line text whole a u took same is goes =
-    let next : CheckGoesOn p u.history line d (one_taken lines.Entry) = goes_there p u.history (one_taken a) (one_taken lines.Entry) same (ap one_taken is) goes u.check in
-    entry_taken room line u took.0 (ends_either now.left room line whole took.1) next.1 next.2
+pub on_entry : {p : PlanView} {start mid now : SourceView} {was is : LinesView} {c d : CheckView} (least : ℕ) (text : List ℕ) (whole : Bool) (a : HistoryLine) (u : IsUnderway p start mid was c) → Took least mid now was is whole → text ≡ is.line → a ≡ lines.Entry → Goes c d text (one_taken a) → IsUnderway p start now is d
+on_entry {p} {start} {mid} {now} {was} {is} {c} {d} least text whole a u took same entry goes =
+    let next : CheckGoesOn p u.history is.line d (one_taken lines.Entry) = goes_there p u.history (one_taken a) (one_taken lines.Entry) same (ap one_taken entry) goes u.check in
+    entry_taken u took.0 (ends_either now.left is whole took.1) next.1 next.2
 
-pub on_end : {p : PlanView} {start mid now : SourceView} {c d : CheckView} (room : ℕ) (line text : List ℕ) (whole : Bool) (a : HistoryLine) (answer : Checked) (u : IsUnderway p start mid room c) → Takes mid now room line × EndsLine now.left room line whole → text ≡ line → a ≡ lines.End → Goes c d text (one_taken a) → ((p : PlanView) (h : HistoryView) → IsCheckOf p h d → IsVerdict d.graph h.entries answer) → Answers p start now answer
-on_end {p} {start} {mid} {now} {c} {d} room line text whole a answer u took same is goes verdict =
-    let next : CheckGoesOn p u.history line d (one_taken lines.End) = goes_there p u.history (one_taken a) (one_taken lines.End) same (ap one_taken is) goes u.check in
-    end_taken room line answer u took.0 (ends_either now.left room line whole took.1) next.1 next.2 (verdict p next.0 next.2)
+no_length : (xs : List ℕ) → length xs ≡ 0 → xs ≡ []
+no_length [] none = refl
+no_length (x ∷ xs) none = absurd (omega (arith, none))
 
-pub on_stop : {p : PlanView} {start mid now : SourceView} {c d : CheckView} (room n : ℕ) (line text : List ℕ) (whole : Bool) (fail : TextFail) (u : IsUnderway p start mid room c) → Takes mid now room line × EndsLine now.left room line whole → text ≡ line → fail ≡ Stops n → Goes c d text (one_failed fail) → Answers p start now (checked.NotLawful n)
-on_stop {p} {start} {mid} {now} {c} {d} room n line text whole fail u took same is goes =
-    let next : CheckGoesOn p u.history line d (one_failed (Stops n)) = goes_there p u.history (one_failed fail) (one_failed (Stops n)) same (ap one_failed is) goes u.check in
-    stop_taken room n line u took.0 (ends_either now.left room line whole took.1) next.1
+-- behind an end line that is as long as it can be nothing is ahead
+none_ahead : {h k : HistoryView} {is : LinesView} (least count : ℕ) → least ≡ length (end_text count) → count ≡ length h.entries → StaysWithin least is → Ends h is.line k → is.ahead ≡ []
+none_ahead {h} {k} {is} least count long counted within ended =
+    let same : length is.line ≡ length (end_text (length h.entries)) = ap length ended.spelled in
+    let least_is : length (end_text count) ≡ length (end_text (length h.entries)) = ap (λ n. length (end_text n)) counted in
+    let whole : length is.line + length is.ahead ≤ least = within.line (omega (arith, same, least_is, long)) in
+    no_length is.ahead (omega (arith, whole, same, least_is, long))
 
-pub no_room : {p : PlanView} {start mid now : SourceView} {c : CheckView} (room : ℕ) (line : List ℕ) (u : IsUnderway p start mid room c) → Takes mid now room line → Fails start now NoMemory
-no_room room line u takes = memory_failed room (lines_of u.history) line u.taken takes
+pub on_end : {p : PlanView} {start mid now : SourceView} {was is : LinesView} {c d : CheckView} (least count : ℕ) (text : List ℕ) (whole : Bool) (a : HistoryLine) (answer : Checked) (u : IsUnderway p start mid was c) → Took least mid now was is whole → least ≡ length (end_text count) → count ≡ c.count → text ≡ is.line → a ≡ lines.End → Goes c d text (one_taken a) → ((p : PlanView) (h : HistoryView) → IsCheckOf p h d → IsVerdict d.graph h.entries answer) → Answers p start now answer
+on_end {p} {start} {mid} {now} {was} {is} {c} {d} least count text whole a answer u took long counted same end goes verdict =
+    let next : CheckGoesOn p u.history is.line d (one_taken lines.End) = goes_there p u.history (one_taken a) (one_taken lines.End) same (ap one_taken end) goes u.check in
+    end_taken answer u took.0 (ends_either now.left is whole took.1) (none_ahead least count long (counted ∙ u.check.count) took.2 next.1) next.1 next.2 (verdict p next.0 next.2)
 
-pub fails_underway : {p : PlanView} {c : CheckView} (start mid now : SourceView) (room : ℕ) (fail : CheckFail) (u : IsUnderway p start mid room c) → LosesPiece mid now room fail → Fails start now fail
-fails_underway start mid now room fail u lost = line_failed start mid now room (lines_of u.history) fail u.taken (inr (inr (u.history, u.fits, refl))) lost
+pub on_stop : {p : PlanView} {start mid now : SourceView} {was is : LinesView} {c d : CheckView} (least n : ℕ) (text : List ℕ) (whole : Bool) (fail : TextFail) (u : IsUnderway p start mid was c) → Took least mid now was is whole → text ≡ is.line → fail ≡ Stops n → Goes c d text (one_failed fail) → Answers p start now (checked.NotLawful n)
+on_stop {p} {start} {mid} {now} {was} {is} {c} {d} least n text whole fail u took same stops goes =
+    let next : CheckGoesOn p u.history is.line d (one_failed (Stops n)) = goes_there p u.history (one_failed fail) (one_failed (Stops n)) same (ap one_failed stops) goes u.check in
+    stop_taken n u took.0 (ends_either now.left is whole took.1) next.1
 
-pub handed_on : (p : PlanView) (start now : SourceView) (c : CheckView) (room : ℕ) (r : Result (Option Checked) CheckFail) (fail : CheckFail) → IsErrAnd r (λ f. f ≡ fail) → Fails start now fail → GoesOn p start now room c r
-handed_on p start now c room (Ok a) fail never fails = absurd never
-handed_on p start now c room (Err f) fail is fails = subst (Fails start now) (sym is) fails
+pub no_room : {p : PlanView} {start mid now : SourceView} {was is : LinesView} {c : CheckView} (u : IsUnderway p start mid was c) → TakesNext mid now was is → Fails start now NoMemory
+no_room u next = memory_failed (lines_of u.history) next.piece u.taken next.takes
+
+pub fails_underway : {p : PlanView} {c : CheckView} (start mid now : SourceView) (was : LinesView) (fail : CheckFail) (u : IsUnderway p start mid was c) → LosesPiece mid now was fail → Fails start now fail
+fails_underway start mid now was fail u lost = line_failed start mid now was (lines_of u.history) fail u.taken (inr (inr (u.history, u.fits, refl))) lost
+
+pub handed_on : (p : PlanView) (start now : SourceView) (c : CheckView) (is : LinesView) (r : Result (Option Checked) CheckFail) (fail : CheckFail) → IsErrAnd r (λ f. f ≡ fail) → Fails start now fail → GoesOn p start now is c r
+handed_on p start now c is (Ok a) fail never fails = absurd never
+handed_on p start now c is (Err f) fail same fails = subst (Fails start now) (sym same) fails
 
 -- ---- the head
 
 abbrev opened_to : CheckView → Result CheckView TextFail
 opened_to c = Ok c
 
-pub on_head : {p : PlanView} {start mid now : SourceView} (room : ℕ) (line text : List ℕ) (whole : Bool) (c : CheckView) → HasTaken start mid room first_line → Takes mid now room line × EndsLine now.left room line whole → text ≡ line → OpensCheck p text (opened_to c) → IsUnderway p start now (room - length line) c
-on_head {p} {start} {mid} {now} room line text whole c so_far took same opened =
-    let opens : Opens line opened.0 = subst (λ (t : List ℕ). Opens t opened.0) same opened.1 in
-    head_taken room line so_far took.0 opens opened.2
+pub on_head : {p : PlanView} {start mid now : SourceView} {was is : LinesView} (text : List ℕ) (c : CheckView) → HasTaken start mid was first_line → TakesNext mid now was is → text ≡ is.line → OpensCheck p text (opened_to c) → IsUnderway p start now is c
+on_head {p} {start} {mid} {now} {was} {is} text c so_far next same opened =
+    let opens : Opens is.line opened.0 = subst (λ (t : List ℕ). Opens t opened.0) same opened.1 in
+    head_taken so_far next opens opened.2
 
-pub on_no_head : {start mid now : SourceView} (room : ℕ) (line text : List ℕ) (whole : Bool) → HasTaken start mid room first_line → Takes mid now room line × EndsLine now.left room line whole → text ≡ line → OpensNone text → FindsNone start now
-on_no_head {start} {mid} {now} room line text whole so_far took same none =
-    no_second room line so_far took.0 (ends_either now.left room line whole took.1) (subst (λ (t : List ℕ). OpensNone t) same none)
+pub on_no_head : {start mid now : SourceView} {was is : LinesView} (least : ℕ) (text : List ℕ) (whole : Bool) → HasTaken start mid was first_line → Took least mid now was is whole → text ≡ is.line → OpensNone text → FindsNone start now
+on_no_head {start} {mid} {now} {was} {is} least text whole so_far took same none =
+    no_second so_far took.0 (ends_either now.left is whole took.1) (subst (λ (t : List ℕ). OpensNone t) same none)
 
-pub fails_at_head : (start mid now : SourceView) (room : ℕ) (fail : CheckFail) → HasTaken start mid room first_line → LosesPiece mid now room fail → Fails start now fail
-fails_at_head start mid now room fail so_far lost = line_failed start mid now room first_line fail so_far (inr (inl refl)) lost
+pub fails_at_head : (start mid now : SourceView) (was : LinesView) (fail : CheckFail) → HasTaken start mid was first_line → LosesPiece mid now was fail → Fails start now fail
+fails_at_head start mid now was fail so_far lost = line_failed start mid now was first_line fail so_far (inr (inl refl)) lost
 
-pub no_room_at_head : {start mid now : SourceView} (room : ℕ) (line : List ℕ) → HasTaken start mid room first_line → Takes mid now room line → Fails start now NoMemory
-no_room_at_head room line so_far takes = memory_failed room first_line line so_far takes
+pub no_room_at_head : {start mid now : SourceView} {was is : LinesView} → HasTaken start mid was first_line → TakesNext mid now was is → Fails start now NoMemory
+no_room_at_head so_far next = memory_failed first_line next.piece so_far next.takes
 
-pub handed_on_at_head : (p : PlanView) (start now : SourceView) (room : ℕ) (line : List ℕ) (r : Result (Option CheckView) CheckFail) (fail : CheckFail) → IsErrAnd r (λ f. f ≡ fail) → Fails start now fail → TakesHead p start now room line r
-handed_on_at_head p start now room line (Ok c) fail never fails = absurd never
-handed_on_at_head p start now room line (Err f) fail is fails = subst (Fails start now) (sym is) fails
+pub handed_on_at_head : (p : PlanView) (start now : SourceView) (is : LinesView) (r : Result (Option CheckView) CheckFail) (fail : CheckFail) → IsErrAnd r (λ f. f ≡ fail) → Fails start now fail → TakesHead p start now is r
+handed_on_at_head p start now is (Ok c) fail never fails = absurd never
+handed_on_at_head p start now is (Err f) fail same fails = subst (Fails start now) (sym same) fails
 
 -- ---- lines before the head
 
-pub first_found : {start mid now : SourceView} (room left : ℕ) (line text : List ℕ) → left ≡ room - length line → HasTaken start mid room [] → Takes mid now room line → text ≡ line → text ≡ first_line → HasTaken start now left first_line
-first_found {start} {mid} {now} room left line text is so_far takes same first =
-    subst (λ n. HasTaken start now n first_line) (sym is) (subst (HasTaken start now (room - length line)) (sym same ∙ first) (taken_more room [] line so_far takes))
+pub first_found : {start mid now : SourceView} {was is : LinesView} (text : List ℕ) → HasTaken start mid was [] → TakesNext mid now was is → text ≡ is.line → text ≡ first_line → HasTaken start now is first_line
+first_found {start} {mid} {now} {was} {is} text so_far next same first =
+    subst (HasTaken start now is) (sym same ∙ first) (taken_more [] so_far next)
 
-pub not_found : {start mid now : SourceView} (room left : ℕ) (line text : List ℕ) → left ≡ room - length line → HasTaken start mid room [] → Takes mid now room line → IsCutOff now.left room line → text ≡ line → text ≢ first_line → FindsNone start now
-not_found {start} {mid} {now} room left line text is so_far takes cut same other =
-    no_head room left line is (subst (λ n. HasTaken start now n ([] ++ line)) (sym is) (taken_more room [] line so_far takes)) cut (λ first. other (same ∙ first))
+pub not_found : {start mid now : SourceView} {was is : LinesView} (text : List ℕ) → HasTaken start mid was [] → TakesNext mid now was is → IsCutOff now.left is → text ≡ is.line → text ≢ first_line → FindsNone start now
+not_found text so_far next cut same other = no_head (taken_more [] so_far next) cut (λ first. other (same ∙ first))
 
-pub passed_over : {start mid now : SourceView} (room left : ℕ) (line text : List ℕ) → left ≡ room - length line → HasTaken start mid room [] → Takes mid now room line → IsLine line → text ≡ line → text ≢ first_line → HasTaken start now left []
-passed_over {start} {mid} {now} room left line text is so_far takes whole same other =
-    taken_past left line (subst (λ n. HasTaken start now n ([] ++ line)) (sym is) (taken_more room [] line so_far takes)) (record { whole = whole; other = λ first. other (same ∙ first) })
+pub passed_over : {start mid now : SourceView} {was is : LinesView} (text : List ℕ) → HasTaken start mid was [] → TakesNext mid now was is → IsLine is.line → text ≡ is.line → text ≢ first_line → HasTaken start now is []
+passed_over text so_far next whole same other = taken_past (taken_more [] so_far next) (record { whole = whole; other = λ first. other (same ∙ first) })
 
-pub fails_before : (start mid now : SourceView) (room : ℕ) (fail : CheckFail) → HasTaken start mid room [] → LosesPiece mid now room fail → Fails start now fail
-fails_before start mid now room fail so_far lost = line_failed start mid now room [] fail so_far (inl refl) lost
+pub fails_before : (start mid now : SourceView) (was : LinesView) (fail : CheckFail) → HasTaken start mid was [] → LosesPiece mid now was fail → Fails start now fail
+fails_before start mid now was fail so_far lost = line_failed start mid now was [] fail so_far (inl refl) lost
 
-pub handed_on_before : (start now : SourceView) (r : Result (Option ℕ) CheckFail) (fail : CheckFail) → IsErrAnd r (λ f. f ≡ fail) → Fails start now fail → FindsHead start now r
-handed_on_before start now (Ok found) fail never fails = absurd never
-handed_on_before start now (Err f) fail is fails = subst (Fails start now) (sym is) fails
+pub handed_on_before : (start now : SourceView) (is : LinesView) (r : Result Bool CheckFail) (fail : CheckFail) → IsErrAnd r (λ f. f ≡ fail) → Fails start now fail → FindsHead start now is r
+handed_on_before start now is (Ok found) fail never fails = absurd never
+handed_on_before start now is (Err f) fail same fails = subst (Fails start now) (sym same) fails
 
 pub handed_on_whole : (p : PlanView) (start now : SourceView) (r : Result Checked CheckFail) (fail : CheckFail) → IsErrAnd r (λ f. f ≡ fail) → Fails start now fail → HasChecked p start now r
 handed_on_whole p start now (Ok a) fail never fails = absurd never
@@ -257,39 +271,37 @@ not_opened p {text} r fail n is kind opened =
 abbrev next_gives : Option Checked → Result (Option Checked) CheckFail
 next_gives a = Ok a
 
-pub answered_there : (p : PlanView) (start now : SourceView) (room : ℕ) (c : CheckView) (r : Option Checked) (a : Checked) → r ≡ Some a → GoesOn p start now room c (next_gives r) → Answers p start now a
-answered_there p start now room c r a is goes = subst (λ (x : Option Checked). GoesOn p start now room c (next_gives x)) is goes
+pub answered_there : (p : PlanView) (start now : SourceView) (is : LinesView) (c : CheckView) (r : Option Checked) (a : Checked) → r ≡ Some a → GoesOn p start now is c (next_gives r) → Answers p start now a
+answered_there p start now is c r a same goes = subst (λ (x : Option Checked). GoesOn p start now is c (next_gives x)) same goes
 
-pub still_underway : (p : PlanView) (start now : SourceView) (room left : ℕ) (c : CheckView) (r : Option Checked) → left ≡ room → r ≡ None → GoesOn p start now room c (next_gives r) → IsUnderway p start now left c
-still_underway p start now room left c r same is goes =
-    subst (λ n. IsUnderway p start now n c) (sym same) (subst (λ (x : Option Checked). GoesOn p start now room c (next_gives x)) is goes)
+pub still_underway : (p : PlanView) (start now : SourceView) (is : LinesView) (c : CheckView) (r : Option Checked) → r ≡ None → GoesOn p start now is c (next_gives r) → IsUnderway p start now is c
+still_underway p start now is c r same goes = subst (λ (x : Option Checked). GoesOn p start now is c (next_gives x)) same goes
 
-pub shortened : (c d : CheckView) (room : ℕ) (line : List ℕ) (r : Option Checked) → r ≡ None → Shortens c d room line (next_gives r) → (0 < length line) × (length line ≤ room) × (d.count ≤ c.count + 1)
-shortened c d room line r is shortens = subst (λ (x : Option Checked). Shortens c d room line (next_gives x)) is shortens
+pub shortened : (was is : LinesView) (d : CheckView) (r : Option Checked) → r ≡ None → Shortens was is d (next_gives r) → (unread is < unread was) × HasRoom d.count is
+shortened was is d r same shortens = subst (λ (x : Option Checked). Shortens was is d (next_gives x)) same shortens
 
 -- ---- the whole
 
-abbrev head_gives : Option ℕ → Result (Option ℕ) CheckFail
+abbrev head_gives : Bool → Result Bool CheckFail
 head_gives r = Ok r
 
-pub found_none : {p : PlanView} (start now : SourceView) (r : Option ℕ) → r ≡ None → FindsHead start now (head_gives r) → Answers p start now (checked.NotLawful 0)
-found_none start now r is finds = none_found (subst (λ (x : Option ℕ). FindsHead start now (head_gives x)) is finds)
+pub found_none : {p : PlanView} (start now : SourceView) (is : LinesView) (r : Bool) → r ≡ false → FindsHead start now is (head_gives r) → Answers p start now (checked.NotLawful 0)
+found_none start now is r same finds = none_found (subst (λ (x : Bool). FindsHead start now is (head_gives x)) same finds)
 
-pub found_some : (start now : SourceView) (r : Option ℕ) (room : ℕ) → r ≡ Some room → FindsHead start now (head_gives r) → HasTaken start now room first_line
-found_some start now r room is finds = subst (λ (x : Option ℕ). FindsHead start now (head_gives x)) is finds
+pub found_some : (start now : SourceView) (is : LinesView) (r : Bool) → r ≡ true → FindsHead start now is (head_gives r) → HasTaken start now is first_line
+found_some start now is r same finds = subst (λ (x : Bool). FindsHead start now is (head_gives x)) same finds
 
 abbrev opening_gives : Option CheckView → Result (Option CheckView) CheckFail
 opening_gives r = Ok r
 
-pub opened_none : (p : PlanView) (start now : SourceView) (room : ℕ) (line : List ℕ) (r : Option CheckView) → r ≡ None → TakesHead p start now room line (opening_gives r) → Answers p start now (checked.NotLawful 0)
-opened_none p start now room line r is takes = none_found (subst (λ (x : Option CheckView). TakesHead p start now room line (opening_gives x)) is takes)
+pub opened_none : (p : PlanView) (start now : SourceView) (is : LinesView) (r : Option CheckView) → r ≡ None → TakesHead p start now is (opening_gives r) → Answers p start now (checked.NotLawful 0)
+opened_none p start now is r same takes = none_found (subst (λ (x : Option CheckView). TakesHead p start now is (opening_gives x)) same takes)
 
-pub opened_some : (p : PlanView) (start now : SourceView) (room left : ℕ) (line : List ℕ) (r : Option CheckView) (c : CheckView) → left ≡ room - length line → r ≡ Some c → TakesHead p start now room line (opening_gives r) → IsUnderway p start now left c
-opened_some p start now room left line r c same is takes =
-    subst (λ n. IsUnderway p start now n c) (sym same) (subst (λ (x : Option CheckView). TakesHead p start now room line (opening_gives x)) is takes)
+pub opened_some : (p : PlanView) (start now : SourceView) (is : LinesView) (r : Option CheckView) (c : CheckView) → r ≡ Some c → TakesHead p start now is (opening_gives r) → IsUnderway p start now is c
+opened_some p start now is r c same takes = subst (λ (x : Option CheckView). TakesHead p start now is (opening_gives x)) same takes
 
-pub cut_there : (left : Option (List ℕ)) (room : ℕ) (line : List ℕ) (whole : Bool) → whole ≡ false → EndsLine left room line whole → IsCutOff left room line
-cut_there left room line whole is ends = subst (λ (b : Bool). EndsLine left room line b) is ends
+pub cut_there : (left : Option (List ℕ)) (is : LinesView) (whole : Bool) → whole ≡ false → EndsLine left is whole → IsCutOff left is
+cut_there left is whole same ends = subst (λ (b : Bool). EndsLine left is b) same ends
 
-pub whole_there : (left : Option (List ℕ)) (room : ℕ) (line : List ℕ) (whole : Bool) → whole ≡ true → EndsLine left room line whole → IsLine line
-whole_there left room line whole is ends = subst (λ (b : Bool). EndsLine left room line b) is ends
+pub whole_there : (left : Option (List ℕ)) (is : LinesView) (whole : Bool) → whole ≡ true → EndsLine left is whole → IsLine is.line
+whole_there left is whole same ends = subst (λ (b : Bool). EndsLine left is b) same ends

@@ -1,13 +1,15 @@
 -- What the check of an input answers, and what it takes of it.
-use Rattle.std.specs.Prelude.{ℕ, ◌≡◌, ◌+◌, ◌-◌, ◌<◌, ◌≤◌, ◌⊎◌, true, List, [], ◌++◌, length, take, Option, Some, None, Result, Ok, Err}
+use Rattle.std.specs.Prelude.{ℕ, ◌≡◌, ◌+◌, ◌-◌, ◌<◌, ◌≤◌, ◌⊎◌, Bool, true, false, List, [], ◌++◌, length, take, Option, Some, None, Result, Ok, Err}
 use Rattle.std.specs.Io.KnownBytes.{Consumes}
 use Rattle.worker_desk.specs.SinkView.{Rises}
 use Rattle.worker_desk.specs.SourceView.{SourceView}
 use Rattle.plan_reader.specs.PlanView.{PlanView}
 use Rattle.plan_reader.specs.Graph.{graph_of}
+use Rattle.history_text.specs.Text.{end_text}
 use Rattle.history_reader.specs.HistoryView.{HistoryView}
 use Rattle.history_reader.specs.Lines.{is_unbroken, first_line}
 use Rattle.history_reader.specs.Grammar.{HistoryFits, lines_of}
+use Rattle.history_check.specs.LinesView.{LinesView}
 use Rattle.history_check.specs.Taking.{Takes}
 use Rattle.history_check.specs.CheckView.{CheckView, IsCheckOf}
 use Rattle.history_check.specs.Verdict.{IsVerdict}
@@ -69,54 +71,63 @@ abbrev pub HasChecked : PlanView → SourceView → SourceView → Result Checke
 HasChecked p old new (Ok a) = Answers p old new a
 HasChecked p old new (Err fail) = Fails old new fail
 
--- Lines that are passed over were taken and this behind them, and so many bytes more may be taken.
-pub record HasTaken (start now : SourceView) (room : ℕ) (front : List ℕ) : Type 0 where
+-- Lines that are passed over were taken, this behind them, and what is ahead, and there is room for the rest that may be taken.
+pub record HasTaken (start now : SourceView) (lines : LinesView) (front : List ℕ) : Type 0 where
   pub passed : List ℕ
   pub over : ArePassedOver passed
-  pub taken : Consumes start.left now.left (passed ++ front)
+  pub taken : Consumes start.left now.left (passed ++ (front ++ lines.ahead))
   pub faults : start.faults ≤ now.faults
-  pub limit : length (passed ++ front) + room ≡ MAX_INPUT_BYTES
+  pub limit : length (passed ++ (front ++ lines.ahead)) + lines.room ≡ MAX_INPUT_BYTES
+
+-- how many bytes may still be read
+abbrev pub unread : LinesView → ℕ
+unread lines = length lines.ahead + lines.room
+
+-- Behind so many entries no more is ahead than their end line, and each entry took a byte at least.
+pub record HasRoom (count : ℕ) (lines : LinesView) : Type 0 where
+  pub ahead : length lines.ahead ≤ length (end_text count)
+  pub entries : count + unread lines ≤ MAX_INPUT_BYTES
 
 -- no text of a history, for any plan
 abbrev pub FindsNone : SourceView → SourceView → Type 0
 FindsNone start now = (came : List ℕ) × Takes start now MAX_INPUT_BYTES came × Breaks (all_given came now.left) 0
 
-abbrev pub FindsHead : SourceView → SourceView → Result (Option ℕ) CheckFail → Type 0
-FindsHead start now (Ok (Some room)) = HasTaken start now room first_line
-FindsHead start now (Ok None) = FindsNone start now
-FindsHead start now (Err fail) = Fails start now fail
+abbrev pub FindsHead : SourceView → SourceView → LinesView → Result Bool CheckFail → Type 0
+FindsHead start now lines (Ok true) = HasTaken start now lines first_line
+FindsHead start now lines (Ok false) = FindsNone start now
+FindsHead start now lines (Err fail) = Fails start now fail
+
+-- where the first line was found, there is room
+abbrev pub FindsRoom : LinesView → Result Bool CheckFail → Type 0
+FindsRoom lines (Ok true) = HasRoom 0 lines
+FindsRoom lines (Ok false) = Unit {0}
+FindsRoom lines (Err fail) = Unit {0}
 
 -- The lines of a history were taken, of which the check is.
-pub record IsUnderway (p : PlanView) (start now : SourceView) (room : ℕ) (c : CheckView) : Type 0 where
+pub record IsUnderway (p : PlanView) (start now : SourceView) (lines : LinesView) (c : CheckView) : Type 0 where
   pub history : HistoryView
   pub fits : HistoryFits history
-  pub taken : HasTaken start now room (lines_of history)
+  pub taken : HasTaken start now lines (lines_of history)
   pub check : IsCheckOf p history c
 
-abbrev pub TakesHead : PlanView → SourceView → SourceView → ℕ → List ℕ → Result (Option CheckView) CheckFail → Type 0
-TakesHead p start now room line (Ok (Some c)) = IsUnderway p start now (room - length line) c
-TakesHead p start now room line (Ok None) = FindsNone start now
-TakesHead p start now room line (Err fail) = Fails start now fail
+abbrev pub TakesHead : PlanView → SourceView → SourceView → LinesView → Result (Option CheckView) CheckFail → Type 0
+TakesHead p start now lines (Ok (Some c)) = IsUnderway p start now lines c
+TakesHead p start now lines (Ok None) = FindsNone start now
+TakesHead p start now lines (Err fail) = Fails start now fail
 
--- a check that opens has counted no entry, and there was room for the line
-abbrev pub OpensWithin : ℕ → List ℕ → Result (Option CheckView) CheckFail → Type 0
-OpensWithin room line (Ok (Some c)) = (c.count ≡ 0) × (length line ≤ room)
-OpensWithin room line (Ok None) = Unit {0}
-OpensWithin room line (Err fail) = Unit {0}
+-- a check that opens has counted no entry, and there is room
+abbrev pub OpensWithin : LinesView → Result (Option CheckView) CheckFail → Type 0
+OpensWithin lines (Ok (Some c)) = (c.count ≡ 0) × HasRoom 0 lines
+OpensWithin lines (Ok None) = Unit {0}
+OpensWithin lines (Err fail) = Unit {0}
 
--- no more room is left than there was
-abbrev pub FindsRoom : Result (Option ℕ) CheckFail → Type 0
-FindsRoom (Ok (Some room)) = room ≤ MAX_INPUT_BYTES
-FindsRoom (Ok None) = Unit {0}
-FindsRoom (Err fail) = Unit {0}
+-- where no answer comes, less is left to be read, and there is room
+abbrev pub Shortens : LinesView → LinesView → CheckView → Result (Option Checked) CheckFail → Type 0
+Shortens was is new (Ok None) = (unread is < unread was) × HasRoom new.count is
+Shortens was is new (Ok (Some a)) = Unit {0}
+Shortens was is new (Err fail) = Unit {0}
 
--- where no answer comes, a line was taken for which there was room, and at most an entry more is counted
-abbrev pub Shortens : CheckView → CheckView → ℕ → List ℕ → Result (Option Checked) CheckFail → Type 0
-Shortens old new room line (Ok None) = (0 < length line) × (length line ≤ room) × (new.count ≤ old.count + 1)
-Shortens old new room line (Ok (Some a)) = Unit {0}
-Shortens old new room line (Err fail) = Unit {0}
-
-abbrev pub GoesOn : PlanView → SourceView → SourceView → ℕ → CheckView → Result (Option Checked) CheckFail → Type 0
-GoesOn p start now room c (Ok None) = IsUnderway p start now room c
-GoesOn p start now room c (Ok (Some a)) = Answers p start now a
-GoesOn p start now room c (Err fail) = Fails start now fail
+abbrev pub GoesOn : PlanView → SourceView → SourceView → LinesView → CheckView → Result (Option Checked) CheckFail → Type 0
+GoesOn p start now lines c (Ok None) = IsUnderway p start now lines c
+GoesOn p start now lines c (Ok (Some a)) = Answers p start now a
+GoesOn p start now lines c (Err fail) = Fails start now fail

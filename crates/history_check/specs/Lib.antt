@@ -1,3 +1,4 @@
+pub mod LinesView
 pub mod Taking
 pub mod Verdict
 pub mod CheckView

@@ -1,9 +1,10 @@
 -- What taking lines does to a source.
-use Rattle.std.specs.Prelude.{ℕ, ◌≡◌, ◌≤◌, ◌⊎◌, Bool, true, false, List, [], ◌∷◌, length, Option, Some, None, Result, Ok, Err}
+use Rattle.std.specs.Prelude.{ℕ, ◌≡◌, ◌+◌, ◌-◌, ◌<◌, ◌≤◌, ◌⊎◌, Bool, true, false, if◌then◌else◌, nat_lt, List, [], ◌++◌, length, Option, Result, Ok, Err}
 use Rattle.std.specs.Io.KnownBytes.{Consumes, IsAtEnd}
 use Rattle.worker_desk.specs.SinkView.{Rises}
 use Rattle.worker_desk.specs.SourceView.{SourceView}
 use Rattle.history_reader.specs.Lines.{is_unbroken, IsLine}
+use Rattle.history_check.specs.LinesView.{LinesView}
 use Rattle.history_check.specs.declared.fails.CheckFail.{CheckFail}
 use Rattle.history_check.specs.declared.fails.CheckFail.TheVariants.{SourceFault, NoMemory}
 
@@ -13,29 +14,71 @@ pub record Takes (old new : SourceView) (room : ℕ) (piece : List ℕ) : Type 0
   pub faults : old.faults ≤ new.faults
   pub few : length piece ≤ room
 
--- one byte was taken, or none is left
-abbrev pub TakesByte : SourceView → SourceView → Result (Option ℕ) CheckFail → Type 0
-TakesByte old new (Ok (Some byte)) = Takes old new 1 (byte ∷ [])
-TakesByte old new (Ok None) = Takes old new 0 [] × IsAtEnd new.left
-TakesByte old new (Err SourceFault) = Takes old new 0 [] × Rises old.faults new.faults
-TakesByte old new (Err NoMemory) = ⊥
+-- how many bytes more are taken of a line that has so many and no line end
+abbrev pub wanted : ℕ → ℕ → ℕ
+wanted least held = if nat_lt held least then least - held else 1 + least
 
--- the bytes taken are a piece without a line end, and no more may be taken: there is no room, or no byte left
-pub record IsCutOff (left : Option (List ℕ)) (room : ℕ) (line : List ℕ) : Type 0 where
-  pub unbroken : is_unbroken line ≡ true
-  pub over : (length line ≡ room) ⊎ IsAtEnd left
+-- the bytes were a line and what is ahead
+pub record SplitsLine (looked : ℕ) (was is : LinesView) : Type 0 where
+  pub whole : IsLine is.line
+  pub bytes : was.line ≡ is.line ++ is.ahead
+  pub behind : looked < length is.line
+  pub room : is.room ≡ was.room
+
+abbrev pub Splits : ℕ → LinesView → LinesView → Result Bool CheckFail → Type 0
+Splits looked was is (Ok true) = SplitsLine looked was is
+Splits looked was is (Ok false) = (is_unbroken was.line ≡ true) × (is ≡ was)
+Splits looked was is (Err SourceFault) = ⊥
+Splits looked was is (Err NoMemory) = Unit {0}
+
+-- the line grew by the bytes that were taken
+pub record Grows (most : ℕ) (old new : SourceView) (was is : LinesView) : Type 0 where
+  pub piece : List ℕ
+  pub takes : Takes old new was.room piece
+  pub few : length piece ≤ most
+  pub room : is.room + length piece ≡ was.room
+  pub line : is.line ≡ was.line ++ piece
+  pub ahead : is.ahead ≡ was.ahead
+
+-- no more may be taken: there is no room, or no byte left
+abbrev pub IsOver : Option (List ℕ) → LinesView → Type 0
+IsOver left is = (is.room ≡ 0) ⊎ IsAtEnd left
+
+abbrev pub TakesPiece : ℕ → SourceView → SourceView → LinesView → LinesView → Result Bool CheckFail → Type 0
+TakesPiece most old new was is (Ok true) = Grows most old new was is × (is.room < was.room)
+TakesPiece most old new was is (Ok false) = Takes old new was.room [] × (is ≡ was) × IsOver new.left is
+TakesPiece most old new was is (Err SourceFault) = Takes old new was.room [] × Rises old.faults new.faults
+TakesPiece most old new was is (Err NoMemory) = (piece : List ℕ) × Takes old new was.room piece
+
+-- The next line was taken, and so was what is ahead.
+pub record TakesNext (old new : SourceView) (was is : LinesView) : Type 0 where
+  pub piece : List ℕ
+  pub takes : Takes old new was.room piece
+  pub room : is.room + length piece ≡ was.room
+  pub bytes : was.ahead ++ piece ≡ is.line ++ is.ahead
+
+-- the line is a piece without a line end, nothing is ahead, and no more may be taken
+pub record IsCutOff (left : Option (List ℕ)) (is : LinesView) : Type 0 where
+  pub unbroken : is_unbroken is.line ≡ true
+  pub alone : is.ahead ≡ []
+  pub over : IsOver left is
 
 -- whether the line has its end, or is what there was of it
-abbrev pub EndsLine : Option (List ℕ) → ℕ → List ℕ → Bool → Type 0
-EndsLine left room line true = IsLine line
-EndsLine left room line false = IsCutOff left room line
+abbrev pub EndsLine : Option (List ℕ) → LinesView → Bool → Type 0
+EndsLine left is true = IsLine is.line
+EndsLine left is false = IsCutOff left is
 
--- a piece was taken and is lost
-abbrev pub LosesPiece : SourceView → SourceView → ℕ → CheckFail → Type 0
-LosesPiece old new room SourceFault = (piece : List ℕ) × Takes old new room piece × (is_unbroken piece ≡ true) × Rises old.faults new.faults
-LosesPiece old new room NoMemory = (piece : List ℕ) × Takes old new room piece
+-- At most so many bytes are ahead, and together with a line that isn't longer they are at most as many.
+pub record StaysWithin (least : ℕ) (is : LinesView) : Type 0 where
+  pub ahead : length is.ahead ≤ least
+  pub line : length is.line ≤ least → length is.line + length is.ahead ≤ least
+
+-- a piece was taken, and the line that it is of is lost
+abbrev pub LosesPiece : SourceView → SourceView → LinesView → CheckFail → Type 0
+LosesPiece old new was SourceFault = (piece : List ℕ) × Takes old new was.room piece × (is_unbroken (was.ahead ++ piece) ≡ true) × Rises old.faults new.faults
+LosesPiece old new was NoMemory = (piece : List ℕ) × Takes old new was.room piece
 
 -- one line was taken, or what there was of it
-abbrev pub TakesLine : SourceView → SourceView → ℕ → List ℕ → Result Bool CheckFail → Type 0
-TakesLine old new room line (Ok whole) = Takes old new room line × EndsLine new.left room line whole
-TakesLine old new room line (Err fail) = LosesPiece old new room fail
+abbrev pub TakesLine : ℕ → SourceView → SourceView → LinesView → LinesView → Result Bool CheckFail → Type 0
+TakesLine least old new was is (Ok whole) = TakesNext old new was is × EndsLine new.left is whole × StaysWithin least is
+TakesLine least old new was is (Err fail) = LosesPiece old new was fail

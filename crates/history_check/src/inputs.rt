@@ -1,12 +1,13 @@
-ghost use Rattle.std.specs.Prelude.{◌+◌, ◌-◌, ◌≤◌, length};
+ghost use Rattle.std.specs.Prelude.{◌≡◌, [], length};
+ghost use Rattle.history_text.specs.Text.{end_text};
 ghost use Rattle.plan_reader.specs.PlanView.{PlanView};
 ghost use Rattle.worker_desk.specs.SourceView.{SourceView};
-ghost use Rattle.history_check.specs.Checking.{HasChecked, GoesOn, FindsHead, IsUnderway, Shortens, TakesHead, HasTaken, OpensWithin, FindsRoom};
+ghost use Rattle.history_check.specs.Checking.{HasChecked, HasRoom, GoesOn, FindsHead, FindsRoom, IsUnderway, Shortens, TakesHead, HasTaken, OpensWithin};
 ghost use Rattle.history_reader.specs.Lines.{first_line};
 
 use crate::checks::{Checked, HistoryCheck};
 use crate::fails::CheckFail;
-use crate::taking::take_line;
+use crate::lines::Lines;
 use history_reader::{HistoryLine, TextFail, is_first_line};
 use plan_reader::Plan;
 use std::alloc::Global;
@@ -14,6 +15,9 @@ use worker_desk::Source;
 
 /// The most bytes that are taken of an input.
 pub const MAX_INPUT_BYTES: u64 = 67_108_864;
+
+// A history has at least its first line, of 10 bytes, and its end line, of 6 where there are no entries.
+const LEAST_HISTORY: usize = 16;
 
 /// Checks the history that stands in an input against a plan.
 ///
@@ -28,23 +32,12 @@ pub fn check_input<I: Source>(
 ) -> Result<Checked, CheckFail>
     ensures { HasChecked plan.now (I.seen input.old) (I.seen input.new) result }
 {
-    let mut line = Vec::new(alloc);
-    check_text(alloc, plan, input, &mut line)
-}
-
-// Checks the history, with a line's room.
-fn check_text<I: Source>(
-    alloc: Global,
-    plan: &Plan,
-    input: &mut I,
-    line: &mut Vec<u8>,
-) -> Result<Checked, CheckFail>
-    ensures { HasChecked plan.now (I.seen input.old) (I.seen input.new) result }
-{
-    let head = find_head(input, line)?;
-    match head {
-        None => Ok(Checked::NotLawful(0)),
-        Some(room) => check_behind(alloc, plan, input, line, room),
+    let mut lines = Lines::new(alloc, MAX_INPUT_BYTES);
+    let found = find_head(input, &mut lines)?;
+    if found {
+        check_behind(alloc, plan, input, &mut lines)
+    } else {
+        Ok(Checked::NotLawful(0))
     }
 }
 
@@ -53,37 +46,32 @@ fn check_behind<I: Source>(
     alloc: Global,
     plan: &Plan,
     input: &mut I,
-    line: &mut Vec<u8>,
-    room: u64,
+    lines: &mut Lines,
 ) -> Result<Checked, CheckFail>
-    requires { room ≤ MAX_INPUT_BYTES }
-    ensures { (start : SourceView) → HasTaken start (I.seen input.old) room first_line → HasChecked plan.now start (I.seen input.new) result }
+    requires { HasRoom 0 lines.old }
+    ensures { (start : SourceView) → HasTaken start (I.seen input.old) lines.old first_line → HasChecked plan.now start (I.seen input.new) result }
 {
-    let opened = open_check(alloc, plan, input, line, room)?;
+    let opened = open_check(alloc, plan, input, lines)?;
     match opened {
         None => Ok(Checked::NotLawful(0)),
-        Some(mut check) => {
-            let left = room - line.len() as u64;
-            check_lines(alloc, &mut check, input, line, left)
-        }
+        Some(mut check) => check_lines(alloc, &mut check, input, lines),
     }
 }
 
-// Takes the lines up to the first that is the first of a history, and answers how many bytes more may be
-// taken. None comes where there is no such line.
-fn find_head<I: Source>(input: &mut I, line: &mut Vec<u8>) -> Result<Option<u64>, CheckFail>
-    ensures room { FindsRoom result }
-    ensures head { FindsHead (I.seen input.old) (I.seen input.new) result }
+// Takes the lines up to the first that is the first of a history, and answers whether there is one.
+fn find_head<I: Source>(input: &mut I, lines: &mut Lines) -> Result<bool, CheckFail>
+    requires none { lines.old.ahead ≡ [] }
+    requires room { lines.old.room ≡ MAX_INPUT_BYTES }
+    ensures room { FindsRoom lines.new result }
+    ensures head { FindsHead (I.seen input.old) (I.seen input.new) lines.new result }
 {
-    let mut room = MAX_INPUT_BYTES;
     loop {
-        let is_whole = take_line(input, line, room)?;
-        room -= line.len() as u64;
-        if is_first_line(line) {
-            return Ok(Some(room));
+        let is_whole = lines.take_line(input, LEAST_HISTORY)?;
+        if is_first_line(lines.line()) {
+            return Ok(true);
         }
         if !is_whole {
-            return Ok(None);
+            return Ok(false);
         }
     }
 }
@@ -93,15 +81,14 @@ fn open_check<I: Source>(
     alloc: Global,
     plan: &Plan,
     input: &mut I,
-    line: &mut Vec<u8>,
-    room: u64,
+    lines: &mut Lines,
 ) -> Result<Option<HistoryCheck>, CheckFail>
-    requires { room ≤ MAX_INPUT_BYTES }
-    ensures count { OpensWithin room line.new.items result }
-    ensures head { (start : SourceView) → HasTaken start (I.seen input.old) room first_line → TakesHead plan.now start (I.seen input.new) room line.new.items result }
+    requires { HasRoom 0 lines.old }
+    ensures count { OpensWithin lines.new result }
+    ensures head { (start : SourceView) → HasTaken start (I.seen input.old) lines.old first_line → TakesHead plan.now start (I.seen input.new) lines.new result }
 {
-    take_line(input, line, room)?;
-    match HistoryCheck::opening(alloc, plan, line) {
+    lines.take_line(input, end_length(0))?;
+    match HistoryCheck::opening(alloc, plan, lines.line()) {
         Ok(check) => Ok(Some(check)),
         Err(TextFail::Stops(_)) => Ok(None),
         Err(TextFail::NoMemory) => Err(CheckFail::NoMemory),
@@ -113,18 +100,15 @@ fn check_lines<I: Source>(
     alloc: Global,
     check: &mut HistoryCheck,
     input: &mut I,
-    line: &mut Vec<u8>,
-    room: u64,
+    lines: &mut Lines,
 ) -> Result<Checked, CheckFail>
-    requires { check.old.count + room ≤ MAX_INPUT_BYTES }
-    ensures { (p : PlanView) (start : SourceView) → IsUnderway p start (I.seen input.old) room check.old → HasChecked p start (I.seen input.new) result }
+    requires { HasRoom check.old.count lines.old }
+    ensures { (p : PlanView) (start : SourceView) → IsUnderway p start (I.seen input.old) lines.old check.old → HasChecked p start (I.seen input.new) result }
 {
-    let mut left = room;
     loop {
-        let next = check_next(alloc, check, input, line, left)?;
-        match next {
-            Some(answer) => return Ok(answer),
-            None => left -= line.len() as u64,
+        let next = check_next(alloc, check, input, lines)?;
+        if let Some(answer) = next {
+            return Ok(answer);
         }
     }
 }
@@ -134,19 +118,26 @@ fn check_next<I: Source>(
     alloc: Global,
     check: &mut HistoryCheck,
     input: &mut I,
-    line: &mut Vec<u8>,
-    room: u64,
+    lines: &mut Lines,
 ) -> Result<Option<Checked>, CheckFail>
-    requires { check.old.count + room ≤ MAX_INPUT_BYTES }
-    ensures shortens { Shortens check.old check.new room line.new.items result }
-    ensures goes_on { (p : PlanView) (start : SourceView) → IsUnderway p start (I.seen input.old) room check.old
-        → GoesOn p start (I.seen input.new) (room - length line.new.items) check.new result }
+    requires { HasRoom check.old.count lines.old }
+    ensures shortens { Shortens lines.old lines.new check.new result }
+    ensures goes_on { (p : PlanView) (start : SourceView) → IsUnderway p start (I.seen input.old) lines.old check.old
+        → GoesOn p start (I.seen input.new) lines.new check.new result }
 {
-    take_line(input, line, room)?;
-    match check.take_line(alloc, line) {
+    lines.take_line(input, end_length(check.count()))?;
+    match check.take_line(alloc, lines.line()) {
         Ok(HistoryLine::Entry) => Ok(None),
         Ok(HistoryLine::End) => Ok(Some(check.answer())),
         Err(TextFail::Stops(number)) => Ok(Some(Checked::NotLawful(number))),
         Err(TextFail::NoMemory) => Err(CheckFail::NoMemory),
     }
+}
+
+// How many bytes the end line behind so many entries has.
+fn end_length(count: u64) -> usize
+    ensures { result ≡ length (end_text count) }
+{
+    let tens = count.checked_ilog10().unwrap_or(0);
+    b"end \n".len() + tens as usize + 1
 }

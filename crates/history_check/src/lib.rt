@@ -5,7 +5,7 @@ mod checks;
 mod fails;
 mod inputs;
 mod laws;
-mod taking;
+mod lines;
 
 pub use checks::{Checked, HistoryCheck};
 pub use fails::CheckFail;

@@ -52,7 +52,7 @@ same_line line more whole rest (inr a) b e =
     (sym (append-nil line) ∙ (ap (λ m. line ++ m) (sym a.1) ∙ (e ∙ (ap (λ l. l ++ rest) b.is ∙ append_assoc b.front (codes "\n") rest)))))
 
 -- no line ends before the first place of a line end
-unbroken_before : (text : List ℕ) (k : ℕ) → Nowhere (Passes (is_byte 10) text) 0 k → k ≤ length text → is_unbroken (take k text) ≡ true
+pub unbroken_before : (text : List ℕ) (k : ℕ) → Nowhere (Passes (is_byte 10) text) 0 k → k ≤ length text → is_unbroken (take k text) ≡ true
 unbroken_before text zero none within = refl
 unbroken_before [] (suc k) none within = absurd (omega arith)
 unbroken_before (c ∷ text) (suc k) none within = at (nat_eq c 10) refl (unbroken_before text k (λ j from to. none (suc j) (omega arith) (omega arith)) (omega arith))

@@ -1,4 +1,3 @@
-use Rattle.std.proofs.Common.{◌≡◌, ◌-◌, length, rules, ap}
 use Rattle.history_check.proofs.Steps.{handed_on_whole, opened_none, opened_some}
 use Rattle.history_check.proofs.inputs.check_behind.Goals as goal
 
@@ -9,12 +8,11 @@ returns-in_err-opened g c = λ start so_far.
 
 pub returns-in-None : goal.returns-in-None
 returns-in-None g c = λ start so_far.
-    opened_none c.args.plan.now start (g.I.Source.seen c.open_check.new.input) c.args.room c.open_check.new.line.items c.in_ok-opened.opened c.in-None.is
+    opened_none c.args.plan.now start (g.I.Source.seen c.open_check.new.input) c.open_check.new.lines c.in_ok-opened.opened c.in-None.is
     (c.in_ok-opened.ensures.head start so_far)
 
 pub returns-in-Some : goal.returns-in-Some
 returns-in-Some g c = λ start so_far.
-    let count : c.len.result ≡ length c.open_check.new.line.items = search rules in
     c.check_lines.ensures c.args.plan.now start
-    (opened_some c.args.plan.now start (g.I.Source.seen c.open_check.new.input) c.args.room (c.args.room - c.len.result) c.open_check.new.line.items c.in_ok-opened.opened c.in-Some.check
-    (ap (λ n. c.args.room - n) count) c.in-Some.is (c.in_ok-opened.ensures.head start so_far))
+    (opened_some c.args.plan.now start (g.I.Source.seen c.open_check.new.input) c.open_check.new.lines c.in_ok-opened.opened c.in-Some.check c.in-Some.is
+    (c.in_ok-opened.ensures.head start so_far))

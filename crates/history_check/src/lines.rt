@@ -1,0 +1,129 @@
+//! Lines of a source, taken in pieces that never reach behind the text.
+ghost use Rattle.std.specs.Prelude.{◌≡◌, ◌≤◌, ◌<◌, [], length, true, take};
+ghost use Rattle.history_reader.specs.Lines.{is_unbroken};
+ghost use Rattle.history_check.specs.Taking.{Splits, TakesPiece, TakesLine, wanted};
+ghost use Rattle.history_check.specs.declared.lines.TheConstants.{MAX_PIECE};
+
+use crate::fails::CheckFail;
+use memchr::memchr;
+use std::alloc::Global;
+use std::cmp::min;
+use std::marker::Model;
+use std::mem::swap;
+use worker_desk::Source;
+
+/// The most bytes that are taken by one call.
+pub(crate) const MAX_PIECE: usize = 32;
+
+/// The line that was taken last, the bytes behind it that were taken too, and how many more may be taken.
+#[derive(Debug, Drop)]
+pub(crate) struct Lines {
+    line: Vec<u8>,
+    ahead: Vec<u8>,
+    room: u64,
+}
+
+impl Model for Lines {
+    ghost use Rattle.history_check.specs.LinesView.{LinesView};
+
+    ghost Value = { LinesView };
+
+    ghost view = { λ l. record { line = l.line.items; ahead = l.ahead.items; room = l.room } };
+}
+
+impl Lines {
+    /// No line yet of a source of which `room` bytes may be taken.
+    pub(crate) fn new(alloc: Global, room: u64) -> Lines
+        ensures { result ≡ record { line = []; ahead = []; room = room } }
+    {
+        Lines {
+            line: Vec::new(alloc),
+            ahead: Vec::new(alloc),
+            room,
+        }
+    }
+
+    /// The line that was taken last.
+    pub(crate) fn line(&self) -> &[u8]
+        ensures { result.now ≡ self.now.line }
+    {
+        &self.line
+    }
+
+    /// Takes the next line with its line end, and answers whether it has its end. A line without its end is
+    /// what there was room for, or the last of the source.
+    ///
+    /// The caller says of a text that goes on how many bytes stand at the least from the beginning of a line
+    /// on. So many are taken at once. Where they have no line end, they aren't the end of the text, and that
+    /// line end and as many bytes behind it are still to come.
+    ///
+    /// At an error the bytes that were taken are lost.
+    pub(crate) fn take_line<I: Source>(
+        &mut self,
+        input: &mut I,
+        least: usize,
+    ) -> Result<bool, CheckFail>
+        requires few { least < MAX_PIECE }
+        requires ahead { length self.old.ahead ≤ least }
+        ensures { TakesLine least (I.seen input.old) (I.seen input.new) self.old self.new result }
+    {
+        swap(&mut self.line, &mut self.ahead);
+        self.ahead.clear();
+        let mut looked = 0;
+        loop {
+            if self.split(looked)? {
+                return Ok(true);
+            }
+            looked = self.line.len();
+            if !self.take_piece(input, wanted(looked, least))? {
+                return Ok(false);
+            }
+        }
+    }
+
+    // Parts the bytes of the line at its line end, and answers whether there is one. In the bytes looked at
+    // there is none.
+    fn split(&mut self, looked: usize) -> Result<bool, CheckFail>
+        requires looked { looked ≤ length self.old.line }
+        requires unbroken { is_unbroken (take looked self.old.line) ≡ true }
+        requires ahead { self.old.ahead ≡ [] }
+        ensures { Splits looked self.old self.new result }
+    {
+        let Some(place) = memchr(b'\n', &self.line[looked..]) else {
+            return Ok(false);
+        };
+        let end = looked + place + 1;
+        self.ahead.extend_from_slice(&self.line[end..])?;
+        self.line.truncate(end);
+        Ok(true)
+    }
+
+    // Takes some bytes more of the line, and answers whether any came.
+    fn take_piece<I: Source>(&mut self, input: &mut I, most: usize) -> Result<bool, CheckFail>
+        requires some { 0 < most }
+        requires few { most ≤ MAX_PIECE }
+        ensures { TakesPiece most (I.seen input.old) (I.seen input.new) self.old self.new result }
+    {
+        let most = min(most as u64, self.room) as usize;
+        if most == 0 {
+            return Ok(false);
+        }
+        let mut buffer = [0u8; MAX_PIECE];
+        let count = input.take(&mut buffer[..most])?;
+        self.line.extend_from_slice(&buffer[..count])?;
+        self.room -= count as u64;
+        Ok(count > 0)
+    }
+}
+
+// How many bytes more may be taken of a line that has so many and no line end.
+fn wanted(held: usize, least: usize) -> usize
+    requires { least < MAX_PIECE }
+    ensures { result ≡ wanted least held }
+{
+    if held < least {
+        least - held
+    } else {
+        1 + least
+    }
+}
