@@ -5,13 +5,14 @@ use Rattle.lock_journal.specs.Entry.{Entry, replay}
 use Rattle.lock_journal.specs.Allowed.{Allowed, Lawful}
 use Rattle.plan_reader.specs.PlanView.{PlanView}
 use Rattle.history_text.specs.Text.{entry_text}
-use Rattle.history_reader.specs.HistoryView.{HistoryView, entry_read}
+use Rattle.history_reader.specs.HistoryView.{HistoryView, entry_with}
 use Rattle.history_reader.specs.Lines.{AddsEntry}
-use Rattle.history_reader.specs.LineValues.{IsEntryLine, IsLineOf}
+use Rattle.history_reader.specs.LineValues.{IsEntryLine, IsLineInto}
 use Rattle.history_reader.specs.declared.fails.TextFail.{TextFail}
-use Rattle.history_reader.specs.declared.histories.HistoryEntry.{HistoryEntry}
-use Rattle.history_reader.specs.declared.lines.LineValue.{LineValue}
-use Rattle.history_reader.specs.declared.lines.LineValue.TheVariants as values
+use Rattle.resource_lock.specs.declared.changes.Change.{Change}
+use Rattle.history_reader.specs.declared.histories.EntryHead.{EntryHead}
+use Rattle.history_reader.specs.declared.lines.LineHead.{LineHead}
+use Rattle.history_reader.specs.declared.lines.LineHead.TheVariants as heads
 use Rattle.history_check.specs.CheckView.{CheckView, BeginsUnlawful, IsCheckOf, Admits, Refuses, Passes, Adds}
 use Rattle.history_check.specs.Verdict.{IsFirstUnlawful}
 
@@ -102,8 +103,12 @@ entry_came {p} {h} {old} {new} count line e same is read adds = (
   with_one_more e is adds,
 )
 
-abbrev said : LineValue → Result LineValue TextFail
-said value = Ok value
+abbrev said : LineHead → Result LineHead TextFail
+said head = Ok head
 
-pub entry_said : (count : ℕ) (line : List ℕ) (value : LineValue) (e : HistoryEntry) → value ≡ values.Entry e → IsLineOf count line (said value) → IsEntryLine count line (entry_read e)
-entry_said count line value e is read = subst (λ (v : LineValue). IsLineOf count line (said v)) is read
+pub entry_said : (count : ℕ) (line : List ℕ) (changes : List Change) (value : LineHead) (h : EntryHead) → value ≡ heads.Entry h → IsLineInto count line changes (said value) → IsEntryLine count line (entry_with h changes)
+entry_said count line changes value h is read = subst (λ (v : LineHead). IsLineInto count line changes (said v)) is read
+
+pub added_there : {old was new is : CheckView} {e f : Entry} → old ≡ was → is ≡ new → e ≡ f → Adds was is e → Adds old new f
+added_there {old} {was} {new} {is} {e} {f} before behind same adds =
+    subst (λ (o : CheckView). Adds o new f) (sym before) (subst (λ (n : CheckView). Adds was n f) behind (subst (λ (x : Entry). Adds was is x) same adds))

@@ -1,6 +1,7 @@
 -- A check, as contracts see it, and of which history it is.
 use Rattle.std.specs.Prelude.{ℕ, ◌≡◌, ◌+◌, ◌<◌, ◌⊎◌, List, [], ◌∷◌, ◌++◌, length, Result, Ok, Err}
 use Rattle.resource_lock.specs.GraphView.{GraphView}
+use Rattle.lock_journal.specs.BookView.{BookView}
 use Rattle.lock_journal.specs.Entry.{Entry, replay}
 use Rattle.lock_journal.specs.Allowed.{Allowed}
 use Rattle.plan_reader.specs.PlanView.{PlanView}
@@ -17,6 +18,10 @@ pub record CheckView : Type 0 where
   pub graph : GraphView
   pub admitted : List Entry
   pub count : ℕ
+
+-- the check whose book this is
+abbrev pub check_of : BookView → ℕ → CheckView
+check_of b count = record { graph = b.graph; admitted = b.history; count = count }
 
 -- no entry, or the first of these isn't allowed
 abbrev pub BeginsUnlawful : GraphView → List Entry → List Entry → Type 0

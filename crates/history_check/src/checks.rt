@@ -1,12 +1,13 @@
-ghost use Rattle.std.specs.Prelude.{◌≡◌, ◌-◌, ◌^◌, ◌<◌, OnOk, OnErr};
+ghost use Rattle.std.specs.Prelude.{◌≡◌, ◌-◌, ◌^◌, ◌+◌, ◌<◌, ◌≤◌, length, OnOk, OnErr};
 ghost use Rattle.plan_reader.specs.PlanView.{PlanView};
-ghost use Rattle.history_reader.specs.HistoryView.{HistoryView, entry_read};
-ghost use Rattle.history_check.specs.CheckView.{IsCheckOf, OpensCheck, CheckGoesOn, Adds, IsCounted};
+ghost use Rattle.history_reader.specs.HistoryView.{HistoryView, entry_with};
+ghost use Rattle.history_check.specs.CheckView.{check_of, IsCheckOf, OpensCheck, CheckGoesOn, Adds, IsCounted};
 ghost use Rattle.history_check.specs.Verdict.{IsVerdict};
 
-use history_reader::{History, HistoryEntry, HistoryLine, LineValue, TextFail, read_line};
+use history_reader::{EntryHead, History, HistoryLine, LineHead, TextFail, read_line_into};
 use lock_journal::Book;
 use plan_reader::Plan;
+use resource_lock::Change;
 use std::alloc::{AllocError, Global};
 use std::marker::Model;
 
@@ -26,6 +27,8 @@ pub enum Checked {
 pub struct HistoryCheck {
     book: Book,
     count: u64,
+    // Those of the entry that is looked at.
+    changes: Vec<Change>,
 }
 
 impl Model for HistoryCheck {
@@ -50,7 +53,11 @@ impl HistoryCheck {
         };
         let graph = plan.graph(alloc, opened.workers, opened.max, opened.parallel)?;
         let book = Book::opening(alloc, graph, 0, 0)?;
-        Ok(HistoryCheck { book, count: 0 })
+        Ok(HistoryCheck {
+            book,
+            count: 0,
+            changes: Vec::new(alloc),
+        })
     }
 
     /// How many entries came.
@@ -63,18 +70,19 @@ impl HistoryCheck {
     /// Takes one more line with its line end. Of an entry it is noted whether it is allowed after those before
     /// it. The end line says that the history ends here. Stops comes where the line is neither, with the number
     /// of the entry that would follow. But for an entry the check is as before.
-    pub fn take_line(&mut self, alloc: Global, line: &[u8]) -> Result<HistoryLine, TextFail>
+    pub fn take_line(&mut self, line: &[u8]) -> Result<HistoryLine, TextFail>
         requires { self.old.count < 2 ^ 64 - 1 }
         ensures counted { IsCounted self.old line.now self.new result }
         ensures goes_on { (p : PlanView) (h : HistoryView) → IsCheckOf p h self.old → CheckGoesOn p h line.now self.new result }
     {
         let count = self.count();
-        match read_line(alloc, count, line)? {
-            LineValue::Entry(entry) => {
-                self.add(&entry)?;
+        match read_line_into(&mut self.changes, count, line)? {
+            LineHead::Entry(head) => {
+                add(&mut self.book, count, &head, &self.changes)?;
+                self.count += 1;
                 Ok(HistoryLine::Entry)
             }
-            LineValue::End => Ok(HistoryLine::End),
+            LineHead::End => Ok(HistoryLine::End),
         }
     }
 
@@ -91,19 +99,22 @@ impl HistoryCheck {
             Checked::NotLawful(admitted + 1)
         }
     }
+}
 
-    // Adds an entry to the book while all before it were allowed and it is too, and counts it.
-    fn add(&mut self, entry: &HistoryEntry) -> Result<(), AllocError>
-        requires { self.old.count < 2 ^ 64 - 1 }
-        ensures added { OnOk result (Adds self.old self.new (entry_read entry.now)) }
-        ensures kept { OnErr result (self.new ≡ self.old) }
-    {
-        let _ = self.book.state();
-        if self.book.len() == self.count {
-            self.book
-                .admit(entry.worker, &entry.kind, entry.changes.as_deref())?;
-        }
-        self.count += 1;
-        Ok(())
+// Adds an entry to the book while all before it were allowed and it is too.
+fn add(book: &mut Book, count: u64, head: &EntryHead, changes: &[Change]) -> Result<(), AllocError>
+    requires { length book.old.history ≤ count }
+    ensures added { OnOk result (Adds (check_of book.old count) (check_of book.new (count + 1)) (entry_with head.now changes.now)) }
+    ensures kept { OnErr result (check_of book.new count ≡ check_of book.old count) }
+{
+    let _ = book.state();
+    if book.len() == count {
+        let changes = if head.is_finished {
+            Some(changes)
+        } else {
+            None
+        };
+        book.admit(head.worker, &head.kind, changes)?;
     }
+    Ok(())
 }

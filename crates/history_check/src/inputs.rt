@@ -126,7 +126,7 @@ fn check_next<I: Source>(
         → GoesOn p start (I.seen input.new) lines.new check.new result }
 {
     lines.take_line(input, end_length(check.count()))?;
-    match check.take_line(alloc, lines.line()) {
+    match check.take_line(lines.line()) {
         Ok(HistoryLine::Entry) => Ok(None),
         Ok(HistoryLine::End) => Ok(Some(check.answer())),
         Err(TextFail::Stops(number)) => Ok(Some(Checked::NotLawful(number))),

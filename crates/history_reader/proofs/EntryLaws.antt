@@ -1,19 +1,18 @@
 -- The laws of entries.
-use Rattle.std.proofs.Common.{Bor, ◌≡◌, ◌≢◌, ◌↔◌, IsTrue, ℕ, ◌+◌, ◌-◌, ◌^◌, ◌<◌, ◌≤◌, suc, zero, List, [], ◌∷◌, ◌++◌, length, length-append, Option, Some, None, Result, Ok, Err, Bool, true, false, refl, sym, ap, subst, ◌∙◌, append_assoc, append-nil, arith, decimal, codes, nat_eq, cond}
+use Rattle.std.proofs.Common.{Bor, ◌≡◌, ◌≢◌, ◌↔◌, IsTrue, ℕ, ◌^◌, List, [], ◌++◌, length, Option, Some, None, Result, Err, Bool, false, refl, sym, ap, subst, ◌∙◌, append_assoc, append-nil, arith, decimal, codes, nat_eq}
 use Rattle.std.proofs.lemmas.Bool.{false≢true}
 use Rattle.lock_journal.specs.Entry.{Entry}
 use Rattle.history_reader.specs.declared.fails.ReadFail.{ReadFail}
 use Rattle.history_reader.specs.declared.fails.ReadFail.TheVariants.{Wrong, Memory}
-use Rattle.history_reader.specs.declared.histories.HistoryEntry.{HistoryEntry}
-use Rattle.history_reader.specs.HistoryView.{entry_read}
+use Rattle.history_reader.specs.declared.histories.EntryHead.{EntryHead}
+use Rattle.history_reader.specs.HistoryView.{entry_with}
 use Rattle.history_reader.specs.Lines.{IsReadAs}
-use Rattle.history_reader.specs.Plain.{LockId, WorkerId, Change, Kind}
+use Rattle.history_reader.specs.Plain.{Change}
 use Rattle.history_text.specs.Text.{kind_text, effect_text, entry_text, end_text}
 use Rattle.history_reader.specs.Reading.{◌>>=◌, after, number_at, kind_at, effect_at, body_at, entry_at, end_at, Gives}
-use Rattle.history_text.specs.Fitting.{KindFits, EffectFits, EntryFits}
-use Rattle.history_reader.proofs.Words.{Spelled}
+use Rattle.history_text.specs.Fitting.{EntryFits}
 use Rattle.history_reader.proofs.Numbers.{number_again, number_taken}
-use Rattle.history_reader.proofs.Words.{some_is, none_some, bind_some, after_taken, after_again, nil_from, not_nil}
+use Rattle.history_reader.proofs.Words.{some_is, none_some, bind_some, after_taken, after_again, nil_from}
 use Rattle.history_reader.proofs.Digits.{no_digit_first, begins_with_its_digit}
 use Rattle.history_reader.proofs.KindLaws.{kind_taken, kind_again}
 use Rattle.history_reader.proofs.ListLaws.{effect_taken, effect_again}
@@ -124,11 +123,11 @@ not_read fail = Err fail
 
 -- an entry and the text behind it, as the code has them
 abbrev Read : Type 0
-Read = HistoryEntry × Bor (List ℕ)
+Read = EntryHead × Bor (List ℕ)
 
-abbrev shown : Read → Entry × List ℕ
-shown x = (entry_read x.0, x.1.now)
+abbrev shown : List Change → Read → Entry × List ℕ
+shown changes x = (entry_with x.0 changes, x.1.now)
 
-pub failed_entry : (n : ℕ) (line : List ℕ) (fail : ReadFail) → Gives shown (not_read {X = Read} fail) (entry_at n line) → IsReadAs (entry_text n) EntryFits line entry_read (not_read {X = HistoryEntry} fail)
-failed_entry n line Wrong gives = no_entry_read n line gives
-failed_entry n line Memory gives = tt
+pub failed_entry : (n : ℕ) (line : List ℕ) (changes : List Change) (fail : ReadFail) → Gives (shown changes) (not_read {X = Read} fail) (entry_at n line) → IsReadAs (entry_text n) EntryFits line (λ (h : EntryHead). entry_with h changes) (not_read {X = EntryHead} fail)
+failed_entry n line changes Wrong gives = no_entry_read n line gives
+failed_entry n line changes Memory gives = tt

@@ -1,8 +1,10 @@
 -- A history that was read, without where its lists lie in memory.
-use Rattle.std.specs.Prelude.{ℕ, Bool, List, map}
+use Rattle.std.specs.Prelude.{ℕ, Bool, List, map, Option, Some, None, if◌then◌else◌}
 use Rattle.std.specs.Option.{option_map}
 use Rattle.lock_journal.specs.BookView.{BookView}
 use Rattle.lock_journal.specs.Entry.{Entry, entry}
+use Rattle.resource_lock.specs.declared.changes.Change.{Change}
+use Rattle.history_reader.specs.declared.histories.EntryHead.{EntryHead}
 use Rattle.history_reader.specs.declared.histories.History.{History}
 use Rattle.history_reader.specs.declared.histories.HistoryEntry.{HistoryEntry}
 
@@ -14,6 +16,13 @@ pub record HistoryView : Type 0 where
 
 abbrev pub entry_read : HistoryEntry → Entry
 entry_read e = entry e.worker e.kind (option_map (λ cs. cs.items) e.changes)
+
+-- the changes of an entry that finished, or none
+abbrev pub changes_of : Bool → List Change → Option (List Change)
+changes_of finished changes = if finished then Some changes else None
+
+abbrev pub entry_with : EntryHead → List Change → Entry
+entry_with h changes = entry h.worker h.kind (changes_of h.is_finished changes)
 
 abbrev pub history_view : History → HistoryView
 history_view h = record { workers = h.workers; max = h.max; parallel = h.parallel; entries = map entry_read h.entries.items }

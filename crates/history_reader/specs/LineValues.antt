@@ -3,9 +3,12 @@ use Rattle.std.specs.Prelude.{ℕ, ◌≡◌, ◌≢◌, ◌+◌, List, Result, 
 use Rattle.lock_journal.specs.Entry.{Entry}
 use Rattle.history_text.specs.Text.{entry_text, end_text}
 use Rattle.history_text.specs.Fitting.{EntryFits}
-use Rattle.history_reader.specs.HistoryView.{entry_read}
+use Rattle.history_reader.specs.HistoryView.{entry_read, entry_with}
 use Rattle.history_reader.specs.declared.fails.TextFail.{TextFail}
 use Rattle.history_reader.specs.declared.fails.TextFail.TheVariants.{Stops, NoMemory}
+use Rattle.resource_lock.specs.declared.changes.Change.{Change}
+use Rattle.history_reader.specs.declared.lines.LineHead.{LineHead}
+use Rattle.history_reader.specs.declared.lines.LineHead.TheVariants as heads
 use Rattle.history_reader.specs.declared.lines.LineValue.{LineValue}
 use Rattle.history_reader.specs.declared.lines.LineValue.TheVariants as values
 
@@ -25,3 +28,10 @@ IsLineOf count line (Ok (values.Entry e)) = IsEntryLine count line (entry_read e
 IsLineOf count line (Ok values.End) = line ≡ end_text count
 IsLineOf count line (Err (Stops n)) = IsNoLine count line n
 IsLineOf count line (Err NoMemory) = Unit {0}
+
+-- the same where the changes stand elsewhere
+abbrev pub IsLineInto : ℕ → List ℕ → List Change → Result LineHead TextFail → Type 0
+IsLineInto count line changes (Ok (heads.Entry h)) = IsEntryLine count line (entry_with h changes)
+IsLineInto count line changes (Ok heads.End) = line ≡ end_text count
+IsLineInto count line changes (Err (Stops n)) = IsNoLine count line n
+IsLineInto count line changes (Err NoMemory) = Unit {0}

@@ -1,32 +1,30 @@
-ghost use Rattle.std.specs.Prelude.{◌≡◌, ◌↔◌, length, IsTrue};
+ghost use Rattle.std.specs.Prelude.{◌≡◌, ◌↔◌, [], length, IsTrue};
 ghost use Rattle.std.specs.Option.{option_map};
 ghost use Rattle.history_text.specs.Text.{entry_text, end_text};
 ghost use Rattle.history_text.specs.Fitting.{EntryFits};
-ghost use Rattle.history_reader.specs.HistoryView.{entry_read};
+ghost use Rattle.history_reader.specs.HistoryView.{changes_of, entry_with};
 ghost use Rattle.history_reader.specs.Lines.{IsReadAs};
 ghost use Rattle.history_reader.specs.Reading.{Gives, with_front, further_at, changes_at, effect_at, body_at, entry_at, end_at};
 
 use crate::changes::read_change;
 use crate::fails::ReadFail;
-use crate::histories::HistoryEntry;
+use crate::histories::EntryHead;
 use crate::kinds::read_kind;
 use crate::tokens::{read_short, text_after, text_after_number};
 use resource_lock::{Change, WorkerId};
-use std::alloc::Global;
 
-// The changes behind the first, with those before them.
-fn read_further(
-    changes: Vec<Change>,
-    text: &[u8],
+// The changes behind the first, which come behind those before them.
+fn read_further<'a>(
+    changes: &mut Vec<Change>,
+    text: &'a [u8],
     worker: WorkerId,
-) -> Result<(Vec<Change>, &[u8]), ReadFail>
-    ensures { Gives (λ x. (x.0.items, x.1.now)) result (with_front changes.items (further_at (length text.now) worker text.now)) }
+) -> Result<&'a [u8], ReadFail>
+    ensures { Gives (λ x. (changes.new.items, x.now)) result (with_front changes.old.items (further_at (length text.now) worker text.now)) }
 {
-    let mut changes = changes;
     let mut rest = text;
     for _ in 0..text.len() {
         match text_after(rest, b", ") {
-            None => return Ok((changes, rest)),
+            None => return Ok(rest),
             Some(next) => {
                 let Some((change, more)) = read_change(next, worker) else {
                     return Err(ReadFail::Wrong);
@@ -40,42 +38,46 @@ fn read_further(
 }
 
 #[tactic(auto, unfolding(crate::specs::Reading::changes_at))]
-fn read_changes(
-    alloc: Global,
-    text: &[u8],
+fn read_changes<'a>(
+    changes: &mut Vec<Change>,
+    text: &'a [u8],
     worker: WorkerId,
-) -> Result<(Vec<Change>, &[u8]), ReadFail>
-    ensures { Gives (λ x. (x.0.items, x.1.now)) result (changes_at worker text.now) }
+) -> Result<&'a [u8], ReadFail>
+    requires { changes.old.items ≡ [] }
+    ensures { Gives (λ x. (changes.new.items, x.now)) result (changes_at worker text.now) }
 {
     let (change, rest) = read_change(text, worker).ok_or(ReadFail::Wrong)?;
-    let mut changes = Vec::new(alloc);
     changes.push(change)?;
     read_further(changes, rest, worker)
 }
 
-// What an entry did: its changes, or none where it failed.
+// What an entry did: its changes, and whether it has any or failed.
 #[tactic(auto, unfolding(crate::specs::Reading::effect_at, crate::specs::Reading::branch))]
-fn read_effect(
-    alloc: Global,
-    text: &[u8],
+fn read_effect<'a>(
+    changes: &mut Vec<Change>,
+    text: &'a [u8],
     worker: WorkerId,
-) -> Result<(Option<Vec<Change>>, &[u8]), ReadFail>
-    ensures { Gives (λ x. (option_map (λ cs. cs.items) x.0, x.1.now)) result (effect_at worker text.now) }
+) -> Result<(bool, &'a [u8]), ReadFail>
+    ensures { Gives (λ x. (changes_of x.0 changes.new.items, x.1.now)) result (effect_at worker text.now) }
 {
+    changes.clear();
     if let Some(rest) = text_after(text, b"failed") {
-        return Ok((None, rest));
+        return Ok((false, rest));
     }
     if let Some(rest) = text_after(text, b"nothing") {
-        return Ok((Some(Vec::new(alloc)), rest));
+        return Ok((true, rest));
     }
-    let (changes, rest) = read_changes(alloc, text, worker)?;
-    Ok((Some(changes), rest))
+    let rest = read_changes(changes, text, worker)?;
+    Ok((true, rest))
 }
 
 // An entry behind its number.
 #[tactic(auto, unfolding(crate::specs::Reading::body_at))]
-fn read_body(alloc: Global, text: &[u8]) -> Result<(HistoryEntry, &[u8]), ReadFail>
-    ensures { Gives (λ x. (entry_read x.0, x.1.now)) result (body_at text.now) }
+fn read_body<'a>(
+    changes: &mut Vec<Change>,
+    text: &'a [u8],
+) -> Result<(EntryHead, &'a [u8]), ReadFail>
+    ensures { Gives (λ x. (entry_with x.0 changes.new.items, x.1.now)) result (body_at text.now) }
 {
     let rest = text_after(text, b" w").ok_or(ReadFail::Wrong)?;
     let (worker, rest) = read_short(rest).ok_or(ReadFail::Wrong)?;
@@ -83,35 +85,39 @@ fn read_body(alloc: Global, text: &[u8]) -> Result<(HistoryEntry, &[u8]), ReadFa
     let rest = text_after(rest, b" ").ok_or(ReadFail::Wrong)?;
     let (kind, rest) = read_kind(rest).ok_or(ReadFail::Wrong)?;
     let rest = text_after(rest, b" | ").ok_or(ReadFail::Wrong)?;
-    let (changes, rest) = read_effect(alloc, rest, worker)?;
+    let (is_finished, rest) = read_effect(changes, rest, worker)?;
     let rest = text_after(rest, b"\n").ok_or(ReadFail::Wrong)?;
-    let entry = HistoryEntry {
+    let head = EntryHead {
         worker,
         kind,
-        changes,
+        is_finished,
     };
-    Ok((entry, rest))
+    Ok((head, rest))
 }
 
 // The entry of this number at the front of a text, and the text after its line.
 #[tactic(auto, unfolding(crate::specs::Reading::entry_at))]
-fn read_entry(alloc: Global, number: u64, text: &[u8]) -> Result<(HistoryEntry, &[u8]), ReadFail>
-    ensures { Gives (λ x. (entry_read x.0, x.1.now)) result (entry_at number text.now) }
+fn read_entry<'a>(
+    changes: &mut Vec<Change>,
+    number: u64,
+    text: &'a [u8],
+) -> Result<(EntryHead, &'a [u8]), ReadFail>
+    ensures { Gives (λ x. (entry_with x.0 changes.new.items, x.1.now)) result (entry_at number text.now) }
 {
     let rest = text_after_number(text, number).ok_or(ReadFail::Wrong)?;
-    read_body(alloc, rest)
+    read_body(changes, rest)
 }
 
-/// The entry of this number, by its whole line.
+/// The entry of this number, by its whole line, with its changes in place of those given.
 pub(crate) fn read_entry_line(
-    alloc: Global,
+    changes: &mut Vec<Change>,
     number: u64,
     line: &[u8],
-) -> Result<HistoryEntry, ReadFail>
-    ensures { IsReadAs (entry_text number) EntryFits line.now entry_read result }
+) -> Result<EntryHead, ReadFail>
+    ensures { IsReadAs (entry_text number) EntryFits line.now (λ h. entry_with h changes.new.items) result }
 {
-    match read_entry(alloc, number, line) {
-        Ok((entry, rest)) if rest.is_empty() => Ok(entry),
+    match read_entry(changes, number, line) {
+        Ok((head, rest)) if rest.is_empty() => Ok(head),
         Ok(_) => Err(ReadFail::Wrong),
         Err(fail) => Err(fail),
     }

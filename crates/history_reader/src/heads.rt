@@ -4,6 +4,7 @@ ghost use Rattle.history_reader.specs.Reading.{count_at, parallel_at, settings_a
 ghost use Rattle.history_reader.specs.Lines.{first_line, OpensNone, IsSaidBy};
 
 use crate::tokens::{read_number, text_after};
+use resource_lock::MAX_WORKERS;
 
 /// What the second line of a history says.
 #[derive(Clone, Copy, Debug)]
@@ -20,12 +21,12 @@ pub fn is_first_line(line: &[u8]) -> bool
     line == b"history 1\n".as_slice()
 }
 
-// How many workers there are or leases may be out: 1 to 32.
+// How many workers there are or leases may be out: at least 1, and of both at most MAX_WORKERS.
 #[tactic(auto, unfolding(crate::specs::Reading::count_at))]
 fn read_count(text: &[u8]) -> Option<(u32, &[u8])>
     ensures { option_map (λ x. (x.0, x.1.now)) result ≡ count_at text.now }
 {
-    let (count, rest) = read_number(text, 32)?;
+    let (count, rest) = read_number(text, u64::from(MAX_WORKERS))?;
     if count == 0 {
         return None;
     }

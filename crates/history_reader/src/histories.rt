@@ -2,9 +2,9 @@ ghost use Rattle.std.specs.Prelude.{◌≡◌, IfSome, IfNone};
 ghost use Rattle.history_reader.specs.HistoryView.{history_view};
 ghost use Rattle.history_reader.specs.Lines.{next_number, Opens, OpensNone, TakesLine};
 
-use crate::entries::{is_end_line, read_entry_line};
-use crate::fails::{ReadFail, TextFail};
+use crate::fails::TextFail;
 use crate::heads::read_settings_line;
+use crate::lines::{LineValue, read_line};
 use lock_journal::Kind;
 use resource_lock::{Change, WorkerId};
 use std::alloc::Global;
@@ -31,6 +31,17 @@ pub struct HistoryEntry {
     pub kind: Kind,
     /// The changes that were made, in order, or none where the transform failed.
     pub changes: Option<Vec<Change>>,
+}
+
+/// An entry of a history but for its changes, which stand elsewhere.
+#[derive(Clone, Copy, Debug)]
+pub struct EntryHead {
+    /// The worker that ran the transform.
+    pub worker: WorkerId,
+    /// What the entry is for.
+    pub kind: Kind,
+    /// Whether the transform finished, and so has changes.
+    pub is_finished: bool,
 }
 
 /// What a line of a history is.
@@ -71,15 +82,12 @@ impl History {
     pub fn take_line(&mut self, alloc: Global, line: &[u8]) -> Result<HistoryLine, TextFail>
         ensures { TakesLine (history_view self.old) line.now (history_view self.new) result }
     {
-        let number = self.next_number();
-        match read_entry_line(alloc, number, line) {
-            Ok(entry) => {
+        match read_line(alloc, self.entries.len() as u64, line)? {
+            LineValue::Entry(entry) => {
                 self.entries.push(entry)?;
                 Ok(HistoryLine::Entry)
             }
-            Err(ReadFail::Memory) => Err(TextFail::NoMemory),
-            Err(ReadFail::Wrong) if is_end_line(line, number - 1) => Ok(HistoryLine::End),
-            Err(ReadFail::Wrong) => Err(TextFail::Stops(number)),
+            LineValue::End => Ok(HistoryLine::End),
         }
     }
 }

@@ -18,10 +18,10 @@ mod tokens;
 pub use books::every_book_has_a_text;
 pub use fails::TextFail;
 pub use heads::is_first_line;
-pub use histories::{History, HistoryEntry, HistoryLine};
+pub use histories::{EntryHead, History, HistoryEntry, HistoryLine};
 pub use laws::{
     a_line_more, each_value_has_one_text, texts_stop_at_one_place, written_histories_are_read_back,
 };
-pub use lines::{LineValue, read_line};
+pub use lines::{LineHead, LineValue, read_line, read_line_into};
 pub use read::read_history;
 pub use tokens::next_line;
