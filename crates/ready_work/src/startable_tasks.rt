@@ -92,9 +92,32 @@ impl StartableTasks {
         }
     }
 
+    /// Makes a task a member, or none.
+    pub(crate) fn put(&mut self, task: u32, is_startable: bool)
+        requires { task < room_of self.old.tasks }
+        ensures locks { self.new.locks ≡ self.old.locks }
+        ensures free { SameNumbers self.old.free self.new.free }
+        ensures room { room_of self.new.tasks ≡ room_of self.old.tasks }
+        ensures put { has self.new.tasks task ≡ is_startable }
+        ensures others { (t : ℕ) → t ≢ task → has self.new.tasks t ≡ has self.old.tasks t }
+    {
+        // Most looks find a task as it was.
+        if self.contains(task) != is_startable {
+            self.change(task, is_startable);
+        }
+    }
+
+    /// Whether a task is a member.
+    fn contains(&self, task: u32) -> bool
+        requires { task < room_of self.now.tasks }
+        ensures { result ≡ has self.now.tasks task }
+    {
+        self.places.contains(self.order.place(task))
+    }
+
     /// Makes a task a member, or none. Its lock isn't free meanwhile, so no task of the lock is a
     /// head.
-    pub(crate) fn put(&mut self, task: u32, is_startable: bool)
+    fn change(&mut self, task: u32, is_startable: bool)
         requires { task < room_of self.old.tasks }
         ensures locks { self.new.locks ≡ self.old.locks }
         ensures free { SameNumbers self.old.free self.new.free }

@@ -4,7 +4,7 @@ use Rattle.ready_work.specs.StartableTasksView.{StartableTasksView}
 use Rattle.ready_work.proofs.Heads.{room_locks, room_tasks}
 use Rattle.ready_work.proofs.Looking.{put_back}
 use Rattle.ready_work.proofs.Sets.{has_where}
-use Rattle.ready_work.proofs.startable_tasks.StartableTasks.put.Goals as goal
+use Rattle.ready_work.proofs.startable_tasks.StartableTasks.change.Goals as goal
 
 pub lock-lock-requires : goal.lock-lock-requires
 lock-lock-requires c = omega (arith, c.requires, room_tasks c.self.inside c.args.self.now c.self.view_is)
