@@ -5,7 +5,7 @@ ghost use Rattle.ready_work.specs.LockOrderView.{lock_at};
 ghost use Rattle.ready_work.specs.Lowest.{IsLowest, IsNone};
 ghost use Rattle.ready_work.specs.NumberSetView.{has, room_of};
 ghost use Rattle.ready_work.specs.Sets.{SameNumbers};
-ghost use Rattle.ready_work.specs.StartableTasksView.{IsUnowned, IsWith};
+ghost use Rattle.ready_work.specs.StartableTasksView.{IsUnowned, IsWith, PutsTask};
 ghost use Rattle.ready_work.specs.TaskSets.{HasLocks};
 
 use crate::choices::is_free;
@@ -95,11 +95,7 @@ impl StartableTasks {
     /// Makes a task a member, or none.
     pub(crate) fn put(&mut self, task: u32, is_startable: bool)
         requires { task < room_of self.old.tasks }
-        ensures locks { self.new.locks ≡ self.old.locks }
-        ensures free { SameNumbers self.old.free self.new.free }
-        ensures room { room_of self.new.tasks ≡ room_of self.old.tasks }
-        ensures put { has self.new.tasks task ≡ is_startable }
-        ensures others { (t : ℕ) → t ≢ task → has self.new.tasks t ≡ has self.old.tasks t }
+        ensures { PutsTask self.old self.new task is_startable }
     {
         // Most looks find a task as it was.
         if self.contains(task) != is_startable {
@@ -119,11 +115,7 @@ impl StartableTasks {
     /// head.
     fn change(&mut self, task: u32, is_startable: bool)
         requires { task < room_of self.old.tasks }
-        ensures locks { self.new.locks ≡ self.old.locks }
-        ensures free { SameNumbers self.old.free self.new.free }
-        ensures room { room_of self.new.tasks ≡ room_of self.old.tasks }
-        ensures put { has self.new.tasks task ≡ is_startable }
-        ensures others { (t : ℕ) → t ≢ task → has self.new.tasks t ≡ has self.old.tasks t }
+        ensures { PutsTask self.old self.new task is_startable }
     {
         let lock = self.order.lock(task);
         let is_free = self.free.contains(lock);

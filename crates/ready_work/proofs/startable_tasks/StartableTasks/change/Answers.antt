@@ -15,9 +15,15 @@ put_lock-requires c = omega (arith, c.lock-lock.ensures.in_range, room_locks c.s
 pub put_lock-requires-2 : goal.put_lock-requires-2
 put_lock-requires-2 c = omega (arith, c.lock-lock.ensures.in_range, room_locks c.self.inside c.args.self.now c.self.view_is, c.put_lock.ensures.room, ap room_of c.put_closed.ensures.free)
 
-pub returns-clause-free : goal.returns-clause-free
-returns-clause-free c = put_back c.args.self.now.free c.put_lock.new.self.free c.put_lock-2.new.self.free c.lock-lock.result
-    (ap (λ (all : StartableTasksView). has all.free c.lock-lock.result) (sym c.self.view_is) ∙ has_where (has c.self.inside.free) c.self.inside.order.lock_count c.lock-lock.result c.lock-lock.ensures.in_range ∙ sym c.contains-is_free.ensures ∙ sym c.put_lock-2.ensures.put)
-    c.put_lock.ensures.room c.put_lock.ensures.others
-    (c.put_lock-2.ensures.room ∙ ap room_of c.put_closed.ensures.free)
-    (λ l ne. c.put_lock-2.ensures.others l ne ∙ ap (λ (set : NumberSetView). has set l) c.put_closed.ensures.free)
+pub returns : goal.returns
+returns c = record {
+  locks = search;
+  free = put_back c.args.self.now.free c.put_lock.new.self.free c.put_lock-2.new.self.free c.lock-lock.result
+      (ap (λ (all : StartableTasksView). has all.free c.lock-lock.result) (sym c.self.view_is) ∙ has_where (has c.self.inside.free) c.self.inside.order.lock_count c.lock-lock.result c.lock-lock.ensures.in_range ∙ sym c.contains-is_free.ensures ∙ sym c.put_lock-2.ensures.put)
+      c.put_lock.ensures.room c.put_lock.ensures.others
+      (c.put_lock-2.ensures.room ∙ ap room_of c.put_closed.ensures.free)
+      (λ l ne. c.put_lock-2.ensures.others l ne ∙ ap (λ (set : NumberSetView). has set l) c.put_closed.ensures.free);
+  room = search;
+  put = c.put_lock-2.ensures.tasks.members c.args.task ∙ c.put_closed.ensures.put;
+  others = λ t apart. c.put_lock-2.ensures.tasks.members t ∙ c.put_closed.ensures.others t apart ∙ c.put_lock.ensures.tasks.members t;
+}
