@@ -1,44 +1,70 @@
 #!/usr/bin/env python3
-"""Times rounds under the state lock against rounds of a plain Mutex, and counts their system calls.
+"""Times rounds under the state lock beside rounds of a plain Mutex, and counts how often their threads slept.
 
 Copies the crates into a temporary folder, adds a small program, which is proved and built there as the gate builds, and
 runs it: rounds of `with_state_lock`, in which a worker takes a lease and gives it back by turns, and rounds of a Mutex
-over a counter, by one thread and by four that contend. Not part of the gate. A machine that does other work meanwhile
-gives other figures for four threads. Without strace the system calls aren't counted.
+over a counter, by one thread and by four that contend. The two kinds of run take turns, and medians are printed. Each
+thread makes 400,000 rounds, so that the threads of a run meet. Not part of the gate. A machine that does other work
+meanwhile gives other figures for four threads. Without strace the system calls aren't counted.
 
-    bench/coordination.py
+    bench/coordination.py [PROGRAM]
+
+PROGRAM is a built program of bench/programs/coordination_rounds.
 """
 
 import pathlib
 import shutil
 import statistics
 import subprocess
+import sys
 import tempfile
 
 import measure
 
-BELOW = ["item_actions", "resource_lock", "task_ranks", "ready_work", "lock_journal", "run_laws", "coordination"]
+BELOW = [
+    "item_actions",
+    "resource_lock",
+    "task_ranks",
+    "ready_work",
+    "lock_journal",
+    "run_laws",
+    "worker_choices",
+    "coordination",
+]
 PROGRAM = "coordination_rounds"
-# As many rounds as the program makes in a run.
-ROUNDS = 40_000
+# As many rounds as a thread of the program makes in a run.
+ROUNDS = 400_000
+# How often each kind of run is made.
+TURNS = 9
 
 # The goals: how many times as long a round under the state lock takes as a round of the Mutex.
 MOST_ALONE = 4.0
 MOST_CONTENDED = 2.0
 
+Run = tuple[float, float]
 
-def nanoseconds(program: str, *words: str) -> float:
-    """The median time of the program's runs, of which the first touches the memory."""
-    run = subprocess.run([program, "many", *words], capture_output=True, text=True, check=True)
-    return statistics.median(int(line) for line in run.stdout.split()[1:])
+
+def run_once(program: str, *words: str) -> Run:
+    """The nanoseconds of the program's last run, of which the first touches the memory, and how often a thread slept in a run."""
+    with tempfile.NamedTemporaryFile("r") as said:
+        call = ["time", "-q", "-f", "%w", "-o", said.name, program, "many", *words]
+        times = subprocess.run(call, capture_output=True, text=True, check=True).stdout.split()
+        return float(times[-1]), int(said.read()) / len(times)
+
+
+def medians(runs: list[Run]) -> Run:
+    return statistics.median(run[0] for run in runs), statistics.median(run[1] for run in runs)
 
 
 def compare(program: str, threads: str, number: int, most: float) -> None:
-    plain = nanoseconds(program, threads) / (ROUNDS * number)
-    locked = nanoseconds(program, threads, "locked") / (ROUNDS * number)
+    turns = [(run_once(program, threads), run_once(program, threads, "locked")) for _ in range(TURNS)]
+    rounds = ROUNDS * number
+    plain, slept_plain = medians([plain for plain, _ in turns])
+    locked, slept_locked = medians([locked for _, locked in turns])
     print(
-        f"{number} thread{'s' if number > 1 else ''}: a round of the Mutex {plain:5.1f} ns, under the state lock {locked:5.1f} ns,"
-        f" {locked / plain:.1f} times as long (goal {most})"
+        f"{number} thread{'s' if number > 1 else ''}: a round of the Mutex {plain / rounds:5.1f} ns, under the state lock"
+        f" {locked / rounds:5.1f} ns, {locked / plain:.1f} times as long (goal {most}); a thread slept in"
+        f" {slept_plain / rounds:.4f} and {slept_locked / rounds:.4f} of the rounds"
     )
 
 
@@ -51,18 +77,25 @@ def report_system_calls(program: str) -> None:
     print(f"system calls that come with more rounds by one thread: {more or 'none'} (goal none)")
 
 
+def report(program: str) -> None:
+    compare(program, "one", 1, MOST_ALONE)
+    compare(program, "four", 4, MOST_CONTENDED)
+    if shutil.which("strace") is None:
+        print("the system calls weren't counted: there is no strace here")
+    else:
+        report_system_calls(program)
+
+
 def main() -> None:
+    measure.skip_without("time")
+    if len(sys.argv) > 1:
+        report(str(pathlib.Path(sys.argv[1]).resolve()))
+        return
     measure.skip_without("rt")
     with tempfile.TemporaryDirectory() as name:
         workshop = measure.Workshop(pathlib.Path(name), BELOW)
         workshop.add(PROGRAM, *BELOW)
-        program = workshop.build(PROGRAM)
-        compare(program, "one", 1, MOST_ALONE)
-        compare(program, "four", 4, MOST_CONTENDED)
-        if shutil.which("strace") is None:
-            print("the system calls weren't counted: there is no strace here")
-        else:
-            report_system_calls(program)
+        report(workshop.build(PROGRAM))
 
 
 if __name__ == "__main__":
