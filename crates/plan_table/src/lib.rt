@@ -16,9 +16,7 @@ mod tables;
 mod values;
 
 pub use document::read_document;
-pub use forms::{
-    MAX_NAME_BYTES, is_encoding, is_executable, is_key, is_name, is_needle, is_value,
-};
+pub use forms::{MAX_NAME_BYTES, is_encoding, is_executable, is_key, is_name, is_needle, is_value};
 pub use keys::{
     actions_of, after_of, args_of, assertions_of, debug_of, do_of, encoding_of, executable_of,
     fetch_of, file_of, heap_of, isolation_of, items_of, name_of, needle_of, project_of,
