@@ -67,8 +67,10 @@ def try_places(folder: pathlib.Path, places: range) -> list[Case]:
     for place in places:
         (cases / f"p{place:04}").write_text(f"{FAILING - place}\n")
     words = ["rt", "try", "--fail-alloc", str(FAILING), "--cases", str(cases)]
-    run = subprocess.run(words, cwd=folder / "crates" / PROGRAM, capture_output=True, text=True)
-    return read_cases(run.stderr + run.stdout)
+    # What the program printed comes on one stream, and what is said of the case on the other.
+    how = {"stdout": subprocess.PIPE, "stderr": subprocess.STDOUT, "text": True}
+    run = subprocess.run(words, cwd=folder / "crates" / PROGRAM, **how)
+    return read_cases(run.stdout)
 
 
 def main() -> None:
