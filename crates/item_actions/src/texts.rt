@@ -40,6 +40,17 @@ impl Model for Text {
     ghost view = { λ t. string_bytes t.text };
 }
 
+impl From<String> for Text {
+    ghost use Rattle.std.specs.Prelude.{◌≡◌, string_bytes};
+
+    ghost from_gives = { λ string text. text ≡ string_bytes string };
+
+    /// The text of a string, which isn't copied.
+    fn from(text: String) -> Text {
+        Text { text }
+    }
+}
+
 impl Text {
     /// A text of these bytes. NotUtf8 comes exactly where they aren't UTF-8.
     pub fn of(alloc: Global, bytes: &[u8]) -> Result<Text, TextRefusal>
