@@ -1,5 +1,5 @@
 //! A parked worker: it runs items until those that it waits for have ended, and resumes.
-ghost use Rattle.std.specs.Prelude.{◌≡◌, ◌<◌, All, IfOk, None, OnOk, Some, length, map};
+ghost use Rattle.std.specs.Prelude.{◌≡◌, ◌<◌, All, None, OnOk, Some, length, map};
 ghost use Rattle.resource_lock.specs.GraphView.{action_of};
 ghost use Rattle.resource_lock.specs.Ranges.{lock_with};
 ghost use Rattle.coordination.specs.Agrees.{IsSound};

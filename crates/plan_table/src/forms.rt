@@ -3,8 +3,16 @@ ghost use Rattle.std.specs.Prelude.{◌≡◌, not};
 ghost use Rattle.std.specs.List.{list_any, list_all};
 ghost use Rattle.plan_table.specs.Forms.{is_letter_or_digit, is_joining, is_name_byte, has_length, has_byte, is_name, is_needle, is_executable, is_encoding, is_value, is_key};
 
+use item_actions::MAX_NEEDLE_BYTES;
+
 /// The most bytes of a name.
 pub const MAX_NAME_BYTES: usize = 64;
+
+/// The most bytes of an encoding.
+const MAX_ENCODING_BYTES: usize = 64;
+
+/// The most bytes of an executable, of an argument, and of a property's or variable's name and value.
+const MAX_TEXT_BYTES: usize = 255;
 
 fn is_letter_or_digit(b: u8) -> bool
     ensures { result ≡ is_letter_or_digit b }
@@ -54,21 +62,21 @@ pub fn is_name(bytes: &[u8]) -> bool
 pub fn is_needle(bytes: &[u8]) -> bool
     ensures { result ≡ is_needle bytes.now }
 {
-    has_length(bytes, 1, 64)
+    has_length(bytes, 1, MAX_NEEDLE_BYTES)
 }
 
 /// Whether the bytes have the form of an executable: 1 to 255 bytes, none of them zero.
 pub fn is_executable(bytes: &[u8]) -> bool
     ensures { result ≡ is_executable bytes.now }
 {
-    has_length(bytes, 1, 255) && !has_byte(bytes, 0)
+    has_length(bytes, 1, MAX_TEXT_BYTES) && !has_byte(bytes, 0)
 }
 
 /// Whether the bytes have the form of an encoding: 1 to 64 bytes, none of them zero.
 pub fn is_encoding(bytes: &[u8]) -> bool
     ensures { result ≡ is_encoding bytes.now }
 {
-    has_length(bytes, 1, 64) && !has_byte(bytes, 0)
+    has_length(bytes, 1, MAX_ENCODING_BYTES) && !has_byte(bytes, 0)
 }
 
 /// Whether the bytes have the form of an argument, or of the value of a property or variable: 0 to 255 bytes,
@@ -76,12 +84,12 @@ pub fn is_encoding(bytes: &[u8]) -> bool
 pub fn is_value(bytes: &[u8]) -> bool
     ensures { result ≡ is_value bytes.now }
 {
-    has_length(bytes, 0, 255) && !has_byte(bytes, 0)
+    has_length(bytes, 0, MAX_TEXT_BYTES) && !has_byte(bytes, 0)
 }
 
 /// Whether the bytes have the form of a property's or variable's name: 1 to 255 bytes, none of them zero or `=`.
 pub fn is_key(bytes: &[u8]) -> bool
     ensures { result ≡ is_key bytes.now }
 {
-    has_length(bytes, 1, 255) && !has_byte(bytes, 0) && !has_byte(bytes, b'=')
+    has_length(bytes, 1, MAX_TEXT_BYTES) && !has_byte(bytes, 0) && !has_byte(bytes, b'=')
 }

@@ -1,4 +1,4 @@
-use Rattle.std.proofs.Common.{◌≡◌, true, false, refl}
+use Rattle.std.proofs.Common.{◌≡◌, true, refl}
 use Rattle.std.proofs.lemmas.Bool.{false≢true}
 use Rattle.resource_lock.specs.Marks.{has_ended}
 use Rattle.resource_lock.specs.declared.marks.Mark.{Mark}
