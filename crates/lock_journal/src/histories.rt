@@ -134,6 +134,7 @@ impl History {
     }
 
     /// Adds a finished entry.
+    #[inline(always)]
     pub(crate) fn push_finished(&mut self, worker: WorkerId, kind: &Kind, changes: &[Change])
         requires some_entry { 0 < self.old.spare_entries }
         requires some_changes { length changes.now ≤ self.old.spare_changes }

@@ -40,6 +40,7 @@ pub enum StoredKind {
 }
 
 /// What is stored of a kind, with its number. Its closing, if it has one, comes last in the closings.
+#[inline(always)]
 pub fn store_kind(kind: &Kind, closings: &mut Vec<Closed>) -> (StoredKind, usize)
     requires { vec_len closings.old < vec_capacity closings.old }
     ensures kind { kind_from closings.new.items result.0 result.1 ≡ kind.now }

@@ -83,6 +83,7 @@ impl Tentative {
     }
 
     /// Makes a change, and notes it.
+    #[inline(always)]
     pub fn change(&mut self, change: Change)
         requires named { NamesOnly self.old.state change }
         requires possible { IsTrue (can self.old.state self.old.worker change) }

@@ -8,7 +8,7 @@ ghost use Rattle.resource_lock.specs.declared.marks.Mark.TheVariants as marks;
 
 use crate::entries::Kind;
 use crate::kinds::fixed::{FixedKind, Progress, run_fixed};
-use crate::kinds::making::try_changes;
+use crate::kinds::making::try_change;
 use crate::tentatives::Tentative;
 use crate::transforms::{Disposition, Transform};
 use resource_lock::{Change, Graph, Mark, MarkId, State, WorkerId};
@@ -81,6 +81,6 @@ impl FixedKind for Claim {
     fn make(&self, work: &mut Tentative) -> bool {
         let running = Mark::Running(work.worker());
         let moved = Change::Move(MarkId::Unit(self.unit), Mark::Queued, running);
-        try_changes(work, &[Change::Take, moved])
+        try_change(work, Change::Take) && try_change(work, moved)
     }
 }

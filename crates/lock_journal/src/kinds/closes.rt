@@ -5,7 +5,7 @@ ghost use Rattle.lock_journal.specs.declared.entries.Kind.TheVariants as kinds;
 
 use crate::entries::{Closed, Kind};
 use crate::kinds::fixed::{FixedKind, Progress, run_fixed};
-use crate::kinds::making::try_changes;
+use crate::kinds::making::try_change;
 use crate::kinds::marks::mark_from;
 use crate::tentatives::Tentative;
 use crate::transforms::{Disposition, Transform};
@@ -70,6 +70,6 @@ impl FixedKind for Close {
         let unit = MarkId::Unit(self.closed.unit);
         let running = Mark::Running(work.worker());
         let moved = Change::Move(unit, running, mark_from(self.closed.outcome));
-        try_changes(work, &[moved, Change::Give])
+        try_change(work, moved) && try_change(work, Change::Give)
     }
 }

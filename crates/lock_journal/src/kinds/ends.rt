@@ -15,7 +15,7 @@ ghost use Rattle.resource_lock.specs.declared.marks.Mark.TheVariants as marks;
 
 use crate::entries::Kind;
 use crate::kinds::fixed::{FixedKind, Progress, run_fixed};
-use crate::kinds::making::try_changes;
+use crate::kinds::making::try_change;
 use crate::kinds::marks::units_passed;
 use crate::kinds::ranges::{Span, actions_of, earlier_actions, lock_of, units_of};
 use crate::kinds::skipping::skip_waiting;
@@ -110,9 +110,11 @@ fn end_task(work: &mut Tentative, task: u32, mark: Mark, leased: bool) -> bool
     let running = Mark::Running(work.worker());
     let ended = Change::Move(MarkId::Task(task), running, mark);
     if leased {
-        try_changes(work, &[ended, Change::Unlock(lock), Change::Give])
+        try_change(work, ended)
+            && try_change(work, Change::Unlock(lock))
+            && try_change(work, Change::Give)
     } else {
-        try_changes(work, &[ended])
+        try_change(work, ended)
     }
 }
 

@@ -6,7 +6,8 @@ ghost use Rattle.lock_journal.specs.Freeing.{freed, if_owned};
 ghost use Rattle.lock_journal.specs.Making.{Makes};
 ghost use Rattle.lock_journal.specs.Table.{owned};
 
-use crate::kinds::making::{try_change, try_changes};
+use crate::kinds::making::try_change;
+use crate::kinds::parking::park_lock;
 use crate::tentatives::Tentative;
 use resource_lock::{Change, LockId};
 
@@ -35,7 +36,7 @@ fn free_lock(work: &mut Tentative, lock: LockId, parks: bool) -> bool
         return true;
     }
     if parks {
-        try_changes(work, &[Change::Unlock(lock), Change::Park(lock)])
+        park_lock(work, lock)
     } else {
         try_change(work, Change::Unlock(lock))
     }

@@ -10,6 +10,7 @@ use crate::tentatives::Tentative;
 use resource_lock::{Change, Mark, MarkId};
 
 /// Makes a change where it can be made, and answers whether it was.
+#[inline(always)]
 pub(crate) fn try_change(work: &mut Tentative, change: Change) -> bool
     requires named { NamesOnly work.old.state change }
     requires room { 0 < work.old.room }

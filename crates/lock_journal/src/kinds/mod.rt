@@ -11,6 +11,7 @@ mod freeing;
 mod hand_backs;
 mod making;
 mod marks;
+mod parking;
 mod parks;
 mod ranges;
 mod resumes;

@@ -1,16 +1,19 @@
-ghost use Rattle.std.specs.Prelude.{◌≡◌, false};
+ghost use Rattle.std.specs.Prelude.{◌≡◌, ◌≤◌, false, length};
+ghost use Rattle.resource_lock.specs.StateView.{IsLockOf};
 ghost use Rattle.lock_journal.specs.Allowed.{IsDisabled, IsFixedList};
-ghost use Rattle.lock_journal.specs.Table.{is_enabled};
+ghost use Rattle.lock_journal.specs.Making.{Makes};
+ghost use Rattle.lock_journal.specs.Table.{is_enabled, on_park};
 ghost use Rattle.lock_journal.specs.declared.entries.Kind.TheVariants as kinds;
 
 use crate::entries::Kind;
 use crate::kinds::fixed::{FixedKind, Progress, run_fixed};
-use crate::kinds::making::try_changes;
+use crate::kinds::making::try_change;
 use crate::kinds::marks::works_on;
+use crate::kinds::parking::park_lock;
 use crate::kinds::ranges::{action_of, lock_of};
 use crate::tentatives::Tentative;
 use crate::transforms::{Disposition, Transform};
-use resource_lock::{Change, Graph, Mark, MarkId, Retention, State, WorkerId};
+use resource_lock::{Change, Graph, LockId, Mark, MarkId, Retention, State, WorkerId};
 
 /// Begins to wait for the items of a queued action: the worker gives back its lease, and parks the
 /// task's lock unless the action retains it. The action's mark becomes Running.
@@ -72,17 +75,21 @@ impl FixedKind for Park {
         let lock = lock_of(work.graph(), action.task);
         let running = Mark::Running(work.worker());
         let moved = Change::Move(MarkId::Action(self.action), Mark::Queued, running);
-        match action.retention {
-            Retention::Retain => try_changes(work, &[Change::Give, moved]),
-            Retention::Release | Retention::ReleaseAndReacquire => try_changes(
-                work,
-                &[
-                    Change::Give,
-                    Change::Unlock(lock),
-                    Change::Park(lock),
-                    moved,
-                ],
-            ),
+        give_back(work, action.retention, lock) && try_change(work, moved)
+    }
+}
+
+/// Gives back the lease and, unless the retention keeps it, the lock, which is parked then.
+fn give_back(work: &mut Tentative, retention: Retention, lock: LockId) -> bool
+    requires in_range { IsLockOf work.old.state lock }
+    requires room { 3 ≤ work.old.room }
+    ensures made { Makes work.old work.new (on_park retention lock) result }
+    ensures few { length (on_park retention lock) ≤ 3 }
+{
+    match retention {
+        Retention::Retain => try_change(work, Change::Give),
+        Retention::Release | Retention::ReleaseAndReacquire => {
+            try_change(work, Change::Give) && park_lock(work, lock)
         }
     }
 }

@@ -1,18 +1,20 @@
 ghost use Rattle.std.specs.Prelude.{◌≡◌, ◌≤◌, ◌+◌, false, length};
 ghost use Rattle.std.specs.List.{list_all, range_with_len};
-ghost use Rattle.resource_lock.specs.StateView.{mark_of};
+ghost use Rattle.resource_lock.specs.StateView.{IsLockOf, mark_of};
 ghost use Rattle.lock_journal.specs.Allowed.{IsDisabled, IsFixedList};
-ghost use Rattle.lock_journal.specs.Table.{has_ended, is_enabled};
+ghost use Rattle.lock_journal.specs.Making.{Makes};
+ghost use Rattle.lock_journal.specs.Table.{has_ended, is_enabled, on_resume};
 ghost use Rattle.lock_journal.specs.declared.entries.Kind.TheVariants as kinds;
 ghost use Rattle.resource_lock.specs.declared.marks.MarkId.TheVariants as ids;
 
 use crate::entries::Kind;
 use crate::kinds::fixed::{FixedKind, Progress, run_fixed};
-use crate::kinds::making::try_changes;
+use crate::kinds::making::try_change;
+use crate::kinds::parking::unpark_lock;
 use crate::kinds::ranges::{Span, action_of, items_of, lock_of};
 use crate::tentatives::Tentative;
 use crate::transforms::{Disposition, Transform};
-use resource_lock::{Change, Graph, Mark, MarkId, Retention, State, WorkerId};
+use resource_lock::{Change, Graph, LockId, Mark, MarkId, Retention, State, WorkerId};
 
 /// Goes on after the items of an action have ended: the worker takes back what it gave back when it
 /// parked, or under Release only takes the lock off its parked list. The action's mark becomes
@@ -77,18 +79,22 @@ impl FixedKind for Resume {
         let lock = lock_of(work.graph(), action.task);
         let running = Mark::Running(work.worker());
         let moved = Change::Move(MarkId::Action(self.action), running, Mark::Passed);
-        match action.retention {
-            Retention::Retain => try_changes(work, &[Change::Take, moved]),
-            Retention::Release => try_changes(work, &[Change::Unpark(lock), moved]),
-            Retention::ReleaseAndReacquire => try_changes(
-                work,
-                &[
-                    Change::Unpark(lock),
-                    Change::Lock(lock),
-                    Change::Take,
-                    moved,
-                ],
-            ),
+        take_again(work, action.retention, lock) && try_change(work, moved)
+    }
+}
+
+/// Takes a lease and the parked lock again, or only takes the lock off the parked list, as the retention says.
+fn take_again(work: &mut Tentative, retention: Retention, lock: LockId) -> bool
+    requires in_range { IsLockOf work.old.state lock }
+    requires room { 3 ≤ work.old.room }
+    ensures made { Makes work.old work.new (on_resume retention lock) result }
+    ensures few { length (on_resume retention lock) ≤ 3 }
+{
+    match retention {
+        Retention::Retain => try_change(work, Change::Take),
+        Retention::Release => try_change(work, Change::Unpark(lock)),
+        Retention::ReleaseAndReacquire => {
+            unpark_lock(work, lock) && try_change(work, Change::Take)
         }
     }
 }

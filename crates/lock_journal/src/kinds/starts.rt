@@ -5,7 +5,7 @@ ghost use Rattle.lock_journal.specs.declared.entries.Kind.TheVariants as kinds;
 
 use crate::entries::Kind;
 use crate::kinds::fixed::{FixedKind, Progress, run_fixed};
-use crate::kinds::making::try_changes;
+use crate::kinds::making::try_change;
 use crate::kinds::ranges::{after_of, lock_of};
 use crate::tentatives::Tentative;
 use crate::transforms::{Disposition, Transform};
@@ -71,6 +71,8 @@ impl FixedKind for Start {
         let lock = lock_of(work.graph(), self.task);
         let running = Mark::Running(work.worker());
         let moved = Change::Move(MarkId::Task(self.task), Mark::Waiting, running);
-        try_changes(work, &[Change::Lock(lock), Change::Take, moved])
+        try_change(work, Change::Lock(lock))
+            && try_change(work, Change::Take)
+            && try_change(work, moved)
     }
 }

@@ -11,8 +11,9 @@ ghost use Rattle.resource_lock.specs.declared.marks.Mark.TheVariants as marks;
 
 use crate::entries::{Closed, Kind};
 use crate::kinds::fixed::{FixedKind, Progress, run_fixed};
-use crate::kinds::making::{try_change, try_changes};
+use crate::kinds::making::try_change;
 use crate::kinds::marks::mark_from;
+use crate::kinds::parking::unpark_lock;
 use crate::kinds::taking::take_all;
 use crate::tentatives::Tentative;
 use crate::transforms::{Disposition, Transform};
@@ -136,7 +137,7 @@ fn take_parked(work: &mut Tentative) -> bool
     let count = work.state().parked(work.worker()).len();
     for taken in 0..count {
         let lock = work.state().parked(work.worker())[count - 1 - taken];
-        if !try_changes(work, &[Change::Unpark(lock), Change::Lock(lock)]) {
+        if !unpark_lock(work, lock) {
             return false;
         }
     }

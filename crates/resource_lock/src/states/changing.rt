@@ -11,6 +11,7 @@ use crate::marks::{Mark, MarkId};
 
 impl State {
     /// Whether a worker can make a change now. The worker and what the change names are of the state.
+    #[inline(always)]
     pub fn can(&self, worker: WorkerId, change: Change) -> bool
         requires worker_in_range { IsWorkerOf self.now worker }
         requires change_in_range { NamesOnly self.now change }
@@ -39,6 +40,7 @@ impl State {
     }
 
     /// Makes a change that the worker can make. It takes no memory.
+    #[inline(always)]
     pub fn make(&mut self, worker: WorkerId, change: Change)
         requires worker_in_range { IsWorkerOf self.old worker }
         requires change_in_range { NamesOnly self.old change }

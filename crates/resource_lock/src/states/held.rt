@@ -35,6 +35,7 @@ pub(super) struct Held {
 
 impl Held {
     /// Notes a change of the worker.
+    #[inline(always)]
     pub(super) fn note(&mut self, worker: WorkerId, change: Change)
         requires { HasRoom worker self.old change }
         ensures { IsAfter worker change self.old self.new }
