@@ -1,6 +1,6 @@
 //! Bits in words.
 ghost use Rattle.std.specs.Int.{bit_at};
-ghost use Rattle.std.specs.Prelude.{◌≡◌, ◌≢◌, ◌<◌, ◌≤◌, ◌+◌, ◌*◌, ◌/◌, ◌^◌, ℕ, IfNone, IfOk, IfSome, length, slice_index_or};
+ghost use Rattle.std.specs.Prelude.{◌≡◌, ◌≢◌, ◌==◌, ◌<◌, ◌≤◌, ◌+◌, ◌*◌, ◌/◌, ◌^◌, ℕ, IfNone, IfOk, IfSome, length, slice_index_or};
 ghost use Rattle.ready_work.specs.Lowest.{IsFrom, IsLowest, IsNone};
 ghost use Rattle.ready_work.specs.WordBits.{bit_in, bit_of, HasBit, IsInWord};
 
@@ -38,16 +38,26 @@ impl Bits {
         self.words[place]
     }
 
-    /// Sets a bit, or clears it.
-    pub(crate) fn put(&mut self, number: usize, is_set: bool)
+    /// Whether a bit is set.
+    pub(crate) fn has(&self, number: usize) -> bool
+        requires { number / 64 < length self.now.words.items }
+        ensures { result ≡ (bit_in self.now.words.items number == 1) }
+    {
+        self.words[number / 64] >> (number % 64) & 1 == 1
+    }
+
+    /// Sets a bit, or clears it, and tells its word as it is then.
+    pub(crate) fn put(&mut self, number: usize, is_set: bool) -> u64
         requires { number / 64 < length self.old.words.items }
         ensures size { length self.new.words.items ≡ length self.old.words.items }
         ensures put { bit_in self.new.words.items number ≡ bit_of is_set }
         ensures bits { (k : ℕ) → k ≢ number → bit_in self.new.words.items k ≡ bit_in self.old.words.items k }
         ensures words { (i : ℕ) → i ≢ number / 64 → slice_index_or self.new.words.items i 0 ≡ slice_index_or self.old.words.items i 0 }
+        ensures word { result ≡ slice_index_or self.new.words.items (number / 64) 0 }
     {
-        let word = &mut self.words[number / 64];
-        *word = with_bit(*word, number % 64, is_set);
+        let word = with_bit(self.words[number / 64], number % 64, is_set);
+        self.words[number / 64] = word;
+        word
     }
 
     /// The lowest bit from a number on that is set.

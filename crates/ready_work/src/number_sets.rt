@@ -46,19 +46,19 @@ impl NumberSet {
         ensures put { has self.new number ≡ is_member }
         ensures others { (k : ℕ) → k ≢ number → has self.new k ≡ has self.old k }
     {
-        let place = number as usize / 64;
-        self.members.put(number as usize, is_member);
-        self.filled.put(place, self.members.word(place) != 0);
+        // Most numbers are as they are to be.
+        if self.contains(number) != is_member {
+            let word = self.members.put(number as usize, is_member);
+            self.filled.put(number as usize / 64, word != 0);
+        }
     }
 
     /// Whether a number is a member.
     pub fn contains(&self, number: u32) -> bool
+        requires { number < room_of self.now }
         ensures { result ≡ has self.now number }
     {
-        match self.members.next_in_word(number as usize) {
-            Some(next) => next == number as usize,
-            None => false,
-        }
+        self.members.has(number as usize)
     }
 
     /// The lowest member.

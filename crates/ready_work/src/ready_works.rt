@@ -113,8 +113,10 @@ impl ReadyWork {
     {
         match change {
             Change::Move(MarkId::Unit(unit), _, _) => {
-                self.queued.put(unit, is_queued(state, unit));
-                self.open_units.put(unit, is_open(state, unit));
+                let is_queued = is_queued(state, unit);
+                let is_open = is_open(state, unit);
+                self.queued.put(unit, is_queued);
+                self.open_units.put(unit, is_open);
             }
             Change::Move(MarkId::Task(task), from, to) => self.note_task(
                 graph, state, task, from, to,

@@ -85,6 +85,10 @@ impl StartableTasks {
         ensures put { has self.new.free lock ≡ is_free }
         ensures others { (l : ℕ) → l ≢ lock → has self.new.free l ≡ has self.old.free l }
     {
+        // Its lowest task is looked for only where the lock comes or goes.
+        if self.free.contains(lock) == is_free {
+            return;
+        }
         let lowest = self.lowest_with(lock);
         self.free.put(lock, is_free);
         if let Some(task) = lowest {

@@ -48,9 +48,11 @@ impl TaskSets {
         ensures tasks { LooksAt graph.now state.now (λ k. k ≡ task) self.old self.new }
         ensures free { SameNumbers self.old.startable.free self.new.startable.free }
     {
-        self.skippable.put(task, can_skip(graph, state, task));
-        self.startable.put(task, is_startable(graph, state, task));
+        let can_skip = can_skip(graph, state, task);
+        let is_startable = is_startable(graph, state, task);
         let has_ended = state.mark(MarkId::Task(task)).has_ended();
+        self.skippable.put(task, can_skip);
+        self.startable.put(task, is_startable);
         self.unended.put(task, !has_ended);
     }
 
