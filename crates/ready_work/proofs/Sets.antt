@@ -1,15 +1,15 @@
 -- A set of numbers by its words and their summary.
-use Rattle.std.proofs.Common.{◌≡◌, ◌≢◌, ℕ, ◌+◌, ◌*◌, ◌/◌, ◌^◌, ◌<◌, ◌≤◌, Bool, true, false, eqb, Option, None, Some, List, length, get_or, w64, refl, sym, ◌∙◌, subst, ap, arith, ◌⊎◌, inl, inr}
+use Rattle.std.proofs.Common.{◌≡◌, ◌≢◌, ℕ, ◌+◌, ◌-◌, ◌*◌, ◌/◌, ◌^◌, ◌<◌, ◌≤◌, Bool, true, false, not, ◌||◌, eqb, Option, None, Some, List, length, get_or, w64, sym, ◌∙◌, subst, ap, arith, ◌⊎◌, inl, inr}
 use Rattle.std.proofs.lemmas.List.{get_or_past}
 use Rattle.std.proofs.lemmas.List.FromFn.{get_or-map-range_with_len, length-map-range_with_len}
-use Rattle.std.proofs.lemmas.Bool.{cases_eq, cases_lt, eq-eqb, eqb-true, false_from_ne_true, ne_eqb}
+use Rattle.std.proofs.lemmas.Bool.{cases_eq, cases_lt, eq-eqb, eqb-false, eqb-true, ne_eqb, or_cases, or_parts}
 use Rattle.std.specs.Prelude.{IfNone}
 use Rattle.std.specs.Int.{trailing_zeros}
-use Rattle.ready_work.specs.WordBits.{bit_in, bit_of, HasBit, IsInWord}
+use Rattle.ready_work.specs.WordBits.{bit_in, HasBit, IsInWord}
 use Rattle.ready_work.specs.Lowest.{IsFrom, IsLowest, IsNone, NoneBelow}
 use Rattle.ready_work.specs.NumberSet.{Summarizes, set_in}
 use Rattle.ready_work.specs.NumberSetView.{has, room_of, set_where, IsMember}
-use Rattle.ready_work.proofs.Words.{NoneBefore, in_range, all_of_word, lowest_in_next, next_bit, none_in, none_in_all}
+use Rattle.ready_work.proofs.Words.{NoneBefore, bit_below_2, bit_of_zero, in_range, all_of_word, lowest_in_next, next_bit, none_in, none_in_all}
 
 -- words that are all 0
 pub summarizes_none : (words summary : List ℕ) → length words ≤ 2 ^ 26 → length summary ≤ 2 ^ 26 → length words ≤ 64 * length summary → ((i : ℕ) → get_or words i 0 ≡ 0) → ((i : ℕ) → get_or summary i 0 ≡ 0) → Summarizes words summary
@@ -61,13 +61,77 @@ room_set words = room_where (λ i. eqb (bit_in words i) 1) (64 * length words)
 pub none_has : (words : List ℕ) → ((i : ℕ) → get_or words i 0 ≡ 0) → (k : ℕ) → has (set_in words) k ≡ false
 none_has words none k = has_set words k ∙ ne_eqb (bit_in words k) 1 (λ bit. none_in words k (none (k / 64)) bit)
 
--- what a member is, as a bit
-pub put_member : (words : List ℕ) (k : ℕ) (b : Bool) → bit_in words k ≡ bit_of b → has (set_in words) k ≡ b
-put_member words k true is = has_set words k ∙ ap (λ bit. eqb bit 1) is
-put_member words k false is = has_set words k ∙ ap (λ bit. eqb bit 1) is
+-- a bit that was turned round makes a member none, or none a member
+pub flip_member : (old new : List ℕ) (k : ℕ) → bit_in new k ≡ 1 - bit_in old k → has (set_in new) k ≡ not (has (set_in old) k)
+flip_member old new k flipped = has_set new k ∙ at (cases_eq (bit_in old k) 1) ∙ ap not (sym (has_set old k))
+  where
+    at : (bit_in old k ≡ 1) ⊎ (bit_in old k ≡ 1 → ⊥) → eqb (bit_in new k) 1 ≡ not (eqb (bit_in old k) 1)
+    at (inl e) = ne_eqb (bit_in new k) 1 (λ f. absurd (omega (arith, e, f, flipped))) ∙ ap not (sym (eq-eqb (bit_in old k) 1 e))
+    at (inr ne) = eq-eqb (bit_in new k) 1 (omega (arith, ne, flipped, bit_below_2 old k)) ∙ ap not (sym (ne_eqb (bit_in old k) 1 ne))
 
 pub same_member : (old new : List ℕ) (k : ℕ) → bit_in new k ≡ bit_in old k → has (set_in new) k ≡ has (set_in old) k
 same_member old new k same = has_set new k ∙ ap (λ bit. eqb bit 1) same ∙ sym (has_set old k)
+
+-- ---- a bit that was turned round
+
+-- the word was not 0, and still isn't
+pub still_filled : (old new summary : List ℕ) (n : ℕ) → Summarizes old summary → length new ≡ length old → ((i : ℕ) → i ≢ n / 64 → get_or new i 0 ≡ get_or old i 0) → (eqb (get_or old (n / 64) 0) 0 || eqb (get_or new (n / 64) 0) 0) ≡ false → Summarizes new summary
+still_filled old new summary n is size others full = record {
+  few = let few = is.few in omega arith;
+  few_summaries = is.few_summaries;
+  size = let fits = is.size in omega arith;
+  filled = λ i bit. filled i bit (cases_eq i (n / 64));
+  noted = λ i some. noted i some (cases_eq i (n / 64));
+}
+  where
+    parts : (eqb (get_or old (n / 64) 0) 0 ≡ false) × (eqb (get_or new (n / 64) 0) 0 ≡ false)
+    parts = or_parts (eqb (get_or old (n / 64) 0) 0) (eqb (get_or new (n / 64) 0) 0) full
+
+    was : 0 < get_or old (n / 64) 0
+    was = let some = eqb-false (get_or old (n / 64) 0) 0 parts.0 in omega arith
+
+    still : 0 < get_or new (n / 64) 0
+    still = let some = eqb-false (get_or new (n / 64) 0) 0 parts.1 in omega arith
+
+    filled : (i : ℕ) → HasBit summary i → (i ≡ n / 64) ⊎ (i ≡ n / 64 → ⊥) → 0 < get_or new i 0
+    filled i bit (inl e) = subst (λ j. 0 < get_or new j 0) (sym e) still
+    filled i bit (inr ne) = omega (arith, is.filled i bit, others i ne)
+
+    noted : (i : ℕ) → 0 < get_or new i 0 → (i ≡ n / 64) ⊎ (i ≡ n / 64 → ⊥) → HasBit summary i
+    noted i some (inl e) = is.noted i (subst (λ j. 0 < get_or old j 0) (sym e) was)
+    noted i some (inr ne) = is.noted i (omega (arith, some, others i ne))
+
+-- the word was 0, or is 0 now, and its bit of the summary was turned round too
+pub filled_flipped : (old new summary turned : List ℕ) (n : ℕ) → Summarizes old summary → length new ≡ length old → length turned ≡ length summary → ((i : ℕ) → i ≢ n / 64 → get_or new i 0 ≡ get_or old i 0) → bit_in new n ≡ 1 - bit_in old n → (eqb (get_or old (n / 64) 0) 0 || eqb (get_or new (n / 64) 0) 0) ≡ true → bit_in turned (n / 64) ≡ 1 - bit_in summary (n / 64) → ((i : ℕ) → i ≢ n / 64 → bit_in turned i ≡ bit_in summary i) → Summarizes new turned
+filled_flipped old new summary turned n is size turned_size others flipped empty round rest = record {
+  few = let few = is.few in omega arith;
+  few_summaries = let few = is.few_summaries in omega arith;
+  size = let fits = is.size in omega arith;
+  filled = λ i bit. filled i bit (cases_eq i (n / 64));
+  noted = λ i some. noted i some (cases_eq i (n / 64));
+}
+  where
+    -- its bit of the summary was clear, so the word was 0
+    made : bit_in summary (n / 64) ≡ 0 → (get_or old (n / 64) 0 ≡ 0) ⊎ (get_or old (n / 64) 0 ≡ 0 → ⊥) → (get_or new (n / 64) 0 ≡ 0) ⊎ (get_or new (n / 64) 0 ≡ 0 → ⊥) → 0 < get_or new (n / 64) 0
+    made clear _ (inr some) = omega (arith, some)
+    made clear (inl was) (inl zero) = absurd (omega (arith, flipped, bit_of_zero old n was, bit_of_zero new n zero))
+    made clear (inr some) (inl zero) = absurd (omega (arith, clear, is.noted (n / 64) (omega (arith, some))))
+
+    filled : (i : ℕ) → HasBit turned i → (i ≡ n / 64) ⊎ (i ≡ n / 64 → ⊥) → 0 < get_or new i 0
+    filled i bit (inl e) = subst (λ j. 0 < get_or new j 0) (sym e) (made (omega (arith, bit, ap (bit_in turned) e, round, bit_below_2 summary (n / 64))) (cases_eq (get_or old (n / 64) 0) 0) (cases_eq (get_or new (n / 64) 0) 0))
+    filled i bit (inr ne) = omega (arith, is.filled i (sym (rest i ne) ∙ bit), others i ne)
+
+    unset : get_or old (n / 64) 0 ≡ 0 → HasBit summary (n / 64) → ⊥
+    unset was bit = absurd (omega (arith, was, is.filled (n / 64) bit))
+
+    set_now : 0 < get_or new (n / 64) 0 → (eqb (get_or old (n / 64) 0) 0 ≡ true) ⊎ (eqb (get_or new (n / 64) 0) 0 ≡ true) → (bit_in summary (n / 64) ≡ 1) ⊎ (bit_in summary (n / 64) ≡ 1 → ⊥) → HasBit turned (n / 64)
+    set_now some (inl was) (inl bit) = absurd (unset (eqb-true (get_or old (n / 64) 0) 0 was) bit)
+    set_now some (inl was) (inr clear) = omega (arith, clear, round, bit_below_2 summary (n / 64))
+    set_now some (inr zero) _ = absurd (omega (arith, some, eqb-true (get_or new (n / 64) 0) 0 zero))
+
+    noted : (i : ℕ) → 0 < get_or new i 0 → (i ≡ n / 64) ⊎ (i ≡ n / 64 → ⊥) → HasBit turned i
+    noted i some (inl e) = ap (bit_in turned) e ∙ set_now (subst (λ j. 0 < get_or new j 0) e some) (or_cases (eqb (get_or old (n / 64) 0) 0) (eqb (get_or new (n / 64) 0) 0) empty) (cases_eq (bit_in summary (n / 64)) 1)
+    noted i some (inr ne) = rest i ne ∙ is.noted i (omega (arith, some, others i ne))
 
 -- ---- the next member
 

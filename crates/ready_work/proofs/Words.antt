@@ -1,23 +1,24 @@
 -- Bits of a list of words: one word replaced, and the lowest bit.
-use Rattle.std.proofs.Common.{◌≡◌, ◌≢◌, ℕ, ◌+◌, ◌*◌, ◌/◌, ◌%◌, ◌^◌, ◌<◌, ◌≤◌, List, length, get_or, set, w64, refl, sym, ◌∙◌, ap, arith, ◌⊎◌, inl, inr}
+use Rattle.std.proofs.Common.{◌≡◌, ◌≢◌, ℕ, ◌+◌, ◌-◌, ◌*◌, ◌/◌, ◌%◌, ◌^◌, ◌<◌, ◌≤◌, List, length, get_or, set, w64, refl, sym, ◌∙◌, ap, arith, ◌⊎◌, inl, inr}
 use Rattle.std.specs.Int.{bit_at, trailing_zeros}
 use Rattle.std.proofs.lemmas.Bool.{cases_eq, cases_lt}
 use Rattle.std.proofs.lemmas.List.{get_or-set_same, get_or-set_other, get_or_past}
 use Rattle.std.proofs.lemmas.Nat.{div-mul-add, mod-mul-add}
-use Rattle.std.proofs.lemmas.Nat.Bits.{bit_at-trailing_zeros, bit_at-zero}
+use Rattle.std.proofs.lemmas.Nat.Bits.{bit_at-lt, bit_at-trailing_zeros, bit_at-zero}
 use Rattle.ready_work.specs.WordBits.{bit_in, HasBit, IsInWord}
 use Rattle.ready_work.specs.Lowest.{IsFrom, IsLowest, IsNone}
 
 word : List ℕ → ℕ → ℕ
 word words i = get_or words i 0
 
-pub put_same : (words : List ℕ) (n new : ℕ) → n / 64 < length words → bit_in (set words (n / 64) new) n ≡ bit_at new (n % 64)
+-- one word was replaced, in which one bit was turned round
+pub flip_same : (words : List ℕ) (n word new : ℕ) → n / 64 < length words → word ≡ get_or words (n / 64) 0 → bit_at new (n % 64) ≡ 1 - bit_at word (n % 64) → bit_in (set words (n / 64) new) n ≡ 1 - bit_in words n
 unfolding bit_in
-put_same words n new lt = ap (λ w. bit_at w (n % 64)) (get_or-set_same words (n / 64) new 0 lt)
+flip_same words n word new lt is flipped = ap (λ w. bit_at w (n % 64)) (get_or-set_same words (n / 64) new 0 lt) ∙ flipped ∙ ap (λ w. 1 - bit_at w (n % 64)) is
 
-pub put_other : (words : List ℕ) (n new k : ℕ) → n / 64 < length words → ((i : ℕ) → i < 64 → i ≢ n % 64 → bit_at new i ≡ bit_at (get_or words (n / 64) 0) i) → k ≢ n → bit_in (set words (n / 64) new) k ≡ bit_in words k
+pub flip_other : (words : List ℕ) (n word new : ℕ) → n / 64 < length words → word ≡ get_or words (n / 64) 0 → ((i : ℕ) → i < 64 → i ≢ n % 64 → bit_at new i ≡ bit_at word i) → (k : ℕ) → k ≢ n → bit_in (set words (n / 64) new) k ≡ bit_in words k
 unfolding bit_in
-put_other words n new k lt same ne = at (cases_eq (k / 64) (n / 64))
+flip_other words n word new lt is same k ne = at (cases_eq (k / 64) (n / 64))
   where
     at : (k / 64 ≡ n / 64) ⊎ (k / 64 ≡ n / 64 → ⊥) → bit_at (get_or (set words (n / 64) new) (k / 64) 0) (k % 64) ≡ bit_at (get_or words (k / 64) 0) (k % 64)
     at (inl e) =
@@ -25,13 +26,21 @@ put_other words n new k lt same ne = at (cases_eq (k / 64) (n / 64))
         ap (λ i. bit_at (get_or (set words (n / 64) new) i 0) (k % 64)) e
         ∙ ap (λ w. bit_at w (k % 64)) (get_or-set_same words (n / 64) new 0 lt)
         ∙ same (k % 64) (omega arith) apart
+        ∙ ap (λ w. bit_at w (k % 64)) is
         ∙ ap (λ i. bit_at (get_or words i 0) (k % 64)) (sym e)
     at (inr apart) = ap (λ w. bit_at w (k % 64)) (get_or-set_other words (n / 64) (k / 64) new 0 apart)
 
--- a word that is 0 has no bit
-pub none_in : (words : List ℕ) (k : ℕ) → get_or words (k / 64) 0 ≡ 0 → HasBit words k → ⊥
+pub bit_below_2 : (words : List ℕ) (k : ℕ) → bit_in words k < 2
 unfolding bit_in
-none_in words k zero has = absurd (omega (arith, has, ap (λ w. bit_at w (k % 64)) zero, bit_at-zero (k % 64)))
+bit_below_2 words k = bit_at-lt (get_or words (k / 64) 0) (k % 64)
+
+-- a word that is 0 has no bit
+pub bit_of_zero : (words : List ℕ) (k : ℕ) → get_or words (k / 64) 0 ≡ 0 → bit_in words k ≡ 0
+unfolding bit_in
+bit_of_zero words k zero = ap (λ w. bit_at w (k % 64)) zero ∙ bit_at-zero (k % 64)
+
+pub none_in : (words : List ℕ) (k : ℕ) → get_or words (k / 64) 0 ≡ 0 → HasBit words k → ⊥
+none_in words k zero has = absurd (omega (arith, has, bit_of_zero words k zero))
 
 pub in_range : (words : List ℕ) (k : ℕ) → length words ≤ k / 64 → HasBit words k → ⊥
 in_range words k past has = none_in words k (get_or_past words (k / 64) 0 past) has

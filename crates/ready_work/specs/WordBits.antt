@@ -1,14 +1,10 @@
 -- Bits of a list of words of 64 bits, numbered through all words.
-use Rattle.std.specs.Prelude.{ℕ, ◌≡◌, ◌/◌, ◌%◌, Bool, true, false, List, slice_index_or}
+use Rattle.std.specs.Prelude.{ℕ, ◌≡◌, ◌/◌, ◌%◌, List, slice_index_or}
 use Rattle.std.specs.Int.{bit_at}
 
 -- the bit of this number, 0 or 1
 unfoldable pub bit_in : List ℕ → ℕ → ℕ
 bit_in words k = bit_at (slice_index_or words (k / 64) 0) (k % 64)
-
-abbrev pub bit_of : Bool → ℕ
-bit_of true = 1
-bit_of false = 0
 
 abbrev pub HasBit : List ℕ → ℕ → Type 0
 HasBit words k = bit_in words k ≡ 1

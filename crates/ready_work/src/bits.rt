@@ -1,8 +1,8 @@
 //! Bits in words.
 ghost use Rattle.std.specs.Int.{bit_at};
-ghost use Rattle.std.specs.Prelude.{◌≡◌, ◌≢◌, ◌==◌, ◌<◌, ◌≤◌, ◌+◌, ◌*◌, ◌/◌, ◌^◌, ℕ, IfNone, IfOk, IfSome, length, slice_index_or};
+ghost use Rattle.std.specs.Prelude.{◌≡◌, ◌≢◌, ◌==◌, ◌||◌, ◌<◌, ◌≤◌, ◌+◌, ◌-◌, ◌*◌, ◌/◌, ◌^◌, ℕ, IfNone, IfOk, IfSome, length, slice_index_or};
 ghost use Rattle.ready_work.specs.Lowest.{IsFrom, IsLowest, IsNone};
-ghost use Rattle.ready_work.specs.WordBits.{bit_in, bit_of, HasBit, IsInWord};
+ghost use Rattle.ready_work.specs.WordBits.{bit_in, HasBit, IsInWord};
 
 use std::alloc::{AllocError, Global};
 
@@ -46,18 +46,19 @@ impl Bits {
         self.words[number / 64] >> (number % 64) & 1 == 1
     }
 
-    /// Sets a bit, or clears it, and tells its word as it is then.
-    pub(crate) fn put(&mut self, number: usize, is_set: bool) -> u64
+    /// Turns a bit round, and tells whether its word was 0 or is 0 now.
+    pub(crate) fn flip(&mut self, number: usize) -> bool
         requires { number / 64 < length self.old.words.items }
         ensures size { length self.new.words.items ≡ length self.old.words.items }
-        ensures put { bit_in self.new.words.items number ≡ bit_of is_set }
+        ensures flipped { bit_in self.new.words.items number ≡ 1 - bit_in self.old.words.items number }
         ensures bits { (k : ℕ) → k ≢ number → bit_in self.new.words.items k ≡ bit_in self.old.words.items k }
         ensures words { (i : ℕ) → i ≢ number / 64 → slice_index_or self.new.words.items i 0 ≡ slice_index_or self.old.words.items i 0 }
-        ensures word { result ≡ slice_index_or self.new.words.items (number / 64) 0 }
+        ensures empty { result ≡ ((slice_index_or self.old.words.items (number / 64) 0 == 0) || (slice_index_or self.new.words.items (number / 64) 0 == 0)) }
     {
-        let word = with_bit(self.words[number / 64], number % 64, is_set);
-        self.words[number / 64] = word;
-        word
+        let word = self.words[number / 64];
+        let flipped = with_bit_flipped(word, number % 64);
+        self.words[number / 64] = flipped;
+        word == 0 || flipped == 0
     }
 
     /// The lowest bit from a number on that is set.
@@ -107,15 +108,11 @@ fn bits_from(word: u64, place: usize) -> u64
     word & (u64::MAX << place)
 }
 
-/// The word with one bit set or cleared.
-fn with_bit(word: u64, place: usize, is_set: bool) -> u64
+/// The word with one bit turned round.
+fn with_bit_flipped(word: u64, place: usize) -> u64
     requires { place < 64 }
-    ensures put { bit_at result place ≡ bit_of is_set }
+    ensures flipped { bit_at result place ≡ 1 - bit_at word place }
     ensures others { (i : ℕ) → i < 64 → i ≢ place → bit_at result i ≡ bit_at word i }
 {
-    if is_set {
-        word | (1 << place)
-    } else {
-        word & !(1 << place)
-    }
+    word ^ (1 << place)
 }

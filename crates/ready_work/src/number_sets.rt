@@ -1,5 +1,5 @@
 //! Sets of numbers.
-ghost use Rattle.std.specs.Prelude.{◌≡◌, ◌≢◌, ◌<◌, ◌≤◌, ◌^◌, ℕ, false, IfNone, IfOk, IfSome};
+ghost use Rattle.std.specs.Prelude.{◌≡◌, ◌≢◌, ◌<◌, ◌≤◌, ◌^◌, ℕ, false, not, IfNone, IfOk, IfSome};
 ghost use Rattle.ready_work.specs.Lowest.{IsFrom, IsLowest, IsNone};
 ghost use Rattle.ready_work.specs.NumberSetView.{has, room_of, IsMember};
 
@@ -48,8 +48,19 @@ impl NumberSet {
     {
         // Most numbers are as they are to be.
         if self.contains(number) != is_member {
-            let word = self.members.put(number as usize, is_member);
-            self.filled.put(number as usize / 64, word != 0);
+            self.flip(number);
+        }
+    }
+
+    /// Makes a number a member where it is none, and none where it is one.
+    fn flip(&mut self, number: u32)
+        requires { number < room_of self.old }
+        ensures room { room_of self.new ≡ room_of self.old }
+        ensures flipped { has self.new number ≡ not (has self.old number) }
+        ensures others { (k : ℕ) → k ≢ number → has self.new k ≡ has self.old k }
+    {
+        if self.members.flip(number as usize) {
+            self.filled.flip(number as usize / 64);
         }
     }
 

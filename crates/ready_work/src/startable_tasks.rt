@@ -85,10 +85,6 @@ impl StartableTasks {
         ensures put { has self.new.free lock ≡ is_free }
         ensures others { (l : ℕ) → l ≢ lock → has self.new.free l ≡ has self.old.free l }
     {
-        // Its lowest task is looked for only where the lock comes or goes.
-        if self.free.contains(lock) == is_free {
-            return;
-        }
         let lowest = self.lowest_with(lock);
         self.free.put(lock, is_free);
         if let Some(task) = lowest {
@@ -122,10 +118,13 @@ impl StartableTasks {
         ensures { PutsTask self.old self.new task is_startable }
     {
         let lock = self.order.lock(task);
-        let is_free = self.free.contains(lock);
+        if !self.free.contains(lock) {
+            self.put_closed(task, is_startable);
+            return;
+        }
         self.put_lock(lock, false);
         self.put_closed(task, is_startable);
-        self.put_lock(lock, is_free);
+        self.put_lock(lock, true);
     }
 
     /// Makes a task whose lock isn't free a member, or none. The heads stay.

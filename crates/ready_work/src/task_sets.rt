@@ -52,8 +52,8 @@ impl TaskSets {
         let is_startable = is_startable(graph, state, task);
         let has_ended = state.mark(MarkId::Task(task)).has_ended();
         self.skippable.put(task, can_skip);
-        self.startable.put(task, is_startable);
         self.unended.put(task, !has_ended);
+        self.startable.put(task, is_startable);
     }
 
     /// Looks at several tasks.

@@ -1,4 +1,4 @@
-use Rattle.std.proofs.Common.{◌≡◌, ◌<◌, rules, refl, sym, subst, ap, ◌∙◌, arith}
+use Rattle.std.proofs.Common.{refl, sym, subst, ap, ◌∙◌, arith}
 use Rattle.ready_work.specs.Lowest.{IsLowest, IsNone}
 use Rattle.ready_work.specs.NumberSetView.{has}
 use Rattle.ready_work.specs.StartableTasksView.{StartableTasksView, IsWith}
@@ -6,16 +6,6 @@ use Rattle.ready_work.specs.StartableTasks.{tasks_at}
 use Rattle.ready_work.proofs.Heads.{after_lock, puts_lowest, puts_none, room_locks, stands_in}
 use Rattle.ready_work.proofs.Sets.{has_where, room_where, same_where}
 use Rattle.ready_work.proofs.startable_tasks.StartableTasks.put_lock.Goals as goal
-
-pub contains-requires : goal.contains-requires
-contains-requires c = omega (arith, c.requires, room_locks c.self.inside c.args.self.now c.self.view_is, c.self.invariant.free_room)
-
--- the lock is as it is to be
-pub returns-then-contains-is_free-clause-put : goal.returns-then-contains-is_free-clause-put
-returns-then-contains-is_free-clause-put c =
-    let within : c.args.lock < c.self.inside.order.lock_count = omega (arith, c.requires, room_locks c.self.inside c.args.self.now c.self.view_is) in
-    let is : has c.args.self.now.free c.args.lock ≡ c.contains.result = ap (λ (all : StartableTasksView). has all.free c.args.lock) (sym c.self.view_is) ∙ has_where (has c.self.inside.free) c.self.inside.order.lock_count c.args.lock within ∙ sym c.contains.ensures in
-    search rules
 
 pub put-requires : goal.put-requires
 put-requires c = omega (arith, c.requires, room_locks c.self.inside c.args.self.now c.self.view_is, c.self.invariant.free_room)

@@ -9,7 +9,7 @@ returns-clause-tasks c =
     let s = c.args.state.now in
     let old = c.args.self.now in record {
       skippable = looks_put (CanSkip g s) c.args.task c.can_skip-can_skip.result old.skippable c.put.new.self c.put.ensures.room c.put.ensures.put c.put.ensures.others c.can_skip-can_skip.ensures;
-      startable = looks_put (IsStartable g s) c.args.task c.is_startable-is_startable.result old.startable.tasks c.put-2.new.self.tasks c.put-2.ensures.room c.put-2.ensures.put c.put-2.ensures.others c.is_startable-is_startable.ensures;
-      unended = looks_put (IsUnended g s) c.args.task _ old.unended c.put-3.new.self c.put-3.ensures.room c.put-3.ensures.put c.put-3.ensures.others (unended_right g s c.args.task c.mark.result c.has_ended-has_ended.result c.requires.within c.mark.ensures c.has_ended-has_ended.ensures);
-      locks = c.put-2.ensures.locks;
+      startable = looks_put (IsStartable g s) c.args.task c.is_startable-is_startable.result old.startable.tasks c.put-3.new.self.tasks c.put-3.ensures.room c.put-3.ensures.put c.put-3.ensures.others c.is_startable-is_startable.ensures;
+      unended = looks_put (IsUnended g s) c.args.task _ old.unended c.put-2.new.self c.put-2.ensures.room c.put-2.ensures.put c.put-2.ensures.others (unended_right g s c.args.task c.mark.result c.has_ended-has_ended.result c.requires.within c.mark.ensures c.has_ended-has_ended.ensures);
+      locks = c.put-3.ensures.locks;
     }
