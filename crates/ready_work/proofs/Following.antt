@@ -244,9 +244,9 @@ looked_at_lock g s c lock old new no_unit no_task own same free tasks = record {
   free = looks_fewer (IsFree g s) (λ l. l ≡ lock.0) (TouchesLock c) old.tasks.startable.free new.tasks.startable.free own free;
 }
 
-pub noted_lock : (g : GraphView) (s : StateView) (c : Change) (lock seen : LockId) (old new : ReadyWork) → (c ≡ Lock lock) ⊎ (c ≡ Unlock lock) → seen ≡ lock → new ≡ record old { tasks = new.tasks } → Looks (IsFree g s) (λ l. l ≡ seen.0) old.tasks.startable.free new.tasks.startable.free → LooksAt g s NoNumber old.tasks new.tasks → Notes g s c old new
-noted_lock g s c lock seen old new (inl is) e same free tasks = subst (λ (d : Change). Notes g s d old new) (sym is) (looked_at_lock g s (Lock lock) seen old new (λ k t. t) (λ k t. t) (λ k own. own ∙ ap (λ (l : LockId). l.0) (sym e)) same free tasks)
-noted_lock g s c lock seen old new (inr is) e same free tasks = subst (λ (d : Change). Notes g s d old new) (sym is) (looked_at_lock g s (Unlock lock) seen old new (λ k t. t) (λ k t. t) (λ k own. own ∙ ap (λ (l : LockId). l.0) (sym e)) same free tasks)
+pub noted_lock : (g : GraphView) (s : StateView) (c : Change) (lock : LockId) (old new : ReadyWork) → (c ≡ Lock lock) ⊎ (c ≡ Unlock lock) → new ≡ record old { tasks = new.tasks } → Looks (IsFree g s) (λ l. l ≡ lock.0) old.tasks.startable.free new.tasks.startable.free → LooksAt g s NoNumber old.tasks new.tasks → Notes g s c old new
+noted_lock g s c lock old new (inl is) same free tasks = subst (λ (d : Change). Notes g s d old new) (sym is) (looked_at_lock g s (Lock lock) lock old new (λ k t. t) (λ k t. t) (λ k own. own) same free tasks)
+noted_lock g s c lock old new (inr is) same free tasks = subst (λ (d : Change). Notes g s d old new) (sym is) (looked_at_lock g s (Unlock lock) lock old new (λ k t. t) (λ k t. t) (λ k own. own) same free tasks)
 
 all_at : (s : StateView) (cs : List Change) (i : ℕ) (d : Change) → AllByRecursion (NamesOnly s) cs → i < length cs → NamesOnly s (get_or cs i d)
 all_at s [] i d all lt = absurd (omega arith)

@@ -60,7 +60,7 @@ impl ReadyWork {
         ensures { IsIndexOf graph.now state.now self.new }
     {
         for change in changes {
-            self.note(graph, state, *change);
+            self.note(graph, state, change);
         }
     }
 
@@ -105,13 +105,13 @@ impl ReadyWork {
     }
 
     /// Looks at what a change touches, in the state that all changes lead to.
-    fn note(&mut self, graph: &Graph, state: &State, change: Change)
+    fn note(&mut self, graph: &Graph, state: &State, change: &Change)
         requires made { IsMadeFor graph.now self.old }
         requires belongs { BelongsTo graph.now state.now }
-        requires named { NamesOnly state.now change }
-        ensures { Notes graph.now state.now change self.old self.new }
+        requires named { NamesOnly state.now change.now }
+        ensures { Notes graph.now state.now change.now self.old self.new }
     {
-        match change {
+        match *change {
             Change::Move(MarkId::Unit(unit), _, _) => {
                 let is_queued = is_queued(state, unit);
                 let is_open = is_open(state, unit);
