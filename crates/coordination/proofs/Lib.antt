@@ -15,3 +15,4 @@ pub mod Rests
 pub mod Totals
 pub mod Together
 pub mod FirstSights
+pub mod Sleeping

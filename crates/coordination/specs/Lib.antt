@@ -10,3 +10,4 @@ pub mod Rising
 pub mod Parts
 pub mod Passes
 pub mod Together
+pub mod Wakes

@@ -2,7 +2,7 @@
 ghost use Rattle.std.specs.Prelude.{◌≡◌, ◌<◌, IfNone, IfSome};
 ghost use Rattle.coordination.specs.Attempts.{Asked, Attempted};
 ghost use Rattle.coordination.specs.Sights.{hearing};
-ghost use Rattle.worker_choices.specs.Wakes.{last_lets_go_on};
+ghost use Rattle.coordination.specs.Wakes.{AreWakesOf};
 
 use crate::passes::Pass;
 use crate::questions::Question;
@@ -25,7 +25,7 @@ impl Slot {
         ensures same { pass.new.service ≡ pass.old.service }
         ensures none { IfNone result (pass.new.sight ≡ pass.old.sight) }
         ensures some { IfSome result (λ r. Attempted (T.kind_of transform.now) (T.makes transform.now) (T.fails_on transform.now) (T.retries_on transform.now) pass.old.sight pass.new.sight r.0) }
-        ensures frees { IfSome result (λ r. r.1.transforms ≡ last_lets_go_on pass.new.sight.seen.history) }
+        ensures wakes { IfSome result (λ r. AreWakesOf pass.new.sight.seen sleepers.now r.1) }
     {
         if !self.try_take(&mut pass.seat) {
             return None;

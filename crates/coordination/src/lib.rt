@@ -14,6 +14,7 @@ mod seats;
 mod services;
 mod sleepers;
 mod slots;
+mod waiters;
 
 pub use halts::Halt;
 pub use laws::{openings_are_at_rest, sound_books_have_good_states};

@@ -170,9 +170,9 @@ impl Coordination {
     ) -> MutexGuard<'a, Sleepers> {
         match (awaited, self.own.get(worker.0 as usize)) {
             (Some(_), Some(own)) => {
-                guard.note(worker, awaited);
+                guard.waiters.note(worker, awaited);
                 let mut guard = own.wait(rt, guard);
-                guard.note(worker, None);
+                guard.waiters.note(worker, None);
                 guard
             }
             (None, _) | (_, None) => {
@@ -182,12 +182,15 @@ impl Coordination {
         }
     }
 
-    // Lets the state lock go after an entry, and wakes whom it wakes. Where it wakes one worker or none,
-    // it touches no Condvar on which nobody sleeps.
+    // Lets the state lock go after an entry, and wakes whom it wakes. Where that is nobody, it touches no
+    // Condvar.
     fn wake_after_entry(&self, mut guard: MutexGuard<'_, Sleepers>, wakes: Wakes) {
-        let (questions, wakes) = guard.take(wakes);
+        if wakes == Wakes::NOBODY {
+            return;
+        }
+        guard.note_awake(wakes);
         drop(guard);
-        if questions {
+        if wakes.questions {
             self.entered.notify_all();
         }
         if wakes.transforms {
@@ -226,11 +229,7 @@ impl Coordination {
             None => pass.stopped = true,
             Some(by) => pass.stopped_by = Some(by),
         }
-        let all = Wakes {
-            transforms: true,
-            workers: Woken::All,
-        };
-        self.wake_after_entry(guard, all);
+        self.wake_after_entry(guard, Wakes::ALL);
     }
 
     /// Takes the book out for good. Every pass agrees with it, and together their entries and closings

@@ -1,11 +1,11 @@
 //! Who sleeps, and whom an entry wakes.
-ghost use Rattle.std.specs.Prelude.{◌≡◌};
-ghost use Rattle.worker_choices.specs.Wakes.{last_lets_go_on};
+ghost use Rattle.std.specs.Prelude.{◌≡◌, ◌&&◌, IfOk, None, false, not, replicate};
+ghost use Rattle.coordination.specs.Wakes.{AreWakesOf, awaited_after};
 
+use crate::waiters::Waiters;
 use lock_journal::Book;
-use resource_lock::WorkerId;
 use std::alloc::{AllocError, Global};
-use worker_choices::{Awaited, Woken, last_lets_go_on, whom_to_wake};
+use worker_choices::{Woken, last_lets_go_on};
 
 /// Who may be asleep.
 #[derive(Debug, Drop)]
@@ -14,74 +14,72 @@ pub struct Sleepers {
     pub transforms: bool,
     /// Whether a question is that waits for any entry.
     pub questions: bool,
-    /// What each worker waits for that sleeps until it comes, by worker.
-    pub awaited: Vec<Option<Awaited>>,
+    /// The workers else, each with what it waits for.
+    pub waiters: Waiters,
 }
 
-/// Whom an entry wakes, besides the questions that wait for any entry.
-#[derive(Clone, Copy, Debug)]
+/// Whom an entry wakes of those that sleep.
+#[derive(Clone, Copy, Debug, PartialEq)]
 pub struct Wakes {
+    /// The transforms, or none of them.
     pub transforms: bool,
+    /// The questions that wait for any entry, or none of them.
+    pub questions: bool,
+    /// Workers that wait for something else.
     pub workers: Woken,
+}
+
+impl Wakes {
+    pub const NOBODY: Wakes = Wakes {
+        transforms: false,
+        questions: false,
+        workers: Woken::Nobody,
+    };
+
+    pub const ALL: Wakes = Wakes {
+        transforms: true,
+        questions: true,
+        workers: Woken::All,
+    };
 }
 
 impl Sleepers {
     // Nobody of so many workers.
-    pub fn nobody(alloc: Global, workers: u32) -> Result<Sleepers, AllocError> {
-        let mut awaited = Vec::with_capacity(alloc, workers as usize)?;
-        for _ in 0..workers {
-            awaited.push(None)?;
-        }
+    pub fn nobody(alloc: Global, workers: u32) -> Result<Sleepers, AllocError>
+        ensures transforms { IfOk result (λ sleepers. sleepers.transforms ≡ false) }
+        ensures questions { IfOk result (λ sleepers. sleepers.questions ≡ false) }
+        ensures workers { IfOk result (λ sleepers. sleepers.waiters ≡ replicate workers None) }
+    {
         Ok(Sleepers {
             transforms: false,
             questions: false,
-            awaited,
+            waiters: Waiters::awake(alloc, workers)?,
         })
     }
 
-    // Notes what a worker waits for, or that it is awake.
-    pub fn note(&mut self, worker: WorkerId, awaited: Option<Awaited>) {
-        if let Some(place) = self.awaited.get_mut(worker.0 as usize) {
-            *place = awaited;
-        }
-    }
-
-    // Notes that these workers are awake.
-    fn note_awake(&mut self, workers: Woken) {
-        match workers {
+    // Notes that these are awake.
+    pub fn note_awake(&mut self, wakes: Wakes)
+        ensures transforms { self.new.transforms ≡ (self.old.transforms && not wakes.transforms) }
+        ensures questions { self.new.questions ≡ (self.old.questions && not wakes.questions) }
+        ensures workers { self.new.waiters ≡ awaited_after wakes.workers self.old.waiters }
+    {
+        self.transforms = self.transforms && !wakes.transforms;
+        self.questions = self.questions && !wakes.questions;
+        match wakes.workers {
             Woken::Nobody => {}
-            Woken::One(worker) => self.note(worker, None),
-            Woken::All => {
-                for place in &mut self.awaited {
-                    *place = None;
-                }
-            }
+            Woken::One(worker) => self.waiters.note(worker, None),
+            Woken::All => self.waiters.note_all_awake(),
         }
-    }
-
-    // Whom to wake of those that an entry wakes. They aren't asleep any more.
-    pub fn take(&mut self, wakes: Wakes) -> (bool, Wakes) {
-        let questions = self.questions;
-        let transforms = self.transforms && wakes.transforms;
-        self.questions = false;
-        self.transforms = self.transforms && !transforms;
-        self.note_awake(wakes.workers);
-        (
-            questions,
-            Wakes {
-                transforms,
-                workers: wakes.workers,
-            },
-        )
     }
 }
 
-// Whom the book's last entry wakes.
+// Whom the book's last entry wakes. Nobody is looked for where nobody sleeps.
 pub fn wakes_of(book: &Book, sleepers: &Sleepers) -> Wakes
-    ensures { result.transforms ≡ last_lets_go_on book.now.history }
+    ensures { AreWakesOf book.now sleepers.now result }
 {
     Wakes {
-        transforms: last_lets_go_on(book),
-        workers: whom_to_wake(book, &sleepers.awaited),
+        transforms: sleepers.transforms && last_lets_go_on(book),
+        questions: sleepers.questions,
+        workers: sleepers.waiters.whom_to_wake(book),
     }
 }

@@ -5,7 +5,7 @@ ghost use Rattle.coordination.specs.Agrees.{IsSound};
 ghost use Rattle.coordination.specs.Parts.{HasRoom, IsPartOf, marks_of};
 ghost use Rattle.coordination.specs.Rule.{AddsOwn, Hears, Taken, carried_book};
 ghost use Rattle.coordination.specs.Sights.{holding, one, seeing, sight_of, stopping};
-ghost use Rattle.worker_choices.specs.Wakes.{last_lets_go_on};
+ghost use Rattle.coordination.specs.Wakes.{AreWakesOf};
 
 use crate::parts::Part;
 use crate::questions::Question;
@@ -58,7 +58,7 @@ impl Slot {
         ensures ran { Ran (T.kind_of transform.now) (T.makes transform.now) (T.fails_on transform.now) (T.retries_on transform.now) worker (carried_book seat.old.me.1) (carried_book seat.new.me.1) result.0 }
         ensures part { IsPartOf (carried_book seat.new.me.1) worker part.new }
         ensures room { HasRoom (carried_book seat.new.me.1).graph.locks (marks_of (carried_book seat.new.me.1).graph) part.new }
-        ensures frees { result.1.transforms ≡ last_lets_go_on (carried_book seat.new.me.1).history }
+        ensures wakes { AreWakesOf (carried_book seat.new.me.1) sleepers.now result.1 }
     {
         let book = seat.slot_mut(&self.table.shared, 0);
         let ran = book.run(worker, transform);
