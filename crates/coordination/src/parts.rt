@@ -59,6 +59,7 @@ impl Part {
     }
 
     // Follows the book, on which a transform of the worker was run.
+    #[inline]
     pub fn follow(&mut self, worker: WorkerId, book: &Book, ran: &Result<Disposition, AllocError>)
         requires { (before : BookView) × Follows worker before book.now ran.now self.old }
         ensures part { IsPartOf book.now worker self.new }

@@ -184,10 +184,16 @@ impl Coordination {
 
     // Lets the state lock go after an entry, and wakes whom it wakes. Where that is nobody, it touches no
     // Condvar.
-    fn wake_after_entry(&self, mut guard: MutexGuard<'_, Sleepers>, wakes: Wakes) {
-        if wakes == Wakes::NOBODY {
-            return;
+    #[inline]
+    fn wake_after_entry(&self, guard: MutexGuard<'_, Sleepers>, wakes: Wakes) {
+        if wakes != Wakes::NOBODY {
+            self.wake(guard, wakes);
         }
+    }
+
+    // Lets the state lock go, and wakes these. It stands apart, so that an entry that wakes nobody passes it by.
+    #[inline(never)]
+    fn wake(&self, mut guard: MutexGuard<'_, Sleepers>, wakes: Wakes) {
         guard.note_awake(wakes);
         drop(guard);
         if wakes.questions {

@@ -74,6 +74,7 @@ impl Sleepers {
 }
 
 // Whom the book's last entry wakes. Nobody is looked for where nobody sleeps.
+#[inline]
 pub fn wakes_of(book: &Book, sleepers: &Sleepers) -> Wakes
     ensures { AreWakesOf book.now sleepers.now result }
 {

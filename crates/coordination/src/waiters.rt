@@ -67,12 +67,21 @@ impl Waiters {
     }
 
     // Whom of them the book's last entry wakes. Where none sleeps, it doesn't look at the book.
+    #[inline]
     pub fn whom_to_wake(&self, book: &Book) -> Woken
         ensures { IsWokenBy book.now self.now result }
     {
         if self.are_awake() {
             return Woken::Nobody;
         }
+        self.look_for_one(book)
+    }
+
+    // The same by a look at the book.
+    #[inline(never)]
+    fn look_for_one(&self, book: &Book) -> Woken
+        ensures { IsWokenBy book.now self.now result }
+    {
         whom_to_wake(book, &self.awaited)
     }
 }
