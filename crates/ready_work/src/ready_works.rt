@@ -27,10 +27,10 @@ use task_ranks::dependents_at;
 /// that haven't ended, of a graph and its state. It takes memory only when it is made.
 #[derive(Debug, Drop)]
 pub struct ReadyWork {
+    tasks: TaskSets,
     queued: NumberSet,
     /// The units that haven't ended.
     open_units: NumberSet,
-    tasks: TaskSets,
     /// For each task, the tasks that come after it.
     dependents: Vec<Vec<usize>>,
 }
@@ -46,9 +46,9 @@ impl ReadyWork {
         let tasks = TaskSets::of(alloc, graph, state)?;
         let dependents = all_dependents(alloc, graph)?;
         Ok(ReadyWork {
+            tasks,
             queued,
             open_units,
-            tasks,
             dependents,
         })
     }

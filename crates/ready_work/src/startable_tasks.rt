@@ -113,6 +113,7 @@ impl StartableTasks {
 
     /// Makes a task a member, or none. Its lock isn't free meanwhile, so no task of the lock is a
     /// head.
+    #[inline(never)]
     fn change(&mut self, task: u32, is_startable: bool)
         requires { task < room_of self.old.tasks }
         ensures { PutsTask self.old self.new task is_startable }

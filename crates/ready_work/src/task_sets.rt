@@ -11,11 +11,11 @@ use crate::startable_tasks::StartableTasks;
 use resource_lock::{Graph, MarkId, State};
 use std::alloc::{AllocError, Global};
 
-/// The tasks that can be skipped, those that can be started, and those that haven't ended.
+/// The tasks that can be started, those that can be skipped, and those that haven't ended.
 #[derive(Debug, Drop)]
 pub(crate) struct TaskSets {
-    pub(crate) skippable: NumberSet,
     pub(crate) startable: StartableTasks,
+    pub(crate) skippable: NumberSet,
     pub(crate) unended: NumberSet,
 }
 
@@ -30,8 +30,8 @@ impl TaskSets {
     {
         let count = graph.tasks().len() as u32;
         let mut sets = TaskSets {
-            skippable: NumberSet::new(alloc, count)?,
             startable: StartableTasks::none(alloc, graph, state)?,
+            skippable: NumberSet::new(alloc, count)?,
             unended: NumberSet::new(alloc, count)?,
         };
         for task in 0..count {
