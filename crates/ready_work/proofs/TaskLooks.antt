@@ -7,11 +7,11 @@ use Rattle.resource_lock.specs.Marks.{has_ended}
 use Rattle.resource_lock.specs.StateView.{StateView, mark_of}
 use Rattle.resource_lock.specs.declared.marks.Mark.{Mark}
 use Rattle.resource_lock.specs.declared.marks.MarkId.TheVariants.{Task as TaskOf}
-use Rattle.ready_work.specs.Choices.{CanSkip, IsFree, IsStartable, IsUnended}
+use Rattle.ready_work.specs.Choices.{CanSkip, IsStartable, IsUnended}
 use Rattle.ready_work.specs.NumberSetView.{has}
 use Rattle.ready_work.specs.Sets.{NoNumber, SameNumbers}
 use Rattle.ready_work.specs.StartableTasksView.{StartableTasksView}
-use Rattle.ready_work.specs.TaskSets.{AreTaskSets, AreTaskSetsBelow, HasLocks, HasTaskRoom, LooksAt}
+use Rattle.ready_work.specs.TaskSets.{AreTaskSets, AreTaskSetsBelow, HasClosedLocks, HasTaskRoom, LooksAt}
 use Rattle.ready_work.specs.declared.task_sets.TaskSets.{TaskSets}
 use Rattle.ready_work.proofs.Looking.{all_below, looks_fewer, looks_nowhere, looks_then, none_below, one_below, set_closed, set_looked, set_same}
 
@@ -94,10 +94,18 @@ all_tasks_below g s n sets all are = record {
   unended = all_below (IsUnended g s) n sets.unended (λ k p. let a = p.within in omega arith) are.unended;
 }
 
--- the tasks keep their locks while none is taken or given back
-pub locks_kept : (g : GraphView) (s : StateView) (old new : StartableTasksView) → new.locks ≡ old.locks → SameNumbers old.free new.free → HasLocks g s old → HasLocks g s new
-locks_kept g s old new locks same has = record {
+-- the tasks keep their locks while none is given
+pub closed_kept : (g : GraphView) (old new : StartableTasksView) → new.locks ≡ old.locks → SameNumbers old.free new.free → HasClosedLocks g old → HasClosedLocks g new
+closed_kept g old new locks same has = record {
   locks = locks ∙ has.locks;
   room = let a = has.room in let b = same.room in omega arith;
-  free = set_same (IsFree g s) NoNumber old.free new.free same has.free;
+  closed = λ l. same.members l ∙ has.closed l;
+}
+
+-- the startable tasks are the same while locks are given
+pub sets_kept : (g : GraphView) (s : StateView) (Open : ℕ → Type 0) (sets : TaskSets) (startable : StartableTasksView) → SameNumbers sets.startable.tasks startable.tasks → AreTaskSets g s Open sets → AreTaskSets g s Open (record sets { startable = startable })
+sets_kept g s Open sets startable same are = record {
+  skippable = are.skippable;
+  startable = set_same (IsStartable g s) Open sets.startable.tasks startable.tasks same are.startable;
+  unended = are.unended;
 }

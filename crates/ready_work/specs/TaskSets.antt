@@ -1,12 +1,18 @@
 -- The sets of tasks, and how tasks are looked at.
-use Rattle.std.specs.Prelude.{ℕ, ◌≡◌, ◌≤◌, map}
+use Rattle.std.specs.Prelude.{ℕ, ◌≡◌, ◌≤◌, false, map}
 use Rattle.resource_lock.specs.GraphView.{GraphView}
 use Rattle.resource_lock.specs.StateView.{StateView}
 use Rattle.ready_work.specs.Choices.{CanSkip, IsFree, IsStartable, IsUnended}
-use Rattle.ready_work.specs.NumberSetView.{room_of}
+use Rattle.ready_work.specs.NumberSetView.{has, room_of}
 use Rattle.ready_work.specs.Sets.{IsSetBelow, IsSetOf, Looks, NoNumber}
 use Rattle.ready_work.specs.StartableTasksView.{StartableTasksView}
 use Rattle.ready_work.specs.declared.task_sets.TaskSets.{TaskSets}
+
+-- each task has its lock, and no lock is free yet
+pub record HasClosedLocks (g : GraphView) (all : StartableTasksView) : Type 0 where
+  pub locks : all.locks ≡ map (λ t. t.lock.0) g.tasks
+  pub room : g.locks ≤ room_of all.free
+  pub closed : (l : ℕ) → has all.free l ≡ false
 
 -- each task has its lock, and the free locks are those that nobody owns
 pub record HasLocks (g : GraphView) (s : StateView) (all : StartableTasksView) : Type 0 where

@@ -6,7 +6,7 @@ ghost use Rattle.ready_work.specs.Lowest.{IsLowest, IsNone};
 ghost use Rattle.ready_work.specs.NumberSetView.{has, room_of};
 ghost use Rattle.ready_work.specs.Sets.{SameNumbers};
 ghost use Rattle.ready_work.specs.StartableTasksView.{IsUnowned, IsWith, PutsTask};
-ghost use Rattle.ready_work.specs.TaskSets.{HasLocks};
+ghost use Rattle.ready_work.specs.TaskSets.{HasClosedLocks, HasLocks};
 
 use crate::choices::is_free;
 use crate::lock_orders::LockOrder;
@@ -40,26 +40,8 @@ impl Model for StartableTasks {
 }
 
 impl StartableTasks {
-    /// No task, and the locks that nobody owns in a state.
-    pub(crate) fn none(
-        alloc: Global,
-        graph: &Graph,
-        state: &State,
-    ) -> Result<StartableTasks, AllocError>
-        requires { BelongsTo graph.now state.now }
-        ensures locks { IfOk result (HasLocks graph.now state.now) }
-        ensures room { IfOk result (λ all. length graph.now.tasks ≤ room_of all.tasks) }
-        ensures empty { IfOk result (λ all. (t : ℕ) → has all.tasks t ≡ false) }
-    {
-        let mut all = StartableTasks::closed(alloc, graph)?;
-        for lock in 0..graph.locks() {
-            all.put_lock(lock, is_free(state, lock));
-        }
-        Ok(all)
-    }
-
     /// No task and no free lock.
-    fn closed(alloc: Global, graph: &Graph) -> Result<StartableTasks, AllocError>
+    pub(crate) fn closed(alloc: Global, graph: &Graph) -> Result<StartableTasks, AllocError>
         ensures locks { IfOk result (λ all. all.locks ≡ map (λ t. t.lock.0) graph.now.tasks) }
         ensures room { IfOk result (λ all. length graph.now.tasks ≤ room_of all.tasks) }
         ensures lock_room { IfOk result (λ all. graph.now.locks ≤ room_of all.free) }
@@ -74,6 +56,18 @@ impl StartableTasks {
             free: NumberSet::new(alloc, graph.locks())?,
             heads: NumberSet::new(alloc, tasks)?,
         })
+    }
+
+    /// Looks at each lock for the first time.
+    pub(crate) fn put_locks(&mut self, graph: &Graph, state: &State)
+        requires belongs { BelongsTo graph.now state.now }
+        requires closed { HasClosedLocks graph.now self.old }
+        ensures locks { HasLocks graph.now state.now self.new }
+        ensures tasks { SameNumbers self.old.tasks self.new.tasks }
+    {
+        for lock in 0..graph.locks() {
+            self.put_lock(lock, is_free(state, lock));
+        }
     }
 
     /// Says whether nobody owns a lock.

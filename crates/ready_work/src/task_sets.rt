@@ -30,13 +30,15 @@ impl TaskSets {
     {
         let count = graph.tasks().len() as u32;
         let mut sets = TaskSets {
-            startable: StartableTasks::none(alloc, graph, state)?,
+            startable: StartableTasks::closed(alloc, graph)?,
             skippable: NumberSet::new(alloc, count)?,
             unended: NumberSet::new(alloc, count)?,
         };
         for task in 0..count {
             sets.look_at(graph, state, task);
         }
+        // While no lock was free, no head had to be looked for.
+        sets.startable.put_locks(graph, state);
         Ok(sets)
     }
 

@@ -1,7 +1,8 @@
 use Rattle.std.proofs.Common.{◌≡◌, ℕ, length, ap, arith}
 use Rattle.std.proofs.lemmas.List.{length-map}
 use Rattle.resource_lock.specs.GraphView.{graph_view}
-use Rattle.ready_work.proofs.TaskLooks.{all_tasks_below, locks_kept, no_task_below, one_task_below, room_after}
+use Rattle.ready_work.specs.Sets.{NoNumber}
+use Rattle.ready_work.proofs.TaskLooks.{all_tasks_below, closed_kept, no_task_below, one_task_below, room_after, sets_kept}
 use Rattle.ready_work.proofs.task_sets.TaskSets.of.Goals as goal
 
 pub loop-task-init : goal.loop-task-init
@@ -10,18 +11,18 @@ loop-task-init c =
     let mapped = length-map c.tasks.result.now graph_view in
     let few = c.tasks.ensures.fits.few_tasks in
     let skippable = c.in_ok-new.ensures.room in
-    let startable = c.in_ok-none.ensures.room in
+    let startable = c.in_ok-closed.ensures.room in
     let unended = c.in_ok-new-2.ensures.room in (
-      no_task_below c.args.graph.now c.args.state.now (record { skippable = c.in_ok-new.field-0; startable = c.in_ok-none.field-0; unended = c.in_ok-new-2.field-0 }) (record { skippable = c.in_ok-new.ensures.empty; startable = c.in_ok-none.ensures.empty; unended = c.in_ok-new-2.ensures.empty }),
+      no_task_below c.args.graph.now c.args.state.now (record { skippable = c.in_ok-new.field-0; startable = c.in_ok-closed.field-0; unended = c.in_ok-new-2.field-0 }) (record { skippable = c.in_ok-new.ensures.empty; startable = c.in_ok-closed.ensures.empty; unended = c.in_ok-new-2.ensures.empty }),
       record { skippable = omega arith; startable = omega arith; unended = omega arith },
-      c.in_ok-none.ensures.locks,
+      record { locks = c.in_ok-closed.ensures.locks; room = c.in_ok-closed.ensures.lock_room; closed = c.in_ok-closed.ensures.none_free },
     )
 
 pub loop-task-preserved : goal.loop-task-preserved
 loop-task-preserved c = (
   one_task_below c.args.graph.now c.args.state.now c.loop-task.task c.loop-task.sets c.look_at.new.self c.look_at.ensures.tasks c.loop-task.invariant.0,
   room_after (length c.args.graph.now.tasks) c.args.graph.now c.args.state.now (λ (k : ℕ). k ≡ c.loop-task.task) c.loop-task.sets c.look_at.new.self c.look_at.ensures.tasks c.loop-task.invariant.1,
-  locks_kept c.args.graph.now c.args.state.now c.loop-task.sets.startable c.look_at.new.self.startable c.look_at.ensures.tasks.locks c.look_at.ensures.free c.loop-task.invariant.2,
+  closed_kept c.args.graph.now c.loop-task.sets.startable c.look_at.new.self.startable c.look_at.ensures.tasks.locks c.look_at.ensures.free c.loop-task.invariant.2,
 )
 
 pub returns-clause-sets : goal.returns-clause-sets
@@ -30,4 +31,5 @@ returns-clause-sets c =
     let mapped = length-map c.tasks.result.now graph_view in
     let few = c.tasks.ensures.fits.few_tasks in
     let past = c.loop-task-test.false in
-    all_tasks_below c.args.graph.now c.args.state.now c.loop-task.task c.loop-task.sets (omega arith) c.loop-task.invariant.0
+    sets_kept c.args.graph.now c.args.state.now NoNumber c.loop-task.sets c.put_locks.new.self c.put_locks.ensures.tasks
+    (all_tasks_below c.args.graph.now c.args.state.now c.loop-task.task c.loop-task.sets (omega arith) c.loop-task.invariant.0)
