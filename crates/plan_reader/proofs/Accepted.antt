@@ -12,14 +12,15 @@ use Rattle.toml.specs.Data.{Data}
 use Rattle.resource_lock.specs.declared.graphs.Retention.{Retention}
 use Rattle.resource_lock.specs.declared.graphs.Retention.TheVariants.{Retain, Release, ReleaseAndReacquire}
 use Rattle.resource_lock.specs.Words.{retention_word}
-use Rattle.task_ranks.specs.Rank.{IsFirstCycle, Ranked}
+use Rattle.task_ranks.specs.Rank.{Ranked}
+use Rattle.plan_table.specs.declared.refusals.Part.{Part}
 use Rattle.plan_table.specs.declared.refusals.Part.TheVariants.{Plan, Project, Task, Requirements}
 use Rattle.plan_table.specs.declared.refusals.Which.{Which}
 use Rattle.plan_table.specs.declared.refusals.Which.TheVariants as which
 use Rattle.item_actions.specs.Forms.{is_file_name}
 use Rattle.plan_table.specs.Forms.{Text, is_name}
 use Rattle.plan_table.specs.Keys.{projects_of, tasks_of, requirements_of, name_of, after_of, actions_of, wait_of, items_of, fetch_of, heap_of, args_of, properties_of, variables_of}
-use Rattle.plan_table.specs.Search.{table_refusal}
+use Rattle.plan_table.specs.Search.{places, table_refusal}
 use Rattle.plan_table.specs.Formed.{IsFormedAction}
 use Rattle.plan_table.proofs.Lists.{map_of_map}
 use Rattle.plan_table.proofs.FormedLaws.{is_formed}
@@ -29,21 +30,16 @@ use Rattle.plan_reader.specs.declared.rows.Row.TheVariants.{NoSuchProject, Relea
 use Rattle.plan_reader.specs.PlanView.{PlanActionView}
 use Rattle.plan_reader.specs.Units.{fetch_units, item_unit, action_units, task_units, plan_units}
 use Rattle.plan_reader.specs.IsPlan.{HasFewLists, HasFileNames, ReleasesLast, IsPlan}
-use Rattle.plan_reader.specs.NameNumbers.{number_of}
-use Rattle.plan_reader.specs.Names.{names_in, once, dependency_numbers, dependencies_of}
+use Rattle.plan_reader.specs.NameNumbers.{first_repeat, number_of}
+use Rattle.plan_reader.specs.Names.{names_in, once, dependency_numbers}
 use Rattle.plan_reader.specs.Rows.{releases, unit_count, task_unit_count, plan_unit_count, has_few_lists, excess_of_task, is_heap}
 use Rattle.plan_reader.specs.Planned.{pair_of, requirements_from, all_requirements, work_of, retention_named, action_of, task_of, plan_of}
-use Rattle.plan_reader.specs.Search.{row_refusal, twice_refusal, refusal_before, refusal_behind}
-use Rattle.plan_reader.proofs.Quiet.{neither, row_quiet, once_named, none_passes}
+use Rattle.plan_reader.specs.Search.{row_refusal, twice_refusal, refusal_behind}
+use Rattle.plan_reader.specs.Reading.{IsAccepted}
+use Rattle.plan_reader.proofs.Quiet.{neither, row_quiet, unrepeated, once_named, none_passes}
 use Rattle.plan_reader.proofs.Numbers.{number_within, some_name, numbers_within, length-once}
 
--- nothing is refused
-pub record Accepted (d : Data) : Type 0 where
-  pub before : refusal_before d ≡ None
-  pub ranked : IsFirstCycle (dependencies_of d) None
-  pub behind : refusal_behind d ≡ None
-
-module _ (d : Data) (a : Accepted d) where
+module _ (d : Data) (a : IsAccepted d) where
   tables : table_refusal d ≡ None
   tables = (neither (table_refusal d) _ a.before).0
 
@@ -173,7 +169,7 @@ named_apart : {X : Type 0} (name : X → Text) (xs : List X) → AllPairs (λ m 
 named_apart name xs apart i j e lt long same =
     apart i j (name e) lt (rw (length-map xs name) long) (get_or-map name xs i e (name e) (omega arith) ∙ same ∙ sym (get_or-map name xs j e (name e) long))
 
-pub is_plan : (d : Data) → Accepted d → IsPlan (plan_of d)
+pub is_plan : (d : Data) → IsAccepted d → IsPlan (plan_of d)
 is_plan d a =
     let n = names_in d in
     let action = action_of n (all_requirements d) in
@@ -208,3 +204,7 @@ is_plan d a =
       file_names = All-map (λ t. All HasFileNames t.actions) make ts (λ k e lt. All-map HasFileNames action (actions_of (get_or ts k e)) (λ m f short.
           files_named d (get_or (actions_of (get_or ts k e)) m f) (formed.actions k e lt m f short)));
     }
+
+-- no name of a part stands twice
+pub none_repeated : (d : Data) → IsAccepted d → (p : Part) → first_repeat (map name_of (places d p)) ≡ None
+none_repeated d a p = unrepeated d (twice d a) p

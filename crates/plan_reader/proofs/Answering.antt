@@ -15,7 +15,7 @@ use Rattle.plan_reader.specs.Names.{names_in, dependency_numbers, dependencies_o
 use Rattle.plan_reader.specs.PlanView.{PlanView}
 use Rattle.plan_reader.specs.Planned.{plan_of}
 use Rattle.plan_reader.specs.Search.{twice_in, twice_refusal, rows_refusal, rows_before, refusal_before, refusal_behind}
-use Rattle.plan_reader.specs.Reading.{Answer, answer_to, AnswersRanks, AnswersBy, ReadsBy, Refuses, Gives, RefusesBy, RefusesCycle}
+use Rattle.plan_reader.specs.Reading.{IsAccepted, Answer, answer_to, AnswersRanks, AnswersBy, ReadsBy, Refuses, Gives, RefusesBy, RefusesCycle}
 use Rattle.plan_reader.proofs.Numbers.{numbers_within}
 
 -- ---- one refusal after the other
@@ -40,6 +40,9 @@ none_before d a b c =
 pub answers_by : (d : Data) (r : Result PlanView PlanFail) → refusal_before d ≡ None → Gives (AnswersRanks d) r → Gives (AnswersBy (refusal_before d) d) r
 answers_by d r none h = subst (λ o. Gives (AnswersBy o d) r) (sym none) h
 
+pub ranks_refused : (d : Data) (e : PlanFail) → refusal_before d ≡ None → Refuses (AnswersRanks d) e → Refuses (AnswersBy (refusal_before d) d) e
+ranks_refused d e none h = subst (λ o. Refuses (AnswersBy o d) e) (sym none) h
+
 pub twice_task : (d : Data) (e : PlanFail) → twice_in d Project ≡ None → RefusesBy (twice_in d Task) e → RefusesBy (twice_refusal d) e
 twice_task d e p h = later (twice_in d Project) _ e p (sooner (twice_in d Task) _ e h)
 
@@ -56,6 +59,11 @@ none_twice d p t r =
 pub handed_on : (Is : Answer → Type 0) (r : Result PlanView PlanFail) (e : PlanFail) → IsErrAnd r (λ f. f ≡ e) → Refuses Is e → Gives Is r
 handed_on Is (Ok p) e is h = absurd is
 handed_on Is (Err f) e is h = subst (Refuses Is) (sym is) h
+
+-- the same where no plan is made yet
+pub passed_on : {X : Type 0} (Is : Answer → Type 0) (r : Result X PlanFail) (e : PlanFail) → IsErrAnd r (λ f. f ≡ e) → Refuses Is e → IfErr r (Refuses Is)
+passed_on Is (Ok p) e is h = absurd is
+passed_on Is (Err f) e is h = subst (Refuses Is) (sym is) h
 
 -- ---- ranks
 
@@ -79,6 +87,14 @@ cycle_refused d g (Refused r) same (first, cycle, is) = (Some first, subst (λ x
 pub behind_refused : (d : Data) (e : PlanFail) → IsFirstCycle (dependencies_of d) None → RefusesBy (refusal_behind d) e → Refuses (AnswersRanks d) e
 behind_refused d NoMemory ranked h = tt
 behind_refused d (Refused r) ranked h = (None, ranked, ap (λ o. answer_to o (plan_of d)) (sym h))
+
+pub refused_behind : {X : Type 0} (d : Data) (r : Result X PlanFail) → IsFirstCycle (dependencies_of d) None → IfErr r (RefusesBy (refusal_behind d)) → IfErr r (Refuses (AnswersRanks d))
+refused_behind d (Ok x) ranked h = tt
+refused_behind d (Err e) ranked h = behind_refused d e ranked h
+
+pub accepted : {X : Type 0} (d : Data) (r : Result X PlanFail) → refusal_before d ≡ None → IsFirstCycle (dependencies_of d) None → IfOk r (λ _. refusal_behind d ≡ None) → IfOk r (λ _. IsAccepted d)
+accepted d (Ok x) before ranked behind = record { before = before; ranked = ranked; behind = behind }
+accepted d (Err e) before ranked behind = tt
 
 pub answered : (d : Data) (r : Result PlanView PlanFail) → IsFirstCycle (dependencies_of d) None → refusal_behind d ≡ None → IfOk r (λ p. p ≡ plan_of d) → IfErr r (λ e. e ≡ NoMemory) → Gives (AnswersRanks d) r
 answered d (Ok p) ranked none made memory = (None, ranked, ap Ok made ∙ ap (λ o. answer_to o (plan_of d)) (sym none))

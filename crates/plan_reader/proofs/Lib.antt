@@ -20,3 +20,4 @@ pub mod Positions
 pub mod Sound
 pub mod Near
 pub mod Marks
+pub mod TakenTasks

@@ -59,10 +59,13 @@ distinct names none i j d lt within same =
     let old = list_any_at (bytes_eq (get_or names j [])) (take j names) i d (omega (arith, lt, long)) ((bytes_eq-Decides _ _).1 (other ∙ sym same ∙ sym there)) in
     true≢false (sym old ∙ fresh)
 
-pub once_named : (d : Data) → twice_refusal d ≡ None → (p : Part) → AllPairs (λ m n. m ≢ n) (map name_of (places d p))
-once_named d none p =
+pub unrepeated : (d : Data) → twice_refusal d ≡ None → (p : Part) → first_repeat (map name_of (places d p)) ≡ None
+unrepeated d none p =
     let here : twice_in d p ≡ None = first_of_none (twice_in d) parts none (part_number p) p (part_at p) in
-    distinct (map name_of (places d p)) (unmapped _ (first_repeat (map name_of (places d p))) (unmapped _ (first_twice p (places d p)) here))
+    unmapped _ (first_repeat (map name_of (places d p))) (unmapped _ (first_twice p (places d p)) here)
+
+pub once_named : (d : Data) → twice_refusal d ≡ None → (p : Part) → AllPairs (λ m n. m ≢ n) (map name_of (places d p))
+once_named d none p = distinct (map name_of (places d p)) (unrepeated d none p)
 
 -- ---- tests of lists
 

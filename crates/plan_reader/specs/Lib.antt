@@ -9,5 +9,6 @@ pub mod Rows
 pub mod Search
 pub mod Sound
 pub mod Planned
+pub mod Taken
 pub mod Reading
 pub mod First

@@ -12,6 +12,12 @@ use Rattle.plan_reader.specs.PlanView.{PlanView}
 use Rattle.plan_reader.specs.Planned.{plan_of}
 use Rattle.plan_reader.specs.Search.{refusal_before, refusal_behind, cycle_at, cycle_refusal}
 
+-- nothing is refused
+pub record IsAccepted (d : Data) : Type 0 where
+  pub before : refusal_before d ≡ None
+  pub ranked : IsFirstCycle (dependencies_of d) None
+  pub behind : refusal_behind d ≡ None
+
 abbrev pub Answer : Type 0
 Answer = Result PlanView PlanRefusal
 

@@ -3,14 +3,15 @@ ghost use Rattle.std.specs.Prelude.{◌≡◌, None, IfOk, option_map, option_an
 ghost use Rattle.std.specs.Str.{bytes_eq};
 ghost use Rattle.plan_reader.specs.Planned.{default_requirements, requirements_named};
 
-use crate::names::Names;
+use crate::name_table::NameTable;
 use daemon_requirements::Requirements;
 use std::alloc::{AllocError, Global};
 
-/// The names of a plan, and its requirements by number.
+/// The names of a plan's projects and requirements, and the requirements by number.
 #[derive(Drop)]
 pub(crate) struct Known<'k, 'a> {
-    pub names: &'k Names<'a>,
+    pub projects: &'k NameTable<'a>,
+    pub requirements: &'k NameTable<'a>,
     pub profiles: &'k [Requirements],
     /// What an item asks for that names no requirements.
     pub default: &'k Requirements,
@@ -18,9 +19,9 @@ pub(crate) struct Known<'k, 'a> {
 
 impl Known<'_, '_> {
     fn profile(&self, name: &str) -> Option<&Requirements>
-        ensures { option_map (λ p. p.now) result ≡ option_and_then (slice_get self.now.profiles.now) (position (bytes_eq name.now) (self.now.names.now.requirements)) }
+        ensures { option_map (λ p. p.now) result ≡ option_and_then (slice_get self.now.profiles.now) (position (bytes_eq name.now) self.now.requirements.now) }
     {
-        match self.names.requirements.place_of(name) {
+        match self.requirements.place_of(name) {
             Some(number) => self.profiles.get(number),
             None => None,
         }
@@ -33,7 +34,7 @@ impl Known<'_, '_> {
         name: Option<&str>,
     ) -> Result<Requirements, AllocError>
         requires { self.now.default.now ≡ default_requirements }
-        ensures { IfOk result (λ p. p ≡ requirements_named (self.now.names.now.requirements) self.now.profiles.now (option_map (λ s. s.now) name.entry)) }
+        ensures { IfOk result (λ p. p ≡ requirements_named self.now.requirements.now self.now.profiles.now (option_map (λ s. s.now) name.entry)) }
     {
         let named = match name {
             Some(name) => self.profile(name),

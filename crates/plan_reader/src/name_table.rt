@@ -4,6 +4,7 @@ ghost use Rattle.std.specs.Str.{bytes_eq};
 ghost use Rattle.plan_reader.specs.NameNumbers.{texts, has_name, first_repeat, number_of, AreNumbered};
 
 use crate::guesses::Guesses;
+use item_actions::Text;
 use std::alloc::{AllocError, Global};
 use std::collections::BTreeMap;
 use std::marker::Model;
@@ -46,6 +47,16 @@ fn numbers_of<'a>(
     Ok(Ok(numbers))
 }
 
+fn strs_of<'a>(alloc: Global, names: &'a [Text]) -> Result<Vec<&'a str>, AllocError>
+    ensures { IfOk result (λ strs. texts strs.items ≡ names.entry.now) }
+{
+    let mut strs = Vec::with_capacity(alloc, names.len())?;
+    for name in names {
+        strs.push(name.as_str())?;
+    }
+    Ok(strs)
+}
+
 impl<'a> NameTable<'a> {
     /// Numbers the names in their order, or gives the first place whose name stood before.
     pub(crate) fn new(
@@ -66,6 +77,17 @@ impl<'a> NameTable<'a> {
                 }))
             }
             Err(number) => Ok(Err(number)),
+        }
+    }
+
+    /// Numbers these names in their order. None of them stands twice.
+    pub(crate) fn of_texts(alloc: Global, names: &'a [Text]) -> Result<NameTable<'a>, AllocError>
+        requires { first_repeat names.now ≡ None }
+        ensures { IfOk result (λ table. table ≡ names.entry.now) }
+    {
+        match NameTable::new(alloc, strs_of(alloc, names)?)? {
+            Ok(table) => Ok(table),
+            Err(_) => unreachable!(),
         }
     }
 

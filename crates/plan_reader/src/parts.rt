@@ -1,20 +1,22 @@
-//! The plan of a document.
-ghost use Rattle.std.specs.Prelude.{◌≡◌, true, map, IfOk, option_map};
-ghost use Rattle.std.specs.List.{list_all};
+//! The projects and tasks of a plan, made of a document's tables. Their texts are moved out of the tables.
+ghost use Rattle.std.specs.Prelude.{◌≡◌, map, None, IfOk};
+ghost use Rattle.std.specs.List.{zip};
 ghost use Rattle.toml.specs.View.{view};
-ghost use Rattle.task_ranks.specs.Rank.{lists_of};
-ghost use Rattle.plan_table.specs.Keys.{projects_of, tasks_of, actions_of, items_of, fetch_of, name_of};
+ghost use Rattle.plan_table.specs.Keys.{actions_of, items_of, name_of};
 ghost use Rattle.plan_reader.specs.PlanView.{process_of as shown_process, work_view, plan_action_view, plan_task_view};
-ghost use Rattle.plan_reader.specs.Names.{names_in, name_lists, dependency_numbers, dependencies_of};
-ghost use Rattle.plan_reader.specs.Planned.{count_of, action_of_kind, action_named, default_requirements, process_of, work_of, retention_named, action_of, task_of, all_requirements};
+ghost use Rattle.plan_reader.specs.NameNumbers.{first_repeat};
+ghost use Rattle.plan_reader.specs.Planned.{count_of, action_of_kind, action_named, default_requirements, process_of, work_of, retention_named, action_of};
+ghost use Rattle.plan_reader.specs.Taken.{known_names, named, task_after};
 
 use crate::known::Known;
+use crate::name_table::NameTable;
 use crate::plans::{PlanAction, PlanTask};
-use daemon_requirements::{Isolation, Work};
+use crate::profiles::default_requirements;
+use daemon_requirements::{Isolation, Requirements, Work};
 use item_actions::{ActionKind, ItemAction, Needle, Text};
 use plan_table::{
-    actions_of, do_of, fetch_of, file_of, isolation_of, items_of, name_of, needle_of, project_of,
-    projects_of, requirements_name_of, tasks_of, wait_of,
+    do_of, isolation_of, name_of, needle_of, project_of, requirements_name_of, take_actions,
+    take_fetch, take_file, take_items, take_name, wait_of,
 };
 use resource_lock::Retention;
 use std::alloc::{AllocError, Global};
@@ -55,7 +57,7 @@ fn action_named(word: &str, needle: &str) -> ItemAction
 
 fn isolation_in(alloc: Global, known: &Known, item: &Value) -> Result<Isolation, AllocError>
     requires { known.now.default.now ≡ default_requirements }
-    ensures { IfOk result (λ i. shown_process i ≡ process_of (name_lists known.now.names.now) known.now.profiles.now (view item.now)) }
+    ensures { IfOk result (λ i. shown_process i ≡ process_of (known_names known.now) known.now.profiles.now (view item.now)) }
 {
     if isolation_of(item) == "process" {
         let asked = known.copy_of(alloc, requirements_name_of(item))?;
@@ -65,20 +67,20 @@ fn isolation_in(alloc: Global, known: &Known, item: &Value) -> Result<Isolation,
     }
 }
 
-fn work_of(alloc: Global, known: &Known, item: &Value) -> Result<Work, AllocError>
+fn work_of(alloc: Global, known: &Known, mut item: Value) -> Result<Work, AllocError>
     requires { known.now.default.now ≡ default_requirements }
-    ensures { IfOk result (λ w. work_view w ≡ work_of (name_lists known.now.names.now) known.now.profiles.now (view item.now)) }
+    ensures { IfOk result (λ w. work_view w ≡ work_of (known_names known.now) known.now.profiles.now (view item)) }
 {
     Ok(Work {
-        action: action_named(do_of(item), needle_of(item)),
-        file: Text::from_str(alloc, file_of(item))?,
-        isolation: isolation_in(alloc, known, item)?,
+        action: action_named(do_of(&item), needle_of(&item)),
+        isolation: isolation_in(alloc, known, &item)?,
+        file: take_file(alloc, &mut item),
     })
 }
 
-fn works_of(alloc: Global, known: &Known, items: &[Value]) -> Result<Vec<Work>, AllocError>
+fn works_of(alloc: Global, known: &Known, items: Vec<Value>) -> Result<Vec<Work>, AllocError>
     requires { known.now.default.now ≡ default_requirements }
-    ensures { IfOk result (λ works. map work_view works.items ≡ map (λ v. work_of (name_lists known.now.names.now) known.now.profiles.now (view v)) items.now) }
+    ensures { IfOk result (λ works. map work_view works.items ≡ map (λ v. work_of (known_names known.now) known.now.profiles.now (view v)) items.items) }
 {
     let mut works = Vec::with_capacity(alloc, items.len())?;
     for item in items {
@@ -87,11 +89,15 @@ fn works_of(alloc: Global, known: &Known, items: &[Value]) -> Result<Vec<Work>, 
     Ok(works)
 }
 
-fn items_of_action(alloc: Global, known: &Known, action: &Value) -> Result<Vec<Work>, AllocError>
+fn items_of_action(
+    alloc: Global,
+    known: &Known,
+    action: &mut Value,
+) -> Result<Vec<Work>, AllocError>
     requires { known.now.default.now ≡ default_requirements }
-    ensures { IfOk result (λ items. map work_view items.items ≡ map (work_of (name_lists known.now.names.now) known.now.profiles.now) (items_of (view action.now))) }
+    ensures { IfOk result (λ items. map work_view items.items ≡ map (work_of (known_names known.now) known.now.profiles.now) (items_of (view action.old))) }
 {
-    let items = works_of(alloc, known, items_of(action))?;
+    let items = works_of(alloc, known, take_items(alloc, action))?;
     Ok(items)
 }
 
@@ -102,33 +108,24 @@ fn retention_named(word: &str) -> Retention
     Retention::of_word(word).unwrap_or(Retention::ReleaseAndReacquire)
 }
 
-fn fetched(alloc: Global, action: &Value) -> Result<Option<Text>, AllocError>
-    ensures { IfOk result (λ fetch. fetch ≡ fetch_of (view action.now)) }
-{
-    match fetch_of(action) {
-        Some(file) => Ok(Some(Text::from_str(alloc, file)?)),
-        None => Ok(None),
-    }
-}
-
-fn action_of(alloc: Global, known: &Known, action: &Value) -> Result<PlanAction, AllocError>
+fn action_of(alloc: Global, known: &Known, mut action: Value) -> Result<PlanAction, AllocError>
     requires { known.now.default.now ≡ default_requirements }
-    ensures { IfOk result (λ a. plan_action_view a ≡ action_of (name_lists known.now.names.now) known.now.profiles.now (view action.now)) }
+    ensures { IfOk result (λ a. plan_action_view a ≡ action_of (known_names known.now) known.now.profiles.now (view action)) }
 {
     Ok(PlanAction {
-        fetch: fetched(alloc, action)?,
-        retention: retention_named(wait_of(action)),
-        items: items_of_action(alloc, known, action)?,
+        retention: retention_named(wait_of(&action)),
+        fetch: take_fetch(&mut action),
+        items: items_of_action(alloc, known, &mut action)?,
     })
 }
 
 fn plan_actions_of(
     alloc: Global,
     known: &Known,
-    values: &[Value],
+    values: Vec<Value>,
 ) -> Result<Vec<PlanAction>, AllocError>
     requires { known.now.default.now ≡ default_requirements }
-    ensures { IfOk result (λ actions. map plan_action_view actions.items ≡ map (λ v. action_of (name_lists known.now.names.now) known.now.profiles.now (view v)) values.now) }
+    ensures { IfOk result (λ actions. map plan_action_view actions.items ≡ map (λ v. action_of (known_names known.now) known.now.profiles.now (view v)) values.items) }
 {
     let mut actions = Vec::with_capacity(alloc, values.len())?;
     for value in values {
@@ -140,12 +137,12 @@ fn plan_actions_of(
 fn actions_of_task(
     alloc: Global,
     known: &Known,
-    task: &Value,
+    task: &mut Value,
 ) -> Result<Vec<PlanAction>, AllocError>
     requires { known.now.default.now ≡ default_requirements }
-    ensures { IfOk result (λ actions. map plan_action_view actions.items ≡ map (action_of (name_lists known.now.names.now) known.now.profiles.now) (actions_of (view task.now))) }
+    ensures { IfOk result (λ actions. map plan_action_view actions.items ≡ map (action_of (known_names known.now) known.now.profiles.now) (actions_of (view task.old))) }
 {
-    let actions = plan_actions_of(alloc, known, actions_of(task))?;
+    let actions = plan_actions_of(alloc, known, take_actions(alloc, task))?;
     Ok(actions)
 }
 
@@ -153,69 +150,69 @@ fn actions_of_task(
 fn task_of(
     alloc: Global,
     known: &Known,
-    task: &Value,
+    mut task: Value,
     after: Vec<u32>,
 ) -> Result<PlanTask, AllocError>
-    requires default { known.now.default.now ≡ default_requirements }
-    requires after { after.items ≡ dependency_numbers (name_lists known.now.names.now).tasks (view task.now) }
-    ensures { IfOk result (λ t. plan_task_view t ≡ task_of (name_lists known.now.names.now) known.now.profiles.now (view task.now)) }
+    requires { known.now.default.now ≡ default_requirements }
+    ensures { IfOk result (λ t. plan_task_view t ≡ task_after (known_names known.now) known.now.profiles.now (view task) after.items) }
 {
     Ok(PlanTask {
-        name: Text::from_str(alloc, name_of(task))?,
-        project: known.names.projects.number_of(project_of(task))?,
+        project: known.projects.number_of(project_of(&task))?,
         after,
-        actions: actions_of_task(alloc, known, task)?,
+        name: take_name(alloc, &mut task),
+        actions: actions_of_task(alloc, known, &mut task)?,
     })
 }
 
-fn plan_tasks_of(
+/// The tasks of these tables, each after those of its row.
+fn known_tasks(
     alloc: Global,
     known: &Known,
-    values: &[Value],
+    tables: Vec<Value>,
     dependencies: Vec<Vec<u32>>,
 ) -> Result<Vec<PlanTask>, AllocError>
-    requires default { known.now.default.now ≡ default_requirements }
-    requires dependencies { lists_of dependencies.items ≡ map (λ v. dependency_numbers (name_lists known.now.names.now).tasks (view v)) values.now }
-    ensures { IfOk result (λ tasks. map plan_task_view tasks.items ≡ map (λ v. task_of (name_lists known.now.names.now) known.now.profiles.now (view v)) values.now) }
+    requires { known.now.default.now ≡ default_requirements }
+    ensures { IfOk result (λ tasks. map plan_task_view tasks.items ≡ map (λ p. task_after (known_names known.now) known.now.profiles.now (view p.0) p.1.items) (zip tables.items dependencies.items)) }
 {
-    let mut tasks = Vec::with_capacity(alloc, values.len())?;
-    for after in dependencies {
-        let number = tasks.len();
-        tasks.push(task_of(alloc, known, &values[number], after)?)?;
+    let mut tasks = Vec::with_capacity(alloc, tables.len())?;
+    for (task, after) in tables.into_iter().zip(dependencies) {
+        tasks.push(task_of(alloc, known, task, after)?)?;
     }
     Ok(tasks)
 }
 
-/// The tasks of a document, each after those of its row.
+/// The tasks of these tables, each after those of its row, in a plan of these projects and requirements.
 pub(crate) fn tasks_of_plan(
     alloc: Global,
-    known: &Known,
-    document: &Value,
+    projects: &[Text],
+    requirements: &[Text],
+    profiles: &[Requirements],
+    tables: Vec<Value>,
     dependencies: Vec<Vec<u32>>,
 ) -> Result<Vec<PlanTask>, AllocError>
-    requires default { known.now.default.now ≡ default_requirements }
-    requires names { name_lists known.now.names.now ≡ names_in (view document.now) }
-    requires dependencies { lists_of dependencies.items ≡ dependencies_of (view document.now) }
-    ensures { IfOk result (λ tasks. map plan_task_view tasks.items ≡ map (task_of (names_in (view document.now)) known.now.profiles.now) (tasks_of (view document.now))) }
+    requires projects { first_repeat projects.now ≡ None }
+    requires requirements { first_repeat requirements.now ≡ None }
+    ensures { IfOk result (λ tasks. map plan_task_view tasks.items ≡ map (λ p. task_after (named projects.now requirements.now) profiles.now (view p.0) p.1.items) (zip tables.items dependencies.items)) }
 {
-    let tasks = plan_tasks_of(alloc, known, tasks_of(document), dependencies)?;
-    Ok(tasks)
+    let projects = NameTable::of_texts(alloc, projects)?;
+    let requirements = NameTable::of_texts(alloc, requirements)?;
+    let default = default_requirements(alloc)?;
+    let known = Known {
+        projects: &projects,
+        requirements: &requirements,
+        profiles,
+        default: &default,
+    };
+    known_tasks(alloc, &known, tables, dependencies)
 }
 
-fn texts_of_names(alloc: Global, values: &[Value]) -> Result<Vec<Text>, AllocError>
-    ensures { IfOk result (λ names. names.items ≡ map (λ v. name_of (view v)) values.now) }
+/// Takes the names of these tables.
+pub(crate) fn names_taken(alloc: Global, tables: Vec<Value>) -> Result<Vec<Text>, AllocError>
+    ensures { IfOk result (λ names. names.items ≡ map (λ v. name_of (view v)) tables.items) }
 {
-    let mut names = Vec::with_capacity(alloc, values.len())?;
-    for value in values {
-        names.push(Text::from_str(alloc, name_of(value))?)?;
+    let mut names = Vec::with_capacity(alloc, tables.len())?;
+    for mut table in tables {
+        names.push(take_name(alloc, &mut table))?;
     }
     Ok(names)
-}
-
-/// The names of the projects of a document.
-pub(crate) fn projects_of_plan(alloc: Global, document: &Value) -> Result<Vec<Text>, AllocError>
-    ensures { IfOk result (λ projects. projects.items ≡ (names_in (view document.now)).projects) }
-{
-    let projects = texts_of_names(alloc, projects_of(document))?;
-    Ok(projects)
 }

@@ -4,7 +4,7 @@ ghost use Rattle.std.specs.List.{list_all};
 ghost use Rattle.std.specs.Option.{option_map_or};
 ghost use Rattle.toml.specs.View.{view};
 ghost use Rattle.daemon_requirements.specs.RequirementsView.{requirements_view, HasDistinctNames};
-ghost use Rattle.plan_table.specs.Keys.{requirements_of, heap_of};
+ghost use Rattle.plan_table.specs.Keys.{requirements_of, heap_of, name_of};
 ghost use Rattle.plan_table.specs.Values.{text_of};
 ghost use Rattle.plan_reader.specs.Names.{names_in};
 ghost use Rattle.plan_reader.specs.Rows.{is_heap};
@@ -13,7 +13,7 @@ ghost use Rattle.plan_reader.specs.Planned.{pair_of, requirements_from, default_
 use daemon_requirements::{Pair, RequirementFields, Requirements};
 use item_actions::Text;
 use plan_table::{
-    args_of, assertions_of, debug_of, encoding_of, executable_of, heap_of, properties_of,
+    args_of, assertions_of, debug_of, encoding_of, executable_of, heap_of, name_of, properties_of,
     requirements_of, text_of, variables_of,
 };
 use std::alloc::{AllocError, Global};
@@ -112,4 +112,22 @@ pub(crate) fn all_requirements(
 {
     let profiles = profiles_in(alloc, requirements_of(document))?;
     Ok(profiles)
+}
+
+fn names_of(alloc: Global, values: &[Value]) -> Result<Vec<Text>, AllocError>
+    ensures { IfOk result (λ names. names.items ≡ map (λ v. name_of (view v)) values.now) }
+{
+    let mut names = Vec::with_capacity(alloc, values.len())?;
+    for value in values {
+        names.push(Text::from_str(alloc, name_of(value))?)?;
+    }
+    Ok(names)
+}
+
+/// The names of the requirements of a document, by number.
+pub(crate) fn requirements_names(alloc: Global, document: &Value) -> Result<Vec<Text>, AllocError>
+    ensures { IfOk result (λ names. names.items ≡ (names_in (view document.now)).requirements) }
+{
+    let names = names_of(alloc, requirements_of(document))?;
+    Ok(names)
 }

@@ -7,17 +7,18 @@ ghost use Rattle.plan_table.specs.Search.{places, table_refusal};
 ghost use Rattle.plan_reader.specs.Names.{name_lists, names_in, dependencies_of};
 ghost use Rattle.plan_reader.specs.Planned.{plan_of};
 ghost use Rattle.plan_reader.specs.Search.{twice_refusal, row_refusal, rows_refusal, rows_before, rows_behind, refusal_before, refusal_behind};
-ghost use Rattle.plan_reader.specs.Reading.{AnswersRanks, AnswersBy, Reads, Gives, RefusesBy, RefusesCycle};
+ghost use Rattle.plan_reader.specs.Reading.{IsAccepted, AnswersRanks, AnswersBy, Reads, Refuses, Gives, RefusesBy, RefusesCycle};
 
-use crate::known::Known;
 use crate::look::refuses_nothing;
 use crate::names::{Names, dependencies_of, numbered_names};
-use crate::parts::{projects_of_plan, tasks_of_plan};
+use crate::parts::{names_taken, tasks_of_plan};
 use crate::plans::Plan;
-use crate::profiles::{all_requirements, default_requirements};
+use crate::profiles::{all_requirements, requirements_names};
 use crate::rows::Row;
 use crate::search::row_refusal;
-use plan_table::{Part, Place, PlanFail, PlanRefusal, read_document, table_refusal};
+use plan_table::{
+    Part, Place, PlanFail, PlanRefusal, read_document, table_refusal, take_projects, take_tasks,
+};
 use std::alloc::Global;
 use task_ranks::first_cycle;
 use toml::Value;
@@ -109,67 +110,46 @@ fn check_table(document: &Value) -> Result<(), PlanFail>
     }
 }
 
-/// The plan of a document that nothing refuses.
-fn plan_of(
+/// No task without a rank is refused, and nothing behind that.
+fn check_ranked(
     alloc: Global,
     names: &Names,
-    dependencies: Vec<Vec<u32>>,
+    dependencies: &[Vec<u32>],
     document: &Value,
-) -> Result<Plan, PlanFail>
+) -> Result<(), PlanFail>
     requires names { name_lists names.now ≡ names_in (view document.now) }
-    requires dependencies { lists_of dependencies.items ≡ dependencies_of (view document.now) }
-    requires before { refusal_before (view document.now) ≡ None }
-    requires ranked { IsFirstCycle (dependencies_of (view document.now)) None }
-    requires behind { refusal_behind (view document.now) ≡ None }
-    ensures plan { IfOk result (λ plan. plan ≡ plan_of (view document.now)) }
-    ensures memory { IfErr result (λ e. e ≡ PlanFail.NoMemory) }
-{
-    let projects = projects_of_plan(alloc, document)?;
-    let requirements = all_requirements(alloc, document)?;
-    let default = default_requirements(alloc)?;
-    let known = Known {
-        names,
-        profiles: &requirements,
-        default: &default,
-    };
-    let tasks = tasks_of_plan(alloc, &known, document, dependencies)?;
-    Ok(Plan::new(projects, tasks, requirements))
-}
-
-/// The plan of a document in which nothing is refused before Cycle, or the first refusal.
-fn read_ranked(
-    alloc: Global,
-    names: &Names,
-    dependencies: Vec<Vec<u32>>,
-    document: &Value,
-) -> Result<Plan, PlanFail>
-    requires names { name_lists names.now ≡ names_in (view document.now) }
-    requires dependencies { lists_of dependencies.items ≡ dependencies_of (view document.now) }
+    requires dependencies { lists_of dependencies.now ≡ dependencies_of (view document.now) }
     requires numbered { is_numbered (view document.now) ≡ true }
     requires before { refusal_before (view document.now) ≡ None }
-    ensures { Gives (AnswersRanks (view document.now)) result }
+    ensures accepted { IfOk result (λ _. IsAccepted (view document.now)) }
+    ensures err { IfErr result (Refuses (AnswersRanks (view document.now))) }
 {
-    check_ranks(alloc, &dependencies)?;
-    check_behind(names, document)?;
-    plan_of(alloc, names, dependencies, document)
+    check_ranks(alloc, dependencies)?;
+    check_behind(names, document)
 }
 
-/// The plan of a document whose names are these, or the first refusal.
-fn read_named(alloc: Global, names: &Names, document: &Value) -> Result<Plan, PlanFail>
+/// The numbers of the tasks that each task comes after, in a document whose names are these, where nothing is refused.
+fn check_named(alloc: Global, names: &Names, document: &Value) -> Result<Vec<Vec<u32>>, PlanFail>
     requires names { name_lists names.now ≡ names_in (view document.now) }
     requires numbered { is_numbered (view document.now) ≡ true }
     requires formed { table_refusal (view document.now) ≡ None }
     requires once { twice_refusal (view document.now) ≡ None }
-    ensures { Gives (AnswersBy (refusal_before (view document.now)) (view document.now)) result }
+    ensures dependencies { IfOk result (λ rows. lists_of rows.items ≡ dependencies_of (view document.now)) }
+    ensures accepted { IfOk result (λ _. IsAccepted (view document.now)) }
+    ensures err { IfErr result (Refuses (AnswersBy (refusal_before (view document.now)) (view document.now))) }
 {
     let dependencies = check_before(alloc, names, document)?;
-    read_ranked(alloc, names, dependencies, document)
+    check_ranked(alloc, names, &dependencies, document)?;
+    Ok(dependencies)
 }
 
-/// The plan of a document, or the first refusal behind those of its text.
-fn read_tables(alloc: Global, document: &Value) -> Result<Plan, PlanFail>
+/// The same, or the first refusal behind those of the text. The names are borrowed from the document for as long as
+/// this takes.
+fn check_tables(alloc: Global, document: &Value) -> Result<Vec<Vec<u32>>, PlanFail>
     requires { is_numbered (view document.now) ≡ true }
-    ensures { Gives (AnswersBy (refusal_before (view document.now)) (view document.now)) result }
+    ensures dependencies { IfOk result (λ rows. lists_of rows.items ≡ dependencies_of (view document.now)) }
+    ensures accepted { IfOk result (λ _. IsAccepted (view document.now)) }
+    ensures err { IfErr result (Refuses (AnswersBy (refusal_before (view document.now)) (view document.now))) }
 {
     check_table(document)?;
     let projects = numbered_names(alloc, Part::Project, document)?;
@@ -180,7 +160,42 @@ fn read_tables(alloc: Global, document: &Value) -> Result<Plan, PlanFail>
         tasks,
         requirements,
     };
-    read_named(alloc, &names, document)
+    check_named(alloc, &names, document)
+}
+
+/// The plan of a document that nothing refuses. The texts of its projects and tasks are moved out of the document.
+fn plan_of(
+    alloc: Global,
+    dependencies: Vec<Vec<u32>>,
+    mut document: Value,
+) -> Result<Plan, PlanFail>
+    requires dependencies { lists_of dependencies.items ≡ dependencies_of (view document) }
+    requires accepted { IsAccepted (view document) }
+    ensures plan { IfOk result (λ plan. plan ≡ plan_of (view document)) }
+    ensures memory { IfErr result (λ e. e ≡ PlanFail.NoMemory) }
+{
+    let requirements = all_requirements(alloc, &document)?;
+    let names = requirements_names(alloc, &document)?;
+    let projects = names_taken(alloc, take_projects(alloc, &mut document))?;
+    let tables = take_tasks(alloc, &mut document);
+    let tasks = tasks_of_plan(
+        alloc,
+        &projects,
+        &names,
+        &requirements,
+        tables,
+        dependencies,
+    )?;
+    Ok(Plan::new(projects, tasks, requirements))
+}
+
+/// The plan of a document, or the first refusal behind those of its text.
+fn read_tables(alloc: Global, document: Value) -> Result<Plan, PlanFail>
+    requires { is_numbered (view document) ≡ true }
+    ensures { Gives (AnswersBy (refusal_before (view document)) (view document)) result }
+{
+    let dependencies = check_tables(alloc, &document)?;
+    plan_of(alloc, dependencies, document)
 }
 
 /// Reads a plan, or answers why the text is none: with the refusal that stands first in `PlanRefusal`, at the
@@ -190,5 +205,5 @@ pub fn read_plan(alloc: Global, bytes: &[u8]) -> Result<Plan, PlanFail>
     ensures { Gives (Reads bytes.now) result }
 {
     let document = read_document(alloc, bytes)?;
-    read_tables(alloc, &document)
+    read_tables(alloc, document)
 }

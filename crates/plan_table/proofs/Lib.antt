@@ -4,3 +4,4 @@ pub mod FirstAnswers
 pub mod FirstPlaces
 pub mod FirstLaws
 pub mod FormedLaws
+pub mod TakenOut

@@ -7,3 +7,4 @@ pub mod Tables
 pub mod Search
 pub mod First
 pub mod Formed
+pub mod Taking

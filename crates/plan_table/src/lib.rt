@@ -13,6 +13,7 @@ mod rules;
 mod search;
 mod table_refusals;
 mod tables;
+mod taking;
 mod values;
 
 pub use document::read_document;
@@ -27,4 +28,8 @@ pub use laws::{the_first_place_is_told, the_first_refusal_is_told, what_is_not_r
 pub use refusals::{Part, Place, PlanFail, PlanRefusal, Which};
 pub use search::{PlaceTest, first_place, places};
 pub use table_refusals::table_refusal;
+pub use taking::{
+    into_text, take_actions, take_fetch, take_file, take_items, take_name, take_projects,
+    take_requirements, take_tasks,
+};
 pub use values::text_of;

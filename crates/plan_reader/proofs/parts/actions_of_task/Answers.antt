@@ -1,8 +1,8 @@
 use Rattle.std.proofs.Common.{◌∙◌, sym}
-use Rattle.plan_reader.specs.Names.{name_lists}
 use Rattle.plan_reader.specs.Planned.{action_of}
+use Rattle.plan_reader.specs.Taken.{known_names}
 use Rattle.plan_reader.proofs.Lists.{map_of_elements}
 use Rattle.plan_reader.proofs.parts.actions_of_task.Goals as goal
 
 pub returns : goal.returns
-returns c = c.in_ok-actions.ensures ∙ sym (map_of_elements (action_of (name_lists c.args.known.now.names.now) c.args.known.now.profiles.now) _ _ c.actions_of.ensures)
+returns c = c.in_ok-actions.ensures ∙ sym (map_of_elements (action_of (known_names c.args.known.now) c.args.known.now.profiles.now) _ _ c.take_actions.ensures.actions)

@@ -1,0 +1,134 @@
+//! What is taken out of a plan's tables by its value. What is taken isn't copied, and what stands under the other keys
+//! stays.
+ghost use Rattle.std.specs.Prelude.{◌≡◌, codes, map, option_map};
+ghost use Rattle.toml.specs.Data.{get};
+ghost use Rattle.toml.specs.View.{view};
+ghost use Rattle.plan_table.specs.Values.{elements, text_of, text_or_empty, list_at, text_at, optional_text_at};
+ghost use Rattle.plan_table.specs.Keys.{projects_of, tasks_of, requirements_of, name_of, actions_of, fetch_of, items_of, file_of};
+ghost use Rattle.plan_table.specs.Taking.{KeepsOthers};
+
+use item_actions::Text;
+use std::alloc::Global;
+use toml::Value;
+
+/// Takes what stands under a key of the table. Another value has no keys.
+fn take(table: &mut Value, key: &str) -> Option<Value>
+    ensures value { option_map view result ≡ get key.now (view table.old) }
+    ensures others { KeepsOthers key.now (view table.old) (view table.new) }
+{
+    match table.as_table_mut() {
+        Some(members) => members.remove(key),
+        None => None,
+    }
+}
+
+/// The text, and the empty text in place of another value.
+pub fn into_text(alloc: Global, value: Value) -> Text
+    ensures { result ≡ text_of (view value) }
+{
+    match value {
+        Value::String(text) => Text::from(text),
+        _ => Text::from(String::new(alloc)),
+    }
+}
+
+fn into_text_or_empty(alloc: Global, value: Option<Value>) -> Text
+    ensures { result ≡ text_or_empty (option_map view value) }
+{
+    match value {
+        Some(value) => into_text(alloc, value),
+        None => Text::from(String::new(alloc)),
+    }
+}
+
+/// The members of an array, and none of another value.
+#[tactic(auto, using(crate::proofs::Lists::elements_of_array))]
+fn into_elements(alloc: Global, value: Option<Value>) -> Vec<Value>
+    ensures { map view result.items ≡ elements (option_map view value) }
+{
+    match value {
+        Some(Value::Array(items)) => items,
+        _ => Vec::new(alloc),
+    }
+}
+
+fn take_text(alloc: Global, table: &mut Value, key: &str) -> Text
+    ensures text { result ≡ text_at key.now (view table.old) }
+    ensures others { KeepsOthers key.now (view table.old) (view table.new) }
+{
+    into_text_or_empty(alloc, take(table, key))
+}
+
+fn take_list(alloc: Global, table: &mut Value, key: &str) -> Vec<Value>
+    ensures list { map view result.items ≡ list_at key.now (view table.old) }
+    ensures others { KeepsOthers key.now (view table.old) (view table.new) }
+{
+    into_elements(alloc, take(table, key))
+}
+
+/// Takes the projects of a document.
+pub fn take_projects(alloc: Global, document: &mut Value) -> Vec<Value>
+    ensures projects { map view result.items ≡ projects_of (view document.old) }
+    ensures others { KeepsOthers (codes "project") (view document.old) (view document.new) }
+{
+    take_list(alloc, document, "project")
+}
+
+/// Takes the tasks of a document.
+pub fn take_tasks(alloc: Global, document: &mut Value) -> Vec<Value>
+    ensures tasks { map view result.items ≡ tasks_of (view document.old) }
+    ensures others { KeepsOthers (codes "task") (view document.old) (view document.new) }
+{
+    take_list(alloc, document, "task")
+}
+
+/// Takes the requirements of a document.
+pub fn take_requirements(alloc: Global, document: &mut Value) -> Vec<Value>
+    ensures requirements { map view result.items ≡ requirements_of (view document.old) }
+    ensures others { KeepsOthers (codes "requirements") (view document.old) (view document.new) }
+{
+    take_list(alloc, document, "requirements")
+}
+
+/// Takes the name of a project, a task or requirements.
+pub fn take_name(alloc: Global, table: &mut Value) -> Text
+    ensures name { result ≡ name_of (view table.old) }
+    ensures others { KeepsOthers (codes "name") (view table.old) (view table.new) }
+{
+    take_text(alloc, table, "name")
+}
+
+/// Takes the actions of a task.
+pub fn take_actions(alloc: Global, task: &mut Value) -> Vec<Value>
+    ensures actions { map view result.items ≡ actions_of (view task.old) }
+    ensures others { KeepsOthers (codes "action") (view task.old) (view task.new) }
+{
+    take_list(alloc, task, "action")
+}
+
+/// Takes the file that an action fetches, if it fetches one.
+pub fn take_fetch(action: &mut Value) -> Option<Text>
+    ensures fetch { result ≡ fetch_of (view action.old) }
+    ensures others { KeepsOthers (codes "fetch") (view action.old) (view action.new) }
+{
+    match take(action, "fetch") {
+        Some(Value::String(file)) => Some(Text::from(file)),
+        _ => None,
+    }
+}
+
+/// Takes the items of an action.
+pub fn take_items(alloc: Global, action: &mut Value) -> Vec<Value>
+    ensures items { map view result.items ≡ items_of (view action.old) }
+    ensures others { KeepsOthers (codes "item") (view action.old) (view action.new) }
+{
+    take_list(alloc, action, "item")
+}
+
+/// Takes the file of an item.
+pub fn take_file(alloc: Global, item: &mut Value) -> Text
+    ensures file { result ≡ file_of (view item.old) }
+    ensures others { KeepsOthers (codes "file") (view item.old) (view item.new) }
+{
+    take_text(alloc, item, "file")
+}
