@@ -1,80 +1,74 @@
 //! The requirements of a plan.
-ghost use Rattle.std.specs.Prelude.{string_bytes, ◌≡◌, [], true, map, None, IfOk, option_map};
+ghost use Rattle.std.specs.Prelude.{string_bytes, codes, ◌≡◌, true, map, IfOk};
 ghost use Rattle.std.specs.List.{list_all};
-ghost use Rattle.std.specs.Option.{option_map_or};
 ghost use Rattle.toml.specs.View.{view};
 ghost use Rattle.daemon_requirements.specs.RequirementsView.{requirements_view, HasDistinctNames};
 ghost use Rattle.plan_table.specs.Keys.{requirements_of, heap_of, name_of};
+ghost use Rattle.plan_table.specs.Taking.{KeepsOthers};
 ghost use Rattle.plan_table.specs.Values.{text_of};
 ghost use Rattle.plan_reader.specs.Names.{names_in};
 ghost use Rattle.plan_reader.specs.Rows.{is_heap};
-ghost use Rattle.plan_reader.specs.Planned.{pair_of, requirements_from, default_requirements, all_requirements, requirements_named};
+ghost use Rattle.plan_reader.specs.Planned.{pair_of, heap_number, requirements_from, default_requirements, all_requirements, requirements_named};
 
 use daemon_requirements::{Pair, RequirementFields, Requirements};
 use item_actions::Text;
 use plan_table::{
-    args_of, assertions_of, debug_of, encoding_of, executable_of, heap_of, name_of, properties_of,
-    requirements_of, text_of, variables_of,
+    assertions_of, debug_of, heap_of, into_text, name_of, requirements_of, take_args,
+    take_encoding, take_executable, take_properties, take_requirements, take_variables,
 };
 use std::alloc::{AllocError, Global};
 use toml::{Table, Value};
 
-fn texts_of(alloc: Global, values: &[Value]) -> Result<Vec<Text>, AllocError>
-    ensures { IfOk result (λ texts. texts.items ≡ map (λ v. text_of (view v)) values.now) }
+fn texts_of(alloc: Global, values: Vec<Value>) -> Result<Vec<Text>, AllocError>
+    ensures { IfOk result (λ texts. texts.items ≡ map (λ v. text_of (view v)) values.items) }
 {
     let mut texts = Vec::with_capacity(alloc, values.len())?;
     for value in values {
-        texts.push(Text::from_str(alloc, text_of(value))?)?;
+        texts.push(into_text(alloc, value))?;
     }
     Ok(texts)
 }
 
-fn pairs_of_table(alloc: Global, table: &Table) -> Result<Vec<Pair>, AllocError>
-    ensures pairs { IfOk result (λ pairs. pairs.items ≡ map (λ e. pair_of (string_bytes e.0, text_of (view e.1))) table.now.entries) }
+fn pairs_of(alloc: Global, table: Table) -> Result<Vec<Pair>, AllocError>
+    ensures pairs { IfOk result (λ pairs. pairs.items ≡ map (λ e. pair_of (string_bytes e.0, text_of (view e.1))) table.entries) }
     ensures distinct { IfOk result (λ pairs. HasDistinctNames pairs.items) }
 {
-    let mut pairs = Vec::new(alloc);
+    let mut pairs = Vec::with_capacity(alloc, table.len())?;
     for (name, value) in table {
-        let name = Text::from_str(alloc, name.as_str())?;
-        let value = Text::from_str(alloc, text_of(value))?;
+        let name = Text::from(name);
+        let value = into_text(alloc, value);
         pairs.push(Pair { name, value })?;
     }
     Ok(pairs)
 }
 
-fn pairs_of(alloc: Global, table: Option<&Table>) -> Result<Vec<Pair>, AllocError>
-    ensures pairs { IfOk result (λ pairs. pairs.items ≡ map pair_of (option_map_or (λ m. map (λ e. (string_bytes e.0, text_of (view e.1))) m.now.entries) table.entry [])) }
-    ensures distinct { IfOk result (λ pairs. HasDistinctNames pairs.items) }
+fn heap_mb_of(requirements: &Value) -> u32
+    requires { is_heap (heap_of (view requirements.now)) ≡ true }
+    ensures { result ≡ heap_number (heap_of (view requirements.now)) }
 {
-    match table {
-        Some(table) => {
-            let pairs = pairs_of_table(alloc, table)?;
-            Ok(pairs)
-        }
-        None => Ok(Vec::new(alloc)),
-    }
+    heap_of(requirements) as u32
 }
 
-fn fields_of(alloc: Global, requirements: &Value) -> Result<RequirementFields, AllocError>
-    requires { is_heap (heap_of (view requirements.now)) ≡ true }
-    ensures fields { IfOk result (λ f. requirements_view f ≡ requirements_from (view requirements.now)) }
+fn fields_of(alloc: Global, mut requirements: Value) -> Result<RequirementFields, AllocError>
+    requires { is_heap (heap_of (view requirements)) ≡ true }
+    ensures fields { IfOk result (λ f. requirements_view f ≡ requirements_from (view requirements)) }
     ensures distinct { IfOk result (λ f. HasDistinctNames f.properties.items × HasDistinctNames f.variables.items) }
 {
     Ok(RequirementFields {
-        executable: Text::from_str(alloc, executable_of(requirements))?,
-        heap_mb: heap_of(requirements) as u32,
-        args: texts_of(alloc, args_of(requirements))?,
-        properties: pairs_of(alloc, properties_of(requirements))?,
-        variables: pairs_of(alloc, variables_of(requirements))?,
-        debug: debug_of(requirements),
-        assertions: assertions_of(requirements),
-        encoding: Text::from_str(alloc, encoding_of(requirements))?,
+        heap_mb: heap_mb_of(&requirements),
+        debug: debug_of(&requirements),
+        assertions: assertions_of(&requirements),
+        executable: take_executable(alloc, &mut requirements)?,
+        args: texts_of(alloc, take_args(alloc, &mut requirements))?,
+        properties: pairs_of(alloc, take_properties(alloc, &mut requirements))?,
+        variables: pairs_of(alloc, take_variables(alloc, &mut requirements))?,
+        encoding: take_encoding(alloc, &mut requirements)?,
     })
 }
 
-fn requirements_from(alloc: Global, requirements: &Value) -> Result<Requirements, AllocError>
-    requires { is_heap (heap_of (view requirements.now)) ≡ true }
-    ensures { IfOk result (λ p. p ≡ requirements_from (view requirements.now)) }
+fn requirements_from(alloc: Global, requirements: Value) -> Result<Requirements, AllocError>
+    requires { is_heap (heap_of (view requirements)) ≡ true }
+    ensures { IfOk result (λ p. p ≡ requirements_from (view requirements)) }
 {
     let fields = fields_of(alloc, requirements)?;
     match Requirements::of(fields) {
@@ -88,12 +82,12 @@ pub(crate) fn default_requirements(alloc: Global) -> Result<Requirements, AllocE
     ensures { IfOk result (λ p. p ≡ default_requirements) }
 {
     let empty = Value::Table(Table::new(alloc));
-    requirements_from(alloc, &empty)
+    requirements_from(alloc, empty)
 }
 
-fn profiles_in(alloc: Global, values: &[Value]) -> Result<Vec<Requirements>, AllocError>
-    requires { list_all (λ v. is_heap (heap_of (view v))) values.now ≡ true }
-    ensures { IfOk result (λ profiles. profiles.items ≡ map (λ v. requirements_from (view v)) values.now) }
+fn profiles_in(alloc: Global, values: Vec<Value>) -> Result<Vec<Requirements>, AllocError>
+    requires { list_all (λ v. is_heap (heap_of (view v))) values.items ≡ true }
+    ensures { IfOk result (λ profiles. profiles.items ≡ map (λ v. requirements_from (view v)) values.items) }
 {
     let mut profiles = Vec::with_capacity(alloc, values.len())?;
     for value in values {
@@ -102,15 +96,16 @@ fn profiles_in(alloc: Global, values: &[Value]) -> Result<Vec<Requirements>, All
     Ok(profiles)
 }
 
-/// The requirements of a document, by number.
+/// Takes the requirements of a document, by number.
 pub(crate) fn all_requirements(
     alloc: Global,
-    document: &Value,
+    document: &mut Value,
 ) -> Result<Vec<Requirements>, AllocError>
-    requires { list_all (λ r. is_heap (heap_of r)) (requirements_of (view document.now)) ≡ true }
-    ensures { IfOk result (λ profiles. profiles.items ≡ all_requirements (view document.now)) }
+    requires { list_all (λ r. is_heap (heap_of r)) (requirements_of (view document.old)) ≡ true }
+    ensures requirements { IfOk result (λ profiles. profiles.items ≡ all_requirements (view document.old)) }
+    ensures others { KeepsOthers (codes "requirements") (view document.old) (view document.new) }
 {
-    let profiles = profiles_in(alloc, requirements_of(document))?;
+    let profiles = profiles_in(alloc, take_requirements(alloc, document))?;
     Ok(profiles)
 }
 

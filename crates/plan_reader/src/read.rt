@@ -163,7 +163,7 @@ fn check_tables(alloc: Global, document: &Value) -> Result<Vec<Vec<u32>>, PlanFa
     check_named(alloc, &names, document)
 }
 
-/// The plan of a document that nothing refuses. The texts of its projects and tasks are moved out of the document.
+/// The plan of a document that nothing refuses. Its texts are moved out of the document.
 fn plan_of(
     alloc: Global,
     dependencies: Vec<Vec<u32>>,
@@ -174,8 +174,8 @@ fn plan_of(
     ensures plan { IfOk result (λ plan. plan ≡ plan_of (view document)) }
     ensures memory { IfErr result (λ e. e ≡ PlanFail.NoMemory) }
 {
-    let requirements = all_requirements(alloc, &document)?;
     let names = requirements_names(alloc, &document)?;
+    let requirements = all_requirements(alloc, &mut document)?;
     let projects = names_taken(alloc, take_projects(alloc, &mut document))?;
     let tables = take_tasks(alloc, &mut document);
     let tasks = tasks_of_plan(

@@ -3,7 +3,7 @@ ghost use Rattle.std.specs.Prelude.{string_bytes, ◌≡◌, [], map, option_map
 ghost use Rattle.std.specs.Option.{option_map_or};
 ghost use Rattle.toml.specs.View.{view};
 ghost use Rattle.plan_table.specs.Values.{text_of};
-ghost use Rattle.plan_table.specs.Keys.{projects_of, tasks_of, requirements_of, name_of, project_of, after_of, actions_of, wait_of, fetch_of, items_of, do_of, file_of, needle_of, isolation_of, requirements_name_of, executable_of, heap_of, args_of, properties_of, variables_of, debug_of, assertions_of, encoding_of};
+ghost use Rattle.plan_table.specs.Keys.{projects_of, tasks_of, requirements_of, name_of, project_of, after_of, actions_of, wait_of, fetch_of, items_of, do_of, needle_of, isolation_of, requirements_name_of, heap_of, args_of, properties_of, variables_of, debug_of, assertions_of};
 
 use crate::values::{
     boolean_or, integer_or, list_at, optional_text_at, table_of, text_at, text_or,
@@ -88,13 +88,6 @@ pub fn do_of<'a>(item: &'a Value) -> &'a str
     text_at(item, "do")
 }
 
-/// The file of an item.
-pub fn file_of<'a>(item: &'a Value) -> &'a str
-    ensures { result.now ≡ file_of (view item.entry.now) }
-{
-    text_at(item, "file")
-}
-
 /// The needle of an item that counts, and the empty text where it has none.
 pub fn needle_of<'a>(item: &'a Value) -> &'a str
     ensures { result.now ≡ needle_of (view item.entry.now) }
@@ -114,13 +107,6 @@ pub fn requirements_name_of<'a>(item: &'a Value) -> Option<&'a str>
     ensures { option_map (λ s. s.now) result ≡ requirements_name_of (view item.entry.now) }
 {
     optional_text_at(item, "requirements")
-}
-
-/// The executable of requirements: `self` where they have none.
-pub fn executable_of<'a>(requirements: &'a Value) -> &'a str
-    ensures { result.now ≡ executable_of (view requirements.entry.now) }
-{
-    text_or(requirements.get("executable"), "self")
 }
 
 /// The heap of requirements in MB, of any size: 512 where they have none.
@@ -163,11 +149,4 @@ pub fn assertions_of(requirements: &Value) -> bool
     ensures { result ≡ assertions_of (view requirements.now) }
 {
     boolean_or(requirements.get("assertions"), false)
-}
-
-/// The encoding of requirements: `UTF-8` where they have none.
-pub fn encoding_of<'a>(requirements: &'a Value) -> &'a str
-    ensures { result.now ≡ encoding_of (view requirements.entry.now) }
-{
-    text_or(requirements.get("encoding"), "UTF-8")
 }

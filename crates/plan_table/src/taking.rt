@@ -1,15 +1,15 @@
 //! What is taken out of a plan's tables by its value. What is taken isn't copied, and what stands under the other keys
 //! stays.
-ghost use Rattle.std.specs.Prelude.{◌≡◌, codes, map, option_map};
+ghost use Rattle.std.specs.Prelude.{◌≡◌, codes, map, string_bytes, option_map, IfOk};
 ghost use Rattle.toml.specs.Data.{get};
 ghost use Rattle.toml.specs.View.{view};
-ghost use Rattle.plan_table.specs.Values.{elements, text_of, text_or_empty, list_at, text_at, optional_text_at};
-ghost use Rattle.plan_table.specs.Keys.{projects_of, tasks_of, requirements_of, name_of, actions_of, fetch_of, items_of, file_of};
+ghost use Rattle.plan_table.specs.Values.{elements, table_pairs, text_of, text_or_empty, text_or, list_at, text_at, pairs_at, optional_text_at};
+ghost use Rattle.plan_table.specs.Keys.{projects_of, tasks_of, requirements_of, name_of, actions_of, fetch_of, items_of, file_of, executable_of, args_of, properties_of, variables_of, encoding_of};
 ghost use Rattle.plan_table.specs.Taking.{KeepsOthers};
 
 use item_actions::Text;
-use std::alloc::Global;
-use toml::Value;
+use std::alloc::{AllocError, Global};
+use toml::{Table, Value};
 
 /// Takes what stands under a key of the table. Another value has no keys.
 fn take(table: &mut Value, key: &str) -> Option<Value>
@@ -57,6 +57,39 @@ fn take_text(alloc: Global, table: &mut Value, key: &str) -> Text
     ensures others { KeepsOthers key.now (view table.old) (view table.new) }
 {
     into_text_or_empty(alloc, take(table, key))
+}
+
+/// The members of a table, and none of another value.
+#[tactic(auto, using(crate::proofs::Lists::pairs_of_table))]
+fn into_members(alloc: Global, value: Option<Value>) -> Table
+    ensures { map (λ e. (string_bytes e.0, text_of (view e.1))) result.entries ≡ table_pairs (option_map view value) }
+{
+    match value {
+        Some(Value::Table(members)) => members,
+        _ => Table::new(alloc),
+    }
+}
+
+fn take_text_or(
+    alloc: Global,
+    table: &mut Value,
+    key: &str,
+    default: &'static str,
+) -> Result<Text, AllocError>
+    ensures text { IfOk result (λ t. t ≡ text_or default.entry.now (get key.now (view table.old))) }
+    ensures others { KeepsOthers key.now (view table.old) (view table.new) }
+{
+    match take(table, key) {
+        Some(value) => Ok(into_text(alloc, value)),
+        None => Text::from_str(alloc, default),
+    }
+}
+
+fn take_members(alloc: Global, table: &mut Value, key: &str) -> Table
+    ensures members { map (λ e. (string_bytes e.0, text_of (view e.1))) result.entries ≡ pairs_at key.now (view table.old) }
+    ensures others { KeepsOthers key.now (view table.old) (view table.new) }
+{
+    into_members(alloc, take(table, key))
 }
 
 fn take_list(alloc: Global, table: &mut Value, key: &str) -> Vec<Value>
@@ -131,4 +164,44 @@ pub fn take_file(alloc: Global, item: &mut Value) -> Text
     ensures others { KeepsOthers (codes "file") (view item.old) (view item.new) }
 {
     take_text(alloc, item, "file")
+}
+
+/// Takes the executable of requirements: `self` where they have none.
+pub fn take_executable(alloc: Global, requirements: &mut Value) -> Result<Text, AllocError>
+    ensures executable { IfOk result (λ t. t ≡ executable_of (view requirements.old)) }
+    ensures others { KeepsOthers (codes "executable") (view requirements.old) (view requirements.new) }
+{
+    take_text_or(alloc, requirements, "executable", "self")
+}
+
+/// Takes the arguments of requirements, each to be read by `into_text`.
+pub fn take_args(alloc: Global, requirements: &mut Value) -> Vec<Value>
+    ensures args { map (λ v. text_of (view v)) result.items ≡ args_of (view requirements.old) }
+    ensures others { KeepsOthers (codes "args") (view requirements.old) (view requirements.new) }
+{
+    take_list(alloc, requirements, "args")
+}
+
+/// Takes the properties of requirements, by name. Each value is to be read by `into_text`.
+pub fn take_properties(alloc: Global, requirements: &mut Value) -> Table
+    ensures properties { map (λ e. (string_bytes e.0, text_of (view e.1))) result.entries ≡ properties_of (view requirements.old) }
+    ensures others { KeepsOthers (codes "properties") (view requirements.old) (view requirements.new) }
+{
+    take_members(alloc, requirements, "properties")
+}
+
+/// Takes the variables of requirements, by name. Each value is to be read by `into_text`.
+pub fn take_variables(alloc: Global, requirements: &mut Value) -> Table
+    ensures variables { map (λ e. (string_bytes e.0, text_of (view e.1))) result.entries ≡ variables_of (view requirements.old) }
+    ensures others { KeepsOthers (codes "variables") (view requirements.old) (view requirements.new) }
+{
+    take_members(alloc, requirements, "variables")
+}
+
+/// Takes the encoding of requirements: `UTF-8` where they have none.
+pub fn take_encoding(alloc: Global, requirements: &mut Value) -> Result<Text, AllocError>
+    ensures encoding { IfOk result (λ t. t ≡ encoding_of (view requirements.old)) }
+    ensures others { KeepsOthers (codes "encoding") (view requirements.old) (view requirements.new) }
+{
+    take_text_or(alloc, requirements, "encoding", "UTF-8")
 }

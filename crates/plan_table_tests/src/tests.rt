@@ -28,7 +28,6 @@ fn has_properties(requirements: &Value) -> bool {
 
 fn is_large(requirements: &Value) -> bool {
     name_of(requirements) == "large"
-        && executable_of(requirements) == "java"
         && heap_of(requirements) == 2048
         && args_of(requirements).len() == 2
         && args_of(requirements)
@@ -38,7 +37,6 @@ fn is_large(requirements: &Value) -> bool {
         && variables_of(requirements).is_some_and(|variables| variables.len() == 1)
         && debug_of(requirements)
         && assertions_of(requirements)
-        && encoding_of(requirements) == "US-ASCII"
 }
 
 #[test]
@@ -78,14 +76,12 @@ fn is_plain_task(task: &Value) -> bool {
 }
 
 fn are_plain(requirements: &Value) -> bool {
-    executable_of(requirements) == "self"
-        && heap_of(requirements) == 512
+    heap_of(requirements) == 512
         && args_of(requirements).is_empty()
         && properties_of(requirements).is_none()
         && variables_of(requirements).is_none()
         && !debug_of(requirements)
         && !assertions_of(requirements)
-        && encoding_of(requirements) == "UTF-8"
 }
 
 #[test]
@@ -103,5 +99,37 @@ fn absent_keys_have_their_defaults(rt: HostRuntime) -> Result<(), Fail> {
             .first()
             .is_some_and(|plain| are_plain(plain))
     );
+    Ok(())
+}
+
+#[test]
+fn texts_of_requirements_are_taken(rt: HostRuntime) -> Result<(), Fail> {
+    let mut document = read_document(rt.alloc(), EVERY_KEY.as_bytes())?;
+    for mut large in take_requirements(rt.alloc(), &mut document) {
+        let executable = take_executable(rt.alloc(), &mut large)?;
+        assert_eq!(rt; executable.as_str(), "java");
+        let encoding = take_encoding(rt.alloc(), &mut large)?;
+        assert_eq!(rt; encoding.as_str(), "US-ASCII");
+        assert_eq!(rt; take_args(rt.alloc(), &mut large).len(), 2);
+        assert_eq!(rt; take_properties(rt.alloc(), &mut large).len(), 2);
+        assert_eq!(rt; take_variables(rt.alloc(), &mut large).len(), 1);
+        assert_eq!(rt; name_of(&large), "large");
+        assert!(rt; args_of(&large).is_empty());
+    }
+    assert!(rt; requirements_of(&document).is_empty());
+    Ok(())
+}
+
+#[test]
+fn absent_texts_are_taken_as_their_defaults(rt: HostRuntime) -> Result<(), Fail> {
+    let mut document = read_document(rt.alloc(), NO_KEY.as_bytes())?;
+    for mut plain in take_requirements(rt.alloc(), &mut document) {
+        let executable = take_executable(rt.alloc(), &mut plain)?;
+        assert_eq!(rt; executable.as_str(), "self");
+        let encoding = take_encoding(rt.alloc(), &mut plain)?;
+        assert_eq!(rt; encoding.as_str(), "UTF-8");
+    }
+    assert!(rt; take_projects(rt.alloc(), &mut document).is_empty());
+    assert_eq!(rt; take_tasks(rt.alloc(), &mut document).len(), 1);
     Ok(())
 }

@@ -7,7 +7,7 @@ use Rattle.plan_reader.proofs.Lists.{map_of_elements}
 use Rattle.plan_reader.proofs.profiles.all_requirements.Goals as goal
 
 pub profiles_in-requires : goal.profiles_in-requires
-profiles_in-requires c = sym (all_of_elements (λ r. is_heap (heap_of r)) _ _ c.requirements_of.ensures) ∙ c.requires
+profiles_in-requires c = sym (all_of_elements (λ r. is_heap (heap_of r)) _ _ c.take_requirements.ensures.requirements) ∙ c.requires
 
-pub returns : goal.returns
-returns c = c.in_ok-profiles.ensures ∙ sym (map_of_elements requirements_from _ _ c.requirements_of.ensures)
+pub returns-clause-requirements : goal.returns-clause-requirements
+returns-clause-requirements c = c.in_ok-profiles.ensures ∙ sym (map_of_elements requirements_from _ _ c.take_requirements.ensures.requirements)

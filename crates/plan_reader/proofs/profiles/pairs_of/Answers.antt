@@ -1,9 +1,11 @@
-use Rattle.std.proofs.Common.{string_bytes, sym, ◌∙◌}
-use Rattle.toml.specs.View.{view}
-use Rattle.plan_table.specs.Values.{text_of}
-use Rattle.plan_table.proofs.Lists.{map_of_map}
-use Rattle.plan_reader.specs.Planned.{pair_of}
+use Rattle.std.proofs.Common.{◌≡◌, ◌++◌, map, ap, sym, subst, ◌∙◌}
+use Rattle.std.proofs.lemmas.List.{append-nil}
+use Rattle.daemon_requirements.specs.RequirementsView.{HasDistinctNames}
+use Rattle.plan_reader.proofs.Pairs.{pair_shown, distinct_names}
 use Rattle.plan_reader.proofs.profiles.pairs_of.Goals as goal
 
-pub returns-in_ok-pairs-in-Some-clause-pairs : goal.returns-in_ok-pairs-in-Some-clause-pairs
-returns-in_ok-pairs-in-Some-clause-pairs c = rw c.in-Some.is (c.in_ok-pairs-in-Some.ensures.pairs ∙ sym (map_of_map pair_of (λ e. (string_bytes e.0, text_of (view e.1))) c.in-Some.table.now.entries))
+pub returns-clause-distinct : goal.returns-clause-distinct
+returns-clause-distinct c =
+    let pairs = c.loop-name.pairs.items in
+    let all : map pair_shown c.args.table.entries ≡ pairs = sym c.loop-name.invariant ∙ ap (λ rest. pairs ++ map pair_shown rest) c.in-None.ensures.steps.0 ∙ append-nil pairs in
+    subst HasDistinctNames all (distinct_names c.args.table.entries c.into_iter-name-iterator.ensures.into_iter_gives.5)

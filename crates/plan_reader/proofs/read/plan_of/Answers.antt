@@ -15,7 +15,8 @@ all_requirements-requires c = heaps_fit (view c.args.document) c.requires.accept
 
 pub tasks_of_plan-requires-clause-projects : goal.tasks_of_plan-requires-clause-projects
 tasks_of_plan-requires-clause-projects c =
-    ap first_repeat (c.deref.ensures.value ∙ c.in_ok-projects.ensures ∙ sym (map_of_elements name_of _ _ c.take_projects.ensures.projects))
+    let projects = c.take_projects.ensures.projects ∙ ap elements (c.all_requirements.ensures.others (codes "project") refl) in
+    ap first_repeat (c.deref.ensures.value ∙ c.in_ok-projects.ensures ∙ sym (map_of_elements name_of _ _ projects))
     ∙ none_repeated (view c.args.document) c.requires.accepted Project
 
 pub tasks_of_plan-requires-clause-requirements : goal.tasks_of_plan-requires-clause-requirements
@@ -24,14 +25,19 @@ tasks_of_plan-requires-clause-requirements c = ap first_repeat (c.deref-2.ensure
 pub new-requires : goal.new-requires
 new-requires c =
     let d = view c.args.document in
-    let projects = c.in_ok-projects.ensures ∙ sym (map_of_elements name_of _ _ c.take_projects.ensures.projects) in
-    let tables = c.take_tasks-tables.ensures.tasks ∙ ap elements (c.take_projects.ensures.others (codes "task") refl) in
-    subst IsPlan (sym (plan_taken d _ _ _ _ _ _ _ _ _ c.deref.ensures.value c.deref-2.ensures.value c.deref-3.ensures.value projects c.in_ok-names.ensures c.in_ok-requirements.ensures tables c.requires.dependencies c.in_ok-tasks.ensures))
-    (is_plan d c.requires.accepted)
+    let projects = c.take_projects.ensures.projects ∙ ap elements (c.all_requirements.ensures.others (codes "project") refl) in
+    let tables = c.take_tasks-tables.ensures.tasks ∙ ap elements (c.take_projects.ensures.others (codes "task") refl ∙ c.all_requirements.ensures.others (codes "task") refl) in
+    let made =
+    plan_taken d _ _ _ _ _ _ _ _ _ c.deref.ensures.value c.deref-2.ensures.value c.deref-3.ensures.value (c.in_ok-projects.ensures ∙ sym (map_of_elements name_of _ _ projects)) c.in_ok-names.ensures
+    c.in_ok-requirements.ensures.requirements tables c.requires.dependencies c.in_ok-tasks.ensures
+    in
+    subst IsPlan (sym made) (is_plan d c.requires.accepted)
 
 pub returns-clause-plan : goal.returns-clause-plan
 returns-clause-plan c =
     let d = view c.args.document in
-    let projects = c.in_ok-projects.ensures ∙ sym (map_of_elements name_of _ _ c.take_projects.ensures.projects) in
-    let tables = c.take_tasks-tables.ensures.tasks ∙ ap elements (c.take_projects.ensures.others (codes "task") refl) in
-    c.new.ensures ∙ plan_taken d _ _ _ _ _ _ _ _ _ c.deref.ensures.value c.deref-2.ensures.value c.deref-3.ensures.value projects c.in_ok-names.ensures c.in_ok-requirements.ensures tables c.requires.dependencies c.in_ok-tasks.ensures
+    let projects = c.take_projects.ensures.projects ∙ ap elements (c.all_requirements.ensures.others (codes "project") refl) in
+    let tables = c.take_tasks-tables.ensures.tasks ∙ ap elements (c.take_projects.ensures.others (codes "task") refl ∙ c.all_requirements.ensures.others (codes "task") refl) in
+    c.new.ensures
+    ∙ plan_taken d _ _ _ _ _ _ _ _ _ c.deref.ensures.value c.deref-2.ensures.value c.deref-3.ensures.value (c.in_ok-projects.ensures ∙ sym (map_of_elements name_of _ _ projects)) c.in_ok-names.ensures
+    c.in_ok-requirements.ensures.requirements tables c.requires.dependencies c.in_ok-tasks.ensures

@@ -1,6 +1,0 @@
-use Rattle.std.proofs.Common.{◌≡◌, ◌++◌, map}
-use Rattle.plan_reader.proofs.Pairs.{pair_shown}
-use Rattle.plan_reader.proofs.profiles.pairs_of_table.Given as goal
-
-abbrev pub invariant-loop-name : goal.invariant-loop-name
-invariant-loop-name l = l.pairs.items ++ map pair_shown l.name-iterator ≡ map pair_shown l.table.entries
