@@ -1,8 +1,8 @@
 -- A set of numbers by its words and their summary.
-use Rattle.std.proofs.Common.{◌≡◌, ◌≢◌, ℕ, ◌+◌, ◌-◌, ◌*◌, ◌/◌, ◌^◌, ◌<◌, ◌≤◌, Bool, true, false, not, ◌||◌, eqb, Option, None, Some, List, length, get_or, w64, sym, ◌∙◌, subst, ap, arith, ◌⊎◌, inl, inr}
+use Rattle.std.proofs.Common.{◌≡◌, ◌≢◌, ℕ, ◌+◌, ◌-◌, ◌*◌, ◌/◌, ◌^◌, ◌<◌, ◌≤◌, Bool, true, false, not, ◌||◌, eqb, Option, None, Some, List, length, get_or, w64, refl, sym, ◌∙◌, subst, ap, arith, ◌⊎◌, inl, inr}
 use Rattle.std.proofs.lemmas.List.{get_or_past}
 use Rattle.std.proofs.lemmas.List.FromFn.{get_or-map-range_with_len, length-map-range_with_len}
-use Rattle.std.proofs.lemmas.Bool.{cases_eq, cases_lt, eq-eqb, eqb-false, eqb-true, ne_eqb, or_cases, or_parts}
+use Rattle.std.proofs.lemmas.Bool.{cases_eq, cases_lt, eq-eqb, eqb-false, eqb-true, ne_eqb, or_cases, or_parts, false_from_ne_true}
 use Rattle.std.specs.Prelude.{IfNone}
 use Rattle.std.specs.Int.{trailing_zeros}
 use Rattle.ready_work.specs.WordBits.{bit_in, HasBit, IsInWord}
@@ -190,6 +190,20 @@ lowest_member words from n low = record {
 
 pub no_member : (words : List ℕ) (from : ℕ) → IsNone (IsFrom from (HasBit words)) → IsNone (IsFrom from (IsMember (set_in words)))
 no_member words from none = record { none = λ k is. none.none k (record { past = is.past; such = member_bit words k is.such }) }
+
+-- whether the next bit is the number's own
+pub own_bit : (words : List ℕ) (from n : ℕ) → IsLowest (IsFrom from (HasBit words)) n → eqb n from ≡ has (set_in words) from
+own_bit words from n low = at (cases_eq n from)
+  where
+    above : (n ≡ from → ⊥) → has (set_in words) from ≡ true → ⊥
+    above ne member = let past = low.is.past in low.least from (omega (arith, past, ne)) (record { past = omega arith; such = member_bit words from member })
+
+    at : (n ≡ from) ⊎ (n ≡ from → ⊥) → eqb n from ≡ has (set_in words) from
+    at (inl e) = eq-eqb n from e ∙ sym (bit_member words from (subst (HasBit words) e low.is.such))
+    at (inr ne) = ne_eqb n from ne ∙ sym (false_from_ne_true (has (set_in words) from) (above ne))
+
+pub no_own_bit : (words : List ℕ) (from : ℕ) → IsNone (IsFrom from (IsInWord words (from / 64))) → false ≡ has (set_in words) from
+no_own_bit words from none = sym (false_from_ne_true (has (set_in words) from) (λ member. none.none from (record { past = omega arith; such = record { place = refl; bit = member_bit words from member } })))
 
 -- from 0 on all numbers are there
 pub lowest_from_0 : (Such : ℕ → Type 0) (n : ℕ) → IsLowest (IsFrom 0 Such) n → IsLowest Such n

@@ -47,7 +47,7 @@ impl NumberSet {
         ensures others { (k : ℕ) → k ≢ number → has self.new k ≡ has self.old k }
     {
         // Most numbers are as they are to be.
-        if self.contains(number) != is_member {
+        if self.has(number) != is_member {
             self.flip(number);
         }
     }
@@ -66,6 +66,16 @@ impl NumberSet {
 
     /// Whether a number is a member.
     pub fn contains(&self, number: u32) -> bool
+        ensures { result ≡ has self.now number }
+    {
+        match self.members.next_in_word(number as usize) {
+            Some(next) => next == number as usize,
+            None => false,
+        }
+    }
+
+    /// Whether a number is a member, of those that there is room for.
+    pub(crate) fn has(&self, number: u32) -> bool
         requires { number < room_of self.now }
         ensures { result ≡ has self.now number }
     {

@@ -102,7 +102,7 @@ impl StartableTasks {
         requires { task < room_of self.now.tasks }
         ensures { result ≡ has self.now.tasks task }
     {
-        self.places.contains(self.order.place(task))
+        self.places.has(self.order.place(task))
     }
 
     /// Makes a task a member, or none. Its lock isn't free meanwhile, so no task of the lock is a
@@ -113,7 +113,7 @@ impl StartableTasks {
         ensures { PutsTask self.old self.new task is_startable }
     {
         let lock = self.order.lock(task);
-        if !self.free.contains(lock) {
+        if !self.free.has(lock) {
             self.put_closed(task, is_startable);
             return;
         }

@@ -10,5 +10,5 @@ place-requires c = omega (arith, c.requires, room_tasks c.self.inside c.args.sel
 pub returns : goal.returns
 returns c =
     let within : c.args.task < length c.self.inside.order.locks = omega (arith, c.requires, room_tasks c.self.inside c.args.self.now c.self.view_is) in
-    c.contains.ensures ∙ ap (has c.self.inside.places) c.place.ensures.value ∙ sym (member_at c.self.inside.order.locks c.self.inside.places c.args.task within)
+    c.has.ensures ∙ ap (has c.self.inside.places) c.place.ensures.value ∙ sym (member_at c.self.inside.order.locks c.self.inside.places c.args.task within)
     ∙ ap (λ (all : StartableTasksView). has all.tasks c.args.task) c.self.view_is
