@@ -2,11 +2,11 @@
 use std::alloc::{AllocError, Global};
 use std::hash::{FoldHasher, Hasher};
 
-/// With so many slots for each name, a later name has the slot of three names of a hundred.
-const SLOTS_A_NAME: usize = 16;
+/// With so many slots for each name, one name of a hundred shares its slot.
+const SLOTS_A_NAME: usize = 64;
 
-/// So many are enough for the 2,048 tasks of the largest plan. They take 128 KiB.
-const MOST_SLOTS: usize = 32_768;
+/// So many are enough for the names of the largest plan.
+const MOST_SLOTS: usize = 131_072;
 
 /// A guess at the place of each name, by a hash of its bytes. Of names that share a slot the last is guessed rightly.
 /// Whoever asks looks whether the name stands there: no answer rests on the hash.

@@ -1,5 +1,5 @@
--- What a table's map finds before and after a key's entry is removed.
-use Rattle.std.proofs.Common.{◌≡◌, List, ℕ, Some, None, option_map, ap, sym, ◌∙◌, Global, String, BTreeMap, string_bytes, nat_cmp}
+-- What a table's map finds before and after another value is put under a key.
+use Rattle.std.proofs.Common.{◌≡◌, List, ℕ, Some, Option, option_map, ap, sym, ◌∙◌, Global, String, BTreeMap, string_bytes, nat_cmp}
 use Rattle.std.specs.Cmp.Lexicographic.{slice_cmp}
 use Rattle.std.specs.String.{string_cmp}
 use Rattle.std.specs.BTreeMap.{UpdatesBy, get_by}
@@ -28,8 +28,8 @@ shown d m e = view-Table m ∙ same_table d (table_view m) e
 pub found : (key : List ℕ) (m : BTreeMap (String Global) Value) → option_map view (get_by (λ k. slice_cmp nat_cmp key (string_bytes k)) m) ≡ get key (view (Table m))
 found key m = rw (view-Table m) (view-lookup key m.entries)
 
--- what is left once the entry of the key is removed
-pub others_stay : (key : List ℕ) (m n : BTreeMap (String Global) Value) → UpdatesBy string_cmp (λ k. slice_cmp nat_cmp key (string_bytes k)) m n None → KeepsOthers key (view (Table m)) (view (Table n))
-others_stay key m n updates other differs =
-    let after = btree_map_updates_text key m n None updates other in
+-- what stands under the other keys
+pub others_stay : (key : List ℕ) (m n : BTreeMap (String Global) Value) (w : Option Value) → UpdatesBy string_cmp (λ k. slice_cmp nat_cmp key (string_bytes k)) m n w → KeepsOthers key (view (Table m)) (view (Table n))
+others_stay key m n w updates other differs =
+    let after = btree_map_updates_text key m n w updates other in
     sym (found other n) ∙ ap (option_map view) (rw differs at after) ∙ found other m

@@ -9,7 +9,19 @@ ghost use Rattle.plan_table.specs.Taking.{KeepsOthers};
 
 use item_actions::Text;
 use std::alloc::{AllocError, Global};
+use std::mem;
 use toml::{Table, Value};
+
+/// Takes what stands under a key of a table, and leaves an empty value there: to remove a key costs more.
+fn take_member(members: &mut Table, key: &str) -> Option<Value>
+    ensures value { option_map view result ≡ get key.now (view (Value.Table members.old)) }
+    ensures others { KeepsOthers key.now (view (Value.Table members.old)) (view (Value.Table members.new)) }
+{
+    match members.get_mut(key) {
+        Some(value) => Some(mem::replace(value, Value::Boolean(false))),
+        None => None,
+    }
+}
 
 /// Takes what stands under a key of the table. Another value has no keys.
 fn take(table: &mut Value, key: &str) -> Option<Value>
@@ -17,7 +29,7 @@ fn take(table: &mut Value, key: &str) -> Option<Value>
     ensures others { KeepsOthers key.now (view table.old) (view table.new) }
 {
     match table.as_table_mut() {
-        Some(members) => members.remove(key),
+        Some(members) => take_member(members, key),
         None => None,
     }
 }
