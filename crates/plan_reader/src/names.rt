@@ -83,14 +83,42 @@ fn add_number(
     Ok(())
 }
 
-/// The numbers of the tasks of these names, each once, or None where one of them is no task's. The guess is where the
-/// first of them is looked for first, and each other one behind the one before it: names often stand in their order.
+/// Where the next name is looked for first: behind the one before it, where that one stood so too. Names often stand in
+/// their order, and where they don't a look there is lost.
+#[derive(Clone, Copy)]
+struct Guess {
+    next: u32,
+    is_likely: bool,
+}
+
+impl Guess {
+    /// Before the first name.
+    const NONE: Guess = Guess {
+        next: 0,
+        is_likely: false,
+    };
+
+    /// The number that is guessed. None that is unlikely is a name's.
+    fn number(self) -> u32 {
+        if self.is_likely { self.next } else { u32::MAX }
+    }
+
+    /// Behind a name of this number.
+    fn behind(self, number: u32) -> Guess {
+        Guess {
+            next: number.saturating_add(1),
+            is_likely: number == self.next,
+        }
+    }
+}
+
+/// The numbers of the tasks of these names, each once, or None where one of them is no task's.
 fn numbers_of(
     alloc: Global,
     names: &NameTable,
     marks: &mut [usize],
     mark: usize,
-    guess: &mut u32,
+    guess: &mut Guess,
     values: &[Value],
 ) -> Result<Option<Vec<u32>>, AllocError>
     requires len { length marks.old ≡ length names.now }
@@ -100,10 +128,10 @@ fn numbers_of(
 {
     let mut numbers = Vec::with_capacity(alloc, values.len())?;
     for value in values {
-        match names.number_near(*guess, text_of(value))? {
+        match names.number_near(guess.number(), text_of(value))? {
             Some(number) => {
                 add_number(&mut numbers, marks, mark, number)?;
-                *guess = number.saturating_add(1);
+                *guess = guess.behind(number);
             }
             None => return Ok(None),
         }
@@ -116,7 +144,7 @@ fn dependency_numbers(
     names: &NameTable,
     marks: &mut [usize],
     mark: usize,
-    guess: &mut u32,
+    guess: &mut Guess,
     task: &Value,
 ) -> Result<Option<Vec<u32>>, AllocError>
     requires len { length marks.old ≡ length names.now }
@@ -137,7 +165,7 @@ fn rows_of(
 {
     let mut rows = Vec::with_capacity(alloc, tasks.len())?;
     let mut marks = vec![in alloc; 0; names.len()]?;
-    let mut guess = 0;
+    let mut guess = Guess::NONE;
     for (number, task) in tasks.iter().enumerate() {
         match dependency_numbers(alloc, names, &mut marks, number + 1, &mut guess, task)? {
             Some(row) => rows.push(row)?,

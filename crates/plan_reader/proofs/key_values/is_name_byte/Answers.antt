@@ -1,5 +1,5 @@
 -- The table is held against the definition at each of the 256 bytes, by computing.
-use Rattle.std.proofs.Common.{◌≡◌, ℕ, zero, suc, ◌<◌, Bool, true, false, ◌&&◌, not, nat_eq, get_or, List, refl, arith, inl, inr}
+use Rattle.std.proofs.Common.{◌≡◌, ℕ, zero, suc, ◌<◌, Bool, true, false, ◌&&◌, get_or, List, refl, arith, inl, inr}
 use Rattle.std.specs.Bool.{beq}
 use Rattle.std.proofs.lemmas.Bool.{cases_eq}
 use Rattle.plan_table.specs.Forms.{is_name_byte}
@@ -24,9 +24,7 @@ agree_at f g (suc n) h b lt =
     let both = both_of (f n) (g n) (agree_below f g n) h in
     elim (cases_eq b n) [ inl same ↦ rw same both.0 | inr other ↦ agree_at f g n both.1 b (omega arith) ]
 
-from_table : (table : List ℕ) (b : ℕ) → b < 256
-    → agree_below (λ k. not (nat_eq (get_or table k 0) 44)) is_name_byte 256 ≡ true
-    → not (nat_eq (get_or table b 0) 44) ≡ is_name_byte b
+from_table : (table : List Bool) (b : ℕ) → b < 256 → agree_below (λ k. get_or table k false) is_name_byte 256 ≡ true → get_or table b false ≡ is_name_byte b
 from_table table b lt h = agree_at _ _ 256 h b lt
 
 pub returns : goal.returns
