@@ -26,7 +26,7 @@ TICKS = os.sysconf("SC_CLK_TCK")
 
 # The budgets in minutes: a crate, and one check of it.
 MOST_A_CRATE = 8
-MOST_A_CHECK = 4
+MOST_A_CHECK = 3
 
 
 class Process:

@@ -35,7 +35,7 @@ def skip_without(*tools: str) -> None:
 
 def leases_program() -> str:
     """The program `leases`: the script's first word, or the one that `./leases` builds."""
-    program = pathlib.Path(sys.argv[1]).resolve() if len(sys.argv) > 1 else TOP / "crates/leases/out/leases"
+    program = pathlib.Path(sys.argv[1]).resolve() if len(sys.argv) > 1 else TOP / "out/leases"
     if not os.access(program, os.X_OK):
         sys.exit(f"there is no program {program}: run ./leases once")
     return str(program)
