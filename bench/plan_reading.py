@@ -28,7 +28,7 @@ TASKS = 2048
 NAMES = 64
 ITEMS = 8192
 CHAIN = 100_000
-TOO_MANY = "plan 0: there are too many tasks\n"
+TOO_MANY = "TooMany(Tasks, Place { part: Plan, number: 0 })\n"
 
 # The crates that the program stands on.
 BELOW = ["item_actions", "resource_lock", "task_ranks", "worker_desk", "daemon_requirements", "plan_table", "plan_reader"]

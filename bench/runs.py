@@ -19,15 +19,16 @@ ITEMS = [1024, 2048, 4096, 8192]
 TASKS = 2048
 RUN = ["run", "plan.toml", "--max-workers", "1", "--threads", "1", "--history"]
 
-# The goals: instructions a unit with the plan's reading, those of a transform of the run without the reading
+# The goals: instructions a unit with the plan's reading, those of a transform of the workers without the reading
 # of files, growth from 2,048 to 8,192 items, and peak memory.
 MOST_A_UNIT = 15_000
 MOST_A_TRANSFORM = 1_500
 MOST_GROWTH = 4.3
 MOST_KILOBYTES = 40 * 1024
 
-# The functions whose difference is a run without the reading of its files. The plan is read by another function.
-RUN_OF_A_PLAN = "build_runner::runs::run_book"
+# The functions whose difference is what the workers do in their threads, without the reading of files. The compiler puts the
+# calls that open and close the book into the function of the whole call, so they are counted with the plan's reading.
+RUN_OF_THE_WORKERS = "std::thread::fork::chunks_from"
 READING_OF_FILES = "FolderDeskFiles::read"
 
 
@@ -66,7 +67,7 @@ def measure_plan(program: str, items: int) -> int:
         make_folder(folder, items)
         profile = folder / "callgrind.out"
         count, output = measure.count_instructions(words, profile=str(profile), folder=folder)
-        transforms = inclusive(profile, RUN_OF_A_PLAN) - inclusive(profile, READING_OF_FILES)
+        transforms = inclusive(profile, RUN_OF_THE_WORKERS) - inclusive(profile, READING_OF_FILES)
         used = measure.usage_of(words, folder)
     if used.status != 0:
         sys.exit(f"the program ended with {used.status}")

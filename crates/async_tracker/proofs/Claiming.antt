@@ -16,7 +16,6 @@ use Rattle.lock_journal.specs.Allowed.{IsDisabled, IsFixedList}
 use Rattle.lock_journal.specs.BookView.{BookView}
 use Rattle.lock_journal.specs.Table.{condition, is_enabled, mark_from}
 use Rattle.lock_journal.specs.declared.entries.Kind.TheVariants.{Claim, Close}
-use Rattle.run_laws.specs.Own.{claimed}
 use Rattle.run_laws.specs.OwnChanges.{mark_before, with_if, without_if}
 use Rattle.coordination.specs.Agrees.{Finds}
 use Rattle.coordination.specs.Calls.{HasFinished}

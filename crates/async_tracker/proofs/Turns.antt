@@ -13,7 +13,7 @@ use Rattle.resource_lock.specs.declared.marks.MarkId.{MarkId}
 use Rattle.resource_lock.specs.declared.marks.MarkId.TheVariants.{Action as ActionOf}
 use Rattle.lock_journal.specs.BookView.{BookView}
 use Rattle.lock_journal.specs.declared.entries.Kind.{Kind}
-use Rattle.coordination.specs.Agrees.{Finds, IsSound}
+use Rattle.coordination.specs.Agrees.{Finds}
 use Rattle.coordination.specs.Attempts.{Cause, Making}
 use Rattle.coordination.specs.Calls.{HasFinished, IsAnswered, WasStopped}
 use Rattle.coordination.specs.Shown.{ShowsTheSame}
@@ -21,12 +21,8 @@ use Rattle.coordination.specs.declared.rule.Sight.{Sight}
 use Rattle.coordination.proofs.Growing.{agrees_then}
 use Rattle.async_tracker.specs.ParkedView.{ParkedView}
 use Rattle.async_tracker.specs.Shows.{HasParkedLast, IsFree, IsIdleOrParked, IsParkedBy, is_action, is_unit}
-use Rattle.async_tracker.specs.TwoItems.{CanHelp, HasTwoItems}
 
 module _ {A : Type 0} {answers : WorkerId → BookView → A → Type 0} {a : A} {old mid : Sight} (q : IsAnswered answers a old mid) where
-  pub answered_sound : IsSound mid.seen
-  answered_sound = subst (λ (s : Sight). IsSound s.seen) (sym q.sight) q.found.sound
-
   found_later : (book : BookView) → Finds old.worker q.book book → Finds old.worker old.seen book
   found_later book found = record { agrees = agrees_then old.worker old.seen q.book book q.found.agrees found.agrees; sound = found.sound; known = found.known }
 
@@ -63,11 +59,3 @@ parked_still {old} {new} p same by =
 pub waits_still : {old new : Sight} → ShowsTheSame old new → IsIdleOrParked old → IsIdleOrParked new
 waits_still same (inl idle) = inl (same.locks ∙ idle.0, same.claimed ∙ idle.1)
 waits_still same (inr parked) = inr (ap (list_any is_action) same.claimed ∙ parked)
-
-pub helps_still : {old new : Sight} (p : ParkedView) → ShowsTheSame old new → CanHelp old p → CanHelp new p
-helps_still p same helps = record {
-  graph = subst HasTwoItems (sym same.graph) helps.graph;
-  own = parked_still p same helps.own;
-  free = free_still same helps.free;
-  waits = waits_still same helps.waits;
-}

@@ -1,4 +1,3 @@
 pub mod ParkedView
 pub mod Shows
 pub mod Waits
-pub mod TwoItems

@@ -15,8 +15,3 @@ pub use laws::closing_undoes_claiming;
 pub use open_items::ready;
 pub use parked::Parked;
 pub use resuming::{Held, resume};
-
-#[cfg(test)]
-mod thread_tests;
-#[cfg(test)]
-mod worked_tests;

@@ -14,7 +14,7 @@ use resource_lock::WorkerId;
 use worker_choices::{Awaited, first_open};
 
 /// Asks for the first item of an action that hasn't ended. It has an answer at once.
-#[derive(Clone, Copy, Debug)]
+#[derive(Drop)]
 pub(crate) struct FirstOpen {
     pub action: u32,
 }

@@ -4,7 +4,7 @@ use resource_lock::WorkerId;
 use std::marker::Model;
 
 /// A worker that waits for the items of an action. `park` makes it, and `resume` takes it.
-#[derive(Debug, Drop)]
+#[derive(Drop)]
 pub struct Parked {
     worker: WorkerId,
     action: u32,

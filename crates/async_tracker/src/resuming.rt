@@ -21,7 +21,7 @@ use resource_lock::WorkerId;
 use std::sync::Wait;
 
 /// Why a worker still waits. It has the parked value, with which the worker can resume yet.
-#[derive(Debug, Drop)]
+#[derive(Drop)]
 pub enum Held {
     /// An item of the action hasn't ended: this unit is the first.
     StillWaiting(Parked, u32),

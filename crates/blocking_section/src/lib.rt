@@ -10,8 +10,3 @@ pub use blocked::Blocked;
 pub use entering::enter;
 pub use laws::sections_outlast_others;
 pub use leaving::{StillBlocked, leave};
-
-#[cfg(test)]
-mod caller_tests;
-#[cfg(test)]
-mod thread_tests;

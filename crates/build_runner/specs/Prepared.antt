@@ -1,6 +1,8 @@
 -- What a run has before it begins.
-use Rattle.std.specs.Prelude.{ℕ, ◌≡◌, ◌≤◌, [], All, length, map, vec_capacity}
+use Rattle.std.specs.Prelude.{◌≡◌, [], All, length, map}
+use Rattle.resource_lock.specs.GraphView.{GraphView}
 use Rattle.coordination.specs.Sights.{workers_from}
+use Rattle.coordination.specs.declared.services.Opened.{Opened}
 use Rattle.plan_reader.specs.Graph.{graph_of}
 use Rattle.plan_reader.specs.PlanView.{PlanView}
 use Rattle.plan_reader.specs.Units.{plan_units}
@@ -9,20 +11,16 @@ use Rattle.build_runner.specs.Units.{unit_view}
 use Rattle.build_runner.specs.declared.options.RunOptions.{RunOptions}
 use Rattle.build_runner.specs.declared.prepared.Prepared.{Prepared}
 
--- The graph and the units are the plan's. The service is open, and none of its passes has anything. There is room for so
--- many desks.
-pub record IsPrepared {D : Type 0} (plan : PlanView) (options : RunOptions) (desks : ℕ) (p : Prepared D) : Type 0 where
+-- The service is open over a book of the graph, with a pass for each worker in order, and none of them has anything.
+pub record IsOpenedOn (g : GraphView) (o : Opened) : Type 0 where
+  pub graph : o.service.book.graph ≡ g
+  pub passes : length o.passes.items ≡ g.workers
+  pub ready : All (CanWork o.service g) o.passes.items
+  pub untouched : All (λ pass. pass.sight.seen.history ≡ []) o.passes.items
+  pub workers : map (λ pass. pass.sight.worker.0) o.passes.items ≡ workers_from 0 g.workers
+
+-- The graph and the units are the plan's, and the service is open on that graph.
+pub record IsPrepared (plan : PlanView) (options : RunOptions) (p : Prepared) : Type 0 where
   pub graph : p.graph ≡ graph_of plan options.workers options.max_leases options.parallel
   pub units : map unit_view p.units.items ≡ plan_units plan
-  pub book : p.service.book.graph ≡ p.graph
-  pub passes : length p.passes.items ≡ options.workers
-  pub ready : All (CanWork p.service p.graph) p.passes.items
-  pub untouched : All (λ pass. pass.sight.seen.history ≡ []) p.passes.items
-  pub workers : map (λ pass. pass.sight.worker.0) p.passes.items ≡ workers_from 0 options.workers
-  -- nothing lies in the room yet
-  pub no_team : p.room.team.items ≡ []
-  pub no_passes : p.room.passes.items ≡ []
-  pub no_desks : p.room.desks.items ≡ []
-  pub team_room : options.workers ≤ vec_capacity p.room.team
-  pub pass_room : options.workers ≤ vec_capacity p.room.passes
-  pub desk_room : desks ≤ vec_capacity p.room.desks
+  pub opened : IsOpenedOn p.graph p.opened.value

@@ -10,7 +10,7 @@ use resource_lock::WorkerId;
 use worker_choices::{Awaited, all_ended, item_to_claim, task_to_start};
 
 /// What an idle worker does next.
-#[derive(Clone, Copy, Debug)]
+#[derive(Clone, Copy)]
 pub(crate) enum Choice {
     /// It claims this item, the lowest that is queued.
     Claim(u32),
@@ -23,7 +23,7 @@ pub(crate) enum Choice {
 }
 
 /// Asks what an idle worker does next. It waits where there is nothing to do yet.
-#[derive(Clone, Copy, Debug)]
+#[derive(Clone, Copy)]
 pub(crate) struct WhatIsNext;
 
 impl Question for WhatIsNext {

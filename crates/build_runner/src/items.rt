@@ -116,6 +116,30 @@ fn close_item<R: Wait, G, L: Linked>(
     }
 }
 
+/// Runs an item that the worker has claimed, and closes it with what it gives.
+fn run_and_close<R: Wait, D: Desk, G: Gate>(
+    rt: &R,
+    site: &Site<'_, G, D::Link>,
+    pass: &mut Pass,
+    desk: &mut D,
+    unit: u32,
+) -> Result<(), Halt>
+    requires service { pass.old.service ≡ site.now.service.now.service }
+    requires item { IsItemHere pass.old.sight.seen.graph unit }
+    requires claimed { Contains (claimed_shown pass.old.sight) (ids.Unit unit) }
+    requires lease { lease_shown pass.old.sight ≡ true }
+    requires within { unit < length site.now.units.now }
+    requires named { All (λ u. HasFileName (unit_view u)) site.now.units.now }
+    ensures service { pass.new.service ≡ pass.old.service }
+    ensures files { D.files desk.new ≡ D.files desk.old }
+    ensures keeps { Keeps (D.files desk.old) (map unit_view site.now.units.now) (D.faults desk.old) (D.faults desk.new) pass.old.sight pass.new.sight }
+    ensures sent { OnOk result (HasSent (map unit_view site.now.units.now) (sent_view D.sends D.sent desk.old) (sent_view D.sends D.sent desk.new) pass.old.sight pass.new.sight) }
+    ensures shows { OnOk result (ShowsClosed unit pass.old.sight pass.new.sight) }
+{
+    let outcome = run_claimed(rt, site, pass, desk, unit);
+    close_item(rt, site, pass, Closed { unit, outcome })
+}
+
 /// Claims an item, runs it and closes it, unless another worker was faster.
 ///
 /// The pass then shows what it showed. It fails for want of memory, and where the service was stopped.
@@ -138,9 +162,9 @@ pub(crate) fn help<R: Wait, D: Desk, G: Gate>(
     ensures shows { OnOk result (ShowsTheSame pass.old.sight pass.new.sight) }
 {
     closing_undoes_claiming();
-    if !claim_item(rt, site, pass, unit)? {
-        return Ok(());
+    if claim_item(rt, site, pass, unit)? {
+        run_and_close(rt, site, pass, desk, unit)
+    } else {
+        Ok(())
     }
-    let outcome = run_claimed(rt, site, pass, desk, unit);
-    close_item(rt, site, pass, Closed { unit, outcome })
 }

@@ -1,5 +1,5 @@
 /// How a plan is run.
-#[derive(Clone, Copy, Debug, PartialEq, Eq)]
+#[derive(Clone, Copy)]
 pub struct RunOptions {
     /// How many workers the run has, 1 to 32.
     pub workers: u32,

@@ -4,7 +4,7 @@ ghost use Rattle.resource_lock.specs.Opening.{opening_of};
 ghost use Rattle.resource_lock.specs.declared.limits.TheConstants.{MAX_LEASES, MAX_WORKERS};
 ghost use Rattle.coordination.specs.Sights.{workers_from};
 ghost use Rattle.plan_reader.specs.Graph.{graph_of};
-ghost use Rattle.build_runner.specs.Prepared.{IsPrepared};
+ghost use Rattle.build_runner.specs.Prepared.{IsOpenedOn, IsPrepared};
 ghost use Rattle.build_runner.specs.Team.{CanWork};
 
 use crate::options::RunOptions;
@@ -38,6 +38,16 @@ const CHANGES_AN_ACTION: u64 = 1 + 4 + 4;
 /// blocks the worker, with its lock and the lease given back, and unblocks it.
 const CHANGES_A_UNIT: u64 = 5 + 5;
 
+/// The value in a box.
+fn boxed<T: Drop>(alloc: Global, value: T) -> Result<Box<T>, AllocError>
+    ensures { IfOk result (λ b. b.value ≡ value) }
+{
+    match Box::new(alloc, value) {
+        Ok(value) => Ok(value),
+        Err(_) => Err(AllocError),
+    }
+}
+
 /// A book of the graph without an entry, and with room for those of a whole run.
 ///
 /// It fails where there is no memory for that room.
@@ -66,7 +76,7 @@ fn open_service(alloc: Global, graph: Graph) -> Result<Opened, AllocError>
     ensures workers { IfOk result (λ opened. map (λ p. p.sight.worker.0) opened.passes.items ≡ workers_from 0 graph.workers) }
 {
     openings_are_at_rest();
-    let book = open_book(alloc, graph)?;
+    let book = boxed(alloc, open_book(alloc, graph)?)?;
     Coordination::open(alloc, book)
 }
 
@@ -81,6 +91,19 @@ fn graph_of(alloc: Global, plan: &Plan, options: &RunOptions) -> Result<Graph, A
     plan.graph(alloc, options.workers, options.max_leases, options.parallel)
 }
 
+/// The service over a book of the plan's graph, in a box.
+fn open_for(alloc: Global, plan: &Plan, options: &RunOptions) -> Result<Box<Opened>, AllocError>
+    requires some_worker { 1 ≤ options.now.workers }
+    requires few_workers { options.now.workers ≤ MAX_WORKERS }
+    requires some_lease { 1 ≤ options.now.max_leases }
+    requires few_leases { options.now.max_leases ≤ MAX_LEASES }
+    ensures { IfOk result (λ opened. IsOpenedOn (graph_of plan.now options.now.workers options.now.max_leases options.now.parallel) opened.value) }
+{
+    let graph = graph_of(alloc, plan, options)?;
+    let opened = open_service(alloc, graph)?;
+    boxed(alloc, opened)
+}
+
 /// Room for the workers, and for the passes and desks that they leave.
 #[derive(Drop)]
 pub(crate) struct Room<D> {
@@ -91,7 +114,7 @@ pub(crate) struct Room<D> {
 
 impl<D: Drop> Room<D> {
     /// Room for so many workers, and for all desks.
-    fn new(alloc: Global, workers: usize, desks: usize) -> Result<Room<D>, AllocError>
+    pub fn new(alloc: Global, workers: usize, desks: usize) -> Result<Room<D>, AllocError>
         ensures empty { IfOk result (λ room. (room.team.items ≡ []) × (room.passes.items ≡ []) × (room.desks.items ≡ [])) }
         ensures workers { IfOk result (λ room. (workers ≤ vec_capacity room.team) × (workers ≤ vec_capacity room.passes)) }
         ensures desks { IfOk result (λ room. desks ≤ vec_capacity room.desks) }
@@ -106,42 +129,35 @@ impl<D: Drop> Room<D> {
 
 /// What a run has before it begins.
 #[derive(Drop)]
-pub(crate) struct Prepared<'a, D> {
+pub(crate) struct Prepared<'a> {
     /// The graph of the plan.
     pub graph: Graph,
     /// The units by their numbers.
     pub units: Vec<UnitWork<'a>>,
-    /// The service, over a book of that graph.
-    pub service: Coordination,
-    /// A pass for each worker.
-    pub passes: Vec<Pass>,
-    pub room: Room<D>,
+    /// The service, over a book of that graph, and a pass for each worker.
+    pub opened: Box<Opened>,
 }
 
-impl<'a, D: Drop> Prepared<'a, D> {
-    /// What a run of the plan needs, and room for so many desks. It fails for want of memory.
+impl<'a> Prepared<'a> {
+    /// What a run of the plan needs. It fails for want of memory.
     pub fn new(
         alloc: Global,
         plan: &'a Plan,
         options: &RunOptions,
-        desks: usize,
-    ) -> Result<Prepared<'a, D>, AllocError>
+    ) -> Result<Prepared<'a>, AllocError>
         requires some_worker { 1 ≤ options.now.workers }
         requires few_workers { options.now.workers ≤ MAX_WORKERS }
         requires some_lease { 1 ≤ options.now.max_leases }
         requires few_leases { options.now.max_leases ≤ MAX_LEASES }
-        ensures { IfOk result (IsPrepared plan.now options.now desks) }
+        ensures { IfOk result (IsPrepared plan.now options.now) }
     {
-        let room = Room::new(alloc, options.workers as usize, desks)?;
+        let opened = open_for(alloc, plan, options)?;
         let units = units_of(alloc, plan)?;
-        let Opened { service, passes } = open_service(alloc, graph_of(alloc, plan, options)?)?;
         let graph = graph_of(alloc, plan, options)?;
         Ok(Prepared {
             graph,
             units,
-            service,
-            passes,
-            room,
+            opened,
         })
     }
 }

@@ -5,7 +5,7 @@ use lock_journal::Book;
 #[derive(Drop)]
 pub struct RunEnd {
     /// All that its workers did.
-    pub book: Book,
+    pub book: Box<Book>,
     /// All that happened to its worker daemons, in this order. None of them is idle any more.
     pub events: Vec<Event>,
 }

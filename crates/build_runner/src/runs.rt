@@ -20,7 +20,7 @@ use crate::prepared::{Prepared, Room};
 use crate::run_end::RunEnd;
 use crate::site::Site;
 use crate::team::{Worker, all_ended, part, seat, work};
-use coordination::{Coordination, Pass};
+use coordination::{Opened, Pass};
 use daemon_desk::Desk;
 use daemon_items::PoolLock;
 use daemon_manager::Pool;
@@ -35,14 +35,14 @@ use task_ranks::ranks_give_a_numbering;
 use worker_desk::Gate;
 
 /// Takes the book out of the service for good.
-fn close_service(service: Coordination, left: Vec<Pass>, plan: &Plan, options: &RunOptions) -> Book
-    requires service { All (λ p. p.service ≡ service.service) left.items }
-    requires workers { map (λ p. p.sight.worker.0) left.items ≡ workers_from 0 options.now.workers }
+fn close_service(opened: Box<Opened>, plan: &Plan, options: &RunOptions) -> Box<Book>
+    requires service { All (λ p. p.service ≡ opened.value.service.service) opened.value.passes.items }
+    requires workers { map (λ p. p.sight.worker.0) opened.value.passes.items ≡ workers_from 0 options.now.workers }
     requires some { 1 ≤ options.now.workers }
-    requires graph { service.book.graph ≡ graph_of plan.now options.now.workers options.now.max_leases options.now.parallel }
-    ensures run { (known : Option Folder) (before after : ℕ → ℕ) → ((i : ℕ) (p : PassView) → i < options.now.workers → HasComeToTheEnd known (plan_units plan.now) (before i) (after i) (get_or left.items i p))
-        → IsRunOf plan.now options.now known before after result }
-    ensures closings { (i : ℕ) (p : PassView) → i < options.now.workers → closed_by (record { 0 = i }) result.history ≡ closed_by (get_or left.items i p).sight.worker (get_or left.items i p).sight.seen.history }
+    requires graph { opened.value.service.book.graph ≡ graph_of plan.now options.now.workers options.now.max_leases options.now.parallel }
+    ensures run { (known : Option Folder) (before after : ℕ → ℕ) → ((i : ℕ) (p : PassView) → i < options.now.workers → HasComeToTheEnd known (plan_units plan.now) (before i) (after i) (get_or opened.value.passes.items i p))
+        → IsRunOf plan.now options.now known before after result.value }
+    ensures closings { (i : ℕ) (p : PassView) → i < options.now.workers → closed_by (record { 0 = i }) result.value.history ≡ closed_by (get_or opened.value.passes.items i p).sight.worker (get_or opened.value.passes.items i p).sight.seen.history }
 {
     // Where each task has a rank, they can be numbered so that each stands behind those that it
     // comes after. What is said of the whole run follows from these laws of every lawful history.
@@ -51,41 +51,49 @@ fn close_service(service: Coordination, left: Vec<Pass>, plan: &Plan, options: &
     every_run_comes_to_its_plan();
     honest_workers_give_the_answers();
     let _ = plan.tasks();
-    let book = service.finish(left);
+    let Opened { service, passes } = Box::into_inner(opened);
+    let book = service.finish(passes);
     let _ = book.graph();
     let _ = book.state();
     book
 }
 
-/// Runs the plan with these passes and desks, and says whether each worker came to the end. The
-/// passes lie in `left` then, and the desks in `desks`.
+/// Has each worker work with its pass and its desk, and says whether each came to the end. The passes and the desks then
+/// lie in their places again.
 fn run_team<R: Threads + Wait + Sync, D: Desk + Send + Drop, G: Gate + Sync>(
     rt: &R,
     site: &Site<'_, G, D::Link>,
-    mine: Vec<D>,
-    passes: Vec<Pass>,
-    mut team: Vec<Worker<D>>,
-    left: &mut Vec<Pass>,
+    passes: &mut Vec<Pass>,
     desks: &mut Vec<D>,
+    room: Room<D>,
 ) -> bool
-    requires same { vec_len passes ≡ vec_len mine }
-    requires empty { (team.items ≡ []) × (left.old.items ≡ []) × (desks.old.items ≡ []) }
-    requires room { (vec_len mine ≤ vec_capacity team) × (vec_len mine ≤ vec_capacity left.old) × (vec_len mine ≤ vec_capacity desks.old) }
+    requires same { vec_len passes.old ≡ vec_len desks.old }
+    requires empty { (room.team.items ≡ []) × (room.passes.items ≡ []) × (room.desks.items ≡ []) }
+    requires room { (vec_len desks.old ≤ vec_capacity room.team) × (vec_len desks.old ≤ vec_capacity room.passes) × (vec_len desks.old ≤ vec_capacity room.desks) }
     requires units { site.now.graph.now.units ≡ length site.now.units.now }
     requires fetches { AreFetched site.now.graph.now (map unit_view site.now.units.now) }
     requires named { All (λ u. HasFileName (unit_view u)) site.now.units.now }
-    requires ready { All (CanWork site.now.service.now site.now.graph.now) passes.items }
-    ensures passes { length left.new.items ≡ vec_len mine }
-    ensures desks { length desks.new.items ≡ vec_len mine }
-    ensures capacity { vec_capacity desks.new ≡ vec_capacity desks.old }
-    ensures files { (i : ℕ) (d : D) → D.files (get_or desks.new.items i d) ≡ D.files (get_or mine.items i d) }
-    ensures worked { (i : ℕ) (p : PassView) (d : D) → i < vec_len mine → HasWorked (D.files (get_or mine.items i d)) (map unit_view site.now.units.now) (D.faults (get_or mine.items i d)) (D.faults (get_or desks.new.items i d)) (get_or passes.items i p) (get_or left.new.items i p) result }
-    ensures sent { (i : ℕ) (p : PassView) (d : D) → i < vec_len mine → result ≡ true → HasSent (map unit_view site.now.units.now) (sent_view D.sends D.sent (get_or mine.items i d)) (sent_view D.sends D.sent (get_or desks.new.items i d)) (get_or passes.items i p).sight (get_or left.new.items i p).sight }
+    requires ready { All (CanWork site.now.service.now site.now.graph.now) passes.old.items }
+    ensures passes { length passes.new.items ≡ vec_len desks.old }
+    ensures desks { length desks.new.items ≡ vec_len desks.old }
+    ensures capacity { vec_capacity desks.new ≡ vec_capacity room.desks }
+    ensures files { (i : ℕ) (d : D) → D.files (get_or desks.new.items i d) ≡ D.files (get_or desks.old.items i d) }
+    ensures worked { (i : ℕ) (p : PassView) (d : D) → i < vec_len desks.old → HasWorked (D.files (get_or desks.old.items i d)) (map unit_view site.now.units.now) (D.faults (get_or desks.old.items i d)) (D.faults (get_or desks.new.items i d)) (get_or passes.old.items i p) (get_or passes.new.items i p) result }
+    ensures sent { (i : ℕ) (p : PassView) (d : D) → i < vec_len desks.old → result ≡ true → HasSent (map unit_view site.now.units.now) (sent_view D.sends D.sent (get_or desks.old.items i d)) (sent_view D.sends D.sent (get_or desks.new.items i d)) (get_or passes.old.items i p).sight (get_or passes.new.items i p).sight }
 {
-    seat(passes, mine, &mut team);
+    let Room {
+        mut team,
+        passes: left,
+        desks: back,
+    } = room;
+    seat(
+        mem::replace(passes, left),
+        mem::replace(desks, back),
+        &mut team,
+    );
     work(rt, site, team.as_mut_slice());
     let ended = all_ended(team.as_slice());
-    part(team, left, desks);
+    part(team, passes, desks);
     ended
 }
 
@@ -109,7 +117,7 @@ fn run_book<R: Threads + Wait + Sync, D: Desk + Send + Drop, G: Gate + Sync>(
     pool: &PoolLock<D::Link>,
     desks: &mut Vec<D>,
     gate: &G,
-) -> Result<Book, AllocError>
+) -> Result<Box<Book>, AllocError>
     requires some_worker { 1 ≤ options.now.workers }
     requires few_workers { options.now.workers ≤ MAX_WORKERS }
     requires some_lease { 1 ≤ options.now.max_leases }
@@ -120,37 +128,30 @@ fn run_book<R: Threads + Wait + Sync, D: Desk + Send + Drop, G: Gate + Sync>(
     ensures files { (i : ℕ) (d : D) → D.files (get_or desks.new.items i d) ≡ D.files (get_or desks.old.items i d) }
     ensures counts { (i : ℕ) (d : D) → D.faults (get_or desks.old.items i d) ≤ D.faults (get_or desks.new.items i d) }
     ensures rest { drop options.now.workers desks.new.items ≡ drop options.now.workers desks.old.items }
-    ensures run { (d : D) → IfOk result (IsRunOf plan.now options.now (D.files (get_or desks.old.items 0 d)) (λ i. D.faults (get_or desks.old.items i d)) (λ i. D.faults (get_or desks.new.items i d))) }
-    ensures requests { (i : ℕ) (d : D) → i < options.now.workers → IfOk result (λ book. AreSentFor (plan_units plan.now) (closed_by (record { 0 = i }) book.history) (sent_view D.sends D.sent (get_or desks.old.items i d)) (sent_view D.sends D.sent (get_or desks.new.items i d))) }
+    ensures run { (d : D) → IfOk result (λ book. IsRunOf plan.now options.now (D.files (get_or desks.old.items 0 d)) (λ i. D.faults (get_or desks.old.items i d)) (λ i. D.faults (get_or desks.new.items i d)) book.value) }
+    ensures requests { (i : ℕ) (d : D) → i < options.now.workers → IfOk result (λ book. AreSentFor (plan_units plan.now) (closed_by (record { 0 = i }) book.value.history) (sent_view D.sends D.sent (get_or desks.old.items i d)) (sent_view D.sends D.sent (get_or desks.new.items i d))) }
 {
-    let prepared = Prepared::new(alloc, plan, options, desks.len())?;
-    let rest = desks.split_off(options.workers as usize)?;
-    // That the units' files have their form, the plan's type says.
-    let _ = plan.tasks();
     let Prepared {
         graph,
         units,
-        service,
-        passes,
-        room,
-    } = prepared;
-    let Room {
-        team,
-        passes: mut left,
-        desks: back,
-    } = room;
-    let mine = mem::replace(desks, back);
+        mut opened,
+    } = Prepared::new(alloc, plan, options)?;
+    let room = Room::new(alloc, options.workers as usize, desks.len())?;
+    let rest = desks.split_off(options.workers as usize)?;
+    // That the units' files have their form, the plan's type says.
+    let _ = plan.tasks();
+    let parts: &mut Opened = &mut opened;
     let site = Site {
-        service: &service,
+        service: &parts.service,
         graph: &graph,
         units: &units,
         pool,
         gate,
         alloc,
     };
-    let ended = run_team(rt, &site, mine, passes, team, &mut left, desks);
+    let ended = run_team(rt, &site, &mut parts.passes, desks, room);
     put_behind(desks, rest);
-    let book = close_service(service, left, plan, options);
+    let book = close_service(opened, plan, options);
     if ended { Ok(book) } else { Err(AllocError) }
 }
 
@@ -190,8 +191,8 @@ pub fn run_plan<R: Threads + Wait + Sync, D: Desk + Send + Drop, G: Gate + Sync>
     ensures files { (i : ℕ) (d : D) → D.files (get_or desks.new.items i d) ≡ D.files (get_or desks.old.items i d) }
     ensures counts { (i : ℕ) (d : D) → D.faults (get_or desks.old.items i d) ≤ D.faults (get_or desks.new.items i d) }
     ensures rest { drop options.now.workers desks.new.items ≡ drop options.now.workers desks.old.items }
-    ensures run { (d : D) → IfOk result (λ end. IsRunOf plan.now options.now (D.files (get_or desks.old.items 0 d)) (λ i. D.faults (get_or desks.old.items i d)) (λ i. D.faults (get_or desks.new.items i d)) end.book) }
-    ensures requests { (i : ℕ) (d : D) → i < options.now.workers → IfOk result (λ end. AreSentFor (plan_units plan.now) (closed_by (record { 0 = i }) end.book.history) (sent_view D.sends D.sent (get_or desks.old.items i d)) (sent_view D.sends D.sent (get_or desks.new.items i d))) }
+    ensures run { (d : D) → IfOk result (λ end. IsRunOf plan.now options.now (D.files (get_or desks.old.items 0 d)) (λ i. D.faults (get_or desks.old.items i d)) (λ i. D.faults (get_or desks.new.items i d)) end.book.value) }
+    ensures requests { (i : ℕ) (d : D) → i < options.now.workers → IfOk result (λ end. AreSentFor (plan_units plan.now) (closed_by (record { 0 = i }) end.book.value.history) (sent_view D.sends D.sent (get_or desks.old.items i d)) (sent_view D.sends D.sent (get_or desks.new.items i d))) }
     ensures legal { IfOk result (λ end. IsLegal end.events.items) }
     ensures none_idle { IfOk result (λ end. NoneIdle end.events.items) }
 {

@@ -6,7 +6,7 @@ use resource_lock::Graph;
 use std::alloc::Global;
 
 /// What the workers of a run share.
-#[derive(Clone, Copy)]
+#[derive(Drop)]
 pub(crate) struct Site<'a, G, L: Linked> {
     /// The state lock.
     pub service: &'a Coordination,

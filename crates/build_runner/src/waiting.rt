@@ -28,7 +28,7 @@ use worker_choices::{Awaited, can_go_on, item_to_claim};
 use worker_desk::Gate;
 
 /// What a parked worker does next.
-#[derive(Clone, Copy, Debug)]
+#[derive(Clone, Copy)]
 pub(crate) enum ParkedChoice {
     /// It resumes: the items that it waits for have ended, and what it takes again is free. It says
     /// whether a unit of the action has failed.
@@ -39,7 +39,7 @@ pub(crate) enum ParkedChoice {
 
 /// Asks what a worker does next that is parked in this action. It waits where there is nothing to do
 /// yet.
-#[derive(Clone, Copy, Debug)]
+#[derive(Clone, Copy)]
 pub(crate) struct WhatIsNextParked {
     pub action: u32,
 }

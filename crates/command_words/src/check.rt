@@ -7,7 +7,7 @@ ghost use Rattle.std.specs.Prelude.{map, IfErr, IfOk, None, Some, ◌≡◌};
 
 use crate::commands::WordsFail;
 use crate::matching::{given, matches_of};
-use crate::parser::check_command;
+use crate::parser::Parameter;
 use crate::run::is_plan_name;
 use clap::ArgMatches;
 use item_actions::Text;
@@ -22,17 +22,15 @@ fn plan_named(alloc: Global, matches: &ArgMatches<'_>) -> Result<Text, WordsFail
     if !is_plan_name(plan) {
         return Err(WordsFail::NoCommand);
     }
-    let plan = Text::from_str(alloc, plan)?;
-    Ok(plan)
+    Ok(Text::from_str(alloc, plan)?)
 }
 
 /// The name of the plan's file that the words after `check` give.
+#[tactic(auto, unfolding(crate::specs::Rules::check_app))]
 pub(crate) fn read_check(alloc: Global, words: &[&str]) -> Result<Text, WordsFail>
     ensures ok { IfOk result (λ plan. check_of (map (λ s. s.now) words.now) ≡ Some plan) }
     ensures err { IfErr result (NoMemoryOr (check_of (map (λ s. s.now) words.now) ≡ None)) }
 {
-    let command = check_command(alloc)?;
-    let matches = matches_of(command, words)?;
-    let plan = plan_named(alloc, &matches)?;
-    Ok(plan)
+    let matches = matches_of(alloc, "check", &[Parameter::Required("PLAN")], words)?;
+    plan_named(alloc, &matches)
 }

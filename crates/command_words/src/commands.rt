@@ -5,7 +5,7 @@ use std::alloc::AllocError;
 use thiserror::Error;
 
 /// A command.
-#[derive(Debug, Drop)]
+#[derive(Drop)]
 pub enum Command {
     /// Reads a plan, runs it and prints.
     Run(RunWords),
@@ -18,7 +18,7 @@ pub enum Command {
 }
 
 /// What the words of `run` ask for.
-#[derive(Debug, Drop)]
+#[derive(Drop)]
 pub struct RunWords {
     /// The name of the plan's file: 1 to 255 bytes, none of them zero.
     pub plan: Text,
@@ -37,7 +37,7 @@ pub struct RunWords {
 }
 
 /// What the words of `make` ask for.
-#[derive(Debug, Drop)]
+#[derive(Drop)]
 pub struct MakeWords {
     /// The number that the plan is made from.
     pub seed: u64,
@@ -46,7 +46,7 @@ pub struct MakeWords {
 }
 
 /// Why words give no command.
-#[derive(Clone, Copy, Debug, PartialEq, Eq, Error)]
+#[derive(Debug, Drop, Error)]
 pub enum WordsFail {
     /// They are none.
     #[error("the words are no command")]

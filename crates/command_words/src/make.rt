@@ -8,7 +8,7 @@ ghost use Rattle.std.specs.Prelude.{map, IfErr, IfOk, None, Some, ◌≡◌};
 use crate::commands::{MakeWords, WordsFail};
 use crate::matching::{given, matches_of};
 use crate::numbers::seed_of;
-use crate::parser::make_command;
+use crate::parser::Parameter;
 use clap::ArgMatches;
 use item_actions::{Text, is_file_name};
 use std::alloc::Global;
@@ -34,8 +34,7 @@ pub(crate) fn read_make(alloc: Global, words: &[&str]) -> Result<MakeWords, Word
     ensures ok { IfOk result (λ make. make_of (map (λ s. s.now) words.now) ≡ Some make) }
     ensures err { IfErr result (NoMemoryOr (make_of (map (λ s. s.now) words.now) ≡ None)) }
 {
-    let command = make_command(alloc)?;
-    let matches = matches_of(command, words)?;
-    let make = make_words(alloc, &matches)?;
-    Ok(make)
+    let parameters = [Parameter::Required("SEED"), Parameter::Required("FILE")];
+    let matches = matches_of(alloc, "make", &parameters, words)?;
+    make_words(alloc, &matches)
 }

@@ -1,25 +1,33 @@
 //! What a parser makes of words.
-ghost use Rattle.clap.specs.Faults.{fault_of, is_simple_and_free};
+ghost use Rattle.clap.specs.Faults.{is_simple_and_free};
 ghost use Rattle.clap.specs.Matches.{found_of};
-ghost use Rattle.clap.specs.Simple.{app_of, matches_of};
+ghost use Rattle.clap.specs.Simple.{matches_of};
 ghost use Rattle.clap.specs.Walk.{first_of, rows_of};
 ghost use Rattle.command_words.specs.Failing.{NoMemoryOr};
-ghost use Rattle.command_words.specs.Matching.{given, is_on};
-ghost use Rattle.std.specs.Prelude.{map, option_map, true, IfErr, IfOk, [], ◌≡◌};
+ghost use Rattle.command_words.specs.Matching.{given, is_faultless, is_on};
+ghost use Rattle.command_words.specs.Rules.{app_with};
+ghost use Rattle.std.specs.Prelude.{map, option_map, false, true, IfErr, IfOk, ◌≡◌};
 
 use crate::commands::WordsFail;
+use crate::parser::{Parameter, command_with};
+use clap::ArgMatches;
 use clap::error::ErrorKind;
-use clap::{ArgMatches, Command};
+use std::alloc::Global;
 
-/// What a parser makes of words.
+/// What the parser of a command makes of the words behind its name.
 pub(crate) fn matches_of<'a>(
-    command: Command<'a>,
+    alloc: Global,
+    name: &'a str,
+    parameters: &[Parameter<'a>],
     words: &'a [&'a str],
 ) -> Result<ArgMatches<'a>, WordsFail>
-    requires { is_simple_and_free (app_of command) ≡ true }
-    ensures ok { IfOk result (λ m. (fault_of (app_of command.entry) (map (λ s. s.now) words.entry.now) ≡ []) × (rows_of (found_of m) ≡ matches_of (app_of command.entry) (map (λ s. s.now) words.entry.now))) }
-    ensures err { IfErr result (NoMemoryOr (fault_of (app_of command.entry) (map (λ s. s.now) words.entry.now) ≡ [] → ⊥)) }
+    requires { is_simple_and_free (app_with name.now parameters.now) ≡ true }
+    ensures ok { let app = app_with name.entry.now parameters.now in
+        IfOk result (λ m. (is_faultless app (map (λ s. s.now) words.entry.now) ≡ true) × (rows_of (found_of m) ≡ matches_of app (map (λ s. s.now) words.entry.now))) }
+    ensures err { let app = app_with name.entry.now parameters.now in
+        IfErr result (NoMemoryOr (is_faultless app (map (λ s. s.now) words.entry.now) ≡ false)) }
 {
+    let command = command_with(alloc, name, parameters)?;
     match command.try_get_matches_from(words) {
         Ok(matches) => Ok(matches),
         Err(error) => match error.kind() {

@@ -1,31 +1,53 @@
 //! The parsers of the words behind a command's name.
-ghost use Rattle.clap.specs.Simple.{app_of, with_rule};
-ghost use Rattle.command_words.specs.Rules.{bare_app, check_app, flag_rule, make_app, option_rule, required_rule, run_app};
-ghost use Rattle.std.specs.Prelude.{codes, IfOk, ◌≡◌};
+ghost use Rattle.clap.specs.Simple.{app_of};
+ghost use Rattle.clap.specs.Walk.{rule_of};
+ghost use Rattle.command_words.specs.Rules.{app_with, asked_rule, bare_app, flag_rule, option_rule, required_rule};
+ghost use Rattle.std.specs.Prelude.{false, IfOk, ◌≡◌};
 
 use clap::{Arg, ArgAction, Command};
 use std::alloc::{AllocError, Global};
 
-fn with_flag<'a>(
-    alloc: Global,
-    command: Command<'a>,
-    name: &'a str,
-) -> Result<Command<'a>, AllocError>
-    ensures { IfOk result (λ c. app_of c ≡ with_rule (app_of command.entry) (flag_rule name.entry.now)) }
-{
-    let flag = Arg::new(alloc, name).long(name).action(ArgAction::SetTrue);
-    command.arg(flag)
+/// What may stand behind a command's name.
+#[derive(Drop)]
+pub(crate) enum Parameter<'a> {
+    /// A value that has to stand there, by its place.
+    Required(&'a str),
+    /// An option with one value.
+    WithValue(&'a str),
+    /// An option without a value.
+    Flag(&'a str),
 }
 
-fn with_option<'a>(
-    alloc: Global,
-    command: Command<'a>,
-    name: &'a str,
-) -> Result<Command<'a>, AllocError>
-    ensures { IfOk result (λ c. app_of c ≡ with_rule (app_of command.entry) (option_rule name.entry.now)) }
+fn required<'a>(alloc: Global, name: &'a str) -> Arg<'a>
+    ensures rule { rule_of result ≡ required_rule name.entry.now }
+    ensures local { result.global ≡ false }
 {
-    let option = Arg::new(alloc, name).long(name).action(ArgAction::Set);
-    command.arg(option)
+    Arg::new(alloc, name).required(true).action(ArgAction::Set)
+}
+
+fn option<'a>(alloc: Global, name: &'a str) -> Arg<'a>
+    ensures rule { rule_of result ≡ option_rule name.entry.now }
+    ensures local { result.global ≡ false }
+{
+    Arg::new(alloc, name).long(name).action(ArgAction::Set)
+}
+
+fn flag<'a>(alloc: Global, name: &'a str) -> Arg<'a>
+    ensures rule { rule_of result ≡ flag_rule name.entry.now }
+    ensures local { result.global ≡ false }
+{
+    Arg::new(alloc, name).long(name).action(ArgAction::SetTrue)
+}
+
+fn argument<'a>(alloc: Global, parameter: &Parameter<'a>) -> Arg<'a>
+    ensures rule { rule_of result ≡ asked_rule parameter.now }
+    ensures local { result.global ≡ false }
+{
+    match parameter {
+        Parameter::Required(name) => required(alloc, name),
+        Parameter::WithValue(name) => option(alloc, name),
+        Parameter::Flag(name) => flag(alloc, name),
+    }
 }
 
 fn bare_command<'a>(alloc: Global, name: &'a str) -> Command<'a>
@@ -37,62 +59,18 @@ fn bare_command<'a>(alloc: Global, name: &'a str) -> Command<'a>
         .disable_version_flag(true)
 }
 
-fn with_required<'a>(
+/// The parser of what stands behind a command's name.
+#[tactic(auto, using(std::proofs::lemmas::List::Sums::fold_more))]
+pub(crate) fn command_with<'a>(
     alloc: Global,
-    command: Command<'a>,
     name: &'a str,
+    parameters: &[Parameter<'a>],
 ) -> Result<Command<'a>, AllocError>
-    ensures { IfOk result (λ c. app_of c ≡ with_rule (app_of command.entry) (required_rule name.entry.now)) }
+    ensures { IfOk result (λ c. app_of c ≡ app_with name.entry.now parameters.now) }
 {
-    let argument = Arg::new(alloc, name).required(true).action(ArgAction::Set);
-    command.arg(argument)
-}
-
-fn with_options<'a>(alloc: Global, command: Command<'a>) -> Result<Command<'a>, AllocError>
-    ensures { IfOk result (λ c. app_of c ≡ with_rule (with_rule (app_of command.entry) (option_rule (codes "max-workers"))) (option_rule (codes "threads"))) }
-{
-    let command = with_option(alloc, command, "max-workers")?;
-    let command = with_option(alloc, command, "threads")?;
-    Ok(command)
-}
-
-fn with_flags<'a>(alloc: Global, command: Command<'a>) -> Result<Command<'a>, AllocError>
-    ensures { IfOk result (λ c. app_of c ≡ with_rule (with_rule (with_rule (with_rule (app_of command.entry)
-        (flag_rule (codes "parallel"))) (flag_rule (codes "history"))) (flag_rule (codes "daemons"))) (flag_rule (codes "summary"))) }
-{
-    let command = with_flag(alloc, command, "parallel")?;
-    let command = with_flag(alloc, command, "history")?;
-    let command = with_flag(alloc, command, "daemons")?;
-    let command = with_flag(alloc, command, "summary")?;
-    Ok(command)
-}
-
-/// The parser of `run`: PLAN, which is required, two options with a value each, and four flags.
-#[tactic(auto, unfolding(crate::specs::Rules::run_app))]
-pub(crate) fn run_command<'a>(alloc: Global) -> Result<Command<'a>, AllocError>
-    ensures { IfOk result (λ c. app_of c ≡ run_app) }
-{
-    let command = with_required(alloc, bare_command(alloc, "run"), "PLAN")?;
-    let command = with_options(alloc, command)?;
-    let command = with_flags(alloc, command)?;
-    Ok(command)
-}
-
-/// The parser of `check`: PLAN, which is required.
-#[tactic(auto, unfolding(crate::specs::Rules::check_app))]
-pub(crate) fn check_command<'a>(alloc: Global) -> Result<Command<'a>, AllocError>
-    ensures { IfOk result (λ c. app_of c ≡ check_app) }
-{
-    let command = with_required(alloc, bare_command(alloc, "check"), "PLAN")?;
-    Ok(command)
-}
-
-/// The parser of `make`: SEED and FILE, which are required.
-#[tactic(auto, unfolding(crate::specs::Rules::make_app))]
-pub(crate) fn make_command<'a>(alloc: Global) -> Result<Command<'a>, AllocError>
-    ensures { IfOk result (λ c. app_of c ≡ make_app) }
-{
-    let command = with_required(alloc, bare_command(alloc, "make"), "SEED")?;
-    let command = with_required(alloc, command, "FILE")?;
+    let mut command = bare_command(alloc, name);
+    for parameter in parameters {
+        command = command.arg(argument(alloc, parameter))?;
+    }
     Ok(command)
 }

@@ -1,6 +1,10 @@
 ghost use Rattle.command_words.specs.Failing.{NoMemoryOr};
+ghost use Rattle.command_words.specs.Check.{check_of};
+ghost use Rattle.command_words.specs.Make.{make_of};
 ghost use Rattle.command_words.specs.Reading.{IsBounded, command_of};
-ghost use Rattle.std.specs.Prelude.{map, IfErr, IfOk, None, Some, ◌≡◌};
+ghost use Rattle.command_words.specs.Run.{run_of};
+ghost use Rattle.command_words.specs.declared.commands.Command.TheVariants.{Check, Make, Run};
+ghost use Rattle.std.specs.Prelude.{map, option_map, IfErr, IfOk, None, Some, ◌≡◌};
 
 use crate::check::read_check;
 use crate::commands::{Command, WordsFail};
@@ -19,6 +23,33 @@ fn borrowed(alloc: Global, words: &[Text]) -> Result<Vec<&str>, AllocError>
     Ok(strs)
 }
 
+fn run(alloc: Global, words: &[Text]) -> Result<Command, WordsFail>
+    ensures ok { IfOk result (λ command. option_map Run (run_of words.now) ≡ Some command) }
+    ensures bounds { IfOk result IsBounded }
+    ensures err { IfErr result (NoMemoryOr (option_map Run (run_of words.now) ≡ None)) }
+{
+    let words = borrowed(alloc, words)?;
+    read_run(alloc, &words).map(Command::Run)
+}
+
+fn check(alloc: Global, words: &[Text]) -> Result<Command, WordsFail>
+    ensures ok { IfOk result (λ command. option_map Check (check_of words.now) ≡ Some command) }
+    ensures bounds { IfOk result IsBounded }
+    ensures err { IfErr result (NoMemoryOr (option_map Check (check_of words.now) ≡ None)) }
+{
+    let words = borrowed(alloc, words)?;
+    read_check(alloc, &words).map(Command::Check)
+}
+
+fn make(alloc: Global, words: &[Text]) -> Result<Command, WordsFail>
+    ensures ok { IfOk result (λ command. option_map Make (make_of words.now) ≡ Some command) }
+    ensures bounds { IfOk result IsBounded }
+    ensures err { IfErr result (NoMemoryOr (option_map Make (make_of words.now) ≡ None)) }
+{
+    let words = borrowed(alloc, words)?;
+    read_make(alloc, &words).map(Command::Make)
+}
+
 /// The command that the words after the program's name are.
 ///
 /// The first word is the command's name, `run`, `worker`, `check` or `make`. Behind `run` stand the name of the
@@ -35,22 +66,10 @@ pub fn read_command(alloc: Global, words: &[Text]) -> Result<Command, WordsFail>
         return Err(WordsFail::NoCommand);
     };
     match name.as_str() {
-        "run" => {
-            let rest = borrowed(alloc, rest)?;
-            let run = read_run(alloc, &rest)?;
-            Ok(Command::Run(run))
-        }
+        "run" => run(alloc, rest),
         "worker" => Ok(Command::Worker),
-        "check" => {
-            let rest = borrowed(alloc, rest)?;
-            let plan = read_check(alloc, &rest)?;
-            Ok(Command::Check(plan))
-        }
-        "make" => {
-            let rest = borrowed(alloc, rest)?;
-            let make = read_make(alloc, &rest)?;
-            Ok(Command::Make(make))
-        }
+        "check" => check(alloc, rest),
+        "make" => make(alloc, rest),
         _ => Err(WordsFail::NoCommand),
     }
 }

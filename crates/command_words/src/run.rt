@@ -10,7 +10,7 @@ ghost use Rattle.std.specs.Prelude.{map, IfErr, IfOk, IfSome, None, Some, ◌==�
 use crate::commands::{RunWords, WordsFail};
 use crate::matching::{given, is_on, matches_of, text_at};
 use crate::numbers::count_of;
-use crate::parser::run_command;
+use crate::parser::Parameter;
 use clap::ArgMatches;
 use item_actions::Text;
 use std::alloc::Global;
@@ -81,8 +81,15 @@ pub(crate) fn read_run(alloc: Global, words: &[&str]) -> Result<RunWords, WordsF
     ensures bounds { IfOk result HasBounds }
     ensures err { IfErr result (NoMemoryOr (run_of (map (λ s. s.now) words.now) ≡ None)) }
 {
-    let command = run_command(alloc)?;
-    let matches = matches_of(command, words)?;
-    let run = run_words(alloc, &matches)?;
-    Ok(run)
+    let parameters = [
+        Parameter::Required("PLAN"),
+        Parameter::WithValue("max-workers"),
+        Parameter::WithValue("threads"),
+        Parameter::Flag("parallel"),
+        Parameter::Flag("history"),
+        Parameter::Flag("daemons"),
+        Parameter::Flag("summary"),
+    ];
+    let matches = matches_of(alloc, "run", &parameters, words)?;
+    run_words(alloc, &matches)
 }

@@ -1,5 +1,5 @@
 -- A worker that owns and runs nothing.
-use Rattle.std.proofs.Common.{◌≡◌, ◌≢◌, ℕ, zero, suc, ◌+◌, Bool, true, false, cond, List, [], ◌∷◌, ◌++◌, map, get_or, Option, None, Some, refl, sym, ap, ◌∙◌}
+use Rattle.std.proofs.Common.{◌≡◌, ◌≢◌, ℕ, zero, suc, ◌+◌, Bool, true, false, cond, List, [], ◌∷◌, ◌++◌, length, map, get_or, Option, None, Some, refl, sym, ap, ◌∙◌, subst, arith}
 use Rattle.std.proofs.lemmas.Bool.{eq-eqb}
 use Rattle.resource_lock.specs.StateView.{StateView, is_owner, mark_of, owner_of, runs_by}
 use Rattle.resource_lock.specs.declared.ids.LockId.{LockId}
@@ -14,7 +14,7 @@ use Rattle.run_laws.specs.Own.{action_at, claimed, marks_in, places_from, task_a
 use Rattle.run_laws.proofs.Others.{running_of}
 use Rattle.resource_lock.specs.AtRest.{IsAtRest}
 use Rattle.coordination.specs.Lasts.{last_of}
-use Rattle.coordination.specs.Parts.{IsPartOf, IsFreshPart}
+use Rattle.coordination.specs.Parts.{ArePartsFrom, HasRoom, IsFreshPart, IsPartOf, marks_of}
 use Rattle.coordination.specs.declared.parts.Part.{Part}
 use Rattle.coordination.specs.declared.parts.Room.{Room}
 
@@ -105,3 +105,9 @@ fresh_part book room w last part rest r is = record {
   };
   last = r.number ∙ is;
 }
+
+-- one part more behind those of the workers from w on
+pub parts_push : (w : ℕ) (book : BookView) (parts : List Part) (part : Part) → IsPartOf book (record { 0 = w + length parts }) part → HasRoom book.graph.locks (marks_of book.graph) part → ArePartsFrom w book parts
+    → ArePartsFrom w book (parts ++ part ∷ [])
+parts_push w book [] part is room before = (subst (λ (n : ℕ). IsPartOf book (record { 0 = n }) part) (omega arith) is, room, tt)
+parts_push w book (p ∷ ps) part is room before = (before.0, before.1, parts_push (suc w) book ps part (subst (λ (n : ℕ). IsPartOf book (record { 0 = n }) part) (omega arith) is) room before.2)

@@ -9,9 +9,14 @@ use Rattle.lock_journal.specs.Ran.{HasFinished, HasFailed, IsToRetry}
 use Rattle.lock_journal.specs.declared.entries.Kind.{Kind}
 use Rattle.lock_journal.specs.declared.transforms.Disposition.{Disposition}
 use Rattle.lock_journal.specs.declared.transforms.Disposition.TheVariants.{Finished, Failed, Retry}
+use Rattle.coordination.specs.declared.parts.Part.{Part}
 use Rattle.coordination.specs.declared.rule.Sight.{Sight}
+use Rattle.coordination.specs.declared.sleepers.Sleepers.{Sleepers}
+use Rattle.coordination.specs.declared.sleepers.Wakes.{Wakes}
 use Rattle.coordination.specs.Agrees.{Finds, IsSound}
+use Rattle.coordination.specs.Parts.{HasRoom, IsPartOf, marks_of}
 use Rattle.coordination.specs.Sights.{seeing}
+use Rattle.coordination.specs.Wakes.{AreWakesOf}
 
 -- where a transform may fail, or ask to be run again
 abbrev pub Cause : Type 1
@@ -27,6 +32,14 @@ Ran kind makes fails retries w old new (Ok Finished) = (changes : List Change) �
 Ran kind makes fails retries w old new (Ok Failed) = HasFailed fails old new w kind
 Ran kind makes fails retries w old new (Ok Retry) = IsToRetry retries old new w
 Ran kind makes fails retries w old new (Err e) = SameBook old new
+
+-- The transform was run on the old book and left the new one, the worker's part followed, and these are woken.
+pub record HasRun {E : Type 0} (kind : Kind) (makes : Making) (fails retries : Cause) (w : WorkerId) (old new : BookView) (part : Part) (sleepers : Sleepers) (result : Result Disposition E × Wakes) : Type 0 where
+  pub graph : new.graph ≡ old.graph
+  pub ran : Ran kind makes fails retries w old new result.0
+  pub kept : IsPartOf new w part
+  pub room : HasRoom new.graph.locks (marks_of new.graph) part
+  pub wakes : AreWakesOf new sleepers result.1
 
 -- The transform found a sound book that agrees with the worker's sight, and left a sound one, which the worker saw.
 pub record Attempted {E : Type 0} (kind : Kind) (makes : Making) (fails retries : Cause) (s s' : Sight) (r : Result Disposition E) : Type 0 where

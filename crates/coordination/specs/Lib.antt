@@ -11,3 +11,5 @@ pub mod Parts
 pub mod Passes
 pub mod Together
 pub mod Wakes
+pub mod Tries
+pub mod Closings

@@ -1,5 +1,5 @@
 -- What a pass keeps of a book for its worker, and how it follows the worker's entries.
-use Rattle.std.specs.Prelude.{◌≡◌, ◌+◌, ◌<◌, ◌≤◌, ℕ, true, false, List, [], ◌∷◌, ◌++◌, length, vec_capacity, vec_len, Result, Ok, Err, None}
+use Rattle.std.specs.Prelude.{◌≡◌, ◌+◌, ◌<◌, ◌≤◌, ℕ, suc, true, false, List, [], ◌∷◌, ◌++◌, length, vec_capacity, vec_len, Result, Ok, Err, None}
 use Rattle.std.specs.List.{AllByRecursion}
 use Rattle.resource_lock.specs.Change.{can_all, holding_after, NamesOnly}
 use Rattle.resource_lock.specs.Good.{Good}
@@ -53,6 +53,13 @@ pub record HasRoom (locks marks : ℕ) (part : Part) : Type 0 where
   pub mark_room : marks ≤ vec_capacity part.claimed
   pub park_room : locks ≤ vec_capacity part.parked
 
+-- The part is that of a worker of a sound book, and has room for all that the worker may have.
+pub record IsPartHere (w : WorkerId) (book : BookView) (part : Part) : Type 0 where
+  pub known : w.0 < book.graph.workers
+  pub sound : IsSound book
+  pub kept : IsPartOf book w part
+  pub room : HasRoom book.graph.locks (marks_of book.graph) part
+
 -- the part of a worker that has nothing, with room for all
 pub record IsFreshPart (room : Room) (last : ℕ) (part : Part) : Type 0 where
   pub lease : part.lease ≡ false
@@ -62,6 +69,11 @@ pub record IsFreshPart (room : Room) (last : ℕ) (part : Part) : Type 0 where
   pub parked : part.parked.items ≡ []
   pub number : part.last ≡ last
   pub has_room : HasRoom room.locks room.marks part
+
+-- these are the parts of the workers from w on, each with room for all that its worker may have
+abbrev pub ArePartsFrom : ℕ → BookView → List Part → Type 0
+ArePartsFrom w book [] = Unit {0}
+ArePartsFrom w book (part ∷ parts) = IsPartOf book (record { 0 = w }) part × HasRoom book.graph.locks (marks_of book.graph) part × ArePartsFrom (suc w) book parts
 
 -- its lists have room for a change of the worker
 abbrev pub HasRoomFor : WorkerId → Part → Change → Type 0

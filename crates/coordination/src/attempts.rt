@@ -2,8 +2,10 @@
 ghost use Rattle.std.specs.Prelude.{◌≡◌, ◌<◌, IfNone, IfSome};
 ghost use Rattle.coordination.specs.Attempts.{Asked, Attempted};
 ghost use Rattle.coordination.specs.Sights.{hearing};
+ghost use Rattle.coordination.specs.Tries.{HasTried, IsReplied};
 ghost use Rattle.coordination.specs.Wakes.{AreWakesOf};
 
+use crate::halts::Halt;
 use crate::passes::Pass;
 use crate::questions::Question;
 use crate::sleepers::{Sleepers, Wakes};
@@ -12,10 +14,72 @@ use lock_journal::{Disposition, Transform};
 use resource_lock::WorkerId;
 use std::alloc::AllocError;
 
+/// What came of a try.
+pub enum Tried {
+    /// The transform made an entry, a failed one where this is false, which wakes these.
+    Entered(bool, Wakes),
+    /// The transform came to nothing.
+    Halted(Halt),
+    /// The transform is to be tried again.
+    Again,
+}
+
+/// What came of asking a question.
+pub enum Reply<A> {
+    /// It was answered.
+    Answered(A),
+    /// It has no answer, and this worker has stopped the service.
+    Stopped(WorkerId),
+    /// It is to be asked again.
+    Again,
+}
+
 impl Slot {
+    // Runs the transform once, and hears who has stopped the service where the transform asks to be
+    // run again.
+    #[inline]
+    pub fn try_transform<T: Transform>(
+        &self,
+        pass: &mut Pass,
+        transform: &T,
+        sleepers: &Sleepers,
+    ) -> Tried
+        requires { pass.old.service ≡ self.now.table.shared.table_id }
+        ensures same { pass.new.service ≡ pass.old.service }
+        ensures tried { HasTried (T.kind_of transform.now) (T.makes transform.now) (T.fails_on transform.now) (T.retries_on transform.now) sleepers.now pass.old.sight pass.new.sight result }
+    {
+        match self.attempt(pass, transform, sleepers) {
+            Some((Ok(Disposition::Finished), wakes)) => Tried::Entered(true, wakes),
+            Some((Ok(Disposition::Failed), wakes)) => Tried::Entered(false, wakes),
+            Some((Err(_), _)) => Tried::Halted(Halt::NoMemory),
+            Some((Ok(Disposition::Retry), _)) => match self.hear(pass) {
+                Some(by) => Tried::Halted(Halt::Stopped(by)),
+                None => Tried::Again,
+            },
+            None => Tried::Again,
+        }
+    }
+
+    // Asks the question once, and hears who has stopped the service where it has no answer.
+    #[inline]
+    pub fn try_question<Q: Question>(&self, pass: &mut Pass, question: &Q) -> Reply<Q::Answer>
+        requires { pass.old.service ≡ self.now.table.shared.table_id }
+        ensures same { pass.new.service ≡ pass.old.service }
+        ensures replied { IsReplied (Q.answers question.now) (Q.waits_on question.now) pass.old.sight pass.new.sight result }
+    {
+        match self.attempt_ask(pass, question) {
+            Some(Some(answer)) => Reply::Answered(answer),
+            Some(None) => match self.hear(pass) {
+                Some(by) => Reply::Stopped(by),
+                None => Reply::Again,
+            },
+            None => Reply::Again,
+        }
+    }
+
     // Runs the transform once, unless the book is out, and says whom of the sleepers the last entry
     // wakes.
-    pub fn attempt<T: Transform>(
+    fn attempt<T: Transform>(
         &self,
         pass: &mut Pass,
         transform: &T,
@@ -42,11 +106,7 @@ impl Slot {
     }
 
     // Asks the question once, unless the book is out.
-    pub fn attempt_ask<Q: Question>(
-        &self,
-        pass: &mut Pass,
-        question: &Q,
-    ) -> Option<Option<Q::Answer>>
+    fn attempt_ask<Q: Question>(&self, pass: &mut Pass, question: &Q) -> Option<Option<Q::Answer>>
         requires { pass.old.service ≡ self.now.table.shared.table_id }
         ensures same { pass.new.service ≡ pass.old.service }
         ensures none { IfNone result (pass.new.sight ≡ pass.old.sight) }
@@ -61,7 +121,7 @@ impl Slot {
     }
 
     // Has the pass hear who has stopped the service.
-    pub fn hear(&self, pass: &mut Pass) -> Option<WorkerId>
+    fn hear(&self, pass: &mut Pass) -> Option<WorkerId>
         requires { pass.old.service ≡ self.now.table.shared.table_id }
         ensures same { pass.new.service ≡ pass.old.service }
         ensures none { IfNone result (pass.new.sight ≡ pass.old.sight) }

@@ -1,7 +1,7 @@
 use resource_lock::WorkerId;
 
 /// Why a call under the state lock came to nothing.
-#[derive(Clone, Copy, Debug, PartialEq, Eq)]
+#[derive(Clone, Copy, PartialEq, Eq)]
 pub enum Halt {
     /// There wasn't enough memory.
     NoMemory,

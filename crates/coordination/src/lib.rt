@@ -2,9 +2,11 @@
 #![tactic(auto)]
 
 mod attempts;
+mod boxed_books;
 mod halts;
 mod lasts;
 mod laws;
+mod openings;
 mod parts;
 mod passes;
 mod questions;

@@ -2,10 +2,10 @@ ghost use Rattle.std.specs.Prelude.{◌≡◌};
 ghost use Rattle.coordination.specs.Lasts.{last_of};
 ghost use Rattle.coordination.specs.Shown.{blocked_shown, claimed_shown, lease_shown, locks_shown, parked_shown};
 
+use crate::boxed_books::BoxedBook;
 use crate::parts::Part;
 use crate::rule::SeatView;
 use atomic_table::Seat;
-use lock_journal::Book;
 use resource_lock::{LockId, MarkId, WorkerId};
 use std::marker::Model;
 
@@ -16,7 +16,7 @@ pub struct Pass {
     pub(crate) part: Part,
     pub(crate) stopped: bool,
     pub(crate) stopped_by: Option<WorkerId>,
-    pub(crate) seat: Seat<Book, SeatView>,
+    pub(crate) seat: Seat<BoxedBook, SeatView>,
 }
 
 impl Model for Pass {

@@ -1,6 +1,7 @@
 ghost use Rattle.coordination.specs.Sights.{nobody, starting};
 ghost use Rattle.coordination.specs.Rule.{Orderly, taken, put_back, stopped_at, heard, first_sight, other_sights, both_sights};
 
+use crate::boxed_books::BoxedBook;
 use atomic_table::{Join, Play, Split, TableRule};
 use lock_journal::Book;
 use resource_lock::WorkerId;
@@ -37,7 +38,7 @@ pub struct OpenedWith {
 /// The rule of the table.
 pub struct Order;
 
-impl TableRule<Book, SeatView, OpenedWith> for Order {
+impl TableRule<BoxedBook, SeatView, OpenedWith> for Order {
     ghost holds = { λ key. Orderly key.book.value.graph };
 
     ghost first = { λ key. starting key.book.value };
@@ -46,35 +47,35 @@ impl TableRule<Book, SeatView, OpenedWith> for Order {
 /// Takes the book out of its slot, or finds the slot empty.
 pub struct Take;
 
-impl Play<Book, SeatView> for Take {
+impl Play<BoxedBook, SeatView> for Take {
     ghost then = { taken };
 }
 
 /// Puts the book back.
 pub struct PutBack;
 
-impl Play<Book, SeatView> for PutBack {
+impl Play<BoxedBook, SeatView> for PutBack {
     ghost then = { put_back };
 }
 
 /// Marks the service as stopped, or finds it marked.
 pub struct Stop;
 
-impl Play<Book, SeatView> for Stop {
+impl Play<BoxedBook, SeatView> for Stop {
     ghost then = { stopped_at };
 }
 
 /// Reads the stop mark.
 pub struct Hear;
 
-impl Play<Book, SeatView> for Hear {
+impl Play<BoxedBook, SeatView> for Hear {
     ghost then = { heard };
 }
 
 /// Makes a seat without a worker.
 pub struct Sit;
 
-impl Play<Book, SeatView> for Sit {
+impl Play<BoxedBook, SeatView> for Sit {
     ghost use Rattle.std.specs.Prelude.{◌≡◌, []};
 
     ghost then = { λ st m r n. n ≡ (nobody, []) };

@@ -7,12 +7,14 @@ ghost use Rattle.coordination.specs.Calls.{AskedInVain, HasFailed, HasFinished, 
 ghost use Rattle.coordination.specs.Sights.{sights_from, workers_from};
 ghost use Rattle.coordination.specs.Together.{ComeTo};
 
+use crate::attempts::{Reply, Tried};
 use crate::halts::Halt;
+use crate::openings::{Stock, Waiting};
 use crate::passes::Pass;
 use crate::questions::Question;
 use crate::sleepers::{Sleepers, Wakes};
 use crate::slots::Slot;
-use lock_journal::{Book, Disposition, Transform};
+use lock_journal::{Book, Transform};
 use resource_lock::WorkerId;
 use std::alloc::{AllocError, Global};
 use std::marker::Model;
@@ -54,20 +56,19 @@ pub struct Opened {
 impl Coordination {
     /// A service that keeps the book, in which nobody has anything, with a pass for each worker of
     /// its graph. Each has seen this book. It fails for want of memory alone.
-    pub fn open(alloc: Global, book: Book) -> Result<Opened, AllocError>
-        requires { IsAtRest book.state }
-        ensures book { IfOk result (λ opened. opened.service.book ≡ book) }
-        ensures passes { IfOk result (λ opened. map (λ p. p.sight) opened.passes.items ≡ sights_from 0 book.graph.workers book) }
-        ensures len { IfOk result (λ opened. length opened.passes.items ≡ book.graph.workers) }
-        ensures workers { IfOk result (λ opened. map (λ p. p.sight.worker.0) opened.passes.items ≡ workers_from 0 book.graph.workers) }
+    pub fn open(alloc: Global, book: Box<Book>) -> Result<Opened, AllocError>
+        requires { IsAtRest book.value.state }
+        ensures book { IfOk result (λ opened. opened.service.book ≡ book.value) }
+        ensures passes { IfOk result (λ opened. map (λ p. p.sight) opened.passes.items ≡ sights_from 0 book.value.graph.workers book.value) }
+        ensures len { IfOk result (λ opened. length opened.passes.items ≡ book.value.graph.workers) }
+        ensures workers { IfOk result (λ opened. map (λ p. p.sight.worker.0) opened.passes.items ≡ workers_from 0 book.value.graph.workers) }
         ensures service { IfOk result (λ opened. All (λ p. p.service ≡ opened.service.service) opened.passes.items) }
-        ensures seen { IfOk result (λ opened. All (λ p. p.sight.seen ≡ book) opened.passes.items) }
+        ensures seen { IfOk result (λ opened. All (λ p. p.sight.seen ≡ book.value) opened.passes.items) }
         ensures rest { IfOk result (λ opened. All (λ p. HoldsNothing p.sight) opened.passes.items) }
     {
-        let waiting = Waiting::of(alloc, book.graph().workers())?;
-        let (slot, passes) = Slot::opening(alloc, book)?;
-        let service = service_of(slot, waiting);
-        Ok(Opened { service, passes })
+        let stock = Stock::of(alloc, &book)?;
+        let (slot, seat) = Slot::new(alloc, book)?;
+        Ok(stock.open(slot, seat))
     }
 
     /// Gets the state lock and runs the transform.
@@ -92,25 +93,14 @@ impl Coordination {
     {
         let mut guard = self.state_lock.lock(rt);
         for _ in rt.forever() {
-            match self.slot.attempt(pass, transform, &guard) {
-                Some((Ok(Disposition::Finished), wakes)) => {
+            match self.slot.try_transform(pass, transform, &guard) {
+                Tried::Entered(finished, wakes) => {
                     self.wake_after_entry(guard, wakes);
-                    return Ok(true);
+                    return Ok(finished);
                 }
-                Some((Ok(Disposition::Failed), wakes)) => {
-                    self.wake_after_entry(guard, wakes);
-                    return Ok(false);
-                }
-                Some((Err(_), _)) => return Err(Halt::NoMemory),
-                Some((Ok(Disposition::Retry), _)) => {
-                    if let Some(by) = self.slot.hear(pass) {
-                        return Err(Halt::Stopped(by));
-                    }
-                }
-                None => {}
+                Tried::Halted(halt) => return Err(halt),
+                Tried::Again => guard = self.sleep_until_freed(rt, guard),
             }
-            guard.transforms = true;
-            guard = self.freed.wait(rt, guard);
         }
         unreachable!()
     }
@@ -136,16 +126,11 @@ impl Coordination {
         let worker = pass.worker;
         let mut guard = self.state_lock.lock(rt);
         for _ in rt.forever() {
-            match self.slot.attempt_ask(pass, question) {
-                Some(Some(answer)) => return Ok(answer),
-                Some(None) => {
-                    if let Some(by) = self.slot.hear(pass) {
-                        return Err(Halt::Stopped(by));
-                    }
-                }
-                None => {}
+            match self.slot.try_question(pass, question) {
+                Reply::Answered(answer) => return Ok(answer),
+                Reply::Stopped(by) => return Err(Halt::Stopped(by)),
+                Reply::Again => guard = self.sleep(rt, guard, worker, question.awaited()),
             }
-            guard = self.sleep(rt, guard, worker, question.awaited());
         }
         unreachable!()
     }
@@ -158,6 +143,16 @@ impl Coordination {
         self.entered.notify_all();
         self.freed.notify_all();
         self.wake_workers(Woken::All);
+    }
+
+    // Falls asleep until an entry may let a transform go on, with the state lock free meanwhile.
+    fn sleep_until_freed<'a, R: Wait>(
+        &'a self,
+        rt: &R,
+        mut guard: MutexGuard<'a, Sleepers>,
+    ) -> MutexGuard<'a, Sleepers> {
+        guard.transforms = true;
+        self.freed.wait(rt, guard)
     }
 
     // Falls asleep until what the worker waits for may have come, with the state lock free meanwhile.
@@ -186,7 +181,7 @@ impl Coordination {
     // Condvar.
     #[inline]
     fn wake_after_entry(&self, guard: MutexGuard<'_, Sleepers>, wakes: Wakes) {
-        if wakes != Wakes::NOBODY {
+        if wakes.wake_any() {
             self.wake(guard, wakes);
         }
     }
@@ -243,14 +238,14 @@ impl Coordination {
     /// a pass shows as having stopped the service has a pass, which shows that too. Where every pass
     /// holds nothing, nobody in the book owns a lock, has a lease, has parked a lock, is blocked or runs
     /// anything.
-    pub fn finish(self, passes: Vec<Pass>) -> Book
+    pub fn finish(self, passes: Vec<Pass>) -> Box<Book>
         requires service { All (λ p. p.service ≡ self.service) passes.items }
         requires all { map (λ p. p.sight.worker.0) passes.items ≡ workers_from 0 self.book.graph.workers }
-        ensures graph { result.graph ≡ self.book.graph }
-        ensures agrees { All (λ p. Agrees p.sight.worker p.sight.seen result) passes.items }
-        ensures rest { All (λ p. HoldsNothing p.sight) passes.items → IsAtRest result.state }
-        ensures entries { All (λ e. e.worker.0 < result.graph.workers) result.history }
-        ensures together { ComeTo passes.items result }
+        ensures graph { result.value.graph ≡ self.book.graph }
+        ensures agrees { All (λ p. Agrees p.sight.worker p.sight.seen result.value) passes.items }
+        ensures rest { All (λ p. HoldsNothing p.sight) passes.items → IsAtRest result.value.state }
+        ensures entries { All (λ e. e.worker.0 < result.value.graph.workers) result.value.history }
+        ensures together { ComeTo passes.items result.value }
         ensures stopped_by { All (λ p. (by : WorkerId) → p.sight.stopped_by ≡ Some by → Any (λ q. (q.sight.worker ≡ by) × (q.sight.stopped ≡ true)) passes.items) passes.items }
     {
         let Coordination {
@@ -264,24 +259,8 @@ impl Coordination {
     }
 }
 
-/// What those wait with who wait in a service: who sleeps, and each worker's own Condvar.
-#[derive(Drop)]
-struct Waiting {
-    sleepers: Sleepers,
-    own: Vec<Condvar>,
-}
-
-impl Waiting {
-    // For so many workers, none of whom sleeps.
-    fn of(alloc: Global, workers: u32) -> Result<Waiting, AllocError> {
-        let sleepers = Sleepers::nobody(alloc, workers)?;
-        let own = condvars(alloc, workers)?;
-        Ok(Waiting { sleepers, own })
-    }
-}
-
 // The service over a slot.
-fn service_of(slot: Slot, waiting: Waiting) -> Coordination
+pub(crate) fn service_of(slot: Slot, waiting: Waiting) -> Coordination
     ensures service { result.service ≡ slot.table.shared.table_id }
     ensures book { result.book ≡ slot.table.shared.key.book.value }
 {
@@ -293,13 +272,4 @@ fn service_of(slot: Slot, waiting: Waiting) -> Coordination
         own,
         freed: Condvar::new(),
     }
-}
-
-// So many Condvars.
-fn condvars(alloc: Global, count: u32) -> Result<Vec<Condvar>, AllocError> {
-    let mut all = Vec::with_capacity(alloc, count as usize)?;
-    for _ in 0..count {
-        all.push(Condvar::new())?;
-    }
-    Ok(all)
 }

@@ -8,7 +8,7 @@ use std::alloc::{AllocError, Global};
 use worker_choices::{Woken, last_lets_go_on};
 
 /// Who may be asleep.
-#[derive(Debug, Drop)]
+#[derive(Drop)]
 pub struct Sleepers {
     /// Whether a transform is.
     pub transforms: bool,
@@ -19,7 +19,7 @@ pub struct Sleepers {
 }
 
 /// Whom an entry wakes of those that sleep.
-#[derive(Clone, Copy, Debug, PartialEq)]
+#[derive(Clone, Copy)]
 pub struct Wakes {
     /// The transforms, or none of them.
     pub transforms: bool,
@@ -30,17 +30,17 @@ pub struct Wakes {
 }
 
 impl Wakes {
-    pub const NOBODY: Wakes = Wakes {
-        transforms: false,
-        questions: false,
-        workers: Woken::Nobody,
-    };
-
     pub const ALL: Wakes = Wakes {
         transforms: true,
         questions: true,
         workers: Woken::All,
     };
+
+    // Whether it wakes anybody.
+    #[inline]
+    pub fn wake_any(self) -> bool {
+        self.transforms || self.questions || !matches!(self.workers, Woken::Nobody)
+    }
 }
 
 impl Sleepers {

@@ -1,12 +1,11 @@
 //! The steps on the table.
 ghost use Rattle.std.specs.Prelude.{◌≡◌, ◌≢◌, ◌<◌, ◌+◌, ◌-◌, ◌^◌, [], ◌∷◌, length, true, false, IfNone, IfSome};
-ghost use Rattle.coordination.specs.Attempts.{Answers, Ran};
-ghost use Rattle.coordination.specs.Agrees.{IsSound};
-ghost use Rattle.coordination.specs.Parts.{HasRoom, IsPartOf, marks_of};
+ghost use Rattle.coordination.specs.Attempts.{Answers, HasRun};
+ghost use Rattle.coordination.specs.Parts.{IsPartHere};
 ghost use Rattle.coordination.specs.Rule.{AddsOwn, Hears, Taken, carried_book};
 ghost use Rattle.coordination.specs.Sights.{holding, one, seeing, sight_of, stopping};
-ghost use Rattle.coordination.specs.Wakes.{AreWakesOf};
 
+use crate::boxed_books::BoxedBook;
 use crate::parts::Part;
 use crate::questions::Question;
 use crate::rule::{Hear, OpenedWith, Order, PutBack, SeatView, Stop, Take};
@@ -20,13 +19,13 @@ use std::alloc::{AllocError, Global};
 /// stopped the service.
 #[derive(Drop)]
 pub struct Slot {
-    pub table: Table<Book, SeatView, OpenedWith, Order, Global>,
+    pub table: Table<BoxedBook, SeatView, OpenedWith, Order, Global>,
     pub ghost sized: { (table.shared.table_id.words ≡ 2) × (table.shared.table_id.slots ≡ 1) },
 }
 
 impl Slot {
     // Takes the book out, unless it is out.
-    pub fn try_take(&self, seat: &mut Seat<Book, SeatView>) -> bool
+    pub fn try_take(&self, seat: &mut Seat<BoxedBook, SeatView>) -> bool
         requires id { seat.old.table_id ≡ self.now.table.shared.table_id }
         requires lone { seat.old.me ≡ (one (sight_of seat.old.me.0), []) }
         ensures same { (seat.new.table_id ≡ seat.old.table_id) × (seat.new.id ≡ seat.old.id) }
@@ -40,7 +39,7 @@ impl Slot {
     // whom of the sleepers the last entry wakes.
     pub fn run<T: Transform>(
         &self,
-        seat: &mut Seat<Book, SeatView>,
+        seat: &mut Seat<BoxedBook, SeatView>,
         worker: WorkerId,
         part: &mut Part,
         transform: &T,
@@ -48,28 +47,19 @@ impl Slot {
     ) -> (Result<Disposition, AllocError>, Wakes)
         requires id { seat.old.table_id ≡ self.now.table.shared.table_id }
         requires held { seat.old.me.1 ≡ (0, carried_book seat.old.me.1) ∷ [] }
-        requires known { worker.0 < (carried_book seat.old.me.1).graph.workers }
-        requires sound { IsSound (carried_book seat.old.me.1) }
-        requires part { IsPartOf (carried_book seat.old.me.1) worker part.old }
-        requires room { HasRoom (carried_book seat.old.me.1).graph.locks (marks_of (carried_book seat.old.me.1).graph) part.old }
+        requires part { IsPartHere worker (carried_book seat.old.me.1) part.old }
         ensures same { (seat.new.table_id ≡ seat.old.table_id) × (seat.new.id ≡ seat.old.id) × (seat.new.me.0 ≡ seat.old.me.0) }
         ensures held { seat.new.me.1 ≡ (0, carried_book seat.new.me.1) ∷ [] }
-        ensures graph { (carried_book seat.new.me.1).graph ≡ (carried_book seat.old.me.1).graph }
-        ensures ran { Ran (T.kind_of transform.now) (T.makes transform.now) (T.fails_on transform.now) (T.retries_on transform.now) worker (carried_book seat.old.me.1) (carried_book seat.new.me.1) result.0 }
-        ensures part { IsPartOf (carried_book seat.new.me.1) worker part.new }
-        ensures room { HasRoom (carried_book seat.new.me.1).graph.locks (marks_of (carried_book seat.new.me.1).graph) part.new }
-        ensures wakes { AreWakesOf (carried_book seat.new.me.1) sleepers.now result.1 }
+        ensures run { HasRun (T.kind_of transform.now) (T.makes transform.now) (T.fails_on transform.now) (T.retries_on transform.now) worker (carried_book seat.old.me.1) (carried_book seat.new.me.1) part.new sleepers.now result }
     {
-        let book = seat.slot_mut(&self.table.shared, 0);
-        let ran = book.run(worker, transform);
-        part.follow(worker, book, &ran);
-        (ran, wakes_of(book, sleepers))
+        let boxed = seat.slot_mut(&self.table.shared, 0);
+        run_on(&mut boxed.inner, worker, part, transform, sleepers)
     }
 
     // Asks the question of the book that the seat holds.
     pub fn put<Q: Question>(
         &self,
-        seat: &mut Seat<Book, SeatView>,
+        seat: &mut Seat<BoxedBook, SeatView>,
         worker: WorkerId,
         question: &Q,
     ) -> Option<Q::Answer>
@@ -79,12 +69,12 @@ impl Slot {
         ensures same { (seat.new.table_id ≡ seat.old.table_id) × (seat.new.id ≡ seat.old.id) × (seat.new.me ≡ seat.old.me) }
         ensures answer { Answers (Q.answers question.now) (Q.waits_on question.now) worker (carried_book seat.old.me.1) result }
     {
-        let book = seat.slot_mut(&self.table.shared, 0);
-        question.ask(worker, book)
+        let boxed = seat.slot_mut(&self.table.shared, 0);
+        question.ask(worker, &boxed.inner)
     }
 
     // Puts the book back.
-    pub fn put_back(&self, seat: &mut Seat<Book, SeatView>)
+    pub fn put_back(&self, seat: &mut Seat<BoxedBook, SeatView>)
         requires id { seat.old.table_id ≡ self.now.table.shared.table_id }
         requires held { seat.old.me ≡ (holding (sight_of seat.old.me.0), (0, carried_book seat.old.me.1) ∷ []) }
         requires own { AddsOwn (sight_of seat.old.me.0) (carried_book seat.old.me.1) }
@@ -95,7 +85,7 @@ impl Slot {
     }
 
     // Stops the service, or says who has stopped it before.
-    pub fn mark(&self, seat: &mut Seat<Book, SeatView>, worker: WorkerId) -> Option<WorkerId>
+    pub fn mark(&self, seat: &mut Seat<BoxedBook, SeatView>, worker: WorkerId) -> Option<WorkerId>
         requires id { seat.old.table_id ≡ self.now.table.shared.table_id }
         requires lone { seat.old.me ≡ (one (sight_of seat.old.me.0), []) }
         requires worker { worker ≡ (sight_of seat.old.me.0).worker }
@@ -115,7 +105,7 @@ impl Slot {
     }
 
     // Who has stopped the service.
-    pub fn marked(&self, seat: &mut Seat<Book, SeatView>) -> Option<WorkerId>
+    pub fn marked(&self, seat: &mut Seat<BoxedBook, SeatView>) -> Option<WorkerId>
         requires id { seat.old.table_id ≡ self.now.table.shared.table_id }
         requires lone { seat.old.me ≡ (one (sight_of seat.old.me.0), []) }
         ensures same { (seat.new.table_id ≡ seat.old.table_id) × (seat.new.id ≡ seat.old.id) }
@@ -129,4 +119,22 @@ impl Slot {
             Some(WorkerId((found - 1) as u32))
         }
     }
+}
+
+// Runs the transform on the book, has the worker's part follow it, and says whom of the sleepers the
+// last entry wakes.
+#[inline]
+fn run_on<T: Transform>(
+    book: &mut Book,
+    worker: WorkerId,
+    part: &mut Part,
+    transform: &T,
+    sleepers: &Sleepers,
+) -> (Result<Disposition, AllocError>, Wakes)
+    requires { IsPartHere worker book.old part.old }
+    ensures { HasRun (T.kind_of transform.now) (T.makes transform.now) (T.fails_on transform.now) (T.retries_on transform.now) worker book.old book.new part.new sleepers.now result }
+{
+    let ran = book.run(worker, transform);
+    part.follow(worker, book, &ran);
+    (ran, wakes_of(book, sleepers))
 }

@@ -10,7 +10,7 @@ use std::mem;
 use worker_choices::{Awaited, Woken, whom_to_wake};
 
 /// What each worker waits for that sleeps until it comes, by worker. Contracts see the list.
-#[derive(Debug, Drop)]
+#[derive(Drop)]
 pub struct Waiters {
     awaited: Vec<Option<Awaited>>,
     // How many sleep.

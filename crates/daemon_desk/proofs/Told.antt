@@ -1,12 +1,12 @@
 -- What is known of a reply by what it tells.
-use Rattle.std.proofs.Common.{◌≡◌, ◌≢◌, ℕ, Option, Result, Ok, Err, IfOk, IfSome}
+use Rattle.std.proofs.Common.{◌≡◌, ◌≢◌, ℕ, List, Option, Result, Ok, Err, IfOk, IfSome}
 use Rattle.item_actions.specs.Files.{Folder}
 use Rattle.item_actions.specs.Value.{IsHonest, value_on}
 use Rattle.item_actions.specs.declared.outcomes.Outcome.TheVariants.{Fault, Skipped}
 use Rattle.daemon_protocol.specs.declared.frames.Frame.TheVariants as frames
 use Rattle.daemon_protocol.specs.declared.frames.Reply.{Reply}
 use Rattle.daemon_protocol.specs.declared.frames.Request.{Request}
-use Rattle.daemon_protocol.specs.declared.starts.StreamStart.{StreamStart}
+use Rattle.daemon_protocol.specs.StreamStart.{look}
 use Rattle.daemon_protocol.specs.declared.starts.StreamStart.TheVariants.{Whole}
 use Rattle.worker_desk.specs.declared.files.DeskFail.{DeskFail}
 use Rattle.daemon_desk.specs.Replies.{IsReplyTo}
@@ -16,7 +16,7 @@ pub is_reply : (known : Option Folder) (q : Request) (r : Result Reply DeskFail)
 is_reply known q (Ok x) unit ran worked honest = record { unit = unit; ran = ran; worked = worked; honest = honest }
 is_reply known q (Err fail) unit ran worked honest = tt
 
--- what holds of each reply that stands there holds of the one that was told
-pub standing : (P : Reply → Type 0) (start : StreamStart) (r : Result Reply DeskFail) → IfOk r (λ x. (n : ℕ) × (start ≡ Whole (frames.Reply x) n)) → ((x : Reply) (n : ℕ) → start ≡ Whole (frames.Reply x) n → P x) → IfOk r P
-standing P start (Ok x) stands all = all x stands.0 stands.1
-standing P start (Err fail) stands all = tt
+-- what holds of each reply that the bytes begin with holds of the one that was told
+pub told_in : (P : Reply → Type 0) (bytes : List ℕ) (r : Result Reply DeskFail) → IfOk r (λ x. (n : ℕ) × (look bytes ≡ Whole (frames.Reply x) n)) → ((x : Reply) (n : ℕ) → look bytes ≡ Whole (frames.Reply x) n → P x) → IfOk r P
+told_in P bytes (Ok x) stands all = all x stands.0 stands.1
+told_in P bytes (Err fail) stands all = tt

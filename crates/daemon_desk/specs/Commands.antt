@@ -22,6 +22,13 @@ SetsArguments args old new = (command_args new ≡ command_args old ++ (codes "w
 abbrev pub SetsVariables : {A : Type 0} → List Pair → Command A → Command A → Type 0
 SetsVariables pairs old new = SameProgramAndArgs old new × (clears_env new ≡ clears_env old) × ((name : List ℕ) → command_var new name ≡ set_by pairs name (command_var old name))
 
+-- a command got the word `worker` with these arguments, and these variables
+pub record SetsUp {A : Type 0} (args : List (List ℕ)) (pairs : List Pair) (old new : Command A) : Type 0 where
+  pub program : command_program new ≡ command_program old
+  pub args_are : command_args new ≡ command_args old ++ (codes "worker" ∷ args)
+  pub inherits : clears_env new ≡ clears_env old
+  pub variables : (name : List ℕ) → command_var new name ≡ set_by pairs name (command_var old name)
+
 -- The command starts a daemon with what was asked for: its program, the word `worker` and its arguments, and its variables beside
 -- those of the environment.
 pub record IsStartOf {A : Type 0} (own : List ℕ) (asked : RequirementsView) (command : Command A) : Type 0 where

@@ -1,6 +1,6 @@
 ghost use Rattle.std.specs.Prelude.{◌≡◌, Some, IfOk, OnOk};
 ghost use Rattle.std.specs.Process.{command_var, clears_env, SameProgramAndArgs, SameOtherVars};
-ghost use Rattle.daemon_desk.specs.Commands.{program_of, IsStartOf, SetsArguments, SetsVariables};
+ghost use Rattle.daemon_desk.specs.Commands.{program_of, IsStartOf, SetsArguments, SetsUp, SetsVariables};
 
 use daemon_requirements::{Pair, Requirements};
 use item_actions::Text;
@@ -22,10 +22,17 @@ pub(crate) fn command_of(
 {
     let fields = asked.fields();
     let mut command = Command::new(alloc, program_of(own, fields.executable.as_str()))?;
-    add_arguments(&mut command, &fields.args)?;
-    add_variables(&mut command, &fields.variables)?;
-    command.stdin(Stdio::piped()).stdout(Stdio::piped());
+    set_up(&mut command, &fields.args, &fields.variables)?;
     Ok(command)
+}
+
+// Sets the pipes, the word `worker` with the arguments, and the variables.
+fn set_up(command: &mut Command, args: &[Text], variables: &[Pair]) -> Result<(), AllocError>
+    ensures { OnOk result (SetsUp args.now variables.now command.old command.new) }
+{
+    command.stdin(Stdio::piped()).stdout(Stdio::piped());
+    add_arguments(command, args)?;
+    add_variables(command, variables)
 }
 
 fn program_of<'a>(own: &'a str, executable: &'a str) -> &'a str

@@ -1,6 +1,7 @@
 ghost use Rattle.std.specs.Prelude.{◌≡◌, ◌≢◌, None, Some, IfOk, IfSome, OnOk, OnErr, true};
 ghost use Rattle.item_actions.specs.Forms.{is_file_name};
-ghost use Rattle.daemon_protocol.specs.Spelling.{spelling};
+ghost use Rattle.item_actions.specs.declared.outcomes.Outcome.TheVariants as outcomes;
+ghost use Rattle.daemon_protocol.specs.Spelling.{spelling, IsValid};
 ghost use Rattle.daemon_protocol.specs.declared.frames.Frame.TheVariants.{Stop};
 ghost use Rattle.daemon_desk.specs.Replies.{IsReplyTo};
 ghost use Rattle.daemon_desk.specs.Requests.{request_in};
@@ -12,7 +13,7 @@ use daemon_requirements::{Linked, Requirements};
 use daemon_worker::take_frame;
 use std::alloc::Global;
 use std::marker::Model;
-use std::process::{Child, ChildStdin, ChildStdout, Processes, SystemProcess};
+use std::process::{Child, ChildStdin, ChildStdout, Command, Processes, SystemProcess};
 use worker_desk::{DeskFail, StdSink, StdSource, put_all};
 
 /// A link to a child process. It has to be stopped: a drop doesn't wait for the child.
@@ -23,6 +24,12 @@ pub struct FolderLink {
     // The bytes of the reply at hand, kept for their memory.
     held: Vec<u8>,
     child: Child<SystemProcess>,
+    pipes: Pipes,
+}
+
+// What a child is written to, and read from.
+#[derive(Drop)]
+struct Pipes {
     input: StdSink<ChildStdin>,
     output: StdSource<ChildStdout>,
 }
@@ -46,18 +53,27 @@ impl FolderLink {
         ensures { IfOk result (λ link. link ≡ record { made_for = asked.now; waiting = None }) }
     {
         let made_for = asked.copy(alloc)?;
-        let mut child = command_of(alloc, own, asked)?.spawn(rt)?;
-        match (child.stdin.take(), child.stdout.take()) {
-            (Some(input), Some(output)) => Ok(FolderLink {
+        let child = spawn(rt, alloc, own, asked)?;
+        FolderLink::to(alloc, made_for, child)
+    }
+
+    // A link to a child that was started with these requirements. A child without pipes is waited for.
+    fn to(
+        alloc: Global,
+        made_for: Requirements,
+        mut child: Child<SystemProcess>,
+    ) -> Result<FolderLink, DeskFail>
+        ensures { IfOk result (λ link. link ≡ record { made_for = made_for; waiting = None }) }
+    {
+        match pipes_of(&mut child) {
+            Some(pipes) => Ok(FolderLink {
                 made_for,
                 waiting: None,
                 held: Vec::new(alloc),
                 child,
-                input: StdSink::new(input),
-                output: StdSource::new(output),
+                pipes,
             }),
-            pipes => {
-                drop(pipes);
+            None => {
                 let _ = child.wait();
                 Err(DeskFail::Failed)
             }
@@ -71,10 +87,7 @@ impl FolderLink {
         ensures err { OnErr result (self.new ≡ self.old) }
     {
         let frame = Frame::Request(request.copy(alloc)?);
-        let bytes = encode(alloc, &frame)?;
-        if put_all(&mut self.input, &bytes).is_err() {
-            return Err(DeskFail::Failed);
-        }
+        self.pipes.put(alloc, &frame)?;
         self.waiting = request_in(frame);
         Ok(())
     }
@@ -87,9 +100,7 @@ impl FolderLink {
         let Some(request) = self.waiting.take() else {
             return Err(DeskFail::Failed);
         };
-        let room = MAX_FRAME_BYTES as u64;
-        let start = take_frame(alloc, &mut self.output, &mut self.held, room)?;
-        reply_to(request.unit, &start)
+        self.pipes.reply(alloc, request.unit, &mut self.held)
     }
 
     /// Tells the child to stop, closes its pipes, which ends one that doesn't listen, and waits for its end.
@@ -99,13 +110,69 @@ impl FolderLink {
             waiting: _,
             held: _,
             mut child,
-            mut input,
-            output,
+            pipes,
         } = self;
-        let _ = put_all(&mut input, &stop_bytes());
-        drop(input);
-        drop(output);
+        pipes.close();
         let _ = child.wait();
+    }
+}
+
+impl Pipes {
+    // Writes a frame.
+    fn put(&mut self, alloc: Global, frame: &Frame) -> Result<(), DeskFail>
+        requires { IsValid frame.now }
+    {
+        let bytes = encode(alloc, frame)?;
+        match put_all(&mut self.input, &bytes) {
+            Ok(()) => Ok(()),
+            Err(_) => Err(DeskFail::Failed),
+        }
+    }
+
+    // Reads the reply for a unit.
+    fn reply(&mut self, alloc: Global, unit: u32, held: &mut Vec<u8>) -> Result<Reply, DeskFail>
+        ensures unit { IfOk result (λ r. r.unit ≡ unit) }
+        ensures ran { IfOk result (λ r. r.outcome ≢ outcomes.Skipped) }
+        ensures worked { IfOk result (λ r. r.outcome ≢ outcomes.Fault) }
+    {
+        let room = MAX_FRAME_BYTES as u64;
+        let start = take_frame(alloc, &mut self.output, held, room)?;
+        reply_to(unit, &start)
+    }
+
+    // Tells the child to stop, and closes both pipes.
+    fn close(mut self) {
+        let _ = put_all(&mut self.input, &stop_bytes());
+    }
+}
+
+// Starts a child with these requirements.
+fn spawn<R: Processes<Started = SystemProcess>>(
+    rt: &R,
+    alloc: Global,
+    own: &str,
+    asked: &Requirements,
+) -> Result<Child<SystemProcess>, DeskFail> {
+    let mut command = command_of(alloc, own, asked)?;
+    run(rt, &mut command)
+}
+
+// Starts the child of a command.
+fn run<R: Processes<Started = SystemProcess>>(
+    rt: &R,
+    command: &mut Command,
+) -> Result<Child<SystemProcess>, DeskFail> {
+    Ok(command.spawn(rt)?)
+}
+
+// The pipes of a child, if it has both.
+fn pipes_of(child: &mut Child<SystemProcess>) -> Option<Pipes> {
+    match (child.stdin.take(), child.stdout.take()) {
+        (Some(input), Some(output)) => Some(Pipes {
+            input: StdSink::new(input),
+            output: StdSource::new(output),
+        }),
+        _ => None,
     }
 }
 

@@ -10,10 +10,10 @@ ghost use Rattle.daemon_desk.specs.Sent.{sent_over};
 use crate::desks::Desk;
 use crate::lies::Lie;
 use crate::memory_link::MemoryLink;
-use crate::replies::reply_to;
+use crate::replies::reply_in;
 use crate::sent::SentRequest;
 use crate::serving::served_reply;
-use daemon_protocol::{Reply, Request, look};
+use daemon_protocol::{Reply, Request};
 use daemon_requirements::{Linked, Requirements};
 use item_actions::Text;
 use std::alloc::{AllocError, Global};
@@ -23,7 +23,7 @@ use worker_desk::{Calls, DeskFail, FileMap, Files, Read};
 /// A desk whose files are in memory, and whose daemons serve over memory on the same files.
 ///
 /// Its calls are numbered from 0, all five kinds of them together. A desk with a lie doesn't tell its files.
-#[derive(Debug, Drop)]
+#[derive(Drop)]
 pub struct MemoryDesk {
     files: FileMap,
     lies: Vec<Lie>,
@@ -79,12 +79,17 @@ impl MemoryDesk {
         fails
     }
 
-    // Counts a request that was sent.
-    fn add(&mut self, sent: SentRequest) -> Result<(), AllocError>
-        ensures ok { IfOk result (λ _. self.new ≡ and_sends self.old sent) }
+    // Counts a request that is sent over a link made for these requirements.
+    fn add(
+        &mut self,
+        alloc: Global,
+        made_for: &Requirements,
+        request: &Request,
+    ) -> Result<(), AllocError>
+        ensures ok { OnOk result (self.new ≡ and_sends self.old (sent_over made_for.now request.now)) }
         ensures err { OnErr result (self.new ≡ self.old) }
     {
-        self.sent.push(sent)?;
+        self.sent.push(SentRequest::of(alloc, made_for, request)?)?;
         self.sends = self.sends.saturating_add(1);
         Ok(())
     }
@@ -102,10 +107,7 @@ impl MemoryDesk {
             return Err(DeskFail::Failed);
         }
         match self.lie() {
-            Some(answer) => {
-                let start = look(alloc, answer)?;
-                reply_to(request.unit, &start)
-            }
+            Some(answer) => reply_in(alloc, request.unit, answer),
             None => served_reply(alloc, request, &mut self.files),
         }
     }
@@ -187,8 +189,7 @@ impl Desk for MemoryDesk {
             return Err(DeskFail::Failed);
         }
         let waiting = request.copy(alloc)?;
-        let sent = SentRequest::of(alloc, link.made_for(), request)?;
-        self.add(sent)?;
+        self.add(alloc, link.made_for(), request)?;
         link.wait_for(waiting);
         Ok(())
     }

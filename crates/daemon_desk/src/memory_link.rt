@@ -6,7 +6,7 @@ use daemon_requirements::{Linked, Requirements};
 use std::marker::Model;
 
 /// A link to a daemon that serves in memory, when its reply is received.
-#[derive(Debug, Drop)]
+#[derive(Drop)]
 pub struct MemoryLink {
     made_for: Requirements,
     waiting: Option<Request>,

@@ -6,7 +6,7 @@ use daemon_requirements::Requirements;
 use std::alloc::{AllocError, Global};
 
 /// A request that was sent, and the requirements that its link is made for.
-#[derive(Debug, Drop)]
+#[derive(Drop)]
 pub struct SentRequest {
     pub made_for: Requirements,
     pub request: Request,

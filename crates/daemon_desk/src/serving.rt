@@ -1,9 +1,12 @@
 ghost use Rattle.std.specs.Prelude.{◌≡◌, Some, IfOk, true};
 ghost use Rattle.item_actions.specs.Forms.{is_file_name};
+ghost use Rattle.daemon_protocol.specs.Spelling.{spelling, FrameFits};
+ghost use Rattle.daemon_protocol.specs.declared.frames.Frame.TheVariants as frames;
+ghost use Rattle.daemon_protocol.specs.declared.frames.Request.{Request as Asked};
 ghost use Rattle.daemon_desk.specs.Replies.{IsReplyTo};
 
-use crate::replies::reply_to;
-use daemon_protocol::{Frame, HEAD_BYTES, Reply, Request, encode, look, spelled_frames_are_read};
+use crate::replies::reply_in;
+use daemon_protocol::{Frame, HEAD_BYTES, Reply, Request, encode, spelled_frames_are_read};
 use daemon_worker::{Served, serve};
 use std::alloc::Global;
 use worker_desk::{DeskFail, FileMap, MemorySink, MemorySource};
@@ -21,16 +24,27 @@ pub(crate) fn served_reply(
     ensures files { files.new ≡ files.old }
     ensures reply { IfOk result (λ reply. IsReplyTo (Some files.old) request reply) }
 {
-    spelled_frames_are_read();
     let unit = request.unit;
     let bytes = encode(alloc, &Frame::Request(request))?;
-    let mut source = MemorySource::new(bytes, Vec::new(alloc));
+    reply_to_bytes(alloc, unit, bytes, files)
+}
+
+// The reply of a worker to the bytes of a request of this unit.
+fn reply_to_bytes(
+    alloc: Global,
+    unit: u32,
+    bytes: Vec<u8>,
+    files: &mut FileMap,
+) -> Result<Reply, DeskFail>
+    ensures files { files.new ≡ files.old }
+    ensures reply { (request : Asked) → bytes.items ≡ spelling (frames.Request request) → is_file_name request.file ≡ true → FrameFits (frames.Request request)
+        → unit ≡ request.unit → IfOk result (λ reply. IsReplyTo (Some files.old) request reply) }
+{
+    spelled_frames_are_read();
     let mut sink = MemorySink::limited(alloc, MAX_REPLY_BYTES)?;
+    let mut source = MemorySource::new(bytes, Vec::new(alloc));
     match serve(alloc, &mut source, &mut sink, files) {
-        Served::Done => {
-            let start = look(alloc, sink.taken())?;
-            reply_to(unit, &start)
-        }
+        Served::Done => reply_in(alloc, unit, sink.taken()),
         Served::NoMemory => Err(DeskFail::NoMemory),
         _ => Err(DeskFail::Failed),
     }

@@ -31,11 +31,50 @@ pub(crate) fn reserve<R: Wait, D: Desk>(
     ensures sends { D.sends desk.new ≡ D.sends desk.old }
     ensures sent { D.sent desk.new ≡ D.sent desk.old }
 {
-    if let Some(reserved) = reserve_idle(rt, pool, unit, asked)? {
-        return Ok(reserved);
+    match reserve_idle(rt, pool, unit, asked)? {
+        Some(reserved) => Ok(reserved),
+        None => start(rt, alloc, desk, pool, unit, asked),
     }
+}
+
+/// Starts a daemon, reserved for the unit.
+fn start<R: Wait, D: Desk>(
+    rt: &R,
+    alloc: Global,
+    desk: &mut D,
+    pool: &PoolLock<D::Link>,
+    unit: u32,
+    asked: &Requirements,
+) -> Result<Reserved<D::Link>, DeskFail>
+    ensures made { IfOk result (λ reserved. D.Link.requirements reserved.link ≡ asked.now) }
+    ensures files { D.files desk.new ≡ D.files desk.old }
+    ensures kept { D.faults desk.old ≤ D.faults desk.new }
+    ensures failed { IsErrOf result DeskFail.Failed → Rises (D.faults desk.old) (D.faults desk.new) }
+    ensures sends { D.sends desk.new ≡ D.sends desk.old }
+    ensures sent { D.sent desk.new ≡ D.sent desk.old }
+{
     let requirements = asked.copy(alloc)?;
     let link = desk.start(alloc, asked)?;
+    adopt_or_stop(rt, desk, pool, link, requirements, unit)
+}
+
+/// Takes a daemon in that was started with these requirements. Where there is no memory to keep it, it is stopped.
+fn adopt_or_stop<R: Wait, D: Desk>(
+    rt: &R,
+    desk: &mut D,
+    pool: &PoolLock<D::Link>,
+    link: D::Link,
+    requirements: Requirements,
+    unit: u32,
+) -> Result<Reserved<D::Link>, DeskFail>
+    requires { D.Link.requirements link ≡ requirements }
+    ensures adopted { IfOk result (λ reserved. reserved.link ≡ link) }
+    ensures stopped { IfErr result (λ fail. fail ≡ DeskFail.NoMemory) }
+    ensures files { D.files desk.new ≡ D.files desk.old }
+    ensures faults { D.faults desk.new ≡ D.faults desk.old }
+    ensures sends { D.sends desk.new ≡ D.sends desk.old }
+    ensures sent { D.sent desk.new ≡ D.sent desk.old }
+{
     match adopt(rt, pool, link, requirements, unit) {
         Ok(reserved) => Ok(reserved),
         Err(link) => {

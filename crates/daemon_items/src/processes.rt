@@ -11,6 +11,7 @@ ghost use Rattle.daemon_items.specs.Requests.{Asks, Sends, request_for};
 
 use crate::daemons::{PoolLock, fail, release, reserve};
 use daemon_desk::Desk;
+use daemon_manager::Reserved;
 use daemon_protocol::{Reply, Request};
 use daemon_requirements::{Requirements, Work};
 use item_actions::Outcome;
@@ -81,14 +82,31 @@ fn ask_daemon<R: Wait, D: Desk>(
 {
     let mut reserved = reserve(rt, alloc, desk, pool, request.unit, asked)?;
     let answer = ask(alloc, desk, reserved.link(), request, asked);
-    let spare = match answer {
-        Ok(_) => release(rt, pool, reserved),
-        Err(_) => Some(fail(rt, pool, reserved)),
+    give_back(rt, desk, pool, reserved, answer.is_ok());
+    answer
+}
+
+// Gives a daemon back to the pool that answered, or one that failed, and stops the daemon that the pool gives for it.
+fn give_back<R: Wait, D: Desk>(
+    rt: &R,
+    desk: &mut D,
+    pool: &PoolLock<D::Link>,
+    reserved: Reserved<D::Link>,
+    answered: bool,
+)
+    ensures files { D.files desk.new ≡ D.files desk.old }
+    ensures faults { D.faults desk.new ≡ D.faults desk.old }
+    ensures sends { D.sends desk.new ≡ D.sends desk.old }
+    ensures sent { D.sent desk.new ≡ D.sent desk.old }
+{
+    let spare = if answered {
+        release(rt, pool, reserved)
+    } else {
+        Some(fail(rt, pool, reserved))
     };
     if let Some(link) = spare {
         desk.stop(link);
     }
-    answer
 }
 
 // Sends the request over a link that covers what is asked, and receives the reply.

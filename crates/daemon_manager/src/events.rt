@@ -4,7 +4,7 @@ ghost use Rattle.daemon_manager.specs.Events.{daemon_of, state_after};
 use daemon_requirements::Requirements;
 
 /// What happened to the daemon with a number. Daemons are numbered from 0 in the order of their start.
-#[derive(Debug, Drop)]
+#[derive(Drop)]
 pub enum Event {
     /// It was started with these requirements.
     Started(u64, Requirements),
@@ -19,7 +19,7 @@ pub enum Event {
 }
 
 /// What a daemon is doing.
-#[derive(Clone, Copy, Debug, PartialEq, Eq)]
+#[derive(Clone, Copy)]
 pub enum DaemonState {
     /// It was started or reserved, and works for a unit.
     Busy,

@@ -1,8 +1,9 @@
 //! All events, and what each daemon does.
-ghost use Rattle.std.specs.Prelude.{◌≡◌, ◌↔◌, ◌+◌, ◌<◌, ◌≤◌, ◌^◌, [], IfOk, IsSomeAnd, IsTrue, None, OnOk, OnErr, Some};
+ghost use Rattle.std.specs.Prelude.{◌≡◌, ◌↔◌, ◌+◌, ◌<◌, ◌≤◌, ◌^◌, ◌++◌, ◌∷◌, [], IfOk, IsSomeAnd, IsTrue, None, OnOk, OnErr, Some, length, vec_capacity, vec_len};
 ghost use Rattle.daemon_manager.specs.Events.{daemon_of, pool, started_with};
 ghost use Rattle.daemon_manager.specs.LedgerView.{Notes, NotesStart, OnlyMoreRoom, one_if_busy};
 ghost use Rattle.daemon_manager.specs.declared.events.DaemonState.TheVariants.{Busy};
+ghost use Rattle.daemon_manager.specs.declared.events.Event.TheVariants.{Reserved, Started};
 
 use crate::events::{DaemonState, Event};
 use daemon_requirements::Requirements;
@@ -91,14 +92,9 @@ impl Ledger {
         ensures started { IfOk result (λ daemon. NotesStart self.old self.new requirements unit more daemon) }
         ensures no_memory { OnErr result (OnlyMoreRoom self.old self.new) }
     {
-        self.daemons.reserve(1)?;
         self.events.reserve(more + 2)?;
-        let daemon = self.daemons.len() as u64;
-        let started = self.events.len();
-        let state = DaemonState::Busy;
-        let _ = self.daemons.push(Daemon { started, state });
-        let _ = self.events.push(Event::Started(daemon, requirements));
-        let _ = self.events.push(Event::Reserved(daemon, unit));
+        let daemon = add_busy(&mut self.daemons, self.events.len())?;
+        add_start(&mut self.events, daemon, requirements, unit);
         self.busy += 1;
         Ok(daemon)
     }
@@ -129,6 +125,29 @@ impl Ledger {
             None => false,
         }
     }
+}
+
+// Puts one more daemon, which is busy, behind the others, and gives its number.
+fn add_busy(daemons: &mut Vec<Daemon>, started: usize) -> Result<u64, AllocError>
+    ensures number { IfOk result (λ daemon. daemon ≡ length daemons.old.items) }
+    ensures added { OnOk result (daemons.new.items ≡ daemons.old.items ++ record { started = started; state = Busy } ∷ []) }
+    ensures no_memory { OnErr result (daemons.new.items ≡ daemons.old.items) }
+{
+    let daemon = daemons.len() as u64;
+    let state = DaemonState::Busy;
+    daemons.push(Daemon { started, state })?;
+    Ok(daemon)
+}
+
+// Puts the start of a daemon and its reservation behind the events; it takes no memory.
+fn add_start(events: &mut Vec<Event>, daemon: u64, requirements: Requirements, unit: u32)
+    requires { vec_len events.old + 2 ≤ vec_capacity events.old }
+    ensures items { events.new.items ≡ (events.old.items ++ Started daemon requirements ∷ []) ++ Reserved daemon unit ∷ [] }
+    ensures len { vec_len events.new ≡ vec_len events.old + 2 }
+    ensures capacity { vec_capacity events.old ≤ vec_capacity events.new }
+{
+    let _ = events.push(Event::Started(daemon, requirements));
+    let _ = events.push(Event::Reserved(daemon, unit));
 }
 
 fn one_if_busy(state: DaemonState) -> usize

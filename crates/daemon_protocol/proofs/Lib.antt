@@ -1,6 +1,7 @@
 mod Fronts
 mod Names
 mod OneReading
+mod Parts
 mod Pushing
 mod Readings
 pub mod Settled

@@ -18,7 +18,7 @@ use Rattle.daemon_protocol.specs.declared.frames.Frame.TheVariants.{Request, Rep
 use Rattle.daemon_protocol.specs.declared.starts.StreamStart.TheVariants.{Whole}
 use Rattle.daemon_protocol.proofs.Names.{short}
 
-not_less : (a n : ℕ) → n ≤ a → ltb a n ≡ false
+pub not_less : (a n : ℕ) → n ≤ a → ltb a n ≡ false
 not_less a n le = grind (arith, nat_tests)
 
 count_read : (needle rest : List ℕ) → 1 ≤ length needle → length needle ≤ 64 → count_at (length needle ∷ (needle ++ rest)) ≡ Some (actions.Count needle, length needle + 2)

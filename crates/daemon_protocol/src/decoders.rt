@@ -12,7 +12,7 @@ use std::alloc::{AllocError, Global};
 use std::marker::Model;
 
 /// What a piece of a stream gave.
-#[derive(Debug, Drop)]
+#[derive(Drop)]
 pub struct Fed {
     /// The frames that became whole, in order.
     pub frames: Vec<Frame>,
@@ -31,7 +31,7 @@ struct Front {
 
 /// Reads the frames of a stream that comes in pieces. It holds the bytes that are no whole frame yet, and
 /// the place in the stream where they begin. After a refusal it holds nothing, and the place is the refusal's.
-#[derive(Debug, Drop)]
+#[derive(Drop)]
 pub struct Decoder {
     held: Vec<u8>,
     place: u64,

@@ -1,7 +1,8 @@
-ghost use Rattle.std.specs.Prelude.{◌≡◌, ◌≤◌, ◌++◌, length, IfOk, OnOk};
+ghost use Rattle.std.specs.Prelude.{◌≡◌, ◌≤◌, ◌++◌, ◌∷◌, length, IfOk, OnOk};
+ghost use Rattle.daemon_protocol.specs.declared.frames.Frame.TheVariants as frames;
 ghost use Rattle.daemon_protocol.specs.Spelling.{action_bytes, outcome_bytes, body, tag, spelling, IsValid, ActionFits, OutcomeFits, FrameFits};
 
-use crate::frames::Frame;
+use crate::frames::{Frame, Reply, Request};
 use crate::limits::HEAD_BYTES;
 use item_actions::{ItemAction, Outcome};
 use std::alloc::{AllocError, Global};
@@ -14,10 +15,28 @@ pub fn encode(alloc: Global, frame: &Frame) -> Result<Vec<u8>, AllocError>
 {
     let len = body_len(frame);
     let mut bytes = Vec::with_capacity(alloc, HEAD_BYTES + len)?;
-    bytes.push(tag_of(frame))?;
-    bytes.extend_from_slice(&(len as u32).to_be_bytes())?;
-    push_body(&mut bytes, frame)?;
+    push_frame(&mut bytes, frame, len)?;
     Ok(bytes)
+}
+
+// Puts a frame, whose body has this length, behind the bytes.
+fn push_frame(bytes: &mut Vec<u8>, frame: &Frame, len: usize) -> Result<(), AllocError>
+    requires valid { IsValid frame.now }
+    requires len { len ≡ length (body frame.now) }
+    requires few { len ≤ 327 }
+    ensures bytes { OnOk result (bytes.new.items ≡ bytes.old.items ++ spelling frame.now) }
+    ensures fits { OnOk result (FrameFits frame.now) }
+{
+    push_tagged(bytes, tag_of(frame), &(len as u32).to_be_bytes())?;
+    push_body(bytes, frame)
+}
+
+// Puts a byte and what follows it behind the bytes.
+fn push_tagged(bytes: &mut Vec<u8>, tag: u8, after: &[u8]) -> Result<(), AllocError>
+    ensures { OnOk result (bytes.new.items ≡ bytes.old.items ++ tag ∷ after.now) }
+{
+    bytes.push(tag)?;
+    bytes.extend_from_slice(after)
 }
 
 fn tag_of(frame: &Frame) -> u8
@@ -66,63 +85,69 @@ fn outcome_len(outcome: Outcome) -> usize
 
 fn push_body(bytes: &mut Vec<u8>, frame: &Frame) -> Result<(), AllocError>
     requires { IsValid frame.now }
-    ensures bytes { IfOk result (λ _. bytes.new.items ≡ bytes.old.items ++ body frame.now) }
+    ensures bytes { OnOk result (bytes.new.items ≡ bytes.old.items ++ body frame.now) }
     ensures fits { OnOk result (FrameFits frame.now) }
 {
     match frame {
-        Frame::Request(request) => {
-            let file = request.file.bytes();
-            bytes.extend_from_slice(&request.unit.to_be_bytes())?;
-            push_action(bytes, &request.action)?;
-            bytes.extend_from_slice(&(file.len() as u16).to_be_bytes())?;
-            bytes.extend_from_slice(file)?;
-        }
-        Frame::Reply(reply) => {
-            bytes.extend_from_slice(&reply.unit.to_be_bytes())?;
-            push_outcome(bytes, &reply.outcome)?;
-        }
-        Frame::Stop => {}
+        Frame::Request(request) => push_request(bytes, request),
+        Frame::Reply(reply) => push_reply(bytes, reply),
+        Frame::Stop => Ok(()),
     }
-    Ok(())
+}
+
+fn push_request(bytes: &mut Vec<u8>, request: &Request) -> Result<(), AllocError>
+    requires { IsValid (frames.Request request.now) }
+    ensures bytes { OnOk result (bytes.new.items ≡ bytes.old.items ++ body (frames.Request request.now)) }
+    ensures fits { OnOk result (FrameFits (frames.Request request.now)) }
+{
+    let file = request.file.bytes();
+    bytes.extend_from_slice(&request.unit.to_be_bytes())?;
+    push_action(bytes, &request.action)?;
+    bytes.extend_from_slice(&(file.len() as u16).to_be_bytes())?;
+    bytes.extend_from_slice(file)
+}
+
+fn push_reply(bytes: &mut Vec<u8>, reply: &Reply) -> Result<(), AllocError>
+    ensures bytes { OnOk result (bytes.new.items ≡ bytes.old.items ++ body (frames.Reply reply.now)) }
+    ensures fits { OnOk result (FrameFits (frames.Reply reply.now)) }
+{
+    bytes.extend_from_slice(&reply.unit.to_be_bytes())?;
+    push_outcome(bytes, &reply.outcome)
 }
 
 fn push_action(bytes: &mut Vec<u8>, action: &ItemAction) -> Result<(), AllocError>
-    ensures bytes { IfOk result (λ _. bytes.new.items ≡ bytes.old.items ++ action_bytes action.now) }
+    ensures bytes { OnOk result (bytes.new.items ≡ bytes.old.items ++ action_bytes action.now) }
     ensures fits { OnOk result (ActionFits action.now) }
 {
     match action {
-        ItemAction::Lines => bytes.push(1)?,
-        ItemAction::Words => bytes.push(2)?,
-        ItemAction::Bytes => bytes.push(3)?,
-        ItemAction::Longest => bytes.push(4)?,
-        ItemAction::Count(needle) => {
-            let needle = needle.bytes();
-            bytes.extend_from_slice(&[5, needle.len() as u8])?;
-            bytes.extend_from_slice(needle)?;
-        }
-        ItemAction::Sha256 => bytes.push(6)?,
+        ItemAction::Lines => push_tagged(bytes, 1, &[]),
+        ItemAction::Words => push_tagged(bytes, 2, &[]),
+        ItemAction::Bytes => push_tagged(bytes, 3, &[]),
+        ItemAction::Longest => push_tagged(bytes, 4, &[]),
+        ItemAction::Count(needle) => push_count(bytes, needle.bytes()),
+        ItemAction::Sha256 => push_tagged(bytes, 6, &[]),
     }
-    Ok(())
+}
+
+fn push_count(bytes: &mut Vec<u8>, needle: &[u8]) -> Result<(), AllocError>
+    requires { length needle.now ≤ 64 }
+    ensures { OnOk result (bytes.new.items ≡ bytes.old.items ++ 5 ∷ length needle.now ∷ needle.now) }
+{
+    push_tagged(bytes, 5, &[needle.len() as u8])?;
+    bytes.extend_from_slice(needle)
 }
 
 fn push_outcome(bytes: &mut Vec<u8>, outcome: &Outcome) -> Result<(), AllocError>
-    ensures bytes { IfOk result (λ _. bytes.new.items ≡ bytes.old.items ++ outcome_bytes outcome.now) }
+    ensures bytes { OnOk result (bytes.new.items ≡ bytes.old.items ++ outcome_bytes outcome.now) }
     ensures fits { OnOk result (OutcomeFits outcome.now) }
 {
     match outcome {
-        Outcome::Number(number) => {
-            bytes.push(1)?;
-            bytes.extend_from_slice(&number.to_be_bytes())?;
-        }
-        Outcome::Digest(digest) => {
-            bytes.push(2)?;
-            bytes.extend_from_slice(digest)?;
-        }
-        Outcome::NotThere => bytes.push(3)?,
-        Outcome::TooLong => bytes.push(4)?,
-        Outcome::Fault => bytes.push(5)?,
-        Outcome::NoMemory => bytes.push(6)?,
-        Outcome::Skipped => {}
+        Outcome::Number(number) => push_tagged(bytes, 1, &number.to_be_bytes()),
+        Outcome::Digest(digest) => push_tagged(bytes, 2, digest),
+        Outcome::NotThere => push_tagged(bytes, 3, &[]),
+        Outcome::TooLong => push_tagged(bytes, 4, &[]),
+        Outcome::Fault => push_tagged(bytes, 5, &[]),
+        Outcome::NoMemory => push_tagged(bytes, 6, &[]),
+        Outcome::Skipped => Ok(()),
     }
-    Ok(())
 }

@@ -5,7 +5,7 @@ use std::alloc::{AllocError, Global};
 use thiserror::Error;
 
 /// A unit of work that a daemon is asked to do.
-#[derive(Debug, Drop)]
+#[derive(Drop)]
 pub struct Request {
     pub unit: u32,
     pub action: ItemAction,
@@ -27,7 +27,7 @@ impl Request {
 }
 
 /// What became of a unit of work.
-#[derive(Clone, Copy, Debug, PartialEq, Eq)]
+#[derive(Clone, Copy)]
 pub struct Reply {
     pub unit: u32,
     /// It isn't `Skipped`, which has no bytes.
@@ -35,7 +35,7 @@ pub struct Reply {
 }
 
 /// What is sent over a link.
-#[derive(Debug, Drop)]
+#[derive(Drop)]
 pub enum Frame {
     /// From the build to a daemon.
     Request(Request),

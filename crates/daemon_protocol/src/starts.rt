@@ -8,24 +8,20 @@ use crate::bodies::{frame_of, number_of};
 use crate::frames::Frame;
 use crate::limits::{HEAD_BYTES, MAX_BODY_BYTES};
 use std::alloc::{AllocError, Global};
-use thiserror::Error;
 
 /// What is wrong with bytes that begin no frame.
-#[derive(Clone, Copy, Debug, PartialEq, Eq, Error)]
+#[derive(Clone, Copy)]
 pub enum Flaw {
     /// The first byte is no frame's tag.
-    #[error("the first byte is no frame's tag")]
     Tag,
     /// The length of the body is over `MAX_BODY_BYTES`.
-    #[error("the body is longer than any body")]
     Length,
     /// The body isn't one of its tag's bodies.
-    #[error("the body is none of its tag")]
     Field,
 }
 
 /// What stands at the start of bytes.
-#[derive(Debug, Drop)]
+#[derive(Drop)]
 pub enum StreamStart {
     /// Too few bytes to tell.
     Unfinished,

@@ -9,8 +9,11 @@ use Rattle.std.proofs.lemmas.List.Folds.{list_any_at, Any-from_list_any}
 use Rattle.std.proofs.lemmas.Option.{slice_get_read, slice_get_cases, get_or_from_slice_get}
 use Rattle.std.proofs.lemmas.Slice.Eq.{bytes_eq-Decides}
 use Rattle.daemon_requirements.specs.declared.fields.Pair.{Pair}
-use Rattle.daemon_requirements.specs.RequirementsView.{HasDistinctNames}
-use Rattle.daemon_requirements.specs.Refusals.{IsFirstTwice}
+use Rattle.daemon_requirements.specs.declared.requirement.PairList.TheVariants.{Properties, Variables}
+use Rattle.daemon_requirements.specs.declared.requirement.RequirementRefusal.{RequirementRefusal}
+use Rattle.daemon_requirements.specs.declared.requirement.RequirementRefusal.TheVariants.{HeapRange, TwiceNamed}
+use Rattle.daemon_requirements.specs.RequirementsView.{RequirementsView, HasDistinctNames, IsRequirements}
+use Rattle.daemon_requirements.specs.Refusals.{IsFirstTwice, IsCauseOf}
 
 -- whether a pair has the name of p
 abbrev is_named : Pair → Pair → Bool
@@ -70,3 +73,9 @@ twice_not_distinct pairs place first distinct = at (slice_get_cases pairs place)
         let p_is : get_or pairs place any.1 ≡ there.0 = read_at pairs place there.0 any.1 there.1 (sym there.3) in
         distinct any.0 place any.1 below there.1 (ap (λ q. q.name) q_is ∙ any.4 ∙ ap (λ q. q.name) (sym p_is))
     at (inr past) = subst (λ o. IsSomeAnd o (λ x. Any (λ q. q.name ≡ x.name) (take place pairs))) past.1 first.twice
+
+-- fields that are refused for a cause are no requirements
+pub cause_refuses : (refusal : RequirementRefusal) (p : RequirementsView) → IsCauseOf refusal p → IsRequirements p → ⊥
+cause_refuses HeapRange p cause requirements = cause requirements.heap_mb
+cause_refuses (TwiceNamed Properties place) p cause requirements = twice_not_distinct p.properties place cause.1 requirements.properties
+cause_refuses (TwiceNamed Variables place) p cause requirements = twice_not_distinct p.variables place cause.2 requirements.variables

@@ -1,5 +1,7 @@
 ghost use Rattle.std.specs.Prelude.{◌≡◌, ◌↔◌, IsTrue};
+ghost use Rattle.std.specs.Str.{bytes_eq};
 ghost use Rattle.daemon_requirements.specs.RequirementsView.{requirements_view};
+ghost use Rattle.daemon_requirements.specs.Rules.{is_same_pair};
 
 use crate::fields::{Pair, RequirementFields};
 use item_actions::Text;
@@ -46,14 +48,18 @@ fn are_same_pairs(a: &[Pair], b: &[Pair]) -> bool
     true
 }
 
-fn is_same_pair(a: &Pair, b: &Pair) -> bool
-    ensures { IsTrue result ↔ (a.now ≡ b.now) }
+/// Whether two pairs have one name and one value, byte for byte.
+pub(crate) fn is_same_pair(a: &Pair, b: &Pair) -> bool
+    ensures equal { IsTrue result ↔ (a.now ≡ b.now) }
+    ensures value { result ≡ is_same_pair a.now b.now }
 {
     is_same_text(&a.name, &b.name) && is_same_text(&a.value, &b.value)
 }
 
-fn is_same_text(a: &Text, b: &Text) -> bool
-    ensures { IsTrue result ↔ (a.now ≡ b.now) }
+/// Whether two texts have the same bytes.
+pub(crate) fn is_same_text(a: &Text, b: &Text) -> bool
+    ensures equal { IsTrue result ↔ (a.now ≡ b.now) }
+    ensures value { result ≡ bytes_eq a.now b.now }
 {
     a.as_str() == b.as_str()
 }

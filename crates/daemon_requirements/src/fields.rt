@@ -1,14 +1,14 @@
 use item_actions::Text;
 
 /// A system property or an environment variable.
-#[derive(Debug, Drop)]
+#[derive(Drop)]
 pub struct Pair {
     pub name: Text,
     pub value: Text,
 }
 
 /// What a daemon is started with, not yet tested.
-#[derive(Debug, Drop)]
+#[derive(Drop)]
 pub struct RequirementFields {
     /// The program that is started.
     pub executable: Text,

@@ -4,6 +4,7 @@ ghost use Rattle.std.specs.Str.{bytes_eq};
 ghost use Rattle.daemon_requirements.specs.RequirementsView.{HasDistinctNames};
 ghost use Rattle.daemon_requirements.specs.Refusals.{IsFirstTwice};
 
+use crate::equality::is_same_text;
 use crate::fields::Pair;
 use item_actions::Text;
 
@@ -22,5 +23,5 @@ pub(crate) fn first_twice(pairs: &[Pair]) -> Option<usize>
 fn has_name(pairs: &[Pair], name: &Text) -> bool
     ensures { result ≡ list_any (λ p. bytes_eq p.name name.now) pairs.now }
 {
-    pairs.iter().any(|pair| pair.name.as_str() == name.as_str())
+    pairs.iter().any(|pair| is_same_text(&pair.name, name))
 }

@@ -1,4 +1,4 @@
-ghost use Rattle.std.specs.Prelude.{◌≡◌, ◌↔◌, IsTrue, IfOk, IfErr};
+ghost use Rattle.std.specs.Prelude.{◌≡◌, ◌↔◌, IsTrue, IfOk, IfErr, MatchOption};
 ghost use Rattle.std.specs.Result.{OkIff};
 ghost use Rattle.daemon_requirements.specs.RequirementsView.{requirements_view, IsRequirements};
 ghost use Rattle.daemon_requirements.specs.Covers.{Covers};
@@ -39,7 +39,7 @@ pub enum RequirementRefusal {
 
 /// What a worker daemon is started with, or what an item asks of it: a heap of 1 to `MAX_HEAP_MB`, and
 /// properties and variables of distinct names.
-#[derive(Debug, Drop)]
+#[derive(Drop)]
 pub struct Requirements {
     fields: RequirementFields,
 }
@@ -62,16 +62,10 @@ impl Requirements {
         ensures made { OkIff result (IsRequirements (requirements_view fields)) (requirements_view fields) }
         ensures refused { IfErr result (λ refusal. IsCauseOf refusal (requirements_view fields)) }
     {
-        if fields.heap_mb < 1 || fields.heap_mb > MAX_HEAP_MB {
-            return Err(RequirementRefusal::HeapRange);
+        match refusal_of(&fields) {
+            Some(refusal) => Err(refusal),
+            None => Ok(Requirements { fields }),
         }
-        if let Some(place) = first_twice(&fields.properties) {
-            return Err(RequirementRefusal::TwiceNamed(PairList::Properties, place));
-        }
-        if let Some(place) = first_twice(&fields.variables) {
-            return Err(RequirementRefusal::TwiceNamed(PairList::Variables, place));
-        }
-        Ok(Requirements { fields })
     }
 
     /// Whether a daemon that was started with these requirements serves for `asked`: field by field, by the
@@ -118,4 +112,22 @@ impl Requirements {
         let fields = copy_fields(alloc, &self.fields)?;
         Ok(Requirements { fields })
     }
+}
+
+/// Why the fields are no requirements; None where they are.
+fn refusal_of(fields: &RequirementFields) -> Option<RequirementRefusal>
+    ensures { MatchOption result
+        (IsRequirements (requirements_view fields.now))
+        (λ refusal. IsCauseOf refusal (requirements_view fields.now)) }
+{
+    if fields.heap_mb < 1 || fields.heap_mb > MAX_HEAP_MB {
+        return Some(RequirementRefusal::HeapRange);
+    }
+    if let Some(place) = first_twice(&fields.properties) {
+        return Some(RequirementRefusal::TwiceNamed(PairList::Properties, place));
+    }
+    if let Some(place) = first_twice(&fields.variables) {
+        return Some(RequirementRefusal::TwiceNamed(PairList::Variables, place));
+    }
+    None
 }

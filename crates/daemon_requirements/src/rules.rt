@@ -5,11 +5,12 @@ ghost use Rattle.std.specs.Str.{bytes_eq};
 ghost use Rattle.daemon_requirements.specs.declared.rules.FieldRule.{FieldRule};
 ghost use Rattle.daemon_requirements.specs.Rules.{TextRule, NumberRule, SwitchRule, ArgumentRule, PairRule, is_same_pair};
 
+use crate::equality::{is_same_pair, is_same_text};
 use crate::fields::Pair;
 use item_actions::Text;
 
 /// When a daemon's field serves for the field that is asked for.
-#[derive(Clone, Copy, Debug, PartialEq, Eq)]
+#[derive(Clone, Copy)]
 pub enum FieldRule {
     /// The two are equal; texts are compared byte for byte.
     Equal,
@@ -22,7 +23,7 @@ pub enum FieldRule {
 }
 
 /// The rule of each field, by the field's position.
-#[derive(Clone, Copy, Debug)]
+#[derive(Clone, Copy)]
 pub struct FieldTable<const N: usize> {
     pub rules: [FieldRule; N],
 }
@@ -75,7 +76,7 @@ impl Field for Text {
 
     fn serves(&self, rule: FieldRule, asked: &Text) -> bool {
         match rule {
-            FieldRule::Equal => self.as_str() == asked.as_str(),
+            FieldRule::Equal => is_same_text(self, asked),
             _ => false,
         }
     }
@@ -135,7 +136,7 @@ fn has_texts(texts: &[Text], asked: &[Text]) -> bool
 fn has_text(texts: &[Text], wanted: &Text) -> bool
     ensures { result ≡ list_any (bytes_eq wanted.now) texts.now }
 {
-    texts.iter().any(|text| wanted.as_str() == text.as_str())
+    texts.iter().any(|text| is_same_text(wanted, text))
 }
 
 fn has_pairs(pairs: &[Pair], asked: &[Pair]) -> bool
@@ -148,10 +149,4 @@ fn has_pair(pairs: &[Pair], wanted: &Pair) -> bool
     ensures { result ≡ list_any (is_same_pair wanted.now) pairs.now }
 {
     pairs.iter().any(|pair| is_same_pair(wanted, pair))
-}
-
-fn is_same_pair(a: &Pair, b: &Pair) -> bool
-    ensures { result ≡ is_same_pair a.now b.now }
-{
-    a.name.as_str() == b.name.as_str() && a.value.as_str() == b.value.as_str()
 }

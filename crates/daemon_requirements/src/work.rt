@@ -2,7 +2,7 @@ use crate::requirement::Requirements;
 use item_actions::{ItemAction, Text};
 
 /// Where an item runs.
-#[derive(Debug, Drop)]
+#[derive(Drop)]
 pub enum Isolation {
     /// In the worker's own thread.
     InThread,
@@ -11,7 +11,7 @@ pub enum Isolation {
 }
 
 /// An item: an action on a file.
-#[derive(Debug, Drop)]
+#[derive(Drop)]
 pub struct Work {
     pub action: ItemAction,
     pub file: Text,

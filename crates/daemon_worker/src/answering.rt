@@ -1,5 +1,6 @@
 ghost use Rattle.std.specs.Prelude.{◌≡◌, ◌≤◌};
-ghost use Rattle.daemon_worker.specs.Answering.{AnswersAs};
+ghost use Rattle.daemon_protocol.specs.Spelling.{IsValid};
+ghost use Rattle.daemon_worker.specs.Answering.{AnswersAs, Writes};
 
 use crate::serving::Served;
 use daemon_protocol::{Frame, Reply, Request, encode};
@@ -19,7 +20,15 @@ pub(crate) fn answer<K: Sink, F: Files>(
 {
     let outcome = work_out(alloc, &request.action, &request.file, files);
     let unit = request.unit;
-    let bytes = encode(alloc, &Frame::Reply(Reply { unit, outcome }))?;
+    put_frame(alloc, &Frame::Reply(Reply { unit, outcome }), sink)
+}
+
+// Writes a frame on the sink.
+fn put_frame<K: Sink>(alloc: Global, frame: &Frame, sink: &mut K) -> Result<(), Served>
+    requires { IsValid frame.now }
+    ensures { Writes frame.now (K.seen sink.old) (K.seen sink.new) result }
+{
+    let bytes = encode(alloc, frame)?;
     match put_all(sink, &bytes) {
         Ok(()) => Ok(()),
         Err(_) => Err(Served::SinkFault),

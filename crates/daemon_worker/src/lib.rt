@@ -7,6 +7,3 @@ mod taking;
 
 pub use serving::{MAX_STREAM_BYTES, Served, serve};
 pub use taking::take_frame;
-
-#[cfg(test)]
-mod tests;

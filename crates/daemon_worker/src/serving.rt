@@ -11,7 +11,7 @@ use worker_desk::{DeskFail, Files, Sink, Source};
 pub const MAX_STREAM_BYTES: u64 = 1_099_511_627_776;
 
 /// How serving ended.
-#[derive(Clone, Copy, Debug, PartialEq, Eq)]
+#[derive(Clone, Copy)]
 pub enum Served {
     /// A Stop came, or the stream ended between two frames.
     Done,

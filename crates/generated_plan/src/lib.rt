@@ -7,6 +7,3 @@ mod plans;
 mod tasks;
 
 pub use plans::make_plan;
-
-#[cfg(test)]
-mod tests;

@@ -12,7 +12,7 @@ use std::alloc::{AllocError, Global};
 use std::marker::Model;
 
 /// What the check of a history answers.
-#[derive(Clone, Copy, Debug, PartialEq, Eq)]
+#[derive(Clone, Copy, PartialEq, Eq)]
 pub enum Checked {
     /// All of so many entries are lawful.
     Lawful(u64),
@@ -23,7 +23,7 @@ pub enum Checked {
 
 /// A history that comes line by line, and is checked against a plan. It keeps the entries up to the first that
 /// isn't allowed.
-#[derive(Debug, Drop)]
+#[derive(Drop)]
 pub struct HistoryCheck {
     book: Book,
     count: u64,

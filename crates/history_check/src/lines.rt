@@ -16,7 +16,7 @@ use worker_desk::Source;
 pub(crate) const MAX_PIECE: usize = 32;
 
 /// The line that was taken last, the bytes behind it that were taken too, and how many more may be taken.
-#[derive(Debug, Drop)]
+#[derive(Drop)]
 pub(crate) struct Lines {
     line: Vec<u8>,
     ahead: Vec<u8>,

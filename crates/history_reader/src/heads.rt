@@ -7,7 +7,7 @@ use crate::tokens::{read_number, text_after};
 use resource_lock::MAX_WORKERS;
 
 /// What the second line of a history says.
-#[derive(Clone, Copy, Debug)]
+#[derive(Clone, Copy)]
 pub(crate) struct Settings {
     pub(crate) workers: u32,
     pub(crate) max: u32,

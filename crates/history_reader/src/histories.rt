@@ -10,7 +10,7 @@ use resource_lock::{Change, WorkerId};
 use std::alloc::Global;
 
 /// A history that was read from its text.
-#[derive(Debug, Drop)]
+#[derive(Drop)]
 pub struct History {
     /// How many workers there are: 1 to 32 in what was read.
     pub workers: u32,
@@ -23,7 +23,7 @@ pub struct History {
 }
 
 /// An entry of a history.
-#[derive(Debug, Drop)]
+#[derive(Drop)]
 pub struct HistoryEntry {
     /// The worker that ran the transform.
     pub worker: WorkerId,
@@ -34,7 +34,7 @@ pub struct HistoryEntry {
 }
 
 /// An entry of a history but for its changes, which stand elsewhere.
-#[derive(Clone, Copy, Debug)]
+#[derive(Clone, Copy)]
 pub struct EntryHead {
     /// The worker that ran the transform.
     pub worker: WorkerId,
@@ -45,7 +45,7 @@ pub struct EntryHead {
 }
 
 /// What a line of a history is.
-#[derive(Clone, Copy, Debug, PartialEq, Eq)]
+#[derive(Clone, Copy, PartialEq, Eq)]
 pub enum HistoryLine {
     /// The line of one more entry.
     Entry,

@@ -8,7 +8,7 @@ use resource_lock::Change;
 use std::alloc::Global;
 
 /// What a line of a history says.
-#[derive(Debug, Drop)]
+#[derive(Drop)]
 pub enum LineValue {
     /// The entry that follows.
     Entry(HistoryEntry),
@@ -17,7 +17,7 @@ pub enum LineValue {
 }
 
 /// What a line of a history says but for the changes.
-#[derive(Clone, Copy, Debug)]
+#[derive(Clone, Copy)]
 pub enum LineHead {
     /// The entry that follows.
     Entry(EntryHead),

@@ -7,7 +7,7 @@ use item_actions::Outcome;
 use resource_lock::Mark;
 
 /// How many of tasks or units passed, failed and were skipped.
-#[derive(Clone, Copy, Debug)]
+#[derive(Drop)]
 pub struct Counts {
     pub passed: u64,
     pub failed: u64,

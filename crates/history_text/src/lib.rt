@@ -19,6 +19,3 @@ pub use events::write_events;
 pub use histories::write_history;
 pub use laws::results_go_by_number;
 pub use results::write_results;
-
-#[cfg(test)]
-mod tests;

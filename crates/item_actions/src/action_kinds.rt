@@ -4,7 +4,7 @@ ghost use Rattle.item_actions.specs.Words.{kind_of_action, action_word, action_k
 use crate::actions::ItemAction;
 
 /// Which of the six actions it is, without the needle that one of them searches for.
-#[derive(Clone, Copy, Debug, PartialEq, Eq)]
+#[derive(Clone, Copy)]
 pub enum ActionKind {
     Lines,
     Words,

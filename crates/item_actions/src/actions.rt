@@ -12,7 +12,7 @@ use sha2::{Digest, Sha256};
 const LINE_END: u8 = b'\n';
 
 /// What is worked out of a file's bytes.
-#[derive(Clone, Copy, Debug, PartialEq, Eq)]
+#[derive(Clone, Copy)]
 pub enum ItemAction {
     /// How many bytes are line ends, 0x0A.
     Lines,

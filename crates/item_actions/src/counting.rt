@@ -19,7 +19,13 @@ pub(crate) fn count_of_byte(bytes: &[u8], byte: u8) -> usize
 fn count_one_by_one(bytes: &[u8], byte: u8) -> usize
     ensures { result ≡ count_by (λ b. b == byte) bytes.now }
 {
-    bytes.iter().filter(|b| **b == byte).count()
+    let mut total = 0usize;
+    for found in bytes {
+        if *found == byte {
+            total += 1;
+        }
+    }
+    total
 }
 
 // How many of the 32 bytes from `at` on equal `byte`, by one comparison of vectors.

@@ -4,7 +4,7 @@ use crate::limits::MAX_NEEDLE_BYTES;
 use std::marker::Model;
 
 /// What is searched for: 1 to 64 bytes.
-#[derive(Clone, Copy, Debug, PartialEq, Eq)]
+#[derive(Clone, Copy)]
 pub struct Needle {
     bytes: [u8; MAX_NEEDLE_BYTES],
     len: usize,

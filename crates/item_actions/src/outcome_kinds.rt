@@ -4,7 +4,7 @@ ghost use Rattle.item_actions.specs.Words.{kind_of_outcome, outcome_word, outcom
 use crate::outcomes::Outcome;
 
 /// Which outcome it is, without the value that it may have.
-#[derive(Clone, Copy, Debug, PartialEq, Eq)]
+#[derive(Clone, Copy)]
 pub enum OutcomeKind {
     Number,
     Digest,

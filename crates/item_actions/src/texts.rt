@@ -6,7 +6,7 @@ use std::marker::Model;
 use thiserror::Error;
 
 /// Why bytes are no text.
-#[derive(Clone, Copy, Debug, PartialEq, Eq, Error)]
+#[derive(Clone, Copy, Debug, Error)]
 pub enum TextRefusal {
     /// The bytes aren't UTF-8.
     #[error("the bytes are not UTF-8")]
@@ -27,7 +27,7 @@ impl From<AllocError> for TextRefusal {
 }
 
 /// Bytes that are UTF-8.
-#[derive(Debug, Drop)]
+#[derive(Drop)]
 pub struct Text {
     text: String,
 }

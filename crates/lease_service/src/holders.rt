@@ -15,7 +15,7 @@ use std::alloc::AllocError;
 use std::sync::Wait;
 
 /// What came of a try.
-#[derive(Clone, Copy, Debug, PartialEq, Eq)]
+#[derive(Clone, Copy, PartialEq, Eq)]
 pub enum Tried {
     /// The worker has all that it asked for.
     Got,

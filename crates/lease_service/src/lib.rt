@@ -9,8 +9,3 @@ pub use holders::{Tried, hand_back, run_as_worker, take_locks, try_take_locks};
 pub use leases::{Lease, current_lease};
 pub use lock_journal::kinds::{Acquire, HandBack, take_all};
 pub use project_locks::ProjectLocks;
-
-#[cfg(test)]
-mod caller_tests;
-#[cfg(test)]
-mod tests;

@@ -1,6 +1,7 @@
 -- What a call answers, and why.
-use Rattle.std.specs.Prelude.{ℕ, ◌≡◌, ◌<◌, Bool, true, false, if◌then◌else◌, List, [], ◌++◌, length, Option, None, Some}
+use Rattle.std.specs.Prelude.{ℕ, ◌≡◌, ◌<◌, Bool, true, false, if◌then◌else◌, List, [], ◌++◌, length, Option, None, Some, Box}
 use Rattle.std.specs.List.{list_all, range_with_len}
+use Rattle.std.specs.declared.alloc.Global.{Global}
 use Rattle.item_actions.specs.Files.{Folder}
 use Rattle.item_actions.specs.declared.outcomes.Outcome.{Outcome}
 use Rattle.resource_lock.specs.GraphView.{GraphView}
@@ -90,6 +91,11 @@ abbrev pub run_text : RunWords → PlanView → Option Folder → BookView → L
 run_text asked plan known b events = text_by_plan asked plan (values_or_closings plan known b.history) b events
 
 -- ---- the answer
+
+-- the book of the run, if a run ended
+abbrev pub book_of : Option (Box BookView Global) → Option BookView
+book_of None = None
+book_of (Some b) = Some b.value
 
 -- the events of a run that ended are legal and leave no daemon idle; where none ended there are none
 abbrev pub AreEventsOf : Option BookView → List Event → Type 0

@@ -4,7 +4,7 @@ ghost use Rattle.leases_cli.specs.Lines.{number_of};
 use plan_reader::PlanRefusal;
 
 /// How a call of the program ended.
-#[derive(Clone, Copy, Debug, PartialEq, Eq)]
+#[derive(Clone, Copy)]
 pub enum Status {
     /// Every task passed; or a worker's requests were all answered, up to a Stop or to the end of the input between
     /// two frames; or all entries of the checked history are lawful; or the whole plan was made.

@@ -17,7 +17,7 @@ ghost use Rattle.leases_cli.specs.declared.status.Status.TheVariants as status;
 ghost use Rattle.leases_cli.specs.declared.top.TheConstants.{DESKS};
 ghost use Rattle.leases_cli.specs.Around.{desks_used, desks_view, takes_input};
 ghost use Rattle.leases_cli.specs.Worker.{HasWorked};
-ghost use Rattle.leases_cli.specs.Answered.{Answered, AreEventsOf, RunAnswered, all_pass, events_asked, have_all_passed, history_asked, options_of, run_text, text_by_book, values_or_closings};
+ghost use Rattle.leases_cli.specs.Answered.{Answered, AreEventsOf, RunAnswered, all_pass, book_of, events_asked, have_all_passed, history_asked, options_of, run_text, text_by_book, values_or_closings};
 ghost use Rattle.leases_cli.specs.Check.{HasCheckedHistory};
 ghost use Rattle.leases_cli.specs.Complete.{IsComplete};
 ghost use Rattle.leases_cli.specs.Reported.{IsReported};
@@ -54,7 +54,7 @@ pub const DESKS: usize = MAX_WORKERS as usize;
 pub struct Ended {
     pub status: Status,
     /// The book of the run, if a run ended.
-    pub book: Option<Book>,
+    pub book: Option<Box<Book>>,
     /// What happened to the run's daemons. They are none where no run ended.
     pub events: Vec<Event>,
 }
@@ -98,10 +98,10 @@ fn print_run<O: Sink>(
     end: &RunEnd,
     out: &mut O,
 ) -> Result<(), Failed>
-    requires tasks { length end.now.book.graph.tasks ≡ length plan.now.tasks }
-    requires units { end.now.book.graph.units ≡ length (plan_units plan.now) }
-    requires ended { HasEnded end.now.book.state }
-    ensures { Prints (O.seen out.old) (O.seen out.new) (text_by_book asked.now plan.now end.now.book end.now.events.items) result }
+    requires tasks { length end.now.book.value.graph.tasks ≡ length plan.now.tasks }
+    requires units { end.now.book.value.graph.units ≡ length (plan_units plan.now) }
+    requires ended { HasEnded end.now.book.value.state }
+    ensures { Prints (O.seen out.old) (O.seen out.new) (text_by_book asked.now plan.now end.now.book.value end.now.events.items) result }
 {
     let mut page = Page::new();
     write_results(plan, &end.book, asked.summary, &mut page, out);
@@ -127,14 +127,14 @@ fn all_passed(book: &Book) -> bool
 
 /// Prints a run, and says how it went.
 fn report<O: Sink>(asked: &RunWords, plan: &Plan, end: RunEnd, out: &mut O) -> Ended
-    requires tasks { length end.book.graph.tasks ≡ length plan.now.tasks }
-    requires units { end.book.graph.units ≡ length (plan_units plan.now) }
-    requires ended { HasEnded end.book.state }
+    requires tasks { length end.book.value.graph.tasks ≡ length plan.now.tasks }
+    requires units { end.book.value.graph.units ≡ length (plan_units plan.now) }
+    requires ended { HasEnded end.book.value.state }
     requires legal { IsLegal end.events.items }
     requires none_idle { NoneIdle end.events.items }
     ensures book { result.book ≡ Some end.book }
-    ensures events { AreEventsOf result.book result.events.items }
-    ensures status { IsReported (have_all_passed end.book) (O.seen out.old) (O.seen out.new) (text_by_book asked.now plan.now end.book result.events.items) result.status }
+    ensures events { AreEventsOf (book_of result.book) result.events.items }
+    ensures status { IsReported (have_all_passed end.book.value) (O.seen out.old) (O.seen out.new) (text_by_book asked.now plan.now end.book.value result.events.items) result.status }
 {
     let passed = all_passed(&end.book);
     let status = match print_run(asked, plan, &end, out) {
@@ -152,7 +152,7 @@ fn report<O: Sink>(asked: &RunWords, plan: &Plan, end: RunEnd, out: &mut O) -> E
 /// The end of a call in which no run ended.
 fn without_run(alloc: Global, status: Status) -> Ended
     ensures book { result.book ≡ None }
-    ensures events { AreEventsOf result.book result.events.items }
+    ensures events { AreEventsOf (book_of result.book) result.events.items }
     ensures status { result.status ≡ status }
 {
     Ended {
@@ -165,7 +165,7 @@ fn without_run(alloc: Global, status: Status) -> Ended
 /// Writes the line of a refusal.
 fn refuse<O: Sink>(alloc: Global, refusal: Status, out: &mut O) -> Ended
     ensures book { result.book ≡ None }
-    ensures events { AreEventsOf result.book result.events.items }
+    ensures events { AreEventsOf (book_of result.book) result.events.items }
     ensures status { IsToldAs refusal (O.seen out.old) (O.seen out.new) result.status }
 {
     without_run(alloc, told(refusal, out))
@@ -174,7 +174,7 @@ fn refuse<O: Sink>(alloc: Global, refusal: Status, out: &mut O) -> Ended
 /// Writes the line of a refusal, but where there was no memory.
 fn refuse_plan<O: Sink>(alloc: Global, refusal: Status, out: &mut O) -> Ended
     ensures book { result.book ≡ None }
-    ensures events { AreEventsOf result.book result.events.items }
+    ensures events { AreEventsOf (book_of result.book) result.events.items }
     ensures no_memory { refusal ≡ status.NoMemory → (result.status ≡ status.NoMemory) × (O.seen out.new ≡ O.seen out.old) }
     ensures told { refusal ≢ status.NoMemory → IsToldAs refusal (O.seen out.old) (O.seen out.new) result.status }
 {
@@ -183,13 +183,13 @@ fn refuse_plan<O: Sink>(alloc: Global, refusal: Status, out: &mut O) -> Ended
 
 /// Prints a run of the plan, and says how it went by the plan.
 fn report_run<O: Sink>(asked: &RunWords, plan: &Plan, end: RunEnd, out: &mut O) -> Ended
-    requires run { (known : Option Folder) × (before : ℕ → ℕ) × (after : ℕ → ℕ) × IsRunOf plan.now (options_of asked.now) known before after end.book }
+    requires run { (known : Option Folder) × (before : ℕ → ℕ) × (after : ℕ → ℕ) × IsRunOf plan.now (options_of asked.now) known before after end.book.value }
     requires legal { IsLegal end.events.items }
     requires none_idle { NoneIdle end.events.items }
     ensures book { result.book ≡ Some end.book }
-    ensures events { AreEventsOf result.book result.events.items }
-    ensures status { (known : Option Folder) (before after : ℕ → ℕ) → IsRunOf plan.now (options_of asked.now) known before after end.book
-        → IsReported (all_pass plan.now end.book.graph (values_or_closings plan.now known end.book.history)) (O.seen out.old) (O.seen out.new) (run_text asked.now plan.now known end.book result.events.items) result.status }
+    ensures events { AreEventsOf (book_of result.book) result.events.items }
+    ensures status { (known : Option Folder) (before after : ℕ → ℕ) → IsRunOf plan.now (options_of asked.now) known before after end.book.value
+        → IsReported (all_pass plan.now end.book.value.graph (values_or_closings plan.now known end.book.value.history)) (O.seen out.old) (O.seen out.new) (run_text asked.now plan.now known end.book.value result.events.items) result.status }
 {
     let _ = end.book.graph();
     outcomes_go_by_number();
@@ -215,8 +215,8 @@ fn run<R: Threads + Wait + Sync, D: Desk + Send + Drop, G: Gate + Sync, O: Sink>
     ensures counts { (i : ℕ) (d : D) → D.faults (get_or desks.old.items i d) ≤ D.faults (get_or desks.new.items i d) }
     ensures rest { drop asked.now.threads desks.new.items ≡ drop asked.now.threads desks.old.items }
     ensures refused { result.book ≡ None → result.status ≢ status.NoMemory → drop 1 desks.new.items ≡ drop 1 desks.old.items }
-    ensures events { AreEventsOf result.book result.events.items }
-    ensures answer { (d : D) → RunAnswered asked.now (desks_view D.files D.faults D.sends D.sent desks.old.items d) (desks_view D.files D.faults D.sends D.sent desks.new.items d) (O.seen out.old) (O.seen out.new) result.status result.book result.events.items }
+    ensures events { AreEventsOf (book_of result.book) result.events.items }
+    ensures answer { (d : D) → RunAnswered asked.now (desks_view D.files D.faults D.sends D.sent desks.old.items d) (desks_view D.files D.faults D.sends D.sent desks.new.items d) (O.seen out.old) (O.seen out.new) result.status (book_of result.book) result.events.items }
 {
     let plan = match read_first(alloc, &asked.plan, desks) {
         Ok(plan) => plan,
@@ -247,7 +247,7 @@ fn work<F: Files, I: Source, O: Sink>(
     ensures rest { drop 1 desks.new.items ≡ drop 1 desks.old.items }
     ensures input_count { (I.seen input.old).faults ≤ (I.seen input.new).faults }
     ensures book { result.book ≡ None }
-    ensures events { AreEventsOf result.book result.events.items }
+    ensures events { AreEventsOf (book_of result.book) result.events.items }
     ensures worked { (d : F) → HasWorked
         record { source = I.seen input.old; sink = O.seen out.old; files = F.files (get_or desks.old.items 0 d); faults = F.faults (get_or desks.old.items 0 d) }
         record { source = I.seen input.new; sink = O.seen out.new; files = F.files (get_or desks.new.items 0 d); faults = F.faults (get_or desks.new.items 0 d) }
@@ -271,7 +271,7 @@ fn check<F: Files, I: Source, O: Sink>(
     ensures rest { drop 1 desks.new.items ≡ drop 1 desks.old.items }
     ensures input_count { (I.seen input.old).faults ≤ (I.seen input.new).faults }
     ensures book { result.book ≡ None }
-    ensures events { AreEventsOf result.book result.events.items }
+    ensures events { AreEventsOf (book_of result.book) result.events.items }
     ensures checked { (d : F) → HasCheckedHistory plan.now
         record { source = I.seen input.old; sink = O.seen out.old; files = F.files (get_or desks.old.items 0 d); faults = F.faults (get_or desks.old.items 0 d) }
         record { source = I.seen input.new; sink = O.seen out.new; files = F.files (get_or desks.new.items 0 d); faults = F.faults (get_or desks.new.items 0 d) }
@@ -300,11 +300,11 @@ fn perform<R: Threads + Wait + Sync, D: Desk + Send + Drop, I: Source, G: Gate +
     ensures refused { result.book ≡ None → result.status ≢ status.NoMemory → drop 1 desks.new.items ≡ drop 1 desks.old.items }
     ensures input { takes_input (Some command.now) ≡ false → I.seen input.new ≡ I.seen input.old }
     ensures input_count { (I.seen input.old).faults ≤ (I.seen input.new).faults }
-    ensures events { AreEventsOf result.book result.events.items }
+    ensures events { AreEventsOf (book_of result.book) result.events.items }
     ensures answer { (d : D) → Answered (Some command.now)
         record { source = I.seen input.old; sink = O.seen out.old; desks = desks_view D.files D.faults D.sends D.sent desks.old.items d }
         record { source = I.seen input.new; sink = O.seen out.new; desks = desks_view D.files D.faults D.sends D.sent desks.new.items d }
-        result.status result.book result.events.items }
+        result.status (book_of result.book) result.events.items }
 {
     match command {
         Command::Run(asked) => run(rt, alloc, asked, desks, gate, out),
@@ -351,15 +351,15 @@ pub fn leases<R: Threads + Wait + Sync, D: Desk + Send + Drop, I: Source, G: Gat
     ensures refused { result.book ≡ None → result.status ≢ status.NoMemory → drop 1 desks.new.items ≡ drop 1 desks.old.items }
     ensures input { takes_input (command_of words.now) ≡ false → I.seen input.new ≡ I.seen input.old }
     ensures input_count { (I.seen input.old).faults ≤ (I.seen input.new).faults }
-    ensures events { AreEventsOf result.book result.events.items }
+    ensures events { AreEventsOf (book_of result.book) result.events.items }
     ensures answer { (d : D) → Answered (command_of words.now)
         record { source = I.seen input.old; sink = O.seen out.old; desks = desks_view D.files D.faults D.sends D.sent desks.old.items d }
         record { source = I.seen input.new; sink = O.seen out.new; desks = desks_view D.files D.faults D.sends D.sent desks.new.items d }
-        result.status result.book result.events.items }
+        result.status (book_of result.book) result.events.items }
     ensures complete { (d : D) → IsComplete (command_of words.now)
         record { source = I.seen input.old; sink = O.seen out.old; desks = desks_view D.files D.faults D.sends D.sent desks.old.items d }
         record { source = I.seen input.new; sink = O.seen out.new; desks = desks_view D.files D.faults D.sends D.sent desks.new.items d }
-        result.status result.book }
+        result.status (book_of result.book) }
 {
     first_cycle_is_unique();
     match read_command(alloc, words) {

@@ -1,21 +1,15 @@
 -- What the fields of a `Book` stand for, and what holds of them.
-use Rattle.std.specs.Prelude.{◌≡◌, ◌≤◌, [], All, min}
+use Rattle.std.specs.Prelude.{◌≡◌, ◌≤◌, [], All}
 use Rattle.ready_work.specs.ReadyWork.{IsIndexOf}
 use Rattle.lock_journal.specs.Entry.{replay}
 use Rattle.lock_journal.specs.Allowed.{Lawful}
 use Rattle.lock_journal.specs.Bounds.{IsFitKind}
-use Rattle.lock_journal.specs.BookView.{BookView}
+use Rattle.lock_journal.specs.BookView.{BookView, begun}
 use Rattle.lock_journal.specs.declared.books.Book.TheInside.{Inside}
 use Rattle.lock_journal.specs.declared.kinds.admitting.TheConstants.{MAX_CHANGES}
 
 abbrev pub book_view : Inside → BookView
-book_view b = record {
-  graph = b.tentative.graph;
-  state = b.tentative.state;
-  history = b.history.entries;
-  spare_entries = b.history.spare_entries;
-  spare_changes = min b.history.spare_changes b.tentative.room;
-}
+book_view b = begun b.tentative b.history
 
 -- No change is under way, and there is room for the changes of any entry. The history is a lawful one of the graph whose outcomes are those of their type, the state is what it leads to, and the index is that of the graph and the state.
 pub record IsSound (b : Inside) : Type 0 where

@@ -1,8 +1,10 @@
 -- A book, as contracts see it.
-use Rattle.std.specs.Prelude.{ℕ, ◌≡◌, ◌≤◌, List}
+use Rattle.std.specs.Prelude.{ℕ, ◌≡◌, ◌≤◌, List, min}
 use Rattle.resource_lock.specs.StateView.{StateView}
 use Rattle.resource_lock.specs.GraphView.{GraphView}
 use Rattle.lock_journal.specs.Entry.{Entry}
+use Rattle.lock_journal.specs.HistoryView.{HistoryView}
+use Rattle.lock_journal.specs.TentativeView.{TentativeView}
 
 -- the graph, the state, the history, and how many more entries and changes there is room for
 pub record BookView : Type 0 where
@@ -11,6 +13,10 @@ pub record BookView : Type 0 where
   pub history : List Entry
   pub spare_entries : ℕ
   pub spare_changes : ℕ
+
+-- the book of a state under change and a history, between two entries
+abbrev pub begun : TentativeView → HistoryView → BookView
+begun t h = record { graph = t.graph; state = t.state; history = h.entries; spare_entries = h.spare_entries; spare_changes = min h.spare_changes t.room }
 
 -- graph, state and history are as before, and the spares aren't smaller
 pub record SameBook (old new : BookView) : Type 0 where

@@ -6,6 +6,7 @@ ghost use Rattle.resource_lock.specs.Opening.{opening_of};
 ghost use Rattle.resource_lock.specs.Shape.{BelongsTo};
 ghost use Rattle.ready_work.specs.Choices.{CanSkip, CanStart, IsOpenUnit, IsQueued};
 ghost use Rattle.ready_work.specs.Lowest.{IsFrom, IsLowest, IsNone};
+ghost use Rattle.lock_journal.specs.BookView.{begun};
 ghost use Rattle.lock_journal.specs.Entry.{replay};
 ghost use Rattle.lock_journal.specs.Shown.{entry_shown};
 ghost use Rattle.lock_journal.specs.Closings.{outcome_of};
@@ -13,6 +14,7 @@ ghost use Rattle.lock_journal.specs.LastChanges.{last_changes};
 ghost use Rattle.lock_journal.specs.Allowed.{Lawful};
 ghost use Rattle.lock_journal.specs.Bounds.{IsFitKind};
 ghost use Rattle.lock_journal.specs.Ran.{HasFinished, HasFailed, IsToRetry};
+ghost use Rattle.lock_journal.specs.declared.kinds.admitting.TheConstants.{MAX_CHANGES};
 
 use crate::entries::Shown;
 use crate::histories::History;
@@ -29,7 +31,7 @@ mod admitting;
 
 /// A graph, the state, and the history that led to it. Of every book the history is lawful, and
 /// the state is what it leads to. An index of the state tells in a few steps what can be done next.
-#[derive(Debug, Drop)]
+#[derive(Drop)]
 pub struct Book {
     tentative: Tentative,
     history: History,
@@ -67,6 +69,18 @@ impl Book {
         let history = History::opening(alloc, graph.units(), entries as usize, changes as usize)?;
         let room = changes.max(MAX_CHANGES);
         let tentative = Tentative::opening(alloc, graph, room as usize)?;
+        Book::begin(alloc, tentative, history)
+    }
+
+    /// A book of a state that a run begins in, and of no entries.
+    fn begin(alloc: Global, tentative: Tentative, history: History) -> Result<Book, AllocError>
+        requires state { tentative.state ≡ opening_of tentative.graph }
+        requires made { tentative.made ≡ [] }
+        requires room { MAX_CHANGES ≤ tentative.room }
+        requires none { history.entries ≡ [] }
+        requires units { history.units ≡ tentative.graph.units }
+        ensures { IfOk result (λ book. book ≡ begun tentative history) }
+    {
         let ready = ReadyWork::of(alloc, tentative.graph(), tentative.state())?;
         Ok(Book {
             tentative,

@@ -2,7 +2,7 @@ use item_actions::Outcome;
 use resource_lock::{Change, WorkerId};
 
 /// What an entry is for. Tasks, actions and units go by their numbers in the graph, from 0.
-#[derive(Clone, Copy, Debug, PartialEq, Eq)]
+#[derive(Clone, Copy, PartialEq, Eq)]
 pub enum Kind {
     /// A worker starts a task.
     Start(u32),
@@ -31,7 +31,7 @@ pub enum Kind {
 }
 
 /// A unit and its outcome.
-#[derive(Clone, Copy, Debug, PartialEq, Eq)]
+#[derive(Clone, Copy, PartialEq, Eq)]
 pub struct Closed {
     /// The unit's number.
     pub unit: u32,
@@ -40,7 +40,7 @@ pub struct Closed {
 }
 
 /// An entry of a history. Its changes are borrowed from the book.
-#[derive(Clone, Copy, Debug)]
+#[derive(Clone, Copy)]
 pub struct Shown<'a> {
     /// The worker that ran the transform.
     pub worker: WorkerId,

@@ -20,7 +20,7 @@ const NOWHERE: usize = usize::MAX;
 
 /// The entries so far. The changes of all entries stand in a row, and so do the closings that their
 /// kinds carry. Of each unit it is kept where its last closing stands.
-#[derive(Debug, Drop)]
+#[derive(Drop)]
 pub(crate) struct History {
     stored: Vec<StoredEntry>,
     changes: Vec<Change>,

@@ -8,7 +8,7 @@ use resource_lock::{Change, WorkerId};
 
 /// An entry, with the place where its changes begin among those of all entries. They end where those
 /// of the next entry begin.
-#[derive(Clone, Copy, Debug)]
+#[derive(Clone, Copy)]
 pub struct StoredEntry {
     pub start: usize,
     pub number: usize,
@@ -21,7 +21,7 @@ const _: () = prove!(size_of::<StoredEntry>() == 24);
 
 /// What a stored entry is for. The entry's number is that of the task, the action or the unit. Of a
 /// kind with an outcome it is the place of the closing among those of all entries.
-#[derive(Clone, Copy, Debug)]
+#[derive(Clone, Copy)]
 pub enum StoredKind {
     Start,
     Skip,

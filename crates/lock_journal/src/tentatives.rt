@@ -21,7 +21,7 @@ use std::marker::Model;
 
 /// A state under change by one worker, with the list of changes made so far. A transform makes its
 /// changes here, and no call that it can make takes memory.
-#[derive(Debug, Drop)]
+#[derive(Drop)]
 pub struct Tentative {
     graph: Graph,
     state: State,
@@ -163,8 +163,8 @@ impl Tentative {
         ensures made { IfOk result (λ tentative. tentative.made ≡ []) }
         ensures room { IfOk result (λ tentative. changes ≤ tentative.room) }
     {
-        let state = State::opening(alloc, &graph)?;
         let made = Vec::with_capacity(alloc, changes)?;
+        let state = State::opening(alloc, &graph)?;
         Ok(Tentative {
             graph,
             state,

@@ -13,7 +13,7 @@ use crate::entries::Kind;
 use crate::tentatives::Tentative;
 
 /// How a transform ended.
-#[derive(Clone, Copy, Debug, PartialEq, Eq)]
+#[derive(Clone, Copy)]
 pub enum Disposition {
     /// Its changes stand, and its entry has them.
     Finished,

@@ -14,7 +14,9 @@ use Rattle.plan_table.specs.Search.{table_refusal}
 use Rattle.plan_reader.specs.Names.{names_in, dependency_numbers, dependencies_of}
 use Rattle.plan_reader.specs.PlanView.{PlanView}
 use Rattle.plan_reader.specs.Planned.{plan_of}
-use Rattle.plan_reader.specs.Search.{twice_in, twice_refusal, rows_refusal, rows_before, refusal_before, refusal_behind}
+use Rattle.plan_reader.specs.declared.rows.Row.{Row}
+use Rattle.plan_reader.specs.declared.rows.Row.TheVariants.{ReleaseNotLast, ClassLoader, TooMany, BadRequirements}
+use Rattle.plan_reader.specs.Search.{twice_in, twice_refusal, row_refusal, rows_refusal, rows_before, refusal_before, refusal_behind}
 use Rattle.plan_reader.specs.Reading.{IsAccepted, Answer, answer_to, AnswersRanks, AnswersBy, ReadsBy, Refuses, Gives, RefusesBy, RefusesCycle}
 use Rattle.plan_reader.proofs.Numbers.{numbers_within}
 
@@ -64,6 +66,24 @@ handed_on Is (Err f) e is h = subst (Refuses Is) (sym is) h
 pub passed_on : {X : Type 0} (Is : Answer → Type 0) (r : Result X PlanFail) (e : PlanFail) → IsErrAnd r (λ f. f ≡ e) → Refuses Is e → IfErr r (Refuses Is)
 passed_on Is (Ok p) e is h = absurd is
 passed_on Is (Err f) e is h = subst (Refuses Is) (sym is) h
+
+-- the same of a refusal that was found
+pub found_on : {X : Type 0} (found : Option PlanRefusal) (r : Result X PlanFail) (e : PlanFail) → IsErrAnd r (λ f. f ≡ e) → RefusesBy found e → IfErr r (RefusesBy found)
+found_on found (Ok p) e is h = absurd is
+found_on found (Err f) e is h = subst (RefusesBy found) (sym is) h
+
+-- ---- the rows behind Cycle
+
+pub none_behind : (d : Data) → row_refusal d ReleaseNotLast ≡ None → row_refusal d ClassLoader ≡ None → row_refusal d TooMany ≡ None → row_refusal d BadRequirements ≡ None → refusal_behind d ≡ None
+none_behind d a b c last =
+    ap (λ o. option_or o (rows_refusal (ClassLoader ∷ TooMany ∷ BadRequirements ∷ []) d)) a
+    ∙ ap (λ o. option_or o (rows_refusal (TooMany ∷ BadRequirements ∷ []) d)) b
+    ∙ ap (λ o. option_or o (rows_refusal (BadRequirements ∷ []) d)) c
+    ∙ ap (λ o. option_or o None) last
+
+-- a row refuses behind those that refuse nothing
+pub third_refused : (d : Data) (a b : Row) (rows : List Row) (e : PlanFail) → row_refusal d a ≡ None → row_refusal d b ≡ None → RefusesBy (rows_refusal rows d) e → RefusesBy (rows_refusal (a ∷ b ∷ rows) d) e
+third_refused d a b rows e x y h = later (row_refusal d a) _ e x (later (row_refusal d b) _ e y h)
 
 -- ---- ranks
 

@@ -1,14 +1,18 @@
 -- The steps of the loops that make the graph of a plan.
-use Rattle.std.proofs.Common.{◌≡◌, ◌+◌, ◌<◌, ◌≤◌, ℕ, List, [], ◌∷◌, ◌++◌, map, length, drop, get_or, ap, sym, subst, ◌∙◌, append_assoc, length-append}
+use Rattle.std.proofs.Common.{◌≡◌, ◌+◌, ◌<◌, ◌≤◌, ℕ, List, [], ◌∷◌, ◌++◌, map, length, drop, get_or, Option, None, Some, is_some, ap, sym, subst, ◌∙◌, append_assoc, length-append, arith}
+use mir.Val.{bool_byte}
 use Rattle.std.specs.List.{All, flat_map}
-use Rattle.std.proofs.lemmas.List.{length-map, get_or-map, drop_more}
+use Rattle.std.proofs.lemmas.List.{append-nil, length-map, get_or-map, drop_more}
+use Rattle.std.proofs.Math.ListN.{drop_of_length-le}
 use Rattle.resource_lock.specs.declared.ids.LockId.{LockId}
 use Rattle.resource_lock.specs.declared.graphs.GraphAction.{GraphAction}
 use Rattle.resource_lock.specs.GraphView.{GraphTaskView}
 use Rattle.resource_lock.specs.declared.limits.TheConstants.{MAX_ACTIONS_PER_TASK}
+use Rattle.plan_reader.specs.declared.plans.PlanAction.{PlanAction}
 use Rattle.plan_reader.specs.declared.plans.PlanTask.{PlanTask}
-use Rattle.plan_reader.specs.PlanView.{plan_action_view, plan_task_view}
-use Rattle.plan_reader.specs.Units.{task_units}
+use Rattle.plan_table.specs.Forms.{Text}
+use Rattle.plan_reader.specs.PlanView.{work_view, plan_action_view, plan_task_view}
+use Rattle.plan_reader.specs.Units.{PlannedUnit, fetch_units, item_unit, action_units, task_units}
 use Rattle.plan_reader.specs.Graph.{lock_of, tasks_from, actions_from, units_in_all, all_actions_from}
 use Rattle.plan_reader.proofs.Fitting.{task_outline, units_in_all-task_units}
 
@@ -42,6 +46,49 @@ next_task parallel first done made all ts i x within is pushed so_far =
     ∙ ap (λ n. done ++ (o ∷ tasks_from parallel (first + n) rest)) (sym (length-map x.actions.items plan_action_view))
     ∙ ap (λ ds. done ++ tasks_from parallel first (map plan_task_view ds)) (sym (drop_at ts i x within is))
     ∙ so_far
+
+-- ---- the actions of a task
+
+pub units_of_action : (a : PlanAction) → length (action_units (plan_action_view a)) ≡ length a.items.items + bool_byte (is_some a.fetch)
+units_of_action a = by a.fetch
+  where
+    items : (f : List PlannedUnit) → length (f ++ map item_unit (map work_view a.items.items)) ≡ length f + length a.items.items
+    items f =
+        length-append f (map item_unit (map work_view a.items.items))
+        ∙ ap (λ n. length f + n) (length-map (map work_view a.items.items) item_unit ∙ length-map a.items.items work_view)
+
+    by : (f : Option Text) → length (fetch_units f ++ map item_unit (map work_view a.items.items)) ≡ length a.items.items + bool_byte (is_some f)
+    by None = omega (arith, items [])
+    by (Some file) = omega (arith, items (fetch_units (Some file)))
+
+pub units_at : (as' : List PlanAction) (i : ℕ) (x : PlanAction) → i < length as' → x ≡ get_or as' i x
+    → units_in_all (map plan_action_view (drop i as')) ≡ (length x.items.items + bool_byte (is_some x.fetch)) + units_in_all (map plan_action_view (drop (i + 1) as'))
+units_at as' i x within is =
+    ap (λ ds. units_in_all (map plan_action_view ds)) (drop_at as' i x within is)
+    ∙ ap (λ n. n + units_in_all (map plan_action_view (drop (i + 1) as'))) (units_of_action x)
+
+pub next_action : (task first units : ℕ) (done made all : List GraphAction) (as' : List PlanAction) (i : ℕ) (x : PlanAction) (o : GraphAction) → i < length as' → x ≡ get_or as' i x
+    → o ≡ record { task = task; retention = x.retention; fetch = is_some x.fetch; first_unit = first; items = length x.items.items }
+    → units ≡ length x.items.items + bool_byte (is_some x.fetch)
+    → made ≡ done ++ o ∷ []
+    → done ++ actions_from task first (map plan_action_view (drop i as')) ≡ all
+    → made ++ actions_from task (first + units) (map plan_action_view (drop (i + 1) as')) ≡ all
+next_action task first units done made all as' i x o within is shown units_are pushed so_far =
+    let rest : ℕ → List GraphAction = λ n. actions_from task (first + n) (map plan_action_view (drop (i + 1) as')) in
+    let items : length x.items.items ≡ length (map work_view x.items.items) = sym (length-map x.items.items work_view) in
+    let same : o ≡ record { task = task; retention = x.retention; fetch = is_some x.fetch; first_unit = first; items = length (map work_view x.items.items) } =
+    shown ∙ ap (λ n. record { task = task; retention = x.retention; fetch = is_some x.fetch; first_unit = first; items = n }) items
+    in
+    ap (λ m. m ++ rest units) pushed
+    ∙ append_assoc done (o ∷ []) (rest units)
+    ∙ ap (λ n. done ++ (o ∷ rest n)) (units_are ∙ sym (units_of_action x))
+    ∙ ap (λ p. done ++ (p ∷ rest (length (action_units (plan_action_view x))))) same
+    ∙ ap (λ ds. done ++ actions_from task first (map plan_action_view ds)) (sym (drop_at as' i x within is))
+    ∙ so_far
+
+-- where none is left
+pub all_made : {X Y : Type 0} (f : List X → List Y) (done all : List Y) (xs : List X) (i : ℕ) → length xs ≤ i → f [] ≡ [] → done ++ f (drop i xs) ≡ all → done ≡ all
+all_made f done all xs i past none so_far = sym (append-nil done) ∙ ap (λ ys. done ++ ys) (sym none ∙ ap f (sym (drop_of_length-le xs past))) ∙ so_far
 
 -- ---- actions
 

@@ -1,4 +1,5 @@
 pub mod Lists
+pub mod Loops
 pub mod Least
 pub mod Numbered
 pub mod PlaceNumbers

@@ -3,7 +3,6 @@ use Rattle.std.proofs.Common.{◌≡◌, ◌⊎◌, ℕ, List, [], ◌∷◌, dr
 use Rattle.std.specs.List.{zip}
 use Rattle.std.specs.Vec.Iter.{into_iter_items, into_iter_len}
 use Rattle.std.specs.declared.vec.IntoIter.{IntoIter}
-use Rattle.std.proofs.lemmas.List.{nil_from_length}
 use Rattle.toml.specs.declared.value.Value.{Value}
 use Rattle.toml.specs.Data.{Data}
 use Rattle.toml.specs.View.{view}
@@ -15,11 +14,9 @@ use Rattle.plan_reader.specs.Names.{NameLists, names_in, dependency_numbers, dep
 use Rattle.plan_reader.specs.PlanView.{PlanTaskView}
 use Rattle.plan_reader.specs.Planned.{all_requirements, task_of, plan_of}
 use Rattle.plan_reader.specs.Taken.{named, task_after}
+use Rattle.plan_reader.proofs.Loops.{ended}
 
 -- ---- up to the end of either
-
-ended : {X Z : Type 0} (it : IntoIter X Z) → into_iter_len it ≡ 0 → into_iter_items it ≡ []
-ended it e = nil_from_length (into_iter_items it) (sym it.rest.ok.0 ∙ e)
 
 zip_nothing : {X Y : Type 0} (xs : List X) → zip {X = Y} xs [] ≡ []
 zip_nothing [] = refl
@@ -29,6 +26,9 @@ pub zip_ended : {X Y Z : Type 0} (s : IntoIter X Z) (t : IntoIter Y Z) → ((u :
     → zip (into_iter_items s) (into_iter_items t) ≡ []
 zip_ended s t (inl (u, (none, _))) = rw (ended s none)
 zip_ended s t (inr (u, (none, _))) = rw (ended t none) (zip_nothing (into_iter_items s))
+
+pub zip_step : {X Y : Type 0} (xs xs' : List X) (ys ys' : List Y) (x : X) (y : Y) → xs ≡ x ∷ xs' → ys ≡ y ∷ ys' → zip xs ys ≡ (x, y) ∷ zip xs' ys'
+zip_step xs xs' ys ys' x y a b = ap (λ l. zip l ys) a ∙ ap (zip (x ∷ xs')) b
 
 -- ---- the tasks
 

@@ -21,7 +21,7 @@ names_in d = record {
 }
 
 abbrev pub name_lists : Names → NameLists
-name_lists n = record { projects = n.projects; tasks = n.tasks; requirements = n.requirements }
+name_lists n = record { projects = n.projects.now; tasks = n.tasks.now; requirements = n.requirements.now }
 
 -- ---- the tasks that a task comes after
 

@@ -79,7 +79,7 @@ fn fits_name(value: &Value) -> bool
 fn all_fit_name(values: &[Value]) -> bool
     ensures { result ≡ list_all (λ v. fits_name (view v)) values.now }
 {
-    values.iter().all(|value| fits_name(value))
+    values.iter().all(fits_name)
 }
 
 #[tactic(auto, using(crate::proofs::Sound::names_of_array))]
@@ -104,7 +104,7 @@ fn fits_argument(value: &Value) -> bool
 fn all_fit_argument(values: &[Value]) -> bool
     ensures { result ≡ list_all (λ v. fits_argument (view v)) values.now }
 {
-    values.iter().all(|value| fits_argument(value))
+    values.iter().all(fits_argument)
 }
 
 #[tactic(auto, using(crate::proofs::Sound::arguments_of_array))]

@@ -32,7 +32,7 @@ fn is_sound_item(item: &Value) -> bool
 fn are_sound_items(items: &[Value]) -> bool
     ensures { result ≡ list_all (λ v. is_sound_item (view v)) items.now }
 {
-    items.iter().all(|item| is_sound_item(item))
+    items.iter().all(is_sound_item)
 }
 
 fn are_some_sound_items(items: &[Value]) -> bool
@@ -56,7 +56,7 @@ fn is_sound_action(action: &Value) -> bool
 fn are_sound_actions(actions: &[Value]) -> bool
     ensures { result ≡ list_all (λ v. is_sound_action (view v)) actions.now }
 {
-    actions.iter().all(|action| is_sound_action(action))
+    actions.iter().all(is_sound_action)
 }
 
 fn has_sound_actions(task: &Value) -> bool
@@ -77,7 +77,7 @@ fn is_sound_task(task: &Value) -> bool
 fn are_sound_tasks(tasks: &[Value]) -> bool
     ensures { result ≡ list_all (λ v. is_sound_task (view v)) tasks.now }
 {
-    tasks.iter().all(|task| is_sound_task(task))
+    tasks.iter().all(is_sound_task)
 }
 
 fn is_sound_project(project: &Value) -> bool
@@ -89,7 +89,7 @@ fn is_sound_project(project: &Value) -> bool
 fn are_sound_projects(projects: &[Value]) -> bool
     ensures { result ≡ list_all (λ v. is_sound_project (view v)) projects.now }
 {
-    projects.iter().all(|project| is_sound_project(project))
+    projects.iter().all(is_sound_project)
 }
 
 fn is_sound_requirements(requirements: &Value) -> bool
@@ -101,7 +101,7 @@ fn is_sound_requirements(requirements: &Value) -> bool
 fn are_sound_requirements(values: &[Value]) -> bool
     ensures { result ≡ list_all (λ v. is_sound_requirements (view v)) values.now }
 {
-    values.iter().all(|value| is_sound_requirements(value))
+    values.iter().all(is_sound_requirements)
 }
 
 fn has_sound_projects(document: &Value) -> bool

@@ -22,10 +22,10 @@ use toml::Value;
 
 /// The names of a plan's parts. Each has the number at which its part stands.
 #[derive(Drop)]
-pub(crate) struct Names<'a> {
-    pub projects: NameTable<'a>,
-    pub tasks: NameTable<'a>,
-    pub requirements: NameTable<'a>,
+pub(crate) struct Names<'n, 'a> {
+    pub projects: &'n NameTable<'a>,
+    pub tasks: &'n NameTable<'a>,
+    pub requirements: &'n NameTable<'a>,
 }
 
 fn names_of<'a>(alloc: Global, values: &'a [Value]) -> Result<Vec<&'a str>, AllocError>
@@ -41,8 +41,7 @@ fn names_of<'a>(alloc: Global, values: &'a [Value]) -> Result<Vec<&'a str>, Allo
 fn names_at<'a>(alloc: Global, part: Part, document: &'a Value) -> Result<Vec<&'a str>, AllocError>
     ensures { IfOk result (λ names. texts names.items ≡ map name_of (places (view document.entry.now) part)) }
 {
-    let names = names_of(alloc, places(part, document))?;
-    Ok(names)
+    names_of(alloc, places(part, document))
 }
 
 /// The names of the parts of one sort, by number. Twice comes where a name stood before, with its first place.
@@ -152,8 +151,7 @@ fn dependency_numbers(
     ensures marks { IfOk result (λ _. (k : ℕ) → slice_index marks.new k ≤ mark) }
     ensures numbers { IfOk result (λ o. option_map (λ v. v.items) o ≡ known_numbers names.now (after_of (view task.now))) }
 {
-    let numbers = numbers_of(alloc, names, marks, mark, guess, after_of(task))?;
-    Ok(numbers)
+    numbers_of(alloc, names, marks, mark, guess, after_of(task))
 }
 
 fn rows_of(
@@ -185,6 +183,5 @@ pub(crate) fn dependencies_of(
     requires { names.now ≡ map name_of (places (view document.now) Part.Task) }
     ensures { IfOk result (λ o. option_map (λ rows. lists_of rows.items) o ≡ known_rows (names_in (view document.now)).tasks (tasks_of (view document.now))) }
 {
-    let rows = rows_of(alloc, names, tasks_of(document))?;
-    Ok(rows)
+    rows_of(alloc, names, tasks_of(document))
 }

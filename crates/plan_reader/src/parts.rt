@@ -72,8 +72,8 @@ fn work_of(alloc: Global, known: &Known, mut item: Value) -> Result<Work, AllocE
     ensures { IfOk result (λ w. work_view w ≡ work_of (known_names known.now) known.now.profiles.now (view item)) }
 {
     Ok(Work {
-        action: action_named(do_of(&item), needle_of(&item)),
         isolation: isolation_in(alloc, known, &item)?,
+        action: action_named(do_of(&item), needle_of(&item)),
         file: take_file(alloc, &mut item),
     })
 }
@@ -97,8 +97,7 @@ fn items_of_action(
     requires { known.now.default.now ≡ default_requirements }
     ensures { IfOk result (λ items. map work_view items.items ≡ map (work_of (known_names known.now) known.now.profiles.now) (items_of (view action.old))) }
 {
-    let items = works_of(alloc, known, take_items(alloc, action))?;
-    Ok(items)
+    works_of(alloc, known, take_items(alloc, action))
 }
 
 /// The retention of a word. A document with a word of no retention is refused before.
@@ -142,8 +141,7 @@ fn actions_of_task(
     requires { known.now.default.now ≡ default_requirements }
     ensures { IfOk result (λ actions. map plan_action_view actions.items ≡ map (action_of (known_names known.now) known.now.profiles.now) (actions_of (view task.old))) }
 {
-    let actions = plan_actions_of(alloc, known, take_actions(alloc, task))?;
-    Ok(actions)
+    plan_actions_of(alloc, known, take_actions(alloc, task))
 }
 
 /// The task of a table, which comes after these.
@@ -181,29 +179,72 @@ fn known_tasks(
     Ok(tasks)
 }
 
-/// The tasks of these tables, each after those of its row, in a plan of these projects and requirements.
-pub(crate) fn tasks_of_plan(
+/// The same in a plan of these names and requirements.
+fn tasks_by_names<'a>(
     alloc: Global,
-    projects: &[Text],
-    requirements: &[Text],
+    projects: &NameTable<'a>,
+    requirements: &NameTable<'a>,
+    profiles: &[Requirements],
+    tables: Vec<Value>,
+    dependencies: Vec<Vec<u32>>,
+) -> Result<Vec<PlanTask>, AllocError>
+    ensures { IfOk result (λ tasks. map plan_task_view tasks.items ≡ map (λ p. task_after (named projects.entry.now requirements.entry.now) profiles.now (view p.0) p.1.items) (zip tables.items dependencies.items)) }
+{
+    let default = default_requirements(alloc)?;
+    let known = Known {
+        projects,
+        requirements,
+        profiles,
+        default: &default,
+    };
+    known_tasks(alloc, &known, tables, dependencies)
+}
+
+/// The same in a plan of these projects' names, of which each stands once, and requirements.
+fn tasks_by_projects<'a>(
+    alloc: Global,
+    projects: &NameTable<'a>,
+    requirements: &'a [Text],
+    profiles: &[Requirements],
+    tables: Vec<Value>,
+    dependencies: Vec<Vec<u32>>,
+) -> Result<Vec<PlanTask>, AllocError>
+    requires { first_repeat requirements.now ≡ None }
+    ensures { IfOk result (λ tasks. map plan_task_view tasks.items ≡ map (λ p. task_after (named projects.entry.now requirements.entry.now) profiles.now (view p.0) p.1.items) (zip tables.items dependencies.items)) }
+{
+    let requirements = NameTable::of_texts(alloc, requirements)?;
+    tasks_by_names(
+        alloc,
+        projects,
+        &requirements,
+        profiles,
+        tables,
+        dependencies,
+    )
+}
+
+/// The tasks of these tables, each after those of its row, in a plan of these projects and requirements.
+pub(crate) fn tasks_of_plan<'a>(
+    alloc: Global,
+    projects: &'a [Text],
+    requirements: &'a [Text],
     profiles: &[Requirements],
     tables: Vec<Value>,
     dependencies: Vec<Vec<u32>>,
 ) -> Result<Vec<PlanTask>, AllocError>
     requires projects { first_repeat projects.now ≡ None }
     requires requirements { first_repeat requirements.now ≡ None }
-    ensures { IfOk result (λ tasks. map plan_task_view tasks.items ≡ map (λ p. task_after (named projects.now requirements.now) profiles.now (view p.0) p.1.items) (zip tables.items dependencies.items)) }
+    ensures { IfOk result (λ tasks. map plan_task_view tasks.items ≡ map (λ p. task_after (named projects.entry.now requirements.entry.now) profiles.now (view p.0) p.1.items) (zip tables.items dependencies.items)) }
 {
     let projects = NameTable::of_texts(alloc, projects)?;
-    let requirements = NameTable::of_texts(alloc, requirements)?;
-    let default = default_requirements(alloc)?;
-    let known = Known {
-        projects: &projects,
-        requirements: &requirements,
+    tasks_by_projects(
+        alloc,
+        &projects,
+        requirements,
         profiles,
-        default: &default,
-    };
-    known_tasks(alloc, &known, tables, dependencies)
+        tables,
+        dependencies,
+    )
 }
 
 /// Takes the names of these tables.

@@ -9,7 +9,7 @@ use std::marker::Model;
 
 /// An action of a task: a file that is fetched first, what the worker does with its project lock while
 /// the items run, and the items.
-#[derive(Debug, Drop)]
+#[derive(Drop)]
 pub struct PlanAction {
     pub fetch: Option<Text>,
     pub retention: Retention,
@@ -17,7 +17,7 @@ pub struct PlanAction {
 }
 
 /// A task of a project, after other tasks.
-#[derive(Debug, Drop)]
+#[derive(Drop)]
 pub struct PlanTask {
     pub name: Text,
     pub project: u32,
@@ -27,7 +27,7 @@ pub struct PlanTask {
 
 /// The projects, tasks and requirements of a build, in the order in which they stand in the plan file. A plan
 /// is made by `read_plan` alone.
-#[derive(Debug, Drop)]
+#[derive(Drop)]
 pub struct Plan {
     projects: Vec<Text>,
     tasks: Vec<PlanTask>,

@@ -105,8 +105,7 @@ pub(crate) fn all_requirements(
     ensures requirements { IfOk result (λ profiles. profiles.items ≡ all_requirements (view document.old)) }
     ensures others { KeepsOthers (codes "requirements") (view document.old) (view document.new) }
 {
-    let profiles = profiles_in(alloc, take_requirements(alloc, document))?;
-    Ok(profiles)
+    profiles_in(alloc, take_requirements(alloc, document))
 }
 
 fn names_of(alloc: Global, values: &[Value]) -> Result<Vec<Text>, AllocError>
@@ -123,6 +122,5 @@ fn names_of(alloc: Global, values: &[Value]) -> Result<Vec<Text>, AllocError>
 pub(crate) fn requirements_names(alloc: Global, document: &Value) -> Result<Vec<Text>, AllocError>
     ensures { IfOk result (λ names. names.items ≡ (names_in (view document.now)).requirements) }
 {
-    let names = names_of(alloc, requirements_of(document))?;
-    Ok(names)
+    names_of(alloc, requirements_of(document))
 }

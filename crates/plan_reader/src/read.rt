@@ -6,10 +6,11 @@ ghost use Rattle.plan_table.specs.Document.{is_numbered};
 ghost use Rattle.plan_table.specs.Search.{places, table_refusal};
 ghost use Rattle.plan_reader.specs.Names.{name_lists, names_in, dependencies_of};
 ghost use Rattle.plan_reader.specs.Planned.{plan_of};
-ghost use Rattle.plan_reader.specs.Search.{twice_refusal, row_refusal, rows_refusal, rows_before, rows_behind, refusal_before, refusal_behind};
+ghost use Rattle.plan_reader.specs.Search.{twice_in, twice_refusal, row_refusal, rows_refusal, rows_before, rows_behind, refusal_before, refusal_behind};
 ghost use Rattle.plan_reader.specs.Reading.{IsAccepted, AnswersRanks, AnswersBy, Reads, Refuses, Gives, RefusesBy, RefusesCycle};
 
 use crate::look::refuses_nothing;
+use crate::name_table::NameTable;
 use crate::names::{Names, dependencies_of, numbered_names};
 use crate::parts::{names_taken, tasks_of_plan};
 use crate::plans::Plan;
@@ -47,7 +48,7 @@ fn known_dependencies(
     ensures ok { IfOk result (λ _. row_refusal (view document.now) Row.NoSuchTask ≡ None) }
     ensures err { IfErr result (RefusesBy (row_refusal (view document.now) Row.NoSuchTask)) }
 {
-    match dependencies_of(alloc, &names.tasks, document)? {
+    match dependencies_of(alloc, names.tasks, document)? {
         Some(dependencies) => Ok(dependencies),
         None => {
             check(Row::NoSuchTask, names, document)?;
@@ -143,6 +144,50 @@ fn check_named(alloc: Global, names: &Names, document: &Value) -> Result<Vec<Vec
     Ok(dependencies)
 }
 
+/// The same behind the names of the projects and the tasks, each of which stands once.
+fn check_requirement_names<'a>(
+    alloc: Global,
+    projects: &NameTable<'a>,
+    tasks: &NameTable<'a>,
+    document: &'a Value,
+) -> Result<Vec<Vec<u32>>, PlanFail>
+    requires projects { projects.now ≡ (names_in (view document.now)).projects }
+    requires tasks { tasks.now ≡ (names_in (view document.now)).tasks }
+    requires numbered { is_numbered (view document.now) ≡ true }
+    requires formed { table_refusal (view document.now) ≡ None }
+    requires projects_once { twice_in (view document.now) Part.Project ≡ None }
+    requires tasks_once { twice_in (view document.now) Part.Task ≡ None }
+    ensures dependencies { IfOk result (λ rows. lists_of rows.items ≡ dependencies_of (view document.entry.now)) }
+    ensures accepted { IfOk result (λ _. IsAccepted (view document.entry.now)) }
+    ensures err { IfErr result (Refuses (AnswersBy (refusal_before (view document.entry.now)) (view document.entry.now))) }
+{
+    let requirements = numbered_names(alloc, Part::Requirements, document)?;
+    let names = Names {
+        projects,
+        tasks,
+        requirements: &requirements,
+    };
+    check_named(alloc, &names, document)
+}
+
+/// The same behind the names of the projects, each of which stands once.
+fn check_task_names<'a>(
+    alloc: Global,
+    projects: &NameTable<'a>,
+    document: &'a Value,
+) -> Result<Vec<Vec<u32>>, PlanFail>
+    requires projects { projects.now ≡ (names_in (view document.now)).projects }
+    requires numbered { is_numbered (view document.now) ≡ true }
+    requires formed { table_refusal (view document.now) ≡ None }
+    requires projects_once { twice_in (view document.now) Part.Project ≡ None }
+    ensures dependencies { IfOk result (λ rows. lists_of rows.items ≡ dependencies_of (view document.entry.now)) }
+    ensures accepted { IfOk result (λ _. IsAccepted (view document.entry.now)) }
+    ensures err { IfErr result (Refuses (AnswersBy (refusal_before (view document.entry.now)) (view document.entry.now))) }
+{
+    let tasks = numbered_names(alloc, Part::Task, document)?;
+    check_requirement_names(alloc, projects, &tasks, document)
+}
+
 /// The same, or the first refusal behind those of the text. The names are borrowed from the document for as long as
 /// this takes.
 fn check_tables(alloc: Global, document: &Value) -> Result<Vec<Vec<u32>>, PlanFail>
@@ -153,31 +198,24 @@ fn check_tables(alloc: Global, document: &Value) -> Result<Vec<Vec<u32>>, PlanFa
 {
     check_table(document)?;
     let projects = numbered_names(alloc, Part::Project, document)?;
-    let tasks = numbered_names(alloc, Part::Task, document)?;
-    let requirements = numbered_names(alloc, Part::Requirements, document)?;
-    let names = Names {
-        projects,
-        tasks,
-        requirements,
-    };
-    check_named(alloc, &names, document)
+    check_task_names(alloc, &projects, document)
 }
 
 /// The plan of a document that nothing refuses. Its texts are moved out of the document.
 fn plan_of(
     alloc: Global,
     dependencies: Vec<Vec<u32>>,
-    mut document: Value,
+    document: &mut Value,
 ) -> Result<Plan, PlanFail>
-    requires dependencies { lists_of dependencies.items ≡ dependencies_of (view document) }
-    requires accepted { IsAccepted (view document) }
-    ensures plan { IfOk result (λ plan. plan ≡ plan_of (view document)) }
+    requires dependencies { lists_of dependencies.items ≡ dependencies_of (view document.old) }
+    requires accepted { IsAccepted (view document.old) }
+    ensures plan { IfOk result (λ plan. plan ≡ plan_of (view document.old)) }
     ensures memory { IfErr result (λ e. e ≡ PlanFail.NoMemory) }
 {
-    let names = requirements_names(alloc, &document)?;
-    let requirements = all_requirements(alloc, &mut document)?;
-    let projects = names_taken(alloc, take_projects(alloc, &mut document))?;
-    let tables = take_tasks(alloc, &mut document);
+    let names = requirements_names(alloc, document)?;
+    let requirements = all_requirements(alloc, document)?;
+    let projects = names_taken(alloc, take_projects(alloc, document))?;
+    let tables = take_tasks(alloc, document);
     let tasks = tasks_of_plan(
         alloc,
         &projects,
@@ -190,12 +228,12 @@ fn plan_of(
 }
 
 /// The plan of a document, or the first refusal behind those of its text.
-fn read_tables(alloc: Global, document: Value) -> Result<Plan, PlanFail>
+fn read_tables(alloc: Global, mut document: Value) -> Result<Plan, PlanFail>
     requires { is_numbered (view document) ≡ true }
     ensures { Gives (AnswersBy (refusal_before (view document)) (view document)) result }
 {
     let dependencies = check_tables(alloc, &document)?;
-    plan_of(alloc, dependencies, document)
+    plan_of(alloc, dependencies, &mut document)
 }
 
 /// Reads a plan, or answers why the text is none: with the refusal that stands first in `PlanRefusal`, at the

@@ -18,7 +18,7 @@ use plan_table::{
 use toml::Value;
 
 /// A row of the tests, in their order. Cycle stands behind NoSuchTask.
-#[derive(Clone, Copy, Debug, PartialEq, Eq)]
+#[derive(Clone, Copy)]
 pub(crate) enum Row {
     NoSuchProject,
     NoSuchTask,
@@ -55,7 +55,7 @@ fn releases(action: &Value) -> bool
 fn any_releases(actions: &[Value]) -> bool
     ensures { result ≡ list_any (λ v. releases (view v)) actions.now }
 {
-    actions.iter().any(|action| releases(action))
+    actions.iter().any(releases)
 }
 
 /// Whether an action that isn't the last releases the project lock.
@@ -127,11 +127,11 @@ fn holds_of_task(row: Row, names: &Names, task: &Value) -> bool
     ensures { result ≡ holds (name_lists names.now) row Part.Task (view task.now) }
 {
     match row {
-        Row::NoSuchProject => lacks_project(&names.projects, task),
-        Row::NoSuchTask => lacks_task(&names.tasks, task),
+        Row::NoSuchProject => lacks_project(names.projects, task),
+        Row::NoSuchTask => lacks_task(names.tasks, task),
         Row::ReleaseNotLast => task_releases_early(task),
         Row::ClassLoader | Row::BadRequirements => {
-            has_failing_item(row, &names.requirements, task)
+            has_failing_item(row, names.requirements, task)
         }
         Row::TooMany => excess(Part::Task, task).is_some(),
     }

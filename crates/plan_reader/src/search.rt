@@ -14,12 +14,12 @@ use toml::Value;
 
 /// The test of a row, where these are the names.
 #[derive(Clone, Copy)]
-struct RowTest<'a, 'n> {
+struct RowTest<'t, 'n, 'a> {
     row: Row,
-    names: &'a Names<'n>,
+    names: &'t Names<'n, 'a>,
 }
 
-impl PlaceTest for RowTest<'_, '_> {
+impl PlaceTest for RowTest<'_, '_, '_> {
     ghost test = { λ t. holds (name_lists t.names.now) t.row };
 
     fn holds(&self, part: Part, table: &Value) -> bool {

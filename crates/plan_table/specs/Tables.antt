@@ -8,6 +8,8 @@ use Rattle.plan_table.specs.declared.rules.TableKind.{TableKind}
 use Rattle.plan_table.specs.declared.rules.TableKind.TheVariants.{Action, Item}
 use Rattle.plan_table.specs.declared.tables.TableTest.{TableTest}
 use Rattle.plan_table.specs.declared.tables.TableTest.TheVariants.{UnknownKey, WrongType, Missing, BadName}
+use Rattle.plan_table.specs.declared.tables.RuleTest.{RuleTest}
+use Rattle.plan_table.specs.declared.tables.RuleTest.TheVariants.{Mistyped, Lacking, Misformed}
 use Rattle.plan_table.specs.Forms.{Text}
 use Rattle.plan_table.specs.Values.{is_table, keys_of}
 use Rattle.plan_table.specs.Keys.{do_of, isolation_of, items_of}
@@ -65,6 +67,13 @@ is_misformed d r = option_map_or (λ value. not (has_form r.form value)) (get r.
 
 abbrev pub bad_name : TableKind → Data → Bool
 bad_name kind d = list_any (is_misformed d) (rules kind)
+
+-- ---- the tests of a rule
+
+abbrev pub fails : RuleTest → Data → Rule → Bool
+fails Mistyped = is_mistyped
+fails Lacking = is_lacking
+fails Misformed = is_misformed
 
 -- ---- the four
 

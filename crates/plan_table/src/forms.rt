@@ -1,6 +1,6 @@
 //! The forms of the texts of a plan.
 ghost use Rattle.std.specs.Prelude.{◌≡◌, not};
-ghost use Rattle.std.specs.List.{list_any, list_all};
+ghost use Rattle.std.specs.List.{list_all};
 ghost use Rattle.plan_table.specs.Forms.{is_letter_or_digit, is_joining, is_name_byte, has_length, has_byte, is_name, is_needle, is_executable, is_encoding, is_value, is_key};
 
 use item_actions::MAX_NEEDLE_BYTES;
@@ -47,7 +47,7 @@ fn has_length(bytes: &[u8], least: usize, most: usize) -> bool
 fn has_byte(bytes: &[u8], b: u8) -> bool
     ensures { result ≡ has_byte b bytes.now }
 {
-    bytes.iter().any(|c| *c == b)
+    bytes.contains(&b)
 }
 
 /// Whether the bytes have the form of a name: 1 to 64 bytes, each an ASCII letter, a digit, `_`, `-`,

@@ -6,7 +6,6 @@ mod document;
 mod forms;
 mod keys;
 mod laws;
-mod messages;
 mod refusal_places;
 mod refusals;
 mod rules;

@@ -6,7 +6,7 @@ ghost use Rattle.std.specs.Str.{bytes_eq};
 ghost use Rattle.toml.specs.View.{view};
 ghost use Rattle.plan_table.specs.Keys.{items_of};
 ghost use Rattle.plan_table.specs.Rules.{rule_of, rules};
-ghost use Rattle.plan_table.specs.Tables.{has_rule, has_other_key, counts, asks_for_process, has_idle_key, unknown_key, is_mistyped, wrong_type, is_lacking, lacks_more, missing, is_misformed, bad_name, holds};
+ghost use Rattle.plan_table.specs.Tables.{has_rule, has_other_key, counts, asks_for_process, has_idle_key, unknown_key, fails, wrong_type, lacks_more, missing, bad_name, holds};
 
 use crate::keys::{do_of, isolation_of, items_of};
 use crate::rules::{KeyRule, TableKind, has_form, has_type, rules_of};
@@ -19,6 +19,14 @@ pub(crate) enum TableTest {
     WrongType,
     Missing,
     BadName,
+}
+
+/// A test of what stands under the key of a rule.
+#[derive(Clone, Copy)]
+enum RuleTest {
+    Mistyped,
+    Lacking,
+    Misformed,
 }
 
 fn is_key_of_rule(rules: &[KeyRule], key: &str) -> bool
@@ -84,49 +92,34 @@ fn unknown_key(kind: TableKind, table: &Value) -> bool
     }
 }
 
-fn is_mistyped(table: &Value, rule: &KeyRule) -> bool
-    ensures { result ≡ is_mistyped (view table.now) (rule_of rule.now) }
+fn fails(test: RuleTest, table: &Value, rule: &KeyRule) -> bool
+    ensures { result ≡ fails test (view table.now) (rule_of rule.now) }
 {
-    match table.get(rule.key) {
-        Some(value) => !has_type(rule.form, value),
-        None => false,
+    match (test, table.get(rule.key)) {
+        (RuleTest::Mistyped, Some(value)) => !has_type(rule.form, value),
+        (RuleTest::Misformed, Some(value)) => !has_form(rule.form, value),
+        (RuleTest::Lacking, None) => rule.is_required,
+        _ => false,
     }
 }
 
-fn any_mistyped(table: &Value, rules: &[KeyRule]) -> bool
-    ensures { result ≡ list_any (λ r. is_mistyped (view table.now) (rule_of r)) rules.now }
+fn any_fails(test: RuleTest, table: &Value, rules: &[KeyRule]) -> bool
+    ensures { result ≡ list_any (λ r. fails test (view table.now) (rule_of r)) rules.now }
 {
-    rules.iter().any(|rule| is_mistyped(table, rule))
+    rules.iter().any(|rule| fails(test, table, rule))
 }
 
-fn has_mistyped(kind: TableKind, table: &Value) -> bool
-    ensures { result ≡ list_any (is_mistyped (view table.now)) (rules kind) }
+/// Whether the test holds of a rule for tables of this sort.
+fn any_fails_of(test: RuleTest, kind: TableKind, table: &Value) -> bool
+    ensures { result ≡ list_any (fails test (view table.now)) (rules kind) }
 {
-    any_mistyped(table, rules_of(kind))
+    any_fails(test, table, rules_of(kind))
 }
 
 fn wrong_type(kind: TableKind, table: &Value) -> bool
     ensures { result ≡ wrong_type kind (view table.now) }
 {
-    !table.is_table() || has_mistyped(kind, table)
-}
-
-fn is_lacking(table: &Value, rule: &KeyRule) -> bool
-    ensures { result ≡ is_lacking (view table.now) (rule_of rule.now) }
-{
-    rule.is_required && table.get(rule.key).is_none()
-}
-
-fn any_lacking(table: &Value, rules: &[KeyRule]) -> bool
-    ensures { result ≡ list_any (λ r. is_lacking (view table.now) (rule_of r)) rules.now }
-{
-    rules.iter().any(|rule| is_lacking(table, rule))
-}
-
-fn lacks_required(kind: TableKind, table: &Value) -> bool
-    ensures { result ≡ list_any (is_lacking (view table.now)) (rules kind) }
-{
-    any_lacking(table, rules_of(kind))
+    !table.is_table() || any_fails_of(RuleTest::Mistyped, kind, table)
 }
 
 #[tactic(auto, using(crate::proofs::Lists::length_of_view))]
@@ -149,28 +142,13 @@ fn lacks_more(kind: TableKind, table: &Value) -> bool
 fn missing(kind: TableKind, table: &Value) -> bool
     ensures { result ≡ missing kind (view table.now) }
 {
-    lacks_required(kind, table) || lacks_more(kind, table)
-}
-
-fn is_misformed(table: &Value, rule: &KeyRule) -> bool
-    ensures { result ≡ is_misformed (view table.now) (rule_of rule.now) }
-{
-    match table.get(rule.key) {
-        Some(value) => !has_form(rule.form, value),
-        None => false,
-    }
-}
-
-fn any_misformed(table: &Value, rules: &[KeyRule]) -> bool
-    ensures { result ≡ list_any (λ r. is_misformed (view table.now) (rule_of r)) rules.now }
-{
-    rules.iter().any(|rule| is_misformed(table, rule))
+    any_fails_of(RuleTest::Lacking, kind, table) || lacks_more(kind, table)
 }
 
 fn bad_name(kind: TableKind, table: &Value) -> bool
     ensures { result ≡ bad_name kind (view table.now) }
 {
-    any_misformed(table, rules_of(kind))
+    any_fails_of(RuleTest::Misformed, kind, table)
 }
 
 /// Whether the test holds of the table, or of another value that stands where it should.

@@ -100,7 +100,7 @@ pub(crate) fn table_of<'a>(value: Option<&'a Value>) -> Option<&'a Table>
 fn are_texts(values: &[Value]) -> bool
     ensures { result ≡ list_all (λ v. is_text (view v)) values.now }
 {
-    values.iter().all(|value| value.is_str())
+    values.iter().all(Value::is_str)
 }
 
 /// The members of an array, and none of another value.
@@ -125,7 +125,7 @@ pub(crate) fn is_array_of_texts(value: &Value) -> bool
 fn has_text_values(table: &Table) -> bool
     ensures { result ≡ list_all (λ v. is_text (view v)) (values table.now) }
 {
-    table.values().all(|value| value.is_str())
+    table.values().all(Value::is_str)
 }
 
 #[tactic(auto, using(crate::proofs::Lists::texts_of_table))]

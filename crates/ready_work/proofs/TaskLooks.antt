@@ -11,7 +11,7 @@ use Rattle.ready_work.specs.Choices.{CanSkip, IsStartable, IsUnended}
 use Rattle.ready_work.specs.NumberSetView.{has}
 use Rattle.ready_work.specs.Sets.{NoNumber, SameNumbers}
 use Rattle.ready_work.specs.StartableTasksView.{StartableTasksView}
-use Rattle.ready_work.specs.TaskSets.{AreTaskSets, AreTaskSetsBelow, HasClosedLocks, HasTaskRoom, LooksAt}
+use Rattle.ready_work.specs.TaskSets.{AreEmpty, AreTaskSets, AreTaskSetsBelow, HasClosedLocks, HasTaskRoom, LooksAt}
 use Rattle.ready_work.specs.declared.task_sets.TaskSets.{TaskSets}
 use Rattle.ready_work.proofs.Looking.{all_below, looks_fewer, looks_nowhere, looks_then, none_below, one_below, set_closed, set_looked, set_same}
 
@@ -66,12 +66,6 @@ unended_right g s t m false within is ended = (λ _. record { within = within; u
 unended_right g s t m true within is ended = (λ no_end. absurd (true≢false (sym no_end)), λ u. absurd (true≢false (ended ∙ ap has_ended is ∙ u.unended)))
 
 -- ---- all tasks are looked at, one after another
-
--- sets without a member
-pub record AreEmpty (sets : TaskSets) : Type 0 where
-  pub skippable : (k : ℕ) → has sets.skippable k ≡ false
-  pub startable : (k : ℕ) → has sets.startable.tasks k ≡ false
-  pub unended : (k : ℕ) → has sets.unended k ≡ false
 
 pub no_task_below : (g : GraphView) (s : StateView) (sets : TaskSets) → AreEmpty sets → AreTaskSetsBelow g s 0 sets
 no_task_below g s sets none = record {

@@ -26,6 +26,12 @@ pub record HasTaskRoom (tasks : ℕ) (sets : TaskSets) : Type 0 where
   pub startable : tasks ≤ room_of sets.startable.tasks
   pub unended : tasks ≤ room_of sets.unended
 
+-- sets without a member
+pub record AreEmpty (sets : TaskSets) : Type 0 where
+  pub skippable : (k : ℕ) → has sets.skippable k ≡ false
+  pub startable : (k : ℕ) → has sets.startable.tasks k ≡ false
+  pub unended : (k : ℕ) → has sets.unended k ≡ false
+
 -- the sets are those of the state, but for tasks that are left open
 pub record AreTaskSets (g : GraphView) (s : StateView) (Open : ℕ → Type 0) (sets : TaskSets) : Type 0 where
   pub skippable : IsSetOf (CanSkip g s) Open sets.skippable

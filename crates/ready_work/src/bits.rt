@@ -7,7 +7,7 @@ ghost use Rattle.ready_work.specs.WordBits.{bit_in, HasBit, IsInWord};
 use std::alloc::{AllocError, Global};
 
 /// Bits, numbered through all words.
-#[derive(Debug, Drop)]
+#[derive(Drop)]
 pub(crate) struct Bits {
     words: Vec<u64>,
 }

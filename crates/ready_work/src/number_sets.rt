@@ -9,7 +9,7 @@ use std::marker::Model;
 
 /// A set of numbers below a length that it is made with. Nothing but making it takes memory, and
 /// the lowest member is found in a few steps.
-#[derive(Debug, Drop)]
+#[derive(Drop)]
 pub struct NumberSet {
     /// A bit for each number, set where it is a member.
     members: Bits,

@@ -25,7 +25,7 @@ use task_ranks::dependents_at;
 
 /// The units that are queued, the tasks that can be skipped or started, and the units and tasks
 /// that haven't ended, of a graph and its state. It takes memory only when it is made.
-#[derive(Debug, Drop)]
+#[derive(Drop)]
 pub struct ReadyWork {
     tasks: TaskSets,
     queued: NumberSet,
@@ -41,10 +41,10 @@ impl ReadyWork {
         requires { BelongsTo graph.now state.now }
         ensures { IfOk result (IsIndexOf graph.now state.now) }
     {
+        let dependents = all_dependents(alloc, graph)?;
         let queued = queued_units(alloc, graph, state)?;
         let open_units = open_units(alloc, graph, state)?;
         let tasks = TaskSets::of(alloc, graph, state)?;
-        let dependents = all_dependents(alloc, graph)?;
         Ok(ReadyWork {
             tasks,
             queued,

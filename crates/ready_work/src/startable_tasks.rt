@@ -17,7 +17,7 @@ use std::marker::Model;
 
 /// The tasks whose marks allow a start, and the locks that nobody owns. Of each of these locks the
 /// lowest task is a head, and so the lowest head is the lowest task of all whose lock is free.
-#[derive(Debug, Drop)]
+#[derive(Drop)]
 pub(crate) struct StartableTasks {
     order: LockOrder,
     /// The places of the tasks.
@@ -48,13 +48,16 @@ impl StartableTasks {
         ensures empty { IfOk result (λ all. (t : ℕ) → has all.tasks t ≡ false) }
         ensures none_free { IfOk result (λ all. (l : ℕ) → has all.free l ≡ false) }
     {
-        let order = LockOrder::of(alloc, graph)?;
         let tasks = graph.tasks().len() as u32;
+        let places = NumberSet::new(alloc, tasks)?;
+        let free = NumberSet::new(alloc, graph.locks())?;
+        let heads = NumberSet::new(alloc, tasks)?;
+        let order = LockOrder::of(alloc, graph)?;
         Ok(StartableTasks {
             order,
-            places: NumberSet::new(alloc, tasks)?,
-            free: NumberSet::new(alloc, graph.locks())?,
-            heads: NumberSet::new(alloc, tasks)?,
+            places,
+            free,
+            heads,
         })
     }
 

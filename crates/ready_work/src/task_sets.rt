@@ -3,7 +3,7 @@ ghost use Rattle.std.specs.Prelude.{◌≡◌, ◌<◌, All, Contains, IfOk, len
 ghost use Rattle.resource_lock.specs.Fits.{Fits};
 ghost use Rattle.resource_lock.specs.Shape.{BelongsTo};
 ghost use Rattle.ready_work.specs.Sets.{NoNumber, SameNumbers};
-ghost use Rattle.ready_work.specs.TaskSets.{AreTaskSets, HasLocks, HasTaskRoom, LooksAt};
+ghost use Rattle.ready_work.specs.TaskSets.{AreEmpty, AreTaskSets, HasClosedLocks, HasLocks, HasTaskRoom, LooksAt};
 
 use crate::choices::{can_skip, is_startable};
 use crate::number_sets::NumberSet;
@@ -12,7 +12,7 @@ use resource_lock::{Graph, MarkId, State};
 use std::alloc::{AllocError, Global};
 
 /// The tasks that can be started, those that can be skipped, and those that haven't ended.
-#[derive(Debug, Drop)]
+#[derive(Drop)]
 pub(crate) struct TaskSets {
     pub(crate) startable: StartableTasks,
     pub(crate) skippable: NumberSet,
@@ -28,18 +28,44 @@ impl TaskSets {
         ensures locks { IfOk result (λ sets. HasLocks graph.now state.now sets.startable) }
         ensures fits { Fits graph.now }
     {
+        let mut sets = TaskSets::empty(alloc, graph)?;
+        sets.fill(graph, state);
+        Ok(sets)
+    }
+
+    /// No task and no free lock.
+    fn empty(alloc: Global, graph: &Graph) -> Result<TaskSets, AllocError>
+        ensures empty { IfOk result AreEmpty }
+        ensures room { IfOk result (HasTaskRoom (length graph.now.tasks)) }
+        ensures locks { IfOk result (λ sets. HasClosedLocks graph.now sets.startable) }
+        ensures fits { Fits graph.now }
+    {
         let count = graph.tasks().len() as u32;
-        let mut sets = TaskSets {
-            startable: StartableTasks::closed(alloc, graph)?,
-            skippable: NumberSet::new(alloc, count)?,
-            unended: NumberSet::new(alloc, count)?,
-        };
-        for task in 0..count {
-            sets.look_at(graph, state, task);
+        let skippable = NumberSet::new(alloc, count)?;
+        let unended = NumberSet::new(alloc, count)?;
+        let startable = StartableTasks::closed(alloc, graph)?;
+        Ok(TaskSets {
+            startable,
+            skippable,
+            unended,
+        })
+    }
+
+    /// Looks at each task and at each lock for the first time.
+    fn fill(&mut self, graph: &Graph, state: &State)
+        requires belongs { BelongsTo graph.now state.now }
+        requires empty { AreEmpty self.old }
+        requires room { HasTaskRoom (length graph.now.tasks) self.old }
+        requires closed { HasClosedLocks graph.now self.old.startable }
+        ensures sets { AreTaskSets graph.now state.now NoNumber self.new }
+        ensures room { HasTaskRoom (length graph.now.tasks) self.new }
+        ensures locks { HasLocks graph.now state.now self.new.startable }
+    {
+        for task in 0..graph.tasks().len() as u32 {
+            self.look_at(graph, state, task);
         }
         // While no lock was free, no head had to be looked for.
-        sets.startable.put_locks(graph, state);
-        Ok(sets)
+        self.startable.put_locks(graph, state);
     }
 
     /// Puts a task into the sets where it belongs, and into no other.

@@ -71,9 +71,9 @@ room_to_park {a} {s} {w} {v} l r sound =
 
 marks_fit : {a : Inside} {s : StateView} {w : WorkerId} {c : Change} {v : Held} → Reads a s w c v → (length s.tasks < 2 ^ 64) × (length s.actions < 2 ^ 64) × (length s.units < 2 ^ 64)
 marks_fit {a} r = (
-  omega (arith, ap (λ x. length x.tasks) r.view_is, a.tasks.ok.0, a.tasks.ok.1, a.tasks.small),
-  omega (arith, ap (λ x. length x.actions) r.view_is, a.actions.ok.0, a.actions.ok.1, a.actions.small),
-  omega (arith, ap (λ x. length x.units) r.view_is, a.units.ok.0, a.units.ok.1, a.units.small),
+  omega (arith, ap (λ x. length x.tasks) r.view_is, a.marks.tasks.ok.0, a.marks.tasks.ok.1, a.marks.tasks.small),
+  omega (arith, ap (λ x. length x.actions) r.view_is, a.marks.actions.ok.0, a.marks.actions.ok.1, a.marks.actions.small),
+  omega (arith, ap (λ x. length x.units) r.view_is, a.marks.units.ok.0, a.marks.units.ok.1, a.marks.units.small),
 )
 
 pub has_room : {a : Inside} {s : StateView} {w : WorkerId} {v : Held} (c : Change) → Reads a s w c v → IsSound a → HasRoom w v c

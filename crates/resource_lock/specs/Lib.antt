@@ -12,6 +12,7 @@ pub mod Made
 pub mod Parts
 pub mod Opening
 pub mod Holdings
+pub mod MarkLists
 pub mod Counting
 pub mod Shape
 pub mod Leading

@@ -2,7 +2,7 @@ use crate::ids::LockId;
 use crate::marks::{Mark, MarkId};
 
 /// A change of the state, made by one worker. It changes what its line says, and nothing else.
-#[derive(Clone, Copy, Debug, PartialEq, Eq)]
+#[derive(Clone, Copy, PartialEq, Eq)]
 pub enum Change {
     /// The worker becomes the owner of a lock that nobody owns.
     Lock(LockId),

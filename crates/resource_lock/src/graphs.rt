@@ -8,7 +8,7 @@ use crate::ids::LockId;
 use std::marker::Model;
 
 /// What a worker does with its project lock while it waits for an action's items.
-#[derive(Clone, Copy, Debug, PartialEq, Eq)]
+#[derive(Clone, Copy, PartialEq, Eq)]
 pub enum Retention {
     /// It keeps the lock.
     Retain,
@@ -54,7 +54,7 @@ impl Retention {
 }
 
 /// A task: its project lock, the tasks that it comes after, and its range of actions.
-#[derive(Debug, Drop)]
+#[derive(Drop)]
 pub struct GraphTask {
     pub lock: LockId,
     pub after: Vec<u32>,
@@ -64,7 +64,7 @@ pub struct GraphTask {
 
 /// An action: its task, the retention of the lock, and its range of units. Where it has a fetch,
 /// that is the first of them; the others are its items.
-#[derive(Clone, Copy, Debug)]
+#[derive(Clone, Copy)]
 pub struct GraphAction {
     pub task: u32,
     pub retention: Retention,
@@ -94,7 +94,7 @@ impl GraphAction {
 
 /// The locks, workers, leases, tasks, actions and units that a state belongs to. A graph always fits:
 /// its numbers are in range and within the limits, and its ranges follow one another.
-#[derive(Debug, Drop)]
+#[derive(Drop)]
 pub struct Graph {
     locks: u32,
     workers: u32,

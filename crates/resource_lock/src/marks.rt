@@ -1,7 +1,7 @@
 use crate::ids::WorkerId;
 
 /// What has a mark: a task, an action or a unit, by its number from 0.
-#[derive(Clone, Copy, Debug, PartialEq, Eq)]
+#[derive(Clone, Copy, PartialEq, Eq)]
 pub enum MarkId {
     Task(u32),
     Action(u32),
@@ -9,7 +9,7 @@ pub enum MarkId {
 }
 
 /// How far a task, an action or a unit has come.
-#[derive(Clone, Copy, Debug, PartialEq, Eq)]
+#[derive(Clone, Copy, PartialEq, Eq)]
 pub enum Mark {
     /// Not begun.
     Waiting,

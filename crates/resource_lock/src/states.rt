@@ -1,26 +1,25 @@
 use crate::ids::WorkerId;
-use crate::marks::Mark;
 use held::Held;
+use mark_lists::MarkLists;
 use std::marker::Model;
 
 mod asking;
 mod changing;
 mod held;
+mod mark_lists;
 mod opening;
 mod owned;
 mod reading;
 mod trying;
 
 /// Who owns each lock, what each worker has, and how far each task, action and unit has come.
-#[derive(Debug, Drop)]
+#[derive(Drop)]
 pub struct State {
     max_leases: u32,
     owners: Vec<Option<WorkerId>>,
     held: Vec<Held>,
     out: u32,
-    tasks: Vec<Mark>,
-    actions: Vec<Mark>,
-    units: Vec<Mark>,
+    marks: MarkLists,
 }
 
 impl Model for State {

@@ -1,20 +1,21 @@
-//! The call that a case asks for, and what is printed of it.
+//! The calls of the program that a case asks for.
 ghost use Rattle.std.specs.Prelude.{◌≡◌, All, IfOk, Some, length};
 ghost use Rattle.worker_desk.specs.Folders.{folder_of};
 ghost use Rattle.daemon_desk.specs.MemoryDeskView.{known_files};
 ghost use Rattle.leases_cli.specs.declared.top.TheConstants.{DESKS};
 
 use crate::cases::Case;
+use crate::each::Each;
+use crate::pieces::InPieces;
 use anyhow::Result;
 use daemon_desk::MemoryDesk;
-use item_actions::Text;
+use item_actions::Outcome;
 use leases_cli::{DESKS, Ended, Status, leases};
 use lock_journal::Book;
-use sha2::{Digest, Sha256};
 use std::alloc::{AllocError, Global};
 use std::sync::Wait;
 use std::thread::Threads;
-use worker_desk::{FileEntry, FileMap, MeetingGate, MemorySink, MemorySource};
+use worker_desk::{FileEntry, FileMap, MeetingGate, MemorySink, MemorySource, Source};
 
 /// An equal file.
 fn copy_of(alloc: Global, file: &FileEntry) -> Result<FileEntry, AllocError>
@@ -27,7 +28,7 @@ fn copy_of(alloc: Global, file: &FileEntry) -> Result<FileEntry, AllocError>
 }
 
 /// Equal files.
-fn copies_of(alloc: Global, files: &[FileEntry]) -> Result<Vec<FileEntry>, AllocError>
+pub(crate) fn copies_of(alloc: Global, files: &[FileEntry]) -> Result<Vec<FileEntry>, AllocError>
     ensures { IfOk result (λ copies. folder_of copies.items ≡ folder_of files.now) }
 {
     let mut copies = Vec::with_capacity(alloc, files.len())?;
@@ -37,48 +38,109 @@ fn copies_of(alloc: Global, files: &[FileEntry]) -> Result<Vec<FileEntry>, Alloc
     Ok(copies)
 }
 
-/// A desk of these files. Its calls of the numbers in `failing` fail.
-fn desk_of(alloc: Global, files: &[FileEntry], failing: Vec<u64>) -> Result<MemoryDesk, AllocError>
-    ensures { IfOk result (λ desk. known_files desk ≡ Some (folder_of files.now)) }
-{
-    let files = FileMap::new(copies_of(alloc, files)?);
-    Ok(MemoryDesk::new(alloc, files, failing, Vec::new(alloc)))
+/// The numbers of the calls of a desk that fail.
+fn failing_calls(alloc: Global, case: &Case, desk: usize) -> Result<Vec<u64>> {
+    let calls = format!(in alloc; "desk {desk} ")?;
+    case.failing(alloc, calls.as_str())
 }
 
-/// Desks that all have these files. The first one's calls of the numbers in `failing` fail.
-fn desks_of(
-    alloc: Global,
-    files: &[FileEntry],
-    failing: Vec<u64>,
-) -> Result<Vec<MemoryDesk>, AllocError>
+/// The desk of this number.
+fn desk_of(alloc: Global, case: &Case, number: usize) -> Result<MemoryDesk>
+    ensures { IfOk result (λ desk. known_files desk ≡ Some (folder_of case.now.files.items)) }
+{
+    let failing = failing_calls(alloc, case, number)?;
+    let files = copies_of(alloc, &case.files)?;
+    Ok(MemoryDesk::new(alloc, FileMap::new(files), failing, Vec::new(alloc)))
+}
+
+/// A desk for each thread that a run may have.
+fn desks_of(alloc: Global, case: &Case) -> Result<Vec<MemoryDesk>>
     ensures count { IfOk result (λ desks. length desks.items ≡ DESKS) }
-    ensures files { IfOk result (λ desks. All (λ desk. known_files desk ≡ Some (folder_of files.now)) desks.items) }
+    ensures files { IfOk result (λ desks. All (λ desk. known_files desk ≡ Some (folder_of case.now.files.items)) desks.items) }
 {
     let mut desks = Vec::with_capacity(alloc, DESKS)?;
-    desks.push(desk_of(alloc, files, failing)?)?;
-    for _ in 1..DESKS {
-        desks.push(desk_of(alloc, files, Vec::new(alloc))?)?;
+    for number in 0..DESKS {
+        desks.push(desk_of(alloc, case, number)?)?;
     }
     Ok(desks)
 }
 
-/// How many calls of the desks failed.
-fn desk_faults(desks: &[MemoryDesk]) -> u128 {
-    let mut faults = 0u128;
-    for desk in desks {
-        faults = faults.saturating_add(u128::from(desk.count()));
+/// The bytes of the input of the call of this number.
+fn input_of(alloc: Global, case: &Case, number: usize) -> Result<Vec<u8>, AllocError> {
+    match case.each {
+        Some(each) => each.input(alloc, &case.input, number),
+        None => Vec::from_slice(alloc, &case.input),
     }
-    faults
 }
 
-/// Whether each byte is a line's end or can be seen.
-fn is_text(bytes: &[u8]) -> bool {
-    bytes
-        .iter()
-        .all(|byte| *byte == b'\n' || (*byte >= b' ' && *byte <= b'~'))
+/// The numbers of the calls of the input that fail.
+fn failing_takes(alloc: Global, case: &Case, number: usize) -> Result<Vec<u64>> {
+    match case.each {
+        Some(Each::Take) => Ok(Vec::from_slice(alloc, &[number as u64])?),
+        _ => case.failing(alloc, "take "),
+    }
 }
 
-/// How many entries of a book finished. That number is the plan's; failed entries come as threads meet.
+/// The numbers of the calls of the output that fail.
+fn failing_puts(alloc: Global, case: &Case, number: usize) -> Result<Vec<u64>> {
+    match case.each {
+        Some(Each::Put) => Ok(Vec::from_slice(alloc, &[number as u64])?),
+        _ => case.failing(alloc, "put "),
+    }
+}
+
+fn source_of(alloc: Global, case: &Case, number: usize) -> Result<InPieces<MemorySource>> {
+    let failing = failing_takes(alloc, case, number)?;
+    let bytes = input_of(alloc, case, number)?;
+    Ok(InPieces {
+        inner: MemorySource::new(bytes, failing),
+        most: case.limits.piece as usize,
+    })
+}
+
+/// The output of the call of this number.
+pub(crate) fn sink_of(alloc: Global, case: &Case, number: usize) -> Result<InPieces<MemorySink>> {
+    let failing = failing_puts(alloc, case, number)?;
+    Ok(InPieces {
+        inner: MemorySink::new(alloc, case.limits.room, failing)?,
+        most: case.limits.piece as usize,
+    })
+}
+
+/// What is told of the run of a book.
+#[derive(Clone, Copy)]
+pub(crate) struct Run {
+    pub(crate) entries: u64,
+    /// How many entries finished. That number is the plan's; failed entries come as threads meet.
+    pub(crate) finished: u64,
+    /// How many units met a fault.
+    pub(crate) faults: u64,
+    pub(crate) workers: u32,
+    pub(crate) max_leases: u32,
+    pub(crate) locks: u32,
+}
+
+/// What is told of a call, but for what it wrote.
+#[derive(Clone, Copy)]
+pub(crate) struct Answer {
+    /// The number of its status.
+    pub(crate) status: u8,
+    /// The place of a bad frame.
+    pub(crate) place: Option<u64>,
+    /// The run, if one ended.
+    pub(crate) run: Option<Run>,
+    /// How many calls of the desks failed.
+    pub(crate) desk_faults: u64,
+    /// How many calls of the input failed.
+    pub(crate) input_faults: u64,
+    /// How many bytes of the input were left, up to 64.
+    pub(crate) left: u64,
+    /// How many requests the desks sent.
+    pub(crate) sent: u64,
+    /// Whether two items ran at once, where the case asks for that.
+    pub(crate) met: bool,
+}
+
 fn finished_entries(book: &Book) -> u64 {
     let mut finished = 0u64;
     for place in 0..book.len() {
@@ -89,169 +151,107 @@ fn finished_entries(book: &Book) -> u64 {
     finished
 }
 
-/// Prints how a call ended: its status, with the place of a bad frame, and how many entries of its book finished.
-fn print_end(rt: &HostRuntime, ended: &Ended) -> Result<()> {
-    print!(rt; "status {}", ended.status.number())?;
-    if let Status::BadFrame(place) = ended.status {
-        print!(rt; " at {place}")?;
-    }
-    if let Some(book) = &ended.book {
-        print!(rt; ", {} entries", finished_entries(book))?;
-    }
-    Ok(())
-}
-
-/// Prints the digest of what was written.
-fn print_digest(rt: &HostRuntime, bytes: &[u8]) -> Result<()> {
-    let digest = Sha256::digest(bytes);
-    let digest = hex::encode(rt.alloc(), digest)?;
-    println!(rt; ", {} bytes, digest {digest}", bytes.len())?;
-    Ok(())
-}
-
-/// Prints what was written: as it stands where it is a text, and else in hexadecimal digits.
-fn print_output(rt: &HostRuntime, bytes: &[u8]) -> Result<()> {
-    println!(rt; ", {} bytes", bytes.len())?;
-    match str::from_utf8(bytes) {
-        Ok(text) if is_text(bytes) => {
-            print!(rt; "{text}")?;
-            if !text.is_empty() && !text.ends_with('\n') {
-                println!(rt;)?;
-            }
+fn faults_in(book: &Book) -> u64 {
+    let mut faults = 0u64;
+    for unit in 0..book.graph().units() {
+        if matches!(book.outcome(unit), Some(Outcome::Fault)) {
+            faults = faults.saturating_add(1);
         }
-        _ => println!(rt; "{}", hex::encode(rt.alloc(), bytes)?)?,
     }
-    Ok(())
+    faults
 }
 
-/// Makes the call of the program at desks that all have these files, and says how many calls of the desks failed.
-/// No clause speaks of it: what it does is printed and compared.
-fn call_at_desks<T: Threads + Wait + Sync>(
-    threads: &T,
-    alloc: Global,
-    case: (&[Text], &[FileEntry], Vec<u64>),
+fn run_of(book: &Book) -> Run {
+    let graph = book.graph();
+    Run {
+        entries: book.len(),
+        finished: finished_entries(book),
+        faults: faults_in(book),
+        workers: graph.workers(),
+        max_leases: graph.max_leases(),
+        locks: graph.locks(),
+    }
+}
+
+fn run_in(ended: &Ended) -> Option<Run> {
+    match &ended.book {
+        Some(book) => Some(run_of(book)),
+        None => None,
+    }
+}
+
+/// The place of a bad frame.
+fn place_in(status: &Status) -> Option<u64> {
+    match status {
+        Status::BadFrame(place) => Some(*place),
+        _ => None,
+    }
+}
+
+/// How many calls of the desks failed.
+fn desk_faults(desks: &[MemoryDesk]) -> u64 {
+    let mut faults = 0u64;
+    for desk in desks {
+        faults = faults.saturating_add(desk.count());
+    }
+    faults
+}
+
+/// How many requests the desks sent.
+fn requests(desks: &[MemoryDesk]) -> u64 {
+    let mut sent = 0u64;
+    for desk in desks {
+        sent = sent.saturating_add(desk.sent().len() as u64);
+    }
+    sent
+}
+
+/// How many bytes are left, up to 64.
+fn bytes_left(input: &mut MemorySource) -> u64 {
+    let mut buffer = [0u8; 64];
+    input.take(&mut buffer).unwrap_or(0) as u64
+}
+
+/// What is told of a call that ended.
+fn answer_of(
+    ended: &Ended,
+    desks: &[MemoryDesk],
     input: &mut MemorySource,
     gate: &MeetingGate,
-    out: &mut MemorySink,
-) -> Result<(Ended, u128), AllocError> {
-    let (words, files, failing_calls) = case;
-    let mut desks = desks_of(alloc, files, failing_calls)?;
-    let ended = leases(threads, alloc, words, &mut desks, input, gate, out);
-    Ok((ended, desk_faults(&desks)))
-}
-
-/// Whether the program itself finds what a run of the words printed lawful, with as many entries as the run's book has.
-/// None says that no history was asked for, or that the run didn't end.
-fn is_found_lawful<T: Threads + Wait + Sync>(
-    threads: &T,
-    alloc: Global,
-    words: &[Text],
-    files: &[FileEntry],
-    ended: &Ended,
-    printed: &[u8],
-) -> Result<Option<bool>> {
-    let (Some(book), Status::Passed | Status::TaskFailed) = (&ended.book, ended.status) else {
-        return Ok(None);
-    };
-    if !words.iter().any(|word| word.as_str() == "--history") {
-        return Ok(None);
+) -> Answer {
+    let input_faults = input.count();
+    Answer {
+        status: ended.status.number(),
+        place: place_in(&ended.status),
+        run: run_in(ended),
+        desk_faults: desk_faults(desks),
+        input_faults,
+        left: bytes_left(input),
+        sent: requests(desks),
+        met: gate.met(),
     }
-    let Some(plan) = words.iter().find(|word| names_file(files, word)) else {
-        return Ok(None);
-    };
-    let mut check = Vec::with_capacity(alloc, 2)?;
-    check.push(Text::from_str(alloc, "check")?)?;
-    check.push(plan.copy(alloc)?)?;
-    let mut input = MemorySource::new(Vec::from_slice(alloc, printed)?, Vec::new(alloc));
-    let mut out = MemorySink::limited(alloc, u64::from(u32::MAX))?;
-    let at_desks = (check.as_slice(), files, Vec::new(alloc));
-    call_at_desks(
-        threads,
-        alloc,
-        at_desks,
-        &mut input,
-        &MeetingGate::new(0),
-        &mut out,
-    )?;
-    let lawful = format!(in alloc; "lawful {}\n", book.len())?;
-    Ok(Some(out.taken() == lawful.as_bytes()))
 }
 
-/// Whether one of the files has this name.
-fn names_file(files: &[FileEntry], name: &Text) -> bool {
-    files.iter().any(|file| file.name.as_str() == name.as_str())
-}
-
-/// What a call answered.
-#[derive(Drop)]
-pub(crate) struct Answer {
-    ended: Ended,
-    /// Whether its history, if one was asked for, is found lawful.
-    lawful: Option<bool>,
-    /// How many calls of the outside failed.
-    faults: u128,
-    /// Whether two items ran at once, where the case asks for that.
-    met: bool,
-    out: MemorySink,
-    /// Whether of what was written the digest is printed.
-    digest: bool,
-}
-
-/// Makes the call of a case, and has the history checked that it printed.
+/// Makes the call of this number at desks that all have the case's files.
+/// No clause speaks of it: what it does is printed and compared.
 pub(crate) fn answer_to<T: Threads + Wait + Sync>(
     threads: &T,
     alloc: Global,
-    case: Case,
+    case: &Case,
+    number: usize,
+    out: &mut InPieces<MemorySink>,
 ) -> Result<Answer> {
-    let Case {
-        words,
-        files,
-        failing_calls,
-        input,
-        failing_takes,
-        room,
-        failing_puts,
-        turns,
-        digest,
-    } = case;
-    let gate = MeetingGate::new(turns);
-    let mut input = MemorySource::new(input, failing_takes);
-    let mut out = MemorySink::new(alloc, room, failing_puts)?;
-    let at_desks = (words.as_slice(), files.as_slice(), failing_calls);
-    let (ended, desk_faults) = call_at_desks(
-        threads, alloc, at_desks, &mut input, &gate, &mut out,
-    )?;
-    let others = u128::from(input.count()) + u128::from(out.count());
-    let lawful = is_found_lawful(threads, alloc, &words, &files, &ended, out.taken())?;
-    Ok(Answer {
-        ended,
-        lawful,
-        faults: desk_faults.saturating_add(others),
-        met: gate.met(),
+    let mut desks = desks_of(alloc, case)?;
+    let mut input = source_of(alloc, case, number)?;
+    let gate = MeetingGate::new(case.limits.turns);
+    let ended = leases(
+        threads,
+        alloc,
+        &case.words,
+        &mut desks,
+        &mut input,
+        &gate,
         out,
-        digest,
-    })
-}
-
-/// Prints the case's name, how its call ended, whether the history that it printed is found lawful, how many calls of the
-/// outside failed, whether two items met, and what was written.
-pub(crate) fn print_answer(rt: &HostRuntime, name: &str, answer: &Answer) -> Result<()> {
-    println!(rt; "=== {name}")?;
-    print_end(rt, &answer.ended)?;
-    match answer.lawful {
-        Some(true) => print!(rt; ", lawful")?,
-        Some(false) => print!(rt; ", not found lawful")?,
-        None => {}
-    }
-    if answer.faults > 0 {
-        print!(rt; ", {} faults", answer.faults)?;
-    }
-    if answer.met {
-        print!(rt; ", two items met")?;
-    }
-    if answer.digest {
-        print_digest(rt, answer.out.taken())
-    } else {
-        print_output(rt, answer.out.taken())
-    }
+    );
+    Ok(answer_of(&ended, &desks, &mut input.inner, &gate))
 }

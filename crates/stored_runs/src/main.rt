@@ -5,54 +5,64 @@
 //! `cases.rt` says what the sections mean.
 #![tactic(auto)]
 
+mod answers;
 mod calls;
 mod cases;
+mod each;
+mod lines;
+mod pieces;
+mod rows;
+mod sections;
 
-use crate::calls::{answer_to, print_answer};
-use crate::cases::Case;
+use crate::answers::run_once;
+use crate::cases::{Case, case_of};
+use crate::rows::run_each;
+use crate::sections::sections_of;
 use anyhow::Result;
-use std::alloc::Global;
 use std::sync::Wait;
 use std::thread::Threads;
 use std::{env, fs};
 
-/// The case whose sections these texts have.
-fn case_of(alloc: Global, shared: &str, part: &str) -> Result<Case> {
-    let mut case = Case::new(alloc);
-    case.add_sections(alloc, shared)?;
-    case.add_sections(alloc, part)?;
-    Ok(case)
+/// Makes the calls of a case, and prints what they answered.
+fn run_case<T: Threads + Wait + Sync>(rt: &HostRuntime, threads: &T, case: &Case) -> Result<()> {
+    match case.each {
+        Some(each) => run_each(rt, threads, case, each),
+        None => run_once(rt, threads, case),
+    }
 }
 
-/// Makes the call of a case, and prints what it answered.
-fn run_case<T: Threads + Wait + Sync>(
+/// Makes the calls of a case that has a part of a case file, besides the part that all cases have.
+fn run_part<T: Threads + Wait + Sync>(
     rt: &HostRuntime,
     threads: &T,
     shared: &str,
     part: &str,
 ) -> Result<()> {
-    let case = case_of(rt.alloc(), shared, part)?;
-    let answer = answer_to(threads, rt.alloc(), case)?;
-    print_answer(rt, part.lines().next().unwrap_or(""), &answer)
+    println!(rt; "=== {}", part.lines().next().unwrap_or(""))?;
+    let sections = sections_of(rt.alloc(), shared, part)?;
+    let case = case_of(rt.alloc(), &sections)?;
+    run_case(rt, threads, &case)
 }
 
 /// Makes the calls of a case file, in order.
-fn run_file<T: Threads + Wait + Sync>(rt: &HostRuntime, threads: &T, text: &str) -> Result<()> {
-    let text = text.strip_suffix('\n').unwrap_or(text);
+fn run_text<T: Threads + Wait + Sync>(rt: &HostRuntime, threads: &T, text: &str) -> Result<()> {
     let mut parts = text.split("\n=== ");
-    let Some(shared) = parts.next() else {
-        return Ok(());
-    };
+    let shared = parts.next().unwrap_or("");
     for part in parts {
-        run_case(rt, threads, shared, part)?;
+        run_part(rt, threads, shared, part)?;
     }
     Ok(())
 }
 
+/// Makes the calls of the case file of this name.
+fn run_file<T: Threads + Wait + Sync>(rt: &HostRuntime, threads: &T, name: &str) -> Result<()> {
+    let text = fs::read_to_string(rt, name)?;
+    run_text(rt, threads, text.as_str())
+}
+
 fn main(rt: HostRuntime) -> Result<()> {
-    for arg in env::args(&rt)?.skip(1) {
-        let text = fs::read_to_string(&rt, arg.as_str())?;
-        run_file(&rt, &rt, text.as_str())?;
+    for name in env::args(&rt)?.skip(1) {
+        run_file(&rt, &rt, name.as_str())?;
     }
     Ok(())
 }

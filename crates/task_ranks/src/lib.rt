@@ -21,6 +21,3 @@ pub fn first_cycle_is_unique()
 pub fn ranks_give_a_numbering()
     ensures { (d : Dependencies) → InRange d → IsFirstCycle d None → (number : ℕ → ℕ) × IsNumbering d number }
 {}
-
-#[cfg(test)]
-mod tests;

@@ -4,6 +4,3 @@
 mod items;
 
 pub use items::{run_item, work_in_thread};
-
-#[cfg(test)]
-mod tests;

@@ -4,7 +4,7 @@
 ///
 /// Each entry wakes one of those for whom what they wait for has come. So who is woken makes an entry
 /// next, or asks again.
-#[derive(Clone, Copy, Debug, PartialEq, Eq)]
+#[derive(Clone, Copy)]
 pub enum Awaited {
     /// An item to claim or a task to start, with a lease for it, a task to skip, or the end of all
     /// tasks. The last wakes all.

@@ -12,7 +12,7 @@ use lock_journal::Book;
 use resource_lock::WorkerId;
 
 /// The workers to wake of those that sleep until what they wait for comes.
-#[derive(Clone, Copy, Debug, PartialEq, Eq)]
+#[derive(Clone, Copy, PartialEq, Eq)]
 pub enum Woken {
     /// None of them.
     Nobody,

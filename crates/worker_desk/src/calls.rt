@@ -4,7 +4,7 @@ ghost use Rattle.worker_desk.specs.Calls.{no_calls, next_fails, after_call};
 use std::marker::Model;
 
 /// The calls on an object in memory, numbered from 0.
-#[derive(Debug, Drop)]
+#[derive(Drop)]
 pub struct Calls {
     failing: Vec<u64>,
     made: u64,

@@ -11,7 +11,7 @@ use std::marker::Model;
 const FIRST_ROOM: u64 = 1024;
 
 /// A file's bytes, in a room that may be longer than they are. Its reader can use the room again.
-#[derive(Debug, Drop)]
+#[derive(Drop)]
 pub struct FileBytes {
     room: Vec<u8>,
     filled: usize,

@@ -10,14 +10,14 @@ use std::alloc::{AllocError, Global};
 use std::marker::Model;
 
 /// A file: its name and its bytes.
-#[derive(Debug, Drop)]
+#[derive(Drop)]
 pub struct FileEntry {
     pub name: Text,
     pub bytes: Vec<u8>,
 }
 
 /// Files by name. Of two entries of one name the first counts.
-#[derive(Debug, Drop)]
+#[derive(Drop)]
 pub struct FileMap {
     entries: Vec<FileEntry>,
 }

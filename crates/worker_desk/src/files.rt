@@ -12,7 +12,7 @@ use std::io::ErrorKind;
 use thiserror::Error;
 
 /// What there is under a file's name.
-#[derive(Debug, Drop)]
+#[derive(Drop)]
 pub enum Read {
     /// The file's bytes.
     Bytes(FileBytes),

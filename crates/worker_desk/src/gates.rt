@@ -10,7 +10,7 @@ pub trait Gate {
 }
 
 /// A gate that holds nobody.
-#[derive(Clone, Copy, Debug, Drop)]
+#[derive(Clone, Copy)]
 pub struct OpenGate;
 
 impl Gate for OpenGate {

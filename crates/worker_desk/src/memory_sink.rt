@@ -9,7 +9,7 @@ use std::cmp::min;
 use std::marker::Model;
 
 /// A sink that keeps the bytes that it takes. Its memory is taken when it is made.
-#[derive(Debug, Drop)]
+#[derive(Drop)]
 pub struct MemorySink {
     bytes: Vec<u8>,
     room: usize,

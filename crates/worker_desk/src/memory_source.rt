@@ -10,7 +10,7 @@ use std::cmp::min;
 use std::marker::Model;
 
 /// A source whose bytes are in memory, and known to contracts.
-#[derive(Debug, Drop)]
+#[derive(Drop)]
 pub struct MemorySource {
     bytes: Vec<u8>,
     taken: usize,

@@ -7,7 +7,7 @@ use std::io::{Error, ErrorKind};
 const MAX_RETRIES: u32 = 1000;
 
 /// The retries that are left.
-#[derive(Clone, Copy, Debug)]
+#[derive(Clone, Copy)]
 pub(crate) struct Retries {
     left: u32,
 }

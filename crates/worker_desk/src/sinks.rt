@@ -5,7 +5,7 @@ ghost use Rattle.worker_desk.specs.SinkView.{SinkView, Rises, Prints};
 use thiserror::Error;
 
 /// The outside failed, and the count of its faults rose.
-#[derive(Clone, Copy, Debug, PartialEq, Eq, Error)]
+#[derive(Clone, Copy, Debug, Error)]
 #[error("the outside failed")]
 pub struct Failed;
 

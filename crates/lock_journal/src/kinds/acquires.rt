@@ -12,7 +12,7 @@ use crate::transforms::{Disposition, Transform};
 use resource_lock::{Graph, LockId, State, WorkerId};
 
 /// What becomes of an `Acquire` that can't have all that it takes.
-#[derive(Clone, Copy, Debug, PartialEq, Eq)]
+#[derive(Clone, Copy)]
 pub enum Shortage {
     /// It asks to be run again.
     Waits,
@@ -27,7 +27,7 @@ pub enum Shortage {
 /// are out. It then fails or asks to be run again, as `shortage` says. It asks to be run again where
 /// the worker is blocked or runs anything, where it has parked one of the locks, and where the graph
 /// has no such lock.
-#[derive(Clone, Copy, Debug)]
+#[derive(Clone, Copy)]
 pub struct Acquire<'a> {
     /// The locks.
     pub locks: &'a [LockId],

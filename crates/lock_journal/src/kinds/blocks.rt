@@ -30,7 +30,7 @@ use resource_lock::{Change, Graph, MAX_LOCKS, Mark, MarkId, State, WorkerId};
 /// unit. With one it does where the unit isn't a fetch, where the worker doesn't work on its task,
 /// where an earlier action or one of its units hasn't passed, where the action or the fetch isn't
 /// Waiting, and where the graph has no such unit.
-#[derive(Clone, Copy, Debug)]
+#[derive(Clone, Copy)]
 pub struct Block {
     /// The fetch, by its number among the units.
     pub unit: Option<u32>,

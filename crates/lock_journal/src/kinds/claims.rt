@@ -18,7 +18,7 @@ use resource_lock::{Change, Graph, Mark, MarkId, State, WorkerId};
 /// It fails where the unit isn't Queued, as after another worker's claim. It asks to be run again
 /// where it is Queued and no lease is free, where the worker has one, is blocked, runs a unit, or is
 /// neither idle nor parked, where the unit is a fetch, and where the graph has no such unit.
-#[derive(Clone, Copy, Debug)]
+#[derive(Clone, Copy)]
 pub struct Claim {
     /// The item, by its number among the units.
     pub unit: u32,

@@ -17,7 +17,7 @@ use resource_lock::{Change, Graph, Mark, MarkId, State, WorkerId};
 ///
 /// It never fails. It asks to be run again where the unit isn't an item that the worker runs, where
 /// the worker has no lease, and where the graph has no such unit or the outcome is Skipped.
-#[derive(Clone, Copy, Debug)]
+#[derive(Clone, Copy)]
 pub struct Close {
     /// The item, and what it gave.
     pub closed: Closed,

@@ -35,7 +35,7 @@ use resource_lock::{
 /// It never fails. It asks to be run again where the worker doesn't run the task, is parked, blocked
 /// or runs a unit, where an action neither has passed nor never ran, where the worker has a lease
 /// and doesn't own the lock, and where the graph has no such task.
-#[derive(Clone, Copy, Debug)]
+#[derive(Clone, Copy)]
 pub struct End {
     /// The task's number.
     pub task: u32,

@@ -45,7 +45,7 @@ pub(crate) trait FixedKind {
 }
 
 /// How far an entry came.
-#[derive(Clone, Copy, Debug, PartialEq, Eq)]
+#[derive(Clone, Copy)]
 pub(crate) enum Progress {
     /// All its changes were made.
     Made,

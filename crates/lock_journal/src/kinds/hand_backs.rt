@@ -15,7 +15,7 @@ use resource_lock::{Graph, MAX_LOCKS, State, WorkerId};
 ///
 /// It never fails. It asks to be run again where the worker has nothing to give back, where it is
 /// blocked, and where it runs anything.
-#[derive(Clone, Copy, Debug)]
+#[derive(Clone, Copy)]
 pub struct HandBack;
 
 impl Transform for HandBack {

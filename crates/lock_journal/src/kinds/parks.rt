@@ -21,7 +21,7 @@ use resource_lock::{Change, Graph, LockId, Mark, MarkId, Retention, State, Worke
 /// It never fails. It asks to be run again where the worker doesn't work on the action's task, where
 /// the action isn't Queued, where the worker doesn't own a lock that it is to park, and where the
 /// graph has no such action.
-#[derive(Clone, Copy, Debug)]
+#[derive(Clone, Copy)]
 pub struct Park {
     /// The action's number.
     pub action: u32,

@@ -8,7 +8,7 @@ ghost use Rattle.resource_lock.specs.Ranges.{IsActionOf, units_in, first_item, t
 use resource_lock::{Graph, GraphAction, LockId};
 
 /// Numbers in a row: so many from the first on.
-#[derive(Clone, Copy, Debug)]
+#[derive(Clone, Copy)]
 pub(crate) struct Span {
     pub first: u32,
     pub count: u32,

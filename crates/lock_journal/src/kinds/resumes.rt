@@ -23,7 +23,7 @@ use resource_lock::{Change, Graph, LockId, Mark, MarkId, Retention, State, Worke
 /// It never fails. It asks to be run again where the worker isn't parked on the action, has a lease
 /// or runs a unit, where an item hasn't ended, where the lock is owned or no lease is free, and
 /// where the graph has no such action.
-#[derive(Clone, Copy, Debug)]
+#[derive(Clone, Copy)]
 pub struct Resume {
     /// The action's number.
     pub action: u32,

@@ -20,7 +20,7 @@ use resource_lock::{
 ///
 /// It fails where the task isn't such a one, where the worker isn't idle, and where one of the marks
 /// isn't Waiting. It asks to be run again only where the graph has no such task.
-#[derive(Clone, Copy, Debug)]
+#[derive(Clone, Copy)]
 pub struct Skip {
     /// The task's number.
     pub task: u32,

@@ -16,7 +16,7 @@ use resource_lock::{Change, Graph, Mark, MarkId, State, WorkerId};
 ///
 /// It fails where the task isn't such a one, where the worker isn't idle, and where the lock is
 /// owned or no lease is free. It asks to be run again only where the graph has no such task.
-#[derive(Clone, Copy, Debug)]
+#[derive(Clone, Copy)]
 pub struct Start {
     /// The task's number.
     pub task: u32,

@@ -20,7 +20,7 @@ use resource_lock::{Change, Graph, MAX_UNITS, Mark, MarkId, State, WorkerId};
 /// It never fails. It asks to be run again where the worker doesn't work on the task, where an
 /// earlier action or one of its units hasn't passed, where the action's fetch hasn't ended, where
 /// the action or one of its items isn't Waiting, and where the graph has no such action.
-#[derive(Clone, Copy, Debug)]
+#[derive(Clone, Copy)]
 pub struct Submit {
     /// The action's number.
     pub action: u32,

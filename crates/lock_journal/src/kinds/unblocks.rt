@@ -27,7 +27,7 @@ use resource_lock::{Change, Graph, MAX_LOCKS, Mark, MarkId, State, WorkerId};
 /// It never fails. It asks to be run again where the worker isn't blocked, where one of the locks is
 /// owned or no lease is free, where the worker runs a unit other than the fetch, and where the graph
 /// has no such unit or the outcome is Skipped.
-#[derive(Clone, Copy, Debug)]
+#[derive(Clone, Copy)]
 pub struct Unblock {
     /// The fetch, and what it gave.
     pub closed: Option<Closed>,

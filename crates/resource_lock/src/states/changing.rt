@@ -1,13 +1,13 @@
 //! The changes that a worker can make, and how they are taken back.
-ghost use Rattle.std.specs.Prelude.{◌≡◌, IsTrue};
+ghost use Rattle.std.specs.Prelude.{◌≡◌, ◌&&◌, not, IsTrue};
 ghost use Rattle.resource_lock.specs.StateView.{StateView, IsWorkerOf};
-ghost use Rattle.resource_lock.specs.Change.{can, make, names_only, NamesOnly};
+ghost use Rattle.resource_lock.specs.Change.{can, make, names_only, same_mark, NamesOnly};
 ghost use Rattle.resource_lock.specs.Leading.{CameFrom};
 
 use super::State;
 use crate::changes::Change;
 use crate::ids::WorkerId;
-use crate::marks::{Mark, MarkId};
+use crate::marks::Mark;
 
 impl State {
     /// Whether a worker can make a change now. The worker and what the change names are of the state.
@@ -23,12 +23,7 @@ impl State {
             Change::Unlock(lock) => self.owns(worker, lock),
             Change::Take => !held.lease && !held.blocked && self.out < self.max_leases,
             Change::Give => held.lease,
-            Change::Move(id, from, to) => {
-                self.mark(id) == from
-                    && from != to
-                    && names_only(from, worker)
-                    && names_only(to, worker)
-            }
+            Change::Move(id, from, to) => can_move(worker, self.mark(id), from, to),
             Change::Park(lock) => !self.owns(worker, lock) && !self.has_parked(worker, lock),
             Change::Unpark(lock) => match held.parked.last() {
                 Some(last) => last.0 == lock.0,
@@ -53,11 +48,7 @@ impl State {
             Change::Unlock(lock) => self.owners[lock.0 as usize] = None,
             Change::Take => self.out += 1,
             Change::Give => self.out -= 1,
-            Change::Move(id, _, to) => match id {
-                MarkId::Task(task) => self.tasks[task as usize] = to,
-                MarkId::Action(action) => self.actions[action as usize] = to,
-                MarkId::Unit(unit) => self.units[unit as usize] = to,
-            },
+            Change::Move(id, _, to) => self.marks.set(id, to),
             Change::Park(_) | Change::Unpark(_) | Change::Enter | Change::Leave => {}
         }
     }
@@ -72,6 +63,14 @@ impl State {
             self.make(worker, change.inverse());
         }
     }
+}
+
+/// Whether a worker can move a mark from the second to the third, where the first is found.
+#[inline(always)]
+fn can_move(worker: WorkerId, found: Mark, from: Mark, to: Mark) -> bool
+    ensures { result ≡ (same_mark found from && not (same_mark from to) && names_only from worker && names_only to worker) }
+{
+    found == from && from != to && names_only(from, worker) && names_only(to, worker)
 }
 
 /// Whether a mark, where it is Running, names this worker.

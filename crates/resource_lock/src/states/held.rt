@@ -1,13 +1,16 @@
 //! What one worker has, and how much it owns and runs.
-ghost use Rattle.std.specs.Prelude.{◌≡◌};
-ghost use Rattle.resource_lock.specs.Holdings.{recounted, CanRecount, HasRoom, IsAfter};
+ghost use Rattle.std.specs.Prelude.{◌≡◌, ◌≤◌, IfOk, vec_capacity};
+ghost use Rattle.resource_lock.specs.Counting.{no_counts};
+ghost use Rattle.resource_lock.specs.Holdings.{holding_from, recounted, CanRecount, HasRoom, IsAfter};
+ghost use Rattle.resource_lock.specs.StateView.{empty_holding};
 
 use crate::changes::Change;
 use crate::ids::{LockId, WorkerId};
 use crate::marks::{Mark, MarkId};
+use std::alloc::{AllocError, Global};
 
 /// How many locks a worker owns, and how many tasks, actions and units run by it.
-#[derive(Clone, Copy, Debug)]
+#[derive(Clone, Copy)]
 pub(super) struct Counts {
     pub(super) locks: usize,
     pub(super) tasks: usize,
@@ -25,7 +28,7 @@ impl Counts {
 }
 
 /// What a worker has.
-#[derive(Debug, Drop)]
+#[derive(Drop)]
 pub(super) struct Held {
     pub(super) lease: bool,
     pub(super) parked: Vec<LockId>,
@@ -34,6 +37,21 @@ pub(super) struct Held {
 }
 
 impl Held {
+    /// The entry of a worker that has nothing, with room for so many locks. Only want of memory is an
+    /// error.
+    pub(super) fn empty(alloc: Global, locks: usize) -> Result<Held, AllocError>
+        ensures empty { IfOk result (λ held. holding_from held ≡ empty_holding) }
+        ensures counts { IfOk result (λ held. held.counts ≡ no_counts) }
+        ensures room { IfOk result (λ held. locks ≤ vec_capacity held.parked) }
+    {
+        Ok(Held {
+            lease: false,
+            parked: Vec::with_capacity(alloc, locks)?,
+            blocked: false,
+            counts: Counts::NONE,
+        })
+    }
+
     /// Notes a change of the worker.
     #[inline(always)]
     pub(super) fn note(&mut self, worker: WorkerId, change: Change)

@@ -1,14 +1,15 @@
 //! The state that a run begins in.
-ghost use Rattle.std.specs.Prelude.{◌≡◌, ◌≤◌, IfOk, replicate, map, All, vec_capacity};
+ghost use Rattle.std.specs.Prelude.{◌≡◌, ◌≤◌, IfOk, None, replicate, map, All, vec_capacity};
 ghost use Rattle.resource_lock.specs.Opening.{opening_of};
 ghost use Rattle.resource_lock.specs.Holdings.{holding_from};
 ghost use Rattle.resource_lock.specs.Counting.{no_counts};
 ghost use Rattle.resource_lock.specs.StateView.{empty_holding};
 
 use super::State;
-use super::held::{Counts, Held};
+use super::held::Held;
+use super::mark_lists::MarkLists;
 use crate::graphs::Graph;
-use crate::marks::Mark;
+use crate::ids::WorkerId;
 use std::alloc::{AllocError, Global};
 
 impl State {
@@ -19,32 +20,24 @@ impl State {
     pub fn opening(alloc: Global, graph: &Graph) -> Result<State, AllocError>
         ensures { IfOk result (λ state. state ≡ opening_of graph.now) }
     {
-        let owners = filled(alloc, None, graph.locks() as usize)?;
+        let owners = no_owners(alloc, graph.locks() as usize)?;
+        let marks = MarkLists::waiting(alloc, graph)?;
         let held = empty_holdings(alloc, graph.locks() as usize, graph.workers() as usize)?;
-        let tasks = filled(alloc, Mark::Waiting, graph.tasks().len())?;
-        let actions = filled(alloc, Mark::Waiting, graph.actions().len())?;
-        let units = filled(alloc, Mark::Waiting, graph.units() as usize)?;
         Ok(State {
             max_leases: graph.max_leases(),
             owners,
             held,
             out: 0,
-            tasks,
-            actions,
-            units,
+            marks,
         })
     }
 }
 
-/// So many copies of a value. Only want of memory is an error.
-fn filled<T: Copy>(alloc: Global, value: T, count: usize) -> Result<Vec<T>, AllocError>
-    ensures { IfOk result (λ copies. copies.items ≡ replicate count value) }
+/// The owners of so many locks that have none. Only want of memory is an error.
+fn no_owners(alloc: Global, locks: usize) -> Result<Vec<Option<WorkerId>>, AllocError>
+    ensures { IfOk result (λ owners. owners.items ≡ replicate locks None) }
 {
-    let mut copies = Vec::with_capacity(alloc, count)?;
-    for _ in 0..count {
-        copies.push(value)?;
-    }
-    Ok(copies)
+    vec![in alloc; None; locks]
 }
 
 /// The entries of workers that have nothing, each with room for every lock. Only want of memory is
@@ -56,13 +49,7 @@ fn empty_holdings(alloc: Global, locks: usize, workers: usize) -> Result<Vec<Hel
 {
     let mut all = Vec::with_capacity(alloc, workers)?;
     for _ in 0..workers {
-        let parked = Vec::with_capacity(alloc, locks)?;
-        all.push(Held {
-            lease: false,
-            parked,
-            blocked: false,
-            counts: Counts::NONE,
-        })?;
+        all.push(Held::empty(alloc, locks)?)?;
     }
     Ok(all)
 }

@@ -63,9 +63,9 @@ impl State {
         ensures { result ≡ mark_of self.now id }
     {
         match id {
-            MarkId::Task(task) => self.tasks[task as usize],
-            MarkId::Action(action) => self.actions[action as usize],
-            MarkId::Unit(unit) => self.units[unit as usize],
+            MarkId::Task(task) => self.marks.tasks[task as usize],
+            MarkId::Action(action) => self.marks.actions[action as usize],
+            MarkId::Unit(unit) => self.marks.units[unit as usize],
         }
     }
 

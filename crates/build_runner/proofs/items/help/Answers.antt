@@ -8,15 +8,10 @@ use Rattle.async_tracker.proofs.Claims.{has_member}
 use Rattle.build_runner.proofs.Keeping.{on_ok}
 use Rattle.build_runner.proofs.items.help.Goals as goal
 
-pub run_claimed-outcome-requires-clause-claimed : goal.run_claimed-outcome-requires-clause-claimed
-run_claimed-outcome-requires-clause-claimed g c κs within =
+pub run_and_close-requires-clause-claimed : goal.run_and_close-requires-clause-claimed
+run_and_close-requires-clause-claimed g c κs within =
     let shows = c.claim_item.ensures.shows (search rules) in
     subst (λ (ms : List MarkId). Contains ms (UnitOf c.args.unit)) (sym shows.claimed) (has_member mark_before (UnitOf c.args.unit) (claimed_shown c.args.pass.now.sight))
 
-pub close_item-requires-clause-claimed : goal.close_item-requires-clause-claimed
-close_item-requires-clause-claimed g c =
-    let shows = c.claim_item.ensures.shows (search rules) in
-    subst (λ (ms : List MarkId). Contains ms (UnitOf c.args.unit)) (sym shows.claimed) (has_member mark_before (UnitOf c.args.unit) (claimed_shown c.args.pass.now.sight))
-
-pub returns-clause-shows : goal.returns-clause-shows
-returns-clause-shows g c = on_ok c.close_item.result (c.closing_undoes_claiming.ensures.same c.args.unit c.args.pass.now.sight c.claim_item.new.pass.sight c.close_item.new.pass.sight c.requires.helps.free.lease (c.claim_item.ensures.shows (search rules))) c.close_item.ensures.shows
+pub returns-then-branch-clause-shows : goal.returns-then-branch-clause-shows
+returns-then-branch-clause-shows g c = on_ok c.run_and_close.result (c.closing_undoes_claiming.ensures.same c.args.unit c.args.pass.now.sight c.claim_item.new.pass.sight c.run_and_close.new.pass.sight c.requires.helps.free.lease (c.claim_item.ensures.shows (search rules))) c.run_and_close.ensures.shows

@@ -1,7 +1,15 @@
-use Rattle.std.proofs.Common.{◌≡◌, ◌<◌, arith, sym, subst, ◌∙◌}
+use Rattle.std.proofs.Common.{◌≡◌, ◌<◌, ap, arith, sym, subst, ◌∙◌}
 use Rattle.std.specs.List.{All}
+use Rattle.resource_lock.specs.AtRest.{IsAtRest}
+use Rattle.resource_lock.specs.Fits.{Fits}
+use Rattle.resource_lock.specs.Good.{Good}
 use Rattle.resource_lock.specs.GraphView.{GraphView}
-use Rattle.lock_journal.specs.Entry.{Entry}
+use Rattle.lock_journal.specs.Allowed.{Lawful}
+use Rattle.lock_journal.specs.BookView.{BookView}
+use Rattle.lock_journal.specs.Entry.{Entry, replay}
+use Rattle.coordination.specs.Agrees.{Agrees}
+use Rattle.coordination.specs.Holds.{HoldsNothing}
+use Rattle.coordination.specs.declared.services.Opened.{Opened}
 use Rattle.plan_reader.specs.Graph.{graph_of}
 use Rattle.plan_reader.specs.IsPlan.{dependencies}
 use Rattle.plan_reader.specs.Units.{plan_units}
@@ -16,34 +24,38 @@ returns-clause-run c = λ known before after come.
     let plan = c.args.plan.now in
     let options = c.args.options.now in
     let n = options.workers in
-    let ps = c.args.left.items in
-    let b = c.finish-book.result in
+    let ps = c.args.opened.value.passes.items in
+    let out = c.into_inner-service.ensures in
+    let b = c.finish-book.result.value in
     let units = plan_units plan in
     let are = c.requires.workers in
-    let agrees = c.finish-book.ensures.agrees in
-    let state = c.state.ensures in
+    let agrees = subst (λ (o : Opened). All (λ p. Agrees p.sight.worker p.sight.seen c.finish-book.result.value) o.passes.items) out c.finish-book.ensures.agrees in
+    let told = c.deref-2.ensures in
+    let lawful : Lawful b.graph b.history = subst (λ (k : BookView). Lawful k.graph k.history) told c.state.ensures.lawful in
+    let replays : b.state ≡ replay b.graph b.history = subst (λ (k : BookView). k.state ≡ replay k.graph k.history) told c.state.ensures.replays in
     let every = c.every_run_comes_to_its_plan.ensures in
-    let graph : b.graph ≡ graph_of plan n options.max_leases options.parallel = c.finish-book.ensures.graph ∙ c.requires.graph in
-    let fits = c.graph.ensures.fits in
+    let graph : b.graph ≡ graph_of plan n options.max_leases options.parallel = c.finish-book.ensures.graph ∙ (ap (λ (o : Opened). o.service.book.graph) out ∙ c.requires.graph) in
+    let fits : Fits b.graph = subst (λ (k : BookView). Fits k.graph) c.deref.ensures c.graph.ensures.fits in
     let entries : All (λ (e : Entry). e.worker.0 < n) b.history = subst (λ (g : GraphView). All (λ (e : Entry). e.worker.0 < g.workers) b.history) graph c.finish-book.ensures.entries in
-    let ended = all_ended known units before after ps n b are agrees entries come c.histories_go_on.ensures.ended (omega (arith, c.requires.some)) state.lawful in
+    let ended = all_ended known units before after ps n b are agrees entries come c.histories_go_on.ensures.ended (omega (arith, c.requires.some)) lawful in
     let is = c.tasks.ensures.plan in
     let numbering = c.ranks_give_a_numbering.ensures (dependencies plan.tasks) (in_range plan is) (no_cycle plan is) in
     record {
       graph = graph;
-      replays = state.replays;
-      lawful = state.lawful;
-      good = state.good;
-      rest = c.finish-book.ensures.rest (all_rest known units before after ps n b are agrees entries come);
-      ended = subst HasEnded (sym state.replays) (every.ended b.graph b.history fits state.lawful ended);
-      order = every.order b.graph b.history fits state.lawful ended;
+      replays = replays;
+      lawful = lawful;
+      good = subst (λ (k : BookView). Good k.state) told c.state.ensures.good;
+      rest = subst (λ (o : Opened). All (λ p. HoldsNothing p.sight) o.passes.items → IsAtRest b.state) out c.finish-book.ensures.rest (all_rest known units before after ps n b are agrees entries come);
+      ended = subst HasEnded (sym replays) (every.ended b.graph b.history fits lawful ended);
+      order = every.order b.graph b.history fits lawful ended;
       results = has_results plan known b c.honest_workers_give_the_answers.ensures (all_are_honest known units before after ps n b are agrees entries come)
           (λ v given. every.plan b.graph b.history v numbering.0 (depth plan) fits (ranks_of plan b.graph n options.max_leases options.parallel graph numbering.0 numbering.1)
           (λ t lt. let low = numbering.1.below t (omega (arith, lt, task_count plan b.graph n options.max_leases options.parallel graph, afters_count plan)) in omega (arith, low, afters_count plan))
-          state.lawful ended given);
+          lawful ended given);
       workers = entries;
       faults = all_faults known units before after ps n b are agrees entries come;
     }
 
 pub returns-clause-closings : goal.returns-clause-closings
-returns-clause-closings c = closings_in c.args.left.items c.args.options.now.workers c.finish-book.result c.requires.workers c.finish-book.ensures.agrees
+returns-clause-closings c = closings_in c.args.opened.value.passes.items c.args.options.now.workers c.finish-book.result.value c.requires.workers
+    (subst (λ (o : Opened). All (λ p. Agrees p.sight.worker p.sight.seen c.finish-book.result.value) o.passes.items) c.into_inner-service.ensures c.finish-book.ensures.agrees)

@@ -1,4 +1,5 @@
-use Rattle.std.proofs.Common.{ℕ, get_or, subst, sym, ◌∙◌}
+use Rattle.std.proofs.Common.{ℕ, Box, get_or, subst, sym, ◌∙◌}
+use Rattle.std.specs.declared.alloc.Global.{Global}
 use Rattle.lock_journal.specs.BookView.{BookView}
 use Rattle.daemon_items.specs.Requests.{SentView}
 use Rattle.plan_reader.specs.Units.{plan_units}
@@ -32,13 +33,13 @@ returns-clause-run g c = λ d.
     let before : ℕ → ℕ = λ i. g.D.Files.faults (get_or c.args.desks.now.items i d) in
     let worked : ℕ → ℕ = λ i. g.D.Files.faults (get_or c.run_book-book.new.desks.items i d) in
     let after : ℕ → ℕ = λ i. g.D.Files.faults (get_or c.close_pool-events.new.desks.items i d) in
-    counted_by plan options known before worked after c.in_ok-book.field-0 (λ i. c.close_pool-events.ensures.faults i d)
-    (if_ok (IsRunOf plan options known before worked) c.run_book-book.result c.in_ok-book.field-0 c.in_ok-book.was (c.run_book-book.ensures.run d))
+    counted_by plan options known before worked after c.in_ok-book.field-0.value (λ i. c.close_pool-events.ensures.faults i d)
+    (if_ok (λ (book : Box BookView Global). IsRunOf plan options known before worked book.value) c.run_book-book.result c.in_ok-book.field-0 c.in_ok-book.was (c.run_book-book.ensures.run d))
 
 pub returns-clause-requests : goal.returns-clause-requests
 returns-clause-requests g c = λ i d low.
     let units = plan_units c.args.plan.now in
     let before : SentView = sent_view g.D.Desk.sends g.D.Desk.sent (get_or c.args.desks.now.items i d) in
     let worked : SentView = sent_view g.D.Desk.sends g.D.Desk.sent (get_or c.run_book-book.new.desks.items i d) in
-    subst (AreSentFor units (closed_by (record { 0 = i }) c.in_ok-book.field-0.history) before) (sym (c.close_pool-events.ensures.sent i d))
-    (if_ok (λ (book : BookView). AreSentFor units (closed_by (record { 0 = i }) book.history) before worked) c.run_book-book.result c.in_ok-book.field-0 c.in_ok-book.was (c.run_book-book.ensures.requests i d low))
+    subst (AreSentFor units (closed_by (record { 0 = i }) c.in_ok-book.field-0.value.history) before) (sym (c.close_pool-events.ensures.sent i d))
+    (if_ok (λ (book : Box BookView Global). AreSentFor units (closed_by (record { 0 = i }) book.value.history) before worked) c.run_book-book.result c.in_ok-book.field-0 c.in_ok-book.was (c.run_book-book.ensures.requests i d low))

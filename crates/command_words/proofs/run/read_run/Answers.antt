@@ -1,18 +1,29 @@
-use Rattle.std.proofs.Common.{◌≡◌, map, sym, subst, true, None}
-use Rattle.clap.specs.Simple.{App, app_of}
-use Rattle.clap.specs.Faults.{is_simple_and_free}
+use Rattle.std.proofs.Common.{◌≡◌, map, None}
+use Rattle.clap.specs.Matches.{found_of}
+use Rattle.clap.specs.Walk.{rows_of}
 use Rattle.command_words.specs.Failing.{NoMemoryOr}
 use Rattle.command_words.specs.Run.{run_of, run_of_rows}
 use Rattle.command_words.specs.Rules.{run_app}
-use Rattle.command_words.proofs.Simple.{handed_on, run_app-is_free, nothing_asked}
+use Rattle.command_words.proofs.Simple.{answered, asked_by_rows, handed_on, nothing_asked, refused}
 use Rattle.command_words.proofs.run.read_run.Goals as goal
 
-pub matches_of-requires : goal.matches_of-requires
-matches_of-requires c = subst (λ (a : App). is_simple_and_free a ≡ true) (sym c.in_ok-command.ensures) run_app-is_free
+pub returns-clause-ok : goal.returns-clause-ok
+unfolding run_app
+returns-clause-ok c =
+    let words = map (λ s. s.now) c.args.words.now in
+    let rows = rows_of (found_of c.in_ok-matches.matches) in
+    answered (run_of words) (run_of_rows rows) c.run_words.result (asked_by_rows run_app run_of_rows words rows c.in_ok-matches.ensures.ok) c.run_words.ensures.ok
+
+pub returns-clause-err : goal.returns-clause-err
+unfolding run_app
+returns-clause-err c =
+    let words = map (λ s. s.now) c.args.words.now in
+    let rows = rows_of (found_of c.in_ok-matches.matches) in
+    refused (run_of words) (run_of_rows rows) c.run_words.result (asked_by_rows run_app run_of_rows words rows c.in_ok-matches.ensures.ok) c.run_words.ensures.err
 
 pub returns-in_err-matches-clause-err : goal.returns-in_err-matches-clause-err
+unfolding run_app
 returns-in_err-matches-clause-err c =
     let words = map (λ s. s.now) c.args.words.now in
     let fail = c.in_err-matches.field-0.0 in
-    handed_on (NoMemoryOr (run_of words ≡ None)) c.from_residual-in_err-matches.result fail c.from_residual-in_err-matches.ensures.1
-    (nothing_asked run_app (app_of c.in_ok-command.command) run_of_rows words fail c.in_ok-command.ensures c.in_err-matches.ensures.err)
+    handed_on (NoMemoryOr (run_of words ≡ None)) c.from_residual.result fail c.from_residual.ensures.1 (nothing_asked run_app run_of_rows words fail c.in_err-matches.ensures.err)

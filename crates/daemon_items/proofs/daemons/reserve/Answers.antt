@@ -1,6 +1,7 @@
+use Rattle.std.proofs.lemmas.Result.{IfOk-weaker}
 use Rattle.daemon_items.proofs.Coverings.{covers_itself}
 use Rattle.daemon_items.proofs.daemons.reserve.Goals as goal
 
-pub returns-in-Ok-clause-covers : goal.returns-in-Ok-clause-covers
-returns-in-Ok-clause-covers g c =
-    rw (c.in-Ok.ensures.adopted, c.in_ok-link.ensures.made) (covers_itself c.args.asked.now)
+pub returns-in-None-clause-covers : goal.returns-in-None-clause-covers
+returns-in-None-clause-covers g c =
+    IfOk-weaker c.start.result _ _ (λ reserved made. rw made (covers_itself c.args.asked.now)) c.start.ensures.made

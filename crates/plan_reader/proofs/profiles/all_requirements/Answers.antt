@@ -1,4 +1,5 @@
 use Rattle.std.proofs.Common.{sym, ◌∙◌}
+use Rattle.std.proofs.lemmas.Result.{IfOk-weaker}
 use Rattle.plan_table.specs.Keys.{heap_of}
 use Rattle.plan_table.proofs.Lists.{all_of_elements}
 use Rattle.plan_reader.specs.Rows.{is_heap}
@@ -10,4 +11,6 @@ pub profiles_in-requires : goal.profiles_in-requires
 profiles_in-requires c = sym (all_of_elements (λ r. is_heap (heap_of r)) _ _ c.take_requirements.ensures.requirements) ∙ c.requires
 
 pub returns-clause-requirements : goal.returns-clause-requirements
-returns-clause-requirements c = c.in_ok-profiles.ensures ∙ sym (map_of_elements requirements_from _ _ c.take_requirements.ensures.requirements)
+returns-clause-requirements c =
+    let by_data = sym (map_of_elements requirements_from _ _ c.take_requirements.ensures.requirements) in
+    IfOk-weaker c.profiles_in.result _ _ (λ profiles are. are ∙ by_data) c.profiles_in.ensures

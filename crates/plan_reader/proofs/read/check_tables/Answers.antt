@@ -4,7 +4,7 @@ use Rattle.plan_table.specs.declared.refusals.PlanRefusal.TheVariants as refusal
 use Rattle.plan_table.specs.Search.{table_refusal}
 use Rattle.plan_reader.specs.Search.{twice_refusal, refusal_before}
 use Rattle.plan_reader.specs.Reading.{AnswersBy}
-use Rattle.plan_reader.proofs.Answering.{sooner, later, refused, twice_task, twice_requirements, none_twice, passed_on}
+use Rattle.plan_reader.proofs.Answering.{sooner, later, refused, passed_on}
 use Rattle.plan_reader.proofs.read.check_tables.Goals as goal
 
 pub returns-in_err-check_table-clause-err : goal.returns-in_err-check_table-clause-err
@@ -18,24 +18,5 @@ returns-in_err-projects-clause-err c =
     passed_on (AnswersBy (refusal_before d) d) _ _ c.from_residual-in_err-projects.ensures.1
     (refused d _ (later (table_refusal d) _ _ c.in_ok-check_table.ensures.ok (sooner (twice_refusal d) _ _ (sooner _ _ _ c.in_err-projects.ensures.twice))))
 
-pub returns-in_err-tasks-clause-err : goal.returns-in_err-tasks-clause-err
-returns-in_err-tasks-clause-err c =
-    let d = view c.args.document.now in
-    let projects = ap (option_map (λ p. refusal.Twice p)) c.in_ok-projects.ensures.once in
-    passed_on (AnswersBy (refusal_before d) d) _ _ c.from_residual-in_err-tasks.ensures.1
-    (refused d _ (later (table_refusal d) _ _ c.in_ok-check_table.ensures.ok (sooner (twice_refusal d) _ _ (twice_task d _ projects c.in_err-tasks.ensures.twice))))
-
-pub returns-in_err-requirements-clause-err : goal.returns-in_err-requirements-clause-err
-returns-in_err-requirements-clause-err c =
-    let d = view c.args.document.now in
-    let projects = ap (option_map (λ p. refusal.Twice p)) c.in_ok-projects.ensures.once in
-    let tasks = ap (option_map (λ p. refusal.Twice p)) c.in_ok-tasks.ensures.once in
-    passed_on (AnswersBy (refusal_before d) d) _ _ c.from_residual-in_err-requirements.ensures.1
-    (refused d _ (later (table_refusal d) _ _ c.in_ok-check_table.ensures.ok (sooner (twice_refusal d) _ _ (twice_requirements d _ projects tasks c.in_err-requirements.ensures.twice))))
-
-pub check_named-requires-clause-once : goal.check_named-requires-clause-once
-check_named-requires-clause-once c =
-    let projects = ap (option_map (λ p. refusal.Twice p)) c.in_ok-projects.ensures.once in
-    let tasks = ap (option_map (λ p. refusal.Twice p)) c.in_ok-tasks.ensures.once in
-    let requirements = ap (option_map (λ p. refusal.Twice p)) c.in_ok-requirements.ensures.once in
-    none_twice (view c.args.document.now) projects tasks requirements
+pub check_task_names-requires-clause-projects_once : goal.check_task_names-requires-clause-projects_once
+check_task_names-requires-clause-projects_once c = ap (option_map (λ p. refusal.Twice p)) c.in_ok-projects.ensures.once

@@ -11,20 +11,20 @@ use Rattle.plan_reader.proofs.TakenTasks.{plan_taken}
 use Rattle.plan_reader.proofs.read.plan_of.Goals as goal
 
 pub all_requirements-requires : goal.all_requirements-requires
-all_requirements-requires c = heaps_fit (view c.args.document) c.requires.accepted.behind
+all_requirements-requires c = heaps_fit (view c.args.document.now) c.requires.accepted.behind
 
 pub tasks_of_plan-requires-clause-projects : goal.tasks_of_plan-requires-clause-projects
 tasks_of_plan-requires-clause-projects c =
     let projects = c.take_projects.ensures.projects ∙ ap elements (c.all_requirements.ensures.others (codes "project") refl) in
     ap first_repeat (c.deref.ensures.value ∙ c.in_ok-projects.ensures ∙ sym (map_of_elements name_of _ _ projects))
-    ∙ none_repeated (view c.args.document) c.requires.accepted Project
+    ∙ none_repeated (view c.args.document.now) c.requires.accepted Project
 
 pub tasks_of_plan-requires-clause-requirements : goal.tasks_of_plan-requires-clause-requirements
-tasks_of_plan-requires-clause-requirements c = ap first_repeat (c.deref-2.ensures.value ∙ c.in_ok-names.ensures) ∙ none_repeated (view c.args.document) c.requires.accepted Requirements
+tasks_of_plan-requires-clause-requirements c = ap first_repeat (c.deref-2.ensures.value ∙ c.in_ok-names.ensures) ∙ none_repeated (view c.args.document.now) c.requires.accepted Requirements
 
 pub new-requires : goal.new-requires
 new-requires c =
-    let d = view c.args.document in
+    let d = view c.args.document.now in
     let projects = c.take_projects.ensures.projects ∙ ap elements (c.all_requirements.ensures.others (codes "project") refl) in
     let tables = c.take_tasks-tables.ensures.tasks ∙ ap elements (c.take_projects.ensures.others (codes "task") refl ∙ c.all_requirements.ensures.others (codes "task") refl) in
     let made =
@@ -35,7 +35,7 @@ new-requires c =
 
 pub returns-clause-plan : goal.returns-clause-plan
 returns-clause-plan c =
-    let d = view c.args.document in
+    let d = view c.args.document.now in
     let projects = c.take_projects.ensures.projects ∙ ap elements (c.all_requirements.ensures.others (codes "project") refl) in
     let tables = c.take_tasks-tables.ensures.tasks ∙ ap elements (c.take_projects.ensures.others (codes "task") refl ∙ c.all_requirements.ensures.others (codes "task") refl) in
     c.new.ensures

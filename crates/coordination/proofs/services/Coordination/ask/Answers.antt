@@ -1,35 +1,26 @@
-use Rattle.std.proofs.Common.{rules, Some, None, refl, sym, ap, ◌∙◌, subst}
+use Rattle.std.proofs.Common.{refl, ◌∙◌, subst}
 use Rattle.resource_lock.specs.declared.ids.WorkerId.{WorkerId}
 use Rattle.coordination.specs.Calls.{AskedInVain}
-use Rattle.coordination.specs.Passes.{PassView}
-use Rattle.coordination.proofs.Looks.{OnlyLooked, at_answer, answered_on, in_vain_on, looked_not, no_answer_on, only_looked, same_halt}
+use Rattle.coordination.specs.declared.attempts.Reply.TheVariants as replies
+use Rattle.coordination.proofs.Looks.{looked_not, replied_on, same_halt}
 use Rattle.coordination.proofs.services.Coordination.ask.Goals as goal
-use Rattle.coordination.proofs.services.Coordination.ask.Goals.{in-Some-None+in_default, in-None-attempt_ask}
 
 pub loop-init : goal.loop-init
 loop-init g c = (tt, tt, refl, looked_not c.args.pass.now.sight)
 
-pub returns-in-Some-Some-clause-answered : goal.returns-in-Some-Some-clause-answered
-returns-in-Some-Some-clause-answered g c = answered_on _ _ _ _ _ c.loop.invariant.3 c.in-Some-Some.answer (at_answer _ _ _ _ _ (Some c.in-Some-Some.answer) (search rules) c.in-Some-Some.ensures.some)
+pub returns-in-Answered-clause-answered : goal.returns-in-Answered-clause-answered
+returns-in-Answered-clause-answered g c = let Q = g.Q.Question in let q = c.args.question.now in replied_on (Q.answers q) (Q.waits_on q) c.args.pass.now.sight c.loop.pass.sight c.try_question.new.pass.sight c.try_question.result
+    (replies.Answered c.in-Answered.answer) c.in-Answered.is c.loop.invariant.3 c.try_question.ensures.replied
 
-pub returns-in-Some-hear-clause-stopped : goal.returns-in-Some-hear-clause-stopped
-returns-in-Some-hear-clause-stopped g c = λ by is.
-    subst (λ (w : WorkerId). AskedInVain (g.Q.Question.waits_on c.args.question.now) w c.args.pass.now.sight c.hear.new.pass.sight) (same_halt c.in-Some-hear.by by is)
-    (in_vain_on _ _ _ _ _ c.loop.invariant.3 c.in-Some-hear.by _ (at_answer _ _ _ _ _ None (search rules) c.in-Some-None.ensures.some) c.in-Some-hear.ensures.stopper c.in-Some-hear.ensures.some)
+pub returns-in-Stopped-clause-stopped : goal.returns-in-Stopped-clause-stopped
+returns-in-Stopped-clause-stopped g c = λ by is. let Q = g.Q.Question in let q = c.args.question.now in
+    subst (λ (w : WorkerId). AskedInVain (Q.waits_on q) w c.args.pass.now.sight c.try_question.new.pass.sight) (same_halt c.in-Stopped.by by is)
+    (replied_on (Q.answers q) (Q.waits_on q) c.args.pass.now.sight c.loop.pass.sight c.try_question.new.pass.sight c.try_question.result (replies.Stopped c.in-Stopped.by) c.in-Stopped.is c.loop.invariant.3 c.try_question.ensures.replied)
 
 pub loop-preserved : goal.loop-preserved
-loop-preserved g c = elim c.match-attempt_ask.branch [
-  | in-Some-None+in_default w ↦ (
-    tt,
-    tt,
-    ap (λ (p : PassView). p.service) w.pass-is ∙ (w.hear.ensures.same ∙ (c.attempt_ask.ensures.same ∙ c.loop.invariant.2)),
-    subst (λ (p : PassView). OnlyLooked c.args.pass.now.sight p.sight) (sym w.pass-is)
-        (subst (OnlyLooked c.args.pass.now.sight) (sym w.in_default.ensures.none) (only_looked _ _ (no_answer_on _ _ _ _ _ c.loop.invariant.3 (at_answer _ _ _ _ _ None (search rules) w.in-Some-None.ensures.some)))),
-  )
-  | in-None-attempt_ask w ↦ (
-    tt,
-    tt,
-    ap (λ (p : PassView). p.service) w.pass-is ∙ (c.attempt_ask.ensures.same ∙ c.loop.invariant.2),
-    subst (λ (p : PassView). OnlyLooked c.args.pass.now.sight p.sight) (sym w.pass-is) (subst (OnlyLooked c.args.pass.now.sight) (sym w.in-None-attempt_ask.ensures.none) c.loop.invariant.3),
-  )
-]
+loop-preserved g c = let Q = g.Q.Question in let q = c.args.question.now in (
+  tt,
+  tt,
+  c.try_question.ensures.same ∙ c.loop.invariant.2,
+  replied_on (Q.answers q) (Q.waits_on q) c.args.pass.now.sight c.loop.pass.sight c.try_question.new.pass.sight c.try_question.result replies.Again c.in-Again.is c.loop.invariant.3 c.try_question.ensures.replied,
+)

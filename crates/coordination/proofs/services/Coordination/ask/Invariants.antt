@@ -1,6 +1,6 @@
 -- so far the worker has only looked
 use Rattle.std.proofs.Common.{◌≡◌}
-use Rattle.coordination.proofs.Looks.{OnlyLooked}
+use Rattle.coordination.specs.Tries.{OnlyLooked}
 use Rattle.coordination.proofs.services.Coordination.ask.Given as goal
 
 abbrev pub invariant-loop : goal.invariant-loop

@@ -13,21 +13,21 @@ invariant_of-result c =
     let read = ap length c.tasks.ensures.value in
     let mapped = length-map c.tasks.result.now graph_view in
     let few = c.tasks.ensures.fits.few_tasks in
-    let places = c.in_ok-new.ensures.room in
-    let free = c.in_ok-new-2.ensures.room in
-    let heads = c.in_ok-new-3.ensures.room in
+    let places = c.in_ok-places.ensures.room in
+    let free = c.in_ok-free.ensures.room in
+    let heads = c.in_ok-heads.ensures.room in
     let locks = c.locks.ensures in
     let count = c.in_ok-order.ensures.count in
-    no_heads (record { order = c.in_ok-order.order; places = c.in_ok-new.field-0; free = c.in_ok-new-2.field-0; heads = c.in_ok-new-3.field-0 }) (omega arith) (omega arith) (omega arith) c.in_ok-new.ensures.empty c.in_ok-new-3.ensures.empty
+    no_heads (record { order = c.in_ok-order.order; places = c.in_ok-places.places; free = c.in_ok-free.free; heads = c.in_ok-heads.heads }) (omega arith) (omega arith) (omega arith) c.in_ok-places.ensures.empty c.in_ok-heads.ensures.empty
 
 pub returns-clause-room : goal.returns-clause-room
-returns-clause-room c = omega (arith, room_where (λ t. has c.in_ok-new.field-0 (place_of c.in_ok-order.order.locks t)) (length c.in_ok-order.order.locks), ap length c.in_ok-order.ensures.locks, length-map c.args.graph.now.tasks (λ (t : GraphTaskView). t.lock.0))
+returns-clause-room c = omega (arith, room_where (λ t. has c.in_ok-places.places (place_of c.in_ok-order.order.locks t)) (length c.in_ok-order.order.locks), ap length c.in_ok-order.ensures.locks, length-map c.args.graph.now.tasks (λ (t : GraphTaskView). t.lock.0))
 
 pub returns-clause-lock_room : goal.returns-clause-lock_room
-returns-clause-lock_room c = omega (arith, room_where (has c.in_ok-new-2.field-0) c.in_ok-order.order.lock_count, c.in_ok-order.ensures.count)
+returns-clause-lock_room c = omega (arith, room_where (has c.in_ok-free.free) c.in_ok-order.order.lock_count, c.in_ok-order.ensures.count)
 
 pub returns-clause-empty : goal.returns-clause-empty
-returns-clause-empty c = nowhere (λ t. has c.in_ok-new.field-0 (place_of c.in_ok-order.order.locks t)) (length c.in_ok-order.order.locks) (λ t. c.in_ok-new.ensures.empty (place_of c.in_ok-order.order.locks t))
+returns-clause-empty c = nowhere (λ t. has c.in_ok-places.places (place_of c.in_ok-order.order.locks t)) (length c.in_ok-order.order.locks) (λ t. c.in_ok-places.ensures.empty (place_of c.in_ok-order.order.locks t))
 
 pub returns-clause-none_free : goal.returns-clause-none_free
-returns-clause-none_free c = nowhere (has c.in_ok-new-2.field-0) c.in_ok-order.order.lock_count c.in_ok-new-2.ensures.empty
+returns-clause-none_free c = nowhere (has c.in_ok-free.free) c.in_ok-order.order.lock_count c.in_ok-free.ensures.empty

@@ -1,13 +1,12 @@
-use Rattle.std.proofs.Common.{◌+◌, map, set, refl, sym, ◌∙◌, ap, arith}
+use Rattle.std.proofs.Common.{◌+◌, map, set, refl, sym, ◌∙◌, ap, subst, arith}
 use Rattle.std.proofs.lemmas.List.{length-set}
 use Rattle.resource_lock.proofs.Lists.{one_if}
 use Rattle.resource_lock.proofs.Holding.{has_room, view_made, sound_left, lease_free, some_out, quiet}
-use Rattle.resource_lock.specs.StateView.{StateView, holding_of, leases_out}
-use Rattle.resource_lock.specs.Change.{can}
+use Rattle.resource_lock.specs.StateView.{StateView, holding_of, leases_out, IsMarkOf}
+use Rattle.resource_lock.specs.Change.{can, NamesOnly}
 use Rattle.resource_lock.specs.Holdings.{holding_from}
 use Rattle.resource_lock.specs.State.{state_view}
 use Rattle.resource_lock.specs.declared.changes.Change.TheVariants.{Lock, Unlock, Take, Give, Move}
-use Rattle.resource_lock.specs.declared.marks.MarkId.TheVariants.{Task as TaskOf, Action as ActionOf, Unit as UnitOf}
 use Rattle.resource_lock.proofs.states.State.make.Goals as goal
 
 pub note-requires : goal.note-requires
@@ -41,26 +40,25 @@ pub invariant_of-self-in-Give : goal.invariant_of-self-in-Give
 invariant_of-self-in-Give c = sound_left {a = c.self.inside} {k = Give} (record { reads = record { view_is = c.self.view_is; worker = c.requires.worker_in_range; named = c.requires.change_in_range; possible = c.requires.possible; read = c.index_mut.ensures.value }; after = c.note.ensures; sound = c.self.invariant })
     (record { is = c.in-Give.is; held = refl; owners = refl; view = refl; out = omega (arith, ap one_if (ap (can c.args.self.now c.args.worker) (sym c.in-Give.is) ∙ c.requires.possible), some_out c.args.self.now c.args.worker c.requires.worker_in_range (ap (can c.args.self.now c.args.worker) (sym c.in-Give.is) ∙ c.requires.possible), c.self.invariant.leases, ap leases_out c.self.view_is) })
 
-pub returns-in-Task : goal.returns-in-Task
-returns-in-Task c = view_made {a = c.self.inside} (Move (TaskOf c.in-Task.task) c.in-Move.field-1 c.in-Move.to) (record { reads = record { view_is = c.self.view_is; worker = c.requires.worker_in_range; named = c.requires.change_in_range; possible = c.requires.possible; read = c.index_mut.ensures.value }; after = c.note.ensures; sound = c.self.invariant }) (c.in-Move.is ∙ ap (λ m. Move m c.in-Move.field-1 c.in-Move.to) c.in-Task.is)
+pub set-requires : goal.set-requires
+set-requires c = (
+  state_view c.self.inside,
+  subst (λ (s : StateView). IsMarkOf s c.in-Move.id) (sym c.self.view_is) (subst (NamesOnly c.args.self.now) c.in-Move.is c.requires.change_in_range),
+)
 
-pub invariant_of-self-in-Task : goal.invariant_of-self-in-Task
-invariant_of-self-in-Task c = sound_left {a = c.self.inside} {k = Move (TaskOf c.in-Task.task) c.in-Move.field-1 c.in-Move.to} (record { reads = record { view_is = c.self.view_is; worker = c.requires.worker_in_range; named = c.requires.change_in_range; possible = c.requires.possible; read = c.index_mut.ensures.value }; after = c.note.ensures; sound = c.self.invariant })
-    (record { is = c.in-Move.is ∙ ap (λ m. Move m c.in-Move.field-1 c.in-Move.to) c.in-Task.is; held = refl; owners = refl; view = refl; out = refl })
+pub returns-in-Move : goal.returns-in-Move
+returns-in-Move c = ap (λ (s : StateView). record s { holdings = map holding_from (set c.self.inside.held.items c.args.worker.0 c.note.new.self) }) (c.set.ensures (state_view c.self.inside))
+    ∙ view_made {a = c.self.inside} (Move c.in-Move.id c.in-Move.field-1 c.in-Move.to) (record { reads = record { view_is = c.self.view_is; worker = c.requires.worker_in_range; named = c.requires.change_in_range; possible = c.requires.possible; read = c.index_mut.ensures.value }; after = c.note.ensures; sound = c.self.invariant }) c.in-Move.is
 
-pub returns-in-Action : goal.returns-in-Action
-returns-in-Action c = view_made {a = c.self.inside} (Move (ActionOf c.in-Action.action) c.in-Move.field-1 c.in-Move.to) (record { reads = record { view_is = c.self.view_is; worker = c.requires.worker_in_range; named = c.requires.change_in_range; possible = c.requires.possible; read = c.index_mut.ensures.value }; after = c.note.ensures; sound = c.self.invariant }) (c.in-Move.is ∙ ap (λ m. Move m c.in-Move.field-1 c.in-Move.to) c.in-Action.is)
-
-pub invariant_of-self-in-Action : goal.invariant_of-self-in-Action
-invariant_of-self-in-Action c = sound_left {a = c.self.inside} {k = Move (ActionOf c.in-Action.action) c.in-Move.field-1 c.in-Move.to} (record { reads = record { view_is = c.self.view_is; worker = c.requires.worker_in_range; named = c.requires.change_in_range; possible = c.requires.possible; read = c.index_mut.ensures.value }; after = c.note.ensures; sound = c.self.invariant })
-    (record { is = c.in-Move.is ∙ ap (λ m. Move m c.in-Move.field-1 c.in-Move.to) c.in-Action.is; held = refl; owners = refl; view = refl; out = refl })
-
-pub returns-in-Unit : goal.returns-in-Unit
-returns-in-Unit c = view_made {a = c.self.inside} (Move (UnitOf c.in-Unit.unit) c.in-Move.field-1 c.in-Move.to) (record { reads = record { view_is = c.self.view_is; worker = c.requires.worker_in_range; named = c.requires.change_in_range; possible = c.requires.possible; read = c.index_mut.ensures.value }; after = c.note.ensures; sound = c.self.invariant }) (c.in-Move.is ∙ ap (λ m. Move m c.in-Move.field-1 c.in-Move.to) c.in-Unit.is)
-
-pub invariant_of-self-in-Unit : goal.invariant_of-self-in-Unit
-invariant_of-self-in-Unit c = sound_left {a = c.self.inside} {k = Move (UnitOf c.in-Unit.unit) c.in-Move.field-1 c.in-Move.to} (record { reads = record { view_is = c.self.view_is; worker = c.requires.worker_in_range; named = c.requires.change_in_range; possible = c.requires.possible; read = c.index_mut.ensures.value }; after = c.note.ensures; sound = c.self.invariant })
-    (record { is = c.in-Move.is ∙ ap (λ m. Move m c.in-Move.field-1 c.in-Move.to) c.in-Unit.is; held = refl; owners = refl; view = refl; out = refl })
+pub invariant_of-self-in-Move : goal.invariant_of-self-in-Move
+invariant_of-self-in-Move c = sound_left {a = c.self.inside} {k = Move c.in-Move.id c.in-Move.field-1 c.in-Move.to} (record { reads = record { view_is = c.self.view_is; worker = c.requires.worker_in_range; named = c.requires.change_in_range; possible = c.requires.possible; read = c.index_mut.ensures.value }; after = c.note.ensures; sound = c.self.invariant })
+    (record {
+      is = c.in-Move.is;
+      held = refl;
+      owners = refl;
+      view = ap (λ (s : StateView). record s { holdings = map holding_from (set c.self.inside.held.items c.args.worker.0 c.note.new.self) }) (c.set.ensures (state_view c.self.inside));
+      out = refl;
+    })
 
 pub returns-in-Park : goal.returns-in-Park
 returns-in-Park c = ap (λ (s : StateView). record s { holdings = map holding_from (set c.self.inside.held.items c.args.worker.0 c.note.new.self) }) ((quiet c.args.change c.in-Park.is).rest (state_view c.self.inside) c.args.worker)

@@ -1,11 +1,9 @@
-use Rattle.std.proofs.Common.{length, replicate, Option, None, refl, ◌∙◌, ap, arith, sym}
-use Rattle.std.proofs.lemmas.List.{length-map, length-replicate}
+use Rattle.std.proofs.Common.{length, replicate, Option, None, refl, ◌∙◌, ap, arith}
+use Rattle.std.proofs.lemmas.List.{length-replicate}
 use Rattle.resource_lock.proofs.Begins.{same_standing, sound_opening}
 use Rattle.resource_lock.specs.StateView.{empty_holding}
 use Rattle.resource_lock.specs.Counting.{no_counts}
-use Rattle.resource_lock.specs.GraphView.{graph_view}
 use Rattle.resource_lock.specs.declared.ids.WorkerId.{WorkerId}
-use Rattle.resource_lock.specs.declared.marks.Mark.TheVariants.{Waiting}
 use Rattle.resource_lock.proofs.states.State.opening.Goals as goal
 
 pub invariant_of-result : goal.invariant_of-result
@@ -14,9 +12,9 @@ invariant_of-result c = sound_opening _ c.args.graph.now
     c.max_leases.ensures
     (c.in_ok-owners.ensures ∙ ap (λ n. replicate n None) c.locks.ensures)
     (c.in_ok-held.ensures.empty ∙ ap (λ n. replicate n empty_holding) c.workers.ensures)
-    (c.in_ok-tasks.ensures ∙ ap (λ n. replicate n Waiting) (sym (length-map c.tasks.result.now graph_view) ∙ ap length c.tasks.ensures.value))
-    (c.in_ok-actions.ensures ∙ ap (λ actions. replicate (length actions) Waiting) c.actions.ensures.value)
-    (c.in_ok-units.ensures ∙ ap (λ n. replicate n Waiting) c.units.ensures))
+    c.in_ok-marks.ensures.tasks
+    c.in_ok-marks.ensures.actions
+    c.in_ok-marks.ensures.units)
     refl
     (c.in_ok-held.ensures.counts ∙ ap (λ n. replicate n no_counts) c.workers.ensures)
     (λ k d within. omega (arith, c.in_ok-held.ensures.room k d within, ap length c.in_ok-owners.ensures, length-replicate {A = Option WorkerId} c.locks.result None, c.locks.ensures, c.locks-2.ensures))

@@ -1,5 +1,0 @@
-//! Tests of `build_runner`.
-#![tactic(auto)]
-
-#[cfg(test)]
-mod faulty_runs;

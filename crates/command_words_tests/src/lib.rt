@@ -1,5 +1,0 @@
-//! Tests of `command_words`.
-#![tactic(auto)]
-
-#[cfg(test)]
-mod tests;

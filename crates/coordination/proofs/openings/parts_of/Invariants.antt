@@ -1,0 +1,7 @@
+-- the parts of the workers so far
+use Rattle.std.proofs.Common.{◌≡◌, length}
+use Rattle.coordination.specs.Parts.{ArePartsFrom}
+use Rattle.coordination.proofs.openings.parts_of.Given as goal
+
+abbrev pub invariant-loop-worker : goal.invariant-loop-worker
+invariant-loop-worker l = (length l.parts.items ≡ l.worker) × ArePartsFrom 0 l.book l.parts.items

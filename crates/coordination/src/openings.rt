@@ -1,0 +1,115 @@
+//! What a service takes memory for, beside its table.
+ghost use Rattle.std.specs.Prelude.{◌≡◌, ◌<◌, ◌≤◌, ◌^◌, [], All, IfOk, length, map, vec_capacity};
+ghost use Rattle.resource_lock.specs.AtRest.{IsAtRest};
+ghost use Rattle.coordination.specs.Parts.{ArePartsFrom};
+ghost use Rattle.coordination.specs.Sights.{sights_from, starting};
+
+use crate::boxed_books::BoxedBook;
+use crate::lasts::last_number;
+use crate::parts::{Part, Room};
+use crate::passes::Pass;
+use crate::rule::SeatView;
+use crate::services::{Opened, service_of};
+use crate::sleepers::Sleepers;
+use crate::slots::Slot;
+use atomic_table::Seat;
+use lock_journal::Book;
+use resource_lock::WorkerId;
+use std::alloc::{AllocError, Global};
+use std::sync::Condvar;
+
+/// What is there for the workers before the book is in its slot.
+#[derive(Drop)]
+pub struct Stock {
+    /// The part of each worker.
+    pub parts: Vec<Part>,
+    /// Room for the passes.
+    pub passes: Vec<Pass>,
+    pub waiting: Waiting,
+}
+
+impl Stock {
+    // For the workers of a book in which nobody has anything.
+    pub fn of(alloc: Global, book: &Book) -> Result<Stock, AllocError>
+        requires { IsAtRest book.now.state }
+        ensures len { IfOk result (λ stock. length stock.parts.items ≡ book.now.graph.workers) }
+        ensures parts { IfOk result (λ stock. ArePartsFrom 0 book.now stock.parts.items) }
+        ensures empty { IfOk result (λ stock. stock.passes.items ≡ []) }
+        ensures room { IfOk result (λ stock. book.now.graph.workers ≤ vec_capacity stock.passes) }
+    {
+        let workers = book.graph().workers();
+        let parts = parts_of(alloc, book)?;
+        let passes = Vec::with_capacity(alloc, workers as usize)?;
+        let waiting = Waiting::of(alloc, workers)?;
+        Ok(Stock {
+            parts,
+            passes,
+            waiting,
+        })
+    }
+
+    // The service over the slot, and its passes, whose seats are cut off this one.
+    pub fn open(self, slot: Slot, seat: Seat<BoxedBook, SeatView>) -> Opened
+        requires id { seat.table_id ≡ slot.table.shared.table_id }
+        requires view { seat.me ≡ (starting slot.table.shared.key.book.value, []) }
+        requires few { slot.table.shared.key.book.value.graph.workers < 2 ^ 32 }
+        requires len { length self.parts.items ≡ slot.table.shared.key.book.value.graph.workers }
+        requires parts { ArePartsFrom 0 slot.table.shared.key.book.value self.parts.items }
+        requires empty { self.passes.items ≡ [] }
+        requires room { length self.parts.items ≤ vec_capacity self.passes }
+        ensures book { result.service.book ≡ slot.table.shared.key.book.value }
+        ensures passes { map (λ p. p.sight) result.passes.items ≡ sights_from 0 slot.table.shared.key.book.value.graph.workers slot.table.shared.key.book.value }
+        ensures service { All (λ p. p.service ≡ result.service.service) result.passes.items }
+    {
+        let Stock {
+            parts,
+            passes,
+            waiting,
+        } = self;
+        let passes = slot.seated(seat, parts, passes);
+        let service = service_of(slot, waiting);
+        Opened { service, passes }
+    }
+}
+
+// The parts of all workers of a book in which nobody has anything, in order.
+fn parts_of(alloc: Global, book: &Book) -> Result<Vec<Part>, AllocError>
+    requires { IsAtRest book.now.state }
+    ensures len { IfOk result (λ parts. length parts.items ≡ book.now.graph.workers) }
+    ensures parts { IfOk result (λ parts. ArePartsFrom 0 book.now parts.items) }
+{
+    let room = Room::of(book.graph());
+    let mut parts = Vec::new(alloc);
+    for worker in 0..book.graph().workers() {
+        let last = last_number(book, WorkerId(worker));
+        parts.push(Part::fresh(alloc, room, last)?)?;
+    }
+    Ok(parts)
+}
+
+/// What those wait with who wait in a service: who sleeps, and each worker's own Condvar.
+#[derive(Drop)]
+pub struct Waiting {
+    pub sleepers: Sleepers,
+    pub own: Vec<Condvar>,
+}
+
+impl Waiting {
+    // For so many workers, none of whom sleeps.
+    fn of(alloc: Global, workers: u32) -> Result<Waiting, AllocError> {
+        let own = condvars(alloc, workers)?;
+        Ok(Waiting {
+            sleepers: Sleepers::nobody(alloc, workers)?,
+            own,
+        })
+    }
+}
+
+// So many Condvars.
+fn condvars(alloc: Global, count: u32) -> Result<Vec<Condvar>, AllocError> {
+    let mut all = Vec::with_capacity(alloc, count as usize)?;
+    for _ in 0..count {
+        all.push(Condvar::new())?;
+    }
+    Ok(all)
+}

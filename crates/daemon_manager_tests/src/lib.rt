@@ -1,5 +1,0 @@
-//! Tests of `daemon_manager`.
-#![tactic(auto)]
-
-#[cfg(test)]
-mod tests;

@@ -1,0 +1,84 @@
+-- What the parts of a body are read as.
+use Rattle.std.proofs.Common.{◌≡◌, ◌≢◌, ℕ, ◌+◌, ◌*◌, ◌-◌, ◌<◌, ◌≤◌, List, [], ◌∷◌, Bool, true, false, ◌&&◌, eqb, Option, None, Some, if◌then◌else◌, length, get_or, take, drop, refl, sym, ap, ◌∙◌, arith}
+use Rattle.std.specs.Int.{w16, w32, from_be_bytes}
+use Rattle.std.proofs.lemmas.Bool.{lt-ltb, eq-eqb, ne_eqb, cond-true, cond-false}
+use Rattle.item_actions.specs.Forms.{is_file_name}
+use Rattle.item_actions.specs.declared.actions.ItemAction.{ItemAction}
+use Rattle.item_actions.specs.declared.outcomes.Outcome.{Outcome}
+use Rattle.daemon_protocol.specs.Bodies.{action_at, request_after, request_with, request_of, outcome_of, reply_with, reply_of}
+use Rattle.daemon_protocol.specs.declared.frames.Frame.{Frame}
+use Rattle.daemon_protocol.specs.declared.frames.Frame.TheVariants.{Request}
+use Rattle.daemon_protocol.proofs.Starting.{rest}
+use Rattle.daemon_protocol.proofs.Spelled.{not_less}
+
+-- too few bytes for a unit
+pub short_request : (body : List ℕ) → length body < 4 → None ≡ request_of body
+short_request body short = sym (cond-true _ _ _ (lt-ltb _ _ short))
+
+pub short_reply : (body : List ℕ) → length body < 4 → None ≡ reply_of body
+short_reply body short = sym (cond-true _ _ _ (lt-ltb _ _ short))
+
+-- the unit, and the action of a request with what follows it
+pub long_request : (unit : ℕ) (action : Option (ItemAction × ℕ)) (body : List ℕ) → 4 ≤ length body → unit ≡ from_be_bytes w32 (take 4 body)
+    → action ≡ action_at (take (length body - 4) (drop 4 body)) → request_after unit (take (length body - 4) (drop 4 body)) action ≡ request_of body
+long_request unit action body enough is at =
+    (λ i. request_after (is i) (take (length body - 4) (drop 4 body)) (at i))
+    ∙ (λ i. request_after (from_be_bytes w32 (take 4 body)) (rest body 4 i) (action_at (rest body 4 i)))
+    ∙ sym (cond-false _ _ _ (not_less (length body) 4 enough))
+
+pub some_action : (unit : ℕ) (action : ItemAction) (len : ℕ) (after : List ℕ)
+    → request_with unit action (take (length after - len) (drop len after)) ≡ request_after unit after (Some (action, len))
+some_action unit action len after = ap (request_with unit action) (rest after len)
+
+-- the unit of a reply, and its outcome
+pub long_reply : (unit : ℕ) (outcome : Option Outcome) (body : List ℕ) → 4 ≤ length body → unit ≡ from_be_bytes w32 (take 4 body)
+    → outcome ≡ outcome_of (take (length body - 4) (drop 4 body)) → reply_with unit outcome ≡ reply_of body
+long_reply unit outcome body enough is at =
+    (λ i. reply_with (is i) (at i))
+    ∙ ap (λ after. reply_with (from_be_bytes w32 (take 4 body)) (outcome_of after)) (rest body 4)
+    ∙ sym (cond-false _ _ _ (not_less (length body) 4 enough))
+
+-- the two bytes of a file's length
+two_bytes : (len : ℕ) (bytes : List ℕ) → 2 ≤ length bytes → len ≡ get_or bytes 0 0 * 256 + get_or bytes 1 0 → len ≡ from_be_bytes w16 (take 2 bytes)
+two_bytes len [] enough is = absurd (omega (arith, enough))
+two_bytes len (a ∷ []) enough is = absurd (omega (arith, enough))
+two_bytes len (a ∷ b ∷ bytes) enough is = is
+
+-- the request for a file, if there is one
+abbrev pub framed : ℕ → ItemAction → Option (List ℕ) → Option Frame
+framed unit action None = None
+framed unit action (Some file) = Some (Request record { unit = unit; action = action; file = file })
+
+framed-cond : (unit : ℕ) (action : ItemAction) (is : Bool) (name : List ℕ)
+    → framed unit action (if is then Some name else None) ≡ (if is then Some (Request record { unit = unit; action = action; file = name }) else None)
+framed-cond unit action true name = refl
+framed-cond unit action false name = refl
+
+-- too few bytes for the length
+pub no_length : (unit : ℕ) (action : ItemAction) (bytes : List ℕ) → length bytes < 2 → None ≡ request_with unit action bytes
+no_length unit action bytes short = sym (cond-true _ _ _ (lt-ltb _ _ short))
+
+-- a length that isn't the name's
+pub other_length : (unit : ℕ) (action : ItemAction) (len : ℕ) (bytes : List ℕ) → 2 ≤ length bytes → len ≡ get_or bytes 0 0 * 256 + get_or bytes 1 0
+    → len ≢ length (take (length bytes - 2) (drop 2 bytes)) → None ≡ request_with unit action bytes
+other_length unit action len bytes enough is other =
+    let name = drop 2 bytes in
+    let read : len ≡ from_be_bytes w16 (take 2 bytes) = two_bytes len bytes enough is in
+    let differ : eqb (from_be_bytes w16 (take 2 bytes)) (length name) ≡ false = ne_eqb _ _ (λ same. other (read ∙ same ∙ ap length (sym (rest bytes 2)))) in
+    sym (cond-false _ _ _ (not_less (length bytes) 2 enough) ∙ cond-false _ _ _ (ap (λ same. same && is_file_name name) differ))
+
+-- the length is the name's
+pub own_length : (unit : ℕ) (action : ItemAction) (len : ℕ) (bytes : List ℕ) (file : Option (List ℕ)) → 2 ≤ length bytes → len ≡ get_or bytes 0 0 * 256 + get_or bytes 1 0
+    → len ≡ length (take (length bytes - 2) (drop 2 bytes))
+    → file ≡ (if is_file_name (take (length bytes - 2) (drop 2 bytes)) then Some (take (length bytes - 2) (drop 2 bytes)) else None)
+    → framed unit action file ≡ request_with unit action bytes
+own_length unit action len bytes file enough is same of =
+    let name = drop 2 bytes in
+    let read : len ≡ from_be_bytes w16 (take 2 bytes) = two_bytes len bytes enough is in
+    let equal : eqb (from_be_bytes w16 (take 2 bytes)) (length name) ≡ true = eq-eqb _ _ (sym read ∙ same ∙ ap length (rest bytes 2)) in
+    let request : Frame = Request record { unit = unit; action = action; file = name } in
+    ap (framed unit action) of
+    ∙ ap (λ file. framed unit action (if is_file_name file then Some file else None)) (rest bytes 2)
+    ∙ framed-cond unit action (is_file_name name) name
+    ∙ ap (λ same. if same && is_file_name name then Some request else None) (sym equal)
+    ∙ sym (cond-false _ _ _ (not_less (length bytes) 2 enough))

@@ -1,5 +1,0 @@
-//! Tests of `daemon_protocol`.
-#![tactic(auto)]
-
-#[cfg(test)]
-mod tests;

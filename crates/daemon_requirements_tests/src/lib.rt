@@ -1,5 +1,0 @@
-//! Tests of `daemon_requirements`.
-#![tactic(auto)]
-
-#[cfg(test)]
-mod tests;

@@ -1,0 +1,87 @@
+//! Tests of `daemon_desk`. What every desk is asked here is one daemon for the lines and the bytes of one file.
+ghost use Rattle.std.specs.Prelude.{◌≡◌, IfOk, true};
+ghost use Rattle.item_actions.specs.Forms.{is_file_name};
+
+mod folder;
+mod memory;
+
+use crate::lines::{add_failed, add_outcome};
+use daemon_desk::Desk;
+use daemon_protocol::Request;
+use daemon_requirements::Requirements;
+use item_actions::{ItemAction, Text, is_file_name};
+use std::alloc::Global;
+use std::process::Abort;
+use std::test::Fail;
+
+/// The request of a unit for an action on a.txt.
+fn request(rt: &impl Abort, alloc: Global, unit: u32, action: ItemAction) -> Result<Request, Fail>
+    ensures { IfOk result (λ request. is_file_name request.file ≡ true) }
+{
+    let file = Text::from_str(alloc, "a.txt")?;
+    assert!(rt; is_file_name(file.bytes()));
+    Ok(Request { unit, action, file })
+}
+
+/// Sends a request over the link, and receives its reply.
+fn ask<D: Desk>(
+    alloc: Global,
+    desk: &mut D,
+    link: &mut D::Link,
+    request: &Request,
+    line: &mut String,
+) -> Result<(), Fail>
+    requires { is_file_name request.now.file ≡ true }
+{
+    if let Err(fail) = desk.send(alloc, link, request) {
+        return add_failed("send", fail, line);
+    }
+    match desk.receive(alloc, link) {
+        Ok(reply) => add_outcome(reply.outcome, line),
+        Err(fail) => add_failed("receive", fail, line),
+    }
+}
+
+/// Asks for the unit's action on a.txt over the link.
+fn ask_unit<D: Desk>(
+    rt: &impl Abort,
+    alloc: Global,
+    desk: &mut D,
+    link: &mut D::Link,
+    unit: u32,
+    action: ItemAction,
+    line: &mut String,
+) -> Result<(), Fail> {
+    let request = request(rt, alloc, unit, action)?;
+    ask(alloc, desk, link, &request, line)
+}
+
+/// Asks for the lines and then for the bytes of a.txt over the link.
+fn ask_both<D: Desk>(
+    rt: &impl Abort,
+    alloc: Global,
+    desk: &mut D,
+    link: &mut D::Link,
+    line: &mut String,
+) -> Result<(), Fail> {
+    ask_unit(rt, alloc, desk, link, 0, ItemAction::Lines, line)?;
+    ask_unit(rt, alloc, desk, link, 1, ItemAction::Bytes, line)
+}
+
+/// Starts a daemon, asks it for the lines and then for the bytes of a.txt, and stops it.
+fn ask_twice<D: Desk>(
+    rt: &impl Abort,
+    alloc: Global,
+    desk: &mut D,
+    asked: &Requirements,
+    line: &mut String,
+) -> Result<(), Fail> {
+    match desk.start(alloc, asked) {
+        Ok(mut link) => {
+            let answers = ask_both(rt, alloc, desk, &mut link, line);
+            desk.stop(link);
+            answers
+        }
+        Err(fail) => add_failed("start", fail, line),
+    }
+}

@@ -1,0 +1,43 @@
+//! Desks in memory with one file.
+use daemon_desk::{Lie, MemoryDesk};
+use item_actions::Text;
+use std::alloc::{AllocError, Global};
+use worker_desk::{FileEntry, FileMap};
+
+// The call that receives the first reply, where one daemon is started.
+const FIRST_REPLY: u64 = 2;
+
+/// A desk with a.txt, which has 14 bytes in 3 lines. These calls fail, and these bytes come in place of the first reply.
+pub(crate) fn desk(
+    alloc: Global,
+    failing: &[u64],
+    lie: Option<&[u8]>,
+) -> Result<MemoryDesk, AllocError> {
+    let files = files(alloc)?;
+    let failing = Vec::from_slice(alloc, failing)?;
+    let lies = lies(alloc, lie)?;
+    Ok(MemoryDesk::new(alloc, files, failing, lies))
+}
+
+fn entry(alloc: Global) -> Result<FileEntry, AllocError> {
+    Ok(FileEntry {
+        name: Text::from_str(alloc, "a.txt")?,
+        bytes: Vec::from_slice(alloc, b"one\ntwo\nthree\n")?,
+    })
+}
+
+fn files(alloc: Global) -> Result<FileMap, AllocError> {
+    let mut entries = Vec::new(alloc);
+    entries.push(entry(alloc)?)?;
+    Ok(FileMap::new(entries))
+}
+
+fn lies(alloc: Global, lie: Option<&[u8]>) -> Result<Vec<Lie>, AllocError> {
+    let mut lies = Vec::new(alloc);
+    if let Some(bytes) = lie {
+        let bytes = Vec::from_slice(alloc, bytes)?;
+        let call = FIRST_REPLY;
+        lies.push(Lie { call, bytes })?;
+    }
+    Ok(lies)
+}

@@ -1,0 +1,161 @@
+//! Files of the current folder.
+use crate::worker_desk_tests::{Answer, ReadRow, all_read, reads};
+use item_actions::Text;
+use std::alloc::{AllocError, Global};
+use std::fs::File;
+use std::test::Fail;
+use std::{fs, io, rt};
+use worker_desk::{Files, FolderFiles, Read, StdSink, put_all};
+
+/// Whether a sink over a new file takes the bytes.
+fn writes<R: rt::Files>(rt: &R, name: &str, bytes: &[u8]) -> io::Result<bool> {
+    let mut sink = StdSink::new(File::create(rt, name)?);
+    Ok(put_all(&mut sink, bytes).is_ok() && sink.count() == 0)
+}
+
+/// So many bytes, which aren't all the same.
+fn varied(alloc: Global, len: u64) -> Result<Vec<u8>, AllocError> {
+    let mut bytes = Vec::new(alloc);
+    for place in 0..len {
+        bytes.push((place % 251) as u8)?;
+    }
+    Ok(bytes)
+}
+
+/// Reads that answer beside a file of 10,000 bytes.
+const ANSWERED: [ReadRow<'static>; 2] = [
+    ("worker_desk_written.txt", 9999, Answer::TooLong),
+    ("worker_desk_missing.txt", 10000, Answer::NotThere),
+];
+
+/// Reads that fail, of a folder and of a name under a file.
+const FAILED: [ReadRow<'static>; 2] = [
+    (".", 10000, Answer::Failed),
+    ("worker_desk_written.txt/a", 10000, Answer::Failed),
+];
+
+const WRITTEN_FILE: &str = "worker_desk_written.txt";
+
+/// Whether a file of 10,000 bytes that a sink wrote is read whole.
+fn is_written<R: rt::Files, F: Files>(rt: &R, alloc: Global, desk: &mut F) -> io::Result<bool> {
+    let content = [b'x'; 10000];
+    let whole = (WRITTEN_FILE, 10000, Answer::Bytes(&content));
+    Ok(writes(rt, WRITTEN_FILE, &content)? && reads(alloc, desk, &whole)?)
+}
+
+/// Whether reads of what isn't a file of so few bytes are told, of which two are faults.
+fn tells_faults<R: rt::Files + Drop>(
+    alloc: Global,
+    desk: &mut FolderFiles<R>,
+) -> Result<bool, AllocError> {
+    let answered = all_read(alloc, desk, &ANSWERED)? && desk.count() == 0;
+    let failed = all_read(alloc, desk, &FAILED)? && desk.count() == 2;
+    Ok(answered && failed)
+}
+
+#[test]
+fn what_a_sink_wrote_is_read_from_the_folder(rt: HostRuntime) -> Result<(), Fail> {
+    let mut desk = FolderFiles::new(&rt, rt.alloc());
+    assert!(rt; is_written(&rt, rt.alloc(), &mut desk)?);
+    assert!(rt; tells_faults(rt.alloc(), &mut desk)?);
+    fs::remove_file(&rt, WRITTEN_FILE)?;
+    Ok(())
+}
+
+/// Lengths of files about the room of the first read, each with one below it.
+const LENGTHS: [(u64, u64); 6] = [
+    (0, 1),
+    (1022, 1023),
+    (1023, 1024),
+    (1024, 1025),
+    (2048, 2049),
+    (4999, 5000),
+];
+
+const LENGTHS_FILE: &str = "worker_desk_lengths.txt";
+
+/// Whether a file that has these bytes is read whole by their number, and is too long for one below.
+fn are_read<R: rt::Files, F: Files>(
+    rt: &R,
+    alloc: Global,
+    desk: &mut F,
+    bytes: &[u8],
+    below: u64,
+) -> io::Result<bool> {
+    let written = writes(rt, LENGTHS_FILE, bytes)?;
+    let whole = (LENGTHS_FILE, bytes.len() as u64, Answer::Bytes(bytes));
+    let too_long = (LENGTHS_FILE, below, Answer::TooLong);
+    Ok(written && reads(alloc, desk, &whole)? && reads(alloc, desk, &too_long)?)
+}
+
+/// Whether files of all these lengths are read, and an empty one.
+fn lengths_are_read<R: rt::Files, F: Files>(
+    rt: &R,
+    alloc: Global,
+    desk: &mut F,
+) -> io::Result<bool> {
+    for (below, len) in LENGTHS {
+        if !are_read(rt, alloc, desk, varied(alloc, len)?.as_slice(), below)? {
+            return Ok(false);
+        }
+    }
+    fs::write(rt, LENGTHS_FILE, b"")?;
+    Ok(reads(alloc, desk, &(LENGTHS_FILE, 0, Answer::Bytes(b"")))?)
+}
+
+#[test]
+fn files_of_lengths_about_the_first_room_are_read(rt: HostRuntime) -> Result<(), Fail> {
+    let mut desk = FolderFiles::new(&rt, rt.alloc());
+    assert!(rt; lengths_are_read(&rt, rt.alloc(), &mut desk)? && desk.count() == 0);
+    fs::remove_file(&rt, LENGTHS_FILE)?;
+    Ok(())
+}
+
+const GIVEN_BACK_FILE: &str = "worker_desk_given_back.txt";
+
+/// Whether a file that has these bytes is read whole, and then gives its bytes back. It is too long
+/// for half of them, where there are any.
+fn are_given_back<R: rt::Files, F: Files>(
+    rt: &R,
+    alloc: Global,
+    desk: &mut F,
+    bytes: &[u8],
+) -> io::Result<bool> {
+    fs::write(rt, GIVEN_BACK_FILE, bytes)?;
+    let half = (GIVEN_BACK_FILE, bytes.len() as u64 / 2, Answer::TooLong);
+    let is_cut = reads(alloc, desk, &half)?;
+    Ok(is_cut != bytes.is_empty() && is_given_back(alloc, desk, bytes)?)
+}
+
+fn is_given_back<F: Files>(alloc: Global, desk: &mut F, bytes: &[u8]) -> Result<bool, AllocError> {
+    let name = Text::from_str(alloc, GIVEN_BACK_FILE)?;
+    let Ok(Read::Bytes(read)) = desk.read(alloc, &name, bytes.len() as u64) else {
+        return Ok(false);
+    };
+    let is_whole = read.as_bytes() == bytes;
+    desk.give_back(read);
+    Ok(is_whole)
+}
+
+const GIVEN_BACK_LENGTHS: [u64; 6] = [5000, 3, 1024, 0, 6000, 4999];
+
+fn lengths_are_given_back<R: rt::Files, F: Files>(
+    rt: &R,
+    alloc: Global,
+    desk: &mut F,
+) -> io::Result<bool> {
+    for len in GIVEN_BACK_LENGTHS {
+        if !are_given_back(rt, alloc, desk, varied(alloc, len)?.as_slice())? {
+            return Ok(false);
+        }
+    }
+    Ok(true)
+}
+
+#[test]
+fn files_are_read_into_memory_that_was_given_back(rt: HostRuntime) -> Result<(), Fail> {
+    let mut desk = FolderFiles::new(&rt, rt.alloc());
+    assert!(rt; lengths_are_given_back(&rt, rt.alloc(), &mut desk)? && desk.count() == 0);
+    fs::remove_file(&rt, GIVEN_BACK_FILE)?;
+    Ok(())
+}

@@ -1,0 +1,179 @@
+//! What the lines of a history are read as, and texts in which something follows the end.
+use history_reader::{TextFail, read_history};
+use item_actions::Outcome;
+use lock_journal::{Closed, Kind};
+use resource_lock::{Change, LockId, Mark, MarkId, WorkerId};
+use std::alloc::Global;
+use std::test::Fail;
+
+/// Where a text stops, or None where it is read.
+fn stop_of(alloc: Global, text: &[u8]) -> Result<Option<u64>, Fail> {
+    match read_history(alloc, text) {
+        Ok(_) => Ok(None),
+        Err(TextFail::Stops(number)) => Ok(Some(number)),
+        Err(fail) => Err(Fail::from(fail)),
+    }
+}
+
+/// Lines behind a head, and where they stop: behind the end.
+const ODD_LINES: [(&[u8], u64); 3] = [
+    (b"end 0\n\n", 1),
+    (b"end 0\nhistory 1\nworkers 1 max 1 parallel no\nend 0\n", 1),
+    (
+        b"1 w0 acquire | nothing\nend 1\n2 w0 acquire | nothing\n",
+        2,
+    ),
+];
+
+#[test]
+fn lines_behind_the_end(rt: HostRuntime) -> Result<(), Fail> {
+    for (lines, stop) in ODD_LINES {
+        let mut text = Vec::from_slice(rt.alloc(), b"history 1\nworkers 1 max 1 parallel no\n")?;
+        text.extend_from_slice(lines)?;
+        assert!(rt; stop_of(rt.alloc(), &text)? == Some(stop));
+    }
+    Ok(())
+}
+
+/// A line, and the entry that it tells.
+type Told = (&'static [u8], u32, Kind, Option<&'static [Change]>);
+
+const TOLD: [Told; 16] = [
+    (
+        b"1 w0 start 1 | lock 2, take, task 1 waiting running\n",
+        0,
+        Kind::Start(1),
+        Some(&[
+            Change::Lock(LockId(2)),
+            Change::Take,
+            Change::Move(MarkId::Task(1), Mark::Waiting, Mark::Running(WorkerId(0))),
+        ]),
+    ),
+    (
+        b"1 w1 skip 2 | task 2 waiting skipped, action 3 waiting skipped\n",
+        1,
+        Kind::Skip(2),
+        Some(&[
+            Change::Move(MarkId::Task(2), Mark::Waiting, Mark::Skipped),
+            Change::Move(MarkId::Action(3), Mark::Waiting, Mark::Skipped),
+        ]),
+    ),
+    (
+        b"1 w31 submit 3 | action 3 waiting queued, unit 4 waiting queued\n",
+        31,
+        Kind::Submit(3),
+        Some(&[
+            Change::Move(MarkId::Action(3), Mark::Waiting, Mark::Queued),
+            Change::Move(MarkId::Unit(4), Mark::Waiting, Mark::Queued),
+        ]),
+    ),
+    (
+        b"1 w7 park 4 | give, unlock 0, park 0, action 4 queued running\n",
+        7,
+        Kind::Park(4),
+        Some(&[
+            Change::Give,
+            Change::Unlock(LockId(0)),
+            Change::Park(LockId(0)),
+            Change::Move(MarkId::Action(4), Mark::Queued, Mark::Running(WorkerId(7))),
+        ]),
+    ),
+    (
+        b"1 w7 resume 4 | unpark 0, action 4 running passed\n",
+        7,
+        Kind::Resume(4),
+        Some(&[
+            Change::Unpark(LockId(0)),
+            Change::Move(MarkId::Action(4), Mark::Running(WorkerId(7)), Mark::Passed),
+        ]),
+    ),
+    (b"1 w7 claim 5 | failed\n", 7, Kind::Claim(5), None),
+    (
+        b"1 w7 close 6 number 12 | unit 6 running failed, give\n",
+        7,
+        Kind::Close(Closed {
+            unit: 6,
+            outcome: Outcome::Number(12),
+        }),
+        Some(&[
+            Change::Move(MarkId::Unit(6), Mark::Running(WorkerId(7)), Mark::Failed),
+            Change::Give,
+        ]),
+    ),
+    (
+        b"1 w7 close 6 digest 0a0a0a0a0a0a0a0a0a0a0a0a0a0a0a0a0a0a0a0a0a0a0a0a0a0a0a0a0a0a0a0a | failed\n",
+        7,
+        Kind::Close(Closed {
+            unit: 6,
+            outcome: Outcome::Digest([10; 32]),
+        }),
+        None,
+    ),
+    (
+        b"1 w7 close 6 missing | failed\n",
+        7,
+        Kind::Close(Closed {
+            unit: 6,
+            outcome: Outcome::NotThere,
+        }),
+        None,
+    ),
+    (
+        b"1 w7 close 6 too-long | failed\n",
+        7,
+        Kind::Close(Closed {
+            unit: 6,
+            outcome: Outcome::TooLong,
+        }),
+        None,
+    ),
+    (
+        b"1 w7 unblock 6 fault | leave\n",
+        7,
+        Kind::Unblock(Some(Closed {
+            unit: 6,
+            outcome: Outcome::Fault,
+        })),
+        Some(&[Change::Leave]),
+    ),
+    (
+        b"1 w7 unblock 6 no-memory | failed\n",
+        7,
+        Kind::Unblock(Some(Closed {
+            unit: 6,
+            outcome: Outcome::NoMemory,
+        })),
+        None,
+    ),
+    (
+        b"1 w7 unblock - | nothing\n",
+        7,
+        Kind::Unblock(None),
+        Some(&[]),
+    ),
+    (
+        b"1 w7 block 8 | enter\n",
+        7,
+        Kind::Block(Some(8)),
+        Some(&[Change::Enter]),
+    ),
+    (b"1 w7 end 9 | failed\n", 7, Kind::End(9), None),
+    (b"1 w7 handback | nothing\n", 7, Kind::HandBack, Some(&[])),
+];
+
+#[test]
+fn entries_of_each_kind(rt: HostRuntime) -> Result<(), Fail> {
+    for (line, worker, kind, changes) in TOLD {
+        let mut text = Vec::from_slice(rt.alloc(), b"history 1\nworkers 32 max 3 parallel yes\n")?;
+        text.extend_from_slice(line)?;
+        text.extend_from_slice(b"end 1\n")?;
+        let history = read_history(rt.alloc(), &text)?;
+        assert!(rt; (history.workers, history.max, history.parallel) == (32, 3, true));
+        assert!(rt; history.entries.len() == 1);
+        for entry in &history.entries {
+            assert!(rt; entry.worker == WorkerId(worker) && entry.kind == kind);
+            assert!(rt; entry.changes.as_deref() == changes);
+        }
+    }
+    Ok(())
+}

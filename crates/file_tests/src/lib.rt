@@ -1,0 +1,15 @@
+//! Tests of `item_actions`, `worker_desk`, `history_text` and `history_reader`.
+#![tactic(auto)]
+
+#[cfg(test)]
+mod folder_tests;
+#[cfg(test)]
+mod gate_tests;
+#[cfg(test)]
+mod history_reader_tests;
+#[cfg(test)]
+mod history_text_tests;
+#[cfg(test)]
+mod item_actions_tests;
+#[cfg(test)]
+mod worker_desk_tests;

@@ -1,0 +1,6 @@
+use Rattle.std.proofs.Common.{append_assoc}
+use Rattle.worker_desk.proofs.Telling.{adds_as, adds_then}
+use Rattle.generated_plan.proofs.plans.write_project.Goals as goal
+
+pub returns : goal.returns
+returns g c = adds_as (simp append_assoc) (adds_then (adds_then c.text.ensures c.number.ensures) c.text-2.ensures)

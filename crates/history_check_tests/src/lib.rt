@@ -1,5 +1,0 @@
-//! Tests of `history_check`.
-#![tactic(auto)]
-
-#[cfg(test)]
-mod tests;

@@ -1,5 +1,0 @@
-//! Tests of `history_reader`.
-#![tactic(auto)]
-
-#[cfg(test)]
-mod tests;

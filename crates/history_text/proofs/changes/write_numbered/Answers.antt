@@ -1,0 +1,6 @@
+use Rattle.std.proofs.Common.{ap, decimal}
+use Rattle.worker_desk.proofs.Telling.{adds_as, adds_then}
+use Rattle.history_text.proofs.changes.write_numbered.Goals as goal
+
+pub returns : goal.returns
+returns g c = adds_then c.text.ensures (adds_as (ap decimal c.from.ensures) c.number.ensures)

@@ -1,0 +1,6 @@
+use Rattle.std.proofs.Common.{ap, decimal}
+use Rattle.worker_desk.proofs.Telling.{adds_as, adds_then}
+use Rattle.history_text.proofs.summaries.write_total_line.Goals as goal
+
+pub returns : goal.returns
+returns g c = adds_then (adds_then c.text.ensures (adds_as (ap decimal c.total_of.ensures) c.number128.ensures)) c.text-2.ensures

@@ -1,5 +1,0 @@
-//! Tests of `item_actions`.
-#![tactic(auto)]
-
-#[cfg(test)]
-mod tests;

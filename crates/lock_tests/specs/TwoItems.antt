@@ -1,0 +1,29 @@
+-- A task with one action of two items, as the worked example runs it.
+use Rattle.std.specs.Prelude.{◌≡◌, false, [], ◌∷◌}
+use Rattle.resource_lock.specs.GraphView.{GraphView}
+use Rattle.resource_lock.specs.declared.graphs.Retention.{Retention}
+use Rattle.coordination.specs.declared.rule.Sight.{Sight}
+use Rattle.async_tracker.specs.ParkedView.{ParkedView}
+use Rattle.async_tracker.specs.Shows.{IsFree, IsIdleOrParked, IsParkedBy}
+
+-- one lock, two workers and one lease
+abbrev pub two_items : Retention → GraphView
+two_items retention = record {
+  locks = 1;
+  workers = 2;
+  max_leases = 1;
+  units = 2;
+  tasks = record { lock = record { 0 = 0 }; after = []; first_action = 0; actions = 1 } ∷ [];
+  actions = record { task = 0; retention = retention; fetch = false; first_unit = 0; items = 2 } ∷ [];
+}
+
+pub record HasTwoItems (g : GraphView) : Type 0 where
+  pub retention : Retention
+  pub is : g ≡ two_items retention
+
+-- The worker waits for the two items, and can claim one.
+pub record CanHelp (s : Sight) (p : ParkedView) : Type 0 where
+  pub graph : HasTwoItems s.seen.graph
+  pub own : IsParkedBy s p
+  pub free : IsFree s
+  pub waits : IsIdleOrParked s

@@ -1,0 +1,495 @@
+//! A task with two items, worked by the calls: each call's conditions follow from the clauses of those
+//! before. Then a worker that waits while another has the lock and the lease.
+ghost use Rattle.std.specs.Prelude.{◌≡◌, ◌≢◌, ◌<◌, [], ◌∷◌, All, IfOk, IfSome, Ok, OnOk, length, true};
+ghost use Rattle.resource_lock.specs.declared.marks.MarkId.TheVariants as ids;
+ghost use Rattle.item_actions.specs.declared.outcomes.Outcome.TheVariants as outcomes;
+ghost use Rattle.coordination.specs.Holds.{HoldsNothing};
+ghost use Rattle.coordination.specs.Shown.{Shows};
+ghost use Rattle.lock_tests.specs.TwoItems.{CanHelp, HasTwoItems};
+
+use crate::entries::{EntryRow, are_entries};
+use crate::rows::{Limits, TaskRow};
+use crate::services::{open, yield_a_while};
+use async_tracker::{Held, Parked, claim, close, closing_undoes_claiming, park, resume, submit};
+use coordination::{Coordination, Halt, Opened, Pass};
+use item_actions::Outcome;
+use lock_journal::kinds::{Acquire, End, HandBack, Shortage, Start};
+use lock_journal::{Closed, Kind};
+use resource_lock::{Change, GraphAction, LockId, Mark, MarkId, Retention, WorkerId};
+use std::alloc::{AllocError, Global};
+use std::process::Abort;
+use std::sync::Wait;
+use std::test::Fail;
+use std::thread::{Threads, join};
+
+/// Starts the task. False says that it can't be started.
+fn start<R: Wait>(rt: &R, service: &Coordination, pass: &mut Pass) -> Result<bool, Halt>
+    requires service { pass.old.service ≡ service.now.service }
+    requires graph { HasTwoItems pass.old.sight.seen.graph }
+    requires rests { HoldsNothing pass.old.sight }
+    ensures service { pass.new.service ≡ pass.old.service }
+    ensures started { result ≡ Ok true → Shows (record { 0 = 0 } ∷ []) true (ids.Task 0 ∷ []) [] pass.old.sight pass.new.sight }
+{
+    service.with_state_lock(rt, pass, &Start { task: 0 })
+}
+
+/// Starts the task, and waits for its items. None says that it can't be started.
+fn wait_for_items<R: Wait>(
+    rt: &R,
+    service: &Coordination,
+    pass: &mut Pass,
+) -> Result<Option<Parked>, Halt>
+    requires service { pass.old.service ≡ service.now.service }
+    requires graph { HasTwoItems pass.old.sight.seen.graph }
+    requires rests { HoldsNothing pass.old.sight }
+    ensures service { pass.new.service ≡ pass.old.service }
+    ensures helps { IfOk result (λ parked. IfSome parked (CanHelp pass.new.sight)) }
+{
+    if !start(rt, service, pass)? {
+        return Ok(None);
+    }
+    submit(rt, service, pass, 0)?;
+    Ok(Some(park(rt, service, pass, 0)?))
+}
+
+/// Claims an item and closes it. False says that it isn't Queued.
+fn run_item<R: Wait>(
+    rt: &R,
+    service: &Coordination,
+    pass: &mut Pass,
+    parked: &Parked,
+    unit: u32,
+    number: u64,
+) -> Result<bool, Halt>
+    requires service { pass.old.service ≡ service.now.service }
+    requires helps { CanHelp pass.old.sight parked.now }
+    requires in_range { unit < 2 }
+    ensures service { pass.new.service ≡ pass.old.service }
+    ensures helps { OnOk result (CanHelp pass.new.sight parked.now) }
+{
+    closing_undoes_claiming();
+    if !claim(rt, service, pass, unit)? {
+        return Ok(false);
+    }
+    match close(rt, service, pass, unit, Outcome::Number(number)) {
+        Ok(()) => Ok(true),
+        Err(_) => Err(Halt::NoMemory),
+    }
+}
+
+/// Runs both items. False says that one isn't Queued.
+fn run_both<R: Wait>(
+    rt: &R,
+    service: &Coordination,
+    pass: &mut Pass,
+    parked: &Parked,
+) -> Result<bool, Halt>
+    requires service { pass.old.service ≡ service.now.service }
+    requires helps { CanHelp pass.old.sight parked.now }
+    ensures service { pass.new.service ≡ pass.old.service }
+    ensures helps { OnOk result (CanHelp pass.new.sight parked.now) }
+{
+    let first = run_item(rt, service, pass, parked, 0, 3)?;
+    let second = run_item(rt, service, pass, parked, 1, 14)?;
+    Ok(first && second)
+}
+
+/// Goes on once the items have ended. False says that one hasn't.
+fn go_on<R: Wait>(
+    rt: &R,
+    service: &Coordination,
+    pass: &mut Pass,
+    parked: Parked,
+) -> Result<bool, Halt>
+    requires service { pass.old.service ≡ service.now.service }
+    requires helps { CanHelp pass.old.sight parked }
+    ensures service { pass.new.service ≡ pass.old.service }
+{
+    match resume(rt, service, pass, parked) {
+        Ok(()) => Ok(true),
+        Err(Held::StillWaiting(_, _)) => Ok(false),
+        Err(Held::NoMemory(_)) => Err(Halt::NoMemory),
+        Err(Held::Stopped(_, by)) => Err(Halt::Stopped(by)),
+    }
+}
+
+/// Works the whole task. False says that a call answered otherwise than one expects.
+fn run_task<R: Wait>(rt: &R, service: &Coordination, pass: &mut Pass) -> Result<bool, Halt>
+    requires service { pass.old.service ≡ service.now.service }
+    requires graph { HasTwoItems pass.old.sight.seen.graph }
+    requires rests { HoldsNothing pass.old.sight }
+    ensures service { pass.new.service ≡ pass.old.service }
+{
+    let Some(parked) = wait_for_items(rt, service, pass)? else {
+        return Ok(false);
+    };
+    let ran = run_both(rt, service, pass, &parked)?;
+    let resumed = go_on(rt, service, pass, parked)?;
+    let ended = service.with_state_lock(rt, pass, &End { task: 0 })?;
+    Ok(ran && resumed && ended)
+}
+
+/// A service with two workers, one lock and one lease, and the task with two items.
+fn open_task(
+    rt: &impl Abort,
+    alloc: Global,
+    retention: Retention,
+) -> Result<Box<Opened>, AllocError>
+    ensures service { IfOk result (λ opened. All (λ p. p.service ≡ opened.value.service.service) opened.value.passes.items) }
+    ensures graph { IfOk result (λ opened. All (λ p. HasTwoItems p.sight.seen.graph) opened.value.passes.items) }
+    ensures len { IfOk result (λ opened. length opened.value.passes.items ≡ 2) }
+    ensures rests { IfOk result (λ opened. All (λ p. HoldsNothing p.sight) opened.value.passes.items) }
+{
+    let limits = Limits {
+        locks: 1,
+        workers: 2,
+        max_leases: 1,
+    };
+    let task = TaskRow {
+        lock: 0,
+        after: None,
+        first_action: 0,
+        actions: 1,
+    };
+    let action = GraphAction {
+        task: 0,
+        retention,
+        fetch: false,
+        first_unit: 0,
+        items: 2,
+    };
+    open(rt, alloc, &limits, &[task], &[action])
+}
+
+const LOCK: LockId = LockId(0);
+
+const TASK: MarkId = MarkId::Task(0);
+
+const ACTION: MarkId = MarkId::Action(0);
+
+const FIRST: MarkId = MarkId::Unit(0);
+
+const SECOND: MarkId = MarkId::Unit(1);
+
+const RUNNING: Mark = Mark::Running(WorkerId(0));
+
+const FIRST_CLOSED: Closed = Closed {
+    unit: 0,
+    outcome: Outcome::Number(3),
+};
+
+const SECOND_CLOSED: Closed = Closed {
+    unit: 1,
+    outcome: Outcome::Number(14),
+};
+
+/// The entries that are the same whatever becomes of the task's lock.
+const WORKED: [EntryRow<'static>; 6] = [
+    EntryRow {
+        place: 0,
+        kind: Kind::Start(0),
+        changes: Some(&[
+            Change::Lock(LOCK),
+            Change::Take,
+            Change::Move(TASK, Mark::Waiting, RUNNING),
+        ]),
+    },
+    EntryRow {
+        place: 1,
+        kind: Kind::Submit(0),
+        changes: Some(&[
+            Change::Move(ACTION, Mark::Waiting, Mark::Queued),
+            Change::Move(FIRST, Mark::Waiting, Mark::Queued),
+            Change::Move(SECOND, Mark::Waiting, Mark::Queued),
+        ]),
+    },
+    EntryRow {
+        place: 3,
+        kind: Kind::Claim(0),
+        changes: Some(&[Change::Take, Change::Move(FIRST, Mark::Queued, RUNNING)]),
+    },
+    EntryRow {
+        place: 4,
+        kind: Kind::Close(FIRST_CLOSED),
+        changes: Some(&[Change::Move(FIRST, RUNNING, Mark::Passed), Change::Give]),
+    },
+    EntryRow {
+        place: 5,
+        kind: Kind::Claim(1),
+        changes: Some(&[Change::Take, Change::Move(SECOND, Mark::Queued, RUNNING)]),
+    },
+    EntryRow {
+        place: 6,
+        kind: Kind::Close(SECOND_CLOSED),
+        changes: Some(&[Change::Move(SECOND, RUNNING, Mark::Passed), Change::Give]),
+    },
+];
+
+const PARKS_RELEASING: EntryRow<'static> = EntryRow {
+    place: 2,
+    kind: Kind::Park(0),
+    changes: Some(&[
+        Change::Give,
+        Change::Unlock(LOCK),
+        Change::Park(LOCK),
+        Change::Move(ACTION, Mark::Queued, RUNNING),
+    ]),
+};
+
+const ENDS_WITH_LEASE: EntryRow<'static> = EntryRow {
+    place: 8,
+    kind: Kind::End(0),
+    changes: Some(&[
+        Change::Move(TASK, RUNNING, Mark::Passed),
+        Change::Unlock(LOCK),
+        Change::Give,
+    ]),
+};
+
+const RETAINS: [EntryRow<'static>; 3] = [
+    EntryRow {
+        place: 2,
+        kind: Kind::Park(0),
+        changes: Some(&[Change::Give, Change::Move(ACTION, Mark::Queued, RUNNING)]),
+    },
+    EntryRow {
+        place: 7,
+        kind: Kind::Resume(0),
+        changes: Some(&[Change::Take, Change::Move(ACTION, RUNNING, Mark::Passed)]),
+    },
+    ENDS_WITH_LEASE,
+];
+
+const REACQUIRES: [EntryRow<'static>; 3] = [
+    PARKS_RELEASING,
+    EntryRow {
+        place: 7,
+        kind: Kind::Resume(0),
+        changes: Some(&[
+            Change::Unpark(LOCK),
+            Change::Lock(LOCK),
+            Change::Take,
+            Change::Move(ACTION, RUNNING, Mark::Passed),
+        ]),
+    },
+    ENDS_WITH_LEASE,
+];
+
+const RELEASES: [EntryRow<'static>; 3] = [
+    PARKS_RELEASING,
+    EntryRow {
+        place: 7,
+        kind: Kind::Resume(0),
+        changes: Some(&[
+            Change::Unpark(LOCK),
+            Change::Move(ACTION, RUNNING, Mark::Passed),
+        ]),
+    },
+    EntryRow {
+        place: 8,
+        kind: Kind::End(0),
+        changes: Some(&[Change::Move(TASK, RUNNING, Mark::Passed)]),
+    },
+];
+
+/// Whether the task is worked by the entries that it has to make, of which these tell what becomes of
+/// its lock.
+fn makes<R: Wait>(rt: &R, service: &Coordination, pass: &mut Pass, rows: &[EntryRow<'_>]) -> bool
+    requires service { pass.old.service ≡ service.now.service }
+    requires graph { HasTwoItems pass.old.sight.seen.graph }
+    requires rests { HoldsNothing pass.old.sight }
+{
+    matches!(run_task(rt, service, pass), Ok(true))
+        && pass.last() == 9
+        && are_entries(rt, service, pass, &WORKED)
+        && are_entries(rt, service, pass, rows)
+}
+
+#[test]
+fn each_retention_makes_its_entries(rt: HostRuntime) -> Result<(), Fail> {
+    for (retention, rows) in [
+        (Retention::Retain, &RETAINS),
+        (Retention::ReleaseAndReacquire, &REACQUIRES),
+        (Retention::Release, &RELEASES),
+    ] {
+        let mut opened = open_task(&rt, rt.alloc(), retention)?;
+        let Opened { service, passes } = &mut *opened;
+        assert!(rt; makes(&rt, service, &mut passes[0], rows));
+    }
+    Ok(())
+}
+
+/// Resumes too early, claims an item twice, and then goes on. False says that a call answered
+/// otherwise than one expects.
+fn try_too_early<R: Wait>(rt: &R, service: &Coordination, pass: &mut Pass) -> Result<bool, Halt>
+    requires service { pass.old.service ≡ service.now.service }
+    requires graph { HasTwoItems pass.old.sight.seen.graph }
+    requires rests { HoldsNothing pass.old.sight }
+    ensures service { pass.new.service ≡ pass.old.service }
+{
+    let Some(parked) = wait_for_items(rt, service, pass)? else {
+        return Ok(false);
+    };
+    let first = run_item(rt, service, pass, &parked, 0, 3)?;
+    let Err(Held::StillWaiting(parked, unit)) = resume(rt, service, pass, parked) else {
+        return Ok(false);
+    };
+    let again = run_item(rt, service, pass, &parked, 0, 3)?;
+    let second = run_item(rt, service, pass, &parked, 1, 14)?;
+    Ok(first && unit == 1 && !again && second && resume(rt, service, pass, parked).is_ok())
+}
+
+#[test]
+fn an_open_item_holds_the_worker(rt: HostRuntime) -> Result<(), Fail> {
+    let mut opened = open_task(&rt, rt.alloc(), Retention::Retain)?;
+    let Opened { service, passes } = &mut *opened;
+    assert!(rt; matches!(try_too_early(&rt, service, &mut passes[0]), Ok(true)));
+    Ok(())
+}
+
+/// Takes the lock and the lease.
+fn take_both<R: Wait>(rt: &R, service: &Coordination, pass: &mut Pass) -> Result<bool, Halt>
+    requires service { pass.old.service ≡ service.now.service }
+    ensures service { pass.new.service ≡ pass.old.service }
+{
+    let acquire = Acquire {
+        locks: &[LOCK],
+        shortage: Shortage::Waits,
+    };
+    service.with_state_lock(rt, pass, &acquire)
+}
+
+/// Gives the lock and the lease back after a while, or stops the service.
+fn let_go<R: Wait>(rt: &R, service: &Coordination, pass: &mut Pass, stops: bool) -> bool
+    requires service { pass.old.service ≡ service.now.service }
+{
+    yield_a_while();
+    if stops {
+        service.stop_all(rt, pass);
+        return true;
+    }
+    matches!(service.with_state_lock(rt, pass, &HandBack), Ok(true))
+}
+
+/// What a worker waits for while another has the lock and the lease.
+#[derive(Clone, Copy)]
+enum Wanted {
+    /// A lease, to claim the first item.
+    Lease,
+    /// The lock and a lease, to go on after both items.
+    LockAndLease,
+}
+
+/// Starts the task, and runs its items where the worker is to go on after them. None says that a
+/// call answered otherwise than one expects.
+fn prepare<R: Wait>(
+    rt: &R,
+    service: &Coordination,
+    pass: &mut Pass,
+    wanted: Wanted,
+) -> Result<Option<Parked>, Halt>
+    requires service { pass.old.service ≡ service.now.service }
+    requires graph { HasTwoItems pass.old.sight.seen.graph }
+    requires rests { HoldsNothing pass.old.sight }
+    ensures service { pass.new.service ≡ pass.old.service }
+    ensures helps { IfOk result (λ parked. IfSome parked (CanHelp pass.new.sight)) }
+{
+    let Some(parked) = wait_for_items(rt, service, pass)? else {
+        return Ok(None);
+    };
+    match wanted {
+        Wanted::Lease => Ok(Some(parked)),
+        Wanted::LockAndLease => {
+            let ran = run_both(rt, service, pass, &parked)?;
+            Ok(ran.then_some(parked))
+        }
+    }
+}
+
+/// Waits for what is wanted.
+fn get<R: Wait>(
+    rt: &R,
+    service: &Coordination,
+    pass: &mut Pass,
+    parked: Parked,
+    wanted: Wanted,
+) -> Result<bool, Halt>
+    requires service { pass.old.service ≡ service.now.service }
+    requires helps { CanHelp pass.old.sight parked }
+    ensures service { pass.new.service ≡ pass.old.service }
+{
+    match wanted {
+        Wanted::Lease => run_item(rt, service, pass, &parked, 0, 3),
+        Wanted::LockAndLease => go_on(rt, service, pass, parked),
+    }
+}
+
+/// Waits while another worker has the lock and the lease, and lets them go after a while or stops the
+/// service.
+fn get_beside<R: Threads + Wait + Sync>(
+    rt: &R,
+    service: &Coordination,
+    first: &mut Pass,
+    second: &mut Pass,
+    wanted: Wanted,
+    stops: bool,
+) -> Result<bool, Halt>
+    requires first { first.old.service ≡ service.now.service }
+    requires second { second.old.service ≡ service.now.service }
+    requires graph { HasTwoItems first.old.sight.seen.graph }
+    requires rests { HoldsNothing first.old.sight }
+{
+    let Some(parked) = prepare(rt, service, first, wanted)? else {
+        return Ok(false);
+    };
+    if !take_both(rt, service, second)? {
+        return Ok(false);
+    }
+    let (got, lets_go) = join(
+        rt,
+        || get(rt, service, first, parked, wanted),
+        || let_go(rt, service, second, stops),
+    );
+    Ok(got? && lets_go)
+}
+
+/// Whether the wait ends by what the other worker does.
+fn ends<R: Threads + Wait + Sync>(
+    rt: &R,
+    service: &Coordination,
+    passes: &mut [Pass],
+    wanted: Wanted,
+    stops: bool,
+) -> bool
+    requires service { All (λ p. p.service ≡ service.now.service) passes.old }
+    requires graph { All (λ p. HasTwoItems p.sight.seen.graph) passes.old }
+    requires rests { All (λ p. HoldsNothing p.sight) passes.old }
+    requires two { length passes.old ≡ 2 }
+{
+    let (first, second) = passes.split_at_mut(1);
+    match get_beside(rt, service, &mut first[0], &mut second[0], wanted, stops) {
+        Ok(got) => got && !stops,
+        Err(Halt::Stopped(by)) => stops && by == WorkerId(1),
+        Err(Halt::NoMemory) => false,
+    }
+}
+
+#[test]
+fn a_claim_waits_for_a_lease(rt: HostRuntime) -> Result<(), Fail> {
+    for stops in [false, true] {
+        let mut opened = open_task(&rt, rt.alloc(), Retention::Release)?;
+        let Opened { service, passes } = &mut *opened;
+        assert!(rt; ends(&rt, service, passes, Wanted::Lease, stops));
+    }
+    Ok(())
+}
+
+#[test]
+fn a_resume_waits_for_the_lock_and_a_lease(rt: HostRuntime) -> Result<(), Fail> {
+    for stops in [false, true] {
+        let mut opened = open_task(&rt, rt.alloc(), Retention::ReleaseAndReacquire)?;
+        let Opened { service, passes } = &mut *opened;
+        assert!(rt; ends(&rt, service, passes, Wanted::LockAndLease, stops));
+    }
+    Ok(())
+}

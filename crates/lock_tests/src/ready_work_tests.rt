@@ -1,0 +1,200 @@
+//! The index of what can be done next, and the sets of numbers that it is kept in.
+ghost use Rattle.std.specs.Prelude.{◌≡◌, ◌≤◌, IfOk, true};
+ghost use Rattle.resource_lock.specs.Shape.{BelongsTo};
+ghost use Rattle.resource_lock.specs.StateView.{StateView, IsMarkOf};
+ghost use Rattle.ready_work.specs.NumberSetView.{room_of};
+ghost use Rattle.ready_work.specs.ReadyWork.{IsIndexOf};
+
+use crate::graphs::graph_of;
+use crate::rows::{Limits, TaskRow};
+use ready_work::{NumberSet, ReadyWork};
+use resource_lock::{Change, Graph, GraphAction, Mark, MarkId, Retention, State, WorkerId};
+use std::alloc::{AllocError, Global};
+use std::process::Abort;
+use std::test::Fail;
+
+const FIRST: WorkerId = WorkerId(0);
+
+const LIMITS: Limits = Limits {
+    locks: 1,
+    workers: 1,
+    max_leases: 1,
+};
+
+/// A task with one action, that of its number.
+fn task(number: u32, after: Option<u32>) -> TaskRow {
+    TaskRow {
+        lock: 0,
+        after,
+        first_action: number,
+        actions: 1,
+    }
+}
+
+/// An action of a task, with two items.
+fn action(task: u32, first_unit: u32) -> GraphAction {
+    GraphAction {
+        task,
+        retention: Retention::Retain,
+        fetch: false,
+        first_unit,
+        items: 2,
+    }
+}
+
+/// Whether the graph has what is named.
+fn has_mark(graph: &Graph, id: MarkId) -> bool
+    ensures { (s : StateView) → BelongsTo graph.now s → result ≡ true → IsMarkOf s id }
+{
+    match id {
+        MarkId::Task(task) => (task as usize) < graph.tasks().len(),
+        MarkId::Action(action) => (action as usize) < graph.actions().len(),
+        MarkId::Unit(unit) => unit < graph.units(),
+    }
+}
+
+/// Moves a mark where it can be moved, and has the index follow.
+fn move_mark(graph: &Graph, state: &mut State, ready: &mut ReadyWork, id: MarkId, to: Mark) -> bool
+    requires belongs { BelongsTo graph.now state.old }
+    requires index { IsIndexOf graph.now state.old ready.old }
+    ensures belongs { BelongsTo graph.now state.new }
+    ensures index { IsIndexOf graph.now state.new ready.new }
+{
+    if graph.workers() == 0 || !has_mark(graph, id) {
+        return false;
+    }
+    let change = Change::Move(id, state.mark(id), to);
+    if !state.can(FIRST, change) {
+        return false;
+    }
+    state.make(FIRST, change);
+    ready.follow(graph, state, &[change]);
+    true
+}
+
+/// A mark that is moved, and then the lowest unit that is queued, and the lowest task to skip and
+/// to start.
+type Step = (MarkId, Mark, Option<u32>, Option<u32>, Option<u32>);
+
+const STEPS: [Step; 11] = [
+    (MarkId::Unit(3), Mark::Queued, Some(3), None, Some(0)),
+    (MarkId::Unit(1), Mark::Queued, Some(1), None, Some(0)),
+    (
+        MarkId::Unit(1),
+        Mark::Running(FIRST),
+        Some(3),
+        None,
+        Some(0),
+    ),
+    (MarkId::Unit(3), Mark::Running(FIRST), None, None, Some(0)),
+    (MarkId::Task(0), Mark::Running(FIRST), None, None, Some(2)),
+    (MarkId::Task(0), Mark::Passed, None, None, Some(1)),
+    (MarkId::Task(0), Mark::Failed, None, Some(1), Some(2)),
+    (MarkId::Task(0), Mark::Waiting, None, None, Some(0)),
+    (MarkId::Task(0), Mark::Skipped, None, Some(1), Some(2)),
+    (MarkId::Task(1), Mark::Skipped, None, None, Some(2)),
+    (MarkId::Task(2), Mark::Passed, None, None, None),
+];
+
+/// Whether the index tells these as the lowest.
+fn tells(
+    ready: &ReadyWork,
+    queued: Option<u32>,
+    to_skip: Option<u32>,
+    to_start: Option<u32>,
+) -> bool {
+    ready.first_queued() == queued
+        && ready.first_to_skip() == to_skip
+        && ready.first_to_start() == to_start
+}
+
+/// Takes the steps one after another, after the last of which all tasks have ended.
+fn follows_all_steps(graph: &Graph, state: &mut State, ready: &mut ReadyWork) -> bool
+    requires belongs { BelongsTo graph.now state.old }
+    requires index { IsIndexOf graph.now state.old ready.old }
+{
+    for (id, to, queued, to_skip, to_start) in STEPS {
+        if ready.all_ended() || !move_mark(graph, state, ready, id, to) {
+            return false;
+        }
+        if !tells(ready, queued, to_skip, to_start) {
+            return false;
+        }
+    }
+    ready.all_ended() && ready.first_open_unit(1) == Some(1) && ready.first_open_unit(6).is_none()
+}
+
+/// A graph of three tasks, of which the second comes after the first, the state that it opens with,
+/// and the index of both.
+#[derive(Drop)]
+struct Indexed {
+    graph: Box<Graph>,
+    state: State,
+    ready: ReadyWork,
+}
+
+fn open_index(rt: &impl Abort, alloc: Global) -> Result<Box<Indexed>, AllocError>
+    ensures belongs { IfOk result (λ all. BelongsTo all.value.graph.value all.value.state) }
+    ensures index { IfOk result (λ all. IsIndexOf all.value.graph.value all.value.state all.value.ready) }
+{
+    let tasks = [task(0, None), task(1, Some(0)), task(2, None)];
+    let actions = [action(0, 0), action(1, 2), action(2, 4)];
+    let graph = graph_of(rt, alloc, &LIMITS, &tasks, &actions)?;
+    let state = State::opening(alloc, &graph)?;
+    let ready = ReadyWork::of(alloc, &graph, &state)?;
+    Ok(Box::new(
+        alloc,
+        Indexed {
+            graph,
+            state,
+            ready,
+        },
+    )?)
+}
+
+#[test]
+fn the_lowest_are_told_as_marks_move(rt: HostRuntime) -> Result<(), Fail> {
+    let mut all = open_index(&rt, rt.alloc())?;
+    let Indexed {
+        graph,
+        state,
+        ready,
+    } = &mut *all;
+    assert!(rt; follows_all_steps(graph, state, ready));
+    Ok(())
+}
+
+/// A number that is put into a set or taken from it, and then the lowest member, and the lowest
+/// from 64 on.
+const PUTS: [(u32, bool, Option<u32>, Option<u32>); 8] = [
+    (8_191, true, Some(8_191), Some(8_191)),
+    (4_096, true, Some(4_096), Some(4_096)),
+    (64, true, Some(64), Some(64)),
+    (63, true, Some(63), Some(64)),
+    (64, false, Some(63), Some(4_096)),
+    (63, false, Some(4_096), Some(4_096)),
+    (4_096, false, Some(8_191), Some(8_191)),
+    (8_191, false, None, None),
+];
+
+fn tells_its_lowest(set: &mut NumberSet) -> bool
+    requires { 8192 ≤ room_of set.old }
+{
+    for (number, is_member, first, next) in PUTS {
+        if number >= 8_192 {
+            return false;
+        }
+        set.put(number, is_member);
+        if set.first() != first || set.next_from(64) != next {
+            return false;
+        }
+    }
+    true
+}
+
+#[test]
+fn a_set_tells_its_lowest_number(rt: HostRuntime) -> Result<(), Fail> {
+    let mut set = NumberSet::new(rt.alloc(), 8_192)?;
+    assert!(rt; tells_its_lowest(&mut set));
+    Ok(())
+}

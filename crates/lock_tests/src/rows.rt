@@ -1,0 +1,18 @@
+//! What a test's graph is made of. It stands here without tests too, since the definitions in `specs/` name it.
+
+/// How many locks, workers and leases a graph has.
+#[derive(Clone, Copy)]
+pub struct Limits {
+    pub locks: u32,
+    pub workers: u32,
+    pub max_leases: u32,
+}
+
+/// A task that comes after one other at most.
+#[derive(Clone, Copy)]
+pub struct TaskRow {
+    pub lock: u32,
+    pub after: Option<u32>,
+    pub first_action: u32,
+    pub actions: u32,
+}

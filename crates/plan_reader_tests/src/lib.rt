@@ -1,5 +1,0 @@
-//! Tests of `plan_reader`.
-#![tactic(auto)]
-
-#[cfg(test)]
-mod tests;

@@ -1,0 +1,8 @@
+use Rattle.std.proofs.Common.{◌∙◌, sym}
+use Rattle.toml.specs.View.{view}
+use Rattle.plan_table.specs.Tables.{fails}
+use Rattle.plan_table.proofs.Lists.{any_of_rules}
+use Rattle.plan_table.proofs.tables.any_fails_of.Goals as goal
+
+pub returns : goal.returns
+returns c = c.any_fails.ensures ∙ sym (any_of_rules (fails c.args.test (view c.args.table.now)) _ _ c.rules_of.ensures)

@@ -1,8 +1,0 @@
-use Rattle.std.proofs.Common.{◌∙◌, sym}
-use Rattle.toml.specs.View.{view}
-use Rattle.plan_table.specs.Tables.{is_lacking}
-use Rattle.plan_table.proofs.Lists.{any_of_rules}
-use Rattle.plan_table.proofs.tables.lacks_required.Goals as goal
-
-pub returns : goal.returns
-returns c = c.any_lacking.ensures ∙ sym (any_of_rules (is_lacking (view c.args.table.now)) _ _ c.rules_of.ensures)

@@ -1,5 +1,0 @@
-//! Tests of `plan_table`.
-#![tactic(auto)]
-
-#[cfg(test)]
-mod tests;

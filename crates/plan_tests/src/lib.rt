@@ -1,0 +1,7 @@
+//! Tests of `plan_table` and `plan_reader`.
+#![tactic(auto)]
+
+#[cfg(test)]
+mod reader;
+#[cfg(test)]
+mod table;

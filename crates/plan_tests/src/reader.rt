@@ -1,0 +1,109 @@
+use daemon_requirements::{Isolation, Requirements, Work};
+use plan_reader::*;
+use std::test::Fail;
+
+/// Two items that run in processes, the second of which names no requirements, and a task that comes after others.
+const PLAN: &str = "project = [{ name = \"p\" }]
+
+[[requirements]]
+name = \"big\"
+executable = \"java\"
+heap_mb = 1_024
+args = [\"-v\", \"\"]
+properties = { b = \"2\", a = \"1\" }
+debug = true
+
+[[task]]
+name = \"a\"
+project = \"p\"
+after = [\"c\", \"b\", \"c\"]
+[[task.action]]
+[[task.action.item]]
+do = \"words\"
+file = \"b.txt\"
+isolation = \"process\"
+requirements = \"big\"
+[[task.action.item]]
+do = \"sha256\"
+file = \"b.txt\"
+isolation = \"process\"
+
+[[task]]
+name = \"b\"
+project = \"p\"
+
+[[task]]
+name = \"c\"
+project = \"p\"
+";
+
+fn is_big(requirements: &Requirements) -> bool {
+    let fields = requirements.fields();
+    let (args, properties) = (fields.args.as_slice(), fields.properties.as_slice());
+    fields.executable.as_str() == "java"
+        && fields.heap_mb == 1_024
+        && args.len() == 2
+        && args[1].as_str() == ""
+        && properties.len() == 2
+        && properties[0].name.as_str() == "a"
+        && properties[0].value.as_str() == "1"
+        && fields.debug
+}
+
+fn is_default(requirements: &Requirements) -> bool {
+    let fields = requirements.fields();
+    fields.executable.as_str() == "self"
+        && fields.heap_mb == 512
+        && fields.args.is_empty()
+        && fields.properties.is_empty()
+        && fields.variables.is_empty()
+        && !fields.debug
+        && !fields.assertions
+        && fields.encoding.as_str() == "UTF-8"
+}
+
+fn asked(item: &Work) -> Option<&Requirements> {
+    match &item.isolation {
+        Isolation::Process(requirements) => Some(requirements),
+        Isolation::InThread => None,
+    }
+}
+
+fn are_asked(items: &[Work]) -> bool {
+    match items {
+        [first, second] => {
+            asked(first).is_some_and(|requirements| is_big(requirements))
+                && asked(second).is_some_and(|requirements| is_default(requirements))
+        }
+        _ => false,
+    }
+}
+
+fn is_first(task: &PlanTask) -> bool {
+    match task.actions.as_slice() {
+        [action] => task.after.as_slice() == [2, 1].as_slice() && are_asked(&action.items),
+        _ => false,
+    }
+}
+
+fn has_requirements(plan: &Plan) -> bool {
+    match plan.requirements() {
+        [requirements] => is_big(requirements),
+        _ => false,
+    }
+}
+
+fn has_tasks(plan: &Plan) -> bool {
+    match plan.tasks() {
+        [first, _, _] => is_first(first),
+        _ => false,
+    }
+}
+
+#[test]
+fn items_have_the_requirements_that_they_name(rt: HostRuntime) -> Result<(), Fail> {
+    let plan = read_plan(rt.alloc(), PLAN.as_bytes())?;
+    assert!(rt; has_requirements(&plan));
+    assert!(rt; has_tasks(&plan));
+    Ok(())
+}

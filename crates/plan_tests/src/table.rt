@@ -1,0 +1,154 @@
+use plan_table::*;
+use std::alloc::{AllocError, Global};
+use std::test::Fail;
+use toml::Value;
+
+/// Requirements with every key.
+const EVERY_KEY: &str = r#"
+[[requirements]]
+name = "large"
+executable = "java"
+heap_mb = 2048
+args = ["-v", ""]
+properties = { b = "2", a = "1" }
+variables = { "PATH:X" = "" }
+debug = true
+assertions = true
+encoding = "US-ASCII"
+"#;
+
+fn has_properties(requirements: &Value) -> bool {
+    let mut names = match properties_of(requirements) {
+        Some(properties) => properties.keys(),
+        None => return false,
+    };
+    names.next().is_some_and(|name| name.as_str() == "a")
+        && names.next().is_some_and(|name| name.as_str() == "b")
+        && names.next().is_none()
+}
+
+fn has_args(requirements: &Value) -> bool {
+    match args_of(requirements) {
+        [first, _] => text_of(first) == "-v",
+        _ => false,
+    }
+}
+
+fn is_large(requirements: &Value) -> bool {
+    name_of(requirements) == "large"
+        && heap_of(requirements) == 2048
+        && has_args(requirements)
+        && has_properties(requirements)
+        && variables_of(requirements).is_some_and(|variables| variables.len() == 1)
+        && debug_of(requirements)
+        && assertions_of(requirements)
+}
+
+#[test]
+fn every_key_of_requirements_is_read(rt: HostRuntime) -> Result<(), Fail> {
+    let document = read_document(rt.alloc(), EVERY_KEY.as_bytes())?;
+    assert!(rt;
+        requirements_of(&document)
+            .first()
+            .is_some_and(|large| is_large(large))
+    );
+    Ok(())
+}
+
+/// A plan without the keys that have a default.
+const NO_KEY: &str = r#"
+task = [{ name = "t", project = "p", action = [{ item = [{ do = "lines", file = "a" }] }] }]
+requirements = [{ name = "r" }]
+"#;
+
+fn is_plain_item(item: &Value) -> bool {
+    isolation_of(item) == "none" && requirements_name_of(item).is_none() && needle_of(item) == ""
+}
+
+fn is_plain_action(action: &Value) -> bool {
+    wait_of(action) == "release_and_reacquire"
+        && fetch_of(action).is_none()
+        && items_of(action)
+            .first()
+            .is_some_and(|item| is_plain_item(item))
+}
+
+fn is_plain_task(task: &Value) -> bool {
+    after_of(task).is_empty()
+        && actions_of(task)
+            .first()
+            .is_some_and(|action| is_plain_action(action))
+}
+
+fn are_plain(requirements: &Value) -> bool {
+    heap_of(requirements) == 512
+        && args_of(requirements).is_empty()
+        && properties_of(requirements).is_none()
+        && variables_of(requirements).is_none()
+        && !debug_of(requirements)
+        && !assertions_of(requirements)
+}
+
+fn is_plain(document: &Value) -> bool {
+    projects_of(document).is_empty()
+        && tasks_of(document)
+            .first()
+            .is_some_and(|task| is_plain_task(task))
+        && requirements_of(document)
+            .first()
+            .is_some_and(|plain| are_plain(plain))
+}
+
+#[test]
+fn absent_keys_have_their_defaults(rt: HostRuntime) -> Result<(), Fail> {
+    let document = read_document(rt.alloc(), NO_KEY.as_bytes())?;
+    assert!(rt; table_refusal(&document).is_none());
+    assert!(rt; is_plain(&document));
+    Ok(())
+}
+
+/// Takes the executable and the encoding of requirements, and says whether they are these.
+fn has_texts(
+    alloc: Global,
+    requirements: &mut Value,
+    executable: &str,
+    encoding: &str,
+) -> Result<bool, AllocError> {
+    let has_executable = take_executable(alloc, requirements)?.as_str() == executable;
+    let has_encoding = take_encoding(alloc, requirements)?.as_str() == encoding;
+    Ok(has_executable && has_encoding)
+}
+
+/// Takes the lists of the large requirements, and says whether they have so many members as are written.
+fn has_lists(alloc: Global, large: &mut Value) -> bool {
+    take_args(alloc, large).len() == 2
+        && take_properties(alloc, large).len() == 2
+        && take_variables(alloc, large).len() == 1
+}
+
+#[test]
+fn texts_of_requirements_are_taken(rt: HostRuntime) -> Result<(), Fail> {
+    let mut document = read_document(rt.alloc(), EVERY_KEY.as_bytes())?;
+    let mut taken = take_requirements(rt.alloc(), &mut document);
+    assert!(rt; taken.len() == 1);
+    for large in &mut taken {
+        assert!(rt; has_texts(rt.alloc(), large, "java", "US-ASCII")?);
+        assert!(rt; has_lists(rt.alloc(), large));
+        assert!(rt; name_of(large) == "large" && args_of(large).is_empty());
+    }
+    assert!(rt; requirements_of(&document).is_empty());
+    Ok(())
+}
+
+#[test]
+fn absent_texts_are_taken_as_their_defaults(rt: HostRuntime) -> Result<(), Fail> {
+    let mut document = read_document(rt.alloc(), NO_KEY.as_bytes())?;
+    let mut taken = take_requirements(rt.alloc(), &mut document);
+    assert!(rt; taken.len() == 1);
+    for plain in &mut taken {
+        assert!(rt; has_texts(rt.alloc(), plain, "self", "UTF-8")?);
+    }
+    assert!(rt; take_projects(rt.alloc(), &mut document).is_empty());
+    assert!(rt; take_tasks(rt.alloc(), &mut document).len() == 1);
+    Ok(())
+}

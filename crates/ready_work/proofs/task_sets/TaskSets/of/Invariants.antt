@@ -1,7 +1,0 @@
-use Rattle.std.proofs.Common.{length}
-use Rattle.ready_work.specs.TaskSets.{AreTaskSetsBelow, HasClosedLocks, HasTaskRoom}
-use Rattle.ready_work.proofs.task_sets.TaskSets.of.Given as goal
-
--- the tasks below this one were looked at, and no lock is free yet
-abbrev pub invariant-loop-task : goal.invariant-loop-task
-invariant-loop-task l = AreTaskSetsBelow l.graph l.state l.task l.sets × HasTaskRoom (length l.graph.tasks) l.sets × HasClosedLocks l.graph l.sets.startable

@@ -1,5 +1,0 @@
-//! Tests of `ready_work`.
-#![tactic(auto)]
-
-#[cfg(test)]
-mod tests;

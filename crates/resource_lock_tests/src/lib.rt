@@ -1,5 +1,0 @@
-//! Tests of `resource_lock`.
-#![tactic(auto)]
-
-#[cfg(test)]
-mod tests;

@@ -1,0 +1,78 @@
+//! The sections of a case.
+use anyhow::{Result, anyhow};
+use std::alloc::Global;
+
+/// The kinds of sections.
+static KINDS: [&str; 18] = [
+    "words", "word", "file", "bytes", "times", "fill", "input", "empty", "fail", "room", "pieces",
+    "meet", "digest", "left", "sent", "graph", "faults", "each",
+];
+
+/// A section: its kind, which is the first word of its head, the rest of its head, and its other lines.
+#[derive(Clone, Copy)]
+pub(crate) struct Section<'a> {
+    pub(crate) kind: &'a str,
+    pub(crate) rest: &'a str,
+    pub(crate) lines: Option<&'a str>,
+}
+
+/// The section of these lines. Empty lines at its end don't count.
+fn section_of(text: &str) -> Result<Section<'_>> {
+    let text = text.trim_end_matches('\n');
+    let (head, lines) = match text.split_once('\n') {
+        Some((head, lines)) => (head, Some(lines)),
+        None => (text, None),
+    };
+    let (kind, rest) = head.split_once(' ').unwrap_or((head, ""));
+    if !KINDS.contains(&kind) {
+        return Err(anyhow!("no such section: {kind}"));
+    }
+    Ok(Section { kind, rest, lines })
+}
+
+/// Adds the sections of a part of a case file. What stands before the first is passed over.
+fn add_sections<'a>(sections: &mut Vec<Section<'a>>, part: &'a str) -> Result<()> {
+    for section in part.split("\n--- ").skip(1) {
+        sections.push(section_of(section)?)?;
+    }
+    Ok(())
+}
+
+/// The sections that these parts of a case file have.
+pub(crate) fn sections_of<'a>(
+    alloc: Global,
+    shared: &'a str,
+    own: &'a str,
+) -> Result<Vec<Section<'a>>> {
+    let mut sections = Vec::new(alloc);
+    add_sections(&mut sections, shared)?;
+    add_sections(&mut sections, own)?;
+    Ok(sections)
+}
+
+/// The rest of the head of the last section of this kind.
+pub(crate) fn rest_of<'a>(sections: &[Section<'a>], kind: &str) -> Option<&'a str> {
+    let mut rest = None;
+    for section in sections {
+        if section.kind == kind {
+            rest = Some(section.rest);
+        }
+    }
+    rest
+}
+
+/// The number that these digits write.
+pub(crate) fn number_of(digits: &str) -> Result<u64> {
+    match digits.parse::<u64>() {
+        Ok(number) => Ok(number),
+        Err(_) => Err(anyhow!("no number: {digits}")),
+    }
+}
+
+/// The number in the last section of this kind, or another one where there is none.
+pub(crate) fn number_in(sections: &[Section], kind: &str, default: u64) -> Result<u64> {
+    match rest_of(sections, kind) {
+        Some(digits) => number_of(digits),
+        None => Ok(default),
+    }
+}
