@@ -26,6 +26,7 @@ BELOW = [
     "resource_lock",
     "task_ranks",
     "ready_work",
+    "lock_transforms",
     "lock_journal",
     "run_laws",
     "worker_choices",

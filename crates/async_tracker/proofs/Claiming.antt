@@ -12,10 +12,10 @@ use Rattle.resource_lock.specs.declared.marks.MarkId.TheVariants.{Unit as UnitOf
 use Rattle.resource_lock.specs.declared.changes.Change.TheVariants.{Move, Take}
 use Rattle.item_actions.specs.declared.outcomes.Outcome.{Outcome}
 use Rattle.item_actions.specs.declared.outcomes.Outcome.TheVariants as outcomes
-use Rattle.lock_journal.specs.Allowed.{IsDisabled, IsFixedList}
+use Rattle.lock_transforms.specs.Allowed.{IsDisabled, IsFixedList}
 use Rattle.lock_journal.specs.BookView.{BookView}
-use Rattle.lock_journal.specs.Table.{condition, is_enabled, mark_from}
-use Rattle.lock_journal.specs.declared.entries.Kind.TheVariants.{Claim, Close}
+use Rattle.lock_transforms.specs.Table.{condition, is_enabled, mark_from}
+use Rattle.lock_transforms.specs.declared.entries.Kind.TheVariants.{Claim, Close}
 use Rattle.run_laws.specs.OwnChanges.{mark_before, with_if, without_if}
 use Rattle.coordination.specs.Agrees.{Finds}
 use Rattle.coordination.specs.Calls.{HasFinished}

@@ -10,7 +10,7 @@ use Rattle.resource_lock.specs.declared.ids.WorkerId.{WorkerId}
 use Rattle.resource_lock.specs.declared.marks.Mark.TheVariants.{Waiting, Running}
 use Rattle.resource_lock.specs.declared.marks.MarkId.{MarkId}
 use Rattle.resource_lock.specs.declared.marks.MarkId.TheVariants.{Task as TaskOf, Action as ActionOf, Unit as UnitOf}
-use Rattle.lock_journal.specs.Table.{owned, owned_from}
+use Rattle.lock_transforms.specs.Table.{owned, owned_from}
 use Rattle.run_laws.specs.Own.{action_at, claimed, places_from, task_at, unit_at}
 use Rattle.run_laws.specs.OwnChanges.{with_member}
 use Rattle.run_laws.proofs.Others.{running_of}

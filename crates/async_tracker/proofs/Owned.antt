@@ -4,7 +4,7 @@ use Rattle.std.proofs.lemmas.Bool.{eq-eqb, ne_eqb, false≢true}
 use Rattle.resource_lock.specs.StateView.{StateView, is_owner, owns, stands_in, IsLockOf}
 use Rattle.resource_lock.specs.declared.ids.LockId.{LockId}
 use Rattle.resource_lock.specs.declared.ids.WorkerId.{WorkerId}
-use Rattle.lock_journal.specs.Table.{owned, owned_from}
+use Rattle.lock_transforms.specs.Table.{owned, owned_from}
 
 below : (n k : ℕ) (os : List (Option WorkerId)) (w : WorkerId) → k < n → stands_in (record { 0 = k }) (owned_from n os w) ≡ false
 below n k [] w low = refl

@@ -22,10 +22,10 @@ use Rattle.resource_lock.specs.declared.ids.WorkerId.{WorkerId}
 use Rattle.resource_lock.specs.declared.marks.Mark.TheVariants.{Waiting, Queued, Running}
 use Rattle.resource_lock.specs.declared.marks.MarkId.{MarkId}
 use Rattle.resource_lock.specs.declared.marks.MarkId.TheVariants.{Task as TaskOf, Action as ActionOf, Unit as UnitOf}
-use Rattle.lock_journal.specs.Allowed.{IsDisabled, IsFixedList}
+use Rattle.lock_transforms.specs.Allowed.{IsDisabled, IsFixedList}
 use Rattle.lock_journal.specs.BookView.{BookView}
-use Rattle.lock_journal.specs.Table.{condition, is_enabled, moved_units, on_park, owned, works_on}
-use Rattle.lock_journal.specs.declared.entries.Kind.TheVariants.{Submit, Park}
+use Rattle.lock_transforms.specs.Table.{condition, is_enabled, moved_units, on_park, owned, works_on}
+use Rattle.lock_transforms.specs.declared.entries.Kind.TheVariants.{Submit, Park}
 use Rattle.run_laws.specs.OwnChanges.{after_all, claimed_after, locks_after, mark_before, with_if, with_member}
 use Rattle.coordination.specs.Agrees.{Finds}
 use Rattle.coordination.specs.Calls.{HasFinished}

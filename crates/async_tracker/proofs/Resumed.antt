@@ -22,13 +22,13 @@ use Rattle.resource_lock.specs.declared.marks.MarkId.TheVariants.{Action as Acti
 use Rattle.resource_lock.proofs.Kept.{can_back, leases-with_holding}
 use Rattle.resource_lock.proofs.Runs.{worker_from}
 use Rattle.resource_lock.proofs.Undo.{last_from}
-use Rattle.lock_journal.specs.Allowed.{IsDisabled, IsFixedList}
+use Rattle.lock_transforms.specs.Allowed.{IsDisabled, IsFixedList}
 use Rattle.lock_journal.specs.BookView.{BookView}
-use Rattle.lock_journal.specs.Entry.{Entry, replay}
-use Rattle.lock_journal.specs.Allowed.{Lawful}
-use Rattle.lock_journal.specs.Table.{condition, has_ended, on_resume}
-use Rattle.lock_journal.specs.Taking.{can_take_all}
-use Rattle.lock_journal.specs.declared.entries.Kind.TheVariants.{Resume}
+use Rattle.lock_transforms.specs.Entry.{Entry, replay}
+use Rattle.lock_transforms.specs.Allowed.{Lawful}
+use Rattle.lock_transforms.specs.Table.{condition, has_ended, on_resume}
+use Rattle.lock_transforms.specs.Taking.{can_take_all}
+use Rattle.lock_transforms.specs.declared.entries.Kind.TheVariants.{Resume}
 use Rattle.run_laws.specs.Marks.{IsEnded}
 use Rattle.run_laws.specs.OwnChanges.{mark_before, with_if, without_if, without_member}
 use Rattle.run_laws.proofs.Growing.{marks_stay}

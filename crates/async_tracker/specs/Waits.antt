@@ -13,8 +13,8 @@ use Rattle.resource_lock.specs.declared.ids.WorkerId.{WorkerId}
 use Rattle.resource_lock.specs.declared.marks.Mark.TheVariants.{Waiting, Queued}
 use Rattle.resource_lock.specs.declared.marks.MarkId.TheVariants.{Action as ActionOf, Unit as UnitOf}
 use Rattle.lock_journal.specs.BookView.{BookView}
-use Rattle.lock_journal.specs.Table.{earlier_passed, fetch_closed}
-use Rattle.lock_journal.specs.Taking.{can_take_all}
+use Rattle.lock_transforms.specs.Table.{earlier_passed, fetch_closed}
+use Rattle.lock_transforms.specs.Taking.{can_take_all}
 use Rattle.worker_choices.specs.Ready.{first_open}
 
 -- no lease is free for a unit that is Queued

@@ -4,8 +4,8 @@ ghost use Rattle.std.specs.List.{list_any};
 ghost use Rattle.resource_lock.specs.GraphView.{action_of};
 ghost use Rattle.resource_lock.specs.Ranges.{lock_with, task_with};
 ghost use Rattle.resource_lock.specs.declared.ids.WorkerId.{WorkerId};
-ghost use Rattle.lock_journal.specs.Allowed.{IsFixedList};
-ghost use Rattle.lock_journal.specs.declared.entries.Kind.TheVariants as kinds;
+ghost use Rattle.lock_transforms.specs.Allowed.{IsFixedList};
+ghost use Rattle.lock_transforms.specs.declared.entries.Kind.TheVariants as kinds;
 ghost use Rattle.coordination.specs.Calls.{HasFinished, HasLooked, WasStopped};
 ghost use Rattle.coordination.specs.Shown.{ShowsTheSame, claimed_shown};
 ghost use Rattle.async_tracker.specs.Shows.{HasReleased, IsFree, IsIdleOrParked, IsParkedBy, OwnsToPark, ShowsParked, WorksOn, is_unit};
@@ -13,7 +13,7 @@ ghost use Rattle.async_tracker.specs.Waits.{ActionIsNotQueued, CannotQueue};
 
 use crate::parked::Parked;
 use coordination::{Coordination, Halt, Pass};
-use lock_journal::kinds::{Park, Submit};
+use lock_transforms::kinds::{Park, Submit};
 use std::sync::Wait;
 
 /// Queues the items of an action of the task that the worker runs, in one entry.

@@ -4,7 +4,7 @@ ghost use Rattle.std.specs.List.{list_all};
 ghost use Rattle.resource_lock.specs.Ranges.{items_of};
 ghost use Rattle.resource_lock.specs.StateView.{mark_of};
 ghost use Rattle.resource_lock.specs.declared.marks.MarkId.TheVariants as ids;
-ghost use Rattle.lock_journal.specs.Table.{has_ended};
+ghost use Rattle.lock_transforms.specs.Table.{has_ended};
 ghost use Rattle.async_tracker.specs.Waits.{IsFirstOpen};
 
 use crate::parked::Parked;

@@ -3,8 +3,8 @@ ghost use Rattle.std.specs.Prelude.{◌≡◌, ℕ, Err, None, OnErr, OnOk, Some
 ghost use Rattle.resource_lock.specs.GraphView.{action_of};
 ghost use Rattle.resource_lock.specs.Ranges.{lock_with};
 ghost use Rattle.resource_lock.specs.declared.ids.WorkerId.{WorkerId};
-ghost use Rattle.lock_journal.specs.Allowed.{IsFixedList};
-ghost use Rattle.lock_journal.specs.declared.entries.Kind.TheVariants as kinds;
+ghost use Rattle.lock_transforms.specs.Allowed.{IsFixedList};
+ghost use Rattle.lock_transforms.specs.declared.entries.Kind.TheVariants as kinds;
 ghost use Rattle.coordination.specs.Agrees.{IsSound};
 ghost use Rattle.coordination.specs.Calls.{HasFinished, IsAnswered, WasStopped};
 ghost use Rattle.coordination.specs.Shown.{ShowsTheSame};
@@ -16,7 +16,7 @@ ghost use Rattle.worker_choices.specs.Ready.{first_open};
 use crate::open_items::FirstOpen;
 use crate::parked::Parked;
 use coordination::{Coordination, Halt, Pass};
-use lock_journal::kinds::Resume;
+use lock_transforms::kinds::Resume;
 use resource_lock::WorkerId;
 use std::sync::Wait;
 

@@ -17,9 +17,9 @@ use Rattle.resource_lock.specs.declared.marks.Mark.TheVariants.{Waiting, Running
 use Rattle.resource_lock.specs.declared.marks.MarkId.{MarkId}
 use Rattle.resource_lock.specs.declared.marks.MarkId.TheVariants.{Task as TaskOf, Action as ActionOf, Unit as UnitOf}
 use Rattle.resource_lock.proofs.Units.{action_there}
-use Rattle.lock_journal.specs.Table.{condition, earlier_passed, owned_from, parked_locks, works_on}
-use Rattle.lock_journal.specs.Taking.{rises}
-use Rattle.lock_journal.specs.declared.entries.Kind.TheVariants.{Block}
+use Rattle.lock_transforms.specs.Table.{condition, earlier_passed, owned_from, parked_locks, works_on}
+use Rattle.lock_transforms.specs.Taking.{rises}
+use Rattle.lock_transforms.specs.declared.entries.Kind.TheVariants.{Block}
 use Rattle.run_laws.specs.OwnChanges.{after_all, claimed_after, locks_after}
 use Rattle.blocking_section.specs.Sections.{is_ready}
 use Rattle.blocking_section.proofs.After.{after_all-append}

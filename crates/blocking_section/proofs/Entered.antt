@@ -12,10 +12,10 @@ use Rattle.resource_lock.specs.declared.marks.Mark.TheVariants.{Running}
 use Rattle.resource_lock.specs.declared.marks.MarkId.{MarkId}
 use Rattle.resource_lock.specs.declared.marks.MarkId.TheVariants.{Task as TaskOf, Unit as UnitOf}
 use Rattle.resource_lock.proofs.Undo.{owner_from}
-use Rattle.lock_journal.specs.Allowed.{IsFixedList, IsUnmet}
+use Rattle.lock_transforms.specs.Allowed.{IsFixedList, IsUnmet}
 use Rattle.lock_journal.specs.BookView.{BookView}
-use Rattle.lock_journal.specs.Table.{list_of, owned}
-use Rattle.lock_journal.specs.declared.entries.Kind.TheVariants.{Block}
+use Rattle.lock_transforms.specs.Table.{list_of, owned}
+use Rattle.lock_transforms.specs.declared.entries.Kind.TheVariants.{Block}
 use Rattle.run_laws.specs.OwnChanges.{after_all, claimed_after, locks_after, mark_before, with_if}
 use Rattle.coordination.specs.Agrees.{Finds}
 use Rattle.coordination.specs.Calls.{HasFinished}

@@ -14,11 +14,11 @@ use Rattle.resource_lock.specs.declared.marks.MarkId.{MarkId}
 use Rattle.resource_lock.specs.declared.marks.MarkId.TheVariants.{Unit as UnitOf}
 use Rattle.resource_lock.proofs.Runs.{worker_from}
 use Rattle.item_actions.specs.declared.outcomes.Outcome.{Outcome}
-use Rattle.lock_journal.specs.Allowed.{IsDisabled, IsFixedList}
+use Rattle.lock_transforms.specs.Allowed.{IsDisabled, IsFixedList}
 use Rattle.lock_journal.specs.BookView.{BookView}
-use Rattle.lock_journal.specs.Table.{list_of, mark_from}
-use Rattle.lock_journal.specs.Taking.{can_take_all, rises}
-use Rattle.lock_journal.specs.declared.entries.Kind.TheVariants.{Unblock}
+use Rattle.lock_transforms.specs.Table.{list_of, mark_from}
+use Rattle.lock_transforms.specs.Taking.{can_take_all, rises}
+use Rattle.lock_transforms.specs.declared.entries.Kind.TheVariants.{Unblock}
 use Rattle.run_laws.specs.OwnChanges.{after_all, claimed_after, locks_after, mark_before, with_if, without_if}
 use Rattle.coordination.specs.Agrees.{Finds}
 use Rattle.coordination.specs.Calls.{HasFinished}

@@ -14,11 +14,11 @@ use Rattle.resource_lock.specs.declared.marks.MarkId.{MarkId}
 use Rattle.resource_lock.specs.declared.marks.MarkId.TheVariants.{Task as TaskOf, Action as ActionOf, Unit as UnitOf}
 use Rattle.resource_lock.proofs.Undo.{same_mark_is}
 use Rattle.resource_lock.proofs.Units.{action_there}
-use Rattle.lock_journal.specs.Allowed.{Lawful}
+use Rattle.lock_transforms.specs.Allowed.{Lawful}
 use Rattle.lock_journal.specs.BookView.{BookView}
-use Rattle.lock_journal.specs.Entry.{Entry, replay}
-use Rattle.lock_journal.specs.Table.{earlier_passed, has_passed, units_passed, works_on}
-use Rattle.lock_journal.proofs.Disabled.{all_of_still, and_still}
+use Rattle.lock_transforms.specs.Entry.{Entry, replay}
+use Rattle.lock_transforms.specs.Table.{earlier_passed, has_passed, units_passed, works_on}
+use Rattle.lock_transforms.proofs.Disabled.{all_of_still, and_still}
 use Rattle.run_laws.specs.Marks.{IsEnded}
 use Rattle.run_laws.proofs.Fitting.{RangesApart, apart_of}
 use Rattle.run_laws.proofs.Growing.{marks_stay}

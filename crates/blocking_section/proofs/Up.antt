@@ -25,10 +25,10 @@ use Rattle.resource_lock.proofs.Runs.{can_all-append, named_along, same_shape-ma
 use Rattle.resource_lock.proofs.Undo.{holding_now, same_lock, without_last-push}
 use Rattle.item_actions.specs.declared.outcomes.Outcome.{Outcome}
 use Rattle.item_actions.specs.declared.outcomes.Outcome.TheVariants as outcomes
-use Rattle.lock_journal.specs.Table.{condition, is_enabled, list_of, mark_from, taken_again, taken_up}
-use Rattle.lock_journal.specs.Taking.{can_take_all, rises}
-use Rattle.lock_journal.specs.declared.entries.Closed.{Closed}
-use Rattle.lock_journal.specs.declared.entries.Kind.TheVariants.{Unblock}
+use Rattle.lock_transforms.specs.Table.{condition, is_enabled, list_of, mark_from, taken_again, taken_up}
+use Rattle.lock_transforms.specs.Taking.{can_take_all, rises}
+use Rattle.lock_transforms.specs.declared.entries.Closed.{Closed}
+use Rattle.lock_transforms.specs.declared.entries.Kind.TheVariants.{Unblock}
 use Rattle.run_laws.specs.OwnChanges.{after_all, claimed_after, lock_before, locks_after, with_member}
 use Rattle.run_laws.proofs.OwnChanges.{own_holding_all}
 use Rattle.blocking_section.proofs.After.{after_all-append}

@@ -14,10 +14,10 @@ use Rattle.resource_lock.specs.declared.marks.MarkId.TheVariants.{Task as TaskOf
 use Rattle.item_actions.specs.declared.outcomes.Outcome.{Outcome}
 use Rattle.item_actions.specs.declared.outcomes.Outcome.TheVariants as outcomes
 use Rattle.lock_journal.specs.BookView.{BookView}
-use Rattle.lock_journal.specs.Table.{condition, earlier_passed}
-use Rattle.lock_journal.specs.Taking.{can_take_all}
-use Rattle.lock_journal.specs.declared.entries.Closed.{Closed}
-use Rattle.lock_journal.specs.declared.entries.Kind.TheVariants.{Block}
+use Rattle.lock_transforms.specs.Table.{condition, earlier_passed}
+use Rattle.lock_transforms.specs.Taking.{can_take_all}
+use Rattle.lock_transforms.specs.declared.entries.Closed.{Closed}
+use Rattle.lock_transforms.specs.declared.entries.Kind.TheVariants.{Block}
 use Rattle.run_laws.specs.OwnChanges.{mark_before, with_member, without_member}
 use Rattle.coordination.specs.Agrees.{Agrees, IsSound}
 use Rattle.coordination.specs.Shown.{blocked_shown, claimed_shown, lease_shown, locks_shown, parked_shown}

@@ -1,14 +1,14 @@
 ghost use Rattle.std.specs.Prelude.{◌≡◌, ◌≢◌, IfOk, Err, None, Ok, true};
 ghost use Rattle.resource_lock.specs.declared.ids.WorkerId.{WorkerId};
-ghost use Rattle.lock_journal.specs.Allowed.{IsFixedList};
-ghost use Rattle.lock_journal.specs.declared.entries.Kind.TheVariants as kinds;
+ghost use Rattle.lock_transforms.specs.Allowed.{IsFixedList};
+ghost use Rattle.lock_transforms.specs.declared.entries.Kind.TheVariants as kinds;
 ghost use Rattle.coordination.specs.Calls.{HasFinished, HasLooked, WasStopped};
 ghost use Rattle.coordination.specs.Shown.{ShowsTheSame, lease_shown, locks_shown};
 ghost use Rattle.blocking_section.specs.Sections.{CouldEnter, HasSetDown, IsGivenBackBy, IsNotReady, MayEnter, OwnsNothingMeanwhile};
 
 use crate::blocked::Blocked;
 use coordination::{Coordination, Halt, Pass};
-use lock_journal::kinds::Block;
+use lock_transforms::kinds::Block;
 use std::snapshot::Snapshot;
 use std::sync::Wait;
 

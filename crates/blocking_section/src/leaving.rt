@@ -1,7 +1,7 @@
 ghost use Rattle.std.specs.Prelude.{◌≡◌, [], Err, OnOk};
 ghost use Rattle.resource_lock.specs.declared.ids.WorkerId.{WorkerId};
-ghost use Rattle.lock_journal.specs.Allowed.{IsFixedList};
-ghost use Rattle.lock_journal.specs.declared.entries.Kind.TheVariants as kinds;
+ghost use Rattle.lock_transforms.specs.Allowed.{IsFixedList};
+ghost use Rattle.lock_transforms.specs.declared.entries.Kind.TheVariants as kinds;
 ghost use Rattle.coordination.specs.Calls.{HasFinished, HasLooked, WasStopped};
 ghost use Rattle.coordination.specs.Shown.{ShowsTheSame, locks_shown, parked_shown};
 ghost use Rattle.blocking_section.specs.BlockedView.{BlockedView};
@@ -10,8 +10,8 @@ ghost use Rattle.blocking_section.specs.Sections.{CanNotTakeUp, FitsUnit, HasTak
 use crate::blocked::Blocked;
 use coordination::{Coordination, Halt, Pass};
 use item_actions::Outcome;
-use lock_journal::Closed;
-use lock_journal::kinds::Unblock;
+use lock_transforms::Closed;
+use lock_transforms::kinds::Unblock;
 use resource_lock::WorkerId;
 use std::sync::Wait;
 

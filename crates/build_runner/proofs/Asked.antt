@@ -7,9 +7,9 @@ use Rattle.resource_lock.specs.StateView.{mark_of}
 use Rattle.resource_lock.specs.declared.ids.WorkerId.{WorkerId}
 use Rattle.resource_lock.specs.declared.marks.Mark.TheVariants.{Queued}
 use Rattle.resource_lock.specs.declared.marks.MarkId.TheVariants.{Unit as UnitOf}
-use Rattle.lock_journal.specs.Allowed.{Lawful}
+use Rattle.lock_transforms.specs.Allowed.{Lawful}
 use Rattle.lock_journal.specs.BookView.{BookView}
-use Rattle.lock_journal.specs.Entry.{Entry, replay}
+use Rattle.lock_transforms.specs.Entry.{Entry, replay}
 use Rattle.coordination.specs.Calls.{IsAnswered}
 use Rattle.coordination.specs.declared.rule.Sight.{Sight}
 use Rattle.async_tracker.specs.Shows.{IsItemHere}

@@ -9,9 +9,9 @@ use Rattle.item_actions.specs.declared.outcomes.Outcome.{Outcome}
 use Rattle.resource_lock.specs.GraphView.{GraphView}
 use Rattle.resource_lock.specs.StateView.{StateView}
 use Rattle.resource_lock.specs.declared.ids.WorkerId.{WorkerId}
-use Rattle.lock_journal.specs.Allowed.{Lawful}
+use Rattle.lock_transforms.specs.Allowed.{Lawful}
 use Rattle.lock_journal.specs.BookView.{BookView}
-use Rattle.lock_journal.specs.Entry.{Entry, replay}
+use Rattle.lock_transforms.specs.Entry.{Entry, replay}
 use Rattle.plan_reader.specs.PlanView.{PlanView}
 use Rattle.plan_reader.specs.Units.{PlannedUnit, unit_value}
 use Rattle.run_laws.specs.Answers.{IsHonestWorker, answers}

@@ -13,6 +13,7 @@ counted_by plan options known before after counts b same run = record {
   replays = run.replays;
   lawful = run.lawful;
   good = run.good;
+  always_good = run.always_good;
   rest = run.rest;
   ended = run.ended;
   order = run.order;

@@ -3,8 +3,8 @@ use Rattle.std.proofs.Common.{◌≡◌, ℕ, ◌<◌, List, [], ◌++◌, lengt
 use Rattle.std.specs.List.{All}
 use Rattle.std.proofs.lemmas.List.{get_or-take}
 use Rattle.lock_journal.specs.BookView.{BookView}
-use Rattle.lock_journal.specs.Entry.{Entry}
-use Rattle.lock_journal.specs.declared.entries.Closed.{Closed}
+use Rattle.lock_transforms.specs.Entry.{Entry}
+use Rattle.lock_transforms.specs.declared.entries.Closed.{Closed}
 use Rattle.resource_lock.specs.declared.ids.WorkerId.{WorkerId}
 use Rattle.daemon_items.specs.Requests.{SentView}
 use Rattle.plan_reader.specs.Units.{PlannedUnit}

@@ -2,7 +2,7 @@
 use Rattle.std.proofs.Common.{◌≡◌, ℕ, List, [], ◌∷◌, ◌++◌, Option, None, Some, Result, Ok, Err, refl, subst}
 use Rattle.std.specs.Prelude.{IfSome, OnOk, slice_get}
 use Rattle.item_actions.specs.declared.actions.ItemAction.{ItemAction}
-use Rattle.lock_journal.specs.declared.entries.Closed.{Closed}
+use Rattle.lock_transforms.specs.declared.entries.Closed.{Closed}
 use Rattle.daemon_requirements.specs.RequirementsView.{RequirementsView}
 use Rattle.daemon_desk.specs.declared.sent.SentRequest.{SentRequest}
 use Rattle.daemon_items.specs.Requests.{SentView}

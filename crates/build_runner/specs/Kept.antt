@@ -1,7 +1,7 @@
 -- What each part of a worker's run keeps: its closings carry what the files give, and its faults are counted.
 use Rattle.std.specs.Prelude.{ℕ, ◌≡◌, ◌+◌, ◌-◌, ◌^◌, ◌<◌, ◌≤◌, ◌++◌, List, Option, IfSome}
 use Rattle.item_actions.specs.Files.{Folder}
-use Rattle.lock_journal.specs.declared.entries.Closed.{Closed}
+use Rattle.lock_transforms.specs.declared.entries.Closed.{Closed}
 use Rattle.plan_reader.specs.Units.{PlannedUnit}
 use Rattle.run_laws.specs.Answers.{IsHonestWorker}
 use Rattle.run_laws.specs.ClosedBy.{closed_by, faults_by}

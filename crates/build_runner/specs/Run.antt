@@ -1,11 +1,11 @@
 -- What a run of a plan leaves.
-use Rattle.std.specs.Prelude.{ℕ, ◌≡◌, ◌+◌, ◌-◌, ◌^◌, ◌<◌, ◌≤◌, List, length, get_or, Option, None, Some, All}
+use Rattle.std.specs.Prelude.{ℕ, ◌≡◌, ◌+◌, ◌++◌, ◌-◌, ◌^◌, ◌<◌, ◌≤◌, List, length, get_or, Option, None, Some, All}
 use Rattle.item_actions.specs.Files.{Folder}
 use Rattle.item_actions.specs.declared.outcomes.Outcome.{Outcome}
 use Rattle.resource_lock.specs.AtRest.{IsAtRest}
 use Rattle.resource_lock.specs.Good.{Good}
-use Rattle.lock_journal.specs.Allowed.{Lawful}
-use Rattle.lock_journal.specs.Entry.{replay}
+use Rattle.lock_transforms.specs.Allowed.{Lawful}
+use Rattle.lock_transforms.specs.Entry.{Entry, replay}
 use Rattle.lock_journal.specs.BookView.{BookView}
 use Rattle.plan_reader.specs.PlanView.{PlanView}
 use Rattle.plan_reader.specs.Units.{unit_value}
@@ -37,6 +37,8 @@ pub record IsRunOf (plan : PlanView) (options : RunOptions) (known : Option Fold
   pub replays : b.state ≡ replay b.graph b.history
   pub lawful : Lawful b.graph b.history
   pub good : Good b.state
+  -- so is the state between any two transforms: that of each front of the history
+  pub always_good : (front later : List Entry) → b.history ≡ front ++ later → Good (replay b.graph front)
   -- at its end nobody has anything, and each mark has ended
   pub rest : IsAtRest b.state
   pub ended : HasEnded b.state

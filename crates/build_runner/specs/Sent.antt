@@ -3,7 +3,7 @@ use Rattle.std.specs.Prelude.{ℕ, ◌≡◌, List, [], ◌∷◌, Option, None,
 use Rattle.item_actions.specs.declared.actions.ItemAction.{ItemAction}
 use Rattle.resource_lock.specs.GraphView.{GraphView}
 use Rattle.resource_lock.specs.Ranges.{IsFetchOf}
-use Rattle.lock_journal.specs.declared.entries.Closed.{Closed}
+use Rattle.lock_transforms.specs.declared.entries.Closed.{Closed}
 use Rattle.daemon_requirements.specs.RequirementsView.{RequirementsView}
 use Rattle.daemon_desk.specs.declared.sent.SentRequest.{SentRequest}
 use Rattle.daemon_items.specs.Requests.{SentView, Sends}

@@ -18,7 +18,7 @@ use coordination::{Halt, Pass};
 use daemon_desk::Desk;
 use daemon_requirements::Linked;
 use item_actions::{ItemAction, Outcome};
-use lock_journal::Closed;
+use lock_transforms::Closed;
 use std::alloc::Global;
 use std::sync::Wait;
 use work_queue::work_in_thread;

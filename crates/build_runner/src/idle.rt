@@ -15,7 +15,7 @@ use crate::tasks::run_task;
 use coordination::{Halt, Pass};
 use daemon_desk::Desk;
 use daemon_requirements::Linked;
-use lock_journal::kinds::Skip;
+use lock_transforms::kinds::Skip;
 use run_laws::only_items_are_queued;
 use std::sync::Wait;
 use worker_desk::Gate;

@@ -20,7 +20,7 @@ use daemon_desk::Desk;
 use daemon_requirements::Linked;
 use item_actions::{ItemAction, Outcome};
 use lease_service::{Lease, current_lease};
-use lock_journal::Closed;
+use lock_transforms::Closed;
 use std::sync::Wait;
 use work_queue::{run_item, work_in_thread};
 use worker_desk::Gate;

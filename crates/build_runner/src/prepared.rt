@@ -12,7 +12,7 @@ use crate::team::Worker;
 use crate::units::{UnitWork, units_of};
 use coordination::{Coordination, Opened, Pass, openings_are_at_rest};
 use lock_journal::Book;
-use lock_journal::kinds::MAX_CHANGES;
+use lock_transforms::kinds::MAX_CHANGES;
 use plan_reader::Plan;
 use resource_lock::Graph;
 use std::alloc::{AllocError, Global};

@@ -3,7 +3,7 @@ ghost use Rattle.std.specs.Prelude.{◌≡◌, ◌<◌, length};
 ghost use Rattle.build_runner.specs.Parked.{has_failed};
 
 use lock_journal::Book;
-use lock_journal::kinds::action_of;
+use lock_transforms::kinds::action_of;
 use resource_lock::{Mark, MarkId};
 
 /// Whether a unit of an action has failed.

@@ -26,7 +26,10 @@ use daemon_items::PoolLock;
 use daemon_manager::Pool;
 use lock_journal::Book;
 use plan_reader::Plan;
-use run_laws::{every_run_comes_to_its_plan, histories_go_on, honest_workers_give_the_answers};
+use run_laws::{
+    every_run_comes_to_its_plan, histories_go_on, honest_workers_give_the_answers,
+    lawful_histories_lead_to_good_states,
+};
 use std::alloc::{AllocError, Global};
 use std::mem;
 use std::sync::{Mutex, Wait};
@@ -50,6 +53,7 @@ fn close_service(opened: Box<Opened>, plan: &Plan, options: &RunOptions) -> Box<
     histories_go_on();
     every_run_comes_to_its_plan();
     honest_workers_give_the_answers();
+    lawful_histories_lead_to_good_states();
     let _ = plan.tasks();
     let Opened { service, passes } = Box::into_inner(opened);
     let book = service.finish(passes);

@@ -17,7 +17,7 @@ use async_tracker::{Parked, park, submit};
 use coordination::{Halt, Pass};
 use daemon_desk::Desk;
 use daemon_requirements::Linked;
-use lock_journal::kinds::{End, Start};
+use lock_transforms::kinds::{End, Start};
 use resource_lock::{Graph, GraphAction};
 use std::ops::Range;
 use std::sync::Wait;

@@ -10,11 +10,11 @@ use Rattle.resource_lock.specs.Shape.{BelongsTo}
 use Rattle.resource_lock.specs.StateView.{StateView}
 use Rattle.resource_lock.specs.declared.ids.WorkerId.{WorkerId}
 use Rattle.resource_lock.proofs.Runs.{belongs_along, same_shape-make_all, worker_from}
-use Rattle.lock_journal.specs.Entry.{Entry, entry}
+use Rattle.lock_transforms.specs.Entry.{Entry, entry}
 use Rattle.lock_journal.specs.BookView.{BookView}
 use Rattle.lock_journal.specs.LastChanges.{last_changes, made_by}
-use Rattle.lock_journal.specs.declared.transforms.Disposition.{Disposition}
-use Rattle.lock_journal.specs.declared.transforms.Disposition.TheVariants.{Finished, Failed}
+use Rattle.lock_transforms.specs.declared.transforms.Disposition.{Disposition}
+use Rattle.lock_transforms.specs.declared.transforms.Disposition.TheVariants.{Finished, Failed}
 use Rattle.run_laws.proofs.Named.{belongs, good}
 use Rattle.coordination.specs.Agrees.{IsSound}
 use Rattle.coordination.specs.Lasts.{last_of}

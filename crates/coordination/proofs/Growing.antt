@@ -7,8 +7,8 @@ use Rattle.std.specs.Prelude.{slice_get}
 use Rattle.resource_lock.specs.GraphView.{GraphView}
 use Rattle.resource_lock.specs.StateView.{StateView}
 use Rattle.resource_lock.specs.declared.ids.WorkerId.{WorkerId}
-use Rattle.lock_journal.specs.Allowed.{Lawful}
-use Rattle.lock_journal.specs.Entry.{Entry, replay}
+use Rattle.lock_transforms.specs.Allowed.{Lawful}
+use Rattle.lock_transforms.specs.Entry.{Entry, replay}
 use Rattle.lock_journal.specs.BookView.{BookView}
 use Rattle.run_laws.specs.ClosedBy.{closed_by}
 use Rattle.run_laws.specs.Own.{NoneOf, SameFor}

@@ -9,10 +9,10 @@ use Rattle.resource_lock.specs.StateView.{StateView, empty_holding, holding_of, 
 use Rattle.resource_lock.specs.declared.ids.LockId.{LockId}
 use Rattle.resource_lock.specs.declared.ids.WorkerId.{WorkerId}
 use Rattle.resource_lock.proofs.Undo.{same_worker}
-use Rattle.lock_journal.specs.Allowed.{lawful_from}
-use Rattle.lock_journal.specs.Entry.{Entry, effect}
+use Rattle.lock_transforms.specs.Allowed.{lawful_from}
+use Rattle.lock_transforms.specs.Entry.{Entry, effect}
 use Rattle.lock_journal.specs.BookView.{BookView}
-use Rattle.lock_journal.specs.Table.{owned}
+use Rattle.lock_transforms.specs.Table.{owned}
 use Rattle.run_laws.specs.Own.{NamesWorkers, claimed}
 use Rattle.run_laws.proofs.Named.{named}
 use Rattle.coordination.specs.declared.rule.Sight.{Sight}

@@ -8,8 +8,8 @@ use Rattle.resource_lock.specs.declared.ids.WorkerId.{WorkerId}
 use Rattle.resource_lock.specs.declared.marks.MarkId.{MarkId}
 use Rattle.resource_lock.proofs.Runs.{worker_from}
 use Rattle.lock_journal.specs.BookView.{BookView}
-use Rattle.lock_journal.specs.Table.{owned}
-use Rattle.lock_journal.specs.declared.entries.Kind.{Kind}
+use Rattle.lock_transforms.specs.Table.{owned}
+use Rattle.lock_transforms.specs.declared.entries.Kind.{Kind}
 use Rattle.run_laws.specs.Own.{claimed}
 use Rattle.run_laws.specs.OwnChanges.{after_all, claimed_after, locks_after}
 use Rattle.run_laws.proofs.OwnChanges.{own_claimed_all, own_holding_all, own_locks_all}

@@ -6,9 +6,9 @@ use Rattle.resource_lock.specs.StateView.{Holding, empty_holding, holding_of, is
 use Rattle.resource_lock.specs.declared.ids.LockId.{LockId}
 use Rattle.resource_lock.specs.declared.ids.WorkerId.{WorkerId}
 use Rattle.lock_journal.specs.BookView.{BookView}
-use Rattle.lock_journal.specs.Entry.{Entry}
-use Rattle.lock_journal.specs.Table.{owned, owned_from}
-use Rattle.lock_journal.specs.declared.entries.Closed.{Closed}
+use Rattle.lock_transforms.specs.Entry.{Entry}
+use Rattle.lock_transforms.specs.Table.{owned, owned_from}
+use Rattle.lock_transforms.specs.declared.entries.Closed.{Closed}
 use Rattle.coordination.specs.Agrees.{Agrees, IsSound}
 use Rattle.coordination.specs.Passes.{PassView}
 use Rattle.coordination.specs.Sights.{workers_from}

@@ -4,13 +4,13 @@ use Rattle.resource_lock.specs.declared.ids.WorkerId.{WorkerId}
 use Rattle.resource_lock.specs.declared.changes.Change.{Change}
 use Rattle.resource_lock.specs.GraphView.{GraphView}
 use Rattle.resource_lock.specs.StateView.{StateView}
-use Rattle.lock_journal.specs.Allowed.{Allowed, Lawful}
-use Rattle.lock_journal.specs.Entry.{Entry, effect, entry, replay}
+use Rattle.lock_transforms.specs.Allowed.{Allowed, Lawful}
+use Rattle.lock_transforms.specs.Entry.{Entry, effect, entry, replay}
 use Rattle.lock_journal.specs.BookView.{BookView, SameBook}
 use Rattle.lock_journal.specs.Ran.{HasFinished, HasFailed, IsToRetry}
-use Rattle.lock_journal.specs.declared.entries.Kind.{Kind}
-use Rattle.lock_journal.specs.declared.transforms.Disposition.{Disposition}
-use Rattle.lock_journal.specs.declared.transforms.Disposition.TheVariants.{Finished, Failed, Retry}
+use Rattle.lock_transforms.specs.declared.entries.Kind.{Kind}
+use Rattle.lock_transforms.specs.declared.transforms.Disposition.{Disposition}
+use Rattle.lock_transforms.specs.declared.transforms.Disposition.TheVariants.{Finished, Failed, Retry}
 use Rattle.run_laws.proofs.Growing.{lawful-push, replay-push}
 use Rattle.coordination.specs.declared.rule.Sight.{Sight}
 use Rattle.coordination.specs.Agrees.{IsSound}

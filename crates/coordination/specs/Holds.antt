@@ -1,7 +1,7 @@
 -- Workers that hold nothing.
 use Rattle.std.specs.Prelude.{◌≡◌, []}
 use Rattle.resource_lock.specs.StateView.{empty_holding, holding_of}
-use Rattle.lock_journal.specs.Table.{owned}
+use Rattle.lock_transforms.specs.Table.{owned}
 use Rattle.run_laws.specs.Own.{claimed}
 use Rattle.coordination.specs.declared.rule.Sight.{Sight}
 

@@ -8,13 +8,13 @@ use Rattle.resource_lock.specs.StateView.{Holding, IsWorkerOf, StateView, holdin
 use Rattle.resource_lock.specs.declared.changes.Change.{Change}
 use Rattle.resource_lock.specs.declared.changes.Change.TheVariants.{Lock, Move, Park}
 use Rattle.resource_lock.specs.declared.ids.WorkerId.{WorkerId}
-use Rattle.lock_journal.specs.Entry.{entry}
+use Rattle.lock_transforms.specs.Entry.{entry}
 use Rattle.lock_journal.specs.BookView.{BookView}
 use Rattle.lock_journal.specs.Ran.{HasFinished}
-use Rattle.lock_journal.specs.Table.{owned}
-use Rattle.lock_journal.specs.declared.entries.Kind.{Kind}
-use Rattle.lock_journal.specs.declared.transforms.Disposition.{Disposition}
-use Rattle.lock_journal.specs.declared.transforms.Disposition.TheVariants.{Finished, Failed, Retry}
+use Rattle.lock_transforms.specs.Table.{owned}
+use Rattle.lock_transforms.specs.declared.entries.Kind.{Kind}
+use Rattle.lock_transforms.specs.declared.transforms.Disposition.{Disposition}
+use Rattle.lock_transforms.specs.declared.transforms.Disposition.TheVariants.{Finished, Failed, Retry}
 use Rattle.run_laws.specs.Own.{claimed}
 use Rattle.run_laws.specs.OwnChanges.{claimed_after, locks_after, mark_before, without_if}
 use Rattle.coordination.specs.Agrees.{IsSound}

@@ -3,10 +3,10 @@ use Rattle.std.specs.Prelude.{◌≡◌, ◌≤◌, ℕ, Bool, List, [], ◌∷�
 use Rattle.std.specs.List.{AllPairs}
 use Rattle.resource_lock.specs.StateView.{holding_of}
 use Rattle.resource_lock.specs.declared.ids.LockId.{LockId}
-use Rattle.lock_journal.specs.Entry.{Entry}
+use Rattle.lock_transforms.specs.Entry.{Entry}
 use Rattle.lock_journal.specs.BookView.{BookView}
-use Rattle.lock_journal.specs.Table.{owned}
-use Rattle.lock_journal.specs.declared.entries.Closed.{Closed}
+use Rattle.lock_transforms.specs.Table.{owned}
+use Rattle.lock_transforms.specs.declared.entries.Closed.{Closed}
 use Rattle.run_laws.specs.ClosedBy.{closed_by, closed_in}
 use Rattle.coordination.specs.Lasts.{count_of}
 use Rattle.coordination.specs.Passes.{PassView}

@@ -2,7 +2,7 @@
 use Rattle.std.specs.Prelude.{◌≡◌, true, false}
 use Rattle.resource_lock.specs.declared.ids.WorkerId.{WorkerId}
 use Rattle.lock_journal.specs.BookView.{BookView}
-use Rattle.lock_journal.specs.declared.entries.Kind.{Kind}
+use Rattle.lock_transforms.specs.declared.entries.Kind.{Kind}
 use Rattle.coordination.specs.declared.attempts.Tried.{Tried}
 use Rattle.coordination.specs.declared.attempts.Tried.TheVariants as tried
 use Rattle.coordination.specs.declared.attempts.Reply.{Reply}

@@ -10,7 +10,7 @@ use crate::passes::Pass;
 use crate::questions::Question;
 use crate::sleepers::{Sleepers, Wakes};
 use crate::slots::Slot;
-use lock_journal::{Disposition, Transform};
+use lock_transforms::{Disposition, Transform};
 use resource_lock::WorkerId;
 use std::alloc::AllocError;
 

@@ -7,7 +7,8 @@ ghost use Rattle.run_laws.specs.OwnChanges.{mark_before, with_if, without_if};
 ghost use Rattle.coordination.specs.Parts.{Follows, HasRoom, HasRoomFor, IsAfter, IsPartOf, IsFreshPart, IsRoomOf, LeadsOn, marks_of};
 
 use crate::rising::{add, remove};
-use lock_journal::{Book, Disposition};
+use lock_journal::Book;
+use lock_transforms::Disposition;
 use resource_lock::{Change, Graph, LockId, Mark, MarkId, WorkerId};
 use std::alloc::{AllocError, Global};
 

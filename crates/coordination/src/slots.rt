@@ -11,7 +11,8 @@ use crate::questions::Question;
 use crate::rule::{Hear, OpenedWith, Order, PutBack, SeatView, Stop, Take};
 use crate::sleepers::{Sleepers, Wakes, wakes_of};
 use atomic_table::{Seat, Table};
-use lock_journal::{Book, Disposition, Transform};
+use lock_journal::Book;
+use lock_transforms::{Disposition, Transform};
 use resource_lock::WorkerId;
 use std::alloc::{AllocError, Global};
 

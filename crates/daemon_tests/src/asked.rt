@@ -2,62 +2,77 @@
 use daemon_requirements::{Pair, RequirementFields, Requirements};
 use item_actions::Text;
 use std::alloc::{AllocError, Global};
-use std::test::Fail;
 
-/// Fields of the program `self` with 512 MB and no lists.
-fn plain(alloc: Global) -> Result<RequirementFields, AllocError> {
+/// Names and their values.
+type Pairs = &'static [(&'static str, &'static str)];
+
+/// What a test asks for.
+#[derive(Clone, Copy)]
+pub(crate) struct Asked {
+    pub(crate) program: &'static str,
+    pub(crate) heap_mb: u32,
+    pub(crate) args: &'static [&'static str],
+    pub(crate) properties: Pairs,
+    pub(crate) variables: Pairs,
+    pub(crate) encoding: &'static str,
+}
+
+/// The program `self` with 512 MB and no lists.
+pub(crate) const PLAIN: Asked = Asked {
+    program: "self",
+    heap_mb: 512,
+    args: &[],
+    properties: &[],
+    variables: &[],
+    encoding: "UTF-8",
+};
+
+fn texts(alloc: Global, words: &[&str]) -> Result<Vec<Text>, AllocError> {
+    let mut texts = Vec::new(alloc);
+    for word in words {
+        texts.push(Text::from_str(alloc, word)?)?;
+    }
+    Ok(texts)
+}
+
+fn pairs(alloc: Global, words: &[(&str, &str)]) -> Result<Vec<Pair>, AllocError> {
+    let mut pairs = Vec::new(alloc);
+    for (name, value) in words {
+        let name = Text::from_str(alloc, name)?;
+        let value = Text::from_str(alloc, value)?;
+        pairs.push(Pair { name, value })?;
+    }
+    Ok(pairs)
+}
+
+/// The fields of what is asked for.
+pub(crate) fn fields(alloc: Global, asked: &Asked) -> Result<RequirementFields, AllocError> {
+    let executable = Text::from_str(alloc, asked.program)?;
+    let encoding = Text::from_str(alloc, asked.encoding)?;
+    let args = texts(alloc, asked.args)?;
+    let properties = pairs(alloc, asked.properties)?;
+    let variables = pairs(alloc, asked.variables)?;
     Ok(RequirementFields {
-        executable: Text::from_str(alloc, "self")?,
-        heap_mb: 512,
-        args: Vec::new(alloc),
-        properties: Vec::new(alloc),
-        variables: Vec::new(alloc),
+        executable,
+        heap_mb: asked.heap_mb,
+        args,
+        properties,
+        variables,
         debug: false,
         assertions: false,
-        encoding: Text::from_str(alloc, "UTF-8")?,
+        encoding,
     })
 }
 
-/// The pair of these words, as `name:value`.
-fn pair(alloc: Global, words: &str) -> Result<Pair, Fail> {
-    let (name, value) = words.split_once(':').ok_or("a pair has a colon")?;
-    Ok(Pair {
-        name: Text::from_str(alloc, name)?,
-        value: Text::from_str(alloc, value)?,
-    })
-}
-
-/// Sets the field that the word names, or puts one more into the list.
-fn set(alloc: Global, word: &str, fields: &mut RequirementFields) -> Result<(), Fail> {
-    match word.split_once('=') {
-        Some(("program", value)) => fields.executable = Text::from_str(alloc, value)?,
-        Some(("heap", value)) => fields.heap_mb = value.parse()?,
-        Some(("arg", value)) => fields.args.push(Text::from_str(alloc, value)?)?,
-        Some(("property", value)) => fields.properties.push(pair(alloc, value)?)?,
-        Some(("variable", value)) => fields.variables.push(pair(alloc, value)?)?,
-        Some(("encoding", value)) => fields.encoding = Text::from_str(alloc, value)?,
-        _ => Err("no field has this name")?,
+/// The requirements that are asked for. Fields that are refused end a test as want of memory does.
+pub(crate) fn requirements(alloc: Global, asked: &Asked) -> Result<Requirements, AllocError> {
+    match Requirements::of(fields(alloc, asked)?) {
+        Ok(requirements) => Ok(requirements),
+        Err(_) => Err(AllocError),
     }
-    Ok(())
 }
 
-/// Fields as the words of this line say, as `heap=1024 arg=-a property=name:value`.
-pub(crate) fn fields(alloc: Global, line: &str) -> Result<RequirementFields, Fail> {
-    let mut fields = plain(alloc)?;
-    for word in line.split_whitespace() {
-        set(alloc, word, &mut fields)?;
-    }
-    Ok(fields)
-}
-
-/// Requirements as the words of this line say.
-pub(crate) fn requirements(alloc: Global, line: &str) -> Result<Requirements, Fail> {
-    Ok(Requirements::of(fields(alloc, line)?)?)
-}
-
-/// Requirements of this heap.
-pub(crate) fn requirements_of(alloc: Global, heap_mb: u32) -> Result<Requirements, Fail> {
-    let mut fields = plain(alloc)?;
-    fields.heap_mb = heap_mb;
-    Ok(Requirements::of(fields)?)
+/// The requirements of this heap.
+pub(crate) fn requirements_of(alloc: Global, heap_mb: u32) -> Result<Requirements, AllocError> {
+    requirements(alloc, &Asked { heap_mb, ..PLAIN })
 }

@@ -5,17 +5,22 @@ ghost use Rattle.item_actions.specs.Forms.{is_file_name};
 mod folder;
 mod memory;
 
+use crate::asked::{Asked, requirements};
 use crate::lines::{add_failed, add_outcome};
 use daemon_desk::Desk;
 use daemon_protocol::Request;
-use daemon_requirements::Requirements;
 use item_actions::{ItemAction, Text, is_file_name};
-use std::alloc::Global;
+use std::alloc::{AllocError, Global};
 use std::process::Abort;
-use std::test::Fail;
+use worker_desk::DeskFail;
 
 /// The request of a unit for an action on a.txt.
-fn request(rt: &impl Abort, alloc: Global, unit: u32, action: ItemAction) -> Result<Request, Fail>
+fn request(
+    rt: &impl Abort,
+    alloc: Global,
+    unit: u32,
+    action: ItemAction,
+) -> Result<Request, AllocError>
     ensures { IfOk result (λ request. is_file_name request.file ≡ true) }
 {
     let file = Text::from_str(alloc, "a.txt")?;
@@ -30,7 +35,7 @@ fn ask<D: Desk>(
     link: &mut D::Link,
     request: &Request,
     line: &mut String,
-) -> Result<(), Fail>
+) -> Result<(), AllocError>
     requires { is_file_name request.now.file ≡ true }
 {
     if let Err(fail) = desk.send(alloc, link, request) {
@@ -51,7 +56,7 @@ fn ask_unit<D: Desk>(
     unit: u32,
     action: ItemAction,
     line: &mut String,
-) -> Result<(), Fail> {
+) -> Result<(), AllocError> {
     let request = request(rt, alloc, unit, action)?;
     ask(alloc, desk, link, &request, line)
 }
@@ -63,9 +68,15 @@ fn ask_both<D: Desk>(
     desk: &mut D,
     link: &mut D::Link,
     line: &mut String,
-) -> Result<(), Fail> {
+) -> Result<(), AllocError> {
     ask_unit(rt, alloc, desk, link, 0, ItemAction::Lines, line)?;
     ask_unit(rt, alloc, desk, link, 1, ItemAction::Bytes, line)
+}
+
+/// Starts a daemon for what is asked.
+fn start<D: Desk>(alloc: Global, desk: &mut D, asked: &Asked) -> Result<D::Link, DeskFail> {
+    let asked = requirements(alloc, asked)?;
+    desk.start(alloc, &asked)
 }
 
 /// Starts a daemon, asks it for the lines and then for the bytes of a.txt, and stops it.
@@ -73,10 +84,10 @@ fn ask_twice<D: Desk>(
     rt: &impl Abort,
     alloc: Global,
     desk: &mut D,
-    asked: &Requirements,
+    asked: &Asked,
     line: &mut String,
-) -> Result<(), Fail> {
-    match desk.start(alloc, asked) {
+) -> Result<(), AllocError> {
+    match start(alloc, desk, asked) {
         Ok(mut link) => {
             let answers = ask_both(rt, alloc, desk, &mut link, line);
             desk.stop(link);

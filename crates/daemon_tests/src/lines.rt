@@ -3,7 +3,6 @@ use daemon_manager::Event;
 use item_actions::Outcome;
 use std::alloc::AllocError;
 use std::process::Abort;
-use std::test::Fail;
 use worker_desk::DeskFail;
 
 /// That the line is the expected one; else the test prints it.
@@ -12,21 +11,20 @@ pub(crate) fn check(rt: &impl Abort, line: &str, expected: &str) {
 }
 
 /// An outcome in a word. The items of these tests ask for numbers alone.
-pub(crate) fn add_outcome(outcome: Outcome, line: &mut String) -> Result<(), Fail> {
+pub(crate) fn add_outcome(outcome: Outcome, line: &mut String) -> Result<(), AllocError> {
     match outcome {
-        Outcome::Number(number) => write!(line, "{number}. ")?,
-        Outcome::Fault => line.push_str("fault. ")?,
-        Outcome::NoMemory => line.push_str("no memory. ")?,
-        _ => line.push_str("another outcome. ")?,
+        Outcome::Number(number) => write!(line, "{number}. "),
+        Outcome::Fault => line.push_str("fault. "),
+        Outcome::NoMemory => line.push_str("no memory. "),
+        _ => line.push_str("another outcome. "),
     }
-    Ok(())
 }
 
 /// That a step failed. Want of memory ends the test.
-pub(crate) fn add_failed(step: &str, fail: DeskFail, line: &mut String) -> Result<(), Fail> {
+pub(crate) fn add_failed(step: &str, fail: DeskFail, line: &mut String) -> Result<(), AllocError> {
     match fail {
-        DeskFail::Failed => Ok(write!(line, "{step} failed. ")?),
-        DeskFail::NoMemory => Err(AllocError)?,
+        DeskFail::Failed => write!(line, "{step} failed. "),
+        DeskFail::NoMemory => Err(AllocError),
     }
 }
 

@@ -2,11 +2,10 @@
 use crate::asked::requirements_of;
 use crate::lines::{add_events, check};
 use crate::requirement_tests::{Link, heap_of};
-use daemon_manager::{DaemonState, Event, Pool, Reserved};
-use daemon_requirements::Requirements;
+use daemon_manager::{DaemonState, Pool, Reserved};
+use daemon_requirements::{Linked, Requirements};
 use std::alloc::{AllocError, Global};
 use std::process::Abort;
-use std::test::Fail;
 
 fn start(
     alloc: Global,
@@ -15,7 +14,10 @@ fn start(
     asked: Requirements,
 ) -> Result<Reserved<Link>, AllocError> {
     let link = Link(asked.copy(alloc)?);
-    pool.adopt(link, asked, unit).map_err(|_| AllocError)
+    match pool.adopt(link, asked, unit) {
+        Ok(reserved) => Ok(reserved),
+        Err(_) => Err(AllocError),
+    }
 }
 
 /// Reserves an idle daemon with this heap at least for the unit, or starts one.
@@ -24,93 +26,88 @@ fn take(
     pool: &mut Pool<Link>,
     unit: u32,
     heap_mb: u32,
-) -> Result<Reserved<Link>, Fail> {
+) -> Result<Reserved<Link>, AllocError> {
     let asked = requirements_of(alloc, heap_mb)?;
     match pool.reserve_idle(unit, &asked)? {
         Some(reserved) => Ok(reserved),
-        None => Ok(start(alloc, pool, unit, asked)?),
+        None => start(alloc, pool, unit, asked),
     }
 }
 
 /// Has a daemon with this heap at least work for the unit.
-fn work(alloc: Global, pool: &mut Pool<Link>, unit: u32, heap_mb: u32) -> Result<(), Fail> {
+fn work(alloc: Global, pool: &mut Pool<Link>, unit: u32, heap_mb: u32) -> Result<(), AllocError> {
     let reserved = take(alloc, pool, unit, heap_mb)?;
     let _ = pool.release(reserved);
     Ok(())
 }
 
-/// Stops the idle daemons, and gives the events. None says that a daemon is still idle.
-fn finish(mut pool: Pool<Link>) -> Option<Vec<Event>> {
+/// Stops the idle daemons, and tells the events.
+fn add_end<L: Linked + Drop>(mut pool: Pool<L>, line: &mut String) -> Result<(), AllocError> {
     for _ in 0..pool.idle() {
         let _ = pool.stop_idle();
     }
     if pool.idle() > 0 {
-        return None;
+        return line.push_str("a daemon is idle");
     }
-    Some(pool.into_events())
+    add_events(&pool.into_events(), line)
 }
 
-/// What happened to the daemons of two units that ask for these heaps.
-fn events_of(alloc: Global, [first, last]: [u32; 2]) -> Result<Option<Vec<Event>>, Fail> {
+/// What happens to the daemons of two units that ask for these heaps.
+fn add_two(alloc: Global, [first, last]: [u32; 2], line: &mut String) -> Result<(), AllocError> {
     let mut pool = Pool::new(alloc)?;
     work(alloc, &mut pool, 0, first)?;
     work(alloc, &mut pool, 1, last)?;
-    Ok(finish(pool))
+    add_end(pool, line)
 }
 
-fn check_events(
+fn check_two(
     rt: &impl Abort,
     alloc: Global,
     heaps: [u32; 2],
     expected: &str,
-) -> Result<(), Fail> {
-    let events = events_of(alloc, heaps)?.ok_or("a daemon is idle")?;
+) -> Result<(), AllocError> {
     let mut line = String::new(alloc);
-    add_events(&events, &mut line)?;
+    add_two(alloc, heaps, &mut line)?;
     check(rt, &line, expected);
     Ok(())
 }
 
-const ROWS: [([u32; 2], &str); 2] = [
-    (
-        [512, 1024],
-        "started 0. reserved 0 for 0. released 0. started 1. reserved 1 for 1. released 1. stopped 0. stopped 1. ",
-    ),
-    (
-        [1024, 512],
-        "started 0. reserved 0 for 0. released 0. reserved 0 for 1. released 0. stopped 0. ",
-    ),
-];
+const GREATER_LAST: &str =
+    "started 0. reserved 0 for 0. released 0. started 1. reserved 1 for 1. released 1. stopped 0. stopped 1. ";
+
+const SMALLER_LAST: &str =
+    "started 0. reserved 0 for 0. released 0. reserved 0 for 1. released 0. stopped 0. ";
 
 #[test]
-fn a_daemon_is_used_again_where_it_covers(rt: HostRuntime) -> Result<(), Fail> {
-    for (heaps, expected) in ROWS {
-        check_events(&rt, rt.alloc(), heaps, expected)?;
+fn a_daemon_is_used_again_where_it_covers(rt: HostRuntime) -> Result<(), AllocError> {
+    check_two(&rt, rt.alloc(), [512, 1024], GREATER_LAST)?;
+    check_two(&rt, rt.alloc(), [1024, 512], SMALLER_LAST)
+}
+
+/// Whether a reserved daemon tells its number, its unit and its link.
+fn is_first(reserved: &mut Reserved<Link>) -> bool {
+    reserved.daemon() == 0 && reserved.unit() == 7 && heap_of(reserved.link()) == 512
+}
+
+/// Whether the daemon that failed last isn't idle.
+fn has_failed<L: Linked + Drop>(pool: &Pool<L>) -> bool {
+    match pool.events().last() {
+        Some(event) => pool.idle() == 0 && matches!(event.state(), DaemonState::Failed),
+        None => false,
     }
-    Ok(())
 }
 
-/// That a reserved daemon tells its number, its unit and its link.
-fn check_reserved(rt: &impl Abort, reserved: &mut Reserved<Link>) {
-    assert!(rt; reserved.daemon() == 0);
-    assert!(rt; reserved.unit() == 7);
-    assert!(rt; heap_of(reserved.link()) == 512);
-}
-
-/// That a daemon that failed isn't idle.
-fn check_failed(rt: &impl Abort, pool: &Pool<Link>) {
-    assert!(rt; pool.idle() == 0);
-    let last = pool.events().last().map(|event| event.state());
-    assert!(rt; matches!(last, Some(DaemonState::Failed)));
+/// Whether a daemon is reserved for unit 7, and its link comes back as it fails, and the pool has noted that.
+fn fails(alloc: Global, pool: &mut Pool<Link>) -> Result<bool, AllocError> {
+    let mut reserved = take(alloc, pool, 7, 512)?;
+    let is_first = is_first(&mut reserved);
+    let link = pool.fail(reserved);
+    Ok(is_first && heap_of(&link) == 512 && has_failed(pool))
 }
 
 #[test]
-fn a_reserved_daemon_fails_and_is_not_used_again(rt: HostRuntime) -> Result<(), Fail> {
+fn a_reserved_daemon_fails_and_is_not_used_again(rt: HostRuntime) -> Result<(), AllocError> {
     let mut pool = Pool::new(rt.alloc())?;
-    let mut reserved = take(rt.alloc(), &mut pool, 7, 512)?;
-    check_reserved(&rt, &mut reserved);
-    let link = pool.fail(reserved);
-    assert!(rt; heap_of(&link) == 512);
-    check_failed(&rt, &pool);
+    assert!(rt; fails(rt.alloc(), &mut pool)?);
     Ok(())
 }

@@ -12,23 +12,18 @@ pub(crate) fn desk(
     alloc: Global,
     failing: &[u64],
     lie: Option<&[u8]>,
-) -> Result<MemoryDesk, AllocError> {
-    let files = files(alloc)?;
+) -> Result<Box<MemoryDesk>, AllocError> {
     let failing = Vec::from_slice(alloc, failing)?;
     let lies = lies(alloc, lie)?;
-    Ok(MemoryDesk::new(alloc, files, failing, lies))
-}
-
-fn entry(alloc: Global) -> Result<FileEntry, AllocError> {
-    Ok(FileEntry {
-        name: Text::from_str(alloc, "a.txt")?,
-        bytes: Vec::from_slice(alloc, b"one\ntwo\nthree\n")?,
-    })
+    let files = files(alloc)?;
+    Ok(Box::new(alloc, MemoryDesk::new(alloc, files, failing, lies))?)
 }
 
 fn files(alloc: Global) -> Result<FileMap, AllocError> {
+    let name = Text::from_str(alloc, "a.txt")?;
+    let bytes = Vec::from_slice(alloc, b"one\ntwo\nthree\n")?;
     let mut entries = Vec::new(alloc);
-    entries.push(entry(alloc)?)?;
+    entries.push(FileEntry { name, bytes })?;
     Ok(FileMap::new(entries))
 }
 

@@ -7,9 +7,8 @@ use daemon_protocol::{
     streams_have_one_reading,
 };
 use item_actions::{Outcome, is_file_name};
-use std::alloc::Global;
+use std::alloc::{AllocError, Global};
 use std::process::Abort;
-use std::test::Fail;
 
 // Far more bytes than any stream here has.
 const MANY: u64 = 1 << 40;
@@ -37,7 +36,7 @@ fn spell(
     alloc: Global,
     frames: &[Frame],
     bytes: &mut Vec<u8>,
-) -> Result<(), Fail> {
+) -> Result<(), AllocError> {
     for frame in frames {
         assert!(rt; is_valid(frame));
         bytes.extend_from_slice(&encode(alloc, frame)?)?;
@@ -45,24 +44,8 @@ fn spell(
     Ok(())
 }
 
-/// What a decoder told of a stream: how many frames it gave, why no more come, and what it holds.
-#[derive(Clone, Copy, PartialEq)]
-struct Told {
-    frames: usize,
-    refusal: Option<FrameRefusal>,
-    rest: u64,
-    place: u64,
-}
-
-/// What a decoder tells that gave so many frames, and then refused what stands at the place.
-fn refused(frames: usize, refusal: FrameRefusal, place: u64) -> Told {
-    Told {
-        frames,
-        refusal: Some(refusal),
-        rest: 0,
-        place,
-    }
-}
+/// What a decoder told of a stream: how many frames it gave, why no more come, how many bytes it holds, and its place.
+type Told = (usize, Option<FrameRefusal>, u64, u64);
 
 /// Feeds a decoder, and puts the bytes of its frames behind others.
 fn feed(
@@ -71,37 +54,31 @@ fn feed(
     decoder: &mut Decoder,
     piece: &[u8],
     spelled: &mut Vec<u8>,
-) -> Result<Told, Fail> {
+) -> Result<Told, AllocError> {
     assert!(rt; decoder.place() < MANY && decoder.rest() < MANY);
     let fed = decoder.feed(alloc, piece)?;
     spell(rt, alloc, &fed.frames, spelled)?;
-    Ok(Told {
-        frames: fed.frames.len(),
-        refusal: fed.refusal,
-        rest: decoder.rest(),
-        place: decoder.place(),
-    })
+    Ok((
+        fed.frames.len(),
+        fed.refusal,
+        decoder.rest(),
+        decoder.place(),
+    ))
 }
 
-/// Feeds a decoder with a stream in pieces of `size` bytes. What it tells last counts the frames of all pieces.
+/// Feeds a new decoder with a stream in pieces of `size` bytes. What it tells last counts the frames of all pieces.
 fn read(
     rt: &impl Abort,
     alloc: Global,
-    decoder: &mut Decoder,
     stream: &[u8],
     size: usize,
     spelled: &mut Vec<u8>,
-) -> Result<Told, Fail> {
-    let mut told = Told {
-        frames: 0,
-        refusal: None,
-        rest: 0,
-        place: 0,
-    };
+) -> Result<Told, AllocError> {
+    let mut decoder = Decoder::new(alloc);
+    let mut told = (0usize, None, 0, 0);
     for piece in stream.chunks(size.max(1)) {
-        let more = feed(rt, alloc, decoder, piece, spelled)?;
-        let frames = told.frames.saturating_add(more.frames);
-        told = Told { frames, ..more };
+        let (frames, refusal, rest, place) = feed(rt, alloc, &mut decoder, piece, spelled)?;
+        told = (told.0.saturating_add(frames), refusal, rest, place);
     }
     Ok(told)
 }
@@ -114,54 +91,45 @@ fn check_reading(
     size: usize,
     told: Told,
     bytes: &[u8],
-) -> Result<(), Fail> {
-    let mut decoder = Decoder::new(alloc);
+) -> Result<(), AllocError> {
     let mut spelled = Vec::new(alloc);
-    let came = read(rt, alloc, &mut decoder, stream, size, &mut spelled)?;
-    assert!(rt; came == told, "{} bytes in pieces of {size}", stream.len());
-    assert!(rt; spelled.as_slice() == bytes);
+    let came = read(rt, alloc, stream, size, &mut spelled)?;
+    assert!(rt;
+        came == told && spelled.as_slice() == bytes,
+        "{} bytes in pieces of {size}",
+        stream.len()
+    );
     Ok(())
 }
 
 #[test]
-fn a_stream_in_pieces_of_each_size(rt: HostRuntime) -> Result<(), Fail> {
+fn a_stream_in_pieces_of_each_size(rt: HostRuntime) -> Result<(), AllocError> {
     spelled_frames_are_read();
     read_frames_are_spelled();
     streams_have_one_reading();
-    let told = Told {
-        frames: 3,
-        refusal: None,
-        rest: 0,
-        place: 40,
-    };
     for size in 1..=STREAM.len() {
-        check_reading(&rt, rt.alloc(), STREAM, size, told, STREAM)?;
+        check_reading(&rt, rt.alloc(), STREAM, size, (3, None, 0, 40), STREAM)?;
     }
     Ok(())
 }
 
 #[test]
-fn a_stream_cut_off_at_every_byte(rt: HostRuntime) -> Result<(), Fail> {
+fn a_stream_cut_off_at_every_byte(rt: HostRuntime) -> Result<(), AllocError> {
     for end in 0..STREAM.len() {
         let (frames, place) = match end {
             0..=16 => (0, 0),
             17..=34 => (1, 17),
             _ => (2, 35),
         };
-        let told = Told {
-            frames,
-            refusal: None,
-            rest: (end - place) as u64,
-            place: place as u64,
-        };
+        let told = (frames, None, (end - place) as u64, place as u64);
         check_reading(&rt, rt.alloc(), &STREAM[..end], 40, told, &STREAM[..place])?;
     }
     Ok(())
 }
 
 #[test]
-fn a_refusal_after_frames(rt: HostRuntime) -> Result<(), Fail> {
-    let told = refused(1, FrameRefusal::BadField(5), 5);
+fn a_refusal_after_frames(rt: HostRuntime) -> Result<(), AllocError> {
+    let told = (1, Some(FrameRefusal::BadField(5)), 0, 5);
     for size in 1..=10 {
         check_reading(
             &rt,
@@ -175,40 +143,39 @@ fn a_refusal_after_frames(rt: HostRuntime) -> Result<(), Fail> {
     Ok(())
 }
 
-/// That a stream which comes byte by byte is refused with its last byte and not before, gives no frames, and that what
-/// follows is refused so too.
+/// That a stream which comes byte by byte isn't refused, gives no frames and is held.
+fn check_held(rt: &impl Abort, alloc: Global, stream: &[u8]) -> Result<(), AllocError> {
+    let told = (0, None, stream.len() as u64, 0);
+    check_reading(rt, alloc, stream, 1, told, b"")
+}
+
+/// That a stream behind which a Stop stands is refused with its last byte and not before, gives no frames, and that the Stop
+/// is refused so too: byte by byte, and with the stream in one piece.
 fn check_refused(
     rt: &impl Abort,
     alloc: Global,
     stream: &[u8],
     refusal: FrameRefusal,
-) -> Result<(), Fail> {
-    let mut decoder = Decoder::new(alloc);
-    let mut spelled = Vec::new(alloc);
-    let last = stream.len().saturating_sub(1);
-    let before = read(rt, alloc, &mut decoder, &stream[..last], 1, &mut spelled)?;
-    let with = read(rt, alloc, &mut decoder, &stream[last..], 1, &mut spelled)?;
-    let after = read(rt, alloc, &mut decoder, STOP, 5, &mut spelled)?;
-    assert!(rt; before.refusal.is_none() && before.frames == 0);
-    assert!(rt; with == refused(0, refusal, 0) && after == with);
-    Ok(())
-}
-
-/// That a stream which comes byte by byte isn't refused.
-fn check_not_refused(rt: &impl Abort, alloc: Global, stream: &[u8]) -> Result<(), Fail> {
-    let mut decoder = Decoder::new(alloc);
-    let mut spelled = Vec::new(alloc);
-    let told = read(rt, alloc, &mut decoder, stream, 1, &mut spelled)?;
-    assert!(rt; told.refusal.is_none());
-    Ok(())
+) -> Result<(), AllocError> {
+    let end = stream.len().saturating_sub(STOP.len());
+    let told = (0, Some(refusal), 0, 0);
+    check_held(rt, alloc, &stream[..end.saturating_sub(1)])?;
+    check_reading(rt, alloc, &stream[..end], 1, told, b"")?;
+    check_reading(rt, alloc, stream, 1, told, b"")?;
+    check_reading(rt, alloc, stream, end, told, b"")
 }
 
 #[test]
-fn tags_of_no_frame(rt: HostRuntime) -> Result<(), Fail> {
+fn tags_of_no_frame(rt: HostRuntime) -> Result<(), AllocError> {
     for tag in 0..=255u8 {
         match tag {
-            1..=3 => check_not_refused(&rt, rt.alloc(), &[tag, 0, 0, 0])?,
-            _ => check_refused(&rt, rt.alloc(), &[tag], FrameRefusal::BadTag(0))?,
+            1..=3 => check_held(&rt, rt.alloc(), &[tag, 0, 0, 0])?,
+            _ => check_refused(
+                &rt,
+                rt.alloc(),
+                &[tag, 3, 0, 0, 0, 0],
+                FrameRefusal::BadTag(0),
+            )?,
         }
     }
     Ok(())
@@ -217,57 +184,57 @@ fn tags_of_no_frame(rt: HostRuntime) -> Result<(), Fail> {
 const LENGTHS: [u32; 6] = [65_537, 65_538, 1 << 17, 1 << 24, 1 << 31, u32::MAX];
 
 #[test]
-fn lengths_that_are_too_great(rt: HostRuntime) -> Result<(), Fail> {
+fn lengths_that_are_too_great(rt: HostRuntime) -> Result<(), AllocError> {
     for tag in 1..=3u8 {
         for length in LENGTHS {
             let [a, b, c, d] = length.to_be_bytes();
             check_refused(
                 &rt,
                 rt.alloc(),
-                &[tag, a, b, c, d],
+                &[tag, a, b, c, d, 3, 0, 0, 0, 0],
                 FrameRefusal::BadLength(0),
             )?;
         }
-        check_not_refused(&rt, rt.alloc(), &[tag, 0, 1, 0, 0, 0])?;
+        check_held(&rt, rt.alloc(), &[tag, 0, 1, 0, 0, 0])?;
     }
     Ok(())
 }
 
-// Tags, lengths, and bodies that none of the tag's frames has.
-const BODIES: [&[u8]; 28] = [
-    b"\x01\0\0\0\0",
-    b"\x01\0\0\0\x03\0\0\0",
-    b"\x01\0\0\0\x04\0\0\0\x07",
-    b"\x01\0\0\0\x05\0\0\0\x07\x01",
-    b"\x01\0\0\0\x06\0\0\0\x07\x01\0",
-    b"\x01\0\0\0\x07\0\0\0\x07\x01\0\0",
-    b"\x01\0\0\0\x07\0\0\0\x07\x01\0\x01",
-    b"\x01\0\0\0\x09\0\0\0\x07\x01\0\x01ab",
-    b"\x01\0\0\0\x08\0\0\0\x07\0\0\x01a",
-    b"\x01\0\0\0\x08\0\0\0\x07\x07\0\x01a",
-    b"\x01\0\0\0\x08\0\0\0\x07\xff\0\x01a",
-    b"\x01\0\0\0\x09\0\0\0\x07\x05\0\0\x01a",
-    b"\x01\0\0\0\x09\0\0\0\x07\x05\x41\0\x01a",
-    b"\x01\0\0\0\x06\0\0\0\x07\x05\x01",
-    b"\x01\0\0\0\x09\0\0\0\x07\x01\0\x02..",
-    b"\x01\0\0\0\x09\0\0\0\x07\x01\0\x02/a",
-    b"\x01\0\0\0\x08\0\0\0\x07\x01\0\x01 ",
-    b"\x01\0\0\0\x08\0\0\0\x07\x01\0\x01\xff",
-    b"\x02\0\0\0\0",
-    b"\x02\0\0\0\x04\0\0\0\x07",
-    b"\x02\0\0\0\x05\0\0\0\x07\0",
-    b"\x02\0\0\0\x05\0\0\0\x07\x07",
-    b"\x02\0\0\0\x0c\0\0\0\x07\x01\0\0\0\0\0\0\x03",
-    b"\x02\0\0\0\x0e\0\0\0\x07\x01\0\0\0\0\0\0\0\0\x03",
-    b"\x02\0\0\0\x06\0\0\0\x07\x02\0",
-    b"\x02\0\0\0\x06\0\0\0\x07\x03\0",
-    b"\x03\0\0\0\x01\0",
-    b"\x03\0\0\0\x04\0\0\0\0",
+// Tags, lengths, and bodies that none of the tag's frames has, each before a Stop.
+static BODIES: [&[u8]; 28] = [
+    b"\x01\0\0\0\0\x03\0\0\0\0",
+    b"\x01\0\0\0\x03\0\0\0\x03\0\0\0\0",
+    b"\x01\0\0\0\x04\0\0\0\x07\x03\0\0\0\0",
+    b"\x01\0\0\0\x05\0\0\0\x07\x01\x03\0\0\0\0",
+    b"\x01\0\0\0\x06\0\0\0\x07\x01\0\x03\0\0\0\0",
+    b"\x01\0\0\0\x07\0\0\0\x07\x01\0\0\x03\0\0\0\0",
+    b"\x01\0\0\0\x07\0\0\0\x07\x01\0\x01\x03\0\0\0\0",
+    b"\x01\0\0\0\x09\0\0\0\x07\x01\0\x01ab\x03\0\0\0\0",
+    b"\x01\0\0\0\x08\0\0\0\x07\0\0\x01a\x03\0\0\0\0",
+    b"\x01\0\0\0\x08\0\0\0\x07\x07\0\x01a\x03\0\0\0\0",
+    b"\x01\0\0\0\x08\0\0\0\x07\xff\0\x01a\x03\0\0\0\0",
+    b"\x01\0\0\0\x09\0\0\0\x07\x05\0\0\x01a\x03\0\0\0\0",
+    b"\x01\0\0\0\x09\0\0\0\x07\x05\x41\0\x01a\x03\0\0\0\0",
+    b"\x01\0\0\0\x06\0\0\0\x07\x05\x01\x03\0\0\0\0",
+    b"\x01\0\0\0\x09\0\0\0\x07\x01\0\x02..\x03\0\0\0\0",
+    b"\x01\0\0\0\x09\0\0\0\x07\x01\0\x02/a\x03\0\0\0\0",
+    b"\x01\0\0\0\x08\0\0\0\x07\x01\0\x01 \x03\0\0\0\0",
+    b"\x01\0\0\0\x08\0\0\0\x07\x01\0\x01\xff\x03\0\0\0\0",
+    b"\x02\0\0\0\0\x03\0\0\0\0",
+    b"\x02\0\0\0\x04\0\0\0\x07\x03\0\0\0\0",
+    b"\x02\0\0\0\x05\0\0\0\x07\0\x03\0\0\0\0",
+    b"\x02\0\0\0\x05\0\0\0\x07\x07\x03\0\0\0\0",
+    b"\x02\0\0\0\x0c\0\0\0\x07\x01\0\0\0\0\0\0\x03\x03\0\0\0\0",
+    b"\x02\0\0\0\x0e\0\0\0\x07\x01\0\0\0\0\0\0\0\0\x03\x03\0\0\0\0",
+    b"\x02\0\0\0\x06\0\0\0\x07\x02\0\x03\0\0\0\0",
+    b"\x02\0\0\0\x06\0\0\0\x07\x03\0\x03\0\0\0\0",
+    b"\x03\0\0\0\x01\0\x03\0\0\0\0",
+    b"\x03\0\0\0\x04\0\0\0\0\x03\0\0\0\0",
 ];
 
 #[test]
-fn bodies_of_no_frame(rt: HostRuntime) -> Result<(), Fail> {
-    for stream in BODIES {
+fn bodies_of_no_frame(rt: HostRuntime) -> Result<(), AllocError> {
+    for stream in &BODIES {
         check_refused(&rt, rt.alloc(), stream, FrameRefusal::BadField(0))?;
     }
     Ok(())

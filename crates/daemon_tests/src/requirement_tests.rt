@@ -1,93 +1,172 @@
 //! Tests of `daemon_requirements`.
-use crate::asked::{fields, requirements};
+use crate::asked::{Asked, PLAIN, fields, requirements};
 use daemon_requirements::{Linked, PairList, RequirementRefusal, Requirements};
-use std::alloc::Global;
+use std::alloc::{AllocError, Global};
 use std::process::Abort;
-use std::test::Fail;
 
-/// That a daemon covers what is asked, or doesn't.
-fn check_covers(
-    rt: &impl Abort,
-    alloc: Global,
-    daemon: &str,
-    asked: &str,
-    covers: bool,
-) -> Result<(), Fail> {
-    let covered = requirements(alloc, daemon)?.covers(&requirements(alloc, asked)?);
-    assert!(rt; covered == covers, "{daemon} for {asked}");
-    Ok(())
+/// Whether a daemon for the first covers what the second asks for.
+fn covers(alloc: Global, daemon: &Asked, asked: &Asked) -> Result<bool, AllocError> {
+    let daemon = requirements(alloc, daemon)?;
+    let asked = requirements(alloc, asked)?;
+    Ok(daemon.covers(&asked))
 }
 
-const COVERED: [(&str, &str); 4] = [
-    ("heap=1024 property=a:1", "property=a:1"),
-    ("heap=1024 property=a:1", ""),
-    ("", ""),
-    ("arg=-a arg=-b", "arg=-b arg=-b"),
-];
+const A_1: Asked = Asked {
+    heap_mb: 1024,
+    properties: &[("a", "1")],
+    ..PLAIN
+};
 
-const NOT_COVERED: [(&str, &str); 4] = [
-    ("heap=1024 property=a:1", "property=a:2"),
-    ("heap=256", ""),
-    ("arg=-a", "arg=-a arg=-b"),
-    ("", "encoding=utf-8"),
+/// What a daemon was started with, what is asked, and whether the daemon covers it.
+static COVERS: [(&str, Asked, Asked, bool); 8] = [
+    (
+        "a smaller heap and the same property",
+        A_1,
+        Asked {
+            properties: &[("a", "1")],
+            ..PLAIN
+        },
+        true,
+    ),
+    ("a smaller heap and no property", A_1, PLAIN, true),
+    ("the same", PLAIN, PLAIN, true),
+    (
+        "an argument twice",
+        Asked {
+            args: &["-a", "-b"],
+            ..PLAIN
+        },
+        Asked {
+            args: &["-b", "-b"],
+            ..PLAIN
+        },
+        true,
+    ),
+    (
+        "another value of a property",
+        A_1,
+        Asked {
+            properties: &[("a", "2")],
+            ..PLAIN
+        },
+        false,
+    ),
+    (
+        "a larger heap",
+        Asked {
+            heap_mb: 256,
+            ..PLAIN
+        },
+        PLAIN,
+        false,
+    ),
+    (
+        "one argument more",
+        Asked {
+            args: &["-a"],
+            ..PLAIN
+        },
+        Asked {
+            args: &["-a", "-b"],
+            ..PLAIN
+        },
+        false,
+    ),
+    (
+        "another case of the encoding",
+        PLAIN,
+        Asked {
+            encoding: "utf-8",
+            ..PLAIN
+        },
+        false,
+    ),
 ];
 
 #[test]
-fn daemons_cover_what_the_rules_say(rt: HostRuntime) -> Result<(), Fail> {
-    for (daemon, asked) in COVERED {
-        check_covers(&rt, rt.alloc(), daemon, asked, true)?;
-    }
-    for (daemon, asked) in NOT_COVERED {
-        check_covers(&rt, rt.alloc(), daemon, asked, false)?;
+fn daemons_cover_what_the_rules_say(rt: HostRuntime) -> Result<(), AllocError> {
+    for (name, daemon, asked, expected) in &COVERS {
+        assert!(rt; covers(rt.alloc(), daemon, asked)? == *expected, "{name}");
     }
     Ok(())
 }
 
-/// That fields are refused so, or aren't.
-fn check_refused(
-    rt: &impl Abort,
-    alloc: Global,
-    line: &str,
-    refusal: Option<RequirementRefusal>,
-) -> Result<(), Fail> {
-    let refused = Requirements::of(fields(alloc, line)?).err();
-    assert!(rt; refused == refusal, "{line}");
-    Ok(())
+/// How fields are refused, if they are.
+fn refusal(alloc: Global, asked: &Asked) -> Result<Option<RequirementRefusal>, AllocError> {
+    match Requirements::of(fields(alloc, asked)?) {
+        Ok(_) => Ok(None),
+        Err(refusal) => Ok(Some(refusal)),
+    }
 }
 
-const REFUSALS: [(&str, Option<RequirementRefusal>); 5] = [
-    ("heap=0", Some(RequirementRefusal::HeapRange)),
-    ("heap=65536", None),
-    ("heap=65537", Some(RequirementRefusal::HeapRange)),
+static REFUSALS: [(Asked, Option<RequirementRefusal>); 5] = [
     (
-        "variable=x:1 variable=y:1 variable=x:2",
+        Asked {
+            heap_mb: 0,
+            ..PLAIN
+        },
+        Some(RequirementRefusal::HeapRange),
+    ),
+    (
+        Asked {
+            heap_mb: 65536,
+            ..PLAIN
+        },
+        None,
+    ),
+    (
+        Asked {
+            heap_mb: 65537,
+            ..PLAIN
+        },
+        Some(RequirementRefusal::HeapRange),
+    ),
+    (
+        Asked {
+            variables: &[("x", "1"), ("y", "1"), ("x", "2")],
+            ..PLAIN
+        },
         Some(RequirementRefusal::TwiceNamed(PairList::Variables, 2)),
     ),
     (
-        "variable=x:1 variable=y:1 variable=x:2 property=x:1 property=x:1",
+        Asked {
+            variables: &[("x", "1"), ("y", "1"), ("x", "2")],
+            properties: &[("x", "1"), ("x", "1")],
+            ..PLAIN
+        },
         Some(RequirementRefusal::TwiceNamed(PairList::Properties, 1)),
     ),
 ];
 
 #[test]
-fn heaps_out_of_range_and_repeated_names_are_refused(rt: HostRuntime) -> Result<(), Fail> {
-    for (line, refusal) in REFUSALS {
-        check_refused(&rt, rt.alloc(), line, refusal)?;
+fn heaps_out_of_range_and_repeated_names_are_refused(rt: HostRuntime) -> Result<(), AllocError> {
+    for (asked, expected) in &REFUSALS {
+        assert!(rt;
+            refusal(rt.alloc(), asked)? == *expected,
+            "{} MB",
+            asked.heap_mb
+        );
     }
     Ok(())
 }
 
-fn check_copy(rt: &impl Abort, requirements: &Requirements, copy: &Requirements) {
-    assert!(rt; requirements.covers(copy));
-    assert!(rt; copy.covers(requirements));
-    assert!(rt; copy.fields().heap_mb == 512);
+static ONE_OF_EACH: Asked = Asked {
+    args: &["-a"],
+    variables: &[("x", "1")],
+    ..PLAIN
+};
+
+/// Whether a copy of what is asked covers it, is covered by it and has its heap.
+fn copies(alloc: Global, asked: &Asked) -> Result<bool, AllocError> {
+    let requirements = requirements(alloc, asked)?;
+    let copy = requirements.copy(alloc)?;
+    let are_same = requirements.covers(&copy) && copy.covers(&requirements);
+    Ok(are_same && copy.fields().heap_mb == 512)
 }
 
 #[test]
-fn a_copy_has_the_same_fields(rt: HostRuntime) -> Result<(), Fail> {
-    let requirements = requirements(rt.alloc(), "arg=-a variable=x:1")?;
-    let copy = requirements.copy(rt.alloc())?;
-    check_copy(&rt, &requirements, &copy);
+fn a_copy_has_the_same_fields(rt: HostRuntime) -> Result<(), AllocError> {
+    assert!(rt; copies(rt.alloc(), &ONE_OF_EACH)?);
     Ok(())
 }
 
@@ -109,8 +188,8 @@ pub(crate) fn heap_of<L: Linked>(link: &L) -> u32 {
 }
 
 #[test]
-fn a_link_tells_what_it_is_made_for(rt: HostRuntime) -> Result<(), Fail> {
-    let link = Link(requirements(rt.alloc(), "")?);
+fn a_link_tells_what_it_is_made_for(rt: HostRuntime) -> Result<(), AllocError> {
+    let link = Link(requirements(rt.alloc(), &PLAIN)?);
     assert!(rt; heap_of(&link) == 512);
     Ok(())
 }

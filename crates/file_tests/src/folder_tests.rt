@@ -23,13 +23,13 @@ fn varied(alloc: Global, len: u64) -> Result<Vec<u8>, AllocError> {
 }
 
 /// Reads that answer beside a file of 10,000 bytes.
-const ANSWERED: [ReadRow<'static>; 2] = [
+static ANSWERED: [ReadRow<'static>; 2] = [
     ("worker_desk_written.txt", 9999, Answer::TooLong),
     ("worker_desk_missing.txt", 10000, Answer::NotThere),
 ];
 
 /// Reads that fail, of a folder and of a name under a file.
-const FAILED: [ReadRow<'static>; 2] = [
+static FAILED: [ReadRow<'static>; 2] = [
     (".", 10000, Answer::Failed),
     ("worker_desk_written.txt/a", 10000, Answer::Failed),
 ];
@@ -63,7 +63,7 @@ fn what_a_sink_wrote_is_read_from_the_folder(rt: HostRuntime) -> Result<(), Fail
 }
 
 /// Lengths of files about the room of the first read, each with one below it.
-const LENGTHS: [(u64, u64); 6] = [
+static LENGTHS: [(u64, u64); 6] = [
     (0, 1),
     (1022, 1023),
     (1023, 1024),
@@ -137,7 +137,7 @@ fn is_given_back<F: Files>(alloc: Global, desk: &mut F, bytes: &[u8]) -> Result<
     Ok(is_whole)
 }
 
-const GIVEN_BACK_LENGTHS: [u64; 6] = [5000, 3, 1024, 0, 6000, 4999];
+static GIVEN_BACK_LENGTHS: [u64; 6] = [5000, 3, 1024, 0, 6000, 4999];
 
 fn lengths_are_given_back<R: rt::Files, F: Files>(
     rt: &R,

@@ -1,7 +1,7 @@
 //! What the lines of a history are read as, and texts in which something follows the end.
 use history_reader::{TextFail, read_history};
 use item_actions::Outcome;
-use lock_journal::{Closed, Kind};
+use lock_transforms::{Closed, Kind};
 use resource_lock::{Change, LockId, Mark, MarkId, WorkerId};
 use std::alloc::Global;
 use std::test::Fail;
@@ -16,7 +16,7 @@ fn stop_of(alloc: Global, text: &[u8]) -> Result<Option<u64>, Fail> {
 }
 
 /// Lines behind a head, and where they stop: behind the end.
-const ODD_LINES: [(&[u8], u64); 3] = [
+static ODD_LINES: [(&[u8], u64); 3] = [
     (b"end 0\n\n", 1),
     (b"end 0\nhistory 1\nworkers 1 max 1 parallel no\nend 0\n", 1),
     (
@@ -38,7 +38,7 @@ fn lines_behind_the_end(rt: HostRuntime) -> Result<(), Fail> {
 /// A line, and the entry that it tells.
 type Told = (&'static [u8], u32, Kind, Option<&'static [Change]>);
 
-const TOLD: [Told; 16] = [
+static TOLD: [Told; 16] = [
     (
         b"1 w0 start 1 | lock 2, take, task 1 waiting running\n",
         0,

@@ -5,10 +5,11 @@ ghost use Rattle.plan_reader.specs.Graph.{graph_of};
 use crate::worker_desk_tests::sink;
 use history_text::{write_history, write_results};
 use item_actions::Outcome;
-use lock_journal::kinds::{
+use lock_journal::Book;
+use lock_transforms::kinds::{
     Acquire, Block, Claim, Close, End, HandBack, Park, Resume, Shortage, Start, Submit, Unblock,
 };
-use lock_journal::{Book, Closed, Disposition, Transform};
+use lock_transforms::{Closed, Disposition, Transform};
 use plan_reader::{Plan, read_plan};
 use resource_lock::{LockId, WorkerId};
 use run_laws::every_run_comes_to_its_plan;
@@ -18,7 +19,7 @@ use worker_choices::all_ended;
 use worker_desk::{MemorySink, Page};
 
 /// A task with a fetch and an item.
-const PLAN: &[u8] = b"[[project]]\nname = \"p\"\n\n\
+static PLAN: &[u8] = b"[[project]]\nname = \"p\"\n\n\
     [[task]]\nname = \"t\"\nproject = \"p\"\n\n\
     [[task.action]]\nwait = \"retain\"\nfetch = \"a.txt\"\n\n\
     [[task.action.item]]\ndo = \"lines\"\nfile = \"b.txt\"\n";
@@ -104,7 +105,7 @@ fn write(plan: &Plan, book: &Book, sink: &mut MemorySink) -> bool
     page.end(sink).is_ok()
 }
 
-const TEXT: &[u8] = b"task t failed\n\
+static TEXT: &[u8] = b"task t failed\n\
     \x20 fetch a.txt no memory\n\
     \x20 lines b.txt too long\n\
     tasks: 0 passed, 1 failed, 0 skipped\n\

@@ -23,7 +23,7 @@ fn finds(needle: &[u8], bytes: &[u8], count: u64) -> bool {
 }
 
 /// Bytes, and how many lines, words and bytes they have, and the length of the longest piece.
-const NUMBERS: [(&[u8], u64, u64, u64, u64); 12] = [
+static NUMBERS: [(&[u8], u64, u64, u64, u64); 12] = [
     (b"", 0, 0, 0, 0),
     (b"a\nb", 1, 2, 3, 1),
     (b"one\ntwo\nthree\n", 3, 3, 14, 5),
@@ -59,7 +59,7 @@ fn numbers_of_small_inputs(rt: HostRuntime) {
 /// A needle, bytes, and how often it is found in them.
 type CountRow = (&'static [u8], &'static [u8], u64);
 
-const COUNTS: [CountRow; 11] = [
+static COUNTS: [CountRow; 11] = [
     (b"o", b"one\ntwo\nthree\n", 2),
     (b"aa", b"aaaaa", 2),
     (b"aba", b"ababababa", 2),
@@ -88,7 +88,7 @@ fn counts_of_needles(rt: HostRuntime) {
 }
 
 /// Bytes, and the length of the longest of their pieces.
-const PIECES: [(&[u8], u64); 5] = [
+static PIECES: [(&[u8], u64); 5] = [
     (b"", 0),
     (b"\n", 0),
     (b"abcd\nab", 4),
@@ -98,7 +98,7 @@ const PIECES: [(&[u8], u64); 5] = [
 
 /// A needle, and how often it is found in the bytes, of which the second row has what follows behind
 /// the first place of it in those of the first.
-const BANANAS: [CountRow; 3] = [
+static BANANAS: [CountRow; 3] = [
     (b"anan", b"banananan", 2),
     (b"anan", b"anan", 1),
     (b"anab", b"banananan", 0),
@@ -145,7 +145,7 @@ fn one_place_of_a_hundred(rt: HostRuntime) {
 }
 
 /// Bytes, and the words of their digest as FIPS 180-4 prints them.
-const DIGESTS: [(&[u8], [u32; 8]); 3] = [
+static DIGESTS: [(&[u8], [u32; 8]); 3] = [
     (
         b"abc",
         [
@@ -205,7 +205,7 @@ fn needles_have_1_to_64_bytes(rt: HostRuntime) {
     assert!(rt; are_kept_by_length() && is_kept(b"a") && is_kept(b"a\0"));
 }
 
-const NAMES: [&[u8]; 10] = [
+static NAMES: [&[u8]; 10] = [
     b"a.txt",
     b"_/-/Zz/09",
     b"..a/.../....",
@@ -218,7 +218,7 @@ const NAMES: [&[u8]; 10] = [
     b"a..b/0",
 ];
 
-const NO_NAMES: [&[u8]; 22] = [
+static NO_NAMES: [&[u8]; 22] = [
     b"",
     b"/",
     b"../a",
@@ -259,9 +259,9 @@ fn names_of_files(rt: HostRuntime) {
     assert!(rt; is_file_name(&[b'a'; 255]) && !is_file_name(&[b'a'; 256]));
 }
 
-const ACTION_WORDS: [&str; 6] = ["lines", "words", "bytes", "longest", "count", "sha256"];
+static ACTION_WORDS: [&str; 6] = ["lines", "words", "bytes", "longest", "count", "sha256"];
 
-const NO_ACTION_WORDS: [&str; 5] = ["", "line", "liness", "Lines", "fetch"];
+static NO_ACTION_WORDS: [&str; 5] = ["", "line", "liness", "Lines", "fetch"];
 
 /// Whether the word is that of an action.
 fn is_action_word(word: &str) -> bool {
@@ -293,7 +293,7 @@ fn words_of_actions(rt: HostRuntime) {
     assert!(rt; matches!(ItemAction::Longest.kind(), ActionKind::Longest));
 }
 
-const OUTCOME_WORDS: [&str; 7] = [
+static OUTCOME_WORDS: [&str; 7] = [
     "number",
     "digest",
     "missing",

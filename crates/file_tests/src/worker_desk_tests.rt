@@ -150,7 +150,7 @@ pub fn reads<F: Files>(alloc: Global, desk: &mut F, row: &ReadRow<'_>) -> Result
 }
 
 /// Reads of a file of three bytes.
-const READS: [ReadRow<'static>; 3] = [
+static READS: [ReadRow<'static>; 3] = [
     ("a", 3, Answer::Bytes(b"\x01\x02\x03")),
     ("a", 2, Answer::TooLong),
     ("b", 3, Answer::NotThere),
@@ -185,7 +185,7 @@ fn files_in_memory_are_read(rt: HostRuntime) -> Result<(), Fail> {
 }
 
 /// What the lines of a file give by its name, where the third read fails.
-const LINES: [(&str, Outcome); 4] = [
+static LINES: [(&str, Outcome); 4] = [
     ("a", Outcome::Number(2)),
     ("b", Outcome::NotThere),
     ("a", Outcome::Fault),

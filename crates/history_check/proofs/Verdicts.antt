@@ -1,8 +1,8 @@
 -- What the check of a history is, entry by entry.
 use Rattle.std.proofs.Common.{◌≡◌, ◌≢◌, ℕ, ◌+◌, List, [], ◌∷◌, ◌++◌, length, length-append, refl, sym, ap, subst, ◌∙◌, append_assoc, append-nil, arith, Result, Ok, inl, inr, ◌⊎◌}
 use Rattle.resource_lock.specs.GraphView.{GraphView}
-use Rattle.lock_journal.specs.Entry.{Entry, replay}
-use Rattle.lock_journal.specs.Allowed.{Allowed, Lawful}
+use Rattle.lock_transforms.specs.Entry.{Entry, replay}
+use Rattle.lock_transforms.specs.Allowed.{Allowed, Lawful}
 use Rattle.plan_reader.specs.PlanView.{PlanView}
 use Rattle.history_text.specs.Text.{entry_text}
 use Rattle.history_reader.specs.HistoryView.{HistoryView, entry_with}

@@ -1,7 +1,7 @@
 -- Which text an input names.
 use Rattle.std.specs.Prelude.{ℕ, ◌≡◌, ◌≢◌, ◌⊎◌, true, List, ◌++◌, length}
 use Rattle.std.specs.List.{AllByRecursion, concat}
-use Rattle.lock_journal.specs.Entry.{Entry}
+use Rattle.lock_transforms.specs.Entry.{Entry}
 use Rattle.history_text.specs.Text.{entry_text, end_text}
 use Rattle.history_text.specs.Fitting.{EntryFits}
 use Rattle.history_reader.specs.HistoryView.{HistoryView}

@@ -11,8 +11,8 @@ use Rattle.resource_lock.specs.Shape.{BelongsTo}
 use Rattle.resource_lock.specs.Change.{NamesOnly, names_only, can, can_all, make}
 use Rattle.resource_lock.proofs.Runs.{same_shape-make, same_shape-make_all, belongs_along, belongs_opening, all_named_along}
 use Rattle.resource_lock.proofs.Units.{few_actions_in_all}
-use Rattle.lock_journal.specs.Entry.{Entry, effect, changed}
-use Rattle.lock_journal.specs.Allowed.{IsKindOf, Finishes, Allowed, lawful_from, Lawful}
+use Rattle.lock_transforms.specs.Entry.{Entry, effect, changed}
+use Rattle.lock_transforms.specs.Allowed.{IsKindOf, Finishes, Allowed, lawful_from, Lawful}
 use Rattle.lock_journal.specs.Bounds.{IsFitOutcome, IsFitKind}
 use Rattle.history_text.specs.Fitting.{MarkFits, ChangeFits, ChangesFit, OutcomeFits, KindFits, EffectFits, EntryFits, EntriesFit, HeadFits}
 use Rattle.history_reader.specs.Plain.{LockId, WorkerId, MarkId, TaskOf, ActionOf, UnitOf, Mark, Waiting, Queued, Running, Passed, Failed, Skipped, Change, Lock, Unlock, Take, Give, Move, Park, Unpark, Enter, Leave, Outcome, Number, Digest, NotThere, TooLong, Fault, NoMemory, NotRun, Closed, Kind, Start, Skip, Submit, ParkFor, Resume, Claim, Close, Block, Unblock, End, Acquire, HandBack}

@@ -1,7 +1,7 @@
 -- The laws of entries.
 use Rattle.std.proofs.Common.{Bor, ◌≡◌, ◌≢◌, ◌↔◌, IsTrue, ℕ, ◌^◌, List, [], ◌++◌, length, Option, Some, None, Result, Err, Bool, false, refl, sym, ap, subst, ◌∙◌, append_assoc, append-nil, arith, decimal, codes, nat_eq}
 use Rattle.std.proofs.lemmas.Bool.{false≢true}
-use Rattle.lock_journal.specs.Entry.{Entry}
+use Rattle.lock_transforms.specs.Entry.{Entry}
 use Rattle.history_reader.specs.declared.fails.ReadFail.{ReadFail}
 use Rattle.history_reader.specs.declared.fails.ReadFail.TheVariants.{Wrong, Memory}
 use Rattle.history_reader.specs.declared.histories.EntryHead.{EntryHead}

@@ -3,7 +3,7 @@ use Rattle.std.proofs.Common.{◌≡◌, ◌≢◌, ℕ, ◌+◌, ◌/◌, ◌%�
 use Rattle.std.specs.Fmt.{digit_glyph}
 use Rattle.std.specs.List.{flat_map}
 use Rattle.std.proofs.lemmas.Bool.{and_from, ne_eqb}
-use Rattle.lock_journal.specs.Entry.{Entry}
+use Rattle.lock_transforms.specs.Entry.{Entry}
 use Rattle.history_text.specs.Text.{mark_text, id_text, change_text, further_text, changes_text, effect_text, hex_text, value_behind, outcome_text, closed_text, kind_text, entry_text, parallel_text, end_text}
 use Rattle.history_reader.specs.Plain.{MarkId, TaskOf, ActionOf, UnitOf, Mark, Waiting, Queued, Running, Passed, Failed, Skipped, Change, Lock, Unlock, Take, Give, Move, Park, Unpark, Enter, Leave, Outcome, Number, Digest, NotThere, TooLong, Fault, NoMemory, NotRun, Closed, Kind, Start, Skip, Submit, ParkFor, Resume, Claim, Close, Block, Unblock, End, Acquire, HandBack}
 use Rattle.history_reader.specs.Lines.{is_unbroken, IsLine, first_line, second_line}

@@ -1,6 +1,6 @@
 -- Reading line by line: what was read so far, and what one more line makes of it.
 use Rattle.std.proofs.Common.{Result, Ok, Err, ◌≡◌, ◌≢◌, ℕ, ◌+◌, ◌<◌, ◌≤◌, List, [], ◌∷◌, ◌++◌, length, length-append, refl, sym, ap, subst, ◌∙◌, append_assoc, append-nil, arith, codes}
-use Rattle.lock_journal.specs.Entry.{Entry}
+use Rattle.lock_transforms.specs.Entry.{Entry}
 use Rattle.history_text.specs.Text.{numbered, entry_text, end_text}
 use Rattle.history_text.specs.Fitting.{EntryFits, EntriesFit}
 use Rattle.history_text.proofs.Numbering.{numbered-append}

@@ -1,6 +1,6 @@
 -- The laws of whole texts: a text has one value, or one place at which it stops.
 use Rattle.std.proofs.Common.{◌≡◌, ◌≢◌, ℕ, ◌+◌, ◌<◌, ◌≤◌, suc, zero, List, [], ◌∷◌, ◌++◌, length, Option, Some, None, Bool, refl, sym, ap, subst, ◌∙◌, append_assoc, append-nil, arith, codes, inl, inr, ◌⊎◌}
-use Rattle.lock_journal.specs.Entry.{Entry}
+use Rattle.lock_transforms.specs.Entry.{Entry}
 use Rattle.history_text.specs.Text.{numbered, head_text, entry_text, end_text}
 use Rattle.history_text.specs.Fitting.{HeadFits, EntryFits, EntriesFit}
 use Rattle.history_reader.specs.declared.heads.Settings.{Settings}

@@ -1,6 +1,6 @@
 -- The history text as a relation between a text and a value, and where a text stops being one.
 use Rattle.std.specs.Prelude.{ℕ, ◌≡◌, ◌≢◌, ◌+◌, List, ◌++◌, length, ◌⊎◌, Result, Ok, Err}
-use Rattle.lock_journal.specs.Entry.{Entry}
+use Rattle.lock_transforms.specs.Entry.{Entry}
 use Rattle.history_text.specs.Text.{numbered, head_text, entry_text, end_text, history_text}
 use Rattle.history_text.specs.Fitting.{HeadFits, EntriesFit, EntryFits}
 use Rattle.history_reader.specs.HistoryView.{HistoryView, history_view}

@@ -2,7 +2,7 @@
 use Rattle.std.specs.Prelude.{ℕ, Bool, List, map, Option, Some, None, if◌then◌else◌}
 use Rattle.std.specs.Option.{option_map}
 use Rattle.lock_journal.specs.BookView.{BookView}
-use Rattle.lock_journal.specs.Entry.{Entry, entry}
+use Rattle.lock_transforms.specs.Entry.{Entry, entry}
 use Rattle.resource_lock.specs.declared.changes.Change.{Change}
 use Rattle.history_reader.specs.declared.histories.EntryHead.{EntryHead}
 use Rattle.history_reader.specs.declared.histories.History.{History}

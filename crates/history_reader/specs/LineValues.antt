@@ -1,6 +1,6 @@
 -- What one line says, by how many entries stand before it.
 use Rattle.std.specs.Prelude.{ℕ, ◌≡◌, ◌≢◌, ◌+◌, List, Result, Ok, Err}
-use Rattle.lock_journal.specs.Entry.{Entry}
+use Rattle.lock_transforms.specs.Entry.{Entry}
 use Rattle.history_text.specs.Text.{entry_text, end_text}
 use Rattle.history_text.specs.Fitting.{EntryFits}
 use Rattle.history_reader.specs.HistoryView.{entry_read, entry_with}

@@ -9,6 +9,6 @@ pub use Rattle.resource_lock.specs.declared.marks.Mark.{Mark}
 pub use Rattle.resource_lock.specs.declared.marks.Mark.TheVariants.{Waiting, Queued, Running, Passed, Failed, Skipped}
 pub use Rattle.resource_lock.specs.declared.changes.Change.{Change}
 pub use Rattle.resource_lock.specs.declared.changes.Change.TheVariants.{Lock, Unlock, Take, Give, Move, Park, Unpark, Enter, Leave}
-pub use Rattle.lock_journal.specs.declared.entries.Closed.{Closed}
-pub use Rattle.lock_journal.specs.declared.entries.Kind.{Kind}
-pub use Rattle.lock_journal.specs.declared.entries.Kind.TheVariants.{Start, Skip, Submit, Park as ParkFor, Resume, Claim, Close, Block, Unblock, End, Acquire, HandBack}
+pub use Rattle.lock_transforms.specs.declared.entries.Closed.{Closed}
+pub use Rattle.lock_transforms.specs.declared.entries.Kind.{Kind}
+pub use Rattle.lock_transforms.specs.declared.entries.Kind.TheVariants.{Start, Skip, Submit, Park as ParkFor, Resume, Claim, Close, Block, Unblock, End, Acquire, HandBack}

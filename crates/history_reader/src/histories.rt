@@ -5,7 +5,7 @@ ghost use Rattle.history_reader.specs.Lines.{next_number, Opens, OpensNone, Take
 use crate::fails::TextFail;
 use crate::heads::read_settings_line;
 use crate::lines::{LineValue, read_line};
-use lock_journal::Kind;
+use lock_transforms::Kind;
 use resource_lock::{Change, WorkerId};
 use std::alloc::Global;
 

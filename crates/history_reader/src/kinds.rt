@@ -4,7 +4,7 @@ ghost use Rattle.history_reader.specs.Reading.{kind_at, pause_at};
 
 use crate::outcomes::read_closed;
 use crate::tokens::{read_short, text_after};
-use lock_journal::Kind;
+use lock_transforms::Kind;
 
 // The kinds that close or wait.
 #[tactic(auto, unfolding(crate::specs::Reading::pause_at, crate::specs::Reading::branch))]

@@ -5,7 +5,7 @@ ghost use Rattle.history_reader.specs.Reading.{outcome_at, closed_at};
 use crate::digests::read_digest;
 use crate::tokens::{read_long, read_short, text_after};
 use item_actions::Outcome;
-use lock_journal::Closed;
+use lock_transforms::Closed;
 
 #[tactic(auto, unfolding(crate::specs::Reading::outcome_at, crate::specs::Reading::branch))]
 fn read_outcome(text: &[u8]) -> Option<(Outcome, &[u8])>

@@ -11,10 +11,10 @@ use Rattle.resource_lock.specs.declared.marks.Mark.TheVariants.{Running}
 use Rattle.resource_lock.specs.declared.changes.Change.{Change}
 use Rattle.resource_lock.specs.declared.changes.Change.TheVariants.{Lock, Unlock, Move, Park, Unpark}
 use Rattle.lock_journal.specs.Bounds.{IsFitOutcome}
-use Rattle.lock_journal.specs.Entry.{Entry}
-use Rattle.lock_journal.specs.declared.entries.Closed.{Closed}
-use Rattle.lock_journal.specs.declared.entries.Kind.{Kind}
-use Rattle.lock_journal.specs.declared.entries.Kind.TheVariants as kinds
+use Rattle.lock_transforms.specs.Entry.{Entry}
+use Rattle.lock_transforms.specs.declared.entries.Closed.{Closed}
+use Rattle.lock_transforms.specs.declared.entries.Kind.{Kind}
+use Rattle.lock_transforms.specs.declared.entries.Kind.TheVariants as kinds
 
 -- a mark that runs is run by the entry's worker
 abbrev pub MarkFits : WorkerId → Mark → Type 0

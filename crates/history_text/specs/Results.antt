@@ -10,7 +10,7 @@ use Rattle.resource_lock.specs.declared.marks.Mark.{Mark}
 use Rattle.resource_lock.specs.declared.marks.Mark.TheVariants.{Failed, Skipped}
 use Rattle.resource_lock.specs.declared.marks.MarkId.TheVariants.{Task as TaskOf}
 use Rattle.resource_lock.specs.StateView.{StateView, mark_of}
-use Rattle.lock_journal.specs.Table.{has_passed}
+use Rattle.lock_transforms.specs.Table.{has_passed}
 use Rattle.plan_reader.specs.PlanView.{PlanTaskView, PlanView}
 use Rattle.plan_reader.specs.Units.{PlannedUnit, task_units, plan_units}
 use Rattle.history_text.specs.Text.{mark_text, hex_text, numbered}

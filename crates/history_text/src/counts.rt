@@ -1,6 +1,6 @@
 ghost use Rattle.std.specs.Prelude.{◌≡◌, ◌+◌, ◌<◌, ◌^◌, if◌then◌else◌};
 ghost use Rattle.item_actions.specs.Value.{passes};
-ghost use Rattle.lock_journal.specs.Table.{has_passed};
+ghost use Rattle.lock_transforms.specs.Table.{has_passed};
 ghost use Rattle.history_text.specs.Results.{has_failed, is_skipped, fails, was_skipped};
 
 use item_actions::Outcome;

@@ -5,7 +5,8 @@ ghost use Rattle.history_text.specs.Text.{closed_text, kind_text, entry_text, nu
 
 use crate::changes::{write_effect, write_numbered};
 use crate::outcomes::write_outcome;
-use lock_journal::{Book, Closed, Kind, Shown};
+use lock_journal::{Book, Shown};
+use lock_transforms::{Closed, Kind};
 use worker_desk::{Page, Sink};
 
 fn write_closed<K: Sink>(word: &[u8], closed: &Closed, page: &mut Page, sink: &mut K)

@@ -8,10 +8,10 @@ use Rattle.resource_lock.specs.declared.changes.Change.TheVariants.{Unlock, Give
 use Rattle.resource_lock.specs.declared.ids.LockId.{LockId}
 use Rattle.resource_lock.specs.declared.ids.WorkerId.{WorkerId}
 use Rattle.resource_lock.specs.declared.marks.MarkId.{MarkId}
-use Rattle.lock_journal.specs.Allowed.{IsFixedList, IsUnmet}
+use Rattle.lock_transforms.specs.Allowed.{IsFixedList, IsUnmet}
 use Rattle.lock_journal.specs.BookView.{BookView}
-use Rattle.lock_journal.specs.Table.{condition}
-use Rattle.lock_journal.specs.declared.entries.Kind.TheVariants as kinds
+use Rattle.lock_transforms.specs.Table.{condition}
+use Rattle.lock_transforms.specs.declared.entries.Kind.TheVariants as kinds
 use Rattle.run_laws.specs.OwnChanges.{after_all, claimed_after, lock_before, locks_after, without_member}
 use Rattle.coordination.specs.declared.rule.Sight.{Sight}
 use Rattle.coordination.specs.Agrees.{Finds}

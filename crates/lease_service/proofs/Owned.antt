@@ -5,7 +5,7 @@ use Rattle.std.proofs.lemmas.Bool.{eq-eqb, ne_eqb}
 use Rattle.resource_lock.specs.StateView.{StateView, is_owner, is_parked, owns, owns_any, runs_any, runs_by, runs_task, runs_unit, stands_in}
 use Rattle.resource_lock.specs.declared.ids.LockId.{LockId}
 use Rattle.resource_lock.specs.declared.ids.WorkerId.{WorkerId}
-use Rattle.lock_journal.specs.Table.{owned, owned_from}
+use Rattle.lock_transforms.specs.Table.{owned, owned_from}
 use Rattle.run_laws.specs.Own.{action_at, claimed, places_from, task_at, unit_at}
 
 none_passes : {X : Type 0} (test : X → Bool) (n : ℕ) (xs : List X) → places_from test n xs ≡ [] → list_any test xs ≡ false

@@ -13,10 +13,10 @@ use Rattle.resource_lock.specs.declared.ids.LockId.{LockId}
 use Rattle.resource_lock.specs.declared.ids.WorkerId.{WorkerId}
 use Rattle.resource_lock.specs.declared.marks.MarkId.{MarkId}
 use Rattle.lock_journal.specs.BookView.{BookView}
-use Rattle.lock_journal.specs.Table.{condition}
-use Rattle.lock_journal.specs.Taking.{acquired, can_take_all, is_open, may_acquire}
-use Rattle.lock_journal.specs.declared.entries.Kind.{Kind}
-use Rattle.lock_journal.specs.declared.entries.Kind.TheVariants as kinds
+use Rattle.lock_transforms.specs.Table.{condition}
+use Rattle.lock_transforms.specs.Taking.{acquired, can_take_all, is_open, may_acquire}
+use Rattle.lock_transforms.specs.declared.entries.Kind.{Kind}
+use Rattle.lock_transforms.specs.declared.entries.Kind.TheVariants as kinds
 use Rattle.run_laws.specs.OwnChanges.{after_all, claimed_after, lock_before, locks_after, with_member}
 use Rattle.coordination.specs.declared.rule.Sight.{Sight}
 use Rattle.coordination.specs.declared.halts.Halt.{Halt}

@@ -1,15 +1,15 @@
 ghost use Rattle.std.specs.Prelude.{◌≡◌, ◌≢◌, ◌⊎◌, [], Err, Ok, OnErr, OnOk, true, false};
 ghost use Rattle.resource_lock.specs.declared.ids.WorkerId.{WorkerId};
-ghost use Rattle.lock_journal.specs.Allowed.{IsFixedList};
-ghost use Rattle.lock_journal.specs.Taking.{acquired, can_take_all};
-ghost use Rattle.lock_journal.specs.declared.entries.Kind.TheVariants as kinds;
+ghost use Rattle.lock_transforms.specs.Allowed.{IsFixedList};
+ghost use Rattle.lock_transforms.specs.Taking.{acquired, can_take_all};
+ghost use Rattle.lock_transforms.specs.declared.entries.Kind.TheVariants as kinds;
 ghost use Rattle.coordination.specs.Calls.{HasFailed, HasFinished, HasLooked, WasStopped};
 ghost use Rattle.coordination.specs.Shown.{ShowsTheSame, blocked_shown, claimed_shown, lease_shown, locks_shown};
 ghost use Rattle.lease_service.specs.Shows.{MayTake, ShowsGivenBack, ShowsTaken};
 ghost use Rattle.lease_service.specs.declared.holders.Tried.TheVariants.{Got, Busy};
 
 use coordination::{Coordination, Halt, Pass};
-use lock_journal::kinds::{Acquire, HandBack, Shortage};
+use lock_transforms::kinds::{Acquire, HandBack, Shortage};
 use resource_lock::LockId;
 use std::alloc::AllocError;
 use std::sync::Wait;

@@ -3,3 +3,4 @@ pub mod Reports
 pub mod Checks
 pub mod Commands
 pub mod Completing
+pub mod PlansOwn

@@ -11,9 +11,9 @@ use Rattle.resource_lock.specs.StateView.{StateView, mark_of}
 use Rattle.resource_lock.specs.declared.marks.Mark.{Mark}
 use Rattle.resource_lock.specs.declared.marks.MarkId.TheVariants.{Task as TaskOf}
 use Rattle.lock_journal.specs.Closings.{last_or, outcome_in}
-use Rattle.lock_journal.specs.Entry.{Entry}
+use Rattle.lock_transforms.specs.Entry.{Entry}
 use Rattle.lock_journal.specs.BookView.{BookView}
-use Rattle.lock_journal.specs.Table.{has_passed}
+use Rattle.lock_transforms.specs.Table.{has_passed}
 use Rattle.plan_reader.specs.Graph.{tasks_from}
 use Rattle.plan_reader.specs.PlanView.{PlanTaskView, PlanView}
 use Rattle.plan_reader.specs.Units.{plan_units}
@@ -47,7 +47,7 @@ either_by_number : (summary : Bool) → ByNumber results_text → ByNumber summa
 either_by_number true results summary = summary
 either_by_number false results summary = results
 
-tasks_in_all : (parallel : Bool) (first : ℕ) (ts : List PlanTaskView) → length (tasks_from parallel first ts) ≡ length ts
+pub tasks_in_all : (parallel : Bool) (first : ℕ) (ts : List PlanTaskView) → length (tasks_from parallel first ts) ≡ length ts
 tasks_in_all parallel first [] = refl
 tasks_in_all parallel first (t ∷ ts) = ap suc (tasks_in_all parallel (first + length t.actions) ts)
 
@@ -56,7 +56,7 @@ same_on_range f g first zero h = refl
 same_on_range f g first (suc n) h = rw (h first (omega arith)) (ap (λ b. g first && b) (same_on_range f g (first + 1) n (λ t lt. h t (omega arith))))
 
 -- the results, by the values that are printed
-comes_to : (plan : PlanView) (known : Option Folder) (b : BookView) → HasResults plan known b → ComesTo b.graph b.history (values_or_closings plan known b.history) (depth plan)
+pub comes_to : (plan : PlanView) (known : Option Folder) (b : BookView) → HasResults plan known b → ComesTo b.graph b.history (values_or_closings plan known b.history) (depth plan)
 comes_to plan (Some files) b results = results
 comes_to plan None b results = results (outcome_in b.history) (λ u o e. ap (last_or outcomes.Skipped) e)
 
@@ -64,7 +64,7 @@ module _ (plan : PlanView) (options : RunOptions) (known : Option Folder) (befor
   pub tasks_in_graph : length b.graph.tasks ≡ length plan.tasks
   tasks_in_graph = ap (λ (o : GraphView). length o.tasks) run.graph ∙ tasks_in_all options.parallel 0 plan.tasks
 
-  task_mark : (t : ℕ) → t < length b.graph.tasks → mark_of b.state (TaskOf t) ≡ task_outcome b.graph (values_or_closings plan known b.history) (depth plan) t
+  pub task_mark : (t : ℕ) → t < length b.graph.tasks → mark_of b.state (TaskOf t) ≡ task_outcome b.graph (values_or_closings plan known b.history) (depth plan) t
   task_mark t lt = ap (λ (s : StateView). mark_of s (TaskOf t)) run.replays ∙ (comes_to plan known b run.results).tasks t lt
 
   pub same_pass : have_all_passed b ≡ all_pass plan b.graph (values_or_closings plan known b.history)
@@ -87,6 +87,7 @@ earlier_start plan options known known' start before after b e le run = record {
   replays = run.replays;
   lawful = run.lawful;
   good = run.good;
+  always_good = run.always_good;
   rest = run.rest;
   ended = run.ended;
   order = run.order;

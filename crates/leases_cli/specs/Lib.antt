@@ -8,3 +8,4 @@ pub mod Check
 pub mod Make
 pub mod Answered
 pub mod Complete
+pub mod SameResults

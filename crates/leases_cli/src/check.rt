@@ -62,6 +62,7 @@ pub fn check_history<F: Files, I: Source, O: Sink>(
     out: &mut O,
 ) -> Status
     ensures files { F.files files.new ≡ F.files files.old }
+    ensures keeps { F.keeps files.old files.new }
     ensures file_faults { F.faults files.old ≤ F.faults files.new }
     ensures input_faults { (I.seen input.old).faults ≤ (I.seen input.new).faults }
     ensures checked { HasCheckedHistory plan.now

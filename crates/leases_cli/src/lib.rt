@@ -3,6 +3,7 @@
 #![tactic(auto)]
 
 mod check;
+mod laws;
 mod make;
 mod plans;
 mod refusals;
@@ -11,6 +12,7 @@ mod top;
 mod worker;
 
 pub use check::check_history;
+pub use laws::results_are_the_plans_own;
 pub use make::make_plan;
 pub use status::Status;
 pub use top::{DESKS, Ended, leases};

@@ -2,7 +2,7 @@ ghost use Rattle.std.specs.Prelude.{◌≡◌, ◌≢◌, ◌≤◌, ℕ, true, 
 ghost use Rattle.std.specs.List.{list_all, range_with_len};
 ghost use Rattle.resource_lock.specs.StateView.{mark_of};
 ghost use Rattle.resource_lock.specs.declared.marks.MarkId.TheVariants as ids;
-ghost use Rattle.lock_journal.specs.Table.{has_passed};
+ghost use Rattle.lock_transforms.specs.Table.{has_passed};
 ghost use Rattle.worker_desk.specs.PageView.{Adds};
 ghost use Rattle.worker_desk.specs.SinkView.{Prints};
 ghost use Rattle.plan_reader.specs.Units.{plan_units};
@@ -13,6 +13,7 @@ ghost use Rattle.build_runner.specs.Run.{AreAlike, IsRunOf};
 ghost use Rattle.build_runner.specs.Sent.{sent_view};
 ghost use Rattle.command_words.specs.Reading.{IsBounded, command_of};
 ghost use Rattle.command_words.specs.Run.{HasBounds};
+ghost use Rattle.command_words.specs.declared.commands.Command.TheVariants as commands;
 ghost use Rattle.leases_cli.specs.declared.status.Status.TheVariants as status;
 ghost use Rattle.leases_cli.specs.declared.top.TheConstants.{DESKS};
 ghost use Rattle.leases_cli.specs.Around.{desks_used, desks_view, takes_input};
@@ -215,6 +216,7 @@ fn run<R: Threads + Wait + Sync, D: Desk + Send + Drop, G: Gate + Sync, O: Sink>
     ensures counts { (i : ℕ) (d : D) → D.faults (get_or desks.old.items i d) ≤ D.faults (get_or desks.new.items i d) }
     ensures rest { drop asked.now.threads desks.new.items ≡ drop asked.now.threads desks.old.items }
     ensures refused { result.book ≡ None → result.status ≢ status.NoMemory → drop 1 desks.new.items ≡ drop 1 desks.old.items }
+    ensures unsent { result.book ≡ None → result.status ≢ status.NoMemory → (i : ℕ) (d : D) → sent_view D.sends D.sent (get_or desks.new.items i d) ≡ sent_view D.sends D.sent (get_or desks.old.items i d) }
     ensures events { AreEventsOf (book_of result.book) result.events.items }
     ensures answer { (d : D) → RunAnswered asked.now (desks_view D.files D.faults D.sends D.sent desks.old.items d) (desks_view D.files D.faults D.sends D.sent desks.new.items d) (O.seen out.old) (O.seen out.new) result.status (book_of result.book) result.events.items }
 {
@@ -257,24 +259,25 @@ fn work<F: Files, I: Source, O: Sink>(
 }
 
 /// Checks a history against the plan of this name by the first desk.
-fn check<F: Files, I: Source, O: Sink>(
+fn check<D: Desk, I: Source, O: Sink>(
     alloc: Global,
     plan: &Text,
-    desks: &mut Vec<F>,
+    desks: &mut Vec<D>,
     input: &mut I,
     out: &mut O,
 ) -> Ended
     requires { 1 ≤ length desks.old.items }
     ensures places { length desks.new.items ≡ length desks.old.items }
-    ensures files { (i : ℕ) (d : F) → F.files (get_or desks.new.items i d) ≡ F.files (get_or desks.old.items i d) }
-    ensures counts { (i : ℕ) (d : F) → F.faults (get_or desks.old.items i d) ≤ F.faults (get_or desks.new.items i d) }
+    ensures files { (i : ℕ) (d : D) → D.files (get_or desks.new.items i d) ≡ D.files (get_or desks.old.items i d) }
+    ensures counts { (i : ℕ) (d : D) → D.faults (get_or desks.old.items i d) ≤ D.faults (get_or desks.new.items i d) }
+    ensures sent { (i : ℕ) (d : D) → sent_view D.sends D.sent (get_or desks.new.items i d) ≡ sent_view D.sends D.sent (get_or desks.old.items i d) }
     ensures rest { drop 1 desks.new.items ≡ drop 1 desks.old.items }
     ensures input_count { (I.seen input.old).faults ≤ (I.seen input.new).faults }
     ensures book { result.book ≡ None }
     ensures events { AreEventsOf (book_of result.book) result.events.items }
-    ensures checked { (d : F) → HasCheckedHistory plan.now
-        record { source = I.seen input.old; sink = O.seen out.old; files = F.files (get_or desks.old.items 0 d); faults = F.faults (get_or desks.old.items 0 d) }
-        record { source = I.seen input.new; sink = O.seen out.new; files = F.files (get_or desks.new.items 0 d); faults = F.faults (get_or desks.new.items 0 d) }
+    ensures checked { (d : D) → HasCheckedHistory plan.now
+        record { source = I.seen input.old; sink = O.seen out.old; files = D.files (get_or desks.old.items 0 d); faults = D.faults (get_or desks.old.items 0 d) }
+        record { source = I.seen input.new; sink = O.seen out.new; files = D.files (get_or desks.new.items 0 d); faults = D.faults (get_or desks.new.items 0 d) }
         result.status }
 {
     without_run(alloc, check_history(alloc, plan, &mut desks[0], input, out))
@@ -298,6 +301,7 @@ fn perform<R: Threads + Wait + Sync, D: Desk + Send + Drop, I: Source, G: Gate +
     ensures counts { (i : ℕ) (d : D) → D.faults (get_or desks.old.items i d) ≤ D.faults (get_or desks.new.items i d) }
     ensures rest { drop (desks_used (Some command.now)) desks.new.items ≡ drop (desks_used (Some command.now)) desks.old.items }
     ensures refused { result.book ≡ None → result.status ≢ status.NoMemory → drop 1 desks.new.items ≡ drop 1 desks.old.items }
+    ensures unsent { Some command.now ≢ Some commands.Worker → result.book ≡ None → result.status ≢ status.NoMemory → (i : ℕ) (d : D) → sent_view D.sends D.sent (get_or desks.new.items i d) ≡ sent_view D.sends D.sent (get_or desks.old.items i d) }
     ensures input { takes_input (Some command.now) ≡ false → I.seen input.new ≡ I.seen input.old }
     ensures input_count { (I.seen input.old).faults ≤ (I.seen input.new).faults }
     ensures events { AreEventsOf (book_of result.book) result.events.items }
@@ -329,7 +333,8 @@ fn perform<R: Threads + Wait + Sync, D: Desk + Send + Drop, I: Source, G: Gate +
 /// gives are answered on `out` by the files of the first desk. For `check` the plan is read through the first desk, and
 /// the history that the input gives is checked against it; what is found is written to `out`. No other command takes
 /// anything from the input. For `make` the plan is written to `out` that the number makes for the file; no desk is
-/// used. The answer and its cause are those of the contract.
+/// used. Where no run ended, no desk sent a request, but perhaps at NoMemory. The answer and its cause are those of the
+/// contract.
 ///
 /// At SinkFault the beginning of the text or of the replies was written, and at NoMemory nothing, but by a
 /// worker its replies up to then.
@@ -349,6 +354,7 @@ pub fn leases<R: Threads + Wait + Sync, D: Desk + Send + Drop, I: Source, G: Gat
     ensures counts { (i : ℕ) (d : D) → D.faults (get_or desks.old.items i d) ≤ D.faults (get_or desks.new.items i d) }
     ensures rest { drop (desks_used (command_of words.now)) desks.new.items ≡ drop (desks_used (command_of words.now)) desks.old.items }
     ensures refused { result.book ≡ None → result.status ≢ status.NoMemory → drop 1 desks.new.items ≡ drop 1 desks.old.items }
+    ensures unsent { command_of words.now ≢ Some commands.Worker → result.book ≡ None → result.status ≢ status.NoMemory → (i : ℕ) (d : D) → sent_view D.sends D.sent (get_or desks.new.items i d) ≡ sent_view D.sends D.sent (get_or desks.old.items i d) }
     ensures input { takes_input (command_of words.now) ≡ false → I.seen input.new ≡ I.seen input.old }
     ensures input_count { (I.seen input.old).faults ≤ (I.seen input.new).faults }
     ensures events { AreEventsOf (book_of result.book) result.events.items }

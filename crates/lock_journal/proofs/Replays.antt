@@ -6,12 +6,12 @@ use Rattle.resource_lock.specs.StateView.{StateView}
 use Rattle.resource_lock.specs.GraphView.{GraphView}
 use Rattle.resource_lock.specs.Opening.{opening_of}
 use Rattle.ready_work.specs.ReadyWork.{IsIndexOf}
-use Rattle.lock_journal.specs.Entry.{Entry, effect, replay_from, replay}
-use Rattle.lock_journal.specs.Allowed.{Allowed, lawful_from, Lawful}
+use Rattle.lock_transforms.specs.Entry.{Entry, effect, replay_from, replay}
+use Rattle.lock_transforms.specs.Allowed.{Allowed, lawful_from, Lawful}
 use Rattle.lock_journal.specs.Bounds.{IsFitKind}
 use Rattle.lock_journal.specs.Book.{IsSound}
 use Rattle.lock_journal.specs.declared.books.Book.TheInside.{Inside}
-use Rattle.lock_journal.specs.declared.kinds.admitting.TheConstants.{MAX_CHANGES}
+use Rattle.lock_transforms.specs.declared.kinds.admitting.TheConstants.{MAX_CHANGES}
 
 pub replay_from-push : (s : StateView) (h : List Entry) (e : Entry) → replay_from s (h ++ e ∷ []) ≡ effect (replay_from s h) e
 replay_from-push s [] e = refl

@@ -8,15 +8,15 @@ use Rattle.std.proofs.Math.Seq.{get_or-append_seam}
 use Rattle.resource_lock.specs.declared.changes.Change.{Change}
 use Rattle.item_actions.specs.declared.outcomes.Outcome.{Outcome}
 use Rattle.item_actions.specs.declared.outcomes.Outcome.TheVariants as outcomes
-use Rattle.lock_journal.specs.Entry.{entry}
+use Rattle.lock_transforms.specs.Entry.{entry}
 use Rattle.lock_journal.specs.StoredEntry.{AreStored, IsNumberOf, closing_at, end_before, entries_from, entry_from, kind_from, place_after}
 use Rattle.lock_journal.specs.Closings.{closed_by, closing_of, where_finished, last_or, outcome_in}
 use Rattle.lock_journal.specs.History.{history_view, IsPlaceOf, IsSound}
 use Rattle.lock_journal.specs.HistoryView.{HistoryView}
 use Rattle.lock_journal.specs.LastChanges.{last_changes, made_by, made_where_finished}
-use Rattle.lock_journal.specs.declared.entries.Closed.{Closed}
-use Rattle.lock_journal.specs.declared.entries.Kind.{Kind}
-use Rattle.lock_journal.specs.declared.entries.Kind.TheVariants.{Start, Skip, Submit, Park, Resume, Claim, Close, Block, Unblock, End, Acquire, HandBack}
+use Rattle.lock_transforms.specs.declared.entries.Closed.{Closed}
+use Rattle.lock_transforms.specs.declared.entries.Kind.{Kind}
+use Rattle.lock_transforms.specs.declared.entries.Kind.TheVariants.{Start, Skip, Submit, Park, Resume, Claim, Close, Block, Unblock, End, Acquire, HandBack}
 use Rattle.lock_journal.specs.declared.stored_entries.StoredEntry.{StoredEntry}
 use Rattle.lock_journal.specs.declared.stored_entries.StoredKind.{StoredKind}
 use Rattle.lock_journal.specs.declared.stored_entries.StoredKind.TheVariants as stored

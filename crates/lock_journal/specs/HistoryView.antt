@@ -1,6 +1,6 @@
 -- A history, as the book sees it.
 use Rattle.std.specs.Prelude.{ℕ, ◌≡◌, ◌≤◌, List}
-use Rattle.lock_journal.specs.Entry.{Entry}
+use Rattle.lock_transforms.specs.Entry.{Entry}
 
 -- the entries in order, how many units they can close, and how many more entries and changes there is room for
 pub record HistoryView : Type 0 where

@@ -1,7 +1,7 @@
 -- The changes of a history's last entry.
 use Rattle.std.specs.Prelude.{◌-◌, List, [], length, Option, None, Some, slice_get}
 use Rattle.resource_lock.specs.declared.changes.Change.{Change}
-use Rattle.lock_journal.specs.Entry.{Entry}
+use Rattle.lock_transforms.specs.Entry.{Entry}
 
 -- the changes that were made; where it failed, none
 abbrev pub made_where_finished : Option (List Change) → List Change

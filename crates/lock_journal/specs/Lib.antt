@@ -1,11 +1,6 @@
-pub mod Entry
-pub mod Table
-pub mod Allowed
 pub mod Closings
 pub mod LastChanges
 pub mod Bounds
-pub mod TentativeView
-pub mod Tentative
 pub mod Shown
 pub mod StoredEntry
 pub mod HistoryView
@@ -14,7 +9,3 @@ pub mod BookView
 pub mod Book
 pub mod Ran
 pub mod Admitting
-pub mod Waiting
-pub mod Making
-pub mod Taking
-pub mod Freeing

@@ -4,10 +4,10 @@ use Rattle.resource_lock.specs.StateView.{StateView}
 use Rattle.resource_lock.specs.GraphView.{GraphView}
 use Rattle.resource_lock.specs.declared.ids.WorkerId.{WorkerId}
 use Rattle.resource_lock.specs.declared.changes.Change.{Change}
-use Rattle.lock_journal.specs.Entry.{entry, effect}
-use Rattle.lock_journal.specs.Allowed.{Allowed}
+use Rattle.lock_transforms.specs.Entry.{entry, effect}
+use Rattle.lock_transforms.specs.Allowed.{Allowed}
 use Rattle.lock_journal.specs.BookView.{BookView}
-use Rattle.lock_journal.specs.declared.entries.Kind.{Kind}
+use Rattle.lock_transforms.specs.declared.entries.Kind.{Kind}
 
 -- The changes are some that the transform makes, the history has one more entry with them, which was allowed, and the state is its effect.
 pub record HasFinished (makes : GraphView → WorkerId → StateView → List Change → Type 0) (old new : BookView) (w : WorkerId) (kind : Kind) (changes : List Change) : Type 0 where

@@ -1,7 +1,7 @@
 -- What a shown entry stands for.
 use Rattle.std.specs.Prelude.{None, Some, if◌then◌else◌}
-use Rattle.lock_journal.specs.Entry.{Entry, entry}
-use Rattle.lock_journal.specs.declared.entries.Shown.{Shown}
+use Rattle.lock_transforms.specs.Entry.{Entry, entry}
+use Rattle.lock_journal.specs.declared.shown_entries.Shown.{Shown}
 
 -- the entry of its worker and kind, with its changes unless it failed
 abbrev pub entry_shown : Shown → Entry

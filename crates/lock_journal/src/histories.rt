@@ -1,6 +1,6 @@
 ghost use Rattle.std.specs.Prelude.{◌≡◌, ◌<◌, ◌≤◌, ◌+◌, ◌⊎◌, ◌∷◌, ◌++◌, [], ℕ, length, IsTrue, Some, None, OnOk, OnErr, IfOk, All, slice_get, slice_index_or};
 ghost use Rattle.lock_journal.specs.Bounds.{IsFitKind, IsFitOutcome};
-ghost use Rattle.lock_journal.specs.Entry.{entry};
+ghost use Rattle.lock_transforms.specs.Entry.{entry};
 ghost use Rattle.lock_journal.specs.Shown.{entry_shown};
 ghost use Rattle.lock_journal.specs.Closings.{closing_of, outcome_in, ClosesWithin};
 ghost use Rattle.lock_journal.specs.StoredEntry.{closing_at, place_after};
@@ -8,9 +8,10 @@ ghost use Rattle.lock_journal.specs.HistoryView.{SameHistory};
 ghost use Rattle.lock_journal.specs.LastChanges.{last_changes};
 ghost use Rattle.lock_journal.specs.declared.histories.TheConstants.{NOWHERE};
 
-use crate::entries::{Closed, Kind, Shown};
+use crate::shown_entries::Shown;
 use crate::stored_entries::{StoredEntry, changes_of, end_before, kind_of, store_kind};
 use item_actions::Outcome;
+use lock_transforms::{Closed, Kind};
 use resource_lock::{Change, WorkerId};
 use std::alloc::{AllocError, Global};
 use std::marker::Model;

@@ -3,7 +3,7 @@ ghost use Rattle.std.specs.Prelude.{◌≡◌, ◌≤◌, ◌<◌, ◌+◌, ◌�
 ghost use Rattle.lock_journal.specs.Closings.{closed_by};
 ghost use Rattle.lock_journal.specs.StoredEntry.{IsNumberOf, closing_at, end_before, kind_from};
 
-use crate::entries::{Closed, Kind};
+use lock_transforms::{Closed, Kind};
 use resource_lock::{Change, WorkerId};
 
 /// An entry, with the place where its changes begin among those of all entries. They end where those

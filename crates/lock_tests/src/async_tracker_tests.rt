@@ -13,8 +13,8 @@ use crate::services::{open, yield_a_while};
 use async_tracker::{Held, Parked, claim, close, closing_undoes_claiming, park, resume, submit};
 use coordination::{Coordination, Halt, Opened, Pass};
 use item_actions::Outcome;
-use lock_journal::kinds::{Acquire, End, HandBack, Shortage, Start};
-use lock_journal::{Closed, Kind};
+use lock_transforms::kinds::{Acquire, End, HandBack, Shortage, Start};
+use lock_transforms::{Closed, Kind};
 use resource_lock::{Change, GraphAction, LockId, Mark, MarkId, Retention, WorkerId};
 use std::alloc::{AllocError, Global};
 use std::process::Abort;
@@ -184,7 +184,7 @@ const SECOND_CLOSED: Closed = Closed {
 };
 
 /// The entries that are the same whatever becomes of the task's lock.
-const WORKED: [EntryRow<'static>; 6] = [
+static WORKED: [EntryRow<'static>; 6] = [
     EntryRow {
         place: 0,
         kind: Kind::Start(0),
@@ -246,7 +246,7 @@ const ENDS_WITH_LEASE: EntryRow<'static> = EntryRow {
     ]),
 };
 
-const RETAINS: [EntryRow<'static>; 3] = [
+static RETAINS: [EntryRow<'static>; 3] = [
     EntryRow {
         place: 2,
         kind: Kind::Park(0),
@@ -260,7 +260,7 @@ const RETAINS: [EntryRow<'static>; 3] = [
     ENDS_WITH_LEASE,
 ];
 
-const REACQUIRES: [EntryRow<'static>; 3] = [
+static REACQUIRES: [EntryRow<'static>; 3] = [
     PARKS_RELEASING,
     EntryRow {
         place: 7,
@@ -275,7 +275,7 @@ const REACQUIRES: [EntryRow<'static>; 3] = [
     ENDS_WITH_LEASE,
 ];
 
-const RELEASES: [EntryRow<'static>; 3] = [
+static RELEASES: [EntryRow<'static>; 3] = [
     PARKS_RELEASING,
     EntryRow {
         place: 7,

@@ -1,7 +1,7 @@
 //! Sections that a worker enters and leaves again, alone and while another thread has the only lease.
 ghost use Rattle.std.specs.Prelude.{◌≡◌, [], All, OnOk, false, length, true};
 ghost use Rattle.std.specs.List.{list_any};
-ghost use Rattle.lock_journal.specs.Taking.{rises};
+ghost use Rattle.lock_transforms.specs.Taking.{rises};
 ghost use Rattle.coordination.specs.Shown.{blocked_shown, claimed_shown, lease_shown, locks_shown, parked_shown};
 ghost use Rattle.lease_service.specs.Shows.{MayTake};
 ghost use Rattle.blocking_section.specs.Sections.{is_unit};
@@ -12,8 +12,8 @@ use crate::services::{open, yield_a_while};
 use blocking_section::{StillBlocked, enter, leave};
 use coordination::{Coordination, Halt, Opened, Pass};
 use lease_service::{hand_back, take_locks};
-use lock_journal::Kind;
-use lock_journal::kinds::{Acquire, HandBack, Shortage};
+use lock_transforms::Kind;
+use lock_transforms::kinds::{Acquire, HandBack, Shortage};
 use resource_lock::{Change, LockId, WorkerId};
 use std::process::Abort;
 use std::sync::Wait;
@@ -138,7 +138,7 @@ fn lends_lock<R: Wait>(
 }
 
 /// The first worker's entries of `lends_lock`.
-const LENT: [EntryRow<'static>; 3] = [
+static LENT: [EntryRow<'static>; 3] = [
     EntryRow {
         place: 0,
         kind: Kind::Acquire,

@@ -4,17 +4,18 @@ ghost use Rattle.std.specs.Prelude.{◌≡◌, ◌≢◌, ◌<◌, ℕ, [], ◌�
 ghost use Rattle.resource_lock.specs.Good.{Good};
 ghost use Rattle.resource_lock.specs.StateView.{holding_of, owner_of};
 ghost use Rattle.resource_lock.specs.declared.ids.WorkerId.{WorkerId};
-ghost use Rattle.lock_journal.specs.Allowed.{IsDisabled, IsFixedList};
-ghost use Rattle.lock_journal.specs.Entry.{Entry, entry, replay};
-ghost use Rattle.lock_journal.specs.declared.entries.Kind.TheVariants as kinds;
+ghost use Rattle.lock_transforms.specs.Allowed.{IsDisabled, IsFixedList};
+ghost use Rattle.lock_transforms.specs.Entry.{Entry, entry, replay};
+ghost use Rattle.lock_transforms.specs.declared.entries.Kind.TheVariants as kinds;
 ghost use Rattle.coordination.specs.Sights.{workers_from};
 
 use crate::entries::EntriesFrom;
 use crate::rows::{Limits, TaskRow};
 use crate::services::{open, yield_a_while};
 use coordination::{Coordination, Halt, Opened, Pass, sound_books_have_good_states};
-use lock_journal::kinds::{End, Start};
-use lock_journal::{Book, Disposition, Kind, Tentative, Transform};
+use lock_journal::Book;
+use lock_transforms::kinds::{End, Start};
+use lock_transforms::{Disposition, Kind, Tentative, Transform};
 use resource_lock::{LockId, Mark, MarkId, WorkerId};
 use run_laws::own_changes_say_all;
 use std::alloc::{AllocError, Global};

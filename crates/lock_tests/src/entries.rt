@@ -2,7 +2,8 @@
 ghost use Rattle.std.specs.Prelude.{◌≡◌, ◌<◌, None, length};
 
 use coordination::{Coordination, Pass, Question};
-use lock_journal::{Book, Kind};
+use lock_journal::Book;
+use lock_transforms::Kind;
 use resource_lock::{Change, WorkerId};
 use std::sync::Wait;
 use worker_choices::Awaited;

@@ -1,6 +1,6 @@
 //! Leases and project locks.
 ghost use Rattle.std.specs.Prelude.{◌≡◌, ◌<◌, [], ◌∷◌, All, IfOk, Ok, length, true, false};
-ghost use Rattle.lock_journal.specs.Taking.{rises};
+ghost use Rattle.lock_transforms.specs.Taking.{rises};
 ghost use Rattle.coordination.specs.Holds.{HoldsNothing};
 ghost use Rattle.coordination.specs.Shown.{blocked_shown, claimed_shown, lease_shown, locks_shown, parked_shown};
 ghost use Rattle.lease_service.specs.declared.holders.Tried.TheVariants.{Got};
@@ -13,7 +13,7 @@ use item_actions::Text;
 use lease_service::{
     ProjectLocks, Tried, current_lease, hand_back, run_as_worker, take_locks, try_take_locks,
 };
-use lock_journal::Kind;
+use lock_transforms::Kind;
 use resource_lock::{Change, LockId, WorkerId};
 use std::alloc::{AllocError, Global};
 use std::process::Abort;
@@ -119,14 +119,14 @@ type Turn = (usize, Call, bool, usize, bool);
 
 /// Two workers share three locks. The second can't get the second and third while the first has
 /// the first and third, but the second alone, which it hands back.
-const SHARE: [Turn; 4] = [
+static SHARE: [Turn; 4] = [
     (0, Call::Take(Asked::FirstAndThird), true, 2, true),
     (1, Call::Try(Asked::SecondAndThird), false, 0, false),
     (1, Call::Try(Asked::Second), true, 1, true),
     (1, Call::HandBack, true, 0, false),
 ];
 
-const SHARED: [EntryRow<'static>; 2] = [
+static SHARED: [EntryRow<'static>; 2] = [
     EntryRow {
         place: 0,
         kind: Kind::Acquire,
@@ -140,7 +140,7 @@ const SHARED: [EntryRow<'static>; 2] = [
 ];
 
 /// A busy lock is free once it was handed back by a worker, which then takes a lease alone.
-const FREE: [Turn; 5] = [
+static FREE: [Turn; 5] = [
     (0, Call::Take(Asked::First), true, 1, true),
     (1, Call::Try(Asked::First), false, 0, false),
     (0, Call::HandBack, true, 0, false),
@@ -205,7 +205,7 @@ fn two_projects(alloc: Global, parallel: bool) -> Result<ProjectLocks, AllocErro
 }
 
 /// A project, and its lock where projects have locks of their own or not.
-const PROJECTS: [(&str, bool, Option<LockId>); 6] = [
+static PROJECTS: [(&str, bool, Option<LockId>); 6] = [
     ("a", false, Some(FIRST)),
     ("b", false, Some(FIRST)),
     ("c", false, None),

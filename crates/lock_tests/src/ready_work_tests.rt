@@ -76,7 +76,7 @@ fn move_mark(graph: &Graph, state: &mut State, ready: &mut ReadyWork, id: MarkId
 /// to start.
 type Step = (MarkId, Mark, Option<u32>, Option<u32>, Option<u32>);
 
-const STEPS: [Step; 11] = [
+static STEPS: [Step; 11] = [
     (MarkId::Unit(3), Mark::Queued, Some(3), None, Some(0)),
     (MarkId::Unit(1), Mark::Queued, Some(1), None, Some(0)),
     (
@@ -166,7 +166,7 @@ fn the_lowest_are_told_as_marks_move(rt: HostRuntime) -> Result<(), Fail> {
 
 /// A number that is put into a set or taken from it, and then the lowest member, and the lowest
 /// from 64 on.
-const PUTS: [(u32, bool, Option<u32>, Option<u32>); 8] = [
+static PUTS: [(u32, bool, Option<u32>, Option<u32>); 8] = [
     (8_191, true, Some(8_191), Some(8_191)),
     (4_096, true, Some(4_096), Some(4_096)),
     (64, true, Some(64), Some(64)),

@@ -35,9 +35,9 @@ const SECOND: TaskRow = TaskRow {
 };
 
 /// A task with a fetch and two items, and a task after it of two actions.
-const TASKS: [TaskRow; 2] = [FIRST, SECOND];
+static TASKS: [TaskRow; 2] = [FIRST, SECOND];
 
-const ACTIONS: [GraphAction; 3] = [
+static ACTIONS: [GraphAction; 3] = [
     GraphAction {
         task: 0,
         retention: Retention::ReleaseAndReacquire,
@@ -68,7 +68,7 @@ fn has_its_parts(graph: &Graph) -> bool {
 }
 
 /// Each unit, its action, and whether it is an item.
-const UNITS: [(u32, u32, bool); 6] = [
+static UNITS: [(u32, u32, bool); 6] = [
     (0, 0, false),
     (1, 0, true),
     (2, 0, true),
@@ -115,7 +115,7 @@ fn fits(
 }
 
 /// Limits that the tasks and actions don't fit.
-const UNFIT_LIMITS: [(u32, u32, u32); 6] = [
+static UNFIT_LIMITS: [(u32, u32, u32); 6] = [
     (2, 0, 2),
     (2, 33, 2),
     (2, 3, 0),
@@ -160,7 +160,7 @@ fn some_actions_fit(alloc: Global) -> Result<bool, AllocError> {
 }
 
 /// Tasks that don't fit: with the actions of another, and after no such task.
-const UNFIT_TASKS: [TaskRow; 2] = [
+static UNFIT_TASKS: [TaskRow; 2] = [
     TaskRow {
         lock: 1,
         after: Some(0),

@@ -28,7 +28,7 @@ fn are_in_range(lists: &[Vec<u32>]) -> bool
 /// For each task those that it comes after, and the first task without a rank.
 type Row = (&'static [&'static [u32]], Option<usize>);
 
-const ROWS: [Row; 7] = [
+static ROWS: [Row; 7] = [
     (&[], None),
     // A chain, and one the other way round.
     (&[&[], &[0], &[1], &[2]], None),

@@ -3,7 +3,7 @@ use plan_reader::*;
 use std::test::Fail;
 
 /// Two items that run in processes, the second of which names no requirements, and a task that comes after others.
-const PLAN: &str = "project = [{ name = \"p\" }]
+static PLAN: &str = "project = [{ name = \"p\" }]
 
 [[requirements]]
 name = \"big\"

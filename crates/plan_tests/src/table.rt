@@ -4,7 +4,7 @@ use std::test::Fail;
 use toml::Value;
 
 /// Requirements with every key.
-const EVERY_KEY: &str = r#"
+static EVERY_KEY: &str = r#"
 [[requirements]]
 name = "large"
 executable = "java"
@@ -56,7 +56,7 @@ fn every_key_of_requirements_is_read(rt: HostRuntime) -> Result<(), Fail> {
 }
 
 /// A plan without the keys that have a default.
-const NO_KEY: &str = r#"
+static NO_KEY: &str = r#"
 task = [{ name = "t", project = "p", action = [{ item = [{ do = "lines", file = "a" }] }] }]
 requirements = [{ name = "r" }]
 "#;

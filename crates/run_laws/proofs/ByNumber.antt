@@ -7,7 +7,7 @@ use Rattle.resource_lock.specs.Ranges.{IsIn, IsUnitOf, units_in, fetches, first_
 use Rattle.resource_lock.specs.declared.graphs.GraphAction.{GraphAction}
 use Rattle.item_actions.specs.declared.outcomes.Outcome.{Outcome}
 use Rattle.lock_journal.specs.Closings.{outcome_in}
-use Rattle.lock_journal.specs.Entry.{Entry}
+use Rattle.lock_transforms.specs.Entry.{Entry}
 use Rattle.run_laws.specs.ByNumber.{has_unit, first_with, action_with, outcome_by}
 use Rattle.run_laws.specs.Runs.{ComesTo}
 

@@ -12,12 +12,12 @@ use Rattle.resource_lock.specs.StateView.{StateView, mark_of}
 use Rattle.item_actions.specs.declared.outcomes.Outcome.{Outcome}
 use Rattle.item_actions.specs.declared.outcomes.Outcome.TheVariants.{Number, Digest, Skipped as NotRun}
 use Rattle.item_actions.specs.Value.{passes}
-use Rattle.lock_journal.specs.declared.entries.Kind.{Kind}
-use Rattle.lock_journal.specs.declared.entries.Kind.TheVariants.{Close, Unblock}
-use Rattle.lock_journal.specs.Allowed.{IsKindOf, lawful_from, Lawful}
+use Rattle.lock_transforms.specs.declared.entries.Kind.{Kind}
+use Rattle.lock_transforms.specs.declared.entries.Kind.TheVariants.{Close, Unblock}
+use Rattle.lock_transforms.specs.Allowed.{IsKindOf, lawful_from, Lawful}
 use Rattle.lock_journal.specs.Closings.{closing_of, where_finished, closings, last_or, outcome_in}
-use Rattle.lock_journal.specs.Entry.{Entry, effect, replay}
-use Rattle.lock_journal.specs.Table.{has_passed, mark_from}
+use Rattle.lock_transforms.specs.Entry.{Entry, effect, replay}
+use Rattle.lock_transforms.specs.Table.{has_passed, mark_from}
 use Rattle.run_laws.specs.Closing.{IsDone, IsClosedOnce}
 use Rattle.run_laws.proofs.Fitting.{apart_of}
 use Rattle.run_laws.proofs.History.{ClosedAs}

@@ -8,9 +8,9 @@ use Rattle.resource_lock.specs.declared.marks.MarkId.TheVariants.{Task as TaskOf
 use Rattle.resource_lock.specs.GraphView.{GraphView, task_of, action_of}
 use Rattle.resource_lock.specs.Ranges.{actions_of, IsActionOf, IsItemOf, IsFetchOf, IsUnitOf}
 use Rattle.resource_lock.specs.StateView.{StateView, mark_of}
-use Rattle.lock_journal.specs.declared.entries.Kind.{Kind}
-use Rattle.lock_journal.specs.declared.entries.Kind.TheVariants.{Start, Skip, Submit, Park, Resume, Claim, Close, Block, Unblock, End}
-use Rattle.lock_journal.specs.Table.{units_passed}
+use Rattle.lock_transforms.specs.declared.entries.Kind.{Kind}
+use Rattle.lock_transforms.specs.declared.entries.Kind.TheVariants.{Start, Skip, Submit, Park, Resume, Claim, Close, Block, Unblock, End}
+use Rattle.lock_transforms.specs.Table.{units_passed}
 use Rattle.run_laws.specs.Closing.{IsDone}
 use Rattle.run_laws.specs.Marks.{IsEnded, AfterPassed}
 

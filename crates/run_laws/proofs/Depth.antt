@@ -6,7 +6,7 @@ use Rattle.std.proofs.lemmas.List.{get_or_past}
 use Rattle.std.proofs.lemmas.List.Elements.{recursion_from_All}
 use Rattle.resource_lock.specs.GraphView.{GraphView, no_task, task_of}
 use Rattle.item_actions.specs.declared.outcomes.Outcome.{Outcome}
-use Rattle.lock_journal.specs.Table.{has_passed}
+use Rattle.lock_transforms.specs.Table.{has_passed}
 use Rattle.run_laws.specs.Outcomes.{mark_by, task_passes, task_outcome, AreRanks}
 
 same_tests : (f k : ℕ → Bool) (xs : List ℕ) → AllByRecursion (λ x. f x ≡ k x) xs → list_all f xs ≡ list_all k xs

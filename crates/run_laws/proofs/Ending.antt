@@ -10,8 +10,8 @@ use Rattle.resource_lock.specs.Fits.{Follow, Fits}
 use Rattle.resource_lock.specs.GraphView.{GraphView, no_action, action_of}
 use Rattle.resource_lock.specs.Ranges.{IsIn, units_in}
 use Rattle.resource_lock.specs.StateView.{StateView, mark_of}
-use Rattle.lock_journal.specs.Allowed.{Lawful}
-use Rattle.lock_journal.specs.Entry.{Entry, replay}
+use Rattle.lock_transforms.specs.Allowed.{Lawful}
+use Rattle.lock_transforms.specs.Entry.{Entry, replay}
 use Rattle.run_laws.specs.Marks.{IsEnded, HasEnded}
 use Rattle.run_laws.proofs.Fitting.{apart_of}
 use Rattle.run_laws.proofs.Kept.{TaskFact, WholeEnded, IsKept}

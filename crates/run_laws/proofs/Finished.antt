@@ -12,10 +12,10 @@ use Rattle.resource_lock.specs.GraphView.{GraphView, task_of}
 use Rattle.resource_lock.specs.Ranges.{actions_of, units_of, IsActionOf, IsUnitOf}
 use Rattle.resource_lock.specs.Shape.{BelongsTo}
 use Rattle.resource_lock.specs.StateView.{StateView, holding_of, mark_of, IsMarkOf}
-use Rattle.lock_journal.specs.declared.entries.Kind.{Kind}
-use Rattle.lock_journal.specs.declared.entries.Kind.TheVariants.{Start, Skip, Submit, Claim, Close, Unblock, End}
-use Rattle.lock_journal.specs.Allowed.{IsListOf, IsKindOf}
-use Rattle.lock_journal.specs.Table.{mark_from, end_mark, moved_units, skipped_action, skipped_actions, skipped_waiting, taken_up}
+use Rattle.lock_transforms.specs.declared.entries.Kind.{Kind}
+use Rattle.lock_transforms.specs.declared.entries.Kind.TheVariants.{Start, Skip, Submit, Claim, Close, Unblock, End}
+use Rattle.lock_transforms.specs.Allowed.{IsListOf, IsKindOf}
+use Rattle.lock_transforms.specs.Table.{mark_from, end_mark, moved_units, skipped_action, skipped_actions, skipped_waiting, taken_up}
 use Rattle.run_laws.specs.Marks.{IsEnded}
 use Rattle.run_laws.proofs.Marks.{AllMoves-weaker, StaysOrMoves, stays_or_moves, moves_to, GoesTo, Names, Names-append_left, Names-append_right}
 use Rattle.run_laws.proofs.Moves.{MayMove, moves_not_ended, list_moves}

@@ -17,11 +17,11 @@ use Rattle.resource_lock.specs.StateView.{StateView, mark_of}
 use Rattle.resource_lock.proofs.Runs.{same_shape-make_all, same_shape-trans}
 use Rattle.item_actions.specs.declared.outcomes.Outcome.{Outcome}
 use Rattle.item_actions.specs.Value.{is_fault}
-use Rattle.lock_journal.specs.declared.entries.Closed.{Closed}
-use Rattle.lock_journal.specs.declared.entries.Kind.{Kind}
-use Rattle.lock_journal.specs.Allowed.{Allowed, Finishes, lawful_from, Lawful}
+use Rattle.lock_transforms.specs.declared.entries.Closed.{Closed}
+use Rattle.lock_transforms.specs.declared.entries.Kind.{Kind}
+use Rattle.lock_transforms.specs.Allowed.{Allowed, Finishes, lawful_from, Lawful}
 use Rattle.lock_journal.specs.Closings.{closing_of, where_finished, closings, last_or, outcome_in}
-use Rattle.lock_journal.specs.Entry.{Entry, changed, effect, replay_from, replay}
+use Rattle.lock_transforms.specs.Entry.{Entry, changed, effect, replay_from, replay}
 use Rattle.lock_journal.proofs.Replays.{lawful_from-push, replay_from-push}
 use Rattle.run_laws.specs.ClosedBy.{closed_at, closed_by, faults_by, faults_in}
 use Rattle.run_laws.specs.Marks.{IsEnded}

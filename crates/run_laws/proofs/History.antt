@@ -14,11 +14,11 @@ use Rattle.resource_lock.specs.StateView.{StateView, mark_of}
 use Rattle.item_actions.specs.declared.outcomes.Outcome.{Outcome}
 use Rattle.item_actions.specs.declared.outcomes.Outcome.TheVariants.{Number, Digest, NotThere, TooLong, Fault, NoMemory, Skipped as NotRun}
 use Rattle.item_actions.specs.Value.{passes}
-use Rattle.lock_journal.specs.declared.entries.Kind.{Kind}
-use Rattle.lock_journal.specs.declared.entries.Kind.TheVariants.{Start, Skip, Submit, Claim, Close, Block, Unblock, End}
+use Rattle.lock_transforms.specs.declared.entries.Kind.{Kind}
+use Rattle.lock_transforms.specs.declared.entries.Kind.TheVariants.{Start, Skip, Submit, Claim, Close, Block, Unblock, End}
 use Rattle.lock_journal.specs.Closings.{closing_of, closings}
-use Rattle.lock_journal.specs.Entry.{Entry}
-use Rattle.lock_journal.specs.Table.{end_mark, mark_from}
+use Rattle.lock_transforms.specs.Entry.{Entry}
+use Rattle.lock_transforms.specs.Table.{end_mark, mark_from}
 use Rattle.run_laws.specs.Runs.{finished_as, times, starts, skips, claims}
 use Rattle.run_laws.proofs.Conditions.{all_passed}
 use Rattle.run_laws.proofs.Fitting.{RangesApart}

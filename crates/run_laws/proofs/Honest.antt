@@ -7,11 +7,11 @@ use Rattle.resource_lock.specs.declared.ids.WorkerId.{WorkerId}
 use Rattle.item_actions.specs.declared.outcomes.Outcome.{Outcome}
 use Rattle.item_actions.specs.declared.outcomes.Outcome.TheVariants.{Fault, NoMemory}
 use Rattle.item_actions.specs.Value.{IsHonest}
-use Rattle.lock_journal.specs.declared.entries.Closed.{Closed}
-use Rattle.lock_journal.specs.declared.entries.Kind.{Kind}
-use Rattle.lock_journal.specs.declared.entries.Kind.TheVariants.{Close, Unblock}
+use Rattle.lock_transforms.specs.declared.entries.Closed.{Closed}
+use Rattle.lock_transforms.specs.declared.entries.Kind.{Kind}
+use Rattle.lock_transforms.specs.declared.entries.Kind.TheVariants.{Close, Unblock}
 use Rattle.lock_journal.specs.Closings.{closing_of, where_finished, closings}
-use Rattle.lock_journal.specs.Entry.{Entry}
+use Rattle.lock_transforms.specs.Entry.{Entry}
 use Rattle.run_laws.specs.Answers.{answer_by, answers, IsHonestWorker}
 use Rattle.run_laws.specs.ClosedBy.{closed_of, closed_in, closed_by}
 use Rattle.run_laws.specs.Runs.{GivesClosedOutcomes}

@@ -9,7 +9,7 @@ use Rattle.resource_lock.specs.declared.marks.MarkId.TheVariants.{Action as Acti
 use Rattle.resource_lock.specs.Change.{make_all, can_all}
 use Rattle.resource_lock.specs.GraphView.{GraphView}
 use Rattle.resource_lock.specs.StateView.{StateView, mark_of}
-use Rattle.lock_journal.specs.Table.{skipped_waiting}
+use Rattle.lock_transforms.specs.Table.{skipped_waiting}
 use Rattle.run_laws.proofs.Marks.{AllMoves, StaysOrMoves, stays_or_moves}
 use Rattle.run_laws.proofs.Moves.{waiting_move, SkipsAction}
 use Rattle.run_laws.proofs.Ranges.{each_in_range}

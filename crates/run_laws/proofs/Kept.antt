@@ -10,7 +10,7 @@ use Rattle.resource_lock.specs.GraphView.{GraphView, task_of}
 use Rattle.resource_lock.specs.Ranges.{actions_of, units_of, IsActionOf, IsUnitOf}
 use Rattle.resource_lock.specs.Shape.{BelongsTo}
 use Rattle.resource_lock.specs.StateView.{StateView, mark_of}
-use Rattle.lock_journal.specs.Table.{has_passed}
+use Rattle.lock_transforms.specs.Table.{has_passed}
 use Rattle.run_laws.specs.Closing.{IsDone}
 use Rattle.run_laws.specs.Marks.{IsEnded, AfterPassed}
 use Rattle.run_laws.proofs.Conditions.{HasFallen, AfterFallen, EarlierFailed, FetchDone, all_passed}

@@ -12,9 +12,9 @@ use Rattle.resource_lock.specs.GraphView.{GraphView, task_of, action_of}
 use Rattle.resource_lock.specs.Ranges.{earlier_actions, task_with, actions_of, items_of, units_of, IsIn, IsActionOf, IsUnitOf}
 use Rattle.resource_lock.specs.StateView.{StateView, mark_of}
 use Rattle.resource_lock.proofs.Undo.{same_mark_is}
-use Rattle.lock_journal.specs.declared.entries.Kind.{Kind}
-use Rattle.lock_journal.specs.declared.entries.Kind.TheVariants.{Start, Skip, Submit, Park, Resume, Claim, Close, Block, Unblock, End, Acquire, HandBack}
-use Rattle.lock_journal.specs.Table.{has_passed, has_fallen, has_ended, earlier_passed, fetch_closed, never_ran, works_on, units_passed, condition}
+use Rattle.lock_transforms.specs.declared.entries.Kind.{Kind}
+use Rattle.lock_transforms.specs.declared.entries.Kind.TheVariants.{Start, Skip, Submit, Park, Resume, Claim, Close, Block, Unblock, End, Acquire, HandBack}
+use Rattle.lock_transforms.specs.Table.{has_passed, has_fallen, has_ended, earlier_passed, fetch_closed, never_ran, works_on, units_passed, condition}
 use Rattle.run_laws.specs.Closing.{IsDone}
 use Rattle.run_laws.specs.Marks.{IsEnded}
 use Rattle.run_laws.proofs.Conditions.{HasFallen, EarlierPassed, EarlierFailed, FetchDone, IsThrough, MarkCondition}

@@ -18,10 +18,10 @@ use Rattle.resource_lock.specs.GraphView.{GraphView, task_of, action_of}
 use Rattle.resource_lock.specs.Ranges.{actions_of, items_of, units_of, IsActionOf, IsItemOf, IsUnitOf, lock_with}
 use Rattle.resource_lock.specs.StateView.{StateView, holding_of, mark_of}
 use Rattle.resource_lock.proofs.Undo.{same_mark_is}
-use Rattle.lock_journal.specs.declared.entries.Kind.{Kind}
-use Rattle.lock_journal.specs.declared.entries.Kind.TheVariants.{Start, Skip, Submit, Park, Resume, Claim, Close, Block, Unblock, End, Acquire, HandBack}
-use Rattle.lock_journal.specs.Allowed.{IsListOf}
-use Rattle.lock_journal.specs.Table.{mark_from, end_mark, list_of, moved_units, skipped_action, skipped_actions, skipped_waiting, parked_locks, taken_again, set_down, taken_up, on_park, on_resume, owned, acquires}
+use Rattle.lock_transforms.specs.declared.entries.Kind.{Kind}
+use Rattle.lock_transforms.specs.declared.entries.Kind.TheVariants.{Start, Skip, Submit, Park, Resume, Claim, Close, Block, Unblock, End, Acquire, HandBack}
+use Rattle.lock_transforms.specs.Allowed.{IsListOf}
+use Rattle.lock_transforms.specs.Table.{mark_from, end_mark, list_of, moved_units, skipped_action, skipped_actions, skipped_waiting, parked_locks, taken_again, set_down, taken_up, on_park, on_resume, owned, acquires}
 use Rattle.run_laws.specs.Marks.{IsEnded}
 use Rattle.run_laws.proofs.Marks.{AllMoves, AllMoves-append}
 use Rattle.run_laws.proofs.Ranges.{each_unit, each_item, each_action}

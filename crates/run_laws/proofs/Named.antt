@@ -18,9 +18,9 @@ use Rattle.resource_lock.specs.declared.ids.WorkerId.{WorkerId}
 use Rattle.resource_lock.specs.declared.marks.Mark.{Mark}
 use Rattle.resource_lock.specs.declared.marks.Mark.TheVariants.{Waiting, Running}
 use Rattle.resource_lock.specs.declared.marks.MarkId.TheVariants.{Task as TaskOf, Action as ActionOf, Unit as UnitOf}
-use Rattle.lock_journal.specs.declared.entries.Kind.{Kind}
-use Rattle.lock_journal.specs.Allowed.{Finishes, lawful_from, Lawful}
-use Rattle.lock_journal.specs.Entry.{Entry, changed, effect, replay_from, replay}
+use Rattle.lock_transforms.specs.declared.entries.Kind.{Kind}
+use Rattle.lock_transforms.specs.Allowed.{Finishes, lawful_from, Lawful}
+use Rattle.lock_transforms.specs.Entry.{Entry, changed, effect, replay_from, replay}
 use Rattle.run_laws.specs.Own.{NamesWorkers}
 
 runner : (v w : WorkerId) (m : Mark) (n : ℕ) → v.0 < n → names_only m v ≡ true → m ≡ Running w → w.0 < n

@@ -11,11 +11,11 @@ use Rattle.resource_lock.specs.Opening.{opening_of}
 use Rattle.resource_lock.specs.GraphView.{GraphView}
 use Rattle.resource_lock.specs.StateView.{StateView, mark_of}
 use Rattle.item_actions.specs.declared.outcomes.Outcome.{Outcome}
-use Rattle.lock_journal.specs.declared.entries.Kind.{Kind}
-use Rattle.lock_journal.specs.declared.entries.Kind.TheVariants.{Start, Close, Unblock}
-use Rattle.lock_journal.specs.Allowed.{Finishes, Allowed, lawful_from, Lawful}
+use Rattle.lock_transforms.specs.declared.entries.Kind.{Kind}
+use Rattle.lock_transforms.specs.declared.entries.Kind.TheVariants.{Start, Close, Unblock}
+use Rattle.lock_transforms.specs.Allowed.{Finishes, Allowed, lawful_from, Lawful}
 use Rattle.lock_journal.specs.Closings.{closing_of, closings, where_finished}
-use Rattle.lock_journal.specs.Entry.{Entry, replay}
+use Rattle.lock_transforms.specs.Entry.{Entry, replay}
 use Rattle.run_laws.specs.Marks.{IsEnded, AfterPassed, HasEnded}
 use Rattle.run_laws.specs.Runs.{times, starts, skips, OnceStartedOrSkipped, NeverOrOnceClosed, StandsIn, IsOrderly}
 use Rattle.run_laws.proofs.Conditions.{MarkCondition}

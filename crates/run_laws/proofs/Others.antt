@@ -16,10 +16,10 @@ use Rattle.resource_lock.specs.StateView.{StateView, holding_of, is_owner, owns,
 use Rattle.resource_lock.proofs.Others.{others_keep}
 use Rattle.resource_lock.proofs.Runs.{same_shape-make, same_shape-make_all, same_shape-trans}
 use Rattle.resource_lock.proofs.Undo.{same_worker}
-use Rattle.lock_journal.specs.declared.entries.Kind.{Kind}
-use Rattle.lock_journal.specs.Allowed.{Finishes, lawful_from}
-use Rattle.lock_journal.specs.Entry.{Entry, changed, effect, replay_from}
-use Rattle.lock_journal.proofs.Disabled.{any_same, owned_same}
+use Rattle.lock_transforms.specs.declared.entries.Kind.{Kind}
+use Rattle.lock_transforms.specs.Allowed.{Finishes, lawful_from}
+use Rattle.lock_transforms.specs.Entry.{Entry, changed, effect, replay_from}
+use Rattle.lock_transforms.proofs.Disabled.{any_same, owned_same}
 use Rattle.run_laws.specs.Own.{SameFor, NoneOf, marks_in, places_from}
 
 -- place by place, what is the worker's is the same

@@ -15,7 +15,7 @@ use Rattle.std.specs.List.{AllByRecursion}
 use Rattle.resource_lock.proofs.Counted.{moves}
 use Rattle.resource_lock.proofs.Runs.{all_named_along, same_shape-make, worker_along}
 use Rattle.resource_lock.proofs.Undo.{none_from, holding_now}
-use Rattle.lock_journal.specs.Table.{owned_from, owned}
+use Rattle.lock_transforms.specs.Table.{owned_from, owned}
 use Rattle.run_laws.specs.Own.{action_at, claimed, marks_in, places_from, task_at, unit_at}
 use Rattle.run_laws.specs.OwnChanges.{after_all, claimed_after, locks_after, lock_before, mark_before, with_if, with_member, without_if, without_member}
 use Rattle.run_laws.proofs.Others.{running_of}

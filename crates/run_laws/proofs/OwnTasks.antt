@@ -17,11 +17,11 @@ use Rattle.resource_lock.specs.declared.marks.Mark.TheVariants.{Waiting, Running
 use Rattle.resource_lock.specs.declared.marks.MarkId.{MarkId}
 use Rattle.resource_lock.specs.declared.marks.MarkId.TheVariants.{Task as TaskOf, Action as ActionOf, Unit as UnitOf}
 use Rattle.resource_lock.proofs.Undo.{same_mark_is}
-use Rattle.lock_journal.specs.Allowed.{Finishes, lawful_from, Lawful}
-use Rattle.lock_journal.specs.Entry.{Entry, changed, effect, replay_from, replay}
-use Rattle.lock_journal.specs.Table.{condition, earlier_passed, works_on}
-use Rattle.lock_journal.specs.declared.entries.Kind.{Kind}
-use Rattle.lock_journal.specs.declared.entries.Kind.TheVariants.{Skip, Submit, Park, Resume, Claim, Close, Block, Unblock, End}
+use Rattle.lock_transforms.specs.Allowed.{Finishes, lawful_from, Lawful}
+use Rattle.lock_transforms.specs.Entry.{Entry, changed, effect, replay_from, replay}
+use Rattle.lock_transforms.specs.Table.{condition, earlier_passed, works_on}
+use Rattle.lock_transforms.specs.declared.entries.Kind.{Kind}
+use Rattle.lock_transforms.specs.declared.entries.Kind.TheVariants.{Skip, Submit, Park, Resume, Claim, Close, Block, Unblock, End}
 use Rattle.run_laws.specs.Own.{NoneOf}
 use Rattle.run_laws.proofs.Fitting.{RangesApart, apart_of}
 use Rattle.run_laws.proofs.Growing.{lawful_from-append, replay_from-append}

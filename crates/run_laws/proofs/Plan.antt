@@ -12,10 +12,10 @@ use Rattle.resource_lock.specs.StateView.{StateView, mark_of}
 use Rattle.item_actions.specs.declared.outcomes.Outcome.{Outcome}
 use Rattle.item_actions.specs.declared.outcomes.Outcome.TheVariants.{Skipped as NotRun}
 use Rattle.item_actions.specs.Value.{passes}
-use Rattle.lock_journal.specs.Allowed.{Lawful}
+use Rattle.lock_transforms.specs.Allowed.{Lawful}
 use Rattle.lock_journal.specs.Closings.{closings, last_or, outcome_in}
-use Rattle.lock_journal.specs.Entry.{Entry, replay}
-use Rattle.lock_journal.specs.Table.{has_passed}
+use Rattle.lock_transforms.specs.Entry.{Entry, replay}
+use Rattle.lock_transforms.specs.Table.{has_passed}
 use Rattle.run_laws.specs.Marks.{IsEnded, HasEnded}
 use Rattle.run_laws.specs.Outcomes.{action_passes, task_passes, task_outcome, earlier_pass, is_skipped, unit_outcome, AreRanks}
 use Rattle.run_laws.specs.Runs.{GivesClosedOutcomes, ComesTo}

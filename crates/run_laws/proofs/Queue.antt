@@ -16,11 +16,11 @@ use Rattle.resource_lock.specs.StateView.{StateView, mark_of}
 use Rattle.resource_lock.proofs.Units.{is_item_from}
 use Rattle.item_actions.specs.declared.outcomes.Outcome.{Outcome}
 use Rattle.item_actions.specs.declared.outcomes.Outcome.TheVariants.{Number, Digest}
-use Rattle.lock_journal.specs.declared.entries.Kind.{Kind}
-use Rattle.lock_journal.specs.declared.entries.Kind.TheVariants.{Skip, Submit, Claim, Close, Block, Unblock, End}
-use Rattle.lock_journal.specs.Allowed.{Finishes, Lawful, lawful_from}
-use Rattle.lock_journal.specs.Entry.{Entry, changed, effect, replay, replay_from}
-use Rattle.lock_journal.specs.Table.{mark_from}
+use Rattle.lock_transforms.specs.declared.entries.Kind.{Kind}
+use Rattle.lock_transforms.specs.declared.entries.Kind.TheVariants.{Skip, Submit, Claim, Close, Block, Unblock, End}
+use Rattle.lock_transforms.specs.Allowed.{Finishes, Lawful, lawful_from}
+use Rattle.lock_transforms.specs.Entry.{Entry, changed, effect, replay, replay_from}
+use Rattle.lock_transforms.specs.Table.{mark_from}
 use Rattle.run_laws.proofs.Fitting.{apart_of}
 use Rattle.run_laws.proofs.Marks.{StaysOrMoves, stays_or_moves}
 use Rattle.run_laws.proofs.Moves.{MayMove, list_moves}

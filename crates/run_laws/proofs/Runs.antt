@@ -11,9 +11,9 @@ use Rattle.resource_lock.specs.Opening.{opening_of}
 use Rattle.resource_lock.specs.GraphView.{GraphView}
 use Rattle.resource_lock.specs.StateView.{StateView}
 use Rattle.resource_lock.proofs.Runs.{belongs_opening, same_shape-make_all}
-use Rattle.lock_journal.specs.declared.entries.Kind.{Kind}
-use Rattle.lock_journal.specs.Allowed.{IsKindOf, Finishes, Allowed, lawful_from, Lawful}
-use Rattle.lock_journal.specs.Entry.{Entry, changed, effect, replay_from, replay}
+use Rattle.lock_transforms.specs.declared.entries.Kind.{Kind}
+use Rattle.lock_transforms.specs.Allowed.{IsKindOf, Finishes, Allowed, lawful_from, Lawful}
+use Rattle.lock_transforms.specs.Entry.{Entry, changed, effect, replay_from, replay}
 use Rattle.run_laws.proofs.Finished.{final_by, has_moved}
 use Rattle.run_laws.proofs.Fitting.{RangesApart}
 use Rattle.run_laws.proofs.History.{IsRecorded, ClosedAs, times_begun, times_skipped, recorded_finished, recorded_failed}

@@ -4,8 +4,8 @@ use Rattle.std.specs.List.{list_all, range_with_len}
 use Rattle.resource_lock.specs.declared.marks.Mark.TheVariants.{Waiting}
 use Rattle.resource_lock.specs.GraphView.{GraphView}
 use Rattle.item_actions.specs.declared.outcomes.Outcome.{Outcome}
-use Rattle.lock_journal.specs.Entry.{Entry, replay}
-use Rattle.lock_journal.specs.Table.{has_passed}
+use Rattle.lock_transforms.specs.Entry.{Entry, replay}
+use Rattle.lock_transforms.specs.Table.{has_passed}
 use Rattle.run_laws.specs.Outcomes.{task_outcome}
 use Rattle.run_laws.specs.Runs.{ComesTo}
 

@@ -12,9 +12,9 @@ use Rattle.resource_lock.specs.StateView.{StateView, mark_of}
 use Rattle.resource_lock.proofs.Runs.{belongs_along}
 use Rattle.item_actions.specs.declared.outcomes.Outcome.{Outcome}
 use Rattle.item_actions.specs.declared.outcomes.Outcome.TheVariants.{Number, Digest, NotThere, TooLong, Fault, NoMemory, Skipped as NotRun}
-use Rattle.lock_journal.specs.declared.entries.Kind.{Kind}
-use Rattle.lock_journal.specs.declared.entries.Kind.TheVariants.{Start, Skip, Submit, Park, Resume, Claim, Close, Block, Unblock, End}
-use Rattle.lock_journal.specs.Table.{end_mark, mark_from}
+use Rattle.lock_transforms.specs.declared.entries.Kind.{Kind}
+use Rattle.lock_transforms.specs.declared.entries.Kind.TheVariants.{Start, Skip, Submit, Park, Resume, Claim, Close, Block, Unblock, End}
+use Rattle.lock_transforms.specs.Table.{end_mark, mark_from}
 use Rattle.run_laws.specs.Closing.{IsDone}
 use Rattle.run_laws.specs.Marks.{IsEnded, AfterPassed}
 use Rattle.run_laws.proofs.Conditions.{HasFallen, EarlierPassed, EarlierFailed, FetchDone, IsThrough, MarkCondition, all_passed}

@@ -13,10 +13,10 @@ use Rattle.resource_lock.specs.GraphView.{GraphView, action_of}
 use Rattle.resource_lock.specs.Ranges.{IsActionOf}
 use Rattle.resource_lock.specs.StateView.{StateView}
 use Rattle.item_actions.specs.declared.outcomes.Outcome.TheVariants.{Number, NotThere, Skipped as NotRun}
-use Rattle.lock_journal.specs.declared.entries.Kind.{Kind}
-use Rattle.lock_journal.specs.Allowed.{Allowed, IsKindOf, IsListOf, Lawful}
-use Rattle.lock_journal.specs.Entry.{entry}
-use Rattle.lock_journal.specs.Table.{condition, list_of, is_enabled}
+use Rattle.lock_transforms.specs.declared.entries.Kind.{Kind}
+use Rattle.lock_transforms.specs.Allowed.{Allowed, IsKindOf, IsListOf, Lawful}
+use Rattle.lock_transforms.specs.Entry.{entry}
+use Rattle.lock_transforms.specs.Table.{condition, list_of, is_enabled}
 use Rattle.run_laws.specs.WorkedRows.{one_task, two_tasks, no_tasks, first_run, run_that_reacquires, run_that_releases, run_that_fetches, run_that_fails, locks_by_turns, start_too_early, IsWorkedRun}
 
 one : {X : Type 0} (P : X → Type 0) (x : X) → P x → All P (x ∷ [])

@@ -6,7 +6,7 @@ use Rattle.item_actions.specs.declared.outcomes.Outcome.{Outcome}
 use Rattle.item_actions.specs.declared.outcomes.Outcome.TheVariants.{Fault, NoMemory}
 use Rattle.item_actions.specs.Value.{IsHonest}
 use Rattle.lock_journal.specs.Closings.{closings}
-use Rattle.lock_journal.specs.Entry.{Entry}
+use Rattle.lock_transforms.specs.Entry.{Entry}
 use Rattle.run_laws.specs.ClosedBy.{closed_by}
 
 -- a unit that the history closed with Fault or NoMemory has that, and any other its value

@@ -4,10 +4,10 @@ use Rattle.std.specs.List.{count_by}
 use Rattle.resource_lock.specs.declared.changes.Change.{Change}
 use Rattle.resource_lock.specs.declared.ids.WorkerId.{WorkerId}
 use Rattle.item_actions.specs.Value.{is_fault}
-use Rattle.lock_journal.specs.declared.entries.Closed.{Closed}
-use Rattle.lock_journal.specs.declared.entries.Kind.{Kind}
-use Rattle.lock_journal.specs.declared.entries.Kind.TheVariants.{Close, Unblock}
-use Rattle.lock_journal.specs.Entry.{Entry}
+use Rattle.lock_transforms.specs.declared.entries.Closed.{Closed}
+use Rattle.lock_transforms.specs.declared.entries.Kind.{Kind}
+use Rattle.lock_transforms.specs.declared.entries.Kind.TheVariants.{Close, Unblock}
+use Rattle.lock_transforms.specs.Entry.{Entry}
 
 -- the unit that a kind closes, with its outcome
 abbrev pub closed_of : Kind → List Closed

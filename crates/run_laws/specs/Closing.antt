@@ -8,8 +8,8 @@ use Rattle.resource_lock.specs.StateView.{mark_of}
 use Rattle.item_actions.specs.declared.outcomes.Outcome.TheVariants.{Skipped as NotRun}
 use Rattle.item_actions.specs.Value.{passes}
 use Rattle.lock_journal.specs.Closings.{closings, outcome_in}
-use Rattle.lock_journal.specs.Entry.{Entry, replay}
-use Rattle.lock_journal.specs.Table.{has_passed, mark_from}
+use Rattle.lock_transforms.specs.Entry.{Entry, replay}
+use Rattle.lock_transforms.specs.Table.{has_passed, mark_from}
 
 -- the mark of a unit whose work was done
 abbrev pub IsDone : Mark → Type 0

@@ -8,7 +8,7 @@ use Rattle.resource_lock.specs.Ranges.{actions_of, units_of}
 use Rattle.item_actions.specs.declared.outcomes.Outcome.{Outcome}
 use Rattle.item_actions.specs.declared.outcomes.Outcome.TheVariants.{Skipped as NotRun}
 use Rattle.item_actions.specs.Value.{passes}
-use Rattle.lock_journal.specs.Table.{has_passed}
+use Rattle.lock_transforms.specs.Table.{has_passed}
 
 -- every unit of the action would pass
 abbrev pub action_passes : GraphView → (ℕ → Outcome) → ℕ → Bool

@@ -6,8 +6,8 @@ use Rattle.resource_lock.specs.declared.marks.Mark.TheVariants.{Running}
 use Rattle.resource_lock.specs.declared.marks.MarkId.{MarkId}
 use Rattle.resource_lock.specs.declared.marks.MarkId.TheVariants.{Task as TaskOf, Action as ActionOf, Unit as UnitOf}
 use Rattle.resource_lock.specs.StateView.{StateView, holding_of, owner_of, owns, mark_of, runs_by, runs_task, is_parked, runs_unit, is_idle}
-use Rattle.lock_journal.specs.Entry.{Entry}
-use Rattle.lock_journal.specs.Table.{owned}
+use Rattle.lock_transforms.specs.Entry.{Entry}
+use Rattle.lock_transforms.specs.Table.{owned}
 
 -- the numbers, from n on, of those of a list that pass a test
 abbrev pub places_from : {X : Type 0} → (X → Bool) → ℕ → List X → List ℕ

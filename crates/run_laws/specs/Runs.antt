@@ -7,10 +7,10 @@ use Rattle.resource_lock.specs.GraphView.{GraphView}
 use Rattle.resource_lock.specs.Ranges.{IsActionOf, IsUnitOf, IsItem}
 use Rattle.resource_lock.specs.StateView.{mark_of}
 use Rattle.item_actions.specs.declared.outcomes.Outcome.{Outcome}
-use Rattle.lock_journal.specs.declared.entries.Kind.{Kind}
-use Rattle.lock_journal.specs.declared.entries.Kind.TheVariants.{Start, Skip, Claim}
+use Rattle.lock_transforms.specs.declared.entries.Kind.{Kind}
+use Rattle.lock_transforms.specs.declared.entries.Kind.TheVariants.{Start, Skip, Claim}
 use Rattle.lock_journal.specs.Closings.{closing_of, where_finished, closings, outcome_in}
-use Rattle.lock_journal.specs.Entry.{Entry, replay}
+use Rattle.lock_transforms.specs.Entry.{Entry, replay}
 use Rattle.run_laws.specs.Marks.{AfterPassed}
 use Rattle.run_laws.specs.Outcomes.{task_outcome, unit_outcome}
 

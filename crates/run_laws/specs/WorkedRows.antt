@@ -15,12 +15,12 @@ use Rattle.resource_lock.specs.GraphView.{GraphView}
 use Rattle.resource_lock.specs.Ranges.{fetches}
 use Rattle.item_actions.specs.declared.outcomes.Outcome.{Outcome}
 use Rattle.item_actions.specs.declared.outcomes.Outcome.TheVariants.{Number, NotThere}
-use Rattle.lock_journal.specs.declared.entries.Closed.{Closed}
-use Rattle.lock_journal.specs.declared.entries.Kind.{Kind}
-use Rattle.lock_journal.specs.declared.entries.Kind.TheVariants.{Start, Skip, Submit, Park, Resume, Claim, Close, Block, Unblock, End, Acquire, HandBack}
-use Rattle.lock_journal.specs.Allowed.{Lawful}
+use Rattle.lock_transforms.specs.declared.entries.Closed.{Closed}
+use Rattle.lock_transforms.specs.declared.entries.Kind.{Kind}
+use Rattle.lock_transforms.specs.declared.entries.Kind.TheVariants.{Start, Skip, Submit, Park, Resume, Claim, Close, Block, Unblock, End, Acquire, HandBack}
+use Rattle.lock_transforms.specs.Allowed.{Lawful}
 use Rattle.lock_journal.specs.Closings.{outcome_in}
-use Rattle.lock_journal.specs.Entry.{Entry, entry, replay}
+use Rattle.lock_transforms.specs.Entry.{Entry, entry, replay}
 
 -- the only lock, and two workers
 abbrev pub lock_zero : LockId

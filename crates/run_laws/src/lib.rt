@@ -3,10 +3,10 @@
 
 ghost use Rattle.item_actions.specs.declared.outcomes.Outcome.{Outcome};
 ghost use Rattle.item_actions.specs.declared.outcomes.Outcome.TheVariants.{NotThere, Number, Skipped as NotRun};
-ghost use Rattle.lock_journal.specs.Allowed.{Allowed, Lawful};
+ghost use Rattle.lock_transforms.specs.Allowed.{Allowed, Lawful};
 ghost use Rattle.lock_journal.specs.Closings.{closing_of, closings, last_or, outcome_in, where_finished};
-ghost use Rattle.lock_journal.specs.Entry.{Entry, effect, replay};
-ghost use Rattle.lock_journal.specs.Table.{has_passed, owned, skipped_waiting};
+ghost use Rattle.lock_transforms.specs.Entry.{Entry, effect, replay};
+ghost use Rattle.lock_transforms.specs.Table.{has_passed, owned, skipped_waiting};
 ghost use Rattle.resource_lock.specs.Change.{can_all, holding_after, make_all, NamesOnly};
 ghost use Rattle.resource_lock.specs.Fits.{Fits};
 ghost use Rattle.resource_lock.specs.Good.{Good};

@@ -11,7 +11,7 @@ use Rattle.resource_lock.specs.declared.ids.WorkerId.{WorkerId}
 use Rattle.resource_lock.specs.declared.marks.MarkId.TheVariants.{Unit as UnitOf}
 use Rattle.ready_work.specs.Choices.{CanSkip, CanStart, IsQueued}
 use Rattle.ready_work.specs.Lowest.{IsNone}
-use Rattle.lock_journal.specs.Table.{has_ended}
+use Rattle.lock_transforms.specs.Table.{has_ended}
 use Rattle.run_laws.specs.Marks.{IsEnded}
 use Rattle.worker_choices.specs.declared.awaited.Awaited.{Awaited}
 use Rattle.worker_choices.specs.declared.awaited.Awaited.TheVariants.{Work, Items}

@@ -2,8 +2,8 @@
 use Rattle.std.specs.Prelude.{◌-◌, Bool, false, List, length, Option, None, Some, slice_get}
 use Rattle.std.specs.List.{list_any}
 use Rattle.resource_lock.specs.declared.changes.Change.{Change}
-use Rattle.lock_journal.specs.Entry.{Entry}
-use Rattle.lock_journal.specs.Waiting.{lets_go_on}
+use Rattle.lock_transforms.specs.Entry.{Entry}
+use Rattle.lock_transforms.specs.Waiting.{lets_go_on}
 
 -- one of the changes does so; a failed entry has none
 abbrev pub any_lets_go_on : Option (List Change) → Bool

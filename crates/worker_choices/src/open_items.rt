@@ -3,7 +3,7 @@ ghost use Rattle.std.specs.Prelude.{◌≡◌};
 ghost use Rattle.worker_choices.specs.Ready.{first_open};
 
 use lock_journal::Book;
-use lock_journal::kinds::action_of;
+use lock_transforms::kinds::action_of;
 
 /// The first item of an action that hasn't ended. An action that the graph doesn't have has no items.
 pub fn first_open(book: &Book, action: u32) -> Option<u32>

@@ -10,7 +10,7 @@ ghost use Rattle.worker_choices.specs.Ready.{CanBegin, CanClaim, CanGoOn, can_ta
 
 use crate::open_items::first_open;
 use lock_journal::Book;
-use lock_journal::kinds::action_of;
+use lock_transforms::kinds::action_of;
 use resource_lock::{Retention, WorkerId};
 
 /// Whether the worker has a lease or could take one.

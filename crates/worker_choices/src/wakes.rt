@@ -1,7 +1,7 @@
 //! Which entries can let another worker go on.
 ghost use Rattle.std.specs.Prelude.{◌≡◌};
 ghost use Rattle.std.specs.List.{list_any};
-ghost use Rattle.lock_journal.specs.Waiting.{lets_go_on};
+ghost use Rattle.lock_transforms.specs.Waiting.{lets_go_on};
 ghost use Rattle.worker_choices.specs.Wakes.{last_lets_go_on};
 
 use lock_journal::Book;

@@ -1,14 +1,12 @@
 //! Children of a real folder.
 use super::ask_twice;
-use crate::asked::requirements;
+use crate::asked::{Asked, PLAIN};
 use crate::lines::check;
 use daemon_desk::FolderDesk;
-use daemon_requirements::Requirements;
 use item_actions::Text;
-use std::alloc::Global;
+use std::alloc::{AllocError, Global};
 use std::process::{Abort, Processes, SystemProcess};
-use std::test::Fail;
-use std::{fs, rt};
+use std::{fs, io, rt};
 use worker_desk::{DeskFail, Files, Read};
 
 // It replies from the file that its argument names, and from the one that a variable names. Then it keeps what comes until
@@ -16,7 +14,7 @@ use worker_desk::{DeskFail, Files, Read};
 const SCRIPT: &[u8] = b"cat \"$1\"\ncat \"$BYTES\"\ncat > daemon_desk_came\n";
 
 // What stands in each file at first.
-const FILES: [(&str, &[u8]); 3] = [
+static FILES: [(&str, &[u8]); 3] = [
     ("worker", SCRIPT),
     (
         "daemon_desk_lines",
@@ -32,100 +30,114 @@ const FILES: [(&str, &[u8]); 3] = [
 const CAME: &[u8] =
     b"\x01\0\0\0\x0c\0\0\0\0\x01\0\x05a.txt\x01\0\0\0\x0c\0\0\0\x01\x03\0\x05a.txt\x03\0\0\0\0";
 
-fn write_files(rt: &HostRuntime) -> Result<(), Fail> {
-    for (name, bytes) in FILES {
-        fs::write(rt, name, bytes)?;
+fn write_files(rt: &HostRuntime) -> io::Result<()> {
+    for (name, bytes) in &FILES {
+        fs::write(rt, *name, *bytes)?;
     }
     Ok(())
 }
 
-fn remove_files(rt: &HostRuntime) -> Result<(), Fail> {
-    for (name, _) in FILES {
-        fs::remove_file(rt, name)?;
+fn remove_files(rt: &HostRuntime) -> io::Result<()> {
+    for (name, _) in &FILES {
+        fs::remove_file(rt, *name)?;
     }
-    Ok(fs::remove_file(rt, "daemon_desk_came")?)
+    fs::remove_file(rt, "daemon_desk_came")
 }
 
-/// What two requests come to, and how many calls of the desk failed.
-fn add_answers<R: rt::Files + Processes<Started = SystemProcess> + Abort>(
-    rt: &R,
-    alloc: Global,
-    desk: &mut FolderDesk<&R>,
-    asked: &Requirements,
-    line: &mut String,
-) -> Result<(), Fail> {
-    ask_twice(rt, alloc, desk, asked, line)?;
-    Ok(write!(line, "{} failed", desk.count())?)
-}
-
-/// What a desk whose own program is `program` gets of a child for what is asked.
+/// What a desk whose own program is `program` gets of a child for what is asked, and how many of its calls failed.
 fn add_child<R: rt::Files + Processes<Started = SystemProcess> + Abort>(
     rt: &R,
     alloc: Global,
     program: &str,
-    asked: &str,
+    asked: &Asked,
     line: &mut String,
-) -> Result<(), Fail> {
-    let asked = requirements(alloc, asked)?;
+) -> Result<(), AllocError> {
     let program = Text::from_str(alloc, program)?;
     let mut desk = FolderDesk::new(rt, alloc, program);
-    add_answers(rt, alloc, &mut desk, &asked, line)
+    ask_twice(rt, alloc, &mut desk, asked, line)?;
+    write!(line, "{} failed", desk.count())
 }
 
-/// That this comes of a child.
+/// That this comes of a child. Whether a request can still be sent to a child that ended isn't known, so both steps have one
+/// name here.
 fn check_child<R: rt::Files + Processes<Started = SystemProcess> + Abort>(
     rt: &R,
     alloc: Global,
     program: &str,
-    asked: &str,
+    asked: &Asked,
     expected: &str,
-) -> Result<(), Fail> {
+) -> Result<(), AllocError> {
     let mut line = String::new(alloc);
     add_child(rt, alloc, program, asked, &mut line)?;
+    let line = line.as_str().replace(alloc, "send", "receive")?;
     check(rt, &line, expected);
     Ok(())
 }
 
 /// Whether each frame came once to the child that ended last.
-fn has_come(rt: &HostRuntime) -> Result<bool, Fail> {
+fn has_come(rt: &HostRuntime) -> io::Result<bool> {
     let came = fs::read(rt, "daemon_desk_came")?;
     Ok(came.as_slice() == CAME)
 }
 
-const NAMED: &str = "program=sh arg=daemon_desk_lines variable=BYTES:daemon_desk_bytes";
+const CHILD: Asked = Asked {
+    args: &["daemon_desk_lines"],
+    variables: &[("BYTES", "daemon_desk_bytes")],
+    ..PLAIN
+};
 
-const OWN: &str = "program=self arg=daemon_desk_lines variable=BYTES:daemon_desk_bytes";
+static OWN: Asked = CHILD;
+
+static NAMED: Asked = Asked {
+    program: "sh",
+    ..CHILD
+};
 
 #[test]
-fn a_child_gets_its_argument_its_variable_and_each_frame_once(rt: HostRuntime) -> Result<(), Fail> {
+fn a_child_gets_its_argument_its_variable_and_each_frame_once(rt: HostRuntime) -> io::Result<()> {
     write_files(&rt)?;
     check_child(
         &rt,
         rt.alloc(),
         "daemon_desk_none",
-        NAMED,
+        &NAMED,
         "3. 14. 0 failed",
     )?;
     assert!(rt; has_come(&rt)?);
-    check_child(&rt, rt.alloc(), "sh", OWN, "3. 14. 0 failed")?;
+    check_child(&rt, rt.alloc(), "sh", &OWN, "3. 14. 0 failed")?;
     remove_files(&rt)
 }
 
+static MISSING: Asked = Asked {
+    program: "daemon_desk_none",
+    ..PLAIN
+};
+
+static ENDS: Asked = Asked {
+    program: "true",
+    ..PLAIN
+};
+
 #[test]
-fn a_missing_program_and_a_child_that_ends_are_faults(rt: HostRuntime) -> Result<(), Fail> {
+fn a_missing_program_and_a_child_that_ends_are_faults(rt: HostRuntime) -> Result<(), AllocError> {
+    check_child(&rt, rt.alloc(), "sh", &MISSING, "start failed. 1 failed")?;
     check_child(
         &rt,
         rt.alloc(),
         "sh",
-        "program=daemon_desk_none",
-        "start failed. 1 failed",
-    )?;
-    let mut line = String::new(rt.alloc());
-    add_child(&rt, rt.alloc(), "sh", "program=true", &mut line)?;
-    // Whether a request can still be sent to a child that ended isn't known.
-    let faults = line.as_str().replace(rt.alloc(), "send", "receive")?;
-    check(&rt, &faults, "receive failed. receive failed. 2 failed");
-    Ok(())
+        &ENDS,
+        "receive failed. receive failed. 2 failed",
+    )
+}
+
+/// What came of a read.
+fn word(read: &Result<Read, DeskFail>) -> &'static str {
+    match read {
+        Ok(Read::NotThere) => "not there",
+        Ok(_) => "there",
+        Err(DeskFail::Failed) => "a fault",
+        Err(DeskFail::NoMemory) => "no memory",
+    }
 }
 
 /// What comes of reading a file of this name, and how many calls failed.
@@ -134,24 +146,24 @@ fn add_read<R: rt::Files>(
     desk: &mut FolderDesk<&R>,
     name: &str,
     line: &mut String,
-) -> Result<(), Fail> {
+) -> Result<(), AllocError> {
     let name = Text::from_str(alloc, name)?;
-    let read = match desk.read(alloc, &name, 10) {
-        Ok(Read::NotThere) => "not there",
-        Ok(_) => "there",
-        Err(DeskFail::Failed) => "a fault",
-        Err(DeskFail::NoMemory) => "no memory",
-    };
-    Ok(write!(line, "{read}, {} failed. ", desk.count())?)
+    let read = desk.read(alloc, &name, 10);
+    write!(line, "{}, {} failed. ", word(&read), desk.count())
+}
+
+/// What comes of reading a file that isn't there, and then the folder itself.
+fn add_reads<R: rt::Files>(rt: &R, alloc: Global, line: &mut String) -> Result<(), AllocError> {
+    let program = Text::from_str(alloc, "sh")?;
+    let mut desk = FolderDesk::new(rt, alloc, program);
+    add_read(alloc, &mut desk, "daemon_desk_none", line)?;
+    add_read(alloc, &mut desk, ".", line)
 }
 
 #[test]
-fn reads_of_the_folder_are_counted_where_they_fail(rt: HostRuntime) -> Result<(), Fail> {
+fn reads_of_the_folder_are_counted_where_they_fail(rt: HostRuntime) -> Result<(), AllocError> {
     let mut line = String::new(rt.alloc());
-    let program = Text::from_str(rt.alloc(), "sh")?;
-    let mut desk = FolderDesk::new(&rt, rt.alloc(), program);
-    add_read(rt.alloc(), &mut desk, "daemon_desk_none", &mut line)?;
-    add_read(rt.alloc(), &mut desk, ".", &mut line)?;
+    add_reads(&rt, rt.alloc(), &mut line)?;
     check(&rt, &line, "not there, 0 failed. a fault, 1 failed. ");
     Ok(())
 }

@@ -1,12 +1,12 @@
 ghost use Rattle.std.specs.Prelude.{◌≡◌, ◌≢◌, ◌≤◌, ◌<◌, ◌⊎◌, true, false, Some, None, OnErr, length, option_map};
 ghost use Rattle.lock_journal.specs.Admitting.{HasAdmitted, IsFullFor, IsRefused};
-ghost use Rattle.lock_journal.specs.Allowed.{Allowed, IsKindOf};
+ghost use Rattle.lock_transforms.specs.Allowed.{Allowed, IsKindOf};
 ghost use Rattle.lock_journal.specs.BookView.{SameBook};
-ghost use Rattle.lock_journal.specs.Entry.{entry};
+ghost use Rattle.lock_transforms.specs.Entry.{entry};
 
 use crate::books::Book;
-use crate::entries::Kind;
-use crate::kinds::admitting::is_kind_of;
+use lock_transforms::Kind;
+use lock_transforms::kinds::is_kind_of;
 use resource_lock::{Change, WorkerId};
 use std::alloc::AllocError;
 

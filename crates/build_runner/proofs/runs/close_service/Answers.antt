@@ -4,9 +4,9 @@ use Rattle.resource_lock.specs.AtRest.{IsAtRest}
 use Rattle.resource_lock.specs.Fits.{Fits}
 use Rattle.resource_lock.specs.Good.{Good}
 use Rattle.resource_lock.specs.GraphView.{GraphView}
-use Rattle.lock_journal.specs.Allowed.{Lawful}
+use Rattle.lock_transforms.specs.Allowed.{Lawful}
 use Rattle.lock_journal.specs.BookView.{BookView}
-use Rattle.lock_journal.specs.Entry.{Entry, replay}
+use Rattle.lock_transforms.specs.Entry.{Entry, replay}
 use Rattle.coordination.specs.Agrees.{Agrees}
 use Rattle.coordination.specs.Holds.{HoldsNothing}
 use Rattle.coordination.specs.declared.services.Opened.{Opened}
@@ -45,6 +45,7 @@ returns-clause-run c = λ known before after come.
       replays = replays;
       lawful = lawful;
       good = subst (λ (k : BookView). Good k.state) told c.state.ensures.good;
+      always_good = λ front later parts. c.lawful_histories_lead_to_good_states.ensures.good b.graph front (c.histories_go_on.ensures.front b.graph front later (subst (Lawful b.graph) parts lawful));
       rest = subst (λ (o : Opened). All (λ p. HoldsNothing p.sight) o.passes.items → IsAtRest b.state) out c.finish-book.ensures.rest (all_rest known units before after ps n b are agrees entries come);
       ended = subst HasEnded (sym replays) (every.ended b.graph b.history fits lawful ended);
       order = every.order b.graph b.history fits lawful ended;

@@ -1,6 +1,6 @@
 use Rattle.std.proofs.Common.{arith}
 use Rattle.history_text.specs.Results.{has_failed, is_skipped, task_marks}
-use Rattle.lock_journal.specs.Table.{has_passed}
+use Rattle.lock_transforms.specs.Table.{has_passed}
 use Rattle.history_text.proofs.Counting.{counted, count_below-le}
 use Rattle.history_text.proofs.summaries.count_tasks.Goals as goal
 

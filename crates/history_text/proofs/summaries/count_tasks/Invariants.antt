@@ -1,7 +1,7 @@
 use Rattle.std.proofs.Common.{◌≡◌}
 use Rattle.std.specs.List.{count_by}
 use Rattle.history_text.specs.Results.{below, has_failed, is_skipped, task_marks}
-use Rattle.lock_journal.specs.Table.{has_passed}
+use Rattle.lock_transforms.specs.Table.{has_passed}
 use Rattle.history_text.proofs.summaries.count_tasks.Given as goal
 
 abbrev pub invariant-loop-task : goal.invariant-loop-task

@@ -5,8 +5,8 @@ use Rattle.resource_lock.specs.StateView.{Holding, StateView, holding_of, owner_
 use Rattle.resource_lock.specs.Change.{holding_after, make_all}
 use Rattle.resource_lock.specs.declared.changes.Change.{Change}
 use Rattle.resource_lock.specs.declared.ids.WorkerId.{WorkerId}
-use Rattle.lock_journal.specs.Entry.{Entry, entry, replay}
-use Rattle.lock_journal.specs.declared.entries.Kind.TheVariants.{Start}
+use Rattle.lock_transforms.specs.Entry.{Entry, entry, replay}
+use Rattle.lock_transforms.specs.declared.entries.Kind.TheVariants.{Start}
 use Rattle.run_laws.specs.OwnChanges.{after_all}
 use Rattle.coordination.specs.declared.rule.Sight.{Sight}
 use Rattle.lock_tests.proofs.coordination_tests.try_start.Goals as goal

@@ -2,9 +2,9 @@ use Rattle.std.proofs.Common.{◌≡◌, ◌-◌, List, length, Option, None, So
 use Rattle.std.specs.Prelude.{slice_get}
 use Rattle.std.specs.List.{list_any}
 use Rattle.resource_lock.specs.declared.changes.Change.{Change}
-use Rattle.lock_journal.specs.Entry.{Entry}
+use Rattle.lock_transforms.specs.Entry.{Entry}
 use Rattle.lock_journal.specs.LastChanges.{last_changes, made_by, made_where_finished}
-use Rattle.lock_journal.specs.Waiting.{lets_go_on}
+use Rattle.lock_transforms.specs.Waiting.{lets_go_on}
 use Rattle.worker_choices.specs.Wakes.{any_lets_go_on, entry_lets_go_on, last_lets_go_on}
 use Rattle.worker_choices.proofs.wakes.last_lets_go_on.Goals as goal
 

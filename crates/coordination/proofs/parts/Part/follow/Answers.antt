@@ -1,7 +1,7 @@
 use Rattle.std.proofs.Common.{rules, List, [], Ok, sym, ◌∙◌, subst}
 use Rattle.resource_lock.specs.Change.{make_all}
 use Rattle.resource_lock.specs.declared.changes.Change.{Change}
-use Rattle.lock_journal.specs.declared.transforms.Disposition.TheVariants.{Finished, Failed}
+use Rattle.lock_transforms.specs.declared.transforms.Disposition.TheVariants.{Finished, Failed}
 use Rattle.coordination.specs.Parts.{Follows, LeadsOn}
 use Rattle.coordination.specs.declared.parts.Part.{Part}
 use Rattle.coordination.proofs.Entries.{changes_made, follows_at, leads_from, part_after, part_failed, room_after}

@@ -2,10 +2,10 @@ use Rattle.std.proofs.Common.{◌≡◌, List, [], ◌∷◌, ◌++◌, Some, re
 use Rattle.resource_lock.specs.GraphView.{GraphView}
 use Rattle.resource_lock.specs.StateView.{StateView}
 use Rattle.ready_work.specs.ReadyWork.{IsIndexOf}
-use Rattle.lock_journal.specs.Allowed.{Allowed}
+use Rattle.lock_transforms.specs.Allowed.{Allowed}
 use Rattle.lock_journal.specs.BookView.{BookView}
-use Rattle.lock_journal.specs.Entry.{Entry, entry, effect}
-use Rattle.lock_journal.specs.TentativeView.{TentativeView}
+use Rattle.lock_transforms.specs.Entry.{Entry, entry, effect}
+use Rattle.lock_transforms.specs.TentativeView.{TentativeView}
 use Rattle.lock_journal.proofs.Replays.{Extends, sound_extended}
 use Rattle.lock_journal.proofs.books.Book.add_where_allowed.Goals as goal
 

@@ -1,8 +1,8 @@
 use Rattle.std.proofs.Common.{◌≡◌, None, refl, sym, ◌∙◌, ap, subst, arith}
 use Rattle.resource_lock.specs.GraphView.{GraphView}
-use Rattle.lock_journal.specs.Allowed.{IsKindOf}
+use Rattle.lock_transforms.specs.Allowed.{IsKindOf}
 use Rattle.lock_journal.specs.BookView.{BookView}
-use Rattle.lock_journal.specs.Entry.{entry}
+use Rattle.lock_transforms.specs.Entry.{entry}
 use Rattle.lock_journal.proofs.Replays.{Extends, sound_extended}
 use Rattle.lock_journal.proofs.books.Book.admit_failed.Goals as goal
 

@@ -3,12 +3,12 @@ use Rattle.resource_lock.specs.GraphView.{GraphView}
 use Rattle.resource_lock.specs.StateView.{StateView}
 use Rattle.resource_lock.specs.declared.changes.Change.{Change}
 use Rattle.ready_work.specs.ReadyWork.{IsIndexOf}
-use Rattle.lock_journal.specs.declared.entries.Kind.{Kind}
-use Rattle.lock_journal.specs.declared.transforms.Disposition.TheVariants.{Finished}
-use Rattle.lock_journal.specs.Entry.{Entry, entry, effect}
-use Rattle.lock_journal.specs.Allowed.{Allowed}
+use Rattle.lock_transforms.specs.declared.entries.Kind.{Kind}
+use Rattle.lock_transforms.specs.declared.transforms.Disposition.TheVariants.{Finished}
+use Rattle.lock_transforms.specs.Entry.{Entry, entry, effect}
+use Rattle.lock_transforms.specs.Allowed.{Allowed}
 use Rattle.lock_journal.specs.Bounds.{IsFitKind}
-use Rattle.lock_journal.specs.TentativeView.{TentativeView}
+use Rattle.lock_transforms.specs.TentativeView.{TentativeView}
 use Rattle.lock_journal.specs.BookView.{BookView}
 use Rattle.lock_journal.proofs.Replays.{Extends, sound_extended}
 use Rattle.lock_journal.proofs.books.Book.run.Given.{Over}

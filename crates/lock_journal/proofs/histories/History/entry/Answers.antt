@@ -2,12 +2,12 @@ use Rattle.std.proofs.Common.{◌≡◌, ℕ, ◌<◌, ◌+◌, length, drop, Li
 use Rattle.std.specs.Prelude.{slice_get}
 use Rattle.std.specs.List.{slice_range, slice_index_or}
 use Rattle.resource_lock.specs.declared.changes.Change.{Change}
-use Rattle.lock_journal.specs.Entry.{entry}
+use Rattle.lock_transforms.specs.Entry.{entry}
 use Rattle.lock_journal.specs.StoredEntry.{IsNumberOf, end_before, kind_from}
 use Rattle.lock_journal.specs.History.{history_view, IsSound}
 use Rattle.lock_journal.specs.HistoryView.{HistoryView}
-use Rattle.lock_journal.specs.declared.entries.Closed.{Closed}
-use Rattle.lock_journal.specs.declared.entries.Kind.{Kind}
+use Rattle.lock_transforms.specs.declared.entries.Closed.{Closed}
+use Rattle.lock_transforms.specs.declared.entries.Kind.{Kind}
 use Rattle.lock_journal.specs.declared.stored_entries.StoredEntry.{StoredEntry}
 use Rattle.lock_journal.specs.declared.histories.History.TheInside.{Inside}
 use Rattle.lock_journal.proofs.Stored.{StandsAt, end_read, entry_at, read_at, shown_as, stands_at}

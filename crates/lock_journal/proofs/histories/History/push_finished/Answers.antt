@@ -5,9 +5,9 @@ use Rattle.std.specs.declared.vec.Vec.{Vec}
 use Rattle.std.proofs.lemmas.List.{with_items_is}
 use Rattle.lock_journal.specs.Closings.{closed_by, closing_of}
 use Rattle.lock_journal.specs.StoredEntry.{place_after}
-use Rattle.lock_journal.specs.Entry.{entry}
+use Rattle.lock_transforms.specs.Entry.{entry}
 use Rattle.lock_journal.specs.HistoryView.{HistoryView}
-use Rattle.lock_journal.specs.declared.entries.Closed.{Closed}
+use Rattle.lock_transforms.specs.declared.entries.Closed.{Closed}
 use Rattle.lock_journal.specs.declared.histories.TheConstants.{NOWHERE}
 use Rattle.lock_journal.specs.declared.stored_entries.StoredEntry.{StoredEntry}
 use Rattle.lock_journal.specs.declared.histories.History.TheInside.{Inside}

@@ -1,5 +1,5 @@
-use Rattle.lock_journal.proofs.Waits.{waits_disabled}
-use Rattle.lock_journal.specs.declared.entries.Kind.TheVariants.{Start}
+use Rattle.lock_transforms.proofs.Waits.{waits_disabled}
+use Rattle.lock_transforms.specs.declared.entries.Kind.TheVariants.{Start}
 use Rattle.lock_tests.proofs.coordination_tests.AwaitTransform.waits_for_news.Goals as goal
 
 pub returns : goal.returns

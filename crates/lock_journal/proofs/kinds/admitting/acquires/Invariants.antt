@@ -1,6 +1,0 @@
-use Rattle.std.proofs.Common.{◌≡◌, drop}
-use Rattle.lock_journal.specs.Table.{acquires}
-use Rattle.lock_journal.proofs.kinds.admitting.acquires.Given as goal
-
-abbrev pub invariant-loop-place : goal.invariant-loop-place
-invariant-loop-place l = acquires 0 l.leased l.changes ≡ acquires l.low l.leased (drop l.place l.changes)

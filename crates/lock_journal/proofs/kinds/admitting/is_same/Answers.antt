@@ -1,6 +1,0 @@
-use Rattle.std.proofs.lemmas.Bool.Decides.{Decides-at}
-use Rattle.lock_journal.proofs.SameChanges.{change_is}
-use Rattle.lock_journal.proofs.kinds.admitting.is_same.Goals as goal
-
-pub returns : goal.returns
-returns c = Decides-at _ _ c.eq.ensures (change_is c.args.made c.args.given)

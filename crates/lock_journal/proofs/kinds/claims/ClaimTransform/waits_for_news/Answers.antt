@@ -1,5 +1,0 @@
-use Rattle.lock_journal.proofs.Waits.{waits_queued}
-use Rattle.lock_journal.proofs.kinds.claims.ClaimTransform.waits_for_news.Goals as goal
-
-pub returns : goal.returns
-returns c = waits_queued c.args.self.now.unit

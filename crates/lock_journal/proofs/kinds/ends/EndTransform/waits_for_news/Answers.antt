@@ -1,6 +1,0 @@
-use Rattle.lock_journal.specs.declared.entries.Kind.TheVariants as kinds
-use Rattle.lock_journal.proofs.Waits.{waits_disabled}
-use Rattle.lock_journal.proofs.kinds.ends.EndTransform.waits_for_news.Goals as goal
-
-pub returns : goal.returns
-returns c = waits_disabled (kinds.End c.args.self.now.task) (λ g w s. ⊥)

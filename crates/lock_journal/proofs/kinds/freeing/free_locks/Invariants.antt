@@ -1,8 +1,0 @@
-use Rattle.std.proofs.Common.{true}
-use Rattle.lock_journal.specs.Making.{Makes}
-use Rattle.lock_journal.specs.Freeing.{freed}
-use Rattle.lock_journal.proofs.Freed.{owned_below}
-use Rattle.lock_journal.proofs.kinds.freeing.free_locks.Given as goal
-
-abbrev pub invariant-loop-lock : goal.invariant-loop-lock
-invariant-loop-lock l = Makes l.fn.work l.work (freed l.parks (owned_below l.fn.work.state l.fn.work.worker l.lock)) true

@@ -1,6 +1,0 @@
-use Rattle.lock_journal.specs.declared.entries.Kind.TheVariants as kinds
-use Rattle.lock_journal.proofs.Waits.{waits_disabled}
-use Rattle.lock_journal.proofs.kinds.parks.ParkTransform.waits_for_news.Goals as goal
-
-pub returns : goal.returns
-returns c = waits_disabled (kinds.Park c.args.self.now.action) (λ g w s. ⊥)

@@ -1,5 +1,0 @@
-use Rattle.std.proofs.Common.{inl}
-use Rattle.lock_journal.proofs.kinds.skips.SkipTransform.waits_for_news.Goals as goal
-
-pub returns : goal.returns
-returns c = λ g s v w change belongs good from own other named possible quiet out. inl out

@@ -1,0 +1,15 @@
+use lock_transforms::Kind;
+use resource_lock::{Change, WorkerId};
+
+/// An entry of a history. Its changes are borrowed from the book.
+#[derive(Clone, Copy)]
+pub struct Shown<'a> {
+    /// The worker that ran the transform.
+    pub worker: WorkerId,
+    /// What the entry is for.
+    pub kind: Kind,
+    /// Whether the transform failed. Then there are no changes.
+    pub failed: bool,
+    /// The changes that were made, in order.
+    pub changes: &'a [Change],
+}

@@ -1,0 +1,174 @@
+-- Lists of changes made one after another.
+use Rattle.std.proofs.Common.{◌≡◌, ℕ, zero, suc, ◌<◌, ◌≤◌, ◌+◌, ◌-◌, length, take, drop, get_or, List, [], ◌∷◌, ◌++◌, Bool, true, false, ◌&&◌, refl, sym, ◌∙◌, ap, subst, arith, zero-add, add-zero, inl, inr}
+use Rattle.std.proofs.lemmas.Bool.{and_from, and_left, and_right, false≢true, cases_Bool}
+use Rattle.std.specs.List.{range_with_len}
+use Rattle.std.proofs.lemmas.List.{append_assoc, append-nil, length-append, length_push, take_more, take-append-drop}
+use Rattle.resource_lock.proofs.Runs.{belongs_along, same_shape-make_all, named_along, make_all-append, can_all-append}
+use Rattle.resource_lock.specs.StateView.{StateView}
+use Rattle.resource_lock.specs.GraphView.{GraphView}
+use Rattle.resource_lock.specs.Shape.{SameShape, BelongsTo}
+use Rattle.resource_lock.specs.Change.{can, make_all, can_all, NamesOnly}
+use Rattle.resource_lock.specs.declared.ids.WorkerId.{WorkerId}
+use Rattle.resource_lock.specs.declared.changes.Change.{Change}
+use Rattle.lock_transforms.specs.TentativeView.{TentativeView, noted, Worked}
+use Rattle.lock_transforms.specs.Making.{MadeAll, Makes}
+use Rattle.lock_transforms.proofs.Steps.{leads_none, leads_more}
+
+-- one change that can be made
+pub makes_one : (t : TentativeView) (c : Change) → NamesOnly t.state c → can t.state t.worker c ≡ true → 0 < t.room → Makes t (noted t c) (c ∷ []) true
+makes_one t c named possible room =
+    let longer : length (t.made ++ c ∷ []) ≡ length t.made + 1 = length_push t.made c in
+    record {
+      graph = refl;
+      worker = refl;
+      room = omega arith;
+      few = omega arith;
+      leads = λ before l. leads_more before t c l named possible;
+      whole = λ e. record { made = refl; state = refl; possible = and_from (can t.state t.worker c) true possible refl };
+      stopped = λ e. absurd (false≢true (sym e));
+    }
+
+-- no change
+pub makes_none : (t : TentativeView) → Makes t t [] true
+makes_none t = record {
+  graph = refl;
+  worker = refl;
+  room = refl;
+  few = omega arith;
+  leads = λ before l. l;
+  whole = λ e. record { made = sym (append-nil t.made); state = refl; possible = refl };
+  stopped = λ e. absurd (false≢true (sym e));
+}
+
+-- one change that can't be made
+pub makes_not : (t : TentativeView) (c : Change) → can t.state t.worker c ≡ false → Makes t t (c ∷ []) false
+makes_not t c impossible = record {
+  graph = refl;
+  worker = refl;
+  room = refl;
+  few = omega arith;
+  leads = λ before l. l;
+  whole = λ e. absurd (false≢true e);
+  stopped = λ e. ap (λ b. b && true) impossible;
+}
+
+-- all are made exactly where each can be
+pub makes_answer : {a b : TentativeView} {cs : List Change} {all : Bool} → Makes a b cs all → all ≡ can_all a.state a.worker cs
+makes_answer {all = all} makes = elim (cases_Bool all) [
+  | inl whole ↦ whole ∙ sym (makes.whole whole).possible
+  | inr stopped ↦ stopped ∙ sym (makes.stopped stopped)
+]
+
+-- a list, and then another
+pub makes_then : {a b c : TentativeView} {cs ds : List Change} {all : Bool} → Makes a b cs true → Makes b c ds all → Makes a c (cs ++ ds) all
+makes_then {a} {b} {c} {cs} {ds} {all} first second =
+    let whole : MadeAll a b cs = first.whole refl in
+    let split : can_all a.state a.worker (cs ++ ds) ≡ (can_all a.state a.worker cs && can_all b.state b.worker ds) =
+    can_all-append a.state a.worker cs ds
+    ∙ ap (λ (s : StateView). can_all a.state a.worker cs && can_all s a.worker ds) (sym whole.state)
+    ∙ ap (λ (w : WorkerId). can_all a.state a.worker cs && can_all b.state w ds) (sym first.worker) in
+    let long : length (cs ++ ds) ≡ length cs + length ds = length-append cs ds in
+    record {
+      graph = second.graph ∙ first.graph;
+      worker = second.worker ∙ first.worker;
+      room = second.room ∙ first.room;
+      few = omega (arith, first.few, second.few);
+      leads = λ before l. second.leads before (first.leads before l);
+      whole = λ e. let rest : MadeAll b c ds = second.whole e in record {
+        made = rest.made ∙ ap (λ (made : List Change). made ++ ds) whole.made ∙ append_assoc a.made cs ds;
+        state = rest.state
+            ∙ ap (λ (w : WorkerId). make_all b.state w ds) first.worker
+            ∙ ap (λ (s : StateView). make_all s a.worker ds) whole.state
+            ∙ sym (make_all-append a.state a.worker cs ds);
+        possible = split ∙ and_from (can_all a.state a.worker cs) (can_all b.state b.worker ds) whole.possible rest.possible;
+      };
+      stopped = λ e. split ∙ and_right (can_all a.state a.worker cs) (can_all b.state b.worker ds) (second.stopped e);
+    }
+
+-- a list that can't be made, and what would come behind it
+pub makes_stopped : {a b : TentativeView} {cs : List Change} (ds : List Change) → Makes a b cs false → Makes a b (cs ++ ds) false
+makes_stopped {a} {b} {cs} ds first =
+    let long : length (cs ++ ds) ≡ length cs + length ds = length-append cs ds in
+    record {
+      graph = first.graph;
+      worker = first.worker;
+      room = first.room;
+      few = omega (arith, first.few);
+      leads = first.leads;
+      whole = λ e. absurd (false≢true e);
+      stopped = λ e. can_all-append a.state a.worker cs ds ∙ and_left (can_all a.state a.worker cs) (can_all (make_all a.state a.worker cs) a.worker ds) (first.stopped refl);
+    }
+
+-- the numbers of a state stay its numbers
+pub same_shape-makes : {a b : TentativeView} {cs : List Change} → Makes a b cs true → SameShape a.state b.state
+same_shape-makes {a} {b} {cs} made = subst (SameShape a.state) (sym (made.whole refl).state) (same_shape-make_all a.state a.worker cs)
+
+pub still_belongs : {a b : TentativeView} {cs : List Change} → Makes a b cs true → BelongsTo a.graph a.state → BelongsTo b.graph b.state
+still_belongs {a} {b} made belongs = subst (λ (g : GraphView). BelongsTo g b.state) (sym made.graph) (belongs_along a.graph a.state b.state (same_shape-makes made) belongs)
+
+pub still_named : {a b : TentativeView} {cs : List Change} (c : Change) → Makes a b cs true → NamesOnly a.state c → NamesOnly b.state c
+still_named {a} {b} c made named = named_along a.state b.state c (same_shape-makes made) named
+
+-- a list up to a place, and the change there
+pub makes_next : {a b c : TentativeView} {all : Bool} (cs : List Change) (i : ℕ) (d : Change) → i < length cs → Makes a b (take i cs) true → Makes b c (get_or cs i d ∷ []) all → Makes a c (take (i + 1) cs) all
+makes_next {a} {c = c} {all} cs i d within front next = subst (λ (l : List Change). Makes a c l all) (sym (take_more cs i d within)) (makes_then front next)
+
+pub makes_front : {a b : TentativeView} (cs : List Change) (i : ℕ) → Makes a b (take i cs) false → Makes a b cs false
+makes_front {a} {b} cs i front = subst (λ (l : List Change). Makes a b l false) (take-append-drop i cs) (makes_stopped (drop i cs) front)
+
+-- a list of changes for each of some numbers, in order
+abbrev pub Joins : (List ℕ → List Change) → Type 0
+Joins list = (xs ys : List ℕ) → list (xs ++ ys) ≡ list xs ++ list ys
+
+pub range_split : (first n m : ℕ) → range_with_len first (n + m) ≡ range_with_len first n ++ range_with_len (first + n) m
+range_split first zero m = ap (λ k. range_with_len first k) (zero-add m) ∙ ap (λ k. range_with_len k m) (sym (add-zero first))
+range_split first (suc n) m =
+    let longer : suc n + m ≡ suc (n + m) = omega arith in
+    let moved : first + 1 + n ≡ first + suc n = omega arith in
+    ap (range_with_len first) longer ∙ ap (λ l. first ∷ l) (range_split (first + 1) n m ∙ ap (λ k. range_with_len (first + 1) n ++ range_with_len k m) moved)
+
+-- the changes for the numbers from the first on, up to one, and those for it
+pub makes_more : {a b c : TentativeView} {all : Bool} (list : List ℕ → List Change) → Joins list → (first k : ℕ) → first ≤ k
+    → Makes a b (list (range_with_len first (k - first))) true → Makes b c (list (k ∷ [])) all → Makes a c (list (range_with_len first (k + 1 - first))) all
+makes_more {a} {c = c} {all} list joins first k from front next =
+    let longer : k + 1 - first ≡ k - first + 1 = omega arith in
+    let here : first + (k - first) ≡ k = omega arith in
+    let split : range_with_len first (k + 1 - first) ≡ range_with_len first (k - first) ++ k ∷ [] = ap (range_with_len first) longer ∙ range_split first (k - first) 1 ∙ ap (λ n. range_with_len first (k - first) ++ n ∷ []) here in
+    subst (λ (l : List Change). Makes a c l all) (sym (ap list split ∙ joins (range_with_len first (k - first)) (k ∷ []))) (makes_then front next)
+
+-- where the changes for some of the numbers can't be made, those for all can't
+pub makes_some : {a b : TentativeView} (list : List ℕ → List Change) → Joins list → (first some count : ℕ) → some ≤ count → Makes a b (list (range_with_len first some)) false → Makes a b (list (range_with_len first count)) false
+makes_some {a} {b} list joins first some count few front =
+    let rest : some + (count - some) ≡ count = omega arith in
+    let split : range_with_len first count ≡ range_with_len first some ++ range_with_len (first + some) (count - some) = ap (range_with_len first) (sym rest) ∙ range_split first some (count - some) in
+    subst (λ (l : List Change). Makes a b l false) (sym (ap list split ∙ joins (range_with_len first some) (range_with_len (first + some) (count - some)))) (makes_stopped (list (range_with_len (first + some) (count - some))) front)
+
+-- there is room for the changes for one more number
+pub makes_room : {a b : TentativeView} (list : List ℕ → List Change) → Joins list → (first k count : ℕ) → first ≤ k → k + 1 - first ≤ count
+    → Makes a b (list (range_with_len first (k - first))) true → length (list (range_with_len first count)) ≤ a.room → length (list (k ∷ [])) ≤ b.room
+makes_room {a} {b} list joins first k count from within front room =
+    let longer : k - first + 1 + (count - (k + 1 - first)) ≡ count = omega arith in
+    let here : first + (k - first) ≡ k = omega arith in
+    let split : range_with_len first count ≡ (range_with_len first (k - first) ++ k ∷ []) ++ range_with_len (first + (k - first + 1)) (count - (k + 1 - first)) =
+    ap (range_with_len first) (sym longer)
+    ∙ range_split first (k - first + 1) (count - (k + 1 - first))
+    ∙ ap (λ l. l ++ range_with_len (first + (k - first + 1)) (count - (k + 1 - first))) (range_split first (k - first) 1 ∙ ap (λ n. range_with_len first (k - first) ++ n ∷ []) here) in
+    let all : length (list (range_with_len first count)) ≡ length (list (range_with_len first (k - first))) + length (list (k ∷ [])) + length (list (range_with_len (first + (k - first + 1)) (count - (k + 1 - first)))) =
+    ap (λ l. length (list l)) split
+    ∙ ap length (joins (range_with_len first (k - first) ++ k ∷ []) (range_with_len (first + (k - first + 1)) (count - (k + 1 - first))))
+    ∙ length-append (list (range_with_len first (k - first) ++ k ∷ [])) (list (range_with_len (first + (k - first + 1)) (count - (k + 1 - first))))
+    ∙ ap (λ n. n + length (list (range_with_len (first + (k - first + 1)) (count - (k + 1 - first))))) (ap length (joins (range_with_len first (k - first)) (k ∷ [])) ∙ length-append (list (range_with_len first (k - first))) (list (k ∷ []))) in
+    omega (arith, front.room, front.few)
+
+-- what a transform leaves that made some of its changes
+pub worked_from : {old new : TentativeView} {cs : List Change} {all : Bool} → old.made ≡ [] → Makes old new cs all → Worked old new
+worked_from {old} {new} fresh makes = record {
+  graph = makes.graph;
+  worker = makes.worker;
+  room = omega (arith, makes.room, ap length fresh);
+  leads = makes.leads old.state (leads_none old fresh);
+}
+
+-- the changes of a transform that made all of a list
+pub made_is : {old new : TentativeView} {cs : List Change} → old.made ≡ [] → Makes old new cs true → new.made ≡ cs
+made_is {cs = cs} fresh makes = (makes.whole refl).made ∙ ap (λ (made : List Change). made ++ cs) fresh

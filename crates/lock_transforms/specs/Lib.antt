@@ -1,0 +1,10 @@
+pub mod Entry
+pub mod Table
+pub mod Allowed
+pub mod TentativeView
+pub mod Tentative
+pub mod Waiting
+pub mod Making
+pub mod Taking
+pub mod Freeing
+pub mod Admitting

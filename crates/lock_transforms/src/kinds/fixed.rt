@@ -1,0 +1,86 @@
+//! What the kinds share whose changes the graph, the state and the worker fix.
+ghost use Rattle.std.specs.Prelude.{◌≡◌, ◌≢◌, ◌<◌, ◌≤◌, ◌↔◌, ℕ, IsTrue, [], false, true, length, Some};
+ghost use Rattle.resource_lock.specs.Fits.{Fits};
+ghost use Rattle.resource_lock.specs.Shape.{BelongsTo};
+ghost use Rattle.lock_transforms.specs.Allowed.{Allowed, IsFixedList, IsKindOf, IsListOf};
+ghost use Rattle.lock_transforms.specs.TentativeView.{IsSoundTentative, Worked};
+ghost use Rattle.lock_transforms.specs.Entry.{entry};
+ghost use Rattle.lock_transforms.specs.Making.{Makes};
+ghost use Rattle.lock_transforms.specs.Table.{condition, list_of, is_enabled};
+ghost use Rattle.lock_transforms.specs.declared.entries.Kind.{Kind};
+ghost use Rattle.lock_transforms.specs.declared.entries.Kind.TheVariants as kinds;
+
+use crate::tentatives::Tentative;
+use resource_lock::{Graph, State, WorkerId};
+
+/// A kind of entry whose changes the graph, the state before and the worker fix.
+pub(crate) trait FixedKind {
+    ghost kind_of: { Self → Kind };
+
+    /// At most how many changes it makes.
+    ghost most: { Self → ℕ };
+
+    /// Whether its numbers are the graph's, and it carries no Skipped.
+    fn is_in_range(&self, graph: &Graph) -> bool
+        ensures in_range { IsTrue result ↔ IsKindOf graph.now (kind_of self.now) }
+        ensures fixed { kind_of self.now ≢ kinds.Acquire };
+
+    /// Whether its condition holds.
+    fn condition_holds(&self, graph: &Graph, state: &State, worker: WorkerId) -> bool
+        requires in_range { IsKindOf graph.now (kind_of self.now) }
+        requires fits { Fits graph.now }
+        requires belongs { BelongsTo graph.now state.now }
+        requires worker_in_range { worker.0 < graph.now.workers }
+        ensures { result ≡ condition graph.now state.now worker (kind_of self.now) };
+
+    /// Makes its changes, up to the first that can't be made, and answers whether all were.
+    fn make(&self, work: &mut Tentative) -> bool
+        requires in_range { IsKindOf work.old.graph (kind_of self.now) }
+        requires sound { IsSoundTentative work.old }
+        requires belongs { BelongsTo work.old.graph work.old.state }
+        requires room { most self.now ≤ work.old.room }
+        ensures made { Makes work.old work.new (list_of work.old.graph work.old.state work.old.worker (kind_of self.now)) result }
+        ensures few { length (list_of work.old.graph work.old.state work.old.worker (kind_of self.now)) ≤ most self.now }
+        ensures fixed { IsListOf work.old.graph work.old.state work.old.worker (kind_of self.now) (list_of work.old.graph work.old.state work.old.worker (kind_of self.now)) };
+}
+
+/// How far an entry came.
+#[derive(Clone, Copy)]
+pub(crate) enum Progress {
+    /// All its changes were made.
+    Made,
+    /// Its condition doesn't hold, or one of its changes can't be made.
+    NotEnabled,
+    /// A number is out of the graph's range, or it carries Skipped.
+    OutOfRange,
+}
+
+/// Makes the changes of an entry where its condition holds, up to the first that can't be made.
+pub(crate) fn run_fixed<K: FixedKind>(kind: &K, work: &mut Tentative) -> Progress
+    requires fresh { work.old.made ≡ [] }
+    requires room { K.most kind.now ≤ work.old.room }
+    ensures worked { Worked work.old work.new }
+    ensures few { length work.new.made ≤ K.most kind.now }
+    ensures made { result ≡ Progress.Made
+        → Allowed work.old.graph work.old.state (entry work.old.worker (K.kind_of kind.now) (Some work.new.made)) }
+    ensures list { result ≡ Progress.Made
+        → IsFixedList (K.kind_of kind.now) work.old.graph work.old.worker work.old.state work.new.made }
+    ensures enabled { result ≡ Progress.Made
+        → (is_enabled work.old.graph work.old.state work.old.worker (K.kind_of kind.now) ≡ true) × IsKindOf work.old.graph (K.kind_of kind.now) }
+    ensures sound { result ≡ Progress.NotEnabled → IsSoundTentative work.old }
+    ensures not_enabled { result ≡ Progress.NotEnabled
+        → (is_enabled work.old.graph work.old.state work.old.worker (K.kind_of kind.now) ≡ false) × IsKindOf work.old.graph (K.kind_of kind.now) }
+    ensures fixed { K.kind_of kind.now ≢ kinds.Acquire }
+    ensures out_of_range { result ≡ Progress.OutOfRange → ¬ IsKindOf work.old.graph (K.kind_of kind.now) }
+{
+    if !kind.is_in_range(work.graph()) {
+        return Progress::OutOfRange;
+    }
+    if !kind.condition_holds(work.graph(), work.state(), work.worker()) {
+        return Progress::NotEnabled;
+    }
+    if !kind.make(work) {
+        return Progress::NotEnabled;
+    }
+    Progress::Made
+}

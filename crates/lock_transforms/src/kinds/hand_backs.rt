@@ -1,0 +1,72 @@
+ghost use Rattle.std.specs.Prelude.{◌≡◌, false, ◌+◌};
+ghost use Rattle.resource_lock.specs.declared.limits.TheConstants.{MAX_LOCKS};
+ghost use Rattle.lock_transforms.specs.Allowed.{IsFixedList, IsUnmet};
+ghost use Rattle.lock_transforms.specs.Table.{condition};
+ghost use Rattle.lock_transforms.specs.declared.entries.Kind.TheVariants as kinds;
+
+use crate::entries::Kind;
+use crate::kinds::fixed::{FixedKind, Progress, run_fixed};
+use crate::kinds::freeing::free_locks;
+use crate::tentatives::Tentative;
+use crate::transforms::{Disposition, Transform};
+use resource_lock::{Graph, MAX_LOCKS, State, WorkerId};
+
+/// Gives back all locks that the worker owns, by rising number, and then its lease, where it has one.
+///
+/// It never fails. It asks to be run again where the worker has nothing to give back, where it is
+/// blocked, and where it runs anything.
+#[derive(Clone, Copy)]
+pub struct HandBack;
+
+impl Transform for HandBack {
+    ghost kind_of = { λ _. kinds.HandBack };
+
+    ghost most = { λ _. 1 + MAX_LOCKS };
+
+    ghost makes = { λ _. IsFixedList kinds.HandBack };
+
+    ghost fails_on = { λ t g w s. ⊥ };
+
+    ghost retries_on = { λ _. IsUnmet kinds.HandBack };
+
+    fn kind(&self) -> Kind {
+        Kind::HandBack
+    }
+
+    fn most_changes(&self) -> u64 {
+        1 + u64::from(MAX_LOCKS)
+    }
+
+    fn apply(&self, work: &mut Tentative) -> Disposition {
+        match run_fixed(self, work) {
+            Progress::Made => Disposition::Finished,
+            Progress::NotEnabled | Progress::OutOfRange => Disposition::Retry,
+        }
+    }
+
+    fn waits_for_news(&self) {}
+}
+
+impl FixedKind for HandBack {
+    ghost kind_of = { λ _. kinds.HandBack };
+
+    ghost most = { λ _. 1 + MAX_LOCKS };
+
+    fn is_in_range(&self, _graph: &Graph) -> bool {
+        true
+    }
+
+    fn condition_holds(&self, _graph: &Graph, state: &State, worker: WorkerId) -> bool {
+        !state.blocked(worker)
+            && !state.runs_any(worker)
+            && (state.owns_any(worker) || state.has_lease(worker))
+    }
+
+    fn make(&self, work: &mut Tentative) -> bool {
+        if !free_locks(work, false) {
+            return false;
+        }
+        work.give();
+        true
+    }
+}

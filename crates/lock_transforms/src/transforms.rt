@@ -1,0 +1,77 @@
+ghost use Rattle.std.specs.Prelude.{◌≡◌, ◌≢◌, ◌≤◌, ◌⊎◌, ℕ, List, [], length, Some};
+ghost use Rattle.resource_lock.specs.StateView.{StateView};
+ghost use Rattle.resource_lock.specs.GraphView.{GraphView};
+ghost use Rattle.resource_lock.specs.declared.changes.Change.{Change};
+ghost use Rattle.resource_lock.specs.declared.ids.WorkerId.{WorkerId};
+ghost use Rattle.lock_transforms.specs.declared.entries.Kind.{Kind};
+ghost use Rattle.lock_transforms.specs.TentativeView.{Worked};
+ghost use Rattle.lock_transforms.specs.Entry.{entry};
+ghost use Rattle.lock_transforms.specs.Allowed.{Allowed, IsKindOf};
+ghost use Rattle.lock_transforms.specs.Waiting.{WaitsForNews};
+
+use crate::entries::Kind;
+use crate::tentatives::Tentative;
+
+/// How a transform ended.
+#[derive(Clone, Copy)]
+pub enum Disposition {
+    /// Its changes stand, and its entry has them.
+    Finished,
+    /// Its changes were taken back, and its entry says that it failed.
+    Failed,
+    /// Its changes were taken back without an entry. It can be run again once the state has changed.
+    Retry,
+}
+
+/// Changes of one worker that are made together or not at all.
+pub trait Transform {
+    /// What its entries are for.
+    ghost kind_of: { Self → Kind };
+
+    /// At most how many changes it makes.
+    ghost most: { Self → ℕ };
+
+    /// Which changes it makes, where it finishes: a fact of the graph, the worker, the state before
+    /// and their list.
+    ghost makes: { Self → GraphView → WorkerId → StateView → List Change → Type 0 };
+
+    /// Where it may fail: a fact of the graph, the worker and the state before.
+    ghost fails_on: { Self → GraphView → WorkerId → StateView → Type 0 };
+
+    /// Where it may ask to be run again: a fact of the graph, the worker and the state before.
+    ghost retries_on: { Self → GraphView → WorkerId → StateView → Type 0 };
+
+    /// What its entries are for.
+    fn kind(&self) -> Kind
+        ensures { result ≡ kind_of self.now };
+
+    /// At most how many changes it makes.
+    fn most_changes(&self) -> u64
+        ensures { result ≡ most self.now };
+
+    /// Makes its changes. Those of a transform that doesn't finish are taken back by its caller.
+    fn apply(&self, work: &mut Tentative) -> Disposition
+        requires fresh { work.old.made ≡ [] }
+        requires room { most self.now ≤ work.old.room }
+        ensures worked { Worked work.old work.new }
+        ensures few { length work.new.made ≤ most self.now }
+        // Where it finishes, the entry of its kind and its changes is allowed in the state before.
+        ensures finished { result ≡ Disposition.Finished
+            → Allowed work.old.graph work.old.state (entry work.old.worker (kind_of self.now) (Some work.new.made)) }
+        ensures makes { result ≡ Disposition.Finished → makes self.now work.old.graph work.old.worker work.old.state work.new.made }
+        // It fails only where it says so, and where its failed entry is allowed.
+        ensures failed { result ≡ Disposition.Failed
+            → fails_on self.now work.old.graph work.old.worker work.old.state × IsKindOf work.old.graph (kind_of self.now) }
+        ensures retry { result ≡ Disposition.Retry → retries_on self.now work.old.graph work.old.worker work.old.state }
+        // It doesn't finish where it says that it may fail or ask to be run again.
+        ensures unfinished { fails_on self.now work.old.graph work.old.worker work.old.state
+            ⊎ retries_on self.now work.old.graph work.old.worker work.old.state → result ≢ Disposition.Finished };
+
+    /// Does nothing. Its contract is the law of what a transform may wait for.
+    ///
+    /// Only entries that give a lock or a lease back or queue or end a mark wake those that wait. So
+    /// where it asks to be run again, after any other change of another worker it would ask again, or
+    /// fail.
+    fn waits_for_news(&self)
+        ensures { WaitsForNews (retries_on self.now) (fails_on self.now) };
+}
