@@ -28,7 +28,7 @@ BELOW = [
     "ready_work",
     "lock_transforms",
     "lock_journal",
-    "run_laws",
+    "history_laws",
     "worker_choices",
     "coordination",
 ]

@@ -1,7 +1,7 @@
 #!/usr/bin/env python3
 """Compares the item actions with the system's tools, and counts their instructions.
 
-Makes its files, and builds three small programs over the crates item_actions and worker_desk, in a temporary folder. It
+Makes its files, and builds three small programs over the crates item_actions and file_access, in a temporary folder. It
 builds the first as the gate does, for x86-64-v2, and where this machine can run it also for x86-64-v3. On small files and
 on text and random bytes of 64 MiB it compares the answers with those of wc, grep and sha256sum. On the large ones it
 prints for each action the instructions a byte that callgrind counts, and the least time of three rounds beside the
@@ -24,7 +24,7 @@ import time
 
 import measure
 
-BELOW = ["item_actions", "worker_desk"]
+BELOW = ["item_actions", "file_access"]
 NEEDLE = "the"
 
 # The processor that the gate builds for.

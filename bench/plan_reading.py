@@ -31,7 +31,7 @@ CHAIN = 100_000
 TOO_MANY = "TooMany(Tasks, Place { part: Plan, number: 0 })\n"
 
 # The crates that the program stands on.
-BELOW = ["item_actions", "resource_lock", "task_ranks", "worker_desk", "daemon_requirements", "plan_table", "plan_reader"]
+BELOW = ["item_actions", "resource_lock", "task_ranks", "file_access", "daemon_requirements", "plan_table", "plan_reader"]
 
 
 def task_name(task: int) -> str:
@@ -117,7 +117,7 @@ def main() -> None:
         return
     with tempfile.TemporaryDirectory() as name:
         workshop = measure.Workshop(pathlib.Path(name), BELOW)
-        workshop.add("plan_probe", "item_actions", "worker_desk", "plan_reader", "anyhow")
+        workshop.add("plan_probe", "item_actions", "file_access", "plan_reader", "anyhow")
         measure_all(workshop.build("plan_probe"))
 
 

@@ -16,7 +16,7 @@ use Rattle.lock_transforms.specs.Allowed.{IsDisabled, IsFixedList}
 use Rattle.lock_journal.specs.BookView.{BookView}
 use Rattle.lock_transforms.specs.Table.{condition, is_enabled, mark_from}
 use Rattle.lock_transforms.specs.declared.entries.Kind.TheVariants.{Claim, Close}
-use Rattle.run_laws.specs.OwnChanges.{mark_before, with_if, without_if}
+use Rattle.history_laws.specs.OwnChanges.{mark_before, with_if, without_if}
 use Rattle.coordination.specs.Agrees.{Finds}
 use Rattle.coordination.specs.Calls.{HasFinished}
 use Rattle.coordination.specs.Shown.{claimed_shown, lease_shown}

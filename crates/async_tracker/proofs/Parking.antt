@@ -26,7 +26,7 @@ use Rattle.lock_transforms.specs.Allowed.{IsDisabled, IsFixedList}
 use Rattle.lock_journal.specs.BookView.{BookView}
 use Rattle.lock_transforms.specs.Table.{condition, is_enabled, moved_units, on_park, owned, works_on}
 use Rattle.lock_transforms.specs.declared.entries.Kind.TheVariants.{Submit, Park}
-use Rattle.run_laws.specs.OwnChanges.{after_all, claimed_after, locks_after, mark_before, with_if, with_member}
+use Rattle.history_laws.specs.OwnChanges.{after_all, claimed_after, locks_after, mark_before, with_if, with_member}
 use Rattle.coordination.specs.Agrees.{Finds}
 use Rattle.coordination.specs.Calls.{HasFinished}
 use Rattle.coordination.specs.Shown.{ShowsTheSame, claimed_shown, lease_shown, locks_shown, parked_shown}

@@ -29,18 +29,18 @@ use Rattle.lock_transforms.specs.Allowed.{Lawful}
 use Rattle.lock_transforms.specs.Table.{condition, has_ended, on_resume}
 use Rattle.lock_transforms.specs.Taking.{can_take_all}
 use Rattle.lock_transforms.specs.declared.entries.Kind.TheVariants.{Resume}
-use Rattle.run_laws.specs.Marks.{IsEnded}
-use Rattle.run_laws.specs.OwnChanges.{mark_before, with_if, without_if, without_member}
-use Rattle.run_laws.proofs.Growing.{marks_stay}
-use Rattle.run_laws.proofs.OwnChanges.{own_holding_all}
-use Rattle.coordination.specs.Agrees.{Finds, IsSound}
+use Rattle.history_laws.specs.Marks.{IsEnded}
+use Rattle.history_laws.specs.OwnChanges.{mark_before, with_if, without_if, without_member}
+use Rattle.history_laws.proofs.Growing.{marks_stay}
+use Rattle.history_laws.proofs.OwnChanges.{own_holding_all}
+use Rattle.coordination.specs.Agrees.{Finds, IsSoundBook}
 use Rattle.coordination.specs.Calls.{HasFinished, HasLooked, IsAnswered}
 use Rattle.coordination.specs.Shown.{blocked_shown, claimed_shown, lease_shown, locks_shown, parked_shown}
 use Rattle.coordination.specs.declared.rule.Sight.{Sight}
 use Rattle.coordination.proofs.Entries.{belongs_sound, good_sound}
 use Rattle.async_tracker.specs.ParkedView.{ParkedView}
 use Rattle.async_tracker.specs.Shows.{HasParkedLast, IsFree, IsParkedBy, ShowsResumed, lease_on_resume, locks_on_resume, parked_on_resume}
-use Rattle.worker_choices.specs.Ready.{first_open}
+use Rattle.worker_choices.specs.NextSteps.{first_open}
 use Rattle.async_tracker.specs.Waits.{CannotResume, CannotTakeAgain, IsFirstOpen}
 use Rattle.coordination.proofs.Shown.{Leaves, shows_left}
 use Rattle.async_tracker.proofs.Claims.{action_runs, unit_claimed}
@@ -71,7 +71,7 @@ all_on p q f [] h = refl
 all_on p q f (x ∷ xs) h = let parts = and_parts _ _ h in and_from _ _ (f x parts.0) (all_on p q f xs parts.1)
 
 -- a mark that has ended in what the pass saw is the same in every book that is found
-ended_found : (old : Sight) (book : BookView) (m : MarkId) → IsSound old.seen → Finds old.worker old.seen book → has_ended (mark_of old.seen.state m) ≡ true → has_ended (mark_of book.state m) ≡ true
+ended_found : (old : Sight) (book : BookView) (m : MarkId) → IsSoundBook old.seen → Finds old.worker old.seen book → has_ended (mark_of old.seen.state m) ≡ true → has_ended (mark_of book.state m) ≡ true
 ended_found old book m sound found h =
     let g : GraphView = old.seen.graph in
     let between : List Entry = found.agrees.between in
@@ -80,14 +80,14 @@ ended_found old book m sound found h =
     let ended : has_ended (mark_of (replay g old.seen.history) m) ≡ true = ap (λ (s : StateView). has_ended (mark_of s m)) (sym sound.replays) ∙ h in
     ap (λ (s : StateView). has_ended (mark_of s m)) now ∙ (ap has_ended (marks_stay g old.seen.history between m lawful (ended_is _ ended)) ∙ ended)
 
-pub none_open_found : (old : Sight) (book : BookView) (a : ℕ) → IsSound old.seen → Finds old.worker old.seen book → first_open old.seen.graph old.seen.state a ≡ None → first_open book.graph book.state a ≡ None
+pub none_open_found : (old : Sight) (book : BookView) (a : ℕ) → IsSoundBook old.seen → Finds old.worker old.seen book → first_open old.seen.graph old.seen.state a ≡ None → first_open book.graph book.state a ≡ None
 none_open_found old book a sound found none =
     let before : list_all (λ u. has_ended (mark_of old.seen.state (UnitOf u))) (items_of old.seen.graph a) ≡ true = sym (none_open _ (items_of old.seen.graph a)) ∙ ap is_none none in
     let after : list_all (λ u. has_ended (mark_of book.state (UnitOf u))) (items_of old.seen.graph a) ≡ true =
     all_on (λ u. has_ended (mark_of old.seen.state (UnitOf u))) (λ u. has_ended (mark_of book.state (UnitOf u))) (λ u h. ended_found old book (UnitOf u) sound found h) (items_of old.seen.graph a) before in
     subst (λ (g : GraphView). first_open g book.state a ≡ None) (sym found.agrees.graph) (none_from _ (none_open _ (items_of old.seen.graph a) ∙ after))
 
-pub looked_none : {old new : Sight} (a : ℕ) → IsSound old.seen → first_open old.seen.graph old.seen.state a ≡ None → HasLooked old new → IsAnswered (IsFirstOpen a) None old new
+pub looked_none : {old new : Sight} (a : ℕ) → IsSoundBook old.seen → first_open old.seen.graph old.seen.state a ≡ None → HasLooked old new → IsAnswered (IsFirstOpen a) None old new
 looked_none {old} a sound none looked = record { book = looked.book; found = looked.found; answer = sym (none_open_found old looked.book a sound looked.found none); sight = looked.sight }
 
 -- What is so of a parked worker in a state that it finds.
@@ -157,7 +157,7 @@ action_within s w a runs = elim (cases_lt a (length s.actions)) [
   | inr past ↦ let waiting : mark_of s (ActionOf a) ≡ Waiting = get_or_past s.actions a Waiting past in absurd (cc)
 ]
 
-pub cannot_resume : (old : Sight) (book : BookView) (p : ParkedView) → IsSound old.seen → Finds old.worker old.seen book → IsParkedBy old p → IsFree old → first_open old.seen.graph old.seen.state p.action ≡ None
+pub cannot_resume : (old : Sight) (book : BookView) (p : ParkedView) → IsSoundBook old.seen → Finds old.worker old.seen book → IsParkedBy old p → IsFree old → first_open old.seen.graph old.seen.state p.action ≡ None
     → IsDisabled (Resume p.action) book.graph old.worker book.state → CannotResume p.action book.graph old.worker book.state
 cannot_resume old book p sound found by free none disabled =
     let w : WorkerId = old.worker in

@@ -11,7 +11,7 @@ use Rattle.resource_lock.specs.declared.ids.LockId.{LockId}
 use Rattle.resource_lock.specs.declared.marks.MarkId.{MarkId}
 use Rattle.resource_lock.specs.declared.marks.MarkId.TheVariants.{Task as TaskOf, Action as ActionOf, Unit as UnitOf}
 use Rattle.lock_journal.specs.BookView.{BookView}
-use Rattle.run_laws.specs.OwnChanges.{lock_before, mark_before, with_member, without_member}
+use Rattle.history_laws.specs.OwnChanges.{lock_before, mark_before, with_member, without_member}
 use Rattle.coordination.specs.Agrees.{Agrees}
 use Rattle.coordination.specs.Shown.{Shows, blocked_shown, claimed_shown, lease_shown, locks_shown, parked_shown}
 use Rattle.coordination.specs.declared.rule.Sight.{Sight}
@@ -93,11 +93,13 @@ lease_on_resume _ = true
 
 -- without a lease, with the action claimed, and with the lock parked unless it is retained
 abbrev pub ShowsParked : Retention → LockId → ℕ → Sight → Sight → Type 0
-ShowsParked r l a old new = Shows (locks_on_park r l (locks_shown old)) false (with_member mark_before (ActionOf a) (claimed_shown old)) (parked_on_park r l (parked_shown old)) old new
+ShowsParked r l a old new = Shows (locks_on_park r l (locks_shown old)) false
+    (with_member mark_before (ActionOf a) (claimed_shown old)) (parked_on_park r l (parked_shown old)) old new
 
 -- without the action, and with the lock and the lease that the retention takes again
 abbrev pub ShowsResumed : Retention → LockId → ℕ → Sight → Sight → Type 0
-ShowsResumed r l a old new = Shows (locks_on_resume r l (locks_shown old)) (lease_on_resume r) (without_member mark_before (ActionOf a) (claimed_shown old)) (parked_on_resume r (parked_shown old)) old new
+ShowsResumed r l a old new = Shows (locks_on_resume r l (locks_shown old)) (lease_on_resume r)
+    (without_member mark_before (ActionOf a) (claimed_shown old)) (parked_on_resume r (parked_shown old)) old new
 
 -- the worker doesn't own the lock, unless it retains it, in any book that goes on by entries of others from what the pass has seen
 abbrev pub HasReleased : Retention → LockId → Sight → Type 0

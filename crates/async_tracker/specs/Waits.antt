@@ -15,7 +15,7 @@ use Rattle.resource_lock.specs.declared.marks.MarkId.TheVariants.{Action as Acti
 use Rattle.lock_journal.specs.BookView.{BookView}
 use Rattle.lock_transforms.specs.Table.{earlier_passed, fetch_closed}
 use Rattle.lock_transforms.specs.Taking.{can_take_all}
-use Rattle.worker_choices.specs.Ready.{first_open}
+use Rattle.worker_choices.specs.NextSteps.{first_open}
 
 -- no lease is free for a unit that is Queued
 abbrev pub NeedsLease : ℕ → GraphView → WorkerId → StateView → Type 0

@@ -57,12 +57,14 @@ pub fn park<R: Wait>(
     ensures service { pass.new.service ≡ pass.old.service }
     ensures action { IfOk result (λ parked. parked.action ≡ action) }
     ensures entry { OnOk result (HasFinished (kinds.Park action) (IsFixedList (kinds.Park action)) pass.old.sight pass.new.sight) }
-    ensures shows { OnOk result (ShowsParked (action_of pass.old.sight.seen.graph action).retention (lock_with pass.old.sight.seen.graph action) action pass.old.sight pass.new.sight) }
+    ensures shows { OnOk result (ShowsParked (action_of pass.old.sight.seen.graph action).retention
+        (lock_with pass.old.sight.seen.graph action) action pass.old.sight pass.new.sight) }
     ensures own { IfOk result (λ parked. IsParkedBy pass.new.sight parked) }
     // Where it runs no unit it can claim items.
     ensures free { OnOk result (list_any is_unit (claimed_shown pass.old.sight) ≡ false → IsFree pass.new.sight) }
     ensures waits { OnOk result (IsIdleOrParked pass.new.sight) }
-    ensures released { OnOk result (HasReleased (action_of pass.old.sight.seen.graph action).retention (lock_with pass.old.sight.seen.graph action) pass.new.sight) }
+    ensures released { OnOk result (HasReleased (action_of pass.old.sight.seen.graph action).retention
+        (lock_with pass.old.sight.seen.graph action) pass.new.sight) }
     ensures kept { OnErr result (ShowsTheSame pass.old.sight pass.new.sight) }
     ensures no_memory { result ≡ Err Halt.NoMemory → HasLooked pass.old.sight pass.new.sight }
     ensures stopped { (by : WorkerId) → result ≡ Err (Halt.Stopped by) → WasStopped (ActionIsNotQueued action) by pass.old.sight pass.new.sight }

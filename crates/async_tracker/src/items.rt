@@ -61,7 +61,8 @@ pub fn close<R: Wait>(
     requires lease { lease_shown pass.old.sight ≡ true }
     requires outcome { outcome ≢ outcomes.Skipped }
     ensures service { pass.new.service ≡ pass.old.service }
-    ensures entry { OnOk result (HasFinished (kinds.Close (record { unit = unit; outcome = outcome })) (IsFixedList (kinds.Close (record { unit = unit; outcome = outcome }))) pass.old.sight pass.new.sight) }
+    ensures entry { OnOk result (HasFinished (kinds.Close (record { unit = unit; outcome = outcome }))
+        (IsFixedList (kinds.Close (record { unit = unit; outcome = outcome }))) pass.old.sight pass.new.sight) }
     ensures shows { OnOk result (ShowsClosed unit pass.old.sight pass.new.sight) }
     ensures no_memory { OnErr result (HasLooked pass.old.sight pass.new.sight) }
     ensures kept { OnErr result (ShowsTheSame pass.old.sight pass.new.sight) }

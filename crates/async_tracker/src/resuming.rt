@@ -5,13 +5,13 @@ ghost use Rattle.resource_lock.specs.Ranges.{lock_with};
 ghost use Rattle.resource_lock.specs.declared.ids.WorkerId.{WorkerId};
 ghost use Rattle.lock_transforms.specs.Allowed.{IsFixedList};
 ghost use Rattle.lock_transforms.specs.declared.entries.Kind.TheVariants as kinds;
-ghost use Rattle.coordination.specs.Agrees.{IsSound};
+ghost use Rattle.coordination.specs.Agrees.{IsSoundBook};
 ghost use Rattle.coordination.specs.Calls.{HasFinished, IsAnswered, WasStopped};
 ghost use Rattle.coordination.specs.Shown.{ShowsTheSame};
 ghost use Rattle.async_tracker.specs.ParkedView.{ParkedView};
 ghost use Rattle.async_tracker.specs.Shows.{IsFree, IsParkedBy, ShowsResumed};
 ghost use Rattle.async_tracker.specs.Waits.{CannotResume, IsFirstOpen};
-ghost use Rattle.worker_choices.specs.Ready.{first_open};
+ghost use Rattle.worker_choices.specs.NextSteps.{first_open};
 
 use crate::open_items::FirstOpen;
 use crate::parked::Parked;
@@ -48,11 +48,15 @@ pub fn resume<R: Wait>(
     requires free { IsFree pass.old.sight }
     ensures service { pass.new.service ≡ pass.old.service }
     ensures entry { OnOk result (HasFinished (kinds.Resume parked.action) (IsFixedList (kinds.Resume parked.action)) pass.old.sight pass.new.sight) }
-    ensures shows { OnOk result (ShowsResumed (action_of pass.old.sight.seen.graph parked.action).retention (lock_with pass.old.sight.seen.graph parked.action) parked.action pass.old.sight pass.new.sight) }
+    ensures shows { OnOk result (ShowsResumed (action_of pass.old.sight.seen.graph parked.action).retention
+        (lock_with pass.old.sight.seen.graph parked.action) parked.action pass.old.sight pass.new.sight) }
     ensures kept { OnErr result (ShowsTheSame pass.old.sight pass.new.sight) }
-    ensures still_waiting { (p : ParkedView) (unit : ℕ) → result ≡ Err (Held.StillWaiting p unit) → (p ≡ parked) × IsAnswered (IsFirstOpen parked.action) (Some unit) pass.old.sight pass.new.sight }
-    ensures no_memory { (p : ParkedView) → result ≡ Err (Held.NoMemory p) → (p ≡ parked) × IsAnswered (IsFirstOpen parked.action) None pass.old.sight pass.new.sight }
-    ensures stopped { (p : ParkedView) (by : WorkerId) → result ≡ Err (Held.Stopped p by) → (p ≡ parked) × WasStopped (CannotResume parked.action) by pass.old.sight pass.new.sight }
+    ensures still_waiting { (p : ParkedView) (unit : ℕ) → result ≡ Err (Held.StillWaiting p unit) → (p ≡ parked)
+        × IsAnswered (IsFirstOpen parked.action) (Some unit) pass.old.sight pass.new.sight }
+    ensures no_memory { (p : ParkedView) → result ≡ Err (Held.NoMemory p) → (p ≡ parked)
+        × IsAnswered (IsFirstOpen parked.action) None pass.old.sight pass.new.sight }
+    ensures stopped { (p : ParkedView) (by : WorkerId) → result ≡ Err (Held.Stopped p by) → (p ≡ parked)
+        × WasStopped (CannotResume parked.action) by pass.old.sight pass.new.sight }
 {
     if let Some(unit) = ask_first_open(rt, service, pass, parked.action()) {
         return Err(Held::StillWaiting(parked, unit));
@@ -90,7 +94,7 @@ fn go_on<R: Wait>(
     parked: &Parked,
 ) -> Result<(), Halt>
     requires service { pass.old.service ≡ service.now.service }
-    requires sound { IsSound pass.old.sight.seen }
+    requires sound { IsSoundBook pass.old.sight.seen }
     requires own { IsParkedBy pass.old.sight parked.now }
     requires free { IsFree pass.old.sight }
     requires ended { first_open pass.old.sight.seen.graph pass.old.sight.seen.state parked.now.action ≡ None }

@@ -16,7 +16,7 @@ use Rattle.lock_transforms.specs.Allowed.{IsFixedList, IsUnmet}
 use Rattle.lock_journal.specs.BookView.{BookView}
 use Rattle.lock_transforms.specs.Table.{list_of, owned}
 use Rattle.lock_transforms.specs.declared.entries.Kind.TheVariants.{Block}
-use Rattle.run_laws.specs.OwnChanges.{after_all, claimed_after, locks_after, mark_before, with_if}
+use Rattle.history_laws.specs.OwnChanges.{after_all, claimed_after, locks_after, mark_before, with_if}
 use Rattle.coordination.specs.Agrees.{Finds}
 use Rattle.coordination.specs.Calls.{HasFinished}
 use Rattle.coordination.specs.Shown.{claimed_shown, lease_shown, locks_shown, parked_shown}

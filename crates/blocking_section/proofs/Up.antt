@@ -29,8 +29,8 @@ use Rattle.lock_transforms.specs.Table.{condition, is_enabled, list_of, mark_fro
 use Rattle.lock_transforms.specs.Taking.{can_take_all, rises}
 use Rattle.lock_transforms.specs.declared.entries.Closed.{Closed}
 use Rattle.lock_transforms.specs.declared.entries.Kind.TheVariants.{Unblock}
-use Rattle.run_laws.specs.OwnChanges.{after_all, claimed_after, lock_before, locks_after, with_member}
-use Rattle.run_laws.proofs.OwnChanges.{own_holding_all}
+use Rattle.history_laws.specs.OwnChanges.{after_all, claimed_after, lock_before, locks_after, with_member}
+use Rattle.history_laws.proofs.OwnChanges.{own_holding_all}
 use Rattle.blocking_section.proofs.After.{after_all-append}
 
 -- lists backwards

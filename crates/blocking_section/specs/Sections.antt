@@ -18,8 +18,8 @@ use Rattle.lock_transforms.specs.Table.{condition, earlier_passed}
 use Rattle.lock_transforms.specs.Taking.{can_take_all}
 use Rattle.lock_transforms.specs.declared.entries.Closed.{Closed}
 use Rattle.lock_transforms.specs.declared.entries.Kind.TheVariants.{Block}
-use Rattle.run_laws.specs.OwnChanges.{mark_before, with_member, without_member}
-use Rattle.coordination.specs.Agrees.{Agrees, IsSound}
+use Rattle.history_laws.specs.OwnChanges.{mark_before, with_member, without_member}
+use Rattle.coordination.specs.Agrees.{Agrees, IsSoundBook}
 use Rattle.coordination.specs.Shown.{blocked_shown, claimed_shown, lease_shown, locks_shown, parked_shown}
 use Rattle.coordination.specs.declared.rule.Sight.{Sight}
 use Rattle.blocking_section.specs.BlockedView.{BlockedView}
@@ -56,7 +56,7 @@ IsNotReady (Some u) g w s = (a : ℕ) × IsFetchOf g a u × (is_ready g s a u �
 -- In the book that the pass has seen last, a sound one of a graph that fits, the section could be entered.
 pub record CouldEnter (unit : Option ℕ) (s : Sight) : Type 0 where
   pub fits : Fits s.seen.graph
-  pub sound : IsSound s.seen
+  pub sound : IsSoundBook s.seen
   pub condition : condition s.seen.graph s.seen.state s.worker (Block unit) ≡ true
 
 -- the claimed marks with the unit, and without it, where there is one

@@ -39,7 +39,8 @@ pub fn enter<R: Wait>(
     ensures without { unit ≡ None → (by : WorkerId) → result ≢ Err (Halt.Stopped by) }
     ensures ready { CouldEnter unit pass.old.sight → (by : WorkerId) → result ≢ Err (Halt.Stopped by) }
     ensures no_memory { result ≡ Err Halt.NoMemory → HasLooked pass.old.sight pass.new.sight × ShowsTheSame pass.old.sight pass.new.sight }
-    ensures stopped { (by : WorkerId) → result ≡ Err (Halt.Stopped by) → WasStopped (IsNotReady unit) by pass.old.sight pass.new.sight × ShowsTheSame pass.old.sight pass.new.sight }
+    ensures stopped { (by : WorkerId) → result ≡ Err (Halt.Stopped by)
+        → WasStopped (IsNotReady unit) by pass.old.sight pass.new.sight × ShowsTheSame pass.old.sight pass.new.sight }
 {
     let blocked = Blocked {
         worker: pass.worker(),

@@ -42,12 +42,15 @@ pub fn leave<R: Wait>(
     requires outcome { FitsUnit blocked.unit outcome }
     ensures service { pass.new.service ≡ pass.old.service }
     ensures worker { pass.new.sight.worker ≡ pass.old.sight.worker }
-    ensures entry { OnOk result (HasFinished (kinds.Unblock (closed_with blocked.unit outcome)) (IsFixedList (kinds.Unblock (closed_with blocked.unit outcome))) pass.old.sight pass.new.sight) }
+    ensures entry { OnOk result (HasFinished (kinds.Unblock (closed_with blocked.unit outcome))
+        (IsFixedList (kinds.Unblock (closed_with blocked.unit outcome))) pass.old.sight pass.new.sight) }
     ensures shows { OnOk result (HasTakenUp blocked.unit pass.old.sight pass.new.sight) }
     // Where it has parked and taken nothing else since, the pass has its locks again.
     ensures locks { OnOk result (parked_shown pass.old.sight ≡ blocked.locks → locks_shown pass.old.sight ≡ [] → locks_shown pass.new.sight ≡ blocked.locks) }
-    ensures no_memory { (b : BlockedView) → result ≡ Err (StillBlocked.NoMemory b) → (b ≡ blocked) × HasLooked pass.old.sight pass.new.sight × ShowsTheSame pass.old.sight pass.new.sight }
-    ensures stopped { (b : BlockedView) (by : WorkerId) → result ≡ Err (StillBlocked.Stopped b by) → (b ≡ blocked) × WasStopped CanNotTakeUp by pass.old.sight pass.new.sight × ShowsTheSame pass.old.sight pass.new.sight }
+    ensures no_memory { (b : BlockedView) → result ≡ Err (StillBlocked.NoMemory b) → (b ≡ blocked)
+        × HasLooked pass.old.sight pass.new.sight × ShowsTheSame pass.old.sight pass.new.sight }
+    ensures stopped { (b : BlockedView) (by : WorkerId) → result ≡ Err (StillBlocked.Stopped b by) → (b ≡ blocked)
+        × WasStopped CanNotTakeUp by pass.old.sight pass.new.sight × ShowsTheSame pass.old.sight pass.new.sight }
 {
     let closed = closed_with(blocked.unit, outcome);
     match service.with_state_lock(rt, pass, &Unblock { closed }) {

@@ -14,7 +14,7 @@ use Rattle.coordination.specs.Calls.{IsAnswered}
 use Rattle.coordination.specs.declared.rule.Sight.{Sight}
 use Rattle.async_tracker.specs.Shows.{IsItemHere}
 use Rattle.ready_work.specs.Lowest.{IsLowest}
-use Rattle.worker_choices.specs.Ready.{CanClaim}
+use Rattle.worker_choices.specs.NextSteps.{CanClaim}
 
 -- a unit that can be claimed is an item
 pub claims_item : {A : Type 0} {answers : WorkerId → BookView → A → Type 0} {a : A} {old new : Sight} (u : ℕ)

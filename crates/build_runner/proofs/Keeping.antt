@@ -14,11 +14,12 @@ use Rattle.lock_journal.specs.BookView.{BookView}
 use Rattle.lock_transforms.specs.Entry.{Entry, entry}
 use Rattle.lock_transforms.specs.declared.entries.Closed.{Closed}
 use Rattle.lock_transforms.specs.declared.entries.Kind.{Kind}
-use Rattle.worker_desk.specs.SinkView.{Rises}
+use Rattle.file_access.specs.SinkView.{Rises}
 use Rattle.plan_reader.specs.Units.{PlannedUnit}
-use Rattle.run_laws.specs.Answers.{IsHonestWorker}
-use Rattle.run_laws.specs.ClosedBy.{closed_at, closed_by, closed_in, closed_of, faults_by, faults_in}
-use Rattle.run_laws.proofs.Growing.{closed_by-push}
+use Rattle.history_laws.specs.Answers.{IsHonestWorker}
+use Rattle.lock_journal.specs.Closings.{closed_of}
+use Rattle.history_laws.specs.ClosedBy.{closed_at, closed_by, closed_in, faults_by, faults_in}
+use Rattle.history_laws.proofs.Growing.{closed_by-push}
 use Rattle.coordination.specs.Agrees.{Finds}
 use Rattle.coordination.specs.Attempts.{Cause, Making}
 use Rattle.coordination.specs.Calls.{AskedInVain, HasFailed, HasFinished, HasLooked, HasStopped, IsAnswered, WasStopped}

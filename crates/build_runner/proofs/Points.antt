@@ -23,8 +23,8 @@ use Rattle.resource_lock.specs.declared.marks.MarkId.TheVariants.{Task as TaskOf
 use Rattle.lock_transforms.specs.Allowed.{IsFixedList}
 use Rattle.lock_transforms.specs.Table.{end_mark, units_passed, moved_units, skipped_action, skipped_actions, skipped_waiting}
 use Rattle.lock_transforms.specs.declared.entries.Kind.TheVariants.{Start, Skip, End}
-use Rattle.run_laws.proofs.Fitting.{apart_of}
-use Rattle.run_laws.specs.OwnChanges.{after_all, claimed_after, lock_before, locks_after, mark_before, with_if, with_member, without_member}
+use Rattle.history_laws.proofs.Fitting.{apart_of}
+use Rattle.history_laws.specs.OwnChanges.{after_all, claimed_after, lock_before, locks_after, mark_before, with_if, with_member, without_member}
 use Rattle.coordination.specs.Calls.{HasFailed, HasFinished}
 use Rattle.coordination.specs.Attempts.{Cause}
 use Rattle.coordination.specs.Holds.{HoldsNothing}

@@ -6,7 +6,7 @@ use Rattle.resource_lock.specs.GraphView.{GraphView, GraphTaskView, no_task}
 use Rattle.plan_reader.specs.PlanView.{PlanTaskView, PlanView}
 use Rattle.plan_reader.specs.Graph.{graph_of, tasks_from}
 use Rattle.plan_reader.specs.IsPlan.{IsPlan, dependencies}
-use Rattle.run_laws.specs.Outcomes.{AreRanks}
+use Rattle.history_laws.specs.Outcomes.{AreRanks}
 use Rattle.task_ranks.specs.Rank.{Dependencies, InRange, IsFirstCycle, after}
 use Rattle.task_ranks.specs.Numbering.{IsNumbering}
 

@@ -8,7 +8,7 @@ use Rattle.lock_transforms.specs.declared.entries.Closed.{Closed}
 use Rattle.resource_lock.specs.declared.ids.WorkerId.{WorkerId}
 use Rattle.daemon_items.specs.Requests.{SentView}
 use Rattle.plan_reader.specs.Units.{PlannedUnit}
-use Rattle.run_laws.specs.ClosedBy.{closed_by}
+use Rattle.history_laws.specs.ClosedBy.{closed_by}
 use Rattle.coordination.specs.Passes.{PassView}
 use Rattle.coordination.specs.declared.rule.Sight.{Sight}
 use Rattle.build_runner.specs.Sent.{AreSentFor, HasSent}

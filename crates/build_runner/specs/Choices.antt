@@ -3,13 +3,13 @@ use Rattle.std.specs.Prelude.{◌<◌, All, length}
 use Rattle.resource_lock.specs.GraphView.{GraphView}
 use Rattle.resource_lock.specs.StateView.{StateView}
 use Rattle.resource_lock.specs.declared.ids.WorkerId.{WorkerId}
-use Rattle.coordination.specs.Agrees.{IsSound}
+use Rattle.coordination.specs.Agrees.{IsSoundBook}
 use Rattle.coordination.specs.declared.rule.Sight.{Sight}
 use Rattle.async_tracker.specs.Shows.{IsItemHere}
-use Rattle.run_laws.specs.Marks.{IsEnded}
+use Rattle.history_laws.specs.Marks.{IsEnded}
 use Rattle.ready_work.specs.Choices.{CanSkip}
 use Rattle.ready_work.specs.Lowest.{IsLowest, IsNone}
-use Rattle.worker_choices.specs.Ready.{CanBegin, CanClaim}
+use Rattle.worker_choices.specs.NextSteps.{CanBegin, CanClaim}
 use Rattle.build_runner.specs.declared.choices.Choice.{Choice}
 use Rattle.build_runner.specs.declared.choices.Choice.TheVariants.{Claim, Skip, Start, Finish}
 
@@ -26,4 +26,4 @@ abbrev pub IsThere : Sight → Choice → Type 0
 IsThere s (Claim u) = IsItemHere s.seen.graph u
 IsThere s (Skip t) = t < length s.seen.graph.tasks
 IsThere s (Start t) = t < length s.seen.graph.tasks
-IsThere s Finish = IsSound s.seen × All IsEnded s.seen.state.tasks
+IsThere s Finish = IsSoundBook s.seen × All IsEnded s.seen.state.tasks

@@ -3,8 +3,8 @@ use Rattle.std.specs.Prelude.{ℕ, ◌≡◌, ◌+◌, ◌-◌, ◌^◌, ◌<◌
 use Rattle.item_actions.specs.Files.{Folder}
 use Rattle.lock_transforms.specs.declared.entries.Closed.{Closed}
 use Rattle.plan_reader.specs.Units.{PlannedUnit}
-use Rattle.run_laws.specs.Answers.{IsHonestWorker}
-use Rattle.run_laws.specs.ClosedBy.{closed_by, faults_by}
+use Rattle.history_laws.specs.Answers.{IsHonestWorker}
+use Rattle.history_laws.specs.ClosedBy.{closed_by, faults_by}
 use Rattle.coordination.specs.declared.rule.Sight.{Sight}
 use Rattle.build_runner.specs.Units.{given}
 
@@ -22,4 +22,5 @@ pub record Keeps (known : Option Folder) (units : List PlannedUnit) (before afte
   pub graph : new.seen.graph ≡ old.seen.graph
   pub count : before ≤ after
   pub faults : after < 2 ^ 64 - 1 → faults_by old.worker new.seen.history + before ≤ faults_by old.worker old.seen.history + after
-  pub honest : IfSome known (λ files. IsHonestWorker (given units files) old.seen.history old.worker → IsHonestWorker (given units files) new.seen.history old.worker)
+  pub honest : IfSome known (λ files. IsHonestWorker (given units files) old.seen.history old.worker
+      → IsHonestWorker (given units files) new.seen.history old.worker)

@@ -9,9 +9,9 @@ use Rattle.resource_lock.specs.declared.ids.WorkerId.{WorkerId}
 use Rattle.resource_lock.specs.declared.marks.Mark.TheVariants.{Failed}
 use Rattle.resource_lock.specs.declared.marks.MarkId.TheVariants.{Unit as UnitOf}
 use Rattle.ready_work.specs.Lowest.{IsLowest}
-use Rattle.worker_choices.specs.Ready.{CanClaim, CanGoOn}
-use Rattle.build_runner.specs.declared.waiting.ParkedChoice.{ParkedChoice}
-use Rattle.build_runner.specs.declared.waiting.ParkedChoice.TheVariants.{Resume, Claim}
+use Rattle.worker_choices.specs.NextSteps.{CanClaim, CanGoOn}
+use Rattle.build_runner.specs.declared.parked.ParkedChoice.{ParkedChoice}
+use Rattle.build_runner.specs.declared.parked.ParkedChoice.TheVariants.{Resume, Claim}
 
 -- a unit of the action has failed
 abbrev pub has_failed : GraphView → StateView → ℕ → Bool

@@ -3,8 +3,8 @@ use Rattle.std.specs.Prelude.{ℕ, ◌≡◌, ◌⊎◌, true, false, [], ◌∷
 use Rattle.resource_lock.specs.GraphView.{GraphView, task_of}
 use Rattle.resource_lock.specs.Ranges.{IsFetchOf, task_with}
 use Rattle.resource_lock.specs.declared.marks.MarkId.TheVariants.{Task as TaskOf}
-use Rattle.run_laws.specs.Marks.{IsEnded}
-use Rattle.coordination.specs.Agrees.{IsSound}
+use Rattle.history_laws.specs.Marks.{IsEnded}
+use Rattle.coordination.specs.Agrees.{IsSoundBook}
 use Rattle.coordination.specs.Holds.{HoldsNothing}
 use Rattle.coordination.specs.Shown.{blocked_shown, claimed_shown, lease_shown, locks_shown, parked_shown}
 use Rattle.coordination.specs.declared.rule.Sight.{Sight}
@@ -42,6 +42,6 @@ pub record CanHelp (s : Sight) : Type 0 where
 
 -- The worker saw all tasks ended, and has nothing.
 pub record HasFinishedWork (s : Sight) : Type 0 where
-  pub sound : IsSound s.seen
+  pub sound : IsSoundBook s.seen
   pub ended : All IsEnded s.seen.state.tasks
   pub rests : HoldsNothing s

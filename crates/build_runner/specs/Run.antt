@@ -10,10 +10,10 @@ use Rattle.lock_journal.specs.BookView.{BookView}
 use Rattle.plan_reader.specs.PlanView.{PlanView}
 use Rattle.plan_reader.specs.Units.{unit_value}
 use Rattle.plan_reader.specs.Graph.{graph_of}
-use Rattle.run_laws.specs.Answers.{answers}
-use Rattle.run_laws.specs.ClosedBy.{faults_by}
-use Rattle.run_laws.specs.Marks.{HasEnded}
-use Rattle.run_laws.specs.Runs.{ComesTo, GivesClosedOutcomes, IsOrderly}
+use Rattle.history_laws.specs.Answers.{answers}
+use Rattle.history_laws.specs.ClosedBy.{faults_by}
+use Rattle.history_laws.specs.Marks.{HasEnded}
+use Rattle.history_laws.specs.Runs.{ComesTo, GivesClosedOutcomes, IsOrderly}
 use Rattle.build_runner.specs.declared.options.RunOptions.{RunOptions}
 
 -- how deep one follows `after`: no chain of tasks that come after one another is longer

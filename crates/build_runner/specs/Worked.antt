@@ -3,8 +3,8 @@ use Rattle.std.specs.Prelude.{ℕ, ◌≡◌, ◌+◌, ◌-◌, ◌^◌, ◌<◌
 use Rattle.item_actions.specs.Files.{Folder}
 use Rattle.plan_reader.specs.Units.{PlannedUnit}
 use Rattle.coordination.specs.Passes.{PassView}
-use Rattle.run_laws.specs.Answers.{IsHonestWorker}
-use Rattle.run_laws.specs.ClosedBy.{faults_by}
+use Rattle.history_laws.specs.Answers.{IsHonestWorker}
+use Rattle.history_laws.specs.ClosedBy.{faults_by}
 use Rattle.build_runner.specs.Kept.{Keeps}
 use Rattle.build_runner.specs.Points.{HasFinishedWork}
 use Rattle.build_runner.specs.Units.{given}

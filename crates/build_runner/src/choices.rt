@@ -1,6 +1,6 @@
 //! What an idle worker does next.
 ghost use Rattle.std.specs.Prelude.{Some};
-ghost use Rattle.worker_choices.specs.Ready.{HasNothingToDo};
+ghost use Rattle.worker_choices.specs.NextSteps.{HasNothingToDo};
 ghost use Rattle.worker_choices.specs.declared.awaited.Awaited.TheVariants as awaited;
 ghost use Rattle.build_runner.specs.Choices.{IsNext};
 

@@ -1,4 +1,4 @@
-//! The end of a run's worker daemons.
+//! The end of a run's daemons.
 ghost use Rattle.std.specs.Prelude.{◌≡◌, ◌≤◌, ℕ, [], drop, get_or, length};
 ghost use Rattle.daemon_manager.specs.Events.{NoneIdle, IsLegal};
 ghost use Rattle.build_runner.specs.Sent.{sent_view};

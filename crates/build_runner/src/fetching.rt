@@ -5,7 +5,7 @@ ghost use Rattle.item_actions.specs.declared.outcomes.Outcome.TheVariants as out
 ghost use Rattle.coordination.specs.Shown.{locks_shown, parked_shown};
 ghost use Rattle.blocking_section.specs.Sections.{HasSetDown, HasTakenUp, IsGivenBackBy};
 ghost use Rattle.plan_reader.specs.Units.{value_in};
-ghost use Rattle.worker_desk.specs.SinkView.{Rises};
+ghost use Rattle.file_access.specs.SinkView.{Rises};
 ghost use Rattle.build_runner.specs.Kept.{HasClosed, Keeps};
 ghost use Rattle.build_runner.specs.Points.{IsFetchIn, RunsTask};
 ghost use Rattle.build_runner.specs.Sent.{AreFetched, HasSent, sent_view};
@@ -121,7 +121,8 @@ pub(crate) fn fetch<R: Wait, D: Desk, G, L: Linked>(
     ensures service { pass.new.service ≡ pass.old.service }
     ensures files { D.files desk.new ≡ D.files desk.old }
     ensures keeps { Keeps (D.files desk.old) (map unit_view site.now.units.now) (D.faults desk.old) (D.faults desk.new) pass.old.sight pass.new.sight }
-    ensures sent { OnOk result (HasSent (map unit_view site.now.units.now) (sent_view D.sends D.sent desk.old) (sent_view D.sends D.sent desk.new) pass.old.sight pass.new.sight) }
+    ensures sent { OnOk result (HasSent (map unit_view site.now.units.now) (sent_view D.sends D.sent desk.old)
+        (sent_view D.sends D.sent desk.new) pass.old.sight pass.new.sight) }
     ensures runs { OnOk result (RunsTask task pass.new.sight) }
 {
     let blocked = enter_for(rt, site, pass, task, unit)?;

@@ -15,10 +15,10 @@ use crate::tasks::run_task;
 use coordination::{Halt, Pass};
 use daemon_desk::Desk;
 use daemon_requirements::Linked;
+use file_access::Gate;
+use history_laws::only_items_are_queued;
 use lock_transforms::kinds::Skip;
-use run_laws::only_items_are_queued;
 use std::sync::Wait;
-use worker_desk::Gate;
 
 /// Skips a task, unless it can't be skipped any more.
 fn skip<R: Wait, G, L: Linked>(
@@ -74,7 +74,8 @@ fn carry_out<R: Wait, D: Desk, G: Gate>(
     ensures service { pass.new.service ≡ pass.old.service }
     ensures files { D.files desk.new ≡ D.files desk.old }
     ensures keeps { Keeps (D.files desk.old) (map unit_view site.now.units.now) (D.faults desk.old) (D.faults desk.new) pass.old.sight pass.new.sight }
-    ensures sent { OnOk result (HasSent (map unit_view site.now.units.now) (sent_view D.sends D.sent desk.old) (sent_view D.sends D.sent desk.new) pass.old.sight pass.new.sight) }
+    ensures sent { OnOk result (HasSent (map unit_view site.now.units.now) (sent_view D.sends D.sent desk.old)
+        (sent_view D.sends D.sent desk.new) pass.old.sight pass.new.sight) }
     ensures rests { OnOk result (HoldsNothing pass.new.sight) }
 {
     match choice {
@@ -103,7 +104,8 @@ pub(crate) fn work_to_the_end<R: Wait, D: Desk, G: Gate>(
     ensures service { pass.new.service ≡ pass.old.service }
     ensures files { D.files desk.new ≡ D.files desk.old }
     ensures keeps { Keeps (D.files desk.old) (map unit_view site.now.units.now) (D.faults desk.old) (D.faults desk.new) pass.old.sight pass.new.sight }
-    ensures sent { OnOk result (HasSent (map unit_view site.now.units.now) (sent_view D.sends D.sent desk.old) (sent_view D.sends D.sent desk.new) pass.old.sight pass.new.sight) }
+    ensures sent { OnOk result (HasSent (map unit_view site.now.units.now) (sent_view D.sends D.sent desk.old)
+        (sent_view D.sends D.sent desk.new) pass.old.sight pass.new.sight) }
     ensures finished { OnOk result (HasFinishedWork pass.new.sight) }
 {
     for _ in rt.forever() {

@@ -6,7 +6,7 @@ ghost use Rattle.resource_lock.specs.declared.marks.MarkId.TheVariants as ids;
 ghost use Rattle.coordination.specs.Shown.{ShowsTheSame, claimed_shown, lease_shown};
 ghost use Rattle.async_tracker.specs.Shows.{IsItemHere, ShowsClaimed, ShowsClosed};
 ghost use Rattle.plan_reader.specs.Units.{value_in};
-ghost use Rattle.worker_desk.specs.SinkView.{Rises};
+ghost use Rattle.file_access.specs.SinkView.{Rises};
 ghost use Rattle.build_runner.specs.Kept.{HasClosed, Keeps};
 ghost use Rattle.build_runner.specs.Points.{CanHelp};
 ghost use Rattle.build_runner.specs.Sent.{HasSent, SentFor, SentForUnit, sent_view};
@@ -18,12 +18,12 @@ use async_tracker::{claim, close, closing_undoes_claiming};
 use coordination::{Halt, Pass};
 use daemon_desk::Desk;
 use daemon_requirements::Linked;
+use file_access::Gate;
 use item_actions::{ItemAction, Outcome};
 use lease_service::{Lease, current_lease};
 use lock_transforms::Closed;
 use std::sync::Wait;
 use work_queue::{run_item, work_in_thread};
-use worker_desk::Gate;
 
 /// What a unit gives.
 fn outcome_of<R: Wait, D: Desk, G>(
@@ -41,7 +41,8 @@ fn outcome_of<R: Wait, D: Desk, G>(
     ensures ran { result ≢ outcomes.Skipped }
     ensures fault { result ≡ outcomes.Fault → Rises (D.faults desk.old) (D.faults desk.new) }
     ensures honest { IfSome (D.files desk.old) (λ files. IsHonest result (value_in files (Some (unit_view work.entry)))) }
-    ensures sent { SentForUnit (Some (unit_view work.entry)) (record { unit = unit; outcome = result }) (sent_view D.sends D.sent desk.old) (sent_view D.sends D.sent desk.new) }
+    ensures sent { SentForUnit (Some (unit_view work.entry)) (record { unit = unit; outcome = result })
+        (sent_view D.sends D.sent desk.old) (sent_view D.sends D.sent desk.new) }
 {
     match work {
         UnitWork::Item(work) => run_item(rt, site.alloc, lease, desk, site.pool, unit, work),
@@ -66,7 +67,8 @@ fn run_claimed<R: Wait, D: Desk, G: Gate>(
     ensures ran { result ≢ outcomes.Skipped }
     ensures fault { result ≡ outcomes.Fault → Rises (D.faults desk.old) (D.faults desk.new) }
     ensures honest { IfSome (D.files desk.old) (λ files. IsHonest result (given (map unit_view site.now.units.now) files unit)) }
-    ensures sent { SentFor (map unit_view site.now.units.now) (record { unit = unit; outcome = result }) (sent_view D.sends D.sent desk.old) (sent_view D.sends D.sent desk.new) }
+    ensures sent { SentFor (map unit_view site.now.units.now) (record { unit = unit; outcome = result })
+        (sent_view D.sends D.sent desk.old) (sent_view D.sends D.sent desk.new) }
 {
     let Some(lease) = current_lease(pass) else {
         unreachable!()
@@ -133,7 +135,8 @@ fn run_and_close<R: Wait, D: Desk, G: Gate>(
     ensures service { pass.new.service ≡ pass.old.service }
     ensures files { D.files desk.new ≡ D.files desk.old }
     ensures keeps { Keeps (D.files desk.old) (map unit_view site.now.units.now) (D.faults desk.old) (D.faults desk.new) pass.old.sight pass.new.sight }
-    ensures sent { OnOk result (HasSent (map unit_view site.now.units.now) (sent_view D.sends D.sent desk.old) (sent_view D.sends D.sent desk.new) pass.old.sight pass.new.sight) }
+    ensures sent { OnOk result (HasSent (map unit_view site.now.units.now) (sent_view D.sends D.sent desk.old)
+        (sent_view D.sends D.sent desk.new) pass.old.sight pass.new.sight) }
     ensures shows { OnOk result (ShowsClosed unit pass.old.sight pass.new.sight) }
 {
     let outcome = run_claimed(rt, site, pass, desk, unit);
@@ -158,7 +161,8 @@ pub(crate) fn help<R: Wait, D: Desk, G: Gate>(
     ensures service { pass.new.service ≡ pass.old.service }
     ensures files { D.files desk.new ≡ D.files desk.old }
     ensures keeps { Keeps (D.files desk.old) (map unit_view site.now.units.now) (D.faults desk.old) (D.faults desk.new) pass.old.sight pass.new.sight }
-    ensures sent { OnOk result (HasSent (map unit_view site.now.units.now) (sent_view D.sends D.sent desk.old) (sent_view D.sends D.sent desk.new) pass.old.sight pass.new.sight) }
+    ensures sent { OnOk result (HasSent (map unit_view site.now.units.now) (sent_view D.sends D.sent desk.old)
+        (sent_view D.sends D.sent desk.new) pass.old.sight pass.new.sight) }
     ensures shows { OnOk result (ShowsTheSame pass.old.sight pass.new.sight) }
 {
     closing_undoes_claiming();

@@ -1,22 +1,22 @@
 //! Runs a plan on several threads: each worker has a pass and a desk, and all share one book and one
-//! pool of worker daemons.
+//! pool of daemons.
 #![tactic(auto)]
 
 mod choices;
 mod daemons;
+mod failed_units;
 mod fetching;
 mod idle;
 mod items;
 mod options;
+mod parked;
 mod prepared;
-mod ready;
 mod run_end;
 mod runs;
 mod site;
 mod tasks;
 mod team;
 mod units;
-mod waiting;
 
 pub use options::RunOptions;
 pub use run_end::RunEnd;

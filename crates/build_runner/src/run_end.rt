@@ -6,6 +6,6 @@ use lock_journal::Book;
 pub struct RunEnd {
     /// All that its workers did.
     pub book: Box<Book>,
-    /// All that happened to its worker daemons, in this order. None of them is idle any more.
+    /// All that happened to its daemons, in this order. None of them is idle any more.
     pub events: Vec<Event>,
 }

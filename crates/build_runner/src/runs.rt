@@ -7,7 +7,7 @@ ghost use Rattle.coordination.specs.Passes.{PassView};
 ghost use Rattle.coordination.specs.Sights.{workers_from};
 ghost use Rattle.plan_reader.specs.Graph.{graph_of};
 ghost use Rattle.plan_reader.specs.Units.{plan_units};
-ghost use Rattle.run_laws.specs.ClosedBy.{closed_by};
+ghost use Rattle.history_laws.specs.ClosedBy.{closed_by};
 ghost use Rattle.build_runner.specs.Run.{AreAlike, IsRunOf};
 ghost use Rattle.build_runner.specs.Sent.{AreFetched, AreSentFor, HasSent, sent_view};
 ghost use Rattle.build_runner.specs.Team.{CanWork};
@@ -24,18 +24,18 @@ use coordination::{Opened, Pass};
 use daemon_desk::Desk;
 use daemon_items::PoolLock;
 use daemon_manager::Pool;
-use lock_journal::Book;
-use plan_reader::Plan;
-use run_laws::{
+use file_access::Gate;
+use history_laws::{
     every_run_comes_to_its_plan, histories_go_on, honest_workers_give_the_answers,
     lawful_histories_lead_to_good_states,
 };
+use lock_journal::Book;
+use plan_reader::Plan;
 use std::alloc::{AllocError, Global};
 use std::mem;
 use std::sync::{Mutex, Wait};
 use std::thread::Threads;
 use task_ranks::ranks_give_a_numbering;
-use worker_desk::Gate;
 
 /// Takes the book out of the service for good.
 fn close_service(opened: Box<Opened>, plan: &Plan, options: &RunOptions) -> Box<Book>
@@ -43,9 +43,13 @@ fn close_service(opened: Box<Opened>, plan: &Plan, options: &RunOptions) -> Box<
     requires workers { map (λ p. p.sight.worker.0) opened.value.passes.items ≡ workers_from 0 options.now.workers }
     requires some { 1 ≤ options.now.workers }
     requires graph { opened.value.service.book.graph ≡ graph_of plan.now options.now.workers options.now.max_leases options.now.parallel }
-    ensures run { (known : Option Folder) (before after : ℕ → ℕ) → ((i : ℕ) (p : PassView) → i < options.now.workers → HasComeToTheEnd known (plan_units plan.now) (before i) (after i) (get_or opened.value.passes.items i p))
+    ensures run { (known : Option Folder) (before after : ℕ → ℕ)
+        → ((i : ℕ) (p : PassView) → i < options.now.workers
+        → HasComeToTheEnd known (plan_units plan.now) (before i) (after i) (get_or opened.value.passes.items i p))
         → IsRunOf plan.now options.now known before after result.value }
-    ensures closings { (i : ℕ) (p : PassView) → i < options.now.workers → closed_by (record { 0 = i }) result.value.history ≡ closed_by (get_or opened.value.passes.items i p).sight.worker (get_or opened.value.passes.items i p).sight.seen.history }
+    ensures closings { (i : ℕ) (p : PassView) → i < options.now.workers
+        → closed_by (record { 0 = i }) result.value.history ≡ closed_by (get_or opened.value.passes.items i p).sight.worker
+        (get_or opened.value.passes.items i p).sight.seen.history }
 {
     // Where each task has a rank, they can be numbered so that each stands behind those that it
     // comes after. What is said of the whole run follows from these laws of every lawful history.
@@ -73,7 +77,8 @@ fn run_team<R: Threads + Wait + Sync, D: Desk + Send + Drop, G: Gate + Sync>(
 ) -> bool
     requires same { vec_len passes.old ≡ vec_len desks.old }
     requires empty { (room.team.items ≡ []) × (room.passes.items ≡ []) × (room.desks.items ≡ []) }
-    requires room { (vec_len desks.old ≤ vec_capacity room.team) × (vec_len desks.old ≤ vec_capacity room.passes) × (vec_len desks.old ≤ vec_capacity room.desks) }
+    requires room { (vec_len desks.old ≤ vec_capacity room.team) × (vec_len desks.old ≤ vec_capacity room.passes)
+        × (vec_len desks.old ≤ vec_capacity room.desks) }
     requires units { site.now.graph.now.units ≡ length site.now.units.now }
     requires fetches { AreFetched site.now.graph.now (map unit_view site.now.units.now) }
     requires named { All (λ u. HasFileName (unit_view u)) site.now.units.now }
@@ -82,8 +87,14 @@ fn run_team<R: Threads + Wait + Sync, D: Desk + Send + Drop, G: Gate + Sync>(
     ensures desks { length desks.new.items ≡ vec_len desks.old }
     ensures capacity { vec_capacity desks.new ≡ vec_capacity room.desks }
     ensures files { (i : ℕ) (d : D) → D.files (get_or desks.new.items i d) ≡ D.files (get_or desks.old.items i d) }
-    ensures worked { (i : ℕ) (p : PassView) (d : D) → i < vec_len desks.old → HasWorked (D.files (get_or desks.old.items i d)) (map unit_view site.now.units.now) (D.faults (get_or desks.old.items i d)) (D.faults (get_or desks.new.items i d)) (get_or passes.old.items i p) (get_or passes.new.items i p) result }
-    ensures sent { (i : ℕ) (p : PassView) (d : D) → i < vec_len desks.old → result ≡ true → HasSent (map unit_view site.now.units.now) (sent_view D.sends D.sent (get_or desks.old.items i d)) (sent_view D.sends D.sent (get_or desks.new.items i d)) (get_or passes.old.items i p).sight (get_or passes.new.items i p).sight }
+    ensures worked { (i : ℕ) (p : PassView) (d : D) → i < vec_len desks.old
+        → HasWorked (D.files (get_or desks.old.items i d)) (map unit_view site.now.units.now)
+        (D.faults (get_or desks.old.items i d)) (D.faults (get_or desks.new.items i d)) (get_or passes.old.items i p)
+        (get_or passes.new.items i p) result }
+    ensures sent { (i : ℕ) (p : PassView) (d : D) → i < vec_len desks.old → result ≡ true
+        → HasSent (map unit_view site.now.units.now) (sent_view D.sends D.sent (get_or desks.old.items i d))
+        (sent_view D.sends D.sent (get_or desks.new.items i d)) (get_or passes.old.items i p).sight
+        (get_or passes.new.items i p).sight }
 {
     let Room {
         mut team,
@@ -132,8 +143,12 @@ fn run_book<R: Threads + Wait + Sync, D: Desk + Send + Drop, G: Gate + Sync>(
     ensures files { (i : ℕ) (d : D) → D.files (get_or desks.new.items i d) ≡ D.files (get_or desks.old.items i d) }
     ensures counts { (i : ℕ) (d : D) → D.faults (get_or desks.old.items i d) ≤ D.faults (get_or desks.new.items i d) }
     ensures rest { drop options.now.workers desks.new.items ≡ drop options.now.workers desks.old.items }
-    ensures run { (d : D) → IfOk result (λ book. IsRunOf plan.now options.now (D.files (get_or desks.old.items 0 d)) (λ i. D.faults (get_or desks.old.items i d)) (λ i. D.faults (get_or desks.new.items i d)) book.value) }
-    ensures requests { (i : ℕ) (d : D) → i < options.now.workers → IfOk result (λ book. AreSentFor (plan_units plan.now) (closed_by (record { 0 = i }) book.value.history) (sent_view D.sends D.sent (get_or desks.old.items i d)) (sent_view D.sends D.sent (get_or desks.new.items i d))) }
+    ensures run { (d : D) → IfOk result
+        (λ book. IsRunOf plan.now options.now (D.files (get_or desks.old.items 0 d)) (λ i. D.faults (get_or desks.old.items i d))
+        (λ i. D.faults (get_or desks.new.items i d)) book.value) }
+    ensures requests { (i : ℕ) (d : D) → i < options.now.workers
+        → IfOk result (λ book. AreSentFor (plan_units plan.now) (closed_by (record { 0 = i }) book.value.history)
+        (sent_view D.sends D.sent (get_or desks.old.items i d)) (sent_view D.sends D.sent (get_or desks.new.items i d))) }
 {
     let Prepared {
         graph,
@@ -160,7 +175,7 @@ fn run_book<R: Threads + Wait + Sync, D: Desk + Send + Drop, G: Gate + Sync>(
 }
 
 /// Runs a plan on as many threads as the options say: each worker has a pass and a desk of its own,
-/// worker i the desk with number i, and all share one book and one pool of worker daemons.
+/// worker i the desk with number i, and all share one book and one pool of daemons.
 ///
 /// The book that it gives has ended: no lock has an owner, each mark has ended, and each unit was
 /// skipped, or is closed with what its worker's desk gave: where its files are known, the value of the
@@ -195,8 +210,12 @@ pub fn run_plan<R: Threads + Wait + Sync, D: Desk + Send + Drop, G: Gate + Sync>
     ensures files { (i : ℕ) (d : D) → D.files (get_or desks.new.items i d) ≡ D.files (get_or desks.old.items i d) }
     ensures counts { (i : ℕ) (d : D) → D.faults (get_or desks.old.items i d) ≤ D.faults (get_or desks.new.items i d) }
     ensures rest { drop options.now.workers desks.new.items ≡ drop options.now.workers desks.old.items }
-    ensures run { (d : D) → IfOk result (λ end. IsRunOf plan.now options.now (D.files (get_or desks.old.items 0 d)) (λ i. D.faults (get_or desks.old.items i d)) (λ i. D.faults (get_or desks.new.items i d)) end.book.value) }
-    ensures requests { (i : ℕ) (d : D) → i < options.now.workers → IfOk result (λ end. AreSentFor (plan_units plan.now) (closed_by (record { 0 = i }) end.book.value.history) (sent_view D.sends D.sent (get_or desks.old.items i d)) (sent_view D.sends D.sent (get_or desks.new.items i d))) }
+    ensures run { (d : D) → IfOk result
+        (λ end. IsRunOf plan.now options.now (D.files (get_or desks.old.items 0 d)) (λ i. D.faults (get_or desks.old.items i d))
+        (λ i. D.faults (get_or desks.new.items i d)) end.book.value) }
+    ensures requests { (i : ℕ) (d : D) → i < options.now.workers
+        → IfOk result (λ end. AreSentFor (plan_units plan.now) (closed_by (record { 0 = i }) end.book.value.history)
+        (sent_view D.sends D.sent (get_or desks.old.items i d)) (sent_view D.sends D.sent (get_or desks.new.items i d))) }
     ensures legal { IfOk result (λ end. IsLegal end.events.items) }
     ensures none_idle { IfOk result (λ end. NoneIdle end.events.items) }
 {

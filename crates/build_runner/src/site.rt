@@ -14,7 +14,7 @@ pub(crate) struct Site<'a, G, L: Linked> {
     pub graph: &'a Graph,
     /// The units by their numbers.
     pub units: &'a [UnitWork<'a>],
-    /// The worker daemons.
+    /// The daemons.
     pub pool: &'a PoolLock<L>,
     /// What an item passes before it runs.
     pub gate: &'a G,

@@ -11,17 +11,17 @@ ghost use Rattle.build_runner.specs.Sent.{AreFetched, HasSent, sent_view};
 ghost use Rattle.build_runner.specs.Units.{HasFileName, unit_view};
 
 use crate::fetching::fetch;
+use crate::parked::wait_for_items;
 use crate::site::Site;
-use crate::waiting::wait_for_items;
 use async_tracker::{Parked, park, submit};
 use coordination::{Halt, Pass};
 use daemon_desk::Desk;
 use daemon_requirements::Linked;
+use file_access::Gate;
 use lock_transforms::kinds::{End, Start};
 use resource_lock::{Graph, GraphAction};
 use std::ops::Range;
 use std::sync::Wait;
-use worker_desk::Gate;
 
 /// Reads the file that an action fetches, if it has a fetch.
 fn fetch_first<R: Wait, D: Desk, G>(
@@ -42,7 +42,8 @@ fn fetch_first<R: Wait, D: Desk, G>(
     ensures service { pass.new.service ≡ pass.old.service }
     ensures files { D.files desk.new ≡ D.files desk.old }
     ensures keeps { Keeps (D.files desk.old) (map unit_view site.now.units.now) (D.faults desk.old) (D.faults desk.new) pass.old.sight pass.new.sight }
-    ensures sent { OnOk result (HasSent (map unit_view site.now.units.now) (sent_view D.sends D.sent desk.old) (sent_view D.sends D.sent desk.new) pass.old.sight pass.new.sight) }
+    ensures sent { OnOk result (HasSent (map unit_view site.now.units.now) (sent_view D.sends D.sent desk.old)
+        (sent_view D.sends D.sent desk.new) pass.old.sight pass.new.sight) }
     ensures runs { OnOk result (RunsTask task pass.new.sight) }
 {
     let found = action_of(site.graph, task, action);
@@ -85,7 +86,8 @@ fn queue_items<R: Wait, G, L: Linked>(
     ensures within { action < length site.now.graph.now.actions }
     ensures own { IfOk result (λ parked. IsParkedBy pass.new.sight parked) }
     ensures helps { OnOk result (CanHelp pass.new.sight) }
-    ensures shows { OnOk result (ShowsParked (action_of site.now.graph.now action).retention (lock_with site.now.graph.now action) action pass.old.sight pass.new.sight) }
+    ensures shows { OnOk result (ShowsParked (action_of site.now.graph.now action).retention
+        (lock_with site.now.graph.now action) action pass.old.sight pass.new.sight) }
 {
     let _ = action_of(site.graph, task, action);
     submit(rt, site.service, pass, action)?;
@@ -114,7 +116,8 @@ fn run_action<R: Wait, D: Desk, G: Gate>(
     ensures service { pass.new.service ≡ pass.old.service }
     ensures files { D.files desk.new ≡ D.files desk.old }
     ensures keeps { Keeps (D.files desk.old) (map unit_view site.now.units.now) (D.faults desk.old) (D.faults desk.new) pass.old.sight pass.new.sight }
-    ensures sent { OnOk result (HasSent (map unit_view site.now.units.now) (sent_view D.sends D.sent desk.old) (sent_view D.sends D.sent desk.new) pass.old.sight pass.new.sight) }
+    ensures sent { OnOk result (HasSent (map unit_view site.now.units.now) (sent_view D.sends D.sent desk.old)
+        (sent_view D.sends D.sent desk.new) pass.old.sight pass.new.sight) }
     ensures goes_on { result ≡ Ok true → RunsTask task pass.new.sight }
     ensures in_task { OnOk result (IsInTask task pass.new.sight) }
 {
@@ -142,7 +145,8 @@ fn run_actions<R: Wait, D: Desk, G: Gate>(
     ensures service { pass.new.service ≡ pass.old.service }
     ensures files { D.files desk.new ≡ D.files desk.old }
     ensures keeps { Keeps (D.files desk.old) (map unit_view site.now.units.now) (D.faults desk.old) (D.faults desk.new) pass.old.sight pass.new.sight }
-    ensures sent { OnOk result (HasSent (map unit_view site.now.units.now) (sent_view D.sends D.sent desk.old) (sent_view D.sends D.sent desk.new) pass.old.sight pass.new.sight) }
+    ensures sent { OnOk result (HasSent (map unit_view site.now.units.now) (sent_view D.sends D.sent desk.old)
+        (sent_view D.sends D.sent desk.new) pass.old.sight pass.new.sight) }
     ensures in_task { OnOk result (IsInTask task pass.new.sight) }
 {
     let Range { start, end } = actions_of(site.graph, task);
@@ -203,7 +207,8 @@ pub(crate) fn run_task<R: Wait, D: Desk, G: Gate>(
     ensures service { pass.new.service ≡ pass.old.service }
     ensures files { D.files desk.new ≡ D.files desk.old }
     ensures keeps { Keeps (D.files desk.old) (map unit_view site.now.units.now) (D.faults desk.old) (D.faults desk.new) pass.old.sight pass.new.sight }
-    ensures sent { OnOk result (HasSent (map unit_view site.now.units.now) (sent_view D.sends D.sent desk.old) (sent_view D.sends D.sent desk.new) pass.old.sight pass.new.sight) }
+    ensures sent { OnOk result (HasSent (map unit_view site.now.units.now) (sent_view D.sends D.sent desk.old)
+        (sent_view D.sends D.sent desk.new) pass.old.sight pass.new.sight) }
     ensures rests { OnOk result (HoldsNothing pass.new.sight) }
 {
     if !start(rt, site, pass, task)? {

@@ -9,10 +9,10 @@ use crate::idle::work_to_the_end;
 use crate::site::Site;
 use coordination::{Halt, Pass};
 use daemon_desk::Desk;
+use file_access::Gate;
 use std::sync::Wait;
 use std::thread;
 use std::thread::Threads;
-use worker_desk::Gate;
 
 /// A worker of a run.
 #[derive(Drop)]
@@ -32,8 +32,10 @@ impl<D: Desk> Worker<D> {
         requires fetches { AreFetched site.now.graph.now (map unit_view site.now.units.now) }
         requires named { All (λ u. HasFileName (unit_view u)) site.now.units.now }
         ensures files { D.files self.new.desk ≡ D.files self.old.desk }
-        ensures worked { HasWorked (D.files self.old.desk) (map unit_view site.now.units.now) (D.faults self.old.desk) (D.faults self.new.desk) self.old.pass self.new.pass self.new.ended }
-        ensures sent { self.new.ended ≡ true → HasSent (map unit_view site.now.units.now) (sent_view D.sends D.sent self.old.desk) (sent_view D.sends D.sent self.new.desk) self.old.pass.sight self.new.pass.sight }
+        ensures worked { HasWorked (D.files self.old.desk) (map unit_view site.now.units.now) (D.faults self.old.desk)
+            (D.faults self.new.desk) self.old.pass self.new.pass self.new.ended }
+        ensures sent { self.new.ended ≡ true → HasSent (map unit_view site.now.units.now) (sent_view D.sends D.sent self.old.desk)
+            (sent_view D.sends D.sent self.new.desk) self.old.pass.sight self.new.pass.sight }
     {
         match work_to_the_end(rt, site, &mut self.pass, &mut self.desk) {
             Ok(()) => self.ended = true,
@@ -79,8 +81,12 @@ pub(crate) fn work<R: Threads + Wait + Sync, D: Desk + Send + Drop, G: Gate + Sy
     requires ready { All (λ w. CanWork site.now.service.now site.now.graph.now w.pass) team.old }
     ensures len { length team.new ≡ length team.old }
     ensures files { (i : ℕ) (d : Worker D) → i < length team.old → D.files (get_or team.new i d).desk ≡ D.files (get_or team.old i d).desk }
-    ensures worked { (i : ℕ) (d : Worker D) → i < length team.old → HasWorked (D.files (get_or team.old i d).desk) (map unit_view site.now.units.now) (D.faults (get_or team.old i d).desk) (D.faults (get_or team.new i d).desk) (get_or team.old i d).pass (get_or team.new i d).pass (get_or team.new i d).ended }
-    ensures sent { (i : ℕ) (d : Worker D) → i < length team.old → (get_or team.new i d).ended ≡ true → HasSent (map unit_view site.now.units.now) (sent_view D.sends D.sent (get_or team.old i d).desk) (sent_view D.sends D.sent (get_or team.new i d).desk) (get_or team.old i d).pass.sight (get_or team.new i d).pass.sight }
+    ensures worked { (i : ℕ) (d : Worker D) → i < length team.old
+        → HasWorked (D.files (get_or team.old i d).desk) (map unit_view site.now.units.now) (D.faults (get_or team.old i d).desk)
+        (D.faults (get_or team.new i d).desk) (get_or team.old i d).pass (get_or team.new i d).pass (get_or team.new i d).ended }
+    ensures sent { (i : ℕ) (d : Worker D) → i < length team.old → (get_or team.new i d).ended ≡ true
+        → HasSent (map unit_view site.now.units.now) (sent_view D.sends D.sent (get_or team.old i d).desk)
+        (sent_view D.sends D.sent (get_or team.new i d).desk) (get_or team.old i d).pass.sight (get_or team.new i d).pass.sight }
 {
     let threads = team.len().max(1);
     thread::for_each_mut(
@@ -93,8 +99,11 @@ pub(crate) fn work<R: Threads + Wait + Sync, D: Desk + Send + Drop, G: Gate + Sy
             requires fetches { AreFetched site.now.graph.now (map unit_view site.now.units.now) }
             requires named { All (λ u. HasFileName (unit_view u)) site.now.units.now }
             ensures files { D.files worker.new.desk ≡ D.files worker.old.desk }
-            ensures worked { HasWorked (D.files worker.old.desk) (map unit_view site.entry.now.units.now) (D.faults worker.old.desk) (D.faults worker.new.desk) worker.old.pass worker.new.pass worker.new.ended }
-            ensures sent { worker.new.ended ≡ true → HasSent (map unit_view site.entry.now.units.now) (sent_view D.sends D.sent worker.old.desk) (sent_view D.sends D.sent worker.new.desk) worker.old.pass.sight worker.new.pass.sight }
+            ensures worked { HasWorked (D.files worker.old.desk) (map unit_view site.entry.now.units.now) (D.faults worker.old.desk)
+                (D.faults worker.new.desk) worker.old.pass worker.new.pass worker.new.ended }
+            ensures sent { worker.new.ended ≡ true → HasSent (map unit_view site.entry.now.units.now)
+                (sent_view D.sends D.sent worker.old.desk)
+                (sent_view D.sends D.sent worker.new.desk) worker.old.pass.sight worker.new.pass.sight }
         { worker.work(rt, site) },
     );
 }

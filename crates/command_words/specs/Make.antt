@@ -12,7 +12,8 @@ plan_asked file seed = record { seed = seed; file = file }
 
 -- a name that has the form of a file's, and a number
 abbrev pub make_of_rows : List Row → Option MakeWords
-make_of_rows rows = if is_file_name (given (codes "FILE") rows) then option_map (plan_asked (given (codes "FILE") rows)) (seed_of (given (codes "SEED") rows)) else None
+make_of_rows rows = if is_file_name (given (codes "FILE") rows)
+    then option_map (plan_asked (given (codes "FILE") rows)) (seed_of (given (codes "SEED") rows)) else None
 
 abbrev pub make_of : List Text → Option MakeWords
 make_of words = asked_of make_app make_of_rows words

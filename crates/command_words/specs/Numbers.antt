@@ -22,8 +22,8 @@ abbrev pub in_bounds : ℕ → Option ℕ
 in_bounds n = if nat_le 1 n && nat_le n MAX_COUNT then Some n else None
 
 -- the number of threads or of leases that a text writes
-abbrev pub count_of : List ℕ → Option ℕ
-count_of t = option_and_then in_bounds (value_of MAX_COUNT_DIGITS t)
+abbrev pub parsed_count : List ℕ → Option ℕ
+parsed_count t = option_and_then in_bounds (value_of MAX_COUNT_DIGITS t)
 
 -- the number that a plan is made from
 abbrev pub seed_of : List ℕ → Option ℕ

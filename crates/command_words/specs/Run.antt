@@ -3,7 +3,7 @@ use Rattle.std.specs.Prelude.{codes, ℕ, ◌≤◌, Bool, not, ◌&&◌, ◌==�
 use Rattle.std.specs.List.{list_any}
 use Rattle.clap.specs.Walk.{Row, Text, first_of}
 use Rattle.command_words.specs.Matching.{asked_of, given, is_on}
-use Rattle.command_words.specs.Numbers.{count_of}
+use Rattle.command_words.specs.Numbers.{parsed_count}
 use Rattle.command_words.specs.Rules.{run_app}
 use Rattle.command_words.specs.declared.numbers.TheConstants.{MAX_COUNT}
 use Rattle.command_words.specs.declared.run.TheConstants.{MAX_PLAN_NAME_BYTES, DEFAULT_MAX_LEASES}
@@ -12,7 +12,7 @@ use Rattle.command_words.specs.declared.commands.RunWords.{RunWords}
 -- the number that an option gives, or the default where it isn't there
 abbrev pub count_or : Option Text → ℕ → Option ℕ
 count_or None default = Some default
-count_or (Some t) default = count_of t
+count_or (Some t) default = parsed_count t
 
 -- at least one byte, not too many, and none of them zero
 abbrev pub is_plan_name : Text → Bool
@@ -33,7 +33,8 @@ asked rows max_leases threads = record {
 abbrev pub run_of_rows : List Row → Option RunWords
 run_of_rows rows =
     if is_plan_name (given (codes "PLAN") rows)
-    then option_and_then (λ max_leases. option_map (asked rows max_leases) (count_or (first_of (codes "threads") rows) max_leases)) (count_or (first_of (codes "max-workers") rows) DEFAULT_MAX_LEASES)
+    then option_and_then (λ max_leases. option_map (asked rows max_leases) (count_or (first_of (codes "threads") rows) max_leases))
+    (count_or (first_of (codes "max-workers") rows) DEFAULT_MAX_LEASES)
     else None
 
 abbrev pub run_of : List Text → Option RunWords

@@ -30,7 +30,7 @@ pub struct RunWords {
     pub parallel: bool,
     /// Whether the history is printed.
     pub history: bool,
-    /// Whether what happened to the worker daemons is printed.
+    /// Whether what happened to the daemons is printed.
     pub daemons: bool,
     /// Whether of the results the summary alone is printed.
     pub summary: bool,

@@ -23,7 +23,8 @@ pub(crate) fn matches_of<'a>(
 ) -> Result<ArgMatches<'a>, WordsFail>
     requires { is_simple_and_free (app_with name.now parameters.now) ≡ true }
     ensures ok { let app = app_with name.entry.now parameters.now in
-        IfOk result (λ m. (is_faultless app (map (λ s. s.now) words.entry.now) ≡ true) × (rows_of (found_of m) ≡ matches_of app (map (λ s. s.now) words.entry.now))) }
+        IfOk result (λ m. (is_faultless app (map (λ s. s.now) words.entry.now) ≡ true)
+        × (rows_of (found_of m) ≡ matches_of app (map (λ s. s.now) words.entry.now))) }
     ensures err { let app = app_with name.entry.now parameters.now in
         IfErr result (NoMemoryOr (is_faultless app (map (λ s. s.now) words.entry.now) ≡ false)) }
 {

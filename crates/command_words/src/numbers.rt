@@ -1,5 +1,5 @@
 //! Numbers in words.
-ghost use Rattle.command_words.specs.Numbers.{count_of, in_bounds, is_numeral, seed_of, value_of};
+ghost use Rattle.command_words.specs.Numbers.{parsed_count, in_bounds, is_numeral, seed_of, value_of};
 ghost use Rattle.std.specs.Char.{is_ascii_digit};
 ghost use Rattle.std.specs.List.{list_all};
 ghost use Rattle.std.specs.Prelude.{IfSome, ◌≡◌, ◌≤◌};
@@ -49,8 +49,8 @@ fn in_bounds(value: u64) -> Option<u32>
 }
 
 /// The number, 1 to `MAX_COUNT`, that a text writes with 1 to `MAX_COUNT_DIGITS` digits.
-pub(crate) fn count_of(text: &str) -> Option<u32>
-    ensures value { result ≡ count_of text.now }
+pub(crate) fn parsed_count(text: &str) -> Option<u32>
+    ensures value { result ≡ parsed_count text.now }
     ensures some { IfSome result (λ n. 1 ≤ n) }
     ensures few { IfSome result (λ n. n ≤ MAX_COUNT) }
 {

@@ -9,7 +9,7 @@ ghost use Rattle.std.specs.Prelude.{map, IfErr, IfOk, IfSome, None, Some, ◌==�
 
 use crate::commands::{RunWords, WordsFail};
 use crate::matching::{given, is_on, matches_of, text_at};
-use crate::numbers::count_of;
+use crate::numbers::parsed_count;
 use crate::parser::Parameter;
 use clap::ArgMatches;
 use item_actions::Text;
@@ -30,7 +30,7 @@ fn count_at(matches: &ArgMatches<'_>, id: &str, default: u32) -> Option<u32>
     ensures few { IfSome result (λ n. n ≤ MAX_COUNT) }
 {
     match text_at(matches, id) {
-        Some(text) => count_of(text),
+        Some(text) => parsed_count(text),
         None => Some(default),
     }
 }

@@ -11,7 +11,7 @@ use Rattle.resource_lock.proofs.Undo.{same_worker}
 use Rattle.lock_journal.specs.BookView.{BookView}
 use Rattle.coordination.specs.declared.rule.Sight.{Sight}
 use Rattle.coordination.specs.declared.rule.SeatView.{SeatView}
-use Rattle.coordination.specs.Agrees.{Agrees, IsSound}
+use Rattle.coordination.specs.Agrees.{Agrees, IsSoundBook}
 use Rattle.coordination.specs.Passes.{PassView}
 use Rattle.coordination.specs.Rule.{OutFits, home_of, Orderly}
 use Rattle.coordination.specs.Sights.{sight, all_of, no_book, sights_from, workers_from}
@@ -23,7 +23,7 @@ pub record Closes (g : GraphView) (ss : List Sight) (xs : List BookView) : Type 
   pub mark : ℕ
   pub named : mark ≤ g.workers
   pub graph : book.graph ≡ g
-  pub sound : IsSound book
+  pub sound : IsSoundBook book
   pub slot : get_elem? xs 0 ≡ some book
   pub agrees : All (λ s. Agrees s.worker s.seen book) ss
   pub stops : All (λ s. mark ≡ suc s.worker.0 → s.stopped ≡ true) ss
@@ -121,8 +121,8 @@ module _ (g : GraphView) (ps : List PassView) (xs : List BookView) (result : Boo
   pub graph_is : result.graph ≡ g
   graph_is = sym (ap (λ (b : BookView). b.graph) same) ∙ z.graph
 
-  pub sound_is : IsSound result
-  sound_is = subst IsSound same z.sound
+  pub sound_is : IsSoundBook result
+  sound_is = subst IsSoundBook same z.sound
 
   pub passes_agree : All (λ p. Agrees p.sight.worker p.sight.seen result) ps
   passes_agree = λ k d h. subst (Agrees (get_or ps k d).sight.worker (get_or ps k d).sight.seen) same (of_passes (λ (s : Sight). Agrees s.worker s.seen z.book) ps z.agrees k d h)

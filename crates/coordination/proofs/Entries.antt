@@ -15,10 +15,10 @@ use Rattle.lock_journal.specs.BookView.{BookView}
 use Rattle.lock_journal.specs.LastChanges.{last_changes, made_by}
 use Rattle.lock_transforms.specs.declared.transforms.Disposition.{Disposition}
 use Rattle.lock_transforms.specs.declared.transforms.Disposition.TheVariants.{Finished, Failed}
-use Rattle.run_laws.proofs.Named.{belongs, good}
-use Rattle.coordination.specs.Agrees.{IsSound}
+use Rattle.history_laws.proofs.Named.{belongs, good}
+use Rattle.coordination.specs.Agrees.{IsSoundBook}
 use Rattle.coordination.specs.Lasts.{last_of}
-use Rattle.coordination.specs.Parts.{Follows, Has, HasRoom, IsPartOf, LeadsOn, mark_count, marks_of}
+use Rattle.coordination.specs.Parts.{Follows, Has, HasListRoom, IsPartOf, LeadsOn, mark_count, marks_of}
 use Rattle.coordination.specs.declared.parts.Part.{Part}
 use Rattle.coordination.proofs.Growing.{last_of-own}
 
@@ -26,21 +26,21 @@ use Rattle.coordination.proofs.Growing.{last_of-own}
 pub follows_at : {E : Type 0} (w : WorkerId) (old new : BookView) (r s : Result Disposition E) (part : Part) → r ≡ s → Follows w old new r part → Follows w old new s part
 follows_at w old new r s part is f = subst (λ t. Follows w old new t part) is f
 
-pub belongs_sound : (book : BookView) → IsSound book → BelongsTo book.graph book.state
+pub belongs_sound : (book : BookView) → IsSoundBook book → BelongsTo book.graph book.state
 belongs_sound book sound = subst (BelongsTo book.graph) (sym sound.replays) (belongs book.graph book.history sound.lawful)
 
-pub good_sound : (book : BookView) → IsSound book → Good book.state
+pub good_sound : (book : BookView) → IsSoundBook book → Good book.state
 good_sound book sound = subst Good (sym sound.replays) (good book.graph book.history sound.lawful)
 
 -- the room of the graph is that of its states
-room_in : (g : GraphView) (s : StateView) (part : Part) → BelongsTo g s → HasRoom g.locks (marks_of g) part → HasRoom (length s.owners) (mark_count s) part
+room_in : (g : GraphView) (s : StateView) (part : Part) → BelongsTo g s → HasListRoom g.locks (marks_of g) part → HasListRoom (length s.owners) (mark_count s) part
 room_in g s part b room = record {
   lock_room = omega (arith, b.locks, room.lock_room);
   mark_room = omega (arith, b.tasks, b.actions, b.units, room.mark_room);
   park_room = omega (arith, b.locks, room.park_room);
 }
 
-room_out : (g : GraphView) (s : StateView) (part : Part) → BelongsTo g s → HasRoom (length s.owners) (mark_count s) part → HasRoom g.locks (marks_of g) part
+room_out : (g : GraphView) (s : StateView) (part : Part) → BelongsTo g s → HasListRoom (length s.owners) (mark_count s) part → HasListRoom g.locks (marks_of g) part
 room_out g s part b room = record {
   lock_room = omega (arith, b.locks, room.lock_room);
   mark_room = omega (arith, b.tasks, b.actions, b.units, room.mark_room);
@@ -79,9 +79,9 @@ module _ {E : Type 0} (w : WorkerId) (old new : BookView) (part : Part) (f : Fol
           last = last ∙ (long ∙ (ap (λ (h : List Entry). length h) history ∙ sym (ap (λ (h : List Entry). last_of w h) history ∙ last_of-own w old.history e refl)));
         }
 
-    pub room_after : HasRoom new.graph.locks (marks_of new.graph) after
+    pub room_after : HasListRoom new.graph.locks (marks_of new.graph) after
     room_after =
-        subst (λ (g : GraphView). HasRoom g.locks (marks_of g) after) (sym f.graph)
+        subst (λ (g : GraphView). HasListRoom g.locks (marks_of g) after) (sym f.graph)
         (room_out old.graph (make_all old.state w f.grew.1) after (belongs_along old.graph old.state (make_all old.state w f.grew.1) (same_shape-make_all old.state w f.grew.1) (belongs_sound old f.sound)) leads.room)
 
 -- a failed transform leaves all but the number of the last entry

@@ -10,11 +10,11 @@ use Rattle.resource_lock.specs.declared.ids.WorkerId.{WorkerId}
 use Rattle.lock_transforms.specs.Allowed.{Lawful}
 use Rattle.lock_transforms.specs.Entry.{Entry, replay}
 use Rattle.lock_journal.specs.BookView.{BookView}
-use Rattle.run_laws.specs.ClosedBy.{closed_by}
-use Rattle.run_laws.specs.Own.{NoneOf, SameFor}
-use Rattle.run_laws.proofs.Growing.{closed_by-own, same_by_own}
-use Rattle.coordination.specs.Agrees.{Agrees, IsSound}
-use Rattle.coordination.specs.Lasts.{last_in, last_of, count_of}
+use Rattle.history_laws.specs.ClosedBy.{closed_by}
+use Rattle.history_laws.specs.Own.{NoneOf, SameFor}
+use Rattle.history_laws.proofs.Growing.{closed_by-own, same_by_own}
+use Rattle.coordination.specs.Agrees.{Agrees, IsSoundBook}
+use Rattle.coordination.specs.Lasts.{last_in, last_of, entry_count_of}
 
 none_of-append : (w : WorkerId) (xs ys : List Entry) → NoneOf w xs → NoneOf w ys → NoneOf w (xs ++ ys)
 none_of-append w [] ys p q = q
@@ -54,17 +54,17 @@ last_of-more w h n e at =
     ap (λ (l : List Entry). last_of w l) (take_more h n e within ∙ ap (λ (x : Entry). take n h ++ x ∷ []) here)
     ∙ (last_of-push w (take n h) e ∙ ap (λ (k : ℕ). cond (eqb e.worker.0 w.0) k (last_of w (take n h))) count)
 
-count_of-none : (w : WorkerId) (ys : List Entry) → NoneOf w ys → count_of w ys ≡ 0
-count_of-none w [] none = refl
-count_of-none w (e ∷ ys) none = rw (ne_eqb e.worker.0 w.0 none.0) (count_of-none w ys none.1)
+entry_count_of-none : (w : WorkerId) (ys : List Entry) → NoneOf w ys → entry_count_of w ys ≡ 0
+entry_count_of-none w [] none = refl
+entry_count_of-none w (e ∷ ys) none = rw (ne_eqb e.worker.0 w.0 none.0) (entry_count_of-none w ys none.1)
 
-count_of-same : (w : WorkerId) (xs ys : List Entry) → NoneOf w ys → count_of w (xs ++ ys) ≡ count_of w xs
-count_of-same w xs ys none =
-    let both : count_of w (xs ++ ys) ≡ count_of w xs + count_of w ys = sum_by-append (λ (e : Entry). cond (eqb e.worker.0 w.0) 1 0) xs ys in
-    let no = count_of-none w ys none in omega arith
+entry_count_of-same : (w : WorkerId) (xs ys : List Entry) → NoneOf w ys → entry_count_of w (xs ++ ys) ≡ entry_count_of w xs
+entry_count_of-same w xs ys none =
+    let both : entry_count_of w (xs ++ ys) ≡ entry_count_of w xs + entry_count_of w ys = sum_by-append (λ (e : Entry). cond (eqb e.worker.0 w.0) 1 0) xs ys in
+    let no = entry_count_of-none w ys none in omega arith
 
 -- entries of others alone were added to a sound book, which is sound again
-pub goes_on : (w : WorkerId) (old new : BookView) (more : List Entry) → IsSound old → IsSound new → new.graph ≡ old.graph → new.history ≡ old.history ++ more → NoneOf w more → Agrees w old new
+pub goes_on : (w : WorkerId) (old new : BookView) (more : List Entry) → IsSoundBook old → IsSoundBook new → new.graph ≡ old.graph → new.history ≡ old.history ++ more → NoneOf w more → Agrees w old new
 goes_on w old new more sound sound' graph history none =
     let lawful : Lawful old.graph (old.history ++ more) = subst (λ (p : GraphView × List Entry). Lawful p.0 p.1) (λ i. (graph i, history i)) sound'.lawful in
     let replays : new.state ≡ replay old.graph (old.history ++ more) = sound'.replays ∙ (λ i. replay (graph i) (history i)) in
@@ -76,7 +76,7 @@ goes_on w old new more sound sound' graph history none =
       others = none;
       state = subst (λ (p : StateView × StateView). SameFor w p.0 p.1) (λ i. (sym sound.replays i, sym replays i)) state;
       closings = ap (λ (h : List Entry). closed_by w h) history ∙ closed_by-own old.history more w none;
-      count = ap (λ (h : List Entry). count_of w h) history ∙ count_of-same w old.history more none;
+      count = ap (λ (h : List Entry). entry_count_of w h) history ∙ entry_count_of-same w old.history more none;
       last = ap (λ (h : List Entry). last_of w h) history ∙ last_of-none w old.history more none;
     }
 
@@ -117,7 +117,7 @@ agrees_same w a b graph state history = record {
   others = tt;
   state = subst (SameFor w a.state) (sym state) (same_for-self w a.state);
   closings = ap (λ (h : List Entry). closed_by w h) history;
-  count = ap (λ (h : List Entry). count_of w h) history;
+  count = ap (λ (h : List Entry). entry_count_of w h) history;
   last = ap (λ (h : List Entry). last_of w h) history;
 }
 

@@ -16,7 +16,7 @@ use Rattle.coordination.specs.declared.halts.Halt.TheVariants.{NoMemory, Stopped
 use Rattle.coordination.specs.declared.rule.Sight.{Sight}
 use Rattle.coordination.specs.declared.sleepers.Sleepers.{Sleepers}
 use Rattle.coordination.specs.declared.sleepers.Wakes.{Wakes}
-use Rattle.coordination.specs.Agrees.{Agrees, Finds, IsSound}
+use Rattle.coordination.specs.Agrees.{Agrees, Finds, IsSoundBook}
 use Rattle.coordination.specs.Attempts.{Asked, Attempted, Cause, Making}
 use Rattle.coordination.specs.Calls.{AskedInVain, HasFailed, HasFinished, HasLooked, IsAnswered, WasStopped}
 use Rattle.coordination.specs.Sights.{hearing, seeing}
@@ -44,7 +44,7 @@ only_looked : (s s' : Sight) (book : BookView) → Finds s.worker s.seen book �
 only_looked s s' book found is = subst (OnlyLooked s) (sym is) (record { agrees = found.agrees; sight = refl })
 
 -- a book that was left as it was found is found again
-found_again : (w : WorkerId) (seen before after : BookView) → Finds w seen before → after.graph ≡ before.graph → after.state ≡ before.state → after.history ≡ before.history → IsSound after → Finds w seen after
+found_again : (w : WorkerId) (seen before after : BookView) → Finds w seen before → after.graph ≡ before.graph → after.state ≡ before.state → after.history ≡ before.history → IsSoundBook after → Finds w seen after
 found_again w seen before after f graph state history sound = record {
   agrees = agrees_then w seen before after f.agrees (agrees_same w before after graph state history);
   sound = sound;

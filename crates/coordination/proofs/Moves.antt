@@ -16,7 +16,7 @@ use Rattle.lock_journal.specs.BookView.{BookView}
 use Rattle.coordination.specs.declared.rule.Sight.{Sight}
 use Rattle.coordination.specs.declared.rule.SeatView.{SeatView}
 use Rattle.coordination.specs.Sights.{seeing, stopping, hearing, one, holding}
-use Rattle.coordination.specs.Agrees.{Agrees, IsSound}
+use Rattle.coordination.specs.Agrees.{Agrees, IsSoundBook}
 use Rattle.coordination.specs.Rule.{AddsOwn, FitsSight, OutFits, busy_of, home_of, Orderly, taken, put_back, stopped_at, heard, marked}
 use Rattle.coordination.proofs.Growing.{goes_on, agrees_self, agrees_then}
 
@@ -142,7 +142,7 @@ pub puts_it : (g : GraphView) (slots id : ℕ) (h : Sight) (book : BookView) →
 puts_it g slots id h book adds s o deep at small =
     let q = holds_it g id h s o at in
     let new : Sight = seeing h book in
-    let sound : IsSound book = adds.sound (subst IsSound q.book_is o.sound) in
+    let sound : IsSoundBook book = adds.sound (subst IsSoundBook q.book_is o.sound) in
     let graph : book.graph ≡ o.book.graph = adds.graph ∙ sym (ap (λ (b : BookView). b.graph) q.book_is) in
     let history : book.history ≡ o.book.history ++ adds.more = adds.history ∙ sym (ap (λ (b : BookView). b.history ++ adds.more) q.book_is) in
     let other : (k : Sight) → k.worker.0 ≢ h.worker.0 → Agrees k.worker k.seen o.book → Agrees k.worker k.seen book =

@@ -10,11 +10,11 @@ use Rattle.resource_lock.specs.declared.marks.MarkId.{MarkId}
 use Rattle.resource_lock.specs.declared.marks.MarkId.TheVariants.{Task as TaskOf, Action as ActionOf, Unit as UnitOf}
 use Rattle.lock_journal.specs.BookView.{BookView}
 use Rattle.lock_transforms.specs.Table.{owned, owned_from}
-use Rattle.run_laws.specs.Own.{action_at, claimed, marks_in, places_from, task_at, unit_at}
-use Rattle.run_laws.proofs.Others.{running_of}
+use Rattle.history_laws.specs.Own.{action_at, claimed, marks_in, places_from, task_at, unit_at}
+use Rattle.history_laws.proofs.Others.{running_of}
 use Rattle.resource_lock.specs.AtRest.{IsAtRest}
 use Rattle.coordination.specs.Lasts.{last_of}
-use Rattle.coordination.specs.Parts.{ArePartsFrom, HasRoom, IsFreshPart, IsPartOf, marks_of}
+use Rattle.coordination.specs.Parts.{ArePartsFrom, HasListRoom, IsFreshPart, IsPartOf, marks_of}
 use Rattle.coordination.specs.declared.parts.Part.{Part}
 use Rattle.coordination.specs.declared.parts.Room.{Room}
 
@@ -107,7 +107,7 @@ fresh_part book room w last part rest r is = record {
 }
 
 -- one part more behind those of the workers from w on
-pub parts_push : (w : ℕ) (book : BookView) (parts : List Part) (part : Part) → IsPartOf book (record { 0 = w + length parts }) part → HasRoom book.graph.locks (marks_of book.graph) part → ArePartsFrom w book parts
+pub parts_push : (w : ℕ) (book : BookView) (parts : List Part) (part : Part) → IsPartOf book (record { 0 = w + length parts }) part → HasListRoom book.graph.locks (marks_of book.graph) part → ArePartsFrom w book parts
     → ArePartsFrom w book (parts ++ part ∷ [])
 parts_push w book [] part is room before = (subst (λ (n : ℕ). IsPartOf book (record { 0 = n }) part) (omega arith) is, room, tt)
 parts_push w book (p ∷ ps) part is room before = (before.0, before.1, parts_push (suc w) book ps part (subst (λ (n : ℕ). IsPartOf book (record { 0 = n }) part) (omega arith) is) room before.2)

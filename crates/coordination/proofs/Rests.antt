@@ -13,10 +13,10 @@ use Rattle.lock_transforms.specs.Allowed.{lawful_from}
 use Rattle.lock_transforms.specs.Entry.{Entry, effect}
 use Rattle.lock_journal.specs.BookView.{BookView}
 use Rattle.lock_transforms.specs.Table.{owned}
-use Rattle.run_laws.specs.Own.{NamesWorkers, claimed}
-use Rattle.run_laws.proofs.Named.{named}
+use Rattle.history_laws.specs.Own.{NamesWorkers, claimed}
+use Rattle.history_laws.proofs.Named.{named}
 use Rattle.coordination.specs.declared.rule.Sight.{Sight}
-use Rattle.coordination.specs.Agrees.{Agrees, IsSound}
+use Rattle.coordination.specs.Agrees.{Agrees, IsSoundBook}
 use Rattle.resource_lock.specs.AtRest.{IsAtRest}
 use Rattle.coordination.specs.Holds.{HoldsNothing}
 use Rattle.coordination.specs.Passes.{PassView}
@@ -36,7 +36,7 @@ record HasNothing (s : StateView) (w : WorkerId) : Type 0 where
   claimed : claimed s w ≡ []
   holding : holding_of s w ≡ empty_holding
 
-module _ (book : BookView) (ss : List Sight) (sound : IsSound book) (agree : All (λ s. Agrees s.worker s.seen book) ss) (all : map (λ s. s.worker.0) ss ≡ workers_from 0 book.graph.workers) (nothing : All HoldsNothing ss) where
+module _ (book : BookView) (ss : List Sight) (sound : IsSoundBook book) (agree : All (λ s. Agrees s.worker s.seen book) ss) (all : map (λ s. s.worker.0) ss ≡ workers_from 0 book.graph.workers) (nothing : All HoldsNothing ss) where
   has_nothing : (w : WorkerId) → w.0 < book.graph.workers → HasNothing book.state w
   has_nothing w low =
       let d : Sight = sight 0 no_book in
@@ -68,5 +68,5 @@ entries_known g s [] lawful = All-nil (λ e. e.worker.0 < g.workers)
 entries_known g s (e ∷ h) lawful = All-cons (λ x. x.worker.0 < g.workers) e h lawful.0.worker (entries_known g (effect s e) h lawful.1)
 
 -- each entry is one of the workers'
-pub known_entries : (book : BookView) → IsSound book → All (λ e. e.worker.0 < book.graph.workers) book.history
+pub known_entries : (book : BookView) → IsSoundBook book → All (λ e. e.worker.0 < book.graph.workers) book.history
 known_entries book sound = entries_known book.graph _ book.history sound.lawful

@@ -11,7 +11,7 @@ use Rattle.lock_journal.specs.BookView.{BookView}
 use Rattle.coordination.specs.declared.rule.Sight.{Sight}
 use Rattle.coordination.specs.declared.rule.SeatView.{SeatView}
 use Rattle.coordination.specs.Sights.{sight, all_of, nobody, sights_from, starting}
-use Rattle.coordination.specs.Agrees.{IsSound}
+use Rattle.coordination.specs.Agrees.{IsSoundBook}
 use Rattle.coordination.specs.Rule.{FitsSight, OutFits, Orderly, M, both_sights}
 use Rattle.coordination.proofs.Growing.{agrees_self}
 use Rattle.coordination.proofs.Moves.{set_views, more_views}
@@ -28,7 +28,7 @@ fresh n w (suc k) book room =
     (record { known = omega arith; agrees = agrees_self (record { 0 = w }) book; seated = refl; stopped = λ e. absurd (cc); stops = λ e. absurd (omega arith); stopped_by = λ x e. absurd (cc) })
     (fresh n (suc w) k book (omega arith))
 
-pub begins : (book : BookView) → IsSound book → book.graph.workers < 2 ^ 32 → Orderly book.graph (opening (0 ∷ 0 ∷ []) (book ∷ []) (starting book))
+pub begins : (book : BookView) → IsSoundBook book → book.graph.workers < 2 ^ 32 → Orderly book.graph (opening (0 ∷ 0 ∷ []) (book ∷ []) (starting book))
 begins book sound small =
     let n : ℕ = book.graph.workers in record {
       book = book;

@@ -10,9 +10,9 @@ use Rattle.resource_lock.proofs.Runs.{worker_from}
 use Rattle.lock_journal.specs.BookView.{BookView}
 use Rattle.lock_transforms.specs.Table.{owned}
 use Rattle.lock_transforms.specs.declared.entries.Kind.{Kind}
-use Rattle.run_laws.specs.Own.{claimed}
-use Rattle.run_laws.specs.OwnChanges.{after_all, claimed_after, locks_after}
-use Rattle.run_laws.proofs.OwnChanges.{own_claimed_all, own_holding_all, own_locks_all}
+use Rattle.history_laws.specs.Own.{claimed}
+use Rattle.history_laws.specs.OwnChanges.{after_all, claimed_after, locks_after}
+use Rattle.history_laws.proofs.OwnChanges.{own_claimed_all, own_holding_all, own_locks_all}
 use Rattle.coordination.specs.declared.rule.Sight.{Sight}
 use Rattle.coordination.specs.Agrees.{Agrees}
 use Rattle.coordination.specs.Attempts.{Cause, Making}

@@ -5,7 +5,7 @@ use Rattle.std.proofs.lemmas.Option.{get_or_from_slice_get, slice_get_within}
 use Rattle.resource_lock.proofs.Lists.{count_by-set, one_if}
 use Rattle.lock_journal.specs.BookView.{BookView}
 use Rattle.worker_choices.specs.declared.awaited.Awaited.{Awaited}
-use Rattle.worker_choices.specs.declared.waking.Woken.TheVariants as woken
+use Rattle.worker_choices.specs.declared.woken.Woken.TheVariants as woken
 use Rattle.coordination.specs.Wakes.{IsWokenBy}
 
 -- a place that is Some counts

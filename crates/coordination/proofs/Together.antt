@@ -9,10 +9,10 @@ use Rattle.lock_journal.specs.BookView.{BookView}
 use Rattle.lock_transforms.specs.Entry.{Entry}
 use Rattle.lock_transforms.specs.Table.{owned, owned_from}
 use Rattle.lock_transforms.specs.declared.entries.Closed.{Closed}
-use Rattle.coordination.specs.Agrees.{Agrees, IsSound}
+use Rattle.coordination.specs.Agrees.{Agrees, IsSoundBook}
 use Rattle.coordination.specs.Passes.{PassView}
 use Rattle.coordination.specs.Sights.{workers_from}
-use Rattle.coordination.specs.Together.{ComeTo, closed_of, entries_of, has_lease, locks_of}
+use Rattle.coordination.specs.Together.{ComeTo, closed_of_pass, entries_of, has_lease, locks_of}
 use Rattle.coordination.proofs.Closing.{how_many, worker_at}
 use Rattle.coordination.proofs.Entries.{belongs_sound, good_sound}
 use Rattle.coordination.proofs.Rests.{known_entries}
@@ -51,7 +51,7 @@ some_pass : (ps : List PassView) (k : ℕ) → k < length ps → PassView
 some_pass [] k within = absurd (omega arith)
 some_pass (p ∷ ps) k within = p
 
-module _ (ps : List PassView) (book : BookView) (sound : IsSound book) (agree : All (λ p. Agrees p.sight.worker p.sight.seen book) ps) (all : map (λ p. p.sight.worker.0) ps ≡ workers_from 0 book.graph.workers) where
+module _ (ps : List PassView) (book : BookView) (sound : IsSoundBook book) (agree : All (λ p. Agrees p.sight.worker p.sight.seen book) ps) (all : map (λ p. p.sight.worker.0) ps ≡ workers_from 0 book.graph.workers) where
   owner_in : (k : ℕ) (d : PassView) (l : LockId) → k < length ps → Contains (locks_of (get_or ps k d)) l → is_owner (owner_of book.state l) (get_or ps k d).sight.worker ≡ true
   owner_in k d l within has =
       let p : PassView = get_or ps k d in
@@ -101,7 +101,7 @@ module _ (ps : List PassView) (book : BookView) (sound : IsSound book) (agree : 
     leases = few_leases;
     entries = together entries_of (λ _. 1) (λ k d within. sym (agree k d within).count ∙ one_each (get_or ps k d).sight.worker book.history) ∙ all_ones book.history;
     closings = λ sort.
-        together (λ (p : PassView). count_by sort (closed_of p)) (sorted sort)
+        together (λ (p : PassView). count_by sort (closed_of_pass p)) (sorted sort)
         (λ k d within. ap (λ (ds : List Closed). count_by sort ds) (sym (agree k d within).closings) ∙ closed_each sort (get_or ps k d).sight.worker book.history)
         ∙ closed_all sort book.history;
   }

@@ -7,8 +7,8 @@ use Rattle.std.proofs.lemmas.List.Sums.{sum_by-append, sum_by-cons}
 use Rattle.resource_lock.specs.declared.ids.WorkerId.{WorkerId}
 use Rattle.lock_transforms.specs.Entry.{Entry}
 use Rattle.lock_transforms.specs.declared.entries.Closed.{Closed}
-use Rattle.run_laws.specs.ClosedBy.{closed_at, closed_by, closed_in}
-use Rattle.coordination.specs.Lasts.{count_of}
+use Rattle.history_laws.specs.ClosedBy.{closed_at, closed_by, closed_in}
+use Rattle.coordination.specs.Lasts.{entry_count_of}
 use Rattle.coordination.specs.Sights.{workers_from}
 use Rattle.coordination.specs.Together.{closed_by_all}
 
@@ -76,7 +76,7 @@ spread weight n (e ∷ h) known =
     total-plus (λ w. cond (eqb e.worker.0 w) (weight e) 0) (λ w. weight_of weight w h) (workers_from 0 n) ∙ (λ i. one i + rest i)
 
 -- each entry weighs 1
-pub one_each : (w : WorkerId) (h : List Entry) → count_of w h ≡ weight_of (λ _. 1) w.0 h
+pub one_each : (w : WorkerId) (h : List Entry) → entry_count_of w h ≡ weight_of (λ _. 1) w.0 h
 one_each w h = is_total (λ (e : Entry). cond (eqb e.worker.0 w.0) 1 0) h
 
 pub all_ones : (h : List Entry) → total (λ (e : Entry). 1) h ≡ length h

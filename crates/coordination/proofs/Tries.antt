@@ -7,23 +7,23 @@ use Rattle.resource_lock.specs.StateView.{StateView}
 use Rattle.lock_transforms.specs.Allowed.{Allowed, Lawful}
 use Rattle.lock_transforms.specs.Entry.{Entry, effect, entry, replay}
 use Rattle.lock_journal.specs.BookView.{BookView, SameBook}
-use Rattle.lock_journal.specs.Ran.{HasFinished, HasFailed, IsToRetry}
+use Rattle.lock_journal.specs.Ran.{FinishesIn, FailsIn, IsToRetry}
 use Rattle.lock_transforms.specs.declared.entries.Kind.{Kind}
 use Rattle.lock_transforms.specs.declared.transforms.Disposition.{Disposition}
 use Rattle.lock_transforms.specs.declared.transforms.Disposition.TheVariants.{Finished, Failed, Retry}
-use Rattle.run_laws.proofs.Growing.{lawful-push, replay-push}
+use Rattle.history_laws.proofs.Growing.{lawful-push, replay-push}
 use Rattle.coordination.specs.declared.rule.Sight.{Sight}
-use Rattle.coordination.specs.Agrees.{IsSound}
+use Rattle.coordination.specs.Agrees.{IsSoundBook}
 use Rattle.coordination.specs.Attempts.{Answers, Asked, Attempted, Cause, Making, Ran}
 use Rattle.coordination.specs.Rule.{AddsOwn, M, Taken, carried_book}
 use Rattle.coordination.specs.Sights.{one, seeing, sight_of}
-use Rattle.coordination.specs.Parts.{Follows, Grew, HasRoom, IsPartOf, marks_of}
+use Rattle.coordination.specs.Parts.{Follows, Grew, HasListRoom, IsPartOf, marks_of}
 use Rattle.coordination.specs.declared.parts.Part.{Part}
 use Rattle.coordination.proofs.PassSteps.{part_on, room_on}
 
 -- the four clauses of the call together
 pub ran_of : {E : Type 0} (kind : Kind) (makes : Making) (fails retries : Cause) (w : WorkerId) (old new : BookView) (r : Result Disposition E)
-    → (r ≡ Ok Finished → (changes : List Change) × HasFinished makes old new w kind changes) → (r ≡ Ok Failed → HasFailed fails old new w kind) → (r ≡ Ok Retry → IsToRetry retries old new w)
+    → (r ≡ Ok Finished → (changes : List Change) × FinishesIn makes old new w kind changes) → (r ≡ Ok Failed → FailsIn fails old new w kind) → (r ≡ Ok Retry → IsToRetry retries old new w)
     → ((e : E) → r ≡ Err e → SameBook old new) → Ran kind makes fails retries w old new r
 ran_of kind makes fails retries w old new (Ok Finished) a b c d = a refl
 ran_of kind makes fails retries w old new (Ok Failed) a b c d = b refl
@@ -31,7 +31,7 @@ ran_of kind makes fails retries w old new (Ok Retry) a b c d = c refl
 ran_of kind makes fails retries w old new (Err e) a b c d = d e refl
 
 -- a sound book with one allowed entry more is sound
-sound-push : (old new : BookView) (e : Entry) → IsSound old → new.graph ≡ old.graph → Allowed old.graph old.state e → new.history ≡ old.history ++ e ∷ [] → new.state ≡ effect old.state e → IsSound new
+sound-push : (old new : BookView) (e : Entry) → IsSoundBook old → new.graph ≡ old.graph → Allowed old.graph old.state e → new.history ≡ old.history ++ e ∷ [] → new.state ≡ effect old.state e → IsSoundBook new
 sound-push old new e sound graph allowed history state =
     let ok : Allowed old.graph (replay old.graph old.history) e = subst (λ (s : StateView). Allowed old.graph s e) sound.replays allowed in
     record {
@@ -39,7 +39,7 @@ sound-push old new e sound graph allowed history state =
       replays = state ∙ (ap (λ (s : StateView). effect s e) sound.replays ∙ (sym (replay-push old.graph old.history e) ∙ (λ i. replay (sym graph i) (sym history i))));
     }
 
-sound-same : (old new : BookView) → IsSound old → new.graph ≡ old.graph → new.state ≡ old.state → new.history ≡ old.history → IsSound new
+sound-same : (old new : BookView) → IsSoundBook old → new.graph ≡ old.graph → new.state ≡ old.state → new.history ≡ old.history → IsSoundBook new
 sound-same old new sound graph state history = record {
   lawful = subst (λ (p : GraphView × List Entry). Lawful p.0 p.1) (λ i. (sym graph i, sym history i)) sound.lawful;
   replays = state ∙ (sound.replays ∙ (λ i. replay (sym graph i) (sym history i)));
@@ -75,17 +75,17 @@ pub known_in : (m m' : M) (t : Taken m m') (worker : WorkerId) → worker ≡ (s
 known_in m m' t worker is = subst (λ (p : WorkerId × BookView). p.0.0 < p.1.graph.workers) (λ i. (sym is i, sym (taken_book m m' t) i)) t.found.known
 
 -- the book that was taken is sound, and the worker's part is that of it
-pub sound_in : (m m' : M) (t : Taken m m') → IsSound (carried_book m'.1)
-sound_in m m' t = subst IsSound (sym (taken_book m m' t)) t.found.sound
+pub sound_in : (m m' : M) (t : Taken m m') → IsSoundBook (carried_book m'.1)
+sound_in m m' t = subst IsSoundBook (sym (taken_book m m' t)) t.found.sound
 
 pub part_in : (m m' : M) (t : Taken m m') (worker : WorkerId) (part : Part) → worker ≡ (sight_of m.0).worker → IsPartOf (sight_of m.0).seen (sight_of m.0).worker part → IsPartOf (carried_book m'.1) worker part
 part_in m m' t worker part is p =
     subst (λ (x : WorkerId × BookView). IsPartOf x.1 x.0 part) (λ i. (sym is i, sym (taken_book m m' t) i)) (part_on (sight_of m.0).worker (sight_of m.0).seen t.book part t.found.agrees p)
 
-pub room_in : (m m' : M) (t : Taken m m') (part : Part) → HasRoom (sight_of m.0).seen.graph.locks (marks_of (sight_of m.0).seen.graph) part
-    → HasRoom (carried_book m'.1).graph.locks (marks_of (carried_book m'.1).graph) part
+pub room_in : (m m' : M) (t : Taken m m') (part : Part) → HasListRoom (sight_of m.0).seen.graph.locks (marks_of (sight_of m.0).seen.graph) part
+    → HasListRoom (carried_book m'.1).graph.locks (marks_of (carried_book m'.1).graph) part
 room_in m m' t part room =
-    subst (λ (b : BookView). HasRoom b.graph.locks (marks_of b.graph) part) (sym (taken_book m m' t)) (room_on (sight_of m.0).worker (sight_of m.0).seen t.book part t.found.agrees room)
+    subst (λ (b : BookView). HasListRoom b.graph.locks (marks_of b.graph) part) (sym (taken_book m m' t)) (room_on (sight_of m.0).worker (sight_of m.0).seen t.book part t.found.agrees room)
 
 -- what a transform left of a book is what a part can follow
 grew : {E : Type 0} (kind : Kind) (makes : Making) (fails retries : Cause) (w : WorkerId) (old new : BookView) (r : Result Disposition E) → Ran kind makes fails retries w old new r → Grew w old new r
@@ -94,8 +94,8 @@ grew kind makes fails retries w old new (Ok Failed) ran = (kind, ran.history, ra
 grew kind makes fails retries w old new (Ok Retry) ran = (ran.history, ran.state)
 grew kind makes fails retries w old new (Err e) ran = (ran.history, ran.state)
 
-pub follows : {E : Type 0} (kind : Kind) (makes : Making) (fails retries : Cause) (w : WorkerId) (old new : BookView) (r : Result Disposition E) (part : Part) → IsSound old → new.graph ≡ old.graph → Ran kind makes fails retries w old new r
-    → IsPartOf old w part → HasRoom old.graph.locks (marks_of old.graph) part → Follows w old new r part
+pub follows : {E : Type 0} (kind : Kind) (makes : Making) (fails retries : Cause) (w : WorkerId) (old new : BookView) (r : Result Disposition E) (part : Part) → IsSoundBook old → new.graph ≡ old.graph → Ran kind makes fails retries w old new r
+    → IsPartOf old w part → HasListRoom old.graph.locks (marks_of old.graph) part → Follows w old new r part
 follows kind makes fails retries w old new r part sound graph ran p room = record { sound = sound; graph = graph; grew = grew kind makes fails retries w old new r ran; kept = p; room = room }
 
 module _ {E : Type 0} (kind : Kind) (makes : Making) (fails retries : Cause) (r : Result Disposition E) (m m' m'' : M) (t : Taken m m') (same : m''.0 ≡ m'.0) (worker : WorkerId) (is : worker ≡ (sight_of m.0).worker)

@@ -5,7 +5,7 @@ use Rattle.resource_lock.specs.StateView.{StateView}
 use Rattle.resource_lock.specs.declared.ids.WorkerId.{WorkerId}
 use Rattle.resource_lock.specs.declared.changes.Change.{Change}
 use Rattle.lock_journal.specs.BookView.{BookView, SameBook}
-use Rattle.lock_journal.specs.Ran.{HasFinished, HasFailed, IsToRetry}
+use Rattle.lock_journal.specs.Ran.{FinishesIn, FailsIn, IsToRetry}
 use Rattle.lock_transforms.specs.declared.entries.Kind.{Kind}
 use Rattle.lock_transforms.specs.declared.transforms.Disposition.{Disposition}
 use Rattle.lock_transforms.specs.declared.transforms.Disposition.TheVariants.{Finished, Failed, Retry}
@@ -13,8 +13,8 @@ use Rattle.coordination.specs.declared.parts.Part.{Part}
 use Rattle.coordination.specs.declared.rule.Sight.{Sight}
 use Rattle.coordination.specs.declared.sleepers.Sleepers.{Sleepers}
 use Rattle.coordination.specs.declared.sleepers.Wakes.{Wakes}
-use Rattle.coordination.specs.Agrees.{Finds, IsSound}
-use Rattle.coordination.specs.Parts.{HasRoom, IsPartOf, marks_of}
+use Rattle.coordination.specs.Agrees.{Finds, IsSoundBook}
+use Rattle.coordination.specs.Parts.{HasListRoom, IsPartOf, marks_of}
 use Rattle.coordination.specs.Sights.{seeing}
 use Rattle.coordination.specs.Wakes.{AreWakesOf}
 
@@ -28,17 +28,18 @@ Making = GraphView → WorkerId → StateView → List Change → Type 0
 
 -- what a transform of this kind left of a book
 abbrev pub Ran : {E : Type 0} → Kind → Making → Cause → Cause → WorkerId → BookView → BookView → Result Disposition E → Type 0
-Ran kind makes fails retries w old new (Ok Finished) = (changes : List Change) × HasFinished makes old new w kind changes
-Ran kind makes fails retries w old new (Ok Failed) = HasFailed fails old new w kind
+Ran kind makes fails retries w old new (Ok Finished) = (changes : List Change) × FinishesIn makes old new w kind changes
+Ran kind makes fails retries w old new (Ok Failed) = FailsIn fails old new w kind
 Ran kind makes fails retries w old new (Ok Retry) = IsToRetry retries old new w
 Ran kind makes fails retries w old new (Err e) = SameBook old new
 
 -- The transform was run on the old book and left the new one, the worker's part followed, and these are woken.
-pub record HasRun {E : Type 0} (kind : Kind) (makes : Making) (fails retries : Cause) (w : WorkerId) (old new : BookView) (part : Part) (sleepers : Sleepers) (result : Result Disposition E × Wakes) : Type 0 where
+pub record HasRun {E : Type 0} (kind : Kind) (makes : Making) (fails retries : Cause) (w : WorkerId) (old new : BookView)
+    (part : Part) (sleepers : Sleepers) (result : Result Disposition E × Wakes) : Type 0 where
   pub graph : new.graph ≡ old.graph
   pub ran : Ran kind makes fails retries w old new result.0
   pub kept : IsPartOf new w part
-  pub room : HasRoom new.graph.locks (marks_of new.graph) part
+  pub room : HasListRoom new.graph.locks (marks_of new.graph) part
   pub wakes : AreWakesOf new sleepers result.1
 
 -- The transform found a sound book that agrees with the worker's sight, and left a sound one, which the worker saw.
@@ -48,7 +49,7 @@ pub record Attempted {E : Type 0} (kind : Kind) (makes : Making) (fails retries 
   pub found : Finds s.worker s.seen before
   pub graph : after.graph ≡ before.graph
   pub ran : Ran kind makes fails retries s.worker before after r
-  pub left : IsSound after
+  pub left : IsSoundBook after
   pub is : s' ≡ seeing s after
 
 -- what a question may answer

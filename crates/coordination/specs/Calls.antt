@@ -6,7 +6,7 @@ use Rattle.lock_journal.specs.BookView.{BookView}
 use Rattle.lock_journal.specs.Ran as journal
 use Rattle.lock_transforms.specs.declared.entries.Kind.{Kind}
 use Rattle.coordination.specs.declared.rule.Sight.{Sight}
-use Rattle.coordination.specs.Agrees.{Finds, IsSound}
+use Rattle.coordination.specs.Agrees.{Finds, IsSoundBook}
 use Rattle.coordination.specs.Attempts.{Cause, Making}
 use Rattle.coordination.specs.Sights.{seeing, stopping, hearing}
 
@@ -17,8 +17,8 @@ pub record HasFinished (kind : Kind) (makes : Making) (old new : Sight) : Type 0
   pub changes : List Change
   pub found : Finds old.worker old.seen before
   pub graph : after.graph ≡ before.graph
-  pub finished : journal.HasFinished makes before after old.worker kind changes
-  pub left : IsSound after
+  pub finished : journal.FinishesIn makes before after old.worker kind changes
+  pub left : IsSoundBook after
   pub sight : new ≡ seeing old after
 
 -- The transform found a book, and failed. The pass has seen the book with its failed entry, which is sound again.
@@ -27,8 +27,8 @@ pub record HasFailed (kind : Kind) (fails : Cause) (old new : Sight) : Type 0 wh
   pub after : BookView
   pub found : Finds old.worker old.seen before
   pub graph : after.graph ≡ before.graph
-  pub failed : journal.HasFailed fails before after old.worker kind
-  pub left : IsSound after
+  pub failed : journal.FailsIn fails before after old.worker kind
+  pub left : IsSoundBook after
   pub sight : new ≡ seeing old after
 
 -- Nothing of the worker's has changed: the pass has seen the book that it found.

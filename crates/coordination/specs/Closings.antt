@@ -10,7 +10,8 @@ use Rattle.coordination.specs.Holds.{HoldsNothing}
 use Rattle.coordination.specs.Passes.{PassView}
 use Rattle.coordination.specs.Together.{ComeTo}
 
--- The book of the graph agrees with each pass, and they come to it together. Where all hold nothing it is at rest. Who is shown to have stopped the service has a pass that shows that too.
+-- The book of the graph agrees with each pass, and they come to it together. Where all hold nothing it is at rest. Who
+-- is shown to have stopped the service has a pass that shows that too.
 pub record IsClosedBy (ps : List PassView) (g : GraphView) (book : BookView) : Type 0 where
   pub graph : book.graph ≡ g
   pub agrees : All (λ p. Agrees p.sight.worker p.sight.seen book) ps

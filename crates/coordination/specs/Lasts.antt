@@ -13,5 +13,5 @@ abbrev pub last_of : WorkerId → List Entry → ℕ
 last_of w history = last_in 0 0 w history
 
 -- how many entries are the worker's
-abbrev pub count_of : WorkerId → List Entry → ℕ
-count_of w history = count_by (λ e. e.worker.0 == w.0) history
+abbrev pub entry_count_of : WorkerId → List Entry → ℕ
+entry_count_of w history = count_by (λ e. e.worker.0 == w.0) history

@@ -10,14 +10,14 @@ use Rattle.resource_lock.specs.declared.changes.Change.TheVariants.{Lock, Move, 
 use Rattle.resource_lock.specs.declared.ids.WorkerId.{WorkerId}
 use Rattle.lock_transforms.specs.Entry.{entry}
 use Rattle.lock_journal.specs.BookView.{BookView}
-use Rattle.lock_journal.specs.Ran.{HasFinished}
+use Rattle.lock_journal.specs.Ran.{FinishesIn}
 use Rattle.lock_transforms.specs.Table.{owned}
 use Rattle.lock_transforms.specs.declared.entries.Kind.{Kind}
 use Rattle.lock_transforms.specs.declared.transforms.Disposition.{Disposition}
 use Rattle.lock_transforms.specs.declared.transforms.Disposition.TheVariants.{Finished, Failed, Retry}
-use Rattle.run_laws.specs.Own.{claimed}
-use Rattle.run_laws.specs.OwnChanges.{claimed_after, locks_after, mark_before, without_if}
-use Rattle.coordination.specs.Agrees.{IsSound}
+use Rattle.history_laws.specs.Own.{claimed}
+use Rattle.history_laws.specs.OwnChanges.{claimed_after, locks_after, mark_before, without_if}
+use Rattle.coordination.specs.Agrees.{IsSoundBook}
 use Rattle.coordination.specs.Lasts.{last_of}
 use Rattle.coordination.specs.declared.parts.Part.{Part}
 use Rattle.coordination.specs.declared.parts.Room.{Room}
@@ -48,7 +48,7 @@ pub record IsRoomOf (g : GraphView) (room : Room) : Type 0 where
   pub marks : room.marks ≡ marks_of g
 
 -- its lists have room for so many locks and marks
-pub record HasRoom (locks marks : ℕ) (part : Part) : Type 0 where
+pub record HasListRoom (locks marks : ℕ) (part : Part) : Type 0 where
   pub lock_room : locks ≤ vec_capacity part.locks
   pub mark_room : marks ≤ vec_capacity part.claimed
   pub park_room : locks ≤ vec_capacity part.parked
@@ -56,9 +56,9 @@ pub record HasRoom (locks marks : ℕ) (part : Part) : Type 0 where
 -- The part is that of a worker of a sound book, and has room for all that the worker may have.
 pub record IsPartHere (w : WorkerId) (book : BookView) (part : Part) : Type 0 where
   pub known : w.0 < book.graph.workers
-  pub sound : IsSound book
+  pub sound : IsSoundBook book
   pub kept : IsPartOf book w part
-  pub room : HasRoom book.graph.locks (marks_of book.graph) part
+  pub room : HasListRoom book.graph.locks (marks_of book.graph) part
 
 -- the part of a worker that has nothing, with room for all
 pub record IsFreshPart (room : Room) (last : ℕ) (part : Part) : Type 0 where
@@ -68,12 +68,13 @@ pub record IsFreshPart (room : Room) (last : ℕ) (part : Part) : Type 0 where
   pub claimed : part.claimed.items ≡ []
   pub parked : part.parked.items ≡ []
   pub number : part.last ≡ last
-  pub has_room : HasRoom room.locks room.marks part
+  pub has_room : HasListRoom room.locks room.marks part
 
 -- these are the parts of the workers from w on, each with room for all that its worker may have
 abbrev pub ArePartsFrom : ℕ → BookView → List Part → Type 0
 ArePartsFrom w book [] = Unit {0}
-ArePartsFrom w book (part ∷ parts) = IsPartOf book (record { 0 = w }) part × HasRoom book.graph.locks (marks_of book.graph) part × ArePartsFrom (suc w) book parts
+ArePartsFrom w book (part ∷ parts) = IsPartOf book (record { 0 = w }) part × HasListRoom book.graph.locks (marks_of book.graph) part
+    × ArePartsFrom (suc w) book parts
 
 -- its lists have room for a change of the worker
 abbrev pub HasRoomFor : WorkerId → Part → Change → Type 0
@@ -99,19 +100,19 @@ pub record LeadsOn (s : StateView) (w : WorkerId) (part : Part) (changes : List 
   pub named : AllByRecursion (NamesOnly s) changes
   pub possible : can_all s w changes ≡ true
   pub has : Has s w part
-  pub room : HasRoom (length s.owners) (mark_count s) part
+  pub room : HasListRoom (length s.owners) (mark_count s) part
 
 -- a book after a transform of the worker
 abbrev pub Grew : {E : Type 0} → WorkerId → BookView → BookView → Result Disposition E → Type 0
-Grew w old new (Ok Finished) = (kind : Kind) × (changes : List Change) × HasFinished (λ g v s cs. Unit {0}) old new w kind changes
+Grew w old new (Ok Finished) = (kind : Kind) × (changes : List Change) × FinishesIn (λ g v s cs. Unit {0}) old new w kind changes
 Grew w old new (Ok Failed) = (kind : Kind) × (new.history ≡ old.history ++ entry w kind None ∷ []) × (new.state ≡ old.state)
 Grew w old new (Ok Retry) = (new.history ≡ old.history) × (new.state ≡ old.state)
 Grew w old new (Err e) = (new.history ≡ old.history) × (new.state ≡ old.state)
 
 -- The part is that of a sound book, on which a transform of the worker was run.
 pub record Follows {E : Type 0} (w : WorkerId) (old new : BookView) (ran : Result Disposition E) (part : Part) : Type 0 where
-  pub sound : IsSound old
+  pub sound : IsSoundBook old
   pub graph : new.graph ≡ old.graph
   pub grew : Grew w old new ran
   pub kept : IsPartOf old w part
-  pub room : HasRoom old.graph.locks (marks_of old.graph) part
+  pub room : HasListRoom old.graph.locks (marks_of old.graph) part

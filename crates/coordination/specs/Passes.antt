@@ -4,7 +4,7 @@ use Rattle.atomic_table.specs.Seated.{TableId}
 use Rattle.resource_lock.specs.declared.ids.WorkerId.{WorkerId}
 use Rattle.lock_journal.specs.BookView.{BookView}
 use Rattle.coordination.specs.declared.rule.Sight.{Sight}
-use Rattle.coordination.specs.Parts.{HasRoom, IsPartOf, marks_of}
+use Rattle.coordination.specs.Parts.{HasListRoom, IsPartOf, marks_of}
 use Rattle.coordination.specs.declared.parts.Part.{Part}
 use Rattle.coordination.specs.Sights.{one, sight_of}
 use Rattle.coordination.specs.Rule.{M}
@@ -19,7 +19,7 @@ pub record IsPass (worker : WorkerId) (part : Part) (me : M) : Type 0 where
   pub lone : me ≡ (one (sight_of me.0), [])
   pub worker_is : worker ≡ (sight_of me.0).worker
   pub part_is : IsPartOf (sight_of me.0).seen (sight_of me.0).worker part
-  pub room : HasRoom (sight_of me.0).seen.graph.locks (marks_of (sight_of me.0).seen.graph) part
+  pub room : HasListRoom (sight_of me.0).seen.graph.locks (marks_of (sight_of me.0).seen.graph) part
 
 -- which one it is, and the book that it was opened with
 pub record CoordinationView : Type 0 where

@@ -1,4 +1,5 @@
--- The rule of the table. Word 0 is 1 while a pass holds the book, and slot 0 has it while none does. Word 1 is 1 more than the worker that stopped the service, or 0.
+-- The rule of the table. Word 0 is 1 while a pass holds the book, and slot 0 has it while none does. Word 1 is 1 more
+-- than the worker that stopped the service, or 0.
 use Rattle.std.specs.Prelude.{◌≡◌, ◌≢◌, ℕ, suc, ◌-◌, ◌<◌, ◌≤◌, ◌^◌, true, List, [], ◌∷◌, ◌++◌, Option, Some, None, length, slice_index}
 use Rattle.std.specs.List.{All}
 use mathlib.Core.Option.{some, none}
@@ -9,10 +10,10 @@ use Rattle.resource_lock.specs.GraphView.{GraphView}
 use Rattle.resource_lock.specs.declared.ids.WorkerId.{WorkerId}
 use Rattle.lock_transforms.specs.Entry.{Entry}
 use Rattle.lock_journal.specs.BookView.{BookView}
-use Rattle.run_laws.specs.Own.{NoneOf}
+use Rattle.history_laws.specs.Own.{NoneOf}
 use Rattle.coordination.specs.declared.rule.Sight.{Sight}
 use Rattle.coordination.specs.declared.rule.SeatView.{SeatView}
-use Rattle.coordination.specs.Agrees.{Agrees, Finds, IsSound}
+use Rattle.coordination.specs.Agrees.{Agrees, Finds, IsSoundBook}
 use Rattle.coordination.specs.Sights.{seeing, stopping, hearing, one, holding, all_of, no_book, sight_of}
 
 -- what is so of each worker of the view at a seat
@@ -36,14 +37,15 @@ abbrev pub home_of : Option ℕ → BookView → maybe.Option BookView
 home_of None book = some book
 home_of (Some k) book = none
 
--- One sound book of the graph, with which each worker's sight agrees. Each worker sits at one seat, and one seat at most holds the book. The mark names a worker, or nobody.
+-- One sound book of the graph, with which each worker's sight agrees. Each worker sits at one seat, and one seat at
+-- most holds the book. The mark names a worker, or nobody.
 pub record Orderly (g : GraphView) (s : State BookView SeatView) : Type 0 where
   pub book : BookView
   pub mark : ℕ
   pub owner : ℕ → ℕ
   pub holder : Option ℕ
   pub graph : book.graph ≡ g
-  pub sound : IsSound book
+  pub sound : IsSoundBook book
   pub wide : length s.words ≡ 2
   pub deep : length s.homes ≡ 1
   pub busy : slice_index s.words 0 ≡ busy_of holder
@@ -114,4 +116,4 @@ pub record AddsOwn (s : Sight) (book : BookView) : Type 0 where
   pub graph : book.graph ≡ s.seen.graph
   pub history : book.history ≡ s.seen.history ++ more
   pub own : (w : WorkerId) → w.0 ≢ s.worker.0 → NoneOf w more
-  pub sound : IsSound s.seen → IsSound book
+  pub sound : IsSoundBook s.seen → IsSoundBook book

@@ -2,12 +2,12 @@
 use Rattle.std.specs.Prelude.{◌≡◌, ◌&&◌, List, Option, None, Some, All, length, replicate, set, slice_get}
 use Rattle.resource_lock.specs.declared.ids.WorkerId.{WorkerId}
 use Rattle.lock_journal.specs.BookView.{BookView}
-use Rattle.run_laws.specs.Marks.{IsEnded}
-use Rattle.worker_choices.specs.Ready.{StillWait, Waits}
-use Rattle.worker_choices.specs.Wakes.{last_lets_go_on}
+use Rattle.history_laws.specs.Marks.{IsEnded}
+use Rattle.worker_choices.specs.NextSteps.{StillWait, Waits}
+use Rattle.worker_choices.specs.GoingOn.{last_lets_go_on}
 use Rattle.worker_choices.specs.declared.awaited.Awaited.{Awaited}
-use Rattle.worker_choices.specs.declared.waking.Woken.{Woken}
-use Rattle.worker_choices.specs.declared.waking.Woken.TheVariants as woken
+use Rattle.worker_choices.specs.declared.woken.Woken.{Woken}
+use Rattle.worker_choices.specs.declared.woken.Woken.TheVariants as woken
 use Rattle.coordination.specs.declared.sleepers.Sleepers.{Sleepers}
 use Rattle.coordination.specs.declared.sleepers.Wakes.{Wakes}
 

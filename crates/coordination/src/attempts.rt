@@ -46,7 +46,8 @@ impl Slot {
     ) -> Tried
         requires { pass.old.service ≡ self.now.table.shared.table_id }
         ensures same { pass.new.service ≡ pass.old.service }
-        ensures tried { HasTried (T.kind_of transform.now) (T.makes transform.now) (T.fails_on transform.now) (T.retries_on transform.now) sleepers.now pass.old.sight pass.new.sight result }
+        ensures tried { HasTried (T.kind_of transform.now) (T.makes transform.now) (T.fails_on transform.now)
+            (T.retries_on transform.now) sleepers.now pass.old.sight pass.new.sight result }
     {
         match self.attempt(pass, transform, sleepers) {
             Some((Ok(Disposition::Finished), wakes)) => Tried::Entered(true, wakes),
@@ -88,7 +89,8 @@ impl Slot {
         requires { pass.old.service ≡ self.now.table.shared.table_id }
         ensures same { pass.new.service ≡ pass.old.service }
         ensures none { IfNone result (pass.new.sight ≡ pass.old.sight) }
-        ensures some { IfSome result (λ r. Attempted (T.kind_of transform.now) (T.makes transform.now) (T.fails_on transform.now) (T.retries_on transform.now) pass.old.sight pass.new.sight r.0) }
+        ensures some { IfSome result (λ r. Attempted (T.kind_of transform.now) (T.makes transform.now) (T.fails_on transform.now)
+            (T.retries_on transform.now) pass.old.sight pass.new.sight r.0) }
         ensures wakes { IfSome result (λ r. AreWakesOf pass.new.sight.seen sleepers.now r.1) }
     {
         if !self.try_take(&mut pass.seat) {
@@ -115,7 +117,7 @@ impl Slot {
         if !self.try_take(&mut pass.seat) {
             return None;
         }
-        let answer = self.put(&mut pass.seat, pass.worker, question);
+        let answer = self.ask_book(&mut pass.seat, pass.worker, question);
         self.put_back(&mut pass.seat);
         Some(answer)
     }

@@ -7,8 +7,8 @@ ghost use Rattle.resource_lock.specs.Shape.{BelongsTo};
 ghost use Rattle.resource_lock.specs.StateView.{IsWorkerOf};
 ghost use Rattle.resource_lock.specs.declared.ids.WorkerId.{WorkerId};
 ghost use Rattle.lock_journal.specs.BookView.{BookView};
-ghost use Rattle.run_laws.specs.Own.{NamesWorkers};
-ghost use Rattle.coordination.specs.Agrees.{IsSound};
+ghost use Rattle.history_laws.specs.Own.{NamesWorkers};
+ghost use Rattle.coordination.specs.Agrees.{IsSoundBook};
 
 /// In the state that a run begins in nobody has anything, so a service can be opened with it.
 pub fn openings_are_at_rest()
@@ -18,8 +18,8 @@ pub fn openings_are_at_rest()
 /// The state of a sound book, as each call finds one and leaves one, is a good one of its graph. Whoever owns a lock
 /// or runs a mark in it is a worker of the graph, and each worker of the graph is one of the state.
 pub fn sound_books_have_good_states()
-    ensures good { (book : BookView) → IsSound book → Good book.state }
-    ensures belongs { (book : BookView) → IsSound book → BelongsTo book.graph book.state }
-    ensures workers { (book : BookView) → IsSound book → NamesWorkers book.graph.workers book.state }
-    ensures known { (book : BookView) (w : WorkerId) → IsSound book → w.0 < book.graph.workers → IsWorkerOf book.state w }
+    ensures good { (book : BookView) → IsSoundBook book → Good book.state }
+    ensures belongs { (book : BookView) → IsSoundBook book → BelongsTo book.graph book.state }
+    ensures workers { (book : BookView) → IsSoundBook book → NamesWorkers book.graph.workers book.state }
+    ensures known { (book : BookView) (w : WorkerId) → IsSoundBook book → w.0 < book.graph.workers → IsWorkerOf book.state w }
 {}

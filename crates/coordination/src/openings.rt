@@ -58,7 +58,8 @@ impl Stock {
         requires empty { self.passes.items ≡ [] }
         requires room { length self.parts.items ≤ vec_capacity self.passes }
         ensures book { result.service.book ≡ slot.table.shared.key.book.value }
-        ensures passes { map (λ p. p.sight) result.passes.items ≡ sights_from 0 slot.table.shared.key.book.value.graph.workers slot.table.shared.key.book.value }
+        ensures passes { map (λ p. p.sight) result.passes.items
+            ≡ sights_from 0 slot.table.shared.key.book.value.graph.workers slot.table.shared.key.book.value }
         ensures service { All (λ p. p.service ≡ result.service.service) result.passes.items }
     {
         let Stock {

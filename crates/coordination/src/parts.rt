@@ -3,8 +3,8 @@ ghost use Rattle.std.specs.Prelude.{◌≡◌, ◌<◌, [], IfOk, length, true, 
 ghost use Rattle.resource_lock.specs.Change.{make_all};
 ghost use Rattle.resource_lock.specs.StateView.{StateView, runs_by};
 ghost use Rattle.lock_journal.specs.BookView.{BookView};
-ghost use Rattle.run_laws.specs.OwnChanges.{mark_before, with_if, without_if};
-ghost use Rattle.coordination.specs.Parts.{Follows, HasRoom, HasRoomFor, IsAfter, IsPartOf, IsFreshPart, IsRoomOf, LeadsOn, marks_of};
+ghost use Rattle.history_laws.specs.OwnChanges.{mark_before, with_if, without_if};
+ghost use Rattle.coordination.specs.Parts.{Follows, HasListRoom, HasRoomFor, IsAfter, IsPartOf, IsFreshPart, IsRoomOf, LeadsOn, marks_of};
 
 use crate::rising::{add, remove};
 use lock_journal::Book;
@@ -64,7 +64,7 @@ impl Part {
     pub fn follow(&mut self, worker: WorkerId, book: &Book, ran: &Result<Disposition, AllocError>)
         requires { (before : BookView) × Follows worker before book.now ran.now self.old }
         ensures part { IsPartOf book.now worker self.new }
-        ensures room { HasRoom book.now.graph.locks (marks_of book.now.graph) self.new }
+        ensures room { HasListRoom book.now.graph.locks (marks_of book.now.graph) self.new }
     {
         match ran {
             Ok(Disposition::Finished) => {

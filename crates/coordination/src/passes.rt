@@ -28,7 +28,8 @@ impl Model for Pass {
 
     ghost view = { λ p. record { service = p.seat.table_id; sight = sight_of p.seat.me.0 } };
 
-    ghost invariant = { λ p. IsPass p.worker p.part p.seat.me × (p.stopped ≡ (sight_of p.seat.me.0).stopped) × (p.stopped_by ≡ (sight_of p.seat.me.0).stopped_by) };
+    ghost invariant = { λ p. IsPass p.worker p.part p.seat.me × (p.stopped ≡ (sight_of p.seat.me.0).stopped)
+        × (p.stopped_by ≡ (sight_of p.seat.me.0).stopped_by) };
 }
 
 impl Pass {

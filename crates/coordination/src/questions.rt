@@ -1,7 +1,7 @@
 ghost use Rattle.std.specs.Prelude.{◌≡◌, ◌<◌, IfNone, IfSome, Option};
 ghost use Rattle.resource_lock.specs.declared.ids.WorkerId.{WorkerId};
 ghost use Rattle.lock_journal.specs.BookView.{BookView};
-ghost use Rattle.worker_choices.specs.Ready.{Waits};
+ghost use Rattle.worker_choices.specs.NextSteps.{Waits};
 ghost use Rattle.worker_choices.specs.declared.awaited.Awaited.{Awaited};
 
 use lock_journal::Book;

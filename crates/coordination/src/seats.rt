@@ -1,6 +1,6 @@
 //! The seats of the passes: cut off in `open`, joined in `finish`.
 ghost use Rattle.std.specs.Prelude.{◌≡◌, ◌<◌, ◌≤◌, ◌^◌, [], ◌∷◌, All, IfOk, length, map, vec_capacity};
-ghost use Rattle.coordination.specs.Agrees.{IsSound};
+ghost use Rattle.coordination.specs.Agrees.{IsSoundBook};
 ghost use Rattle.coordination.specs.Closings.{IsClosedBy};
 ghost use Rattle.coordination.specs.Parts.{ArePartsFrom};
 ghost use Rattle.coordination.specs.Sights.{all_of, sights_from, starting, workers_from};
@@ -19,7 +19,7 @@ use std::snapshot::Snapshot;
 impl OpenedWith {
     fn of(book: &Book) -> OpenedWith
         ensures book { result.book.value ≡ book.now }
-        ensures sound { IsSound book.now }
+        ensures sound { IsSoundBook book.now }
         ensures few { book.now.graph.workers < 2 ^ 32 }
     {
         let _ = book.state();
@@ -63,7 +63,8 @@ impl Slot {
         requires parts { ArePartsFrom 0 self.now.table.shared.key.book.value parts.items }
         requires empty { passes.items ≡ [] }
         requires room { length parts.items ≤ vec_capacity passes }
-        ensures passes { map (λ p. p.sight) result.items ≡ sights_from 0 self.now.table.shared.key.book.value.graph.workers self.now.table.shared.key.book.value }
+        ensures passes { map (λ p. p.sight) result.items
+            ≡ sights_from 0 self.now.table.shared.key.book.value.graph.workers self.now.table.shared.key.book.value }
         ensures ids { All (λ p. p.service ≡ self.now.table.shared.table_id) result.items }
     {
         for part in parts {

@@ -247,7 +247,8 @@ impl Coordination {
         ensures rest { All (λ p. HoldsNothing p.sight) passes.items → IsAtRest result.value.state }
         ensures entries { All (λ e. e.worker.0 < result.value.graph.workers) result.value.history }
         ensures together { ComeTo passes.items result.value }
-        ensures stopped_by { All (λ p. (by : WorkerId) → p.sight.stopped_by ≡ Some by → Any (λ q. (q.sight.worker ≡ by) × (q.sight.stopped ≡ true)) passes.items) passes.items }
+        ensures stopped_by { All (λ p. (by : WorkerId) → p.sight.stopped_by ≡ Some by
+            → Any (λ q. (q.sight.worker ≡ by) × (q.sight.stopped ≡ true)) passes.items) passes.items }
     {
         let Coordination {
             slot,

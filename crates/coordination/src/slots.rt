@@ -51,14 +51,16 @@ impl Slot {
         requires part { IsPartHere worker (carried_book seat.old.me.1) part.old }
         ensures same { (seat.new.table_id ≡ seat.old.table_id) × (seat.new.id ≡ seat.old.id) × (seat.new.me.0 ≡ seat.old.me.0) }
         ensures held { seat.new.me.1 ≡ (0, carried_book seat.new.me.1) ∷ [] }
-        ensures run { HasRun (T.kind_of transform.now) (T.makes transform.now) (T.fails_on transform.now) (T.retries_on transform.now) worker (carried_book seat.old.me.1) (carried_book seat.new.me.1) part.new sleepers.now result }
+        ensures run { HasRun (T.kind_of transform.now) (T.makes transform.now) (T.fails_on transform.now)
+            (T.retries_on transform.now) worker (carried_book seat.old.me.1)
+            (carried_book seat.new.me.1) part.new sleepers.now result }
     {
         let boxed = seat.slot_mut(&self.table.shared, 0);
         run_on(&mut boxed.inner, worker, part, transform, sleepers)
     }
 
     // Asks the question of the book that the seat holds.
-    pub fn put<Q: Question>(
+    pub fn ask_book<Q: Question>(
         &self,
         seat: &mut Seat<BoxedBook, SeatView>,
         worker: WorkerId,
@@ -133,7 +135,8 @@ fn run_on<T: Transform>(
     sleepers: &Sleepers,
 ) -> (Result<Disposition, AllocError>, Wakes)
     requires { IsPartHere worker book.old part.old }
-    ensures { HasRun (T.kind_of transform.now) (T.makes transform.now) (T.fails_on transform.now) (T.retries_on transform.now) worker book.old book.new part.new sleepers.now result }
+    ensures { HasRun (T.kind_of transform.now) (T.makes transform.now) (T.fails_on transform.now)
+        (T.retries_on transform.now) worker book.old book.new part.new sleepers.now result }
 {
     let ran = book.run(worker, transform);
     part.follow(worker, book, &ran);

@@ -8,7 +8,7 @@ use Rattle.daemon_protocol.specs.declared.frames.Reply.{Reply}
 use Rattle.daemon_protocol.specs.declared.frames.Request.{Request}
 use Rattle.daemon_protocol.specs.StreamStart.{look}
 use Rattle.daemon_protocol.specs.declared.starts.StreamStart.TheVariants.{Whole}
-use Rattle.worker_desk.specs.declared.files.DeskFail.{DeskFail}
+use Rattle.file_access.specs.declared.files.DeskFail.{DeskFail}
 use Rattle.daemon_desk.specs.Replies.{IsReplyTo}
 
 pub is_reply : (known : Option Folder) (q : Request) (r : Result Reply DeskFail) → IfOk r (λ x. x.unit ≡ q.unit) → IfOk r (λ x. x.outcome ≢ Skipped) → IfOk r (λ x. x.outcome ≢ Fault)

@@ -20,7 +20,8 @@ SetsArguments args old new = (command_args new ≡ command_args old ++ (codes "w
 
 -- a command got these variables
 abbrev pub SetsVariables : {A : Type 0} → List Pair → Command A → Command A → Type 0
-SetsVariables pairs old new = SameProgramAndArgs old new × (clears_env new ≡ clears_env old) × ((name : List ℕ) → command_var new name ≡ set_by pairs name (command_var old name))
+SetsVariables pairs old new = SameProgramAndArgs old new × (clears_env new ≡ clears_env old)
+    × ((name : List ℕ) → command_var new name ≡ set_by pairs name (command_var old name))
 
 -- a command got the word `worker` with these arguments, and these variables
 pub record SetsUp {A : Type 0} (args : List (List ℕ)) (pairs : List Pair) (old new : Command A) : Type 0 where

@@ -1,8 +1,8 @@
 -- A desk of the current folder, and how it counts.
 use Rattle.std.specs.Prelude.{ℕ, List, Result, Err}
-use Rattle.worker_desk.specs.Calls.{next}
-use Rattle.worker_desk.specs.declared.files.DeskFail.{DeskFail}
-use Rattle.worker_desk.specs.declared.files.DeskFail.TheVariants.{Failed}
+use Rattle.file_access.specs.Calls.{next}
+use Rattle.file_access.specs.declared.files.DeskFail.{DeskFail}
+use Rattle.file_access.specs.declared.files.DeskFail.TheVariants.{Failed}
 
 -- the program that `self` means, the count of faults, and the count of the requests sent
 pub record FolderDeskView : Type 0 where

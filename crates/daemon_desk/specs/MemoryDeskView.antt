@@ -1,7 +1,7 @@
 -- A desk in memory, and what its calls do to it.
 use Rattle.std.specs.Prelude.{ℕ, List, [], ◌∷◌, ◌++◌, Bool, Option, None, Some}
 use Rattle.item_actions.specs.Files.{Folder}
-use Rattle.worker_desk.specs.Calls.{CallsView, next, after_call}
+use Rattle.file_access.specs.Calls.{CallsView, next, after_call}
 use Rattle.daemon_desk.specs.declared.lies.Lie.{Lie}
 use Rattle.daemon_desk.specs.declared.sent.SentRequest.{SentRequest}
 

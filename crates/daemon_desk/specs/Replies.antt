@@ -9,8 +9,8 @@ use Rattle.daemon_protocol.specs.declared.frames.Reply.{Reply}
 use Rattle.daemon_protocol.specs.declared.frames.Request.{Request}
 use Rattle.daemon_protocol.specs.declared.starts.StreamStart.{StreamStart}
 use Rattle.daemon_protocol.specs.declared.starts.StreamStart.TheVariants.{Whole}
-use Rattle.worker_desk.specs.declared.files.DeskFail.{DeskFail}
-use Rattle.worker_desk.specs.declared.files.DeskFail.TheVariants.{Failed}
+use Rattle.file_access.specs.declared.files.DeskFail.{DeskFail}
+use Rattle.file_access.specs.declared.files.DeskFail.TheVariants.{Failed}
 
 -- what a daemon may tell of a request that it worked out
 abbrev pub is_told : Outcome → Bool

@@ -1,8 +1,8 @@
 ghost use Rattle.std.specs.Prelude.{◌≡◌, ◌≤◌, ℕ, List, Option, None, Some, IfOk, IfSome, IsSome, OnOk, OnErr, true};
 ghost use Rattle.std.specs.Result.{IsErrOf};
 ghost use Rattle.item_actions.specs.Forms.{is_file_name};
-ghost use Rattle.worker_desk.specs.Calls.{next};
-ghost use Rattle.worker_desk.specs.SinkView.{Rises};
+ghost use Rattle.file_access.specs.Calls.{next};
+ghost use Rattle.file_access.specs.SinkView.{Rises};
 ghost use Rattle.daemon_protocol.specs.declared.frames.Request.{Request as Asked};
 ghost use Rattle.daemon_desk.specs.declared.sent.SentRequest.{SentRequest as Sent};
 ghost use Rattle.daemon_desk.specs.Replies.{IsReplyTo};
@@ -10,10 +10,10 @@ ghost use Rattle.daemon_desk.specs.Sent.{and_sent, sent_over};
 
 use daemon_protocol::{Reply, Request};
 use daemon_requirements::{Linked, Requirements};
+use file_access::{DeskFail, Files};
 use std::alloc::Global;
-use worker_desk::{DeskFail, Files};
 
-/// The files of a build and its worker daemons, which are started, asked and stopped.
+/// The files of a build and its daemons, which are started, asked and stopped.
 ///
 /// Failed comes only where the count of faults rose in the call. A fault of a link is counted by the desk that used the
 /// link, so a link may be used through any desk of its type. Each link has to be stopped in the end, also one that failed.

@@ -5,12 +5,12 @@ use crate::desks::Desk;
 use crate::folder_link::FolderLink;
 use daemon_protocol::{Reply, Request};
 use daemon_requirements::Requirements;
+use file_access::{DeskFail, FileBytes, Files, Read, read_file};
 use item_actions::Text;
 use std::alloc::Global;
 use std::marker::Model;
 use std::process::{Processes, SystemProcess};
 use std::rt;
-use worker_desk::{DeskFail, FileBytes, Files, Read, read_file};
 
 /// A desk that reads the files of the current folder, and whose daemons are child processes in it. It tells neither the
 /// files nor the requests sent.

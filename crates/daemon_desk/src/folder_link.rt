@@ -10,11 +10,11 @@ use crate::commands::command_of;
 use crate::replies::reply_to;
 use daemon_protocol::{Frame, HEAD_BYTES, MAX_FRAME_BYTES, Reply, Request, encode};
 use daemon_requirements::{Linked, Requirements};
-use daemon_worker::take_frame;
+use daemon_server::take_frame;
+use file_access::{DeskFail, StdSink, StdSource, put_all};
 use std::alloc::Global;
 use std::marker::Model;
 use std::process::{Child, ChildStdin, ChildStdout, Command, Processes, SystemProcess};
-use worker_desk::{DeskFail, StdSink, StdSource, put_all};
 
 /// A link to a child process. It has to be stopped: a drop doesn't wait for the child.
 #[derive(Drop)]

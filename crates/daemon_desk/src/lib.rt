@@ -1,4 +1,4 @@
-//! Worker daemons as the build sees them: started, asked and stopped, in memory or as child processes.
+//! Daemons as the build sees them: started, asked and stopped, in memory or as child processes.
 #![tactic(auto)]
 
 mod commands;

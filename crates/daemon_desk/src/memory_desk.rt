@@ -1,8 +1,8 @@
 ghost use Rattle.std.specs.Prelude.{◌≡◌, ◌↔◌, [], None, Some, IfOk, IfSome, IsTrue, IsSome, OnErr, OnOk, true, false};
 ghost use Rattle.std.specs.Result.{IsErrOf};
 ghost use Rattle.item_actions.specs.Forms.{is_file_name};
-ghost use Rattle.worker_desk.specs.Calls.{no_calls, next_fails};
-ghost use Rattle.worker_desk.specs.ReadView.{ReadsFrom};
+ghost use Rattle.file_access.specs.Calls.{no_calls, next_fails};
+ghost use Rattle.file_access.specs.ReadView.{ReadsFrom};
 ghost use Rattle.daemon_desk.specs.MemoryDeskView.{called, and_sends, known_files};
 ghost use Rattle.daemon_desk.specs.Replies.{IsReplyTo};
 ghost use Rattle.daemon_desk.specs.Sent.{sent_over};
@@ -15,10 +15,10 @@ use crate::sent::SentRequest;
 use crate::serving::served_reply;
 use daemon_protocol::{Reply, Request};
 use daemon_requirements::{Linked, Requirements};
+use file_access::{Calls, DeskFail, FileMap, Files, Read};
 use item_actions::Text;
 use std::alloc::{AllocError, Global};
 use std::marker::Model;
-use worker_desk::{Calls, DeskFail, FileMap, Files, Read};
 
 /// A desk whose files are in memory, and whose daemons serve over memory on the same files.
 ///
@@ -128,7 +128,7 @@ impl MemoryDesk {
 
 impl Files for MemoryDesk {
     ghost use Rattle.std.specs.Prelude.{◌≡◌};
-    ghost use Rattle.worker_desk.specs.Calls.{next_fails};
+    ghost use Rattle.file_access.specs.Calls.{next_fails};
     ghost use Rattle.daemon_desk.specs.MemoryDeskView.{called, known_files};
 
     ghost files = { known_files };

@@ -6,9 +6,9 @@ ghost use Rattle.daemon_protocol.specs.StreamStart.{look};
 ghost use Rattle.daemon_desk.specs.Replies.{reply_to};
 
 use daemon_protocol::{Frame, Reply, StreamStart, look};
+use file_access::DeskFail;
 use item_actions::Outcome;
 use std::alloc::Global;
-use worker_desk::DeskFail;
 
 /// The reply that stands at the start of an answer. Failed comes where none does, where it is for another unit, and where it
 /// tells a fault. Nothing is counted here.

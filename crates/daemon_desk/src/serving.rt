@@ -7,14 +7,14 @@ ghost use Rattle.daemon_desk.specs.Replies.{IsReplyTo};
 
 use crate::replies::reply_in;
 use daemon_protocol::{Frame, HEAD_BYTES, Reply, Request, encode, spelled_frames_are_read};
-use daemon_worker::{Served, serve};
+use daemon_server::{Served, serve};
+use file_access::{DeskFail, FileMap, MemorySink, MemorySource};
 use std::alloc::Global;
-use worker_desk::{DeskFail, FileMap, MemorySink, MemorySource};
 
 /// The most bytes of a reply: its head, the unit, and a digest behind the byte that says so.
 const MAX_REPLY_BYTES: u64 = HEAD_BYTES as u64 + 37;
 
-/// The reply of a worker that serves over memory.
+/// The reply of a daemon that serves over memory.
 pub(crate) fn served_reply(
     alloc: Global,
     request: Request,
@@ -29,7 +29,7 @@ pub(crate) fn served_reply(
     reply_to_bytes(alloc, unit, bytes, files)
 }
 
-// The reply of a worker to the bytes of a request of this unit.
+// The reply of a daemon to the bytes of a request of this unit.
 fn reply_to_bytes(
     alloc: Global,
     unit: u32,

@@ -6,8 +6,8 @@ use Rattle.daemon_requirements.specs.RequirementsView.{RequirementsView}
 use Rattle.daemon_requirements.specs.Covers.{Covers}
 use Rattle.daemon_requirements.specs.declared.work.Work.{Work}
 use Rattle.daemon_protocol.specs.declared.frames.Request.{Request}
-use Rattle.worker_desk.specs.Calls.{next}
-use Rattle.worker_desk.specs.declared.files.DeskFail.{DeskFail}
+use Rattle.file_access.specs.Calls.{next}
+use Rattle.file_access.specs.declared.files.DeskFail.{DeskFail}
 use Rattle.daemon_desk.specs.declared.sent.SentRequest.{SentRequest}
 use Rattle.daemon_desk.specs.Sent.{and_sent, sent_over}
 

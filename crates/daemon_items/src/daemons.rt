@@ -2,14 +2,14 @@
 ghost use Rattle.std.specs.Prelude.{◌≡◌, ◌≤◌, IfErr, IfOk, IfSome};
 ghost use Rattle.std.specs.Result.{IsErrOf};
 ghost use Rattle.daemon_requirements.specs.Covers.{Covers};
-ghost use Rattle.worker_desk.specs.SinkView.{Rises};
+ghost use Rattle.file_access.specs.SinkView.{Rises};
 
 use daemon_desk::Desk;
 use daemon_manager::{Pool, Reserved};
 use daemon_requirements::{Linked, Requirements};
+use file_access::DeskFail;
 use std::alloc::{AllocError, Global};
 use std::sync::{Mutex, Wait};
-use worker_desk::DeskFail;
 
 /// The pool of a run's daemons, which its workers share.
 pub type PoolLock<L> = Mutex<Pool<L>>;

@@ -1,4 +1,4 @@
-//! Items that worker daemons of a pool work out.
+//! Items that daemons of a pool work out.
 #![tactic(auto)]
 
 mod daemons;

@@ -6,7 +6,7 @@ ghost use Rattle.item_actions.specs.Value.{IsHonest, value_on};
 ghost use Rattle.item_actions.specs.declared.outcomes.Outcome.TheVariants as outcomes;
 ghost use Rattle.daemon_requirements.specs.Covers.{Covers};
 ghost use Rattle.daemon_desk.specs.Replies.{IsReplyTo};
-ghost use Rattle.worker_desk.specs.SinkView.{Rises};
+ghost use Rattle.file_access.specs.SinkView.{Rises};
 ghost use Rattle.daemon_items.specs.Requests.{Asks, Sends, request_for};
 
 use crate::daemons::{PoolLock, fail, release, reserve};
@@ -14,10 +14,10 @@ use daemon_desk::Desk;
 use daemon_manager::Reserved;
 use daemon_protocol::{Reply, Request};
 use daemon_requirements::{Requirements, Work};
+use file_access::DeskFail;
 use item_actions::Outcome;
 use std::alloc::{AllocError, Global};
 use std::sync::Wait;
-use worker_desk::DeskFail;
 
 /// Lets a daemon of the pool work the item out, one that covers what is asked, or starts one.
 ///
@@ -41,7 +41,8 @@ pub fn work_in_daemon<R: Wait, D: Desk>(
     ensures ran { result ≢ outcomes.Skipped }
     ensures fault { result ≡ outcomes.Fault → Rises (D.faults desk.old) (D.faults desk.new) }
     ensures honest { IfSome (D.files desk.old) (λ known. IsHonest result (value_on known work.now.action work.now.file)) }
-    ensures sent { Sends asked.now (record { count = D.sends desk.old; requests = D.sent desk.old }) (record { count = D.sends desk.new; requests = D.sent desk.new }) (request_for unit work.now) result }
+    ensures sent { Sends asked.now (record { count = D.sends desk.old; requests = D.sent desk.old })
+        (record { count = D.sends desk.new; requests = D.sent desk.new }) (request_for unit work.now) result }
 {
     let Ok(request) = request_for(alloc, unit, work) else {
         return Outcome::NoMemory;
@@ -78,7 +79,8 @@ fn ask_daemon<R: Wait, D: Desk>(
     ensures kept { D.faults desk.old ≤ D.faults desk.new }
     ensures failed { IsErrOf result DeskFail.Failed → Rises (D.faults desk.old) (D.faults desk.new) }
     ensures reply { IfOk result (λ reply. IsReplyTo (D.files desk.old) request.now reply) }
-    ensures sent { Asks (record { count = D.sends desk.old; requests = D.sent desk.old }) (record { count = D.sends desk.new; requests = D.sent desk.new }) asked.now request.now result }
+    ensures sent { Asks (record { count = D.sends desk.old; requests = D.sent desk.old })
+        (record { count = D.sends desk.new; requests = D.sent desk.new }) asked.now request.now result }
 {
     let mut reserved = reserve(rt, alloc, desk, pool, request.unit, asked)?;
     let answer = ask(alloc, desk, reserved.link(), request, asked);
@@ -123,7 +125,8 @@ fn ask<D: Desk>(
     ensures kept { D.faults desk.old ≤ D.faults desk.new }
     ensures failed { IsErrOf result DeskFail.Failed → Rises (D.faults desk.old) (D.faults desk.new) }
     ensures reply { IfOk result (λ reply. IsReplyTo (D.files desk.old) request.now reply) }
-    ensures sent { Asks (record { count = D.sends desk.old; requests = D.sent desk.old }) (record { count = D.sends desk.new; requests = D.sent desk.new }) asked.now request.now result }
+    ensures sent { Asks (record { count = D.sends desk.old; requests = D.sent desk.old })
+        (record { count = D.sends desk.new; requests = D.sent desk.new }) asked.now request.now result }
 {
     desk.send(alloc, link, request)?;
     desk.receive(alloc, link)

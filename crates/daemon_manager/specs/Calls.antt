@@ -72,14 +72,14 @@ module _ {L : Type 0} (made_for : L → RequirementsView) where
     pub stopped : result ≡ Some first.link
 
   -- the value isn't this pool's: nothing changes, and the link comes back
-  pub record Refuses (old new : PoolView L) (r : Reserved L) (result : Option L) : Type 0 where
+  pub record RefusesRelease (old new : PoolView L) (r : Reserved L) (result : Option L) : Type 0 where
     pub other : ¬ IsOf made_for old r
     pub same : new ≡ old
     pub link : result ≡ Some r.link
 
   abbrev pub Releases : PoolView L → PoolView L → Reserved L → Option L → Type 0
   Releases old new r result =
-      (IsOf made_for old r × (Keeps old new r result ⊎ KeepsAndStops old new r result)) ⊎ Refuses old new r result
+      (IsOf made_for old r × (Keeps old new r result ⊎ KeepsAndStops old new r result)) ⊎ RefusesRelease old new r result
 
   -- the daemon failed its unit
   pub record Fails (old new : PoolView L) (r : Reserved L) : Type 0 where

@@ -25,4 +25,5 @@ module _ {L : Type 0} where
   IsLastCovering made_for daemons asked result =
       MatchOption result
       (All (λ i. ¬ Covers (made_for i.link) asked) daemons)
-      (λ place. IsSomeAnd (slice_get daemons place) (λ i. Covers (made_for i.link) asked) × All (λ i. ¬ Covers (made_for i.link) asked) (drop (place + 1) daemons))
+      (λ place. IsSomeAnd (slice_get daemons place) (λ i. Covers (made_for i.link) asked)
+      × All (λ i. ¬ Covers (made_for i.link) asked) (drop (place + 1) daemons))

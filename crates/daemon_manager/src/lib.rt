@@ -1,4 +1,4 @@
-//! The pool of worker daemons: which are idle, and everything that happened to each.
+//! The pool of daemons: which are idle, and everything that happened to each.
 #![tactic(auto)]
 
 mod events;

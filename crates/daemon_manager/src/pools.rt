@@ -1,4 +1,4 @@
-//! A pool of worker daemons: what happened to all, and the links to the idle ones.
+//! A pool of daemons: what happened to all, and the links to the idle ones.
 ghost use Rattle.std.specs.Prelude.{◌≡◌, ◌+◌, ◌<◌, ◌^◌, [], IfOk, IfErr, OnErr, length};
 ghost use Rattle.daemon_manager.specs.Calls.{Adopts, FailsOrNot, Releases, ReservesOrNot, StopsOrNot};
 ghost use Rattle.daemon_manager.specs.Events.{NoneIdle, IsLegal, idle};
@@ -12,7 +12,7 @@ use daemon_requirements::{Linked, Requirements};
 use std::alloc::{AllocError, Global};
 use std::marker::Model;
 
-/// The worker daemons of a run, by what happened to them. The pool holds the links to the idle ones itself, so nobody
+/// The daemons of a run, by what happened to them. The pool holds the links to the idle ones itself, so nobody
 /// else has one.
 #[derive(Drop)]
 pub struct Pool<L: Linked> {

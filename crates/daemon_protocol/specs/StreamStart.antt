@@ -54,4 +54,5 @@ FitsBehind before _ n = Unit {0}
 -- the bytes begin with these frames, one after the other, and then come the last
 pub data Cuts : List ℕ → List Frame → List ℕ → Type 0 where
   nothing : (bytes : List ℕ) → Cuts bytes [] bytes
-  first : (bytes : List ℕ) (f : Frame) (n : ℕ) (fs : List Frame) (rest : List ℕ) → look bytes ≡ Whole f n → Cuts (drop n bytes) fs rest → Cuts bytes (f ∷ fs) rest
+  first : (bytes : List ℕ) (f : Frame) (n : ℕ) (fs : List Frame) (rest : List ℕ) → look bytes ≡ Whole f n
+      → Cuts (drop n bytes) fs rest → Cuts bytes (f ∷ fs) rest

@@ -1,4 +1,4 @@
-//! The frames between a build and its worker daemons: their bytes, and a decoder of a stream in any pieces.
+//! The frames between a build and its daemons: their bytes, and a decoder of a stream in any pieces.
 #![tactic(auto)]
 
 mod bodies;

@@ -1,4 +1,4 @@
-//! What a worker daemon must be started with, and which daemon serves for what is asked.
+//! What a daemon must be started with, and which daemon serves for what is asked.
 #![tactic(auto)]
 
 mod copies;

@@ -37,7 +37,7 @@ pub enum RequirementRefusal {
     TwiceNamed(PairList, usize),
 }
 
-/// What a worker daemon is started with, or what an item asks of it: a heap of 1 to `MAX_HEAP_MB`, and
+/// What a daemon is started with, or what an item asks of it: a heap of 1 to `MAX_HEAP_MB`, and
 /// properties and variables of distinct names.
 #[derive(Drop)]
 pub struct Requirements {

@@ -6,7 +6,7 @@ use item_actions::{ItemAction, Text};
 pub enum Isolation {
     /// In the worker's own thread.
     InThread,
-    /// In a worker daemon that covers these requirements.
+    /// In a daemon that covers these requirements.
     Process(Requirements),
 }
 

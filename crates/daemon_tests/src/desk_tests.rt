@@ -9,10 +9,10 @@ use crate::asked::{Asked, requirements};
 use crate::lines::{add_failed, add_outcome};
 use daemon_desk::Desk;
 use daemon_protocol::Request;
+use file_access::DeskFail;
 use item_actions::{ItemAction, Text, is_file_name};
 use std::alloc::{AllocError, Global};
 use std::process::Abort;
-use worker_desk::DeskFail;
 
 /// The request of a unit for an action on a.txt.
 fn request(

@@ -1,4 +1,4 @@
-//! Tests of the worker daemons: what they are started with, their pool, their frames, their desks and their items.
+//! Tests of the daemons: what they are started with, their pool, their frames, their desks and their items.
 #![tactic(auto)]
 
 #[cfg(test)]

@@ -1,9 +1,9 @@
 //! What came of a test, in a line.
 use daemon_manager::Event;
+use file_access::DeskFail;
 use item_actions::Outcome;
 use std::alloc::AllocError;
 use std::process::Abort;
-use worker_desk::DeskFail;
 
 /// That the line is the expected one; else the test prints it.
 pub(crate) fn check(rt: &impl Abort, line: &str, expected: &str) {

@@ -1,8 +1,8 @@
 //! Desks in memory with one file.
 use daemon_desk::{Lie, MemoryDesk};
+use file_access::{FileEntry, FileMap};
 use item_actions::Text;
 use std::alloc::{AllocError, Global};
-use worker_desk::{FileEntry, FileMap};
 
 // The call that receives the first reply, where one daemon is started.
 const FIRST_REPLY: u64 = 2;

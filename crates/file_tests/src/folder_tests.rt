@@ -1,11 +1,11 @@
 //! Files of the current folder.
-use crate::worker_desk_tests::{Answer, ReadRow, all_read, reads};
+use crate::file_access_tests::{Answer, ReadRow, all_read, reads};
+use file_access::{Files, FolderFiles, Read, StdSink, put_all};
 use item_actions::Text;
 use std::alloc::{AllocError, Global};
 use std::fs::File;
 use std::test::Fail;
 use std::{fs, io, rt};
-use worker_desk::{Files, FolderFiles, Read, StdSink, put_all};
 
 /// Whether a sink over a new file takes the bytes.
 fn writes<R: rt::Files>(rt: &R, name: &str, bytes: &[u8]) -> io::Result<bool> {
@@ -24,17 +24,17 @@ fn varied(alloc: Global, len: u64) -> Result<Vec<u8>, AllocError> {
 
 /// Reads that answer beside a file of 10,000 bytes.
 static ANSWERED: [ReadRow<'static>; 2] = [
-    ("worker_desk_written.txt", 9999, Answer::TooLong),
-    ("worker_desk_missing.txt", 10000, Answer::NotThere),
+    ("file_access_written.txt", 9999, Answer::TooLong),
+    ("file_access_missing.txt", 10000, Answer::NotThere),
 ];
 
 /// Reads that fail, of a folder and of a name under a file.
 static FAILED: [ReadRow<'static>; 2] = [
     (".", 10000, Answer::Failed),
-    ("worker_desk_written.txt/a", 10000, Answer::Failed),
+    ("file_access_written.txt/a", 10000, Answer::Failed),
 ];
 
-const WRITTEN_FILE: &str = "worker_desk_written.txt";
+const WRITTEN_FILE: &str = "file_access_written.txt";
 
 /// Whether a file of 10,000 bytes that a sink wrote is read whole.
 fn is_written<R: rt::Files, F: Files>(rt: &R, alloc: Global, desk: &mut F) -> io::Result<bool> {
@@ -72,7 +72,7 @@ static LENGTHS: [(u64, u64); 6] = [
     (4999, 5000),
 ];
 
-const LENGTHS_FILE: &str = "worker_desk_lengths.txt";
+const LENGTHS_FILE: &str = "file_access_lengths.txt";
 
 /// Whether a file that has these bytes is read whole by their number, and is too long for one below.
 fn are_read<R: rt::Files, F: Files>(
@@ -111,7 +111,7 @@ fn files_of_lengths_about_the_first_room_are_read(rt: HostRuntime) -> Result<(),
     Ok(())
 }
 
-const GIVEN_BACK_FILE: &str = "worker_desk_given_back.txt";
+const GIVEN_BACK_FILE: &str = "file_access_given_back.txt";
 
 /// Whether a file that has these bytes is read whole, and then gives its bytes back. It is too long
 /// for half of them, where there are any.

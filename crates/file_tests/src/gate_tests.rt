@@ -1,6 +1,6 @@
 //! Gates, shared by two threads.
+use file_access::{Gate, MeetingGate, OpenGate};
 use std::thread::{Threads, join};
-use worker_desk::{Gate, MeetingGate, OpenGate};
 
 /// Has two workers enter, each in a thread of its own.
 fn enter_both<R: Threads, G: Gate + Sync>(rt: &R, gate: &G) {

@@ -2,7 +2,9 @@
 ghost use Rattle.std.specs.Prelude.{◌≡◌, IfOk, true};
 ghost use Rattle.plan_reader.specs.Graph.{graph_of};
 
-use crate::worker_desk_tests::sink;
+use crate::file_access_tests::sink;
+use file_access::{MemorySink, Page};
+use history_laws::every_run_comes_to_its_plan;
 use history_text::{write_history, write_results};
 use item_actions::Outcome;
 use lock_journal::Book;
@@ -12,11 +14,9 @@ use lock_transforms::kinds::{
 use lock_transforms::{Closed, Disposition, Transform};
 use plan_reader::{Plan, read_plan};
 use resource_lock::{LockId, WorkerId};
-use run_laws::every_run_comes_to_its_plan;
 use std::alloc::{AllocError, Global};
 use std::test::Fail;
 use worker_choices::all_ended;
-use worker_desk::{MemorySink, Page};
 
 /// A task with a fetch and an item.
 static PLAN: &[u8] = b"[[project]]\nname = \"p\"\n\n\

@@ -1,6 +1,8 @@
-//! Tests of `item_actions`, `worker_desk`, `history_text` and `history_reader`.
+//! Tests of `item_actions`, `file_access`, `history_text` and `history_reader`.
 #![tactic(auto)]
 
+#[cfg(test)]
+mod file_access_tests;
 #[cfg(test)]
 mod folder_tests;
 #[cfg(test)]
@@ -11,5 +13,3 @@ mod history_reader_tests;
 mod history_text_tests;
 #[cfg(test)]
 mod item_actions_tests;
-#[cfg(test)]
-mod worker_desk_tests;

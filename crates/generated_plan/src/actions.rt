@@ -1,12 +1,12 @@
 ghost use Rattle.std.specs.Prelude.{◌≡◌};
-ghost use Rattle.worker_desk.specs.PageView.{Adds};
+ghost use Rattle.file_access.specs.PageView.{Adds};
 ghost use Rattle.generated_plan.specs.Draws.{after_draws};
 ghost use Rattle.generated_plan.specs.Made.{action_text, first_wait, item_text, items_text, kind_drawn, second_wait, wait_text};
 
 use crate::draws::Draws;
+use file_access::{Page, Sink};
 use item_actions::{ActionKind, Text};
 use resource_lock::Retention;
-use worker_desk::{Page, Sink};
 
 const ITEMS: u32 = 4;
 

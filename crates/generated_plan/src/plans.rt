@@ -1,11 +1,11 @@
-ghost use Rattle.worker_desk.specs.PageView.{Adds};
-ghost use Rattle.worker_desk.specs.SinkView.{Prints};
+ghost use Rattle.file_access.specs.PageView.{Adds};
+ghost use Rattle.file_access.specs.SinkView.{Prints};
 ghost use Rattle.generated_plan.specs.Made.{made, project_text, projects_text, tasks_text};
 
 use crate::draws::Draws;
 use crate::tasks::{PROJECTS, write_task};
+use file_access::{Failed, Page, Sink};
 use item_actions::Text;
-use worker_desk::{Failed, Page, Sink};
 
 /// How many tasks a plan has.
 const TASKS: u32 = 400;

@@ -1,12 +1,12 @@
 ghost use Rattle.std.specs.Prelude.{◌≡◌, ◌+◌, ◌++◌, codes, decimal};
-ghost use Rattle.worker_desk.specs.PageView.{Adds};
+ghost use Rattle.file_access.specs.PageView.{Adds};
 ghost use Rattle.generated_plan.specs.Draws.{after_draws};
 ghost use Rattle.generated_plan.specs.Made.{after_text, draws_for_after, head_text, task_text};
 
 use crate::actions::{write_first, write_second};
 use crate::draws::Draws;
+use file_access::{Page, Sink};
 use item_actions::Text;
-use worker_desk::{Page, Sink};
 
 /// How many projects a plan has.
 pub(crate) const PROJECTS: u64 = 40;

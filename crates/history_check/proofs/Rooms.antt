@@ -1,6 +1,6 @@
 -- How many bytes are left to be read, and how many may be ahead.
 use Rattle.std.proofs.Common.{◌≡◌, ℕ, ◌+◌, ◌^◌, ◌<◌, ◌≤◌, List, ◌++◌, length, length-append, codes, Result, Ok, ap, subst, arith, ◌∙◌, sym}
-use Rattle.worker_desk.specs.SourceView.{SourceView}
+use Rattle.file_access.specs.SourceView.{SourceView}
 use Rattle.history_text.specs.Text.{end_text}
 use Rattle.history_reader.specs.Lines.{IsLine, first_line}
 use Rattle.history_check.specs.LinesView.{LinesView}
@@ -9,7 +9,7 @@ use Rattle.history_reader.specs.declared.histories.HistoryLine.TheVariants as li
 use Rattle.history_reader.specs.declared.fails.TextFail.{TextFail}
 use Rattle.history_check.specs.CheckView.{CheckView, IsCounted}
 use Rattle.history_check.specs.Taking.{TakesNext, StaysWithin}
-use Rattle.history_check.specs.Checking.{unread, HasRoom}
+use Rattle.history_check.specs.Checking.{unread, HasBytesLeft}
 use Rattle.history_check.specs.declared.inputs.TheConstants.{MAX_INPUT_BYTES}
 use Rattle.history_check.proofs.EndLines.{no_shorter, shortest_end}
 
@@ -27,14 +27,14 @@ line_has_some line whole =
     omega (arith, ap length whole.is, long)
 
 -- behind the first line there is room
-pub room_behind_first : {mid now : SourceView} (was is : LinesView) (text : List ℕ) → TakesNext mid now was is → StaysWithin 16 is → unread was ≤ MAX_INPUT_BYTES → text ≡ is.line → text ≡ first_line → HasRoom 0 is
+pub room_behind_first : {mid now : SourceView} (was is : LinesView) (text : List ℕ) → TakesNext mid now was is → StaysWithin 16 is → unread was ≤ MAX_INPUT_BYTES → text ≡ is.line → text ≡ first_line → HasBytesLeft 0 is
 room_behind_first was is text next within few same first =
     let ten : length is.line ≡ 10 = ap length (sym same ∙ first) in
     let behind : length is.line + length is.ahead ≤ 16 = within.line (omega (arith, ten)) in
     record { ahead = omega (arith, behind, ten, shortest_end); entries = omega (arith, less_by_line was is next, few) }
 
 -- behind the second line there is room
-pub room_behind_head : {mid now : SourceView} (was is : LinesView) (least : ℕ) → TakesNext mid now was is → StaysWithin least is → least ≡ length (end_text 0) → HasRoom 0 was → HasRoom 0 is
+pub room_behind_head : {mid now : SourceView} (was is : LinesView) (least : ℕ) → TakesNext mid now was is → StaysWithin least is → least ≡ length (end_text 0) → HasBytesLeft 0 was → HasBytesLeft 0 is
 room_behind_head was is least next within long room = record { ahead = omega (arith, within.ahead, long); entries = omega (arith, less_by_line was is next, room.entries) }
 
 ap_le : (old count new : ℕ) → old ≡ count → new ≡ count + 1 → count + 1 < 2 ^ 64 → length (end_text old) ≤ length (end_text new)
@@ -43,8 +43,8 @@ ap_le old count new same more fits =
     omega (arith, shorter, ap (λ n. length (end_text n)) same, ap (λ n. length (end_text n)) more)
 
 -- behind an entry more there is room
-pub room_behind_entry : {mid now : SourceView} (was is : LinesView) (least old count new : ℕ) → TakesNext mid now was is → StaysWithin least is → least ≡ length (end_text old) → old ≡ count → HasRoom count was → new ≡ count + 1 → 0 < length is.line
-    → (unread is < unread was) × HasRoom new is
+pub room_behind_entry : {mid now : SourceView} (was is : LinesView) (least old count new : ℕ) → TakesNext mid now was is → StaysWithin least is → least ≡ length (end_text old) → old ≡ count → HasBytesLeft count was → new ≡ count + 1 → 0 < length is.line
+    → (unread is < unread was) × HasBytesLeft new is
 room_behind_entry was is least old count new next within long same room more some =
     let left : unread is + length is.line ≡ unread was = less_by_line was is next in
     let end : length (end_text old) ≤ length (end_text new) = ap_le old count new same more (omega (arith, room.entries)) in

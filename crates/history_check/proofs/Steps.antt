@@ -1,7 +1,7 @@
 -- What a line makes of what was taken so far, and of the answer.
 use Rattle.std.proofs.Common.{◌≡◌, ◌≢◌, ℕ, ◌+◌, ◌<◌, ◌≤◌, Bool, true, false, List, [], ◌∷◌, ◌++◌, length, Option, Some, None, Result, Ok, Err, refl, sym, ap, subst, ◌∙◌, append_assoc, append-nil, arith, inl, inr, ◌⊎◌}
 use Rattle.resource_lock.specs.GraphView.{GraphView}
-use Rattle.worker_desk.specs.SourceView.{SourceView}
+use Rattle.file_access.specs.SourceView.{SourceView}
 use Rattle.plan_reader.specs.PlanView.{PlanView}
 use Rattle.history_text.specs.Text.{numbered, entry_text, end_text}
 use Rattle.history_reader.specs.HistoryView.{HistoryView}
@@ -16,7 +16,7 @@ use Rattle.history_check.specs.Taking.{TakesNext, IsCutOff, EndsLine, StaysWithi
 use Rattle.history_check.specs.CheckView.{CheckView, IsCheckOf, OpensCheck, CheckGoesOn}
 use Rattle.history_check.specs.Verdict.{IsVerdict}
 use Rattle.history_check.specs.Naming.{BeginsHistory, BreaksBehind}
-use Rattle.history_check.specs.Checking.{unread, Answers, Fails, FindsNone, FindsHead, HasTaken, HasRoom, IsUnderway, TakesHead, GoesOn, HasChecked, Shortens}
+use Rattle.history_check.specs.Checking.{unread, Answers, Fails, FindsNone, FindsHead, HasTaken, HasBytesLeft, IsUnderway, TakesHead, GoesOn, HasChecked, Shortens}
 use Rattle.history_check.specs.declared.checks.Checked.{Checked}
 use Rattle.history_check.specs.declared.checks.Checked.TheVariants as checked
 use Rattle.history_check.specs.declared.fails.CheckFail.{CheckFail}
@@ -277,7 +277,7 @@ answered_there p start now is c r a same goes = subst (λ (x : Option Checked). 
 pub still_underway : (p : PlanView) (start now : SourceView) (is : LinesView) (c : CheckView) (r : Option Checked) → r ≡ None → GoesOn p start now is c (next_gives r) → IsUnderway p start now is c
 still_underway p start now is c r same goes = subst (λ (x : Option Checked). GoesOn p start now is c (next_gives x)) same goes
 
-pub shortened : (was is : LinesView) (d : CheckView) (r : Option Checked) → r ≡ None → Shortens was is d (next_gives r) → (unread is < unread was) × HasRoom d.count is
+pub shortened : (was is : LinesView) (d : CheckView) (r : Option Checked) → r ≡ None → Shortens was is d (next_gives r) → (unread is < unread was) × HasBytesLeft d.count is
 shortened was is d r same shortens = subst (λ (x : Option Checked). Shortens was is d (next_gives x)) same shortens
 
 -- ---- the whole

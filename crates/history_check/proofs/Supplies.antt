@@ -5,8 +5,8 @@ use Rattle.std.proofs.Math.Seq.{take-add}
 use Rattle.std.proofs.lemmas.Bool.{eqb-true}
 use Rattle.std.proofs.lemmas.List.{take_all, take_more, take_rest, take-append-drop, get_or-drop, length-drop, length-take-le}
 use Rattle.std.specs.Prelude.{Result, Ok, Err, IsErrAnd}
-use Rattle.worker_desk.specs.SinkView.{Rises}
-use Rattle.worker_desk.specs.SourceView.{SourceView}
+use Rattle.file_access.specs.SinkView.{Rises}
+use Rattle.file_access.specs.SourceView.{SourceView}
 use Rattle.memchr.specs.Find.{Nowhere, NoneBefore, Passes, is_byte}
 use Rattle.history_reader.specs.Lines.{is_unbroken}
 use Rattle.history_reader.proofs.Splits.{joined, unbroken_before}

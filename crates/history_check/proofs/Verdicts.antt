@@ -13,7 +13,7 @@ use Rattle.resource_lock.specs.declared.changes.Change.{Change}
 use Rattle.history_reader.specs.declared.histories.EntryHead.{EntryHead}
 use Rattle.history_reader.specs.declared.lines.LineHead.{LineHead}
 use Rattle.history_reader.specs.declared.lines.LineHead.TheVariants as heads
-use Rattle.history_check.specs.CheckView.{CheckView, BeginsUnlawful, IsCheckOf, Admits, Refuses, Passes, Adds}
+use Rattle.history_check.specs.CheckView.{CheckView, BeginsUnlawful, IsCheckOf, Admits, RefusesEntry, Passes, Adds}
 use Rattle.history_check.specs.Verdict.{IsFirstUnlawful}
 
 none_behind : (all admitted behind : List Entry) → all ≡ admitted ++ behind → length all ≡ length admitted → behind ≡ []
@@ -56,7 +56,7 @@ with_admitted {p} {h} {old} {new} e is graph count a =
       refused = tt;
     }
 
-with_refused : {p : PlanView} {h : HistoryView} {old new : CheckView} (e : Entry) → IsCheckOf p h old → new.graph ≡ old.graph → new.count ≡ old.count + 1 → Refuses old new e → IsCheckOf p (with_entry h e) new
+with_refused : {p : PlanView} {h : HistoryView} {old new : CheckView} (e : Entry) → IsCheckOf p h old → new.graph ≡ old.graph → new.count ≡ old.count + 1 → RefusesEntry old new e → IsCheckOf p (with_entry h e) new
 with_refused {p} {h} {old} {new} e is graph count r =
     let none : is.behind ≡ [] = none_behind h.entries old.admitted is.behind is.entries (sym (r.all ∙ is.count)) in
     let same : h.entries ≡ old.admitted = is.entries ∙ (ap (λ es. old.admitted ++ es) none ∙ append-nil old.admitted) in
@@ -82,7 +82,7 @@ with_passed {p} {h} {old} {new} e is graph count a =
           (subst (λ (es : List Entry). BeginsUnlawful old.graph es (is.behind ++ e ∷ [])) (sym a.admitted) (behind_some old.graph old.admitted is.behind e some is.refused));
     }
 
-by_case : {p : PlanView} {h : HistoryView} {old new : CheckView} (e : Entry) → IsCheckOf p h old → new.graph ≡ old.graph → new.count ≡ old.count + 1 → Admits old new e ⊎ Refuses old new e ⊎ Passes old new → IsCheckOf p (with_entry h e) new
+by_case : {p : PlanView} {h : HistoryView} {old new : CheckView} (e : Entry) → IsCheckOf p h old → new.graph ≡ old.graph → new.count ≡ old.count + 1 → Admits old new e ⊎ RefusesEntry old new e ⊎ Passes old new → IsCheckOf p (with_entry h e) new
 by_case e is graph count (inl a) = with_admitted e is graph count a
 by_case e is graph count (inr (inl r)) = with_refused e is graph count r
 by_case e is graph count (inr (inr a)) = with_passed e is graph count a

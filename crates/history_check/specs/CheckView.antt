@@ -58,7 +58,7 @@ pub record Admits (old new : CheckView) (e : Entry) : Type 0 where
   pub admitted : new.admitted ≡ old.admitted ++ e ∷ []
 
 -- the entry is the first that isn't allowed
-pub record Refuses (old new : CheckView) (e : Entry) : Type 0 where
+pub record RefusesEntry (old new : CheckView) (e : Entry) : Type 0 where
   pub all : length old.admitted ≡ old.count
   pub refused : ¬ Allowed old.graph (replay old.graph old.admitted) e
   pub admitted : new.admitted ≡ old.admitted
@@ -72,4 +72,4 @@ pub record Passes (old new : CheckView) : Type 0 where
 pub record Adds (old new : CheckView) (e : Entry) : Type 0 where
   pub graph : new.graph ≡ old.graph
   pub count : new.count ≡ old.count + 1
-  pub entry : Admits old new e ⊎ Refuses old new e ⊎ Passes old new
+  pub entry : Admits old new e ⊎ RefusesEntry old new e ⊎ Passes old new

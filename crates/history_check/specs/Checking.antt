@@ -1,8 +1,8 @@
 -- What the check of an input answers, and what it takes of it.
 use Rattle.std.specs.Prelude.{ℕ, ◌≡◌, ◌+◌, ◌-◌, ◌<◌, ◌≤◌, ◌⊎◌, Bool, true, false, List, [], ◌++◌, length, take, Option, Some, None, Result, Ok, Err}
 use Rattle.std.specs.Io.KnownBytes.{Consumes}
-use Rattle.worker_desk.specs.SinkView.{Rises}
-use Rattle.worker_desk.specs.SourceView.{SourceView}
+use Rattle.file_access.specs.SinkView.{Rises}
+use Rattle.file_access.specs.SourceView.{SourceView}
 use Rattle.plan_reader.specs.PlanView.{PlanView}
 use Rattle.plan_reader.specs.Graph.{graph_of}
 use Rattle.history_text.specs.Text.{end_text}
@@ -84,7 +84,7 @@ abbrev pub unread : LinesView → ℕ
 unread lines = length lines.ahead + lines.room
 
 -- Behind so many entries no more is ahead than their end line, and each entry took a byte at least.
-pub record HasRoom (count : ℕ) (lines : LinesView) : Type 0 where
+pub record HasBytesLeft (count : ℕ) (lines : LinesView) : Type 0 where
   pub ahead : length lines.ahead ≤ length (end_text count)
   pub entries : count + unread lines ≤ MAX_INPUT_BYTES
 
@@ -99,7 +99,7 @@ FindsHead start now lines (Err fail) = Fails start now fail
 
 -- where the first line was found, there is room
 abbrev pub FindsRoom : LinesView → Result Bool CheckFail → Type 0
-FindsRoom lines (Ok true) = HasRoom 0 lines
+FindsRoom lines (Ok true) = HasBytesLeft 0 lines
 FindsRoom lines (Ok false) = Unit {0}
 FindsRoom lines (Err fail) = Unit {0}
 
@@ -117,13 +117,13 @@ TakesHead p start now lines (Err fail) = Fails start now fail
 
 -- a check that opens has counted no entry, and there is room
 abbrev pub OpensWithin : LinesView → Result (Option CheckView) CheckFail → Type 0
-OpensWithin lines (Ok (Some c)) = (c.count ≡ 0) × HasRoom 0 lines
+OpensWithin lines (Ok (Some c)) = (c.count ≡ 0) × HasBytesLeft 0 lines
 OpensWithin lines (Ok None) = Unit {0}
 OpensWithin lines (Err fail) = Unit {0}
 
 -- where no answer comes, less is left to be read, and there is room
 abbrev pub Shortens : LinesView → LinesView → CheckView → Result (Option Checked) CheckFail → Type 0
-Shortens was is new (Ok None) = (unread is < unread was) × HasRoom new.count is
+Shortens was is new (Ok None) = (unread is < unread was) × HasBytesLeft new.count is
 Shortens was is new (Ok (Some a)) = Unit {0}
 Shortens was is new (Err fail) = Unit {0}
 

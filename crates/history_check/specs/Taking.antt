@@ -1,8 +1,8 @@
 -- What taking lines does to a source.
 use Rattle.std.specs.Prelude.{ℕ, ◌≡◌, ◌+◌, ◌-◌, ◌<◌, ◌≤◌, ◌⊎◌, Bool, true, false, if◌then◌else◌, nat_lt, List, [], ◌++◌, length, Option, Result, Ok, Err}
 use Rattle.std.specs.Io.KnownBytes.{Consumes, IsAtEnd}
-use Rattle.worker_desk.specs.SinkView.{Rises}
-use Rattle.worker_desk.specs.SourceView.{SourceView}
+use Rattle.file_access.specs.SinkView.{Rises}
+use Rattle.file_access.specs.SourceView.{SourceView}
 use Rattle.history_reader.specs.Lines.{is_unbroken, IsLine}
 use Rattle.history_check.specs.LinesView.{LinesView}
 use Rattle.history_check.specs.declared.fails.CheckFail.{CheckFail}

@@ -1,6 +1,6 @@
+use file_access::Failed;
 use std::alloc::{AllocError, AllocFailed};
 use thiserror::Error;
-use worker_desk::Failed;
 
 /// Why an input was not checked.
 #[derive(Clone, Copy, Debug, PartialEq, Eq, Error)]

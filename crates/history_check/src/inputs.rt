@@ -1,17 +1,17 @@
 ghost use Rattle.std.specs.Prelude.{◌≡◌, [], length};
 ghost use Rattle.history_text.specs.Text.{end_text};
 ghost use Rattle.plan_reader.specs.PlanView.{PlanView};
-ghost use Rattle.worker_desk.specs.SourceView.{SourceView};
-ghost use Rattle.history_check.specs.Checking.{HasChecked, HasRoom, GoesOn, FindsHead, FindsRoom, IsUnderway, Shortens, TakesHead, HasTaken, OpensWithin};
+ghost use Rattle.file_access.specs.SourceView.{SourceView};
+ghost use Rattle.history_check.specs.Checking.{HasChecked, HasBytesLeft, GoesOn, FindsHead, FindsRoom, IsUnderway, Shortens, TakesHead, HasTaken, OpensWithin};
 ghost use Rattle.history_reader.specs.Lines.{first_line};
 
 use crate::checks::{Checked, HistoryCheck};
 use crate::fails::CheckFail;
 use crate::lines::Lines;
+use file_access::Source;
 use history_reader::{HistoryLine, TextFail, is_first_line};
 use plan_reader::Plan;
 use std::alloc::Global;
-use worker_desk::Source;
 
 /// The most bytes that are taken of an input.
 pub const MAX_INPUT_BYTES: u64 = 67_108_864;
@@ -48,7 +48,7 @@ fn check_behind<I: Source>(
     input: &mut I,
     lines: &mut Lines,
 ) -> Result<Checked, CheckFail>
-    requires { HasRoom 0 lines.old }
+    requires { HasBytesLeft 0 lines.old }
     ensures { (start : SourceView) → HasTaken start (I.seen input.old) lines.old first_line → HasChecked plan.now start (I.seen input.new) result }
 {
     let opened = open_check(alloc, plan, input, lines)?;
@@ -83,9 +83,10 @@ fn open_check<I: Source>(
     input: &mut I,
     lines: &mut Lines,
 ) -> Result<Option<HistoryCheck>, CheckFail>
-    requires { HasRoom 0 lines.old }
+    requires { HasBytesLeft 0 lines.old }
     ensures count { OpensWithin lines.new result }
-    ensures head { (start : SourceView) → HasTaken start (I.seen input.old) lines.old first_line → TakesHead plan.now start (I.seen input.new) lines.new result }
+    ensures head { (start : SourceView) → HasTaken start (I.seen input.old) lines.old first_line
+        → TakesHead plan.now start (I.seen input.new) lines.new result }
 {
     lines.take_line(input, end_length(0))?;
     match HistoryCheck::opening(alloc, plan, lines.line()) {
@@ -102,7 +103,7 @@ fn check_lines<I: Source>(
     input: &mut I,
     lines: &mut Lines,
 ) -> Result<Checked, CheckFail>
-    requires { HasRoom check.old.count lines.old }
+    requires { HasBytesLeft check.old.count lines.old }
     ensures { (p : PlanView) (start : SourceView) → IsUnderway p start (I.seen input.old) lines.old check.old → HasChecked p start (I.seen input.new) result }
 {
     loop {
@@ -120,7 +121,7 @@ fn check_next<I: Source>(
     input: &mut I,
     lines: &mut Lines,
 ) -> Result<Option<Checked>, CheckFail>
-    requires { HasRoom check.old.count lines.old }
+    requires { HasBytesLeft check.old.count lines.old }
     ensures shortens { Shortens lines.old lines.new check.new result }
     ensures goes_on { (p : PlanView) (start : SourceView) → IsUnderway p start (I.seen input.old) lines.old check.old
         → GoesOn p start (I.seen input.new) lines.new check.new result }

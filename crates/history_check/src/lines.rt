@@ -5,12 +5,12 @@ ghost use Rattle.history_check.specs.Taking.{Splits, TakesPiece, TakesLine, want
 ghost use Rattle.history_check.specs.declared.lines.TheConstants.{MAX_PIECE};
 
 use crate::fails::CheckFail;
+use file_access::Source;
 use memchr::memchr;
 use std::alloc::Global;
 use std::cmp::min;
 use std::marker::Model;
 use std::mem::swap;
-use worker_desk::Source;
 
 /// The most bytes that are taken by one call.
 pub(crate) const MAX_PIECE: usize = 32;

@@ -36,7 +36,8 @@ abbrev pub first_line : List ℕ
 first_line = codes "history 1\n"
 
 abbrev pub second_line : ℕ → ℕ → Bool → List ℕ
-second_line workers max_leases parallel = codes "workers " ++ decimal workers ++ codes " max " ++ decimal max_leases ++ codes " parallel " ++ parallel_text parallel ++ codes "\n"
+second_line workers max_leases parallel = codes "workers " ++ decimal workers ++ codes " max " ++ decimal max_leases
+    ++ codes " parallel " ++ parallel_text parallel ++ codes "\n"
 
 -- the second line of a history, which has no entries yet
 pub record Opens (line : List ℕ) (h : HistoryView) : Type 0 where

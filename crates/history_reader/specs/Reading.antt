@@ -31,7 +31,8 @@ is_digit c = nat_le 48 c && nat_le c 57
 -- the digits after the number so far
 abbrev pub number_after : ℕ → ℕ → List ℕ → Option (ℕ × List ℕ)
 number_after limit n [] = Some (n, [])
-number_after limit n (c ∷ text) = if is_digit c then (if nat_lt (n * 10 + (c - 48)) limit then number_after limit (n * 10 + (c - 48)) text else None) else Some (n, c ∷ text)
+number_after limit n (c ∷ text) = if is_digit c
+    then (if nat_lt (n * 10 + (c - 48)) limit then number_after limit (n * 10 + (c - 48)) text else None) else Some (n, c ∷ text)
 
 abbrev pub begins_with_digit : List ℕ → Bool
 begins_with_digit [] = false
@@ -40,7 +41,9 @@ begins_with_digit (c ∷ text) = is_digit c
 -- a number below the limit without leading zeros
 abbrev pub number_at : ℕ → List ℕ → Option (ℕ × List ℕ)
 number_at limit [] = None
-number_at limit (c ∷ text) = if is_digit c then (if nat_eq c 48 then (if begins_with_digit text then None else Some (0, text)) else number_after limit (c - 48) text) else None
+number_at limit (c ∷ text) = if is_digit c
+    then (if nat_eq c 48 then (if begins_with_digit text then None else Some (0, text)) else number_after limit (c - 48) text)
+    else None
 
 abbrev pub number_as : {A : Type 0} → (ℕ → A) → List ℕ → Option (A × List ℕ)
 number_as make text = number_at (2 ^ 32) text >>= λ n. Some (make n.0, n.1)
@@ -64,7 +67,8 @@ id_at text =
     (branch (codes "unit ") text (number_as UnitOf) None))
 
 unfoldable pub move_at : WorkerId → List ℕ → Option (Change × List ℕ)
-move_at w text = id_at text >>= λ id. after (codes " ") id.1 >>= λ rest. mark_at w rest >>= λ from. after (codes " ") from.1 >>= λ rest'. mark_at w rest' >>= λ to. Some (Move id.0 from.0 to.0, to.1)
+move_at w text = id_at text >>= λ id. after (codes " ") id.1 >>= λ rest. mark_at w rest >>= λ from. after (codes " ") from.1
+    >>= λ rest'. mark_at w rest' >>= λ to. Some (Move id.0 from.0 to.0, to.1)
 
 unfoldable pub change_at : WorkerId → List ℕ → Option (Change × List ℕ)
 change_at w text =
@@ -80,7 +84,8 @@ change_at w text =
 -- further changes, with at most so many turns
 abbrev pub further_at : ℕ → WorkerId → List ℕ → Option (List Change × List ℕ)
 further_at zero w text = None
-further_at (suc turns) w text = on (after (codes ", ") text) (λ rest. change_at w rest >>= λ c. further_at turns w c.1 >>= λ cs. Some (c.0 ∷ cs.0, cs.1)) (Some ([], text))
+further_at (suc turns) w text = on (after (codes ", ") text) (λ rest. change_at w rest >>= λ c. further_at turns w c.1
+    >>= λ cs. Some (c.0 ∷ cs.0, cs.1)) (Some ([], text))
 
 unfoldable pub changes_at : WorkerId → List ℕ → Option (List Change × List ℕ)
 changes_at w text = change_at w text >>= λ c. further_at (length c.1) w c.1 >>= λ cs. Some (c.0 ∷ cs.0, cs.1)

@@ -27,6 +27,7 @@ pub fn texts_stop_at_one_place()
 pub fn a_line_more()
     ensures first { (line more : List ℕ) → IsLineBefore line more → line ≢ first_line → StopsAt (line ++ more) 0 }
     ensures second { (line more : List ℕ) → IsLineBefore line more → OpensNone line → StopsAt (first_line ++ (line ++ more)) 0 }
-    ensures wrong { (h : HistoryView) (line more : List ℕ) → HistoryFits h → IsLineBefore line more → IsWrongAfter h line → StopsAt (lines_of h ++ (line ++ more)) (next_number h) }
+    ensures wrong { (h : HistoryView) (line more : List ℕ) → HistoryFits h → IsLineBefore line more → IsWrongAfter h line
+        → StopsAt (lines_of h ++ (line ++ more)) (next_number h) }
     ensures behind { (h : HistoryView) (more : List ℕ) → HistoryFits h → more ≢ [] → StopsAt (text_of h ++ more) (next_number h) }
 {}

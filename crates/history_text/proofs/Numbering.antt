@@ -4,9 +4,9 @@ use Rattle.std.specs.List.{slice_get}
 use Rattle.std.specs.Option.{option_map}
 use Rattle.std.proofs.lemmas.List.{take_more, length-take-le}
 use Rattle.std.proofs.lemmas.Option.{slice_get_within, get_or_from_slice_get, slice_get-map}
-use Rattle.worker_desk.specs.SinkView.{SinkView}
-use Rattle.worker_desk.specs.PageView.{PageView, Adds}
-use Rattle.worker_desk.proofs.Telling.{adds_as, adds_then}
+use Rattle.file_access.specs.SinkView.{SinkView}
+use Rattle.file_access.specs.PageView.{PageView, Adds}
+use Rattle.file_access.proofs.Telling.{adds_as, adds_then}
 use Rattle.history_text.specs.Text.{numbered}
 
 pub numbered-append : {X : Type 0} (line : ℕ → X → List ℕ) (n : ℕ) (xs ys : List X) → numbered line n (xs ++ ys) ≡ numbered line n xs ++ numbered line (n + length xs) ys

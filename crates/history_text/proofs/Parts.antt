@@ -7,9 +7,9 @@ use Rattle.std.proofs.lemmas.List.Folds.{length-flat_map-take}
 use Rattle.std.proofs.lemmas.Option.{slice_get_within, get_or_from_slice_get}
 use Rattle.item_actions.specs.declared.outcomes.Outcome.{Outcome}
 use Rattle.resource_lock.specs.declared.marks.Mark.{Mark}
-use Rattle.worker_desk.specs.SinkView.{SinkView}
-use Rattle.worker_desk.specs.PageView.{PageView, Adds}
-use Rattle.worker_desk.proofs.Telling.{adds_as, adds_then}
+use Rattle.file_access.specs.SinkView.{SinkView}
+use Rattle.file_access.specs.PageView.{PageView, Adds}
+use Rattle.file_access.proofs.Telling.{adds_as, adds_then}
 use Rattle.plan_reader.specs.PlanView.{PlanTaskView}
 use Rattle.plan_reader.specs.Units.{task_units}
 use Rattle.history_text.specs.Text.{numbered}

@@ -1,4 +1,4 @@
--- What happened to the worker daemons, as a text: a line with the number of events, and a line for each.
+-- What happened to the daemons, as a text: a line with the number of events, and a line for each.
 use Rattle.std.specs.Prelude.{ℕ, List, ◌++◌, codes, decimal, length}
 use Rattle.std.specs.List.{flat_map}
 use Rattle.daemon_manager.specs.declared.events.Event.{Event}

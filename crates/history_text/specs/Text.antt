@@ -98,7 +98,8 @@ parallel_text true = codes "yes"
 parallel_text false = codes "no"
 
 abbrev pub head_text : ℕ → ℕ → Bool → List ℕ
-head_text workers max_leases parallel = codes "history 1\nworkers " ++ decimal workers ++ codes " max " ++ decimal max_leases ++ codes " parallel " ++ parallel_text parallel ++ codes "\n"
+head_text workers max_leases parallel = codes "history 1\nworkers " ++ decimal workers ++ codes " max " ++ decimal max_leases
+    ++ codes " parallel " ++ parallel_text parallel ++ codes "\n"
 
 abbrev pub end_text : ℕ → List ℕ
 end_text count = codes "end " ++ decimal count ++ codes "\n"

@@ -1,10 +1,10 @@
 ghost use Rattle.std.specs.Prelude.{◌++◌, codes, decimal, if◌then◌else◌, Some, None};
 ghost use Rattle.std.specs.List.{flat_map};
-ghost use Rattle.worker_desk.specs.PageView.{Adds};
+ghost use Rattle.file_access.specs.PageView.{Adds};
 ghost use Rattle.history_text.specs.Text.{mark_text, id_text, change_text, further_text, changes_text, effect_text};
 
+use file_access::{Page, Sink};
 use resource_lock::{Change, Mark, MarkId};
-use worker_desk::{Page, Sink};
 
 /// Writes a word and a number.
 #[inline(always)]

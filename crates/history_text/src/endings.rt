@@ -1,12 +1,12 @@
 ghost use Rattle.std.specs.Prelude.{◌≡◌, ◌<◌, length};
 ghost use Rattle.lock_journal.specs.Closings.{outcome_in};
-ghost use Rattle.run_laws.specs.Marks.{HasEnded};
+ghost use Rattle.history_laws.specs.Marks.{HasEnded};
 ghost use Rattle.history_text.specs.Results.{task_marks};
 
+use history_laws::closing_entries_give_the_marks;
 use item_actions::Outcome;
 use lock_journal::Book;
 use resource_lock::{Mark, MarkId};
-use run_laws::closing_entries_give_the_marks;
 
 /// The mark of a task.
 pub(crate) fn mark_of(book: &Book, task: u32) -> Mark

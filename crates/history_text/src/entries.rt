@@ -1,13 +1,13 @@
 ghost use Rattle.std.specs.Prelude.{◌++◌, codes};
-ghost use Rattle.worker_desk.specs.PageView.{Adds};
+ghost use Rattle.file_access.specs.PageView.{Adds};
 ghost use Rattle.lock_journal.specs.Shown.{entry_shown};
 ghost use Rattle.history_text.specs.Text.{closed_text, kind_text, entry_text, numbered};
 
 use crate::changes::{write_effect, write_numbered};
 use crate::outcomes::write_outcome;
+use file_access::{Page, Sink};
 use lock_journal::{Book, Shown};
 use lock_transforms::{Closed, Kind};
-use worker_desk::{Page, Sink};
 
 fn write_closed<K: Sink>(word: &[u8], closed: &Closed, page: &mut Page, sink: &mut K)
     ensures { Adds (K.seen sink.old) page.old (K.seen sink.new) page.new (word.now ++ closed_text closed.now) }

@@ -1,10 +1,10 @@
-//! What happened to the worker daemons of a run.
+//! What happened to the daemons of a run.
 ghost use Rattle.std.specs.Prelude.{◌++◌, decimal};
-ghost use Rattle.worker_desk.specs.PageView.{Adds};
+ghost use Rattle.file_access.specs.PageView.{Adds};
 ghost use Rattle.history_text.specs.Events.{event_text, events_text};
 
 use daemon_manager::Event;
-use worker_desk::{Page, Sink};
+use file_access::{Page, Sink};
 
 /// Writes a word, a number and another word.
 fn write_between<K: Sink>(word: &[u8], number: u64, behind: &[u8], page: &mut Page, sink: &mut K)

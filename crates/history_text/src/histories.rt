@@ -1,11 +1,11 @@
 ghost use Rattle.std.specs.Prelude.{length};
-ghost use Rattle.worker_desk.specs.PageView.{Adds};
+ghost use Rattle.file_access.specs.PageView.{Adds};
 ghost use Rattle.history_text.specs.Text.{parallel_text, head_text, end_text, history_text};
 
 use crate::changes::write_numbered;
 use crate::entries::write_entries;
+use file_access::{Page, Sink};
 use lock_journal::Book;
-use worker_desk::{Page, Sink};
 
 fn write_parallel<K: Sink>(parallel: bool, page: &mut Page, sink: &mut K)
     ensures { Adds (K.seen sink.old) page.old (K.seen sink.new) page.new (parallel_text parallel) }

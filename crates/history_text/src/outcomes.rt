@@ -1,12 +1,12 @@
 ghost use Rattle.std.specs.Prelude.{◌≡◌, ◌<◌, ◌++◌, decimal, false};
 ghost use Rattle.std.specs.List.{flat_map};
 ghost use Rattle.std.specs.Fmt.{digit_glyph};
-ghost use Rattle.worker_desk.specs.PageView.{Adds};
+ghost use Rattle.file_access.specs.PageView.{Adds};
 ghost use Rattle.history_text.specs.Text.{hex_text, outcome_text};
 ghost use Rattle.history_text.specs.Results.{value_text};
 
+use file_access::{Page, Sink};
 use item_actions::Outcome;
-use worker_desk::{Page, Sink};
 
 /// Writes an outcome as the history text spells it: its word, and a value where it has one.
 pub(crate) fn write_outcome<K: Sink>(outcome: &Outcome, page: &mut Page, sink: &mut K)

@@ -1,21 +1,21 @@
 ghost use Rattle.std.specs.Prelude.{◌≡◌, ◌+◌, ◌<◌, ◌≤◌, ◌^◌, length, map, if◌then◌else◌};
 ghost use Rattle.std.specs.List.{flat_map};
-ghost use Rattle.worker_desk.specs.PageView.{Adds};
+ghost use Rattle.file_access.specs.PageView.{Adds};
 ghost use Rattle.lock_journal.specs.Closings.{outcome_in};
 ghost use Rattle.plan_reader.specs.PlanView.{plan_task_view};
 ghost use Rattle.plan_reader.specs.Units.{task_units, plan_units};
-ghost use Rattle.run_laws.specs.Marks.{HasEnded};
+ghost use Rattle.history_laws.specs.Marks.{HasEnded};
 ghost use Rattle.history_text.specs.Results.{task_marks, task_line, task_text, tasks_text, results_text, summary_text};
 
 use crate::changes::write_mark;
 use crate::endings::mark_of;
 use crate::summaries::write_summary;
 use crate::units::{write_actions, write_name};
+use file_access::{Page, Sink};
 use item_actions::Text;
 use lock_journal::Book;
 use plan_reader::{Plan, PlanTask};
 use resource_lock::Mark;
-use worker_desk::{Page, Sink};
 
 /// Writes the line of a task.
 pub(crate) fn write_task_line<K: Sink>(name: &Text, mark: Mark, page: &mut Page, sink: &mut K)

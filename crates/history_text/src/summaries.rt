@@ -1,15 +1,15 @@
 ghost use Rattle.std.specs.Prelude.{◌≡◌, ◌++◌, length, codes, decimal};
 ghost use Rattle.std.specs.List.{sum_by};
-ghost use Rattle.worker_desk.specs.PageView.{Adds};
+ghost use Rattle.file_access.specs.PageView.{Adds};
 ghost use Rattle.lock_journal.specs.Closings.{outcome_in};
-ghost use Rattle.run_laws.specs.Marks.{HasEnded};
+ghost use Rattle.history_laws.specs.Marks.{HasEnded};
 ghost use Rattle.history_text.specs.Results.{task_marks, number_in, task_counts, unit_counts, counts_text, summary_of, below};
 
 use crate::counts::Counts;
 use crate::endings::{mark_of, outcome_of};
+use file_access::{Page, Sink};
 use item_actions::Outcome;
 use lock_journal::Book;
-use worker_desk::{Page, Sink};
 
 fn count_tasks(book: &Book) -> Counts
     ensures { result ≡ task_counts (below (length book.now.graph.tasks) (task_marks book.now.state)) }

@@ -1,20 +1,20 @@
 ghost use Rattle.std.specs.Prelude.{◌≡◌, ◌+◌, ◌<◌, ◌≤◌, ◌^◌, length, map};
 ghost use Rattle.std.specs.List.{flat_map};
-ghost use Rattle.worker_desk.specs.PageView.{Adds};
+ghost use Rattle.file_access.specs.PageView.{Adds};
 ghost use Rattle.lock_journal.specs.Closings.{outcome_in};
 ghost use Rattle.plan_reader.specs.PlanView.{work_view, plan_action_view};
 ghost use Rattle.plan_reader.specs.Units.{item_unit, fetch_units, action_units};
-ghost use Rattle.run_laws.specs.Marks.{HasEnded};
+ghost use Rattle.history_laws.specs.Marks.{HasEnded};
 ghost use Rattle.history_text.specs.Text.{numbered};
 ghost use Rattle.history_text.specs.Results.{unit_line, unit_text};
 
 use crate::endings::outcome_of;
 use crate::outcomes::write_value;
 use daemon_requirements::Work;
+use file_access::{Page, Sink};
 use item_actions::{Outcome, Text};
 use lock_journal::Book;
 use plan_reader::PlanAction;
-use worker_desk::{Page, Sink};
 
 /// Writes a task's name or a file.
 pub(crate) fn write_name<K: Sink>(name: &Text, page: &mut Page, sink: &mut K)

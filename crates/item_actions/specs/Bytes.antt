@@ -16,8 +16,8 @@ abbrev pub begins_word : List ℕ → ℕ → Bool
 begins_word bytes k = not (is_space (slice_index bytes k)) && follows_space bytes k
 
 -- how many places begin a word
-unfoldable pub words : List ℕ → ℕ
-words bytes = count_by (begins_word bytes) (range_with_len 0 (length bytes))
+unfoldable pub word_count : List ℕ → ℕ
+word_count bytes = count_by (begins_word bytes) (range_with_len 0 (length bytes))
 
 -- how many bytes stand before the first line end
 abbrev pub run : List ℕ → ℕ

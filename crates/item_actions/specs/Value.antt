@@ -3,7 +3,7 @@ use Rattle.std.specs.Prelude.{ℕ, ◌≡◌, ◌⊎◌, ◌==◌, nat_lt, List,
 use Rattle.item_actions.specs.declared.actions.ItemAction.{ItemAction}
 use Rattle.item_actions.specs.declared.limits.TheConstants.{MAX_FILE_BYTES}
 use Rattle.sha2.specs.Sha256.{sha256}
-use Rattle.item_actions.specs.Bytes.{words, longest, occurrences}
+use Rattle.item_actions.specs.Bytes.{word_count, longest, occurrences}
 use Rattle.item_actions.specs.Files.{Folder, file_of}
 use Rattle.item_actions.specs.declared.actions.ItemAction.TheVariants.{Lines, Words, Bytes, Longest, Count, Sha256}
 use Rattle.item_actions.specs.declared.outcomes.Outcome.{Outcome}
@@ -12,7 +12,7 @@ use Rattle.item_actions.specs.declared.outcomes.Outcome.TheVariants.{Number, Dig
 -- the value of an action on bytes
 abbrev pub act_on : ItemAction → List ℕ → Outcome
 act_on Lines bytes = Number (count_by (λ b. b == 10) bytes)
-act_on Words bytes = Number (words bytes)
+act_on Words bytes = Number (word_count bytes)
 act_on Bytes bytes = Number (length bytes)
 act_on Longest bytes = Number (longest bytes)
 act_on (Count needle) bytes = Number (occurrences needle bytes)

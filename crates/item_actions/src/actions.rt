@@ -6,7 +6,7 @@ use crate::needles::Needle;
 use crate::occurrences::count_of_needle;
 use crate::outcomes::Outcome;
 use crate::pieces::longest_piece;
-use crate::words::count_of_words;
+use crate::word_counts::count_of_words;
 use sha2::{Digest, Sha256};
 
 const LINE_END: u8 = b'\n';

@@ -15,7 +15,7 @@ mod outcomes;
 mod pieces;
 mod places;
 mod texts;
-mod words;
+mod word_counts;
 
 pub use action_kinds::ActionKind;
 pub use actions::{ItemAction, act};

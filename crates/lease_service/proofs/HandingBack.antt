@@ -12,7 +12,7 @@ use Rattle.lock_transforms.specs.Allowed.{IsFixedList, IsUnmet}
 use Rattle.lock_journal.specs.BookView.{BookView}
 use Rattle.lock_transforms.specs.Table.{condition}
 use Rattle.lock_transforms.specs.declared.entries.Kind.TheVariants as kinds
-use Rattle.run_laws.specs.OwnChanges.{after_all, claimed_after, lock_before, locks_after, without_member}
+use Rattle.history_laws.specs.OwnChanges.{after_all, claimed_after, lock_before, locks_after, without_member}
 use Rattle.coordination.specs.declared.rule.Sight.{Sight}
 use Rattle.coordination.specs.Agrees.{Finds}
 use Rattle.coordination.specs.Calls.{HasFinished, WasStopped}

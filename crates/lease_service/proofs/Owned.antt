@@ -6,7 +6,7 @@ use Rattle.resource_lock.specs.StateView.{StateView, is_owner, is_parked, owns, 
 use Rattle.resource_lock.specs.declared.ids.LockId.{LockId}
 use Rattle.resource_lock.specs.declared.ids.WorkerId.{WorkerId}
 use Rattle.lock_transforms.specs.Table.{owned, owned_from}
-use Rattle.run_laws.specs.Own.{action_at, claimed, places_from, task_at, unit_at}
+use Rattle.history_laws.specs.Own.{action_at, claimed, places_from, task_at, unit_at}
 
 none_passes : {X : Type 0} (test : X → Bool) (n : ℕ) (xs : List X) → places_from test n xs ≡ [] → list_any test xs ≡ false
 none_passes test n [] none = refl

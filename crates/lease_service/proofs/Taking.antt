@@ -17,7 +17,7 @@ use Rattle.lock_transforms.specs.Table.{condition}
 use Rattle.lock_transforms.specs.Taking.{acquired, can_take_all, is_open, may_acquire}
 use Rattle.lock_transforms.specs.declared.entries.Kind.{Kind}
 use Rattle.lock_transforms.specs.declared.entries.Kind.TheVariants as kinds
-use Rattle.run_laws.specs.OwnChanges.{after_all, claimed_after, lock_before, locks_after, with_member}
+use Rattle.history_laws.specs.OwnChanges.{after_all, claimed_after, lock_before, locks_after, with_member}
 use Rattle.coordination.specs.declared.rule.Sight.{Sight}
 use Rattle.coordination.specs.declared.halts.Halt.{Halt}
 use Rattle.coordination.specs.declared.halts.Halt.TheVariants.{NoMemory, Stopped}

@@ -4,7 +4,7 @@ use Rattle.std.specs.List.{All, filter}
 use Rattle.resource_lock.specs.StateView.{stands_in}
 use Rattle.resource_lock.specs.declared.ids.LockId.{LockId}
 use Rattle.lock_transforms.specs.Taking.{rises}
-use Rattle.run_laws.specs.OwnChanges.{lock_before, with_member}
+use Rattle.history_laws.specs.OwnChanges.{lock_before, with_member}
 use Rattle.coordination.specs.declared.rule.Sight.{Sight}
 use Rattle.coordination.specs.Shown.{Shows, blocked_shown, claimed_shown, locks_shown, parked_shown}
 
@@ -23,7 +23,8 @@ with_locks had (l ∷ ls) = with_locks (with_member lock_before l had) ls
 
 -- the pass shows a lease, the locks that it showed, and those of these that weren't among them
 abbrev pub ShowsTaken : List LockId → Sight → Sight → Type 0
-ShowsTaken named old new = Shows (with_locks (locks_shown old) (filter (λ l. not (stands_in l (locks_shown old))) named)) true (claimed_shown old) (parked_shown old) old new
+ShowsTaken named old new = Shows (with_locks (locks_shown old) (filter (λ l. not (stands_in l (locks_shown old))) named)) true
+    (claimed_shown old) (parked_shown old) old new
 
 -- the pass shows no lock and no lease
 abbrev pub ShowsGivenBack : Sight → Sight → Type 0

@@ -59,7 +59,8 @@ pub fn take_locks<R: Wait>(
     ensures taken { OnOk result (ShowsTaken locks.now pass.old.sight pass.new.sight) }
     ensures kept { OnErr result (ShowsTheSame pass.old.sight pass.new.sight) }
     ensures no_memory { result ≡ Err Halt.NoMemory → HasLooked pass.old.sight pass.new.sight }
-    ensures stopped { (by : WorkerId) → result ≡ Err (Halt.Stopped by) → WasStopped (λ g w s. can_take_all s w locks.now ≡ false) by pass.old.sight pass.new.sight }
+    ensures stopped { (by : WorkerId) → result ≡ Err (Halt.Stopped by)
+        → WasStopped (λ g w s. can_take_all s w locks.now ≡ false) by pass.old.sight pass.new.sight }
 {
     let acquire = Acquire {
         locks,

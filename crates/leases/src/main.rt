@@ -5,6 +5,7 @@ ghost use Rattle.std.specs.Prelude.{◌≡◌, IfOk, length};
 ghost use Rattle.leases_cli.specs.declared.top.TheConstants.{DESKS};
 
 use daemon_desk::FolderDesk;
+use file_access::{OpenGate, StdSink, StdSource};
 use item_actions::Text;
 use leases_cli::{DESKS, Status, leases};
 use std::alloc::{AllocError, AllocFailed, Global};
@@ -13,7 +14,6 @@ use std::process::ExitCode;
 use std::sync::Wait;
 use std::thread::Threads;
 use std::{env, io};
-use worker_desk::{OpenGate, StdSink, StdSource};
 
 /// Why nothing could be begun.
 #[derive(Clone, Copy)]

@@ -1,6 +1,6 @@
 -- What is known of an input that was checked.
 use Rattle.std.proofs.Common.{◌≤◌, Result, Ok, Err}
-use Rattle.worker_desk.specs.SourceView.{SourceView}
+use Rattle.file_access.specs.SourceView.{SourceView}
 use Rattle.plan_reader.specs.PlanView.{PlanView}
 use Rattle.history_check.specs.Checking.{HasChecked}
 use Rattle.history_check.specs.declared.checks.Checked.{Checked}

@@ -3,7 +3,7 @@ use Rattle.std.proofs.Common.{◌≡◌, ◌≤◌, ℕ, zero, suc, inl, inr, Li
 use Rattle.std.proofs.KnownBytes.{Consumes-nil}
 use Rattle.item_actions.specs.Files.{Folder}
 use Rattle.lock_journal.specs.BookView.{BookView}
-use Rattle.worker_desk.proofs.Printing.{wrote_nothing}
+use Rattle.file_access.proofs.Printing.{wrote_nothing}
 use Rattle.daemon_manager.specs.declared.events.Event.{Event}
 use Rattle.daemon_desk.specs.declared.sent.SentRequest.{SentRequest}
 use Rattle.daemon_items.specs.Requests.{SentView}
@@ -14,8 +14,8 @@ use Rattle.command_words.specs.declared.commands.Command.TheVariants.{Run, Worke
 use Rattle.command_words.specs.declared.commands.WordsFail.{WordsFail}
 use Rattle.command_words.specs.declared.commands.WordsFail.TheVariants.{NoCommand}
 use Rattle.daemon_protocol.specs.StreamStart.{nothing}
-use Rattle.daemon_worker.specs.Serving.{Outside, HasServed}
-use Rattle.daemon_worker.specs.declared.serving.Served.TheVariants as ends
+use Rattle.daemon_server.specs.Serving.{Outside, HasServed}
+use Rattle.daemon_server.specs.declared.serving.Served.TheVariants as ends
 use Rattle.leases_cli.specs.Around.{Around, at_first_desk}
 use Rattle.leases_cli.specs.Answered.{Answered}
 use Rattle.leases_cli.specs.Told.{IsToldAs}

@@ -11,9 +11,9 @@ use Rattle.item_actions.specs.declared.outcomes.Outcome.{Outcome}
 use Rattle.resource_lock.specs.declared.ids.WorkerId.{WorkerId}
 use Rattle.lock_journal.specs.BookView.{BookView}
 use Rattle.lock_transforms.specs.Entry.{Entry}
-use Rattle.worker_desk.specs.SinkView.{SinkView, Rises}
+use Rattle.file_access.specs.SinkView.{SinkView, Rises}
 use Rattle.plan_reader.specs.PlanView.{PlanView}
-use Rattle.run_laws.specs.ClosedBy.{closed_by, faults_in}
+use Rattle.history_laws.specs.ClosedBy.{closed_by, faults_in}
 use Rattle.daemon_manager.specs.declared.events.Event.{Event}
 use Rattle.build_runner.specs.Run.{IsRunOf}
 use Rattle.build_runner.specs.declared.options.RunOptions.{RunOptions}
@@ -27,10 +27,10 @@ use Rattle.history_check.specs.declared.checks.Checked.{Checked}
 use Rattle.history_check.specs.declared.checks.Checked.TheVariants as checked
 use Rattle.history_check.specs.declared.fails.CheckFail.{CheckFail}
 use Rattle.history_check.specs.declared.fails.CheckFail.TheVariants as fails
-use Rattle.daemon_worker.specs.Answer.{Answer, replies, IsHonestAnswer}
-use Rattle.daemon_worker.specs.Serving.{Outside, IsEnd}
-use Rattle.daemon_worker.specs.declared.serving.Served.{Served}
-use Rattle.daemon_worker.specs.declared.serving.Served.TheVariants as ends
+use Rattle.daemon_server.specs.Answer.{Answer, replies, IsHonestAnswer}
+use Rattle.daemon_server.specs.Serving.{Outside, IsEnd}
+use Rattle.daemon_server.specs.declared.serving.Served.{Served}
+use Rattle.daemon_server.specs.declared.serving.Served.TheVariants as ends
 use Rattle.leases_cli.specs.Around.{Around, DesksView, at_first_desk, desks_used}
 use Rattle.leases_cli.specs.Answered.{Answered, RunAnswered, IsNamedRun, all_pass, values_or_closings}
 use Rattle.leases_cli.specs.Causes.{IsFileOf, IsFileCause}

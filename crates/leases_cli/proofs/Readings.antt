@@ -6,9 +6,9 @@ use Rattle.std.proofs.lemmas.List.{length-replicate}
 use Rattle.item_actions.specs.Files.{Folder, file_of}
 use Rattle.item_actions.specs.Value.{max_file_bytes}
 use Rattle.task_ranks.specs.Rank.{Dependencies, IsFirstCycle}
-use Rattle.worker_desk.specs.ReadView.{reading, read_view as read_as, Bytes, TooLong, ReadsFrom}
-use Rattle.worker_desk.specs.declared.files.Read.{Read}
-use Rattle.worker_desk.specs.declared.files.Read.TheVariants as reads
+use Rattle.file_access.specs.ReadView.{reading, read_view as read_as, Bytes, TooLong, ReadsFrom}
+use Rattle.file_access.specs.declared.files.Read.{Read}
+use Rattle.file_access.specs.declared.files.Read.TheVariants as reads
 use Rattle.plan_table.specs.declared.refusals.PlanRefusal.{PlanRefusal}
 use Rattle.plan_table.specs.declared.refusals.PlanRefusal.TheVariants as refusal
 use Rattle.plan_table.specs.declared.refusals.PlanFail.{PlanFail}

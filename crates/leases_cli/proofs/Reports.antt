@@ -17,16 +17,16 @@ use Rattle.lock_transforms.specs.Table.{has_passed}
 use Rattle.plan_reader.specs.Graph.{tasks_from}
 use Rattle.plan_reader.specs.PlanView.{PlanTaskView, PlanView}
 use Rattle.plan_reader.specs.Units.{plan_units}
-use Rattle.run_laws.specs.ByNumber.{outcome_by}
-use Rattle.run_laws.specs.Outcomes.{task_outcome}
-use Rattle.run_laws.specs.Runs.{ComesTo}
+use Rattle.history_laws.specs.ByNumber.{outcome_by}
+use Rattle.history_laws.specs.Outcomes.{task_outcome}
+use Rattle.history_laws.specs.Runs.{ComesTo}
 use Rattle.daemon_manager.specs.declared.events.Event.{Event}
 use Rattle.build_runner.specs.Run.{HasResults, IsRunOf, depth}
 use Rattle.build_runner.specs.declared.options.RunOptions.{RunOptions}
 use Rattle.command_words.specs.declared.commands.RunWords.{RunWords}
 use Rattle.history_text.specs.Results.{results_text, summary_text, task_marks}
-use Rattle.worker_desk.specs.SinkView.{SinkView, Wrote}
-use Rattle.worker_desk.proofs.Printing.{wrote_nothing}
+use Rattle.file_access.specs.SinkView.{SinkView, Wrote}
+use Rattle.file_access.proofs.Printing.{wrote_nothing}
 use Rattle.leases_cli.specs.Around.{DesksView}
 use Rattle.leases_cli.specs.Causes.{IsFileCause, OrNoMemory}
 use Rattle.leases_cli.specs.Answered.{RunAnswered, IsNamedRun, all_pass, behind_results, have_all_passed, run_text, text_by_book, values_or_closings}

@@ -12,13 +12,13 @@ use Rattle.lock_journal.specs.Closings.{outcome_in}
 use Rattle.lock_journal.specs.BookView.{BookView}
 use Rattle.lock_transforms.specs.Entry.{Entry}
 use Rattle.lock_transforms.specs.Table.{has_passed}
-use Rattle.worker_desk.specs.SinkView.{SinkView, Wrote, Broke}
+use Rattle.file_access.specs.SinkView.{SinkView, Wrote, Broke}
 use Rattle.plan_reader.specs.PlanView.{PlanView}
 use Rattle.plan_reader.specs.Units.{plan_units, unit_value}
-use Rattle.run_laws.specs.Answers.{answers}
-use Rattle.run_laws.specs.ByNumber.{outcome_by}
-use Rattle.run_laws.specs.ClosedBy.{closed_by}
-use Rattle.run_laws.specs.Outcomes.{task_outcome}
+use Rattle.history_laws.specs.Answers.{answers}
+use Rattle.history_laws.specs.ByNumber.{outcome_by}
+use Rattle.history_laws.specs.ClosedBy.{closed_by}
+use Rattle.history_laws.specs.Outcomes.{task_outcome}
 use Rattle.daemon_manager.specs.Events.{IsLegal, NoneIdle}
 use Rattle.daemon_manager.specs.declared.events.Event.{Event}
 use Rattle.build_runner.specs.Run.{IsRunOf, depth}
@@ -81,7 +81,8 @@ behind_results asked b events = history_asked asked b ++ events_asked asked even
 
 -- by the plan and what its units give
 abbrev pub text_by_plan : RunWords → PlanView → (ℕ → Outcome) → BookView → List Event → List ℕ
-text_by_plan asked plan v b events = results_asked asked plan (task_outcome b.graph v (depth plan)) (outcome_by b.graph v (depth plan)) ++ behind_results asked b events
+text_by_plan asked plan v b events = results_asked asked plan (task_outcome b.graph v (depth plan))
+    (outcome_by b.graph v (depth plan)) ++ behind_results asked b events
 
 -- the same by what the book says
 abbrev pub text_by_book : RunWords → PlanView → BookView → List Event → List ℕ
@@ -108,7 +109,8 @@ OfRun asked before after b P = (plan : PlanView) × IsNamedRun asked before afte
 
 -- whether all its tasks pass, and that its text was written
 abbrev pub RunWrote : Bool → RunWords → Option Folder → SinkView → SinkView → BookView → List Event → PlanView → Type 0
-RunWrote passed asked known old new b events plan = (all_pass plan b.graph (values_or_closings plan known b.history) ≡ passed) × Wrote old new (run_text asked plan known b events)
+RunWrote passed asked known old new b events plan = (all_pass plan b.graph (values_or_closings plan known b.history) ≡ passed)
+    × Wrote old new (run_text asked plan known b events)
 
 -- How a run ended, by what is known of the desks before and after, the sink before and after, and the events.
 abbrev pub RunEnded : RunWords → DesksView → DesksView → SinkView → SinkView → BookView → List Event → Status → Type 0

@@ -1,14 +1,14 @@
 -- What a call has of the outside, and which of its desks it may use.
 use Rattle.std.specs.Prelude.{ℕ, Bool, true, false, List, get_or, Option, None, Some}
 use Rattle.item_actions.specs.Files.{Folder}
-use Rattle.worker_desk.specs.SinkView.{SinkView}
-use Rattle.worker_desk.specs.SourceView.{SourceView}
+use Rattle.file_access.specs.SinkView.{SinkView}
+use Rattle.file_access.specs.SourceView.{SourceView}
 use Rattle.daemon_desk.specs.declared.sent.SentRequest.{SentRequest}
 use Rattle.daemon_items.specs.Requests.{SentView}
 use Rattle.build_runner.specs.Sent.{sent_view}
 use Rattle.command_words.specs.declared.commands.Command.{Command}
 use Rattle.command_words.specs.declared.commands.Command.TheVariants.{Run, Worker, Check, Make}
-use Rattle.daemon_worker.specs.Serving.{Outside}
+use Rattle.daemon_server.specs.Serving.{Outside}
 
 -- what is known of the desks: the files that all know, and by its number each desk's count of faults and what it has sent
 pub record DesksView : Type 0 where

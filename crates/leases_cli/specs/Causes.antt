@@ -1,7 +1,7 @@
 -- Why a call refuses.
 use Rattle.std.specs.Prelude.{ℕ, ◌≡◌, List, Option, None, Some, Ok, Err}
 use Rattle.item_actions.specs.Files.{Folder, file_of}
-use Rattle.worker_desk.specs.SinkView.{Rises}
+use Rattle.file_access.specs.SinkView.{Rises}
 use Rattle.plan_table.specs.declared.refusals.PlanRefusal.{PlanRefusal}
 use Rattle.plan_reader.specs.PlanView.{PlanView}
 use Rattle.plan_reader.specs.Reading.{Reads}

@@ -1,13 +1,13 @@
 -- What the command `check` answers.
 use Rattle.std.specs.Prelude.{◌≡◌, ◌⊎◌, ℕ, List, [], Result, Ok, Err}
-use Rattle.worker_desk.specs.SinkView.{SinkView, Wrote}
+use Rattle.file_access.specs.SinkView.{SinkView, Wrote}
 use Rattle.plan_reader.specs.PlanView.{PlanView}
 use Rattle.history_check.specs.Checking.{HasChecked}
 use Rattle.history_check.specs.declared.checks.Checked.{Checked}
 use Rattle.history_check.specs.declared.checks.Checked.TheVariants as checked
 use Rattle.history_check.specs.declared.fails.CheckFail.{CheckFail}
 use Rattle.history_check.specs.declared.fails.CheckFail.TheVariants as fails
-use Rattle.daemon_worker.specs.Serving.{Outside}
+use Rattle.daemon_server.specs.Serving.{Outside}
 use Rattle.leases_cli.specs.Causes.{IsFileOf, IsFileCause}
 use Rattle.leases_cli.specs.Lines.{lawful_line}
 use Rattle.leases_cli.specs.Told.{IsLineOf, IsToldAs, IsRefusedFor}

@@ -7,18 +7,18 @@ use Rattle.item_actions.specs.declared.outcomes.Outcome.TheVariants as outcome
 use Rattle.resource_lock.specs.declared.ids.WorkerId.{WorkerId}
 use Rattle.lock_journal.specs.BookView.{BookView}
 use Rattle.plan_reader.specs.PlanView.{PlanView}
-use Rattle.run_laws.specs.ClosedBy.{faults_by}
+use Rattle.history_laws.specs.ClosedBy.{faults_by}
 use Rattle.command_words.specs.declared.commands.Command.{Command}
 use Rattle.command_words.specs.declared.commands.Command.TheVariants.{Run, Worker, Check, Make}
-use Rattle.worker_desk.specs.SourceView.{SourceView}
+use Rattle.file_access.specs.SourceView.{SourceView}
 use Rattle.plan_reader.specs.Reading.{Reads}
 use Rattle.history_check.specs.Checking.{HasChecked}
 use Rattle.history_check.specs.declared.checks.Checked.{Checked}
 use Rattle.history_check.specs.declared.checks.Checked.TheVariants as checked
-use Rattle.daemon_worker.specs.Answer.{Answer}
-use Rattle.daemon_worker.specs.Serving.{Outside, HasServed}
-use Rattle.daemon_worker.specs.declared.serving.Served.{Served}
-use Rattle.daemon_worker.specs.declared.serving.Served.TheVariants as ends
+use Rattle.daemon_server.specs.Answer.{Answer}
+use Rattle.daemon_server.specs.Serving.{Outside, HasServed}
+use Rattle.daemon_server.specs.declared.serving.Served.{Served}
+use Rattle.daemon_server.specs.declared.serving.Served.TheVariants as ends
 use Rattle.leases_cli.specs.Around.{Around, at_first_desk, desks_used}
 use Rattle.leases_cli.specs.Answered.{all_pass, values_or_closings}
 use Rattle.leases_cli.specs.Worker.{status_of}
@@ -95,12 +95,16 @@ OfKnown known P = (files : Folder) → known ≡ Some files → P files
 -- by the command
 abbrev pub Succeeds : Option Command → Around → Around → Status → Option BookView → Type 0
 Succeeds None old new status book = Unit {0}
-Succeeds (Some (Run asked)) old new status book = OfKnown old.desks.files (λ files. (plan : PlanView) → HasPlan asked.plan files plan → HasSucceeded plan files status book)
-Succeeds (Some Worker) old new status book = OfKnown old.desks.files (λ files. MetNoFault old.source.faults new.source.faults → HasWorkedWell files (at_first_desk old) (at_first_desk new) status)
+Succeeds (Some (Run asked)) old new status book = OfKnown old.desks.files (λ files. (plan : PlanView)
+    → HasPlan asked.plan files plan → HasSucceeded plan files status book)
+Succeeds (Some Worker) old new status book = OfKnown old.desks.files (λ files. MetNoFault old.source.faults new.source.faults
+    → HasWorkedWell files (at_first_desk old) (at_first_desk new) status)
 Succeeds (Some (Check name)) old new status book =
-    OfKnown old.desks.files (λ files. MetNoFault old.source.faults new.source.faults → (plan : PlanView) → HasPlan name files plan → HasVerdict plan old.source new.source status)
+    OfKnown old.desks.files (λ files. MetNoFault old.source.faults new.source.faults → (plan : PlanView) → HasPlan name files plan
+    → HasVerdict plan old.source new.source status)
 Succeeds (Some (Make asked)) old new status book = (status ≡ Passed) ⊎ (status ≡ NoMemory)
 
 -- where neither the desks that the command may use nor the sink met a fault
 abbrev pub IsComplete : Option Command → Around → Around → Status → Option BookView → Type 0
-IsComplete command old new status book = MetNoFaults (desks_used command) old.desks.faults new.desks.faults → MetNoFault old.sink.faults new.sink.faults → Succeeds command old new status book
+IsComplete command old new status book = MetNoFaults (desks_used command) old.desks.faults new.desks.faults
+    → MetNoFault old.sink.faults new.sink.faults → Succeeds command old new status book

@@ -1,6 +1,6 @@
 -- What the command `make` answers.
 use Rattle.std.specs.Prelude.{◌≡◌, ◌⊎◌, ℕ, List, []}
-use Rattle.worker_desk.specs.SinkView.{SinkView, Wrote, Broke}
+use Rattle.file_access.specs.SinkView.{SinkView, Wrote, Broke}
 use Rattle.generated_plan.specs.Made.{made}
 use Rattle.command_words.specs.declared.commands.MakeWords.{MakeWords}
 use Rattle.leases_cli.specs.declared.status.Status.{Status}

@@ -1,6 +1,6 @@
 -- How the printing of a run ends.
 use Rattle.std.specs.Prelude.{◌≡◌, ℕ, List, Bool, true, false}
-use Rattle.worker_desk.specs.SinkView.{SinkView, Wrote, Broke}
+use Rattle.file_access.specs.SinkView.{SinkView, Wrote, Broke}
 use Rattle.leases_cli.specs.declared.status.Status.{Status}
 use Rattle.leases_cli.specs.declared.status.Status.TheVariants.{Passed, TaskFailed, SinkFault}
 

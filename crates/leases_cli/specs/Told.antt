@@ -1,6 +1,6 @@
 -- How a line is told.
 use Rattle.std.specs.Prelude.{◌≡◌, ◌⊎◌, ℕ, List, []}
-use Rattle.worker_desk.specs.SinkView.{SinkView, Wrote, Broke}
+use Rattle.file_access.specs.SinkView.{SinkView, Wrote, Broke}
 use Rattle.leases_cli.specs.Lines.{line_of}
 use Rattle.leases_cli.specs.declared.status.Status.{Status}
 use Rattle.leases_cli.specs.declared.status.Status.TheVariants.{SinkFault, NoMemory}

@@ -1,6 +1,6 @@
 //! The command `check`.
 ghost use Rattle.std.specs.Prelude.{◌≡◌, ◌≤◌};
-ghost use Rattle.worker_desk.specs.SinkView.{Prints};
+ghost use Rattle.file_access.specs.SinkView.{Prints};
 ghost use Rattle.leases_cli.specs.Check.{HasCheckedHistory, IsFoundTold};
 ghost use Rattle.leases_cli.specs.Lines.{lawful_line};
 ghost use Rattle.leases_cli.specs.Told.{IsLineOf};
@@ -9,10 +9,10 @@ ghost use Rattle.leases_cli.specs.declared.status.Status.TheVariants as status;
 use crate::plans::read;
 use crate::refusals::{told, told_but_no_memory};
 use crate::status::Status;
+use file_access::{Failed, Files, Page, Sink, Source};
 use history_check::{CheckFail, Checked, check_input};
 use item_actions::Text;
 use std::alloc::Global;
-use worker_desk::{Failed, Files, Page, Sink, Source};
 
 /// Prints that so many entries are lawful. It takes no memory.
 fn print_lawful<O: Sink>(entries: u64, out: &mut O) -> Result<(), Failed>

@@ -2,8 +2,8 @@
 ghost use Rattle.leases_cli.specs.Make.{HasMade};
 
 use crate::status::Status;
+use file_access::{Failed, Sink};
 use item_actions::Text;
-use worker_desk::{Failed, Sink};
 
 /// Prints the plan that is made from a number, in which each item is of one file. It takes no memory.
 ///

@@ -3,10 +3,10 @@ ghost use Rattle.std.specs.Prelude.{◌≡◌, ◌≤◌, IfErr, IfOk};
 ghost use Rattle.leases_cli.specs.Causes.{IsFileCause, IsFileOf, OrNoMemory};
 
 use crate::status::Status;
+use file_access::{DeskFail, Files, Read};
 use item_actions::{MAX_FILE_BYTES, Text};
 use plan_reader::{Plan, PlanFail, PlanRefusal, read_plan};
 use std::alloc::Global;
-use worker_desk::{DeskFail, Files, Read};
 
 /// The plan of this name, or the refusal.
 pub(crate) fn read<F: Files>(alloc: Global, name: &Text, desk: &mut F) -> Result<Plan, Status>

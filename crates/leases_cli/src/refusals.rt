@@ -3,12 +3,12 @@ ghost use Rattle.leases_cli.specs.Lines.{bad_plan_line, excess_label, label_of, 
 ghost use Rattle.leases_cli.specs.Told.{IsToldAs};
 ghost use Rattle.leases_cli.specs.declared.status.Status.TheVariants as status;
 ghost use Rattle.std.specs.Prelude.{◌≡◌, ◌≢◌};
-ghost use Rattle.worker_desk.specs.PageView.{Adds};
-ghost use Rattle.worker_desk.specs.SinkView.{Prints};
+ghost use Rattle.file_access.specs.PageView.{Adds};
+ghost use Rattle.file_access.specs.SinkView.{Prints};
 
 use crate::status::Status;
+use file_access::{Failed, Page, Sink};
 use plan_reader::{Part, Place, PlanRefusal, Which};
-use worker_desk::{Failed, Page, Sink};
 
 fn excess_label(which: Which) -> &'static [u8]
     ensures { result.now ≡ excess_label which }

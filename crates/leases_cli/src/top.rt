@@ -3,10 +3,10 @@ ghost use Rattle.std.specs.List.{list_all, range_with_len};
 ghost use Rattle.resource_lock.specs.StateView.{mark_of};
 ghost use Rattle.resource_lock.specs.declared.marks.MarkId.TheVariants as ids;
 ghost use Rattle.lock_transforms.specs.Table.{has_passed};
-ghost use Rattle.worker_desk.specs.PageView.{Adds};
-ghost use Rattle.worker_desk.specs.SinkView.{Prints};
+ghost use Rattle.file_access.specs.PageView.{Adds};
+ghost use Rattle.file_access.specs.SinkView.{Prints};
 ghost use Rattle.plan_reader.specs.Units.{plan_units};
-ghost use Rattle.run_laws.specs.Marks.{HasEnded};
+ghost use Rattle.history_laws.specs.Marks.{HasEnded};
 ghost use Rattle.item_actions.specs.Files.{Folder};
 ghost use Rattle.daemon_manager.specs.Events.{IsLegal, NoneIdle};
 ghost use Rattle.build_runner.specs.Run.{AreAlike, IsRunOf};
@@ -35,17 +35,17 @@ use build_runner::{RunEnd, RunOptions, run_plan};
 use command_words::{Command, RunWords, WordsFail, read_command};
 use daemon_desk::Desk;
 use daemon_manager::Event;
+use file_access::{Failed, Files, Gate, Page, Sink, Source};
+use history_laws::outcomes_go_by_number;
 use history_text::{results_go_by_number, write_events, write_history, write_results};
 use item_actions::Text;
 use lock_journal::Book;
 use plan_reader::Plan;
 use resource_lock::{MAX_WORKERS, Mark, MarkId, State};
-use run_laws::outcomes_go_by_number;
 use std::alloc::Global;
 use std::sync::Wait;
 use std::thread::Threads;
 use task_ranks::first_cycle_is_unique;
-use worker_desk::{Failed, Files, Gate, Page, Sink, Source};
 
 /// How many desks a call is given: as many as a run may have threads.
 pub const DESKS: usize = MAX_WORKERS as usize;
@@ -69,7 +69,9 @@ fn read_first<D: Desk>(alloc: Global, name: &Text, desks: &mut Vec<D>) -> Result
     ensures rest { drop 1 desks.new.items ≡ drop 1 desks.old.items }
     ensures sent { (i : ℕ) (d : D) → sent_view D.sends D.sent (get_or desks.new.items i d) ≡ sent_view D.sends D.sent (get_or desks.old.items i d) }
     ensures plan { (d : D) → IfOk result (λ plan. IsFileOf (D.files (get_or desks.old.items 0 d)) name.now plan) }
-    ensures refused { (d : D) → IfErr result (λ status. OrNoMemory (IsFileCause (D.files (get_or desks.old.items 0 d)) (D.faults (get_or desks.old.items 0 d)) (D.faults (get_or desks.new.items 0 d)) name.now status) status) }
+    ensures refused { (d : D) → IfErr result
+        (λ status. OrNoMemory (IsFileCause (D.files (get_or desks.old.items 0 d)) (D.faults (get_or desks.old.items 0 d))
+        (D.faults (get_or desks.new.items 0 d)) name.now status) status) }
 {
     read(alloc, name, &mut desks[0])
 }
@@ -135,7 +137,8 @@ fn report<O: Sink>(asked: &RunWords, plan: &Plan, end: RunEnd, out: &mut O) -> E
     requires none_idle { NoneIdle end.events.items }
     ensures book { result.book ≡ Some end.book }
     ensures events { AreEventsOf (book_of result.book) result.events.items }
-    ensures status { IsReported (have_all_passed end.book.value) (O.seen out.old) (O.seen out.new) (text_by_book asked.now plan.now end.book.value result.events.items) result.status }
+    ensures status { IsReported (have_all_passed end.book.value) (O.seen out.old) (O.seen out.new)
+        (text_by_book asked.now plan.now end.book.value result.events.items) result.status }
 {
     let passed = all_passed(&end.book);
     let status = match print_run(asked, plan, &end, out) {
@@ -190,7 +193,8 @@ fn report_run<O: Sink>(asked: &RunWords, plan: &Plan, end: RunEnd, out: &mut O) 
     ensures book { result.book ≡ Some end.book }
     ensures events { AreEventsOf (book_of result.book) result.events.items }
     ensures status { (known : Option Folder) (before after : ℕ → ℕ) → IsRunOf plan.now (options_of asked.now) known before after end.book.value
-        → IsReported (all_pass plan.now end.book.value.graph (values_or_closings plan.now known end.book.value.history)) (O.seen out.old) (O.seen out.new) (run_text asked.now plan.now known end.book.value result.events.items) result.status }
+        → IsReported (all_pass plan.now end.book.value.graph (values_or_closings plan.now known end.book.value.history))
+        (O.seen out.old) (O.seen out.new) (run_text asked.now plan.now known end.book.value result.events.items) result.status }
 {
     let _ = end.book.graph();
     outcomes_go_by_number();
@@ -216,9 +220,12 @@ fn run<R: Threads + Wait + Sync, D: Desk + Send + Drop, G: Gate + Sync, O: Sink>
     ensures counts { (i : ℕ) (d : D) → D.faults (get_or desks.old.items i d) ≤ D.faults (get_or desks.new.items i d) }
     ensures rest { drop asked.now.threads desks.new.items ≡ drop asked.now.threads desks.old.items }
     ensures refused { result.book ≡ None → result.status ≢ status.NoMemory → drop 1 desks.new.items ≡ drop 1 desks.old.items }
-    ensures unsent { result.book ≡ None → result.status ≢ status.NoMemory → (i : ℕ) (d : D) → sent_view D.sends D.sent (get_or desks.new.items i d) ≡ sent_view D.sends D.sent (get_or desks.old.items i d) }
+    ensures unsent { result.book ≡ None → result.status ≢ status.NoMemory → (i : ℕ) (d : D)
+        → sent_view D.sends D.sent (get_or desks.new.items i d) ≡ sent_view D.sends D.sent (get_or desks.old.items i d) }
     ensures events { AreEventsOf (book_of result.book) result.events.items }
-    ensures answer { (d : D) → RunAnswered asked.now (desks_view D.files D.faults D.sends D.sent desks.old.items d) (desks_view D.files D.faults D.sends D.sent desks.new.items d) (O.seen out.old) (O.seen out.new) result.status (book_of result.book) result.events.items }
+    ensures answer { (d : D) → RunAnswered asked.now (desks_view D.files D.faults D.sends D.sent desks.old.items d)
+        (desks_view D.files D.faults D.sends D.sent desks.new.items d) (O.seen out.old) (O.seen out.new) result.status
+        (book_of result.book) result.events.items }
 {
     let plan = match read_first(alloc, &asked.plan, desks) {
         Ok(plan) => plan,
@@ -251,8 +258,20 @@ fn work<F: Files, I: Source, O: Sink>(
     ensures book { result.book ≡ None }
     ensures events { AreEventsOf (book_of result.book) result.events.items }
     ensures worked { (d : F) → HasWorked
-        record { source = I.seen input.old; sink = O.seen out.old; files = F.files (get_or desks.old.items 0 d); faults = F.faults (get_or desks.old.items 0 d) }
-        record { source = I.seen input.new; sink = O.seen out.new; files = F.files (get_or desks.new.items 0 d); faults = F.faults (get_or desks.new.items 0 d) }
+        record {
+          source = I.seen input.old;
+          sink = O.seen out.old;
+          files = F.files (get_or desks.old.items 0 d);
+          faults = F.faults
+              (get_or desks.old.items 0 d);
+        }
+        record {
+          source = I.seen input.new;
+          sink = O.seen out.new;
+          files = F.files (get_or desks.new.items 0 d);
+          faults = F.faults
+              (get_or desks.new.items 0 d);
+        }
         result.status }
 {
     without_run(alloc, serve_worker(alloc, &mut desks[0], input, out))
@@ -276,8 +295,20 @@ fn check<D: Desk, I: Source, O: Sink>(
     ensures book { result.book ≡ None }
     ensures events { AreEventsOf (book_of result.book) result.events.items }
     ensures checked { (d : D) → HasCheckedHistory plan.now
-        record { source = I.seen input.old; sink = O.seen out.old; files = D.files (get_or desks.old.items 0 d); faults = D.faults (get_or desks.old.items 0 d) }
-        record { source = I.seen input.new; sink = O.seen out.new; files = D.files (get_or desks.new.items 0 d); faults = D.faults (get_or desks.new.items 0 d) }
+        record {
+          source = I.seen input.old;
+          sink = O.seen out.old;
+          files = D.files (get_or desks.old.items 0 d);
+          faults = D.faults
+              (get_or desks.old.items 0 d);
+        }
+        record {
+          source = I.seen input.new;
+          sink = O.seen out.new;
+          files = D.files (get_or desks.new.items 0 d);
+          faults = D.faults
+              (get_or desks.new.items 0 d);
+        }
         result.status }
 {
     without_run(alloc, check_history(alloc, plan, &mut desks[0], input, out))
@@ -301,7 +332,9 @@ fn perform<R: Threads + Wait + Sync, D: Desk + Send + Drop, I: Source, G: Gate +
     ensures counts { (i : ℕ) (d : D) → D.faults (get_or desks.old.items i d) ≤ D.faults (get_or desks.new.items i d) }
     ensures rest { drop (desks_used (Some command.now)) desks.new.items ≡ drop (desks_used (Some command.now)) desks.old.items }
     ensures refused { result.book ≡ None → result.status ≢ status.NoMemory → drop 1 desks.new.items ≡ drop 1 desks.old.items }
-    ensures unsent { Some command.now ≢ Some commands.Worker → result.book ≡ None → result.status ≢ status.NoMemory → (i : ℕ) (d : D) → sent_view D.sends D.sent (get_or desks.new.items i d) ≡ sent_view D.sends D.sent (get_or desks.old.items i d) }
+    ensures unsent { Some command.now ≢ Some commands.Worker → result.book ≡ None → result.status ≢ status.NoMemory
+        → (i : ℕ) (d : D) → sent_view D.sends D.sent (get_or desks.new.items i d) ≡ sent_view D.sends D.sent
+        (get_or desks.old.items i d) }
     ensures input { takes_input (Some command.now) ≡ false → I.seen input.new ≡ I.seen input.old }
     ensures input_count { (I.seen input.old).faults ≤ (I.seen input.new).faults }
     ensures events { AreEventsOf (book_of result.book) result.events.items }
@@ -354,7 +387,9 @@ pub fn leases<R: Threads + Wait + Sync, D: Desk + Send + Drop, I: Source, G: Gat
     ensures counts { (i : ℕ) (d : D) → D.faults (get_or desks.old.items i d) ≤ D.faults (get_or desks.new.items i d) }
     ensures rest { drop (desks_used (command_of words.now)) desks.new.items ≡ drop (desks_used (command_of words.now)) desks.old.items }
     ensures refused { result.book ≡ None → result.status ≢ status.NoMemory → drop 1 desks.new.items ≡ drop 1 desks.old.items }
-    ensures unsent { command_of words.now ≢ Some commands.Worker → result.book ≡ None → result.status ≢ status.NoMemory → (i : ℕ) (d : D) → sent_view D.sends D.sent (get_or desks.new.items i d) ≡ sent_view D.sends D.sent (get_or desks.old.items i d) }
+    ensures unsent { command_of words.now ≢ Some commands.Worker → result.book ≡ None → result.status ≢ status.NoMemory
+        → (i : ℕ) (d : D) → sent_view D.sends D.sent (get_or desks.new.items i d) ≡ sent_view D.sends D.sent
+        (get_or desks.old.items i d) }
     ensures input { takes_input (command_of words.now) ≡ false → I.seen input.new ≡ I.seen input.old }
     ensures input_count { (I.seen input.old).faults ≤ (I.seen input.new).faults }
     ensures events { AreEventsOf (book_of result.book) result.events.items }

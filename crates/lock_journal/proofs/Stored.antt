@@ -10,8 +10,8 @@ use Rattle.item_actions.specs.declared.outcomes.Outcome.{Outcome}
 use Rattle.item_actions.specs.declared.outcomes.Outcome.TheVariants as outcomes
 use Rattle.lock_transforms.specs.Entry.{entry}
 use Rattle.lock_journal.specs.StoredEntry.{AreStored, IsNumberOf, closing_at, end_before, entries_from, entry_from, kind_from, place_after}
-use Rattle.lock_journal.specs.Closings.{closed_by, closing_of, where_finished, last_or, outcome_in}
-use Rattle.lock_journal.specs.History.{history_view, IsPlaceOf, IsSound}
+use Rattle.lock_journal.specs.Closings.{closed_of, closing_of, where_finished, last_or, outcome_in}
+use Rattle.lock_journal.specs.History.{history_view, IsPlaceOf, IsSoundHistory}
 use Rattle.lock_journal.specs.HistoryView.{HistoryView}
 use Rattle.lock_journal.specs.LastChanges.{last_changes, made_by, made_where_finished}
 use Rattle.lock_transforms.specs.declared.entries.Closed.{Closed}
@@ -206,8 +206,8 @@ moved_where ds d true p small at = record {
 moved_where ds d false p small at = not_moved ds (d ∷ []) p small at
 
 -- a finished entry of the kind came
-pub moved : (ds : List Closed) (kind : Kind) (u p : ℕ) → length (ds ++ closed_by kind) < 2 ^ 63 → IsPlaceOf (length ds) p
-    → Moved ds (ds ++ closed_by kind) (closing_of u kind) p (place_after (closing_of u kind) (length ds) p)
+pub moved : (ds : List Closed) (kind : Kind) (u p : ℕ) → length (ds ++ closed_of kind) < 2 ^ 63 → IsPlaceOf (length ds) p
+    → Moved ds (ds ++ closed_of kind) (closing_of u kind) p (place_after (closing_of u kind) (length ds) p)
 moved ds (Start n) u p small at = not_moved ds [] p small at
 moved ds (Skip n) u p small at = not_moved ds [] p small at
 moved ds (Submit n) u p small at = not_moved ds [] p small at
@@ -232,7 +232,7 @@ pub record Adds (a b : Inside) (k : StoredEntry) (kind : Kind) (new : List Chang
   pub kind_is : kind_from b.closings.items k.kind k.number ≡ kind
   pub moved : (u : ℕ) → Moved a.closings.items b.closings.items (where_finished (cond k.failed None (Some new)) (closing_of u kind)) (slice_index_or a.closed_at.items u NOWHERE) (slice_index_or b.closed_at.items u NOWHERE)
 
-module _ (a b : Inside) (k : StoredEntry) (kind : Kind) (new : List Change) (more : List Closed) (sound : IsSound a) (adds : Adds a b k kind new more) where
+module _ (a b : Inside) (k : StoredEntry) (kind : Kind) (new : List Change) (more : List Closed) (sound : IsSoundHistory a) (adds : Adds a b k kind new more) where
   pub entries_added : (history_view b).entries ≡ (history_view a).entries ++ entry k.worker kind (cond k.failed None (Some new)) ∷ []
   entries_added =
       ap (λ cs. entries_from cs b.closings.items b.stored.items) adds.changes
@@ -243,7 +243,7 @@ module _ (a b : Inside) (k : StoredEntry) (kind : Kind) (new : List Change) (mor
       ∙ ap (λ ds. (history_view a).entries ++ entry k.worker (kind_from ds k.kind k.number) (cond k.failed None (Some new)) ∷ []) (sym adds.closings)
       ∙ ap (λ x. (history_view a).entries ++ entry k.worker x (cond k.failed None (Some new)) ∷ []) adds.kind_is
 
-  pub sound_added : IsSound b
+  pub sound_added : IsSoundHistory b
   sound_added = record {
     stored = subst (λ (ks : List StoredEntry). AreStored (length b.changes.items) (length b.closings.items) ks) (sym adds.stored)
         (subst (λ (cs : List Change). AreStored (length cs) (length b.closings.items) (a.stored.items ++ k ∷ [])) (sym adds.changes)

@@ -11,7 +11,9 @@ use Rattle.lock_transforms.specs.declared.kinds.admitting.TheConstants.{MAX_CHAN
 abbrev pub book_view : Inside → BookView
 book_view b = begun b.tentative b.history
 
--- No change is under way, and there is room for the changes of any entry. The history is a lawful one of the graph whose outcomes are those of their type, the state is what it leads to, and the index is that of the graph and the state.
+-- No change is under way, and there is room for the changes of any entry. The history is a lawful one of the graph
+-- whose outcomes are those of their type, the state is what it leads to, and the index is that of the graph and the
+-- state.
 pub record IsSound (b : Inside) : Type 0 where
   pub fresh : b.tentative.made ≡ []
   pub room : MAX_CHANGES ≤ b.tentative.room

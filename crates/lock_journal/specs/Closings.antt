@@ -19,10 +19,10 @@ closing_of u (Unblock (Some d)) = if d.unit == u then d.outcome ∷ [] else []
 closing_of u _ = []
 
 -- the closing that the kind carries
-abbrev pub closed_by : Kind → List Closed
-closed_by (Close d) = d ∷ []
-closed_by (Unblock (Some d)) = d ∷ []
-closed_by _ = []
+abbrev pub closed_of : Kind → List Closed
+closed_of (Close d) = d ∷ []
+closed_of (Unblock (Some d)) = d ∷ []
+closed_of _ = []
 
 -- the unit that it closes, where it closes one, is among the first n
 abbrev pub ClosesWithin : ℕ → Kind → Type 0

@@ -19,7 +19,7 @@ abbrev pub IsPlaceOf : ℕ → ℕ → Type 0
 IsPlaceOf closings place = (place < closings) ⊎ (place ≡ NOWHERE)
 
 -- Each entry's changes and closing are stored, and each unit's outcome is that of its closing entry.
-pub record IsSound (h : Inside) : Type 0 where
+pub record IsSoundHistory (h : Inside) : Type 0 where
   pub stored : AreStored (length h.changes.items) (length h.closings.items) h.stored.items
   pub placed : (u : ℕ) → IsPlaceOf (length h.closings.items) (slice_index_or h.closed_at.items u NOWHERE)
   pub closed : (u : ℕ) → (closing_at h.closings.items (slice_index_or h.closed_at.items u NOWHERE)).outcome ≡ outcome_in (history_view h).entries u

@@ -10,14 +10,15 @@ use Rattle.lock_journal.specs.BookView.{BookView}
 use Rattle.lock_transforms.specs.declared.entries.Kind.{Kind}
 
 -- The changes are some that the transform makes, the history has one more entry with them, which was allowed, and the state is its effect.
-pub record HasFinished (makes : GraphView → WorkerId → StateView → List Change → Type 0) (old new : BookView) (w : WorkerId) (kind : Kind) (changes : List Change) : Type 0 where
+pub record FinishesIn (makes : GraphView → WorkerId → StateView → List Change → Type 0) (old new : BookView) (w : WorkerId)
+    (kind : Kind) (changes : List Change) : Type 0 where
   pub made : makes old.graph w old.state changes
   pub allowed : Allowed old.graph old.state (entry w kind (Some changes))
   pub history : new.history ≡ old.history ++ entry w kind (Some changes) ∷ []
   pub state : new.state ≡ effect old.state (entry w kind (Some changes))
 
 -- The history has one more entry, which failed where it may, and the state is as before.
-pub record HasFailed (fails_on : GraphView → WorkerId → StateView → Type 0) (old new : BookView) (w : WorkerId) (kind : Kind) : Type 0 where
+pub record FailsIn (fails_on : GraphView → WorkerId → StateView → Type 0) (old new : BookView) (w : WorkerId) (kind : Kind) : Type 0 where
   pub cause : fails_on old.graph w old.state
   pub allowed : Allowed old.graph old.state (entry w kind None)
   pub history : new.history ≡ old.history ++ entry w kind None ∷ []

@@ -13,7 +13,7 @@ ghost use Rattle.lock_journal.specs.Closings.{outcome_of};
 ghost use Rattle.lock_journal.specs.LastChanges.{last_changes};
 ghost use Rattle.lock_transforms.specs.Allowed.{Lawful};
 ghost use Rattle.lock_journal.specs.Bounds.{IsFitKind};
-ghost use Rattle.lock_journal.specs.Ran.{HasFinished, HasFailed, IsToRetry};
+ghost use Rattle.lock_journal.specs.Ran.{FinishesIn, FailsIn, IsToRetry};
 ghost use Rattle.lock_transforms.specs.declared.kinds.admitting.TheConstants.{MAX_CHANGES};
 
 use crate::histories::History;
@@ -228,9 +228,9 @@ impl Book {
         requires { worker.0 < self.old.graph.workers }
         ensures graph { self.new.graph ≡ self.old.graph }
         ensures finished { result ≡ Ok Disposition.Finished
-            → (changes : List Change) × HasFinished (T.makes transform.now) self.old self.new worker (T.kind_of transform.now) changes }
+            → (changes : List Change) × FinishesIn (T.makes transform.now) self.old self.new worker (T.kind_of transform.now) changes }
         ensures failed { result ≡ Ok Disposition.Failed
-            → HasFailed (T.fails_on transform.now) self.old self.new worker (T.kind_of transform.now) }
+            → FailsIn (T.fails_on transform.now) self.old self.new worker (T.kind_of transform.now) }
         ensures retry { result ≡ Ok Disposition.Retry
             → IsToRetry (T.retries_on transform.now) self.old self.new worker }
         ensures no_memory { OnErr result (SameBook self.old self.new) }

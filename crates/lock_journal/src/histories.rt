@@ -34,11 +34,11 @@ impl Model for History {
 
     ghost Value = { HistoryView };
 
-    ghost use Rattle.lock_journal.specs.History.{history_view, IsSound};
+    ghost use Rattle.lock_journal.specs.History.{history_view, IsSoundHistory};
 
     ghost view = { history_view };
 
-    ghost invariant = { IsSound };
+    ghost invariant = { IsSoundHistory };
 }
 
 impl History {

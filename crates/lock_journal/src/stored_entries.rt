@@ -1,6 +1,6 @@
 //! What is stored of an entry.
 ghost use Rattle.std.specs.Prelude.{◌≡◌, ◌≤◌, ◌<◌, ◌+◌, ◌∷◌, [], ◌++◌, length, slice_range, vec_capacity, vec_len, if◌then◌else◌};
-ghost use Rattle.lock_journal.specs.Closings.{closed_by};
+ghost use Rattle.lock_journal.specs.Closings.{closed_of};
 ghost use Rattle.lock_journal.specs.StoredEntry.{IsNumberOf, closing_at, end_before, kind_from};
 
 use lock_transforms::{Closed, Kind};
@@ -45,7 +45,7 @@ pub fn store_kind(kind: &Kind, closings: &mut Vec<Closed>) -> (StoredKind, usize
     requires { vec_len closings.old < vec_capacity closings.old }
     ensures kind { kind_from closings.new.items result.0 result.1 ≡ kind.now }
     ensures number { IsNumberOf (length closings.new.items) result.0 result.1 }
-    ensures items { closings.new.items ≡ closings.old.items ++ closed_by kind.now }
+    ensures items { closings.new.items ≡ closings.old.items ++ closed_of kind.now }
     ensures len { vec_len closings.new ≤ vec_len closings.old + 1 }
     ensures capacity { vec_capacity closings.new ≡ vec_capacity closings.old }
 {

@@ -13,11 +13,11 @@ use crate::entries::EntriesFrom;
 use crate::rows::{Limits, TaskRow};
 use crate::services::{open, yield_a_while};
 use coordination::{Coordination, Halt, Opened, Pass, sound_books_have_good_states};
+use history_laws::own_changes_say_all;
 use lock_journal::Book;
 use lock_transforms::kinds::{End, Start};
 use lock_transforms::{Disposition, Kind, Tentative, Transform};
 use resource_lock::{LockId, Mark, MarkId, WorkerId};
-use run_laws::own_changes_say_all;
 use std::alloc::{AllocError, Global};
 use std::process::Abort;
 use std::sync::Wait;
@@ -115,7 +115,8 @@ fn try_start<R: Wait>(
     ensures good { result ≡ Ok true → Good pass.new.sight.seen.state }
     ensures lease { result ≡ Ok true → (holding_of pass.new.sight.seen.state pass.new.sight.worker).lease ≡ true }
     // The history without the failed entry leads to a state in which the lock is another's.
-    ensures refused { result ≡ Ok false → (h : List Entry) × (pass.new.sight.seen.history ≡ h ++ entry pass.new.sight.worker (kinds.Start attempt.now.wait.start.task) None ∷ [])
+    ensures refused { result ≡ Ok false → (h : List Entry)
+        × (pass.new.sight.seen.history ≡ h ++ entry pass.new.sight.worker (kinds.Start attempt.now.wait.start.task) None ∷ [])
         × (by : WorkerId) × (by ≢ pass.new.sight.worker) × (owner_of (replay pass.new.sight.seen.graph h) attempt.now.lock ≡ Some by) }
 {
     sound_books_have_good_states();

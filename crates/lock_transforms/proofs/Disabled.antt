@@ -19,7 +19,7 @@ use Rattle.resource_lock.specs.declared.changes.Change.TheVariants.{Unlock, Take
 use Rattle.lock_transforms.specs.declared.entries.Kind.{Kind}
 use Rattle.lock_transforms.specs.declared.entries.Kind.TheVariants.{Start, Skip, Submit, Park, Resume, Claim, Close, Block, Unblock, End, Acquire, HandBack}
 use Rattle.lock_transforms.specs.Table.{condition, list_of, is_enabled, has_passed, has_ended, has_fallen, works_on, owned, owned_from, units_passed, earlier_passed, fetch_closed, never_ran, skipped_waiting, skipped_action, mark_from, parked_locks, set_down, taken_again, taken_up}
-use Rattle.lock_transforms.specs.Waiting.{lets_go_on}
+use Rattle.lock_transforms.specs.GoingOn.{lets_go_on}
 use Rattle.lock_transforms.proofs.NoMore.{NoMore, Still, all_still, no_more_after}
 
 -- what is made of tests that are still true is still true

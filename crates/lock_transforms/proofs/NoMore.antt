@@ -19,7 +19,7 @@ use Rattle.resource_lock.specs.declared.marks.MarkId.{MarkId}
 use Rattle.resource_lock.specs.declared.marks.MarkId.TheVariants.{Task as TaskOf, Action as ActionOf, Unit as UnitOf}
 use Rattle.resource_lock.specs.declared.changes.Change.{Change}
 use Rattle.resource_lock.specs.declared.changes.Change.TheVariants.{Lock, Unlock, Take, Give, Move, Park, Unpark, Enter, Leave}
-use Rattle.lock_transforms.specs.Waiting.{lets_go_on}
+use Rattle.lock_transforms.specs.GoingOn.{lets_go_on}
 
 -- what is true of the second is true of the first
 abbrev pub Still : Bool → Bool → Type 0

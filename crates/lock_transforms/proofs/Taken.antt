@@ -25,7 +25,7 @@ use Rattle.lock_transforms.specs.Entry.{entry}
 use Rattle.lock_transforms.specs.Table.{condition, acquires}
 use Rattle.lock_transforms.specs.Taking.{lock_taken, locks_taken, lease_taken, all_taken, can_take_all, rises, acquired, is_open, may_acquire}
 use Rattle.lock_transforms.specs.declared.entries.Kind.TheVariants as kinds
-use Rattle.lock_transforms.specs.Waiting.{WaitsForNews}
+use Rattle.lock_transforms.specs.GoingOn.{WaitsForNews}
 use Rattle.lock_transforms.proofs.NoMore.{NoMore, Still, no_more_after}
 use Rattle.lock_transforms.proofs.Disabled.{all_of_still, and_still, condition_still, or_still, same_still}
 use Rattle.lock_transforms.proofs.Makings.{makes_none, makes_not, makes_one, makes_then, makes_stopped, made_is, worked_from}

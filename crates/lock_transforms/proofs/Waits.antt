@@ -10,7 +10,7 @@ use Rattle.resource_lock.specs.declared.marks.Mark.TheVariants.{Queued}
 use Rattle.resource_lock.specs.declared.marks.MarkId.TheVariants.{Unit as UnitOf}
 use Rattle.lock_transforms.specs.Allowed.{IsDisabled, IsUnmet}
 use Rattle.lock_transforms.specs.Table.{condition, is_enabled}
-use Rattle.lock_transforms.specs.Waiting.{WaitsForNews}
+use Rattle.lock_transforms.specs.GoingOn.{WaitsForNews}
 use Rattle.lock_transforms.specs.declared.entries.Kind.{Kind}
 use Rattle.lock_transforms.specs.declared.entries.Kind.TheVariants.{Claim}
 use Rattle.lock_transforms.proofs.Disabled.{condition_still, disabled_still}

@@ -3,7 +3,7 @@ pub mod Table
 pub mod Allowed
 pub mod TentativeView
 pub mod Tentative
-pub mod Waiting
+pub mod GoingOn
 pub mod Making
 pub mod Taking
 pub mod Freeing

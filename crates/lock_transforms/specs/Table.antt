@@ -45,7 +45,8 @@ earlier_passed g s a = list_all (λ b. has_passed (mark_of s (ActionOf b)) && un
 
 -- a fetch, where there is one, has passed or failed
 abbrev pub fetch_closed : GraphView → StateView → ℕ → Bool
-fetch_closed g s a = not (action_of g a).fetch || has_passed (mark_of s (UnitOf (action_of g a).first_unit)) || same_mark (mark_of s (UnitOf (action_of g a).first_unit)) Failed
+fetch_closed g s a = not (action_of g a).fetch || has_passed (mark_of s (UnitOf (action_of g a).first_unit))
+    || same_mark (mark_of s (UnitOf (action_of g a).first_unit)) Failed
 
 -- an action that never ran, after one of its task with a unit that failed
 abbrev pub never_ran : GraphView → StateView → ℕ → Bool
@@ -111,14 +112,19 @@ condition g s w (Start t) = same_mark (mark_of s (TaskOf t)) Waiting && list_all
 condition g s w (Skip t) = same_mark (mark_of s (TaskOf t)) Waiting && list_any (λ k. has_fallen (mark_of s (TaskOf k))) (task_of g t).after && is_idle s w
 condition g s w (Submit a) = works_on s w (task_with g a) && same_mark (mark_of s (ActionOf a)) Waiting && earlier_passed g s a && fetch_closed g s a
 condition g s w (Park a) = works_on s w (task_with g a) && same_mark (mark_of s (ActionOf a)) Queued
-condition g s w (Resume a) = same_mark (mark_of s (ActionOf a)) (Running w) && not (holding_of s w).lease && not (runs_unit s w) && list_all (λ u. has_ended (mark_of s (UnitOf u))) (items_of g a)
-condition g s w (Claim u) = is_item g u && same_mark (mark_of s (UnitOf u)) Queued && not (runs_unit s w) && not (holding_of s w).blocked && not (holding_of s w).lease && (is_parked s w || is_idle s w)
+condition g s w (Resume a) = same_mark (mark_of s (ActionOf a)) (Running w) && not (holding_of s w).lease && not (runs_unit s w)
+    && list_all (λ u. has_ended (mark_of s (UnitOf u))) (items_of g a)
+condition g s w (Claim u) = is_item g u && same_mark (mark_of s (UnitOf u)) Queued && not (runs_unit s w)
+    && not (holding_of s w).blocked && not (holding_of s w).lease && (is_parked s w || is_idle s w)
 condition g s w (Close c) = is_item g c.unit && same_mark (mark_of s (UnitOf c.unit)) (Running w)
-condition g s w (Block (Some u)) = list_any (λ a. (action_of g a).fetch && (action_of g a).first_unit == u && works_on s w (task_with g a) && same_mark (mark_of s (ActionOf a)) Waiting && same_mark (mark_of s (UnitOf u)) Waiting && earlier_passed g s a) (range_with_len 0 (length g.actions))
+condition g s w (Block (Some u)) = list_any (λ a. (action_of g a).fetch && (action_of g a).first_unit == u
+    && works_on s w (task_with g a) && same_mark (mark_of s (ActionOf a)) Waiting && same_mark (mark_of s (UnitOf u)) Waiting
+    && earlier_passed g s a) (range_with_len 0 (length g.actions))
 condition g s w (Block None) = (holding_of s w).lease && not (runs_unit s w)
 condition g s w (Unblock (Some c)) = (holding_of s w).blocked && same_mark (mark_of s (UnitOf c.unit)) (Running w)
 condition g s w (Unblock None) = (holding_of s w).blocked && not (runs_unit s w)
-condition g s w (End t) = same_mark (mark_of s (TaskOf t)) (Running w) && not (is_parked s w) && not (holding_of s w).blocked && not (runs_unit s w) && list_all (λ a. has_passed (mark_of s (ActionOf a)) || never_ran g s a) (actions_of g t)
+condition g s w (End t) = same_mark (mark_of s (TaskOf t)) (Running w) && not (is_parked s w) && not (holding_of s w).blocked
+    && not (runs_unit s w) && list_all (λ a. has_passed (mark_of s (ActionOf a)) || never_ran g s a) (actions_of g t)
 condition g s w Acquire = not (holding_of s w).blocked && not (runs_any s w)
 condition g s w HandBack = not (holding_of s w).blocked && not (runs_any s w) && (owns_any s w || (holding_of s w).lease)
 
@@ -135,7 +141,8 @@ list_of g s w (Block (Some u)) = Move (UnitOf u) Waiting (Running w) ∷ set_dow
 list_of g s w (Block None) = set_down s w
 list_of g s w (Unblock (Some c)) = taken_up s w ++ Move (UnitOf c.unit) (Running w) (mark_from c.outcome) ∷ []
 list_of g s w (Unblock None) = taken_up s w
-list_of g s w (End t) = skipped_waiting g s (actions_of g t) ++ Move (TaskOf t) (Running w) (end_mark g s t) ∷ (if (holding_of s w).lease then Unlock (task_of g t).lock ∷ Give ∷ [] else [])
+list_of g s w (End t) = skipped_waiting g s (actions_of g t) ++ Move (TaskOf t) (Running w) (end_mark g s t)
+    ∷ (if (holding_of s w).lease then Unlock (task_of g t).lock ∷ Give ∷ [] else [])
 list_of g s w Acquire = []
 list_of g s w HandBack = map Unlock (owned s w) ++ (if (holding_of s w).lease then Give ∷ [] else [])
 

@@ -7,7 +7,7 @@ ghost use Rattle.lock_transforms.specs.declared.entries.Kind.{Kind};
 ghost use Rattle.lock_transforms.specs.TentativeView.{Worked};
 ghost use Rattle.lock_transforms.specs.Entry.{entry};
 ghost use Rattle.lock_transforms.specs.Allowed.{Allowed, IsKindOf};
-ghost use Rattle.lock_transforms.specs.Waiting.{WaitsForNews};
+ghost use Rattle.lock_transforms.specs.GoingOn.{WaitsForNews};
 
 use crate::entries::Kind;
 use crate::tentatives::Tentative;

@@ -16,12 +16,23 @@ locks_of parallel p = if parallel then length p.projects else min 1 (length p.pr
 -- the tasks, whose actions are numbered from this one on
 abbrev pub tasks_from : Bool → ℕ → List PlanTaskView → List GraphTaskView
 tasks_from parallel first [] = []
-tasks_from parallel first (t ∷ ts) = record { lock = lock_of parallel t.project; after = t.after; first_action = first; actions = length t.actions } ∷ tasks_from parallel (first + length t.actions) ts
+tasks_from parallel first (t ∷ ts) = record {
+  lock = lock_of parallel t.project;
+  after = t.after;
+  first_action = first;
+  actions = length t.actions;
+} ∷ tasks_from parallel (first + length t.actions) ts
 
 -- the actions of a task, whose units are numbered from this one on
 abbrev pub actions_from : ℕ → ℕ → List PlanActionView → List GraphAction
 actions_from task first [] = []
-actions_from task first (a ∷ as') = record { task = task; retention = a.retention; fetch = is_some a.fetch; first_unit = first; items = length a.items } ∷ actions_from task (first + length (action_units a)) as'
+actions_from task first (a ∷ as') = record {
+  task = task;
+  retention = a.retention;
+  fetch = is_some a.fetch;
+  first_unit = first;
+  items = length a.items;
+} ∷ actions_from task (first + length (action_units a)) as'
 
 abbrev pub units_in_all : List PlanActionView → ℕ
 units_in_all [] = 0

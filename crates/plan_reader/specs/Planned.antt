@@ -72,7 +72,8 @@ abbrev pub action_named : Text → Text → ItemAction
 action_named word needle = option_map_or (λ kind. action_of_kind kind needle) (action_kind_of word) Bytes
 
 abbrev pub process_of : NameLists → List RequirementsView → Data → Option RequirementsView
-process_of names profiles item = if bytes_eq (isolation_of item) (codes "process") then Some (requirements_named names.requirements profiles (requirements_name_of item)) else None
+process_of names profiles item = if bytes_eq (isolation_of item) (codes "process")
+    then Some (requirements_named names.requirements profiles (requirements_name_of item)) else None
 
 abbrev pub work_of : NameLists → List RequirementsView → Data → WorkView
 work_of names profiles item = record {

@@ -27,7 +27,8 @@ answer_to (Some r) plan = Err r
 
 -- nothing is refused before Cycle, which is where the first task without a rank stands
 abbrev pub AnswersRanks : Data → Answer → Type 0
-AnswersRanks d answer = (first : Option ℕ) × IsFirstCycle (dependencies_of d) first × (answer ≡ answer_to (option_or (cycle_refusal first) (refusal_behind d)) (plan_of d))
+AnswersRanks d answer = (first : Option ℕ) × IsFirstCycle (dependencies_of d) first
+    × (answer ≡ answer_to (option_or (cycle_refusal first) (refusal_behind d)) (plan_of d))
 
 abbrev pub AnswersBy : Option PlanRefusal → Data → Answer → Type 0
 AnswersBy (Some r) d answer = answer ≡ Err r

@@ -124,7 +124,8 @@ fn plan_actions_of(
     values: Vec<Value>,
 ) -> Result<Vec<PlanAction>, AllocError>
     requires { known.now.default.now ≡ default_requirements }
-    ensures { IfOk result (λ actions. map plan_action_view actions.items ≡ map (λ v. action_of (known_names known.now) known.now.profiles.now (view v)) values.items) }
+    ensures { IfOk result (λ actions. map plan_action_view actions.items ≡ map
+        (λ v. action_of (known_names known.now) known.now.profiles.now (view v)) values.items) }
 {
     let mut actions = Vec::with_capacity(alloc, values.len())?;
     for value in values {
@@ -139,7 +140,8 @@ fn actions_of_task(
     task: &mut Value,
 ) -> Result<Vec<PlanAction>, AllocError>
     requires { known.now.default.now ≡ default_requirements }
-    ensures { IfOk result (λ actions. map plan_action_view actions.items ≡ map (action_of (known_names known.now) known.now.profiles.now) (actions_of (view task.old))) }
+    ensures { IfOk result (λ actions. map plan_action_view actions.items ≡ map
+        (action_of (known_names known.now) known.now.profiles.now) (actions_of (view task.old))) }
 {
     plan_actions_of(alloc, known, take_actions(alloc, task))
 }
@@ -170,7 +172,9 @@ fn known_tasks(
     dependencies: Vec<Vec<u32>>,
 ) -> Result<Vec<PlanTask>, AllocError>
     requires { known.now.default.now ≡ default_requirements }
-    ensures { IfOk result (λ tasks. map plan_task_view tasks.items ≡ map (λ p. task_after (known_names known.now) known.now.profiles.now (view p.0) p.1.items) (zip tables.items dependencies.items)) }
+    ensures { IfOk result (λ tasks. map plan_task_view tasks.items ≡ map
+        (λ p. task_after (known_names known.now) known.now.profiles.now (view p.0) p.1.items)
+        (zip tables.items dependencies.items)) }
 {
     let mut tasks = Vec::with_capacity(alloc, tables.len())?;
     for (task, after) in tables.into_iter().zip(dependencies) {
@@ -188,7 +192,9 @@ fn tasks_by_names<'a>(
     tables: Vec<Value>,
     dependencies: Vec<Vec<u32>>,
 ) -> Result<Vec<PlanTask>, AllocError>
-    ensures { IfOk result (λ tasks. map plan_task_view tasks.items ≡ map (λ p. task_after (named projects.entry.now requirements.entry.now) profiles.now (view p.0) p.1.items) (zip tables.items dependencies.items)) }
+    ensures { IfOk result (λ tasks. map plan_task_view tasks.items ≡ map
+        (λ p. task_after (named projects.entry.now requirements.entry.now) profiles.now (view p.0) p.1.items)
+        (zip tables.items dependencies.items)) }
 {
     let default = default_requirements(alloc)?;
     let known = Known {
@@ -210,7 +216,9 @@ fn tasks_by_projects<'a>(
     dependencies: Vec<Vec<u32>>,
 ) -> Result<Vec<PlanTask>, AllocError>
     requires { first_repeat requirements.now ≡ None }
-    ensures { IfOk result (λ tasks. map plan_task_view tasks.items ≡ map (λ p. task_after (named projects.entry.now requirements.entry.now) profiles.now (view p.0) p.1.items) (zip tables.items dependencies.items)) }
+    ensures { IfOk result (λ tasks. map plan_task_view tasks.items ≡ map
+        (λ p. task_after (named projects.entry.now requirements.entry.now) profiles.now (view p.0) p.1.items)
+        (zip tables.items dependencies.items)) }
 {
     let requirements = NameTable::of_texts(alloc, requirements)?;
     tasks_by_names(
@@ -234,7 +242,9 @@ pub(crate) fn tasks_of_plan<'a>(
 ) -> Result<Vec<PlanTask>, AllocError>
     requires projects { first_repeat projects.now ≡ None }
     requires requirements { first_repeat requirements.now ≡ None }
-    ensures { IfOk result (λ tasks. map plan_task_view tasks.items ≡ map (λ p. task_after (named projects.entry.now requirements.entry.now) profiles.now (view p.0) p.1.items) (zip tables.items dependencies.items)) }
+    ensures { IfOk result (λ tasks. map plan_task_view tasks.items ≡ map
+        (λ p. task_after (named projects.entry.now requirements.entry.now) profiles.now (view p.0) p.1.items)
+        (zip tables.items dependencies.items)) }
 {
     let projects = NameTable::of_texts(alloc, projects)?;
     tasks_by_projects(

@@ -89,7 +89,8 @@ pub(crate) fn boolean_or(value: Option<&Value>, default: bool) -> bool
 /// The table, and none in place of another value.
 #[tactic(auto, using(crate::proofs::Lists::pairs_of_table))]
 pub(crate) fn table_of<'a>(value: Option<&'a Value>) -> Option<&'a Table>
-    ensures { option_map_or (λ m. map (λ e. (string_bytes e.0, text_of (view e.1))) m.now.entries) result [] ≡ table_pairs (option_map (λ v. view v.now) value.entry) }
+    ensures { option_map_or (λ m. map (λ e. (string_bytes e.0, text_of (view e.1))) m.now.entries) result [] ≡ table_pairs
+        (option_map (λ v. view v.now) value.entry) }
 {
     match value {
         Some(Value::Table(table)) => Some(table),

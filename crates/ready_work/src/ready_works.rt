@@ -130,7 +130,8 @@ impl ReadyWork {
     fn note_lock(&mut self, state: &State, lock: LockId)
         requires within { IsLockOf state.now lock }
         requires room { lock.0 < room_of self.old.tasks.startable.free }
-        ensures free { (g : GraphView) → BelongsTo g state.now → Looks (IsFree g state.now) (λ l. l ≡ lock.0) self.old.tasks.startable.free self.new.tasks.startable.free }
+        ensures free { (g : GraphView) → BelongsTo g state.now
+            → Looks (IsFree g state.now) (λ l. l ≡ lock.0) self.old.tasks.startable.free self.new.tasks.startable.free }
         ensures tasks { (g : GraphView) → LooksAt g state.now NoNumber self.old.tasks self.new.tasks }
         ensures same { self.new ≡ record self.old { tasks = self.new.tasks } }
     {

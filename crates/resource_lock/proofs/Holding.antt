@@ -15,7 +15,7 @@ use Rattle.resource_lock.specs.Change.{can, make, holding_after, with_owner, wit
 use Rattle.resource_lock.specs.Good.{Good}
 use Rattle.resource_lock.specs.Counting.{counts_of, counts_in, no_counts}
 use Rattle.resource_lock.specs.State.{state_view, IsSound}
-use Rattle.resource_lock.specs.Holdings.{holding_from, counts_after, HasRoom, IsAfter}
+use Rattle.resource_lock.specs.Holdings.{holding_from, counts_after, CanCount, IsAfter}
 use Rattle.resource_lock.specs.declared.ids.LockId.{LockId}
 use Rattle.resource_lock.specs.declared.ids.WorkerId.{WorkerId}
 use Rattle.resource_lock.specs.declared.marks.MarkId.TheVariants.{Task as TaskOf, Action as ActionOf, Unit as UnitOf}
@@ -76,7 +76,7 @@ marks_fit {a} r = (
   omega (arith, ap (λ x. length x.units) r.view_is, a.marks.units.ok.0, a.marks.units.ok.1, a.marks.units.small),
 )
 
-pub has_room : {a : Inside} {s : StateView} {w : WorkerId} {v : Held} (c : Change) → Reads a s w c v → IsSound a → HasRoom w v c
+pub has_room : {a : Inside} {s : StateView} {w : WorkerId} {v : Held} (c : Change) → Reads a s w c v → IsSound a → CanCount w v c
 has_room (Lock l) r sound = locks_fit l r sound
 has_room (Unlock l) r sound = some_lock l r sound
 has_room {v = v} (Park l) r sound = omega (arith, room_to_park l r sound, v.parked.ok.0)

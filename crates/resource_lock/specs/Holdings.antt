@@ -34,14 +34,14 @@ abbrev pub CanRecount : ℕ → WorkerId → Mark → Mark → Type 0
 CanRecount count w from to = (runs w from ≤ count) × (recounted count w from to < 2 ^ 64)
 
 -- an entry has room for a change
-abbrev pub HasRoom : WorkerId → Held → Change → Type 0
-HasRoom w h (Lock l) = h.counts.locks + 1 < 2 ^ 64
-HasRoom w h (Unlock l) = 1 ≤ h.counts.locks
-HasRoom w h (Move (TaskOf t) from to) = CanRecount h.counts.tasks w from to
-HasRoom w h (Move (ActionOf a) from to) = CanRecount h.counts.actions w from to
-HasRoom w h (Move (UnitOf u) from to) = CanRecount h.counts.units w from to
-HasRoom w h (Park l) = vec_len h.parked < vec_capacity h.parked
-HasRoom w h _ = Unit {0}
+abbrev pub CanCount : WorkerId → Held → Change → Type 0
+CanCount w h (Lock l) = h.counts.locks + 1 < 2 ^ 64
+CanCount w h (Unlock l) = 1 ≤ h.counts.locks
+CanCount w h (Move (TaskOf t) from to) = CanRecount h.counts.tasks w from to
+CanCount w h (Move (ActionOf a) from to) = CanRecount h.counts.actions w from to
+CanCount w h (Move (UnitOf u) from to) = CanRecount h.counts.units w from to
+CanCount w h (Park l) = vec_len h.parked < vec_capacity h.parked
+CanCount w h _ = Unit {0}
 
 -- the entry after a change of the worker, which takes no memory
 pub record IsAfter (w : WorkerId) (change : Change) (old new : Held) : Type 0 where

@@ -6,7 +6,8 @@ use Rattle.resource_lock.specs.Ranges.{IsIn}
 use Rattle.resource_lock.specs.declared.graphs.GraphAction.{GraphAction}
 use Rattle.resource_lock.specs.declared.limits.TheConstants.{MAX_ACTIONS_PER_TASK, MAX_AFTER}
 
--- In a graph of so many locks and tasks, a task's lock and the tasks that it comes after are there, and it has no more actions and no more such tasks than it may.
+-- In a graph of so many locks and tasks, a task's lock and the tasks that it comes after are there, and it has no more
+-- actions and no more such tasks than it may.
 abbrev pub IsFitTask : ℕ → ℕ → GraphTaskView → Type 0
 IsFitTask locks tasks t = (t.actions ≤ MAX_ACTIONS_PER_TASK) × (length t.after ≤ MAX_AFTER) × (t.lock.0 < locks) × All (λ p. p < tasks) t.after
 

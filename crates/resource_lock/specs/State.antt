@@ -8,7 +8,14 @@ use Rattle.resource_lock.specs.declared.ids.WorkerId.{WorkerId}
 use Rattle.resource_lock.specs.declared.states.State.TheInside.{Inside}
 
 abbrev pub state_view : Inside → StateView
-state_view a = record { max_leases = a.max_leases; owners = a.owners.items; holdings = map holding_from a.held.items; tasks = a.marks.tasks.items; actions = a.marks.actions.items; units = a.marks.units.items }
+state_view a = record {
+  max_leases = a.max_leases;
+  owners = a.owners.items;
+  holdings = map holding_from a.held.items;
+  tasks = a.marks.tasks.items;
+  actions = a.marks.actions.items;
+  units = a.marks.units.items;
+}
 
 -- The state is good, its leases are counted, as is what each worker owns and runs, and each worker's list has room for every lock.
 pub record IsSound (a : Inside) : Type 0 where

@@ -37,7 +37,8 @@ impl Graph {
 
 /// Whether the counts are within the limits.
 fn numbers_fit(locks: u32, workers: u32, max_leases: u32, tasks: usize) -> bool
-    ensures { IsTrue result ↔ ((1 ≤ workers) × (workers ≤ MAX_WORKERS) × (1 ≤ max_leases) × (max_leases ≤ MAX_LEASES) × (locks ≤ MAX_LOCKS) × (tasks ≤ MAX_TASKS)) }
+    ensures { IsTrue result ↔ ((1 ≤ workers) × (workers ≤ MAX_WORKERS) × (1 ≤ max_leases) × (max_leases ≤ MAX_LEASES)
+        × (locks ≤ MAX_LOCKS) × (tasks ≤ MAX_TASKS)) }
 {
     (1..=MAX_WORKERS).contains(&workers)
         && (1..=MAX_LEASES).contains(&max_leases)

@@ -2,7 +2,7 @@
 use Rattle.std.proofs.Common.{◌≡◌, ◌≢◌, ◌⊎◌, ◌<◌, ◌≤◌, ◌+◌, ℕ, zero, suc, true, false, List, [], ◌∷◌, length, get_or, drop, ap, sym, ◌∙◌, arith, inl, inr, Contains, subst, length-drop}
 use Rattle.std.proofs.lemmas.Bool.{cases_eq, cases_Bool, both_ways}
 use Rattle.std.proofs.lemmas.List.{drop_more, get_or_default}
-use Rattle.task_ranks.specs.declared.waiting.Search.{Search}
+use Rattle.task_ranks.specs.declared.rank_search.Search.{Search}
 use Rattle.task_ranks.specs.Rank.{Dependencies, after, Ranked, ranked}
 use Rattle.task_ranks.specs.Search.{is_marked, next_of, awaited, LooksAt, Waits, WaitBelow, WaitOrListed}
 

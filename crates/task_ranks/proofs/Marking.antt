@@ -7,9 +7,9 @@ use Rattle.std.proofs.Math.Seq.{get_or-append_seam}
 use Rattle.std.proofs.lemmas.List.Elements.{Contains-append_left}
 use Rattle.std.proofs.lemmas.List.Sums.{sum_by-set}
 use Rattle.std.specs.Prelude.{count_by}
-use Rattle.task_ranks.specs.declared.waiting.Search.{Search}
+use Rattle.task_ranks.specs.declared.rank_search.Search.{Search}
 use Rattle.task_ranks.specs.Rank.{Dependencies, after, InRange, Ranked, ranked}
-use Rattle.task_ranks.specs.Search.{is_marked, next_of, IsSound, LooksAt, work_left}
+use Rattle.task_ranks.specs.Search.{is_marked, next_of, IsSoundSearch, LooksAt, work_left}
 
 -- one open place fewer
 fewer_open : (xs : List Bool) (i : ℕ) → i < length xs → get_or xs i false ≡ false → count_by not (set xs i true) + 1 ≡ count_by not xs
@@ -28,7 +28,7 @@ pub record Marks (d : Dependencies) (old new : Search) (t p : ℕ) : Type 0 wher
   pub all : p ≡ length (after d t)
   pub between : (k : ℕ) → next_of old t ≤ k → k < p → is_marked old (get_or (after d t) k 0) ≡ true
 
-module _ (d : Dependencies) (old new : Search) (t p : ℕ) (range : InRange d) (s : IsSound d old) (m : Marks d old new t p) where
+module _ (d : Dependencies) (old new : Search) (t p : ℕ) (range : InRange d) (s : IsSoundSearch d old) (m : Marks d old new t p) where
   marked_here : is_marked new t ≡ true
   marked_here =
       let lt : t < length old.ranked.items = rw s.marks m.here in
@@ -72,7 +72,7 @@ module _ (d : Dependencies) (old new : Search) (t p : ℕ) (range : InRange d) (
         rw e m.here
   ]
 
-  pub sound_marked : IsSound d new
+  pub sound_marked : IsSoundSearch d new
   sound_marked = record {
     marks = rw m.ranked (length-set old.ranked.items t true ∙ s.marks);
     places = rw m.next (length-set old.next.items t p ∙ s.places);

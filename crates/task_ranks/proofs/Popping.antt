@@ -3,9 +3,9 @@ use Rattle.std.proofs.Common.{◌≡◌, ◌<◌, ◌+◌, ◌-◌, take, ℕ, L
 use Rattle.std.proofs.Math.ListN.{get_or-append}
 use Rattle.std.proofs.Math.Seq.{get_or-append_seam}
 use Rattle.std.proofs.lemmas.List.Elements.{Contains-get_or, Contains-push_cases}
-use Rattle.task_ranks.specs.declared.waiting.Search.{Search}
+use Rattle.task_ranks.specs.declared.rank_search.Search.{Search}
 use Rattle.task_ranks.specs.Rank.{Dependencies, after, InRange, MarksRanked}
-use Rattle.task_ranks.specs.Search.{next_of, awaited, IsSound, Waits, WaitBelow, WaitOrListed}
+use Rattle.task_ranks.specs.Search.{next_of, awaited, IsSoundSearch, Waits, WaitBelow, WaitOrListed}
 use Rattle.task_ranks.specs.Dependents.{ListsDependents}
 use Rattle.task_ranks.proofs.Listed.{all_marked}
 
@@ -16,14 +16,14 @@ abbrev pub with_stack : Search → Vec ℕ Global → Search
 with_stack s stack = record { ranked = s.ranked; next = s.next; stack = stack }
 
 module _ (d : Dependencies) (s : Search) (stack : Vec ℕ Global) (popped : ℕ) (was : s.stack.items ≡ stack.items ++ popped ∷ []) where
-  pub popped_low : IsSound d s → popped < length d
+  pub popped_low : IsSoundSearch d s → popped < length d
   popped_low sound =
       let long : length s.stack.items ≡ length stack.items + 1 = rw was (length-append stack.items (popped ∷ [])) in
       let here : get_or s.stack.items (length stack.items) 0 ≡ popped = rw was (get_or-append_seam stack.items popped [] 0) in
       let lt : get_or s.stack.items (length stack.items) 0 < length d = sound.stacked (length stack.items) (omega arith) in
       rw here at lt
 
-  pub popped_sound : IsSound d s → IsSound d (with_stack s stack)
+  pub popped_sound : IsSoundSearch d s → IsSoundSearch d (with_stack s stack)
   popped_sound sound = record {
     marks = sound.marks;
     places = sound.places;
@@ -61,7 +61,7 @@ module _ (d : Dependencies) (s : Search) (stack : Vec ℕ Global) (popped : ℕ)
 pub dependents_low : (d dependents : Dependencies) (n u k : ℕ) → n ≡ length d → ListsDependents d n dependents → k < length (after dependents u) → get_or (after dependents u) k 0 < n
 dependents_low d dependents n u k size lists lt = (lists.sound u (get_or (after dependents u) k 0) (Contains-get_or (after dependents u) k 0 lt)).0
 
-pub finished : (d : Dependencies) (s : Search) (n : ℕ) → n ≡ length d → InRange d → IsSound d s → WaitBelow n d s → s.stack.items ≡ [] → MarksRanked d s.ranked.items
+pub finished : (d : Dependencies) (s : Search) (n : ℕ) → n ≡ length d → InRange d → IsSoundSearch d s → WaitBelow n d s → s.stack.items ≡ [] → MarksRanked d s.ranked.items
 finished d s n size range sound waits empty = record {
   size = sound.marks;
   sound = sound.sound;

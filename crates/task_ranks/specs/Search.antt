@@ -1,6 +1,6 @@
 -- What the search for ranks keeps.
 use Rattle.std.specs.Prelude.{◌≡◌, ◌≢◌, ◌⊎◌, ◌<◌, ◌≤◌, ◌+◌, ℕ, Bool, true, false, not, List, length, slice_index_or, Contains, count_by}
-use Rattle.task_ranks.specs.declared.waiting.Search.{Search}
+use Rattle.task_ranks.specs.declared.rank_search.Search.{Search}
 use Rattle.task_ranks.specs.Rank.{Dependencies, after, Ranked}
 
 abbrev pub is_marked : Search → ℕ → Bool
@@ -14,7 +14,7 @@ abbrev pub awaited : Dependencies → Search → ℕ → ℕ
 awaited d s t = slice_index_or (after d t) (next_of s t) 0
 
 -- the marks are right, and each task's names before its next one are marked
-pub record IsSound (d : Dependencies) (s : Search) : Type 0 where
+pub record IsSoundSearch (d : Dependencies) (s : Search) : Type 0 where
   pub marks : length s.ranked.items ≡ length d
   pub places : length s.next.items ≡ length d
   pub stacked : (k : ℕ) → k < length s.stack.items → slice_index_or s.stack.items k 0 < length d

@@ -3,7 +3,7 @@ ghost use Rattle.std.specs.Prelude.{false, length, slice_index_or, true, IfOk, M
 ghost use Rattle.task_ranks.specs.Rank.{InRange, IsFirstCycle, MarksRanked, lists_of};
 
 use crate::dependents::{dependents_at, dependents_of};
-use crate::waiting::Search;
+use crate::rank_search::Search;
 use std::alloc::{AllocError, Global};
 
 /// The marks of exactly the tasks that have a rank.

@@ -3,7 +3,7 @@ ghost use Rattle.std.specs.Prelude.{length, slice_index_or, slice_set, IfOk, OnO
 ghost use Rattle.task_ranks.specs.Rank.{InRange, after, lists_of};
 ghost use Rattle.task_ranks.specs.Dependents.{AddsDependent, ListsDependents};
 
-use crate::waiting::names_of;
+use crate::rank_search::names_of;
 use std::alloc::{AllocError, Global};
 
 fn empty_rows(alloc: Global, rows: &[Vec<u32>]) -> Result<Vec<Vec<usize>>, AllocError>
@@ -20,7 +20,8 @@ fn empty_rows(alloc: Global, rows: &[Vec<u32>]) -> Result<Vec<Vec<usize>>, Alloc
 
 fn push_at(dependents: &mut Vec<Vec<usize>>, at: usize, task: usize) -> Result<(), AllocError>
     requires { at < length dependents.old.items }
-    ensures { OnOk result (lists_of dependents.new.items ≡ slice_set (lists_of dependents.old.items) at (after (lists_of dependents.old.items) at ++ task ∷ [])) }
+    ensures { OnOk result (lists_of dependents.new.items ≡ slice_set (lists_of dependents.old.items) at
+        (after (lists_of dependents.old.items) at ++ task ∷ [])) }
 {
     dependents[at].push(task)?;
     Ok(())

@@ -7,7 +7,7 @@ ghost use Rattle.task_ranks.specs.Rank.{Dependencies, InRange, IsFirstCycle};
 
 mod cycles;
 mod dependents;
-mod waiting;
+mod rank_search;
 
 pub use cycles::first_cycle;
 pub use dependents::{dependents_at, dependents_of};

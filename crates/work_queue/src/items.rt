@@ -4,18 +4,18 @@ ghost use Rattle.item_actions.specs.Value.{IsHonest, value_on};
 ghost use Rattle.item_actions.specs.declared.outcomes.Outcome.TheVariants as outcomes;
 ghost use Rattle.resource_lock.specs.declared.marks.MarkId.TheVariants as ids;
 ghost use Rattle.coordination.specs.Shown.{claimed_shown};
-ghost use Rattle.worker_desk.specs.SinkView.{Rises};
+ghost use Rattle.file_access.specs.SinkView.{Rises};
 ghost use Rattle.daemon_items.specs.Requests.{request_for};
 ghost use Rattle.work_queue.specs.Sends.{SendsFor};
 
 use daemon_desk::Desk;
 use daemon_items::{PoolLock, work_in_daemon};
 use daemon_requirements::{Isolation, Work};
+use file_access::work_out;
 use item_actions::{ItemAction, Outcome, Text};
 use lease_service::Lease;
 use std::alloc::Global;
 use std::sync::Wait;
-use worker_desk::work_out;
 
 /// Runs an item: works its action out on its file, in the worker's own thread or in a daemon of the pool.
 ///
@@ -41,7 +41,8 @@ pub fn run_item<R: Wait, D: Desk>(
     ensures ran { result ≢ outcomes.Skipped }
     ensures fault { result ≡ outcomes.Fault → Rises (D.faults desk.old) (D.faults desk.new) }
     ensures honest { IfSome (D.files desk.old) (λ known. IsHonest result (value_on known work.now.action work.now.file)) }
-    ensures sent { SendsFor work.now.isolation (record { count = D.sends desk.old; requests = D.sent desk.old }) (record { count = D.sends desk.new; requests = D.sent desk.new }) (request_for unit work.now) result }
+    ensures sent { SendsFor work.now.isolation (record { count = D.sends desk.old; requests = D.sent desk.old })
+        (record { count = D.sends desk.new; requests = D.sent desk.new }) (request_for unit work.now) result }
 {
     match &work.isolation {
         Isolation::InThread => work_in_thread(alloc, desk, &work.action, &work.file),

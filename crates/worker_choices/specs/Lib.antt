@@ -1,2 +1,2 @@
-pub mod Ready
-pub mod Wakes
+pub mod NextSteps
+pub mod GoingOn

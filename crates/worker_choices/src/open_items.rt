@@ -1,6 +1,6 @@
 //! Which items of an action haven't ended yet.
 ghost use Rattle.std.specs.Prelude.{◌≡◌};
-ghost use Rattle.worker_choices.specs.Ready.{first_open};
+ghost use Rattle.worker_choices.specs.NextSteps.{first_open};
 
 use lock_journal::Book;
 use lock_transforms::kinds::action_of;

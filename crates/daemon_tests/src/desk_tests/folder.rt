@@ -3,11 +3,11 @@ use super::ask_twice;
 use crate::asked::{Asked, PLAIN};
 use crate::lines::check;
 use daemon_desk::FolderDesk;
+use file_access::{DeskFail, Files, Read};
 use item_actions::Text;
 use std::alloc::{AllocError, Global};
 use std::process::{Abort, Processes, SystemProcess};
 use std::{fs, io, rt};
-use worker_desk::{DeskFail, Files, Read};
 
 // It replies from the file that its argument names, and from the one that a variable names. Then it keeps what comes until
 // its input ends.

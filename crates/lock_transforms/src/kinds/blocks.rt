@@ -98,7 +98,8 @@ fn begin_fetch(work: &mut Tentative, unit: u32) -> bool
     requires belongs { BelongsTo work.old.graph work.old.state }
     requires in_range { unit < work.old.graph.units }
     requires room { 3 + 2 * MAX_LOCKS ≤ work.old.room }
-    ensures made { Makes work.old work.new (Change.Move (ids.Unit unit) marks.Waiting (marks.Running work.old.worker) ∷ set_down work.old.state work.old.worker) result }
+    ensures made { Makes work.old work.new (Change.Move (ids.Unit unit) marks.Waiting (marks.Running work.old.worker)
+        ∷ set_down work.old.state work.old.worker) result }
     ensures few { length (set_down work.old.state work.old.worker) ≤ 2 + 2 * MAX_LOCKS }
 {
     let running = Mark::Running(work.worker());
@@ -145,7 +146,9 @@ fn can_begin(graph: &Graph, state: &State, worker: WorkerId, action: u32, unit: 
     requires worker_in_range { worker.0 < graph.now.workers }
     requires action_in_range { action < length graph.now.actions }
     requires in_range { unit < graph.now.units }
-    ensures { result ≡ ((action_of graph.now action).fetch && (action_of graph.now action).first_unit == unit && works_on state.now worker (task_with graph.now action) && same_mark (mark_of state.now (ids.Action action)) marks.Waiting && same_mark (mark_of state.now (ids.Unit unit)) marks.Waiting && earlier_passed graph.now state.now action) }
+    ensures { result ≡ ((action_of graph.now action).fetch && (action_of graph.now action).first_unit == unit
+        && works_on state.now worker (task_with graph.now action) && same_mark (mark_of state.now (ids.Action action)) marks.Waiting
+        && same_mark (mark_of state.now (ids.Unit unit)) marks.Waiting && earlier_passed graph.now state.now action) }
 {
     let found = action_of(graph, action);
     found.fetch

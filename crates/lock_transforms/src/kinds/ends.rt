@@ -104,7 +104,8 @@ fn end_task(work: &mut Tentative, task: u32, mark: Mark, leased: bool) -> bool
     requires belongs { BelongsTo work.old.graph work.old.state }
     requires in_range { task < length work.old.graph.tasks }
     requires room { 3 ≤ work.old.room }
-    ensures { Makes work.old work.new (Change.Move (ids.Task task) (marks.Running work.old.worker) mark ∷ (if leased then Change.Unlock (task_of work.old.graph task).lock ∷ Change.Give ∷ [] else [])) result }
+    ensures { Makes work.old work.new (Change.Move (ids.Task task) (marks.Running work.old.worker) mark
+        ∷ (if leased then Change.Unlock (task_of work.old.graph task).lock ∷ Change.Give ∷ [] else [])) result }
 {
     let lock = lock_of(work.graph(), task);
     let running = Mark::Running(work.worker());
@@ -122,7 +123,8 @@ fn end_task(work: &mut Tentative, task: u32, mark: Mark, leased: bool) -> bool
 fn all_through(graph: &Graph, state: &State, actions: Span) -> bool
     requires belongs { BelongsTo graph.now state.now }
     requires in_range { actions.first + actions.count ≤ length graph.now.actions }
-    ensures { result ≡ list_all (λ a. has_passed (mark_of state.now (ids.Action a)) || never_ran graph.now state.now a) (range_with_len actions.first actions.count) }
+    ensures { result ≡ list_all (λ a. has_passed (mark_of state.now (ids.Action a))
+        || never_ran graph.now state.now a) (range_with_len actions.first actions.count) }
 {
     (actions.first..actions.first + actions.count).all(|action| is_through(graph, state, action))
 }
@@ -160,7 +162,8 @@ fn all_waiting(state: &State, units: Span) -> bool
 fn some_earlier_failed(graph: &Graph, state: &State, action: u32) -> bool
     requires belongs { BelongsTo graph.now state.now }
     requires in_range { action < length graph.now.actions }
-    ensures { result ≡ list_any (λ b. list_any (λ u. same_mark (mark_of state.now (ids.Unit u)) marks.Failed) (units_of graph.now b)) (earlier_actions graph.now action) }
+    ensures { result ≡ list_any (λ b. list_any (λ u. same_mark (mark_of state.now (ids.Unit u)) marks.Failed)
+        (units_of graph.now b)) (earlier_actions graph.now action) }
 {
     let earlier = earlier_actions(graph, action);
     (earlier.first..earlier.first + earlier.count).any(|action| has_failed(graph, state, action))

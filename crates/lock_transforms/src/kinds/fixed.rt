@@ -41,7 +41,8 @@ pub(crate) trait FixedKind {
         requires room { most self.now ≤ work.old.room }
         ensures made { Makes work.old work.new (list_of work.old.graph work.old.state work.old.worker (kind_of self.now)) result }
         ensures few { length (list_of work.old.graph work.old.state work.old.worker (kind_of self.now)) ≤ most self.now }
-        ensures fixed { IsListOf work.old.graph work.old.state work.old.worker (kind_of self.now) (list_of work.old.graph work.old.state work.old.worker (kind_of self.now)) };
+        ensures fixed { IsListOf work.old.graph work.old.state work.old.worker (kind_of self.now)
+            (list_of work.old.graph work.old.state work.old.worker (kind_of self.now)) };
 }
 
 /// How far an entry came.

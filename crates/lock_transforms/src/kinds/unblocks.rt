@@ -99,7 +99,8 @@ fn end_fetch(work: &mut Tentative, closed: Closed) -> bool
     requires sound { IsSoundTentative work.old }
     requires in_range { closed.unit < work.old.graph.units }
     requires room { 3 + 2 * MAX_LOCKS ≤ work.old.room }
-    ensures made { Makes work.old work.new (taken_up work.old.state work.old.worker ++ Change.Move (ids.Unit closed.unit) (marks.Running work.old.worker) (mark_from closed.outcome) ∷ []) result }
+    ensures made { Makes work.old work.new (taken_up work.old.state work.old.worker
+        ++ Change.Move (ids.Unit closed.unit) (marks.Running work.old.worker) (mark_from closed.outcome) ∷ []) result }
     ensures few { length (taken_up work.old.state work.old.worker) ≤ 2 + 2 * MAX_LOCKS }
 {
     if !take_up(work) {

@@ -1,7 +1,7 @@
 //! What one worker has, and how much it owns and runs.
 ghost use Rattle.std.specs.Prelude.{◌≡◌, ◌≤◌, IfOk, vec_capacity};
 ghost use Rattle.resource_lock.specs.Counting.{no_counts};
-ghost use Rattle.resource_lock.specs.Holdings.{holding_from, recounted, CanRecount, HasRoom, IsAfter};
+ghost use Rattle.resource_lock.specs.Holdings.{holding_from, recounted, CanRecount, CanCount, IsAfter};
 ghost use Rattle.resource_lock.specs.StateView.{empty_holding};
 
 use crate::changes::Change;
@@ -55,7 +55,7 @@ impl Held {
     /// Notes a change of the worker.
     #[inline(always)]
     pub(super) fn note(&mut self, worker: WorkerId, change: Change)
-        requires { HasRoom worker self.old change }
+        requires { CanCount worker self.old change }
         ensures { IsAfter worker change self.old self.new }
     {
         match change {

@@ -6,7 +6,7 @@ use Rattle.resource_lock.specs.declared.graphs.Retention.{Retention}
 use Rattle.resource_lock.specs.declared.graphs.Retention.TheVariants.{Retain, Release, ReleaseAndReacquire}
 use Rattle.resource_lock.specs.declared.ids.LockId.{LockId}
 use Rattle.resource_lock.specs.declared.marks.MarkId.TheVariants.{Unit as UnitOf}
-use Rattle.run_laws.specs.OwnChanges.{mark_before, with_member, without_member}
+use Rattle.history_laws.specs.OwnChanges.{mark_before, with_member, without_member}
 use Rattle.coordination.specs.declared.rule.Sight.{Sight}
 use Rattle.coordination.specs.Shown.{ShowsTheSame, lease_shown}
 use Rattle.coordination.proofs.Growing.{agrees_self}

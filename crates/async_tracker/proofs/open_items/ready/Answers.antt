@@ -1,7 +1,7 @@
 use Rattle.std.proofs.Common.{◌≡◌, Bool, true, false, not, Option, Some, None, ap, ◌∙◌}
 use Rattle.std.specs.Prelude.{is_none, is_some}
 use Rattle.resource_lock.specs.Ranges.{items_of}
-use Rattle.worker_choices.specs.Ready.{first_open}
+use Rattle.worker_choices.specs.NextSteps.{first_open}
 use Rattle.async_tracker.proofs.Resumed.{none_open}
 use Rattle.async_tracker.proofs.open_items.ready.Goals as goal
 

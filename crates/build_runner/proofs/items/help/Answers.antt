@@ -2,7 +2,7 @@ use Rattle.std.proofs.Common.{rules, List, sym, subst}
 use Rattle.std.specs.Prelude.{Contains}
 use Rattle.resource_lock.specs.declared.marks.MarkId.{MarkId}
 use Rattle.resource_lock.specs.declared.marks.MarkId.TheVariants.{Unit as UnitOf}
-use Rattle.run_laws.specs.OwnChanges.{mark_before}
+use Rattle.history_laws.specs.OwnChanges.{mark_before}
 use Rattle.coordination.specs.Shown.{claimed_shown}
 use Rattle.async_tracker.proofs.Claims.{has_member}
 use Rattle.build_runner.proofs.Keeping.{on_ok}

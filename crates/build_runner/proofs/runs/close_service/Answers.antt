@@ -13,7 +13,7 @@ use Rattle.coordination.specs.declared.services.Opened.{Opened}
 use Rattle.plan_reader.specs.Graph.{graph_of}
 use Rattle.plan_reader.specs.IsPlan.{dependencies}
 use Rattle.plan_reader.specs.Units.{plan_units}
-use Rattle.run_laws.specs.Marks.{HasEnded}
+use Rattle.history_laws.specs.Marks.{HasEnded}
 use Rattle.build_runner.specs.Run.{depth}
 use Rattle.build_runner.proofs.AtTheEnd.{all_are_honest, all_ended, all_faults, all_rest, closings_in, has_results}
 use Rattle.build_runner.proofs.Ranks.{afters_count, in_range, no_cycle, ranks_of, task_count}

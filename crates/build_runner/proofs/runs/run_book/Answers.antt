@@ -1,7 +1,7 @@
 use Rattle.std.proofs.Common.{◌≡◌, ◌++◌, List, drop, get_or, length, map, ap, sym, ◌∙◌, subst, arith}
 use Rattle.std.specs.List.{All}
 use Rattle.resource_lock.specs.GraphView.{GraphView}
-use Rattle.run_laws.specs.ClosedBy.{closed_by}
+use Rattle.history_laws.specs.ClosedBy.{closed_by}
 use Rattle.daemon_items.specs.Requests.{SentView}
 use Rattle.coordination.specs.Sights.{workers_from}
 use Rattle.coordination.specs.declared.services.Opened.{Opened}

@@ -3,7 +3,7 @@ use Rattle.std.specs.declared.alloc.Global.{Global}
 use Rattle.lock_journal.specs.BookView.{BookView}
 use Rattle.daemon_items.specs.Requests.{SentView}
 use Rattle.plan_reader.specs.Units.{plan_units}
-use Rattle.run_laws.specs.ClosedBy.{closed_by}
+use Rattle.history_laws.specs.ClosedBy.{closed_by}
 use Rattle.build_runner.specs.Run.{IsRunOf}
 use Rattle.build_runner.specs.Sent.{AreSentFor, sent_view}
 use Rattle.build_runner.proofs.Counted.{counted_by}

@@ -1,7 +1,7 @@
 use Rattle.std.proofs.Common.{sym, subst}
 use Rattle.resource_lock.proofs.Runs.{worker_from}
-use Rattle.run_laws.specs.Own.{NamesWorkers}
-use Rattle.run_laws.proofs.Named.{named}
+use Rattle.history_laws.specs.Own.{NamesWorkers}
+use Rattle.history_laws.proofs.Named.{named}
 use Rattle.coordination.proofs.Entries.{belongs_sound, good_sound}
 use Rattle.coordination.proofs.laws.sound_books_have_good_states.Goals as goal
 

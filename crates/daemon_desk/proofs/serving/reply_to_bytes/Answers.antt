@@ -3,8 +3,8 @@ use Rattle.std.proofs.lemmas.Result.{IfOk-weaker}
 use Rattle.item_actions.specs.Value.{IsHonest, value_on}
 use Rattle.daemon_protocol.specs.StreamStart.{look}
 use Rattle.daemon_protocol.specs.declared.frames.Reply.{Reply}
-use Rattle.worker_desk.specs.Memory.{MemorySinkView}
-use Rattle.worker_desk.specs.SourceView.{MemorySourceView}
+use Rattle.file_access.specs.Memory.{MemorySinkView}
+use Rattle.file_access.specs.SourceView.{MemorySourceView}
 use Rattle.daemon_desk.proofs.Honesty.{honest_reply}
 use Rattle.daemon_desk.proofs.Told.{is_reply, told_in}
 use Rattle.daemon_desk.proofs.serving.reply_to_bytes.Goals as goal

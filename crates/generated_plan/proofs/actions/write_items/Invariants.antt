@@ -1,6 +1,6 @@
 use Rattle.std.proofs.Common.{◌≡◌}
 use Rattle.std.specs.List.{flat_map, range_with_len}
-use Rattle.worker_desk.specs.PageView.{Adds}
+use Rattle.file_access.specs.PageView.{Adds}
 use Rattle.generated_plan.specs.Draws.{after_draws}
 use Rattle.generated_plan.specs.Made.{item_text}
 use Rattle.generated_plan.proofs.actions.write_items.Given as goal

@@ -1,5 +1,5 @@
 use Rattle.std.specs.List.{flat_map, range_with_len}
-use Rattle.worker_desk.specs.PageView.{Adds}
+use Rattle.file_access.specs.PageView.{Adds}
 use Rattle.generated_plan.specs.Made.{project_text}
 use Rattle.generated_plan.proofs.plans.write_projects.Given as goal
 

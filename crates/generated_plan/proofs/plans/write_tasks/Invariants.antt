@@ -1,6 +1,6 @@
 use Rattle.std.proofs.Common.{◌≡◌}
 use Rattle.std.specs.List.{flat_map, range_with_len}
-use Rattle.worker_desk.specs.PageView.{Adds}
+use Rattle.file_access.specs.PageView.{Adds}
 use Rattle.generated_plan.specs.Draws.{after_draws}
 use Rattle.generated_plan.specs.Made.{task_text, draws_before}
 use Rattle.generated_plan.proofs.plans.write_tasks.Given as goal

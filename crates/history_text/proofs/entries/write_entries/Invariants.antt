@@ -1,5 +1,5 @@
 use Rattle.std.proofs.Common.{take}
-use Rattle.worker_desk.specs.PageView.{Adds}
+use Rattle.file_access.specs.PageView.{Adds}
 use Rattle.history_text.specs.Text.{entry_text, numbered}
 use Rattle.history_text.proofs.entries.write_entries.Given as goal
 

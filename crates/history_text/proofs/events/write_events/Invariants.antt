@@ -1,6 +1,6 @@
 use Rattle.std.proofs.Common.{take, ◌++◌, codes, decimal, length}
 use Rattle.std.specs.List.{flat_map}
-use Rattle.worker_desk.specs.PageView.{Adds}
+use Rattle.file_access.specs.PageView.{Adds}
 use Rattle.history_text.specs.Events.{event_text}
 use Rattle.history_text.proofs.events.write_events.Given as goal
 

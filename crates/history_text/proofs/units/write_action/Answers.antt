@@ -1,5 +1,5 @@
 use Rattle.std.proofs.Common.{◌∙◌, ◌++◌, ap, map, sym}
-use Rattle.worker_desk.proofs.Telling.{adds_as, adds_then}
+use Rattle.file_access.proofs.Telling.{adds_as, adds_then}
 use Rattle.lock_journal.specs.Closings.{outcome_in}
 use Rattle.plan_reader.specs.PlanView.{work_view}
 use Rattle.plan_reader.specs.Units.{fetch_units, item_unit}

@@ -1,6 +1,6 @@
 use Rattle.std.proofs.Common.{◌≡◌, ◌+◌, length, take, map}
 use Rattle.std.specs.List.{flat_map}
-use Rattle.worker_desk.specs.PageView.{Adds}
+use Rattle.file_access.specs.PageView.{Adds}
 use Rattle.lock_journal.specs.Closings.{outcome_in}
 use Rattle.plan_reader.specs.PlanView.{plan_action_view}
 use Rattle.plan_reader.specs.Units.{action_units}

@@ -1,5 +1,5 @@
 use Rattle.std.proofs.Common.{take, map}
-use Rattle.worker_desk.specs.PageView.{Adds}
+use Rattle.file_access.specs.PageView.{Adds}
 use Rattle.lock_journal.specs.Closings.{outcome_in}
 use Rattle.plan_reader.specs.PlanView.{work_view}
 use Rattle.plan_reader.specs.Units.{item_unit}

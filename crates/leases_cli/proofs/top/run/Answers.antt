@@ -1,7 +1,7 @@
 use Rattle.std.proofs.Common.{get_or, ap, arith, ◌∙◌, subst}
 use Rattle.daemon_items.specs.Requests.{SentView}
 use Rattle.plan_reader.specs.Units.{plan_units}
-use Rattle.run_laws.specs.ClosedBy.{closed_by}
+use Rattle.history_laws.specs.ClosedBy.{closed_by}
 use Rattle.build_runner.specs.Sent.{AreSentFor}
 use Rattle.leases_cli.specs.Answered.{book_of, options_of}
 use Rattle.leases_cli.specs.Around.{desks_view}

@@ -3,7 +3,7 @@ use Rattle.std.proofs.lemmas.Bool.{eq-eqb}
 use Rattle.resource_lock.specs.GraphView.{task_of}
 use Rattle.resource_lock.specs.StateView.{Holding}
 use Rattle.resource_lock.specs.declared.marks.MarkId.TheVariants.{Task as TaskOf}
-use Rattle.run_laws.specs.OwnChanges.{lock_before, mark_before, with_if, with_member}
+use Rattle.history_laws.specs.OwnChanges.{lock_before, mark_before, with_if, with_member}
 use Rattle.coordination.specs.Shown.{blocked_shown}
 use Rattle.lock_tests.specs.TwoItems.{two_items}
 use Rattle.coordination.proofs.Shown.{shows_left}

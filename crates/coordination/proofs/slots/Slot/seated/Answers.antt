@@ -7,7 +7,7 @@ use Rattle.lock_journal.specs.BookView.{BookView}
 use Rattle.coordination.specs.declared.rule.Sight.{Sight}
 use Rattle.coordination.specs.declared.rule.SeatView.{SeatView}
 use Rattle.std.specs.Vec.Iter.{into_iter_items}
-use Rattle.coordination.specs.Parts.{ArePartsFrom, HasRoom, IsPartOf, marks_of}
+use Rattle.coordination.specs.Parts.{ArePartsFrom, HasListRoom, IsPartOf, marks_of}
 use Rattle.coordination.specs.declared.parts.Part.{Part}
 use Rattle.coordination.specs.Passes.{PassView}
 use Rattle.coordination.specs.Rule.{M, Orderly, first_sight, other_sights}
@@ -72,7 +72,7 @@ invariant_of-push_reserved c =
         lone = is ∙ ap (λ (k : Sight). (one k, [])) (sym s);
         worker_is = ap (λ (k : ℕ). record { 0 = k }) at ∙ sym (ap (λ (k : Sight). k.worker) s);
         part_is = subst (λ (k : Sight). IsPartOf k.seen k.worker c.in-Some.part) (sym s) mine.0;
-        room = subst (λ (k : Sight). HasRoom k.seen.graph.locks (marks_of k.seen.graph) c.in-Some.part) (sym s) mine.1;
+        room = subst (λ (k : Sight). HasListRoom k.seen.graph.locks (marks_of k.seen.graph) c.in-Some.part) (sym s) mine.1;
       },
       sym (ap (λ (k : Sight). k.stopped) s),
       sym (ap (λ (k : Sight). k.stopped_by) s),

@@ -4,7 +4,7 @@ use Rattle.std.specs.List.{slice_range, slice_index_or}
 use Rattle.resource_lock.specs.declared.changes.Change.{Change}
 use Rattle.lock_transforms.specs.Entry.{entry}
 use Rattle.lock_journal.specs.StoredEntry.{IsNumberOf, end_before, kind_from}
-use Rattle.lock_journal.specs.History.{history_view, IsSound}
+use Rattle.lock_journal.specs.History.{history_view, IsSoundHistory}
 use Rattle.lock_journal.specs.HistoryView.{HistoryView}
 use Rattle.lock_transforms.specs.declared.entries.Closed.{Closed}
 use Rattle.lock_transforms.specs.declared.entries.Kind.{Kind}
@@ -14,7 +14,7 @@ use Rattle.lock_journal.proofs.Stored.{StandsAt, end_read, entry_at, read_at, sh
 use Rattle.lock_journal.proofs.histories.History.entry.Goals as goal
 
 -- the entry that is read has a range and a number
-stands : (h : Inside) (v : HistoryView) (i : ℕ) (k : StoredEntry) → IsSound h → history_view h ≡ v → i < length v.entries → k ≡ slice_index_or h.stored.items i k
+stands : (h : Inside) (v : HistoryView) (i : ℕ) (k : StoredEntry) → IsSoundHistory h → history_view h ≡ v → i < length v.entries → k ≡ slice_index_or h.stored.items i k
     → StandsAt (length h.changes.items) (length h.closings.items) (end_before (drop (i + 1) h.stored.items) (length h.changes.items)) k
 stands h v i k sound view within is = stands_at (length h.changes.items) (length h.closings.items) h.stored.items i k sound.stored (read_at h v i k view within is)
 

@@ -3,7 +3,7 @@ use Rattle.std.specs.Vec.{vec_len, vec_capacity, with_items}
 use Rattle.std.specs.Prelude.{◌^◌, slice_index_or}
 use Rattle.std.specs.declared.vec.Vec.{Vec}
 use Rattle.std.proofs.lemmas.List.{with_items_is}
-use Rattle.lock_journal.specs.Closings.{closed_by, closing_of}
+use Rattle.lock_journal.specs.Closings.{closed_of, closing_of}
 use Rattle.lock_journal.specs.StoredEntry.{place_after}
 use Rattle.lock_transforms.specs.Entry.{entry}
 use Rattle.lock_journal.specs.HistoryView.{HistoryView}
@@ -21,13 +21,13 @@ abbrev stored : goal.After-push_reserved → StoredEntry
 stored c = record { start = c.len-start.result; number = c.store_kind-kind.result.1; worker = c.args.worker; kind = c.store_kind-kind.result.0; failed = false }
 
 -- the closings' places have less than 63 bits
-small : (c : goal.After-push_reserved) → length (c.self.inside.closings.items ++ closed_by c.args.kind.now) < 2 ^ 63
+small : (c : goal.After-push_reserved) → length (c.self.inside.closings.items ++ closed_of c.args.kind.now) < 2 ^ 63
 small c =
     let ds : Vec Closed Global = c.store_kind-kind.new.closings in
     let same = ap (λ (xs : List Closed). length xs) c.store_kind-kind.ensures.items in
     omega (arith, ds.ok.0, ds.ok.1, ds.small, same)
 
-adds : (c : goal.After-push_reserved) → Adds c.self.inside (after c) (stored c) c.args.kind.now c.args.changes.now (closed_by c.args.kind.now)
+adds : (c : goal.After-push_reserved) → Adds c.self.inside (after c) (stored c) c.args.kind.now c.args.changes.now (closed_of c.args.kind.now)
 adds c =
     let spare : length c.args.changes.now ≤ c.args.self.now.spare_changes = c.requires.some_changes in
     let view : vec_capacity c.self.inside.changes - vec_len c.self.inside.changes ≡ c.args.self.now.spare_changes = ap (λ (p : HistoryView). p.spare_changes) c.self.view_is in
@@ -53,9 +53,9 @@ adds c =
     }
 
 pub invariant_of-self : goal.invariant_of-self
-invariant_of-self c = sound_added c.self.inside (after c) (stored c) c.args.kind.now c.args.changes.now (closed_by c.args.kind.now) c.self.invariant (adds c)
+invariant_of-self c = sound_added c.self.inside (after c) (stored c) c.args.kind.now c.args.changes.now (closed_of c.args.kind.now) c.self.invariant (adds c)
 
 pub returns-clause-entries : goal.returns-clause-entries
 returns-clause-entries c =
-    entries_added c.self.inside (after c) (stored c) c.args.kind.now c.args.changes.now (closed_by c.args.kind.now) c.self.invariant (adds c)
+    entries_added c.self.inside (after c) (stored c) c.args.kind.now c.args.changes.now (closed_of c.args.kind.now) c.self.invariant (adds c)
     ∙ ap (λ (p : HistoryView). p.entries ++ entry c.args.worker c.args.kind.now (Some c.args.changes.now) ∷ []) c.self.view_is

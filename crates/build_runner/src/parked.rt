@@ -1,0 +1,138 @@
+//! A parked worker: it runs items until those that it waits for have ended, and resumes.
+ghost use Rattle.std.specs.Prelude.{◌≡◌, ◌<◌, All, None, OnOk, Some, length, map};
+ghost use Rattle.resource_lock.specs.GraphView.{action_of};
+ghost use Rattle.resource_lock.specs.Ranges.{lock_with};
+ghost use Rattle.coordination.specs.Agrees.{IsSoundBook};
+ghost use Rattle.coordination.specs.Shown.{ShowsTheSame};
+ghost use Rattle.async_tracker.specs.Shows.{IsParkedBy, ShowsResumed};
+ghost use Rattle.worker_choices.specs.NextSteps.{first_open};
+ghost use Rattle.build_runner.specs.Kept.{Keeps};
+ghost use Rattle.worker_choices.specs.NextSteps.{HasToWait};
+ghost use Rattle.worker_choices.specs.declared.awaited.Awaited.TheVariants as awaited;
+ghost use Rattle.build_runner.specs.Parked.{IsNextParked};
+ghost use Rattle.build_runner.specs.Points.{CanHelp};
+ghost use Rattle.build_runner.specs.Sent.{HasSent, sent_view};
+ghost use Rattle.build_runner.specs.Units.{HasFileName, unit_view};
+
+use crate::failed_units::has_failed;
+use crate::items::help;
+use crate::site::Site;
+use async_tracker::{Held, Parked, resume};
+use coordination::{Halt, Pass, Question};
+use daemon_desk::Desk;
+use file_access::Gate;
+use history_laws::only_items_are_queued;
+use lock_journal::Book;
+use resource_lock::WorkerId;
+use std::sync::Wait;
+use worker_choices::{Awaited, can_go_on, item_to_claim};
+
+/// What a parked worker does next.
+#[derive(Clone, Copy)]
+pub(crate) enum ParkedChoice {
+    /// It resumes: the items that it waits for have ended, and what it takes again is free. It says
+    /// whether a unit of the action has failed.
+    Resume(bool),
+    /// It claims this item, the lowest that is queued.
+    Claim(u32),
+}
+
+/// Asks what a worker does next that is parked in this action. It waits where there is nothing to do
+/// yet.
+#[derive(Clone, Copy)]
+pub(crate) struct WhatIsNextParked {
+    pub action: u32,
+}
+
+impl Question for WhatIsNextParked {
+    type Answer = ParkedChoice;
+
+    ghost answers = { λ q w book choice. q.action < length book.graph.actions → IsNextParked book.graph w book.state q.action choice };
+
+    ghost waits_on = { λ q w book. q.action < length book.graph.actions → HasToWait book.graph w book.state q.action };
+
+    ghost awaits = { λ q. Some (awaited.Items q.action) };
+
+    fn awaited(&self) -> Option<Awaited> {
+        Some(Awaited::Items(self.action))
+    }
+
+    fn ask(&self, worker: WorkerId, book: &Book) -> Option<ParkedChoice> {
+        if self.action as usize >= book.graph().actions().len() {
+            return None;
+        }
+        if can_go_on(book, worker, self.action) {
+            return Some(ParkedChoice::Resume(has_failed(book, self.action)));
+        }
+        let unit = item_to_claim(book, worker)?;
+        Some(ParkedChoice::Claim(unit))
+    }
+}
+
+/// Runs items until those of the action have ended. It says whether a unit of the action has failed.
+fn help_until_over<R: Wait, D: Desk, G: Gate>(
+    rt: &R,
+    site: &Site<'_, G, D::Link>,
+    pass: &mut Pass,
+    desk: &mut D,
+    action: u32,
+) -> Result<bool, Halt>
+    requires service { pass.old.service ≡ site.now.service.now.service }
+    requires graph { pass.old.sight.seen.graph ≡ site.now.graph.now }
+    requires units { site.now.graph.now.units ≡ length site.now.units.now }
+    requires named { All (λ u. HasFileName (unit_view u)) site.now.units.now }
+    requires in_range { action < length site.now.graph.now.actions }
+    requires helps { CanHelp pass.old.sight }
+    ensures service { pass.new.service ≡ pass.old.service }
+    ensures files { D.files desk.new ≡ D.files desk.old }
+    ensures keeps { Keeps (D.files desk.old) (map unit_view site.now.units.now) (D.faults desk.old) (D.faults desk.new) pass.old.sight pass.new.sight }
+    ensures sent { OnOk result (HasSent (map unit_view site.now.units.now) (sent_view D.sends D.sent desk.old)
+        (sent_view D.sends D.sent desk.new) pass.old.sight pass.new.sight) }
+    ensures shows { OnOk result (ShowsTheSame pass.old.sight pass.new.sight) }
+    ensures sound { OnOk result (IsSoundBook pass.new.sight.seen) }
+    ensures over { OnOk result (first_open pass.new.sight.seen.graph pass.new.sight.seen.state action ≡ None) }
+{
+    // The graph fits, so what is queued is an item.
+    let _ = site.graph.tasks();
+    only_items_are_queued();
+    for _ in rt.forever() {
+        match site.service.ask(rt, pass, &WhatIsNextParked { action })? {
+            ParkedChoice::Resume(failed) => return Ok(failed),
+            ParkedChoice::Claim(unit) => help(rt, site, pass, desk, unit)?,
+        }
+    }
+    unreachable!()
+}
+
+/// Runs items until those of the action have ended, and resumes. It says whether a unit of the action
+/// has failed.
+pub(crate) fn wait_for_items<R: Wait, D: Desk, G: Gate>(
+    rt: &R,
+    site: &Site<'_, G, D::Link>,
+    pass: &mut Pass,
+    desk: &mut D,
+    parked: Parked,
+) -> Result<bool, Halt>
+    requires service { pass.old.service ≡ site.now.service.now.service }
+    requires graph { pass.old.sight.seen.graph ≡ site.now.graph.now }
+    requires units { site.now.graph.now.units ≡ length site.now.units.now }
+    requires named { All (λ u. HasFileName (unit_view u)) site.now.units.now }
+    requires in_range { parked.action < length site.now.graph.now.actions }
+    requires own { IsParkedBy pass.old.sight parked }
+    requires helps { CanHelp pass.old.sight }
+    ensures service { pass.new.service ≡ pass.old.service }
+    ensures files { D.files desk.new ≡ D.files desk.old }
+    ensures keeps { Keeps (D.files desk.old) (map unit_view site.now.units.now) (D.faults desk.old) (D.faults desk.new) pass.old.sight pass.new.sight }
+    ensures sent { OnOk result (HasSent (map unit_view site.now.units.now) (sent_view D.sends D.sent desk.old)
+        (sent_view D.sends D.sent desk.new) pass.old.sight pass.new.sight) }
+    ensures shows { OnOk result (ShowsResumed (action_of site.now.graph.now parked.action).retention
+        (lock_with site.now.graph.now parked.action) parked.action pass.old.sight pass.new.sight) }
+{
+    let failed = help_until_over(rt, site, pass, desk, parked.action())?;
+    match resume(rt, site.service, pass, parked) {
+        Ok(()) => Ok(failed),
+        Err(Held::StillWaiting(_, _)) => unreachable!(),
+        Err(Held::NoMemory(_)) => Err(Halt::NoMemory),
+        Err(Held::Stopped(_, by)) => Err(Halt::Stopped(by)),
+    }
+}

@@ -1,0 +1,83 @@
+ghost use Rattle.std.specs.Prelude.{◌≡◌, ℕ, ◌≤◌, Option, IfOk};
+ghost use Rattle.std.specs.Result.{IsErrOf};
+ghost use Rattle.item_actions.specs.Files.{Folder};
+ghost use Rattle.file_access.specs.SinkView.{Rises};
+ghost use Rattle.file_access.specs.ReadView.{IsFaultCounted, IsWithin, ReadsFrom, read_view};
+
+use crate::file_bytes::FileBytes;
+use item_actions::Text;
+use std::alloc::{AllocError, Global};
+use std::io;
+use std::io::ErrorKind;
+use thiserror::Error;
+
+/// What there is under a file's name.
+#[derive(Drop)]
+pub enum Read {
+    /// The file's bytes.
+    Bytes(FileBytes),
+    /// There is no file of that name.
+    NotThere,
+    /// The file has more bytes than the limit.
+    TooLong,
+}
+
+/// Why a call on the outside gave no answer.
+#[derive(Clone, Copy, Debug, PartialEq, Eq, Error)]
+pub enum DeskFail {
+    /// The outside failed, and the count of its faults rose.
+    #[error("the outside failed")]
+    Failed,
+    /// There was no memory.
+    #[error("there is no memory")]
+    NoMemory,
+}
+
+impl From<AllocError> for DeskFail {
+    ghost use Rattle.file_access.specs.declared.files.DeskFail.TheVariants.{NoMemory};
+
+    ghost from_gives = { λ _ fail. fail ≡ NoMemory };
+
+    fn from(_error: AllocError) -> DeskFail {
+        DeskFail::NoMemory
+    }
+}
+
+/// Nothing is counted here.
+impl From<io::Error> for DeskFail {
+    fn from(error: io::Error) -> DeskFail {
+        match error.kind() {
+            ErrorKind::OutOfMemory => DeskFail::NoMemory,
+            _ => DeskFail::Failed,
+        }
+    }
+}
+
+/// Files that are read whole, by their names.
+pub trait Files {
+    /// The files by name, where known. No call changes them.
+    ghost files: { Self → Option Folder };
+
+    /// How often the outside failed; it stands still at 2^64 - 1.
+    ghost faults: { Self → ℕ };
+
+    /// What a read leaves as it is, besides the files.
+    ghost keeps: { Self → Self → Type 0 };
+
+    /// Reads the file of this name, if it has at most `limit` bytes.
+    fn read(&mut self, alloc: Global, name: &Text, limit: u64) -> Result<Read, DeskFail>
+        ensures files { files self.new ≡ files self.old }
+        ensures keeps { keeps self.old self.new }
+        ensures counted { IsFaultCounted (faults self.old) (faults self.new) result }
+        ensures kept { faults self.old ≤ faults self.new }
+        ensures failed { IsErrOf result DeskFail.Failed → Rises (faults self.old) (faults self.new) }
+        ensures within { IfOk result (λ read. IsWithin limit (read_view read)) }
+        ensures known { ReadsFrom (files self.old) name.now limit result };
+
+    /// Gives the bytes of a file back that are done with. A later read may use their memory.
+    fn give_back(&mut self, bytes: FileBytes)
+        ensures { self.new ≡ self.old }
+    {
+        drop(bytes);
+    }
+}

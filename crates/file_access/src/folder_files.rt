@@ -1,0 +1,124 @@
+ghost use Rattle.std.specs.Prelude.{◌≡◌, Some, IfOk, IfSome};
+ghost use Rattle.file_access.specs.ReadView.{IsWithin, reading, read_view};
+
+use crate::file_bytes::FileBytes;
+use crate::files::{DeskFail, Files, Read};
+use crate::retries::Retries;
+use item_actions::Text;
+use std::alloc::Global;
+use std::fs::{File, OpenFile};
+use std::io::ErrorKind;
+use std::marker::Model;
+use std::{io, mem, rt};
+
+/// The files of the current folder. It doesn't tell them.
+#[derive(Drop)]
+pub struct FolderFiles<R: Drop> {
+    rt: R,
+    // What the next file is read into. It holds the last one's memory, where that was given back.
+    spare: FileBytes,
+    faults: u64,
+}
+
+impl<R: Drop> Model for FolderFiles<R> {
+    ghost use Rattle.std.specs.Prelude.{ℕ};
+
+    ghost Value = { ℕ };
+
+    ghost view = { λ d. d.faults };
+}
+
+impl<R: Drop> FolderFiles<R> {
+    /// A reader by this runtime. Contracts see its count of faults, which starts at 0.
+    pub fn new(rt: R, alloc: Global) -> FolderFiles<R>
+        ensures { result ≡ 0 }
+    {
+        FolderFiles {
+            rt,
+            spare: FileBytes::new(alloc),
+            faults: 0,
+        }
+    }
+
+    /// How many reads failed.
+    pub fn count(&self) -> u64
+        ensures { result ≡ self.now }
+    {
+        self.faults
+    }
+}
+
+impl<R: rt::Files + Drop> Files for FolderFiles<R> {
+    ghost use Rattle.std.specs.Prelude.{None};
+
+    ghost files = { λ _. None };
+
+    ghost faults = { λ d. d };
+
+    ghost keeps = { λ _ _. Unit };
+
+    fn read(&mut self, alloc: Global, name: &Text, limit: u64) -> Result<Read, DeskFail> {
+        let read = read_file(&self.rt, alloc, name, limit, &mut self.spare);
+        if matches!(read, Err(DeskFail::Failed)) {
+            self.faults = self.faults.saturating_add(1);
+        }
+        read
+    }
+
+    fn give_back(&mut self, bytes: FileBytes) {
+        self.spare = bytes;
+    }
+}
+
+/// Reads the file of this name in the current folder, if it has at most `limit` bytes. The bytes handed out take the memory
+/// of the spare ones with them, which are forgotten. Nothing is counted here: the caller counts the fault where it answers
+/// Failed.
+pub fn read_file<R: rt::Files>(
+    rt: &R,
+    alloc: Global,
+    name: &Text,
+    limit: u64,
+    spare: &mut FileBytes,
+) -> Result<Read, DeskFail>
+    ensures { IfOk result (λ read. IsWithin limit (read_view read)) }
+{
+    let mut retries = Retries::new();
+    match open(rt, name.as_str(), &mut retries) {
+        Ok(mut file) => read_open(&mut file, alloc, limit, spare, &mut retries),
+        Err(error) if error.kind() == ErrorKind::NotFound => Ok(Read::NotThere),
+        Err(error) => Err(error.into()),
+    }
+}
+
+fn open<R: rt::Files>(rt: &R, name: &str, retries: &mut Retries) -> io::Result<R::File> {
+    loop {
+        match File::open(rt, name) {
+            Err(error) if retries.allow(&error) => {}
+            opened => return opened,
+        }
+    }
+}
+
+// Reads an open file to its end, if it has at most `limit` bytes. The buffer's memory goes with the bytes.
+fn read_open<F: io::Read + OpenFile>(
+    file: &mut F,
+    alloc: Global,
+    limit: u64,
+    buffer: &mut FileBytes,
+    retries: &mut Retries,
+) -> Result<Read, DeskFail>
+    ensures within { IfOk result (λ read. IsWithin limit (read_view read)) }
+    ensures known { IfSome (F.remaining file.old) (λ bytes.
+        IfOk result (λ read. read_view read ≡ reading (Some bytes) limit)) }
+{
+    buffer.clear();
+    while buffer.as_bytes().len() as u64 <= limit {
+        match buffer.read_more(file, limit) {
+            Ok(0) => return Ok(Read::Bytes(mem::replace(buffer, FileBytes::new(alloc)))),
+            Ok(_) => {}
+            Err(error) if retries.allow(&error) => {}
+            Err(error) => return Err(error.into()),
+        }
+    }
+    Ok(Read::TooLong)
+}

@@ -1,0 +1,33 @@
+ghost use Rattle.std.specs.Prelude.{◌≡◌, ◌≢◌, ◌≤◌, IfSome};
+ghost use Rattle.item_actions.specs.Value.{IsHonest, value_on};
+ghost use Rattle.item_actions.specs.declared.outcomes.Outcome.TheVariants as outcomes;
+ghost use Rattle.file_access.specs.SinkView.{Rises};
+
+use crate::files::{DeskFail, Files, Read};
+use item_actions::{ItemAction, MAX_FILE_BYTES, Outcome, Text, act};
+use std::alloc::Global;
+
+/// The outcome of an action on the file of this name.
+///
+/// Where the files are known it is the action's value on that file, NotThere or TooLong; else Fault, where the files
+/// failed and their count of faults rose, or NoMemory.
+pub fn work_out<F: Files>(alloc: Global, action: &ItemAction, name: &Text, files: &mut F) -> Outcome
+    ensures files { F.files files.new ≡ F.files files.old }
+    ensures keeps { F.keeps files.old files.new }
+    ensures kept { F.faults files.old ≤ F.faults files.new }
+    ensures ran { result ≢ outcomes.Skipped }
+    ensures fault { result ≡ outcomes.Fault → Rises (F.faults files.old) (F.faults files.new) }
+    ensures honest { IfSome (F.files files.old) (λ known. IsHonest result (value_on known action.now name.now)) }
+{
+    match files.read(alloc, name, MAX_FILE_BYTES) {
+        Ok(Read::Bytes(bytes)) => {
+            let outcome = act(action, bytes.as_bytes());
+            files.give_back(bytes);
+            outcome
+        }
+        Ok(Read::NotThere) => Outcome::NotThere,
+        Ok(Read::TooLong) => Outcome::TooLong,
+        Err(DeskFail::Failed) => Outcome::Fault,
+        Err(DeskFail::NoMemory) => Outcome::NoMemory,
+    }
+}

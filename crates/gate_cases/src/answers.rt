@@ -1,0 +1,204 @@
+//! What is printed of the calls of a case.
+use crate::calls::{Answer, Run, answer_to, sink_of};
+use crate::cases::Case;
+use anyhow::Result;
+use file_access::{FileEntry, MemorySink};
+use item_actions::Text;
+use sha2::{Digest, Sha256};
+use std::alloc::Global;
+use std::fmt;
+use std::sync::Wait;
+use std::thread::Threads;
+
+/// A number between words, where there is one.
+#[derive(Drop)]
+struct Counted(&'static str, Option<u64>, &'static str);
+
+impl fmt::Display for Counted {
+    fn fmt<W: fmt::Write>(&self, f: &mut fmt::Formatter<W>) -> fmt::Result {
+        let Counted(before, number, behind) = self;
+        match number {
+            Some(number) => write!(f, "{before}{number}{behind}"),
+            None => Ok(()),
+        }
+    }
+}
+
+/// Whether each byte is a line's end or can be seen.
+fn is_text(bytes: &[u8]) -> bool {
+    bytes
+        .iter()
+        .all(|byte| *byte == b'\n' || (*byte >= b' ' && *byte <= b'~'))
+}
+
+/// The text that the bytes are, if each of them is a line's end or can be seen.
+pub(crate) fn text_of(bytes: &[u8]) -> Option<&str> {
+    match str::from_utf8(bytes) {
+        Ok(text) if is_text(bytes) => Some(text),
+        _ => None,
+    }
+}
+
+/// Prints the digest of what was written.
+fn print_digest(rt: &HostRuntime, bytes: &[u8]) -> Result<()> {
+    let digest = hex::encode(rt.alloc(), Sha256::digest(bytes))?;
+    println!(rt; ", {} bytes, digest {digest}", bytes.len())?;
+    Ok(())
+}
+
+/// Prints what was written: as it stands where it is a text, and else in hexadecimal digits.
+fn print_output(rt: &HostRuntime, bytes: &[u8]) -> Result<()> {
+    println!(rt; ", {} bytes", bytes.len())?;
+    match text_of(bytes) {
+        Some(text) if text.is_empty() || text.ends_with('\n') => print!(rt; "{text}")?,
+        Some(text) => println!(rt; "{text}")?,
+        None => println!(rt; "{}", hex::encode(rt.alloc(), bytes)?)?,
+    }
+    Ok(())
+}
+
+/// Whether a call's history is found lawful, as words.
+fn lawful_words(lawful: Option<bool>) -> &'static str {
+    match lawful {
+        Some(true) => ", lawful",
+        Some(false) => ", not found lawful",
+        None => "",
+    }
+}
+
+/// Prints how a call ended: its status, with the place of a bad frame, and how many entries of its book finished.
+fn print_end(rt: &HostRuntime, answer: &Answer, lawful: Option<bool>) -> Result<()> {
+    let place = Counted(" at ", answer.place, "");
+    let finished = Counted(", ", answer.run.map(|run| run.finished), " entries");
+    print!(rt;
+        "status {}{place}{finished}{}",
+        answer.status,
+        lawful_words(lawful)
+    )?;
+    Ok(())
+}
+
+/// Prints how many calls of the outside failed, and whether two items met.
+fn print_faults(rt: &HostRuntime, faults: u64, met: bool) -> Result<()> {
+    let faults = Counted(", ", (faults > 0).then_some(faults), " faults");
+    let met = if met { ", two items met" } else { "" };
+    print!(rt; "{faults}{met}")?;
+    Ok(())
+}
+
+/// Prints the numbers that the case asks for.
+fn print_asked(rt: &HostRuntime, case: &Case, answer: &Answer) -> Result<()> {
+    let left = Counted(", ", case.has("left").then_some(answer.left), " bytes left");
+    let sent = Counted(", ", case.has("sent").then_some(answer.sent), " requests");
+    print!(rt; "{left}{sent}")?;
+    match answer.run {
+        Some(run) if case.has("graph") => print_graph(rt, &run),
+        _ => Ok(()),
+    }
+}
+
+fn print_graph(rt: &HostRuntime, run: &Run) -> Result<()> {
+    let Run {
+        workers,
+        max_leases,
+        locks,
+        ..
+    } = run;
+    print!(rt; ", {workers} workers, {max_leases} leases, {locks} locks")?;
+    Ok(())
+}
+
+/// Whether as many units met a fault as calls of the desks failed, and at least so many, as words.
+fn fault_words(answer: &Answer, least: u64) -> &'static str {
+    match answer.run {
+        Some(run) if run.faults == answer.desk_faults && run.faults >= least => {
+            "each failed call is the fault of a unit"
+        }
+        _ => "not as many faults as failed calls",
+    }
+}
+
+/// Whether one of the files has this name.
+fn names_file(files: &[FileEntry], name: &Text) -> bool {
+    files.iter().any(|file| file.name.as_str() == name.as_str())
+}
+
+/// The plan of a run whose history was printed, if there was one that ended.
+fn plan_of<'a>(case: &'a Case, answer: &Answer) -> Option<&'a Text> {
+    if answer.run.is_none()
+        || answer.status > 1
+        || !case.words.iter().any(|word| word.as_str() == "--history")
+    {
+        return None;
+    }
+    case.words.iter().find(|word| names_file(&case.files, word))
+}
+
+/// Whether the program itself finds a printed history lawful, with as many entries as the run's book has.
+fn is_found_lawful<T: Threads + Wait + Sync>(
+    threads: &T,
+    alloc: Global,
+    check: &Case,
+    run: &Run,
+) -> Result<bool> {
+    let mut out = sink_of(alloc, check, 0)?;
+    answer_to(threads, alloc, check, 0, &mut out)?;
+    let lawful = format!(in alloc; "lawful {}\n", run.entries)?;
+    Ok(out.inner.taken() == lawful.as_bytes())
+}
+
+/// Whether the program itself finds what a run of the case printed lawful. None says that no history was asked for, or
+/// that the run didn't end.
+fn lawfulness<T: Threads + Wait + Sync>(
+    threads: &T,
+    alloc: Global,
+    case: &Case,
+    answer: &Answer,
+    printed: &[u8],
+) -> Result<Option<bool>> {
+    let (Some(plan), Some(run)) = (plan_of(case, answer), answer.run) else {
+        return Ok(None);
+    };
+    let check = case.check_of(alloc, plan, printed)?;
+    Ok(Some(is_found_lawful(threads, alloc, &check, &run)?))
+}
+
+/// Prints how a call ended, whether the history that it printed is found lawful, how many calls of the outside failed,
+/// whether two items met, and what was written.
+fn print_answer(
+    rt: &HostRuntime,
+    case: &Case,
+    answer: &Answer,
+    lawful: Option<bool>,
+    out: &MemorySink,
+) -> Result<()> {
+    print_end(rt, answer, lawful)?;
+    let faults = answer
+        .desk_faults
+        .saturating_add(answer.input_faults)
+        .saturating_add(out.count());
+    print_faults(rt, faults, answer.met)?;
+    print_asked(rt, case, answer)?;
+    if case.has("digest") {
+        print_digest(rt, out.taken())
+    } else {
+        print_output(rt, out.taken())
+    }
+}
+
+/// Makes the one call of a case, and prints what it answered.
+pub(crate) fn run_once<T: Threads + Wait + Sync>(
+    rt: &HostRuntime,
+    threads: &T,
+    case: &Case,
+) -> Result<()> {
+    let alloc = rt.alloc();
+    let mut out = sink_of(alloc, case, 0)?;
+    let answer = answer_to(threads, alloc, case, 0, &mut out)?;
+    if case.has("faults") {
+        println!(rt; "{}", fault_words(&answer, case.limits.least_faults))?;
+        return Ok(());
+    }
+    let lawful = lawfulness(threads, alloc, case, &answer, out.inner.taken())?;
+    print_answer(rt, case, &answer, lawful, &out.inner)
+}

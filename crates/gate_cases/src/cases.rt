@@ -1,0 +1,224 @@
+//! What a case file says of the calls of a case.
+use crate::calls::copies_of;
+use crate::each::{Each, each_of};
+use crate::sections::{Section, number_in, number_of, rest_of};
+use anyhow::{Result, anyhow};
+use file_access::FileEntry;
+use item_actions::Text;
+use std::alloc::{AllocError, Global};
+
+/// More bytes than a call writes.
+const AMPLE: u64 = 2_000_000;
+
+/// How much a call's input and output move, how long items wait, and how many calls of the desks have to fail.
+#[derive(Clone, Copy)]
+pub(crate) struct Limits {
+    /// How many bytes the output takes.
+    pub(crate) room: u64,
+    /// How many bytes the input gives and the output takes in a call, at most.
+    pub(crate) piece: u64,
+    /// For how many turns units 0 and 1 wait for each other.
+    pub(crate) turns: u64,
+    /// How many calls of the desks have to fail at least, where the failed ones are counted.
+    pub(crate) least_faults: u64,
+}
+
+/// The calls of a case.
+#[derive(Drop)]
+pub(crate) struct Case<'a> {
+    sections: &'a [Section<'a>],
+    pub(crate) limits: Limits,
+    /// How the calls differ from one another, where there are several.
+    pub(crate) each: Option<Each>,
+    /// The words after the program's name.
+    pub(crate) words: Vec<Text>,
+    /// The files, which each desk has.
+    pub(crate) files: Vec<FileEntry>,
+    /// The bytes of the input.
+    pub(crate) input: Vec<u8>,
+}
+
+impl<'a> Case<'a> {
+    /// A call without words, files and input, with these sections.
+    fn new(
+        alloc: Global,
+        sections: &'a [Section<'a>],
+        limits: Limits,
+        each: Option<Each>,
+    ) -> Case<'a> {
+        Case {
+            sections,
+            limits,
+            each,
+            words: Vec::new(alloc),
+            files: Vec::new(alloc),
+            input: Vec::new(alloc),
+        }
+    }
+
+    /// Whether there is a section of this kind.
+    pub(crate) fn has(&self, kind: &str) -> bool {
+        rest_of(self.sections, kind).is_some()
+    }
+
+    /// The numbers of the calls that fail, of those that the sections `fail` call so.
+    pub(crate) fn failing(&self, alloc: Global, calls: &str) -> Result<Vec<u64>> {
+        let mut failing = Vec::new(alloc);
+        for section in self.sections {
+            if section.kind == "fail"
+                && let Some(digits) = section.rest.strip_prefix(calls)
+            {
+                failing.push(number_of(digits)?)?;
+            }
+        }
+        Ok(failing)
+    }
+
+    /// The check of a history that was printed for the plan of this name, at the same files.
+    pub(crate) fn check_of(&self, alloc: Global, plan: &Text, history: &[u8]) -> Result<Case<'a>> {
+        let mut check = Case::new(alloc, &[], limits_of(&[])?, None);
+        add_words(alloc, &mut check.words, "check", ' ')?;
+        check.words.push(plan.copy(alloc)?)?;
+        check.files = copies_of(alloc, &self.files)?;
+        check.input.extend_from_slice(history)?;
+        Ok(check)
+    }
+}
+
+/// What the sections say of a case's calls:
+///
+/// - `words W W ..`: words, with single spaces between them. `word W`: the rest of the head is one word.
+/// - `file NAME`: a file of the section's other lines. `bytes DIGITS`: further bytes of the last file, in hexadecimal
+///   digits. `fill N TEXT`: the text stands N times more in it. `times N`: the section's other lines stand N times more
+///   in it, with the turn's number for `{n}`.
+/// - `input`: the section's other lines are further bytes of the input. `input DIGITS`: bytes in hexadecimal digits.
+///   `empty N`: so many empty lines.
+/// - `fail desk D N`, `fail take N`, `fail put N`: this call fails of desk D, of the input or of the output.
+/// - `room N`: the output takes so many bytes. `pieces N`: the input gives and the output takes at most N bytes a call.
+/// - `meet N`: units 0 and 1 wait for each other for so many turns.
+/// - `digest`: what is written isn't printed, but its SHA-256 digest.
+/// - `left`: how many bytes of the input were left is printed, up to 64. `sent`: how many requests the desks sent.
+///   `graph`: how many workers, leases and locks the run had.
+/// - `faults N`: it is only printed whether calls of the desks failed, N at least, and as many units met a fault.
+/// - `each ..`: there is a call for each change of the input or each failure, as `each.rt` says. Of calls in a row that
+///   wrote the same, what they wrote is printed once.
+pub(crate) fn case_of<'a>(alloc: Global, sections: &'a [Section<'a>]) -> Result<Case<'a>> {
+    let limits = limits_of(sections)?;
+    let each = each_of(rest_of(sections, "each"))?;
+    let mut case = Case::new(alloc, sections, limits, each);
+    for section in sections {
+        add_section(alloc, &mut case, section)?;
+    }
+    Ok(case)
+}
+
+fn limits_of(sections: &[Section]) -> Result<Limits> {
+    Ok(Limits {
+        room: number_in(sections, "room", AMPLE)?,
+        piece: number_in(sections, "pieces", AMPLE)?,
+        turns: number_in(sections, "meet", 0)?,
+        least_faults: number_in(sections, "faults", 0)?,
+    })
+}
+
+/// Adds what a section says of words, files or input.
+fn add_section(alloc: Global, case: &mut Case, section: &Section) -> Result<()> {
+    match section.kind {
+        "words" => add_words(alloc, &mut case.words, section.rest, ' '),
+        "word" => add_words(alloc, &mut case.words, section.rest, '\n'),
+        "file" => add_file(alloc, &mut case.files, section),
+        "bytes" | "fill" | "times" => add_to_last(alloc, &mut case.files, section),
+        "input" => add_input(alloc, &mut case.input, section),
+        "empty" => add_empty_lines(&mut case.input, section.rest),
+        _ => Ok(()),
+    }
+}
+
+fn add_words(alloc: Global, words: &mut Vec<Text>, text: &str, between: char) -> Result<()> {
+    for word in text.split(between) {
+        words.push(Text::from_str(alloc, word)?)?;
+    }
+    Ok(())
+}
+
+/// Adds lines, the last one with its end.
+fn add_lines(bytes: &mut Vec<u8>, lines: &str) -> Result<(), AllocError> {
+    bytes.extend_from_slice(lines.as_bytes())?;
+    bytes.push(b'\n')?;
+    Ok(())
+}
+
+/// Lines as bytes, the last one with its end.
+fn bytes_of(alloc: Global, lines: Option<&str>) -> Result<Vec<u8>, AllocError> {
+    let mut bytes = Vec::new(alloc);
+    if let Some(lines) = lines {
+        add_lines(&mut bytes, lines)?;
+    }
+    Ok(bytes)
+}
+
+fn add_file(alloc: Global, files: &mut Vec<FileEntry>, section: &Section) -> Result<()> {
+    let bytes = bytes_of(alloc, section.lines)?;
+    let name = Text::from_str(alloc, section.rest)?;
+    files.push(FileEntry { name, bytes })?;
+    Ok(())
+}
+
+/// Adds bytes to the last file.
+fn add_to_last(alloc: Global, files: &mut Vec<FileEntry>, section: &Section) -> Result<()> {
+    let Some(file) = files.last_mut() else {
+        return Err(anyhow!("no file for further bytes"));
+    };
+    match section.kind {
+        "bytes" => add_digits(alloc, &mut file.bytes, section.rest),
+        "fill" => fill(&mut file.bytes, section.rest),
+        _ => add_times(alloc, &mut file.bytes, section),
+    }
+}
+
+/// Adds the bytes that hexadecimal digits give; spaces between them don't count.
+fn add_digits(alloc: Global, bytes: &mut Vec<u8>, digits: &str) -> Result<()> {
+    let digits = digits.replace(alloc, ' ', "")?;
+    let digits = hex::decode(alloc, digits)?;
+    bytes.extend_from_slice(digits.as_slice())?;
+    Ok(())
+}
+
+/// Adds a text so many times.
+fn fill(bytes: &mut Vec<u8>, rest: &str) -> Result<()> {
+    let (times, text) = rest.split_once(' ').unwrap_or((rest, ""));
+    for _ in 0..number_of(times)? {
+        bytes.extend_from_slice(text.as_bytes())?;
+    }
+    Ok(())
+}
+
+/// Adds the lines of a section with a number for `{n}`.
+fn add_numbered(alloc: Global, bytes: &mut Vec<u8>, lines: &str, number: u64) -> Result<()> {
+    let number = format!(in alloc; "{number}")?;
+    let lines = lines.replace(alloc, "{n}", number.as_str())?;
+    add_lines(bytes, lines.as_str())?;
+    Ok(())
+}
+
+/// Adds the lines of a section so many times.
+fn add_times(alloc: Global, bytes: &mut Vec<u8>, section: &Section) -> Result<()> {
+    let lines = section.lines.unwrap_or("");
+    for turn in 0..number_of(section.rest)? {
+        add_numbered(alloc, bytes, lines, turn)?;
+    }
+    Ok(())
+}
+
+fn add_input(alloc: Global, input: &mut Vec<u8>, section: &Section) -> Result<()> {
+    if let Some(lines) = section.lines {
+        add_lines(input, lines)?;
+    }
+    add_digits(alloc, input, section.rest)
+}
+
+fn add_empty_lines(input: &mut Vec<u8>, digits: &str) -> Result<()> {
+    let len = input.len().saturating_add(number_of(digits)? as usize);
+    input.resize(len, b'\n')?;
+    Ok(())
+}

@@ -1,6 +1,0 @@
--- Each is a lemma.
-use Rattle.run_laws.proofs.Growing.{lawful-front, marks_stay, tasks_stay}
-use Rattle.run_laws.proofs.histories_go_on.Goals as goal
-
-pub returns : goal.returns
-returns c = record { front = lawful-front; marks = marks_stay; ended = tasks_stay }

@@ -1,6 +1,0 @@
--- All are lemmas.
-use Rattle.run_laws.proofs.Queue.{queued_is_item, queued_within}
-use Rattle.run_laws.proofs.only_items_are_queued.Goals as goal
-
-pub returns : goal.returns
-returns c = record { item = queued_is_item; within = queued_within }

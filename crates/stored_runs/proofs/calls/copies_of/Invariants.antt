@@ -1,7 +1,0 @@
-use Rattle.std.proofs.Common.{◌≡◌, take}
-use Rattle.worker_desk.specs.Folders.{folder_of}
-use Rattle.stored_runs.proofs.calls.copies_of.Given as goal
-
--- the files so far are copied
-abbrev pub invariant-loop-file : goal.invariant-loop-file
-invariant-loop-file l = folder_of l.copies.items ≡ folder_of (take l.file-index l.files)

@@ -1,0 +1,12 @@
+use Rattle.std.proofs.Common.{◌<◌, ap, arith, length, subst, sym}
+use Rattle.resource_lock.specs.GraphView.{GraphView}
+use Rattle.resource_lock.specs.declared.graphs.GraphTask.{GraphTask}
+use Rattle.resource_lock.specs.StateView.{StateView}
+use Rattle.lock_transforms.proofs.Within.{task_read}
+use Rattle.worker_choices.proofs.next_steps.lock_is_free.Goals as goal
+
+pub owner-requires : goal.owner-requires
+owner-requires c =
+    let within = subst (λ (g : GraphView). c.args.task < length g.tasks) (sym c.graph.ensures.value) c.requires in
+    let read = task_read c.tasks.result.now c.args.task c.tasks.ensures.fits c.tasks.ensures.value within c.index-tasks-task.is in
+    omega (arith, read.lock, ap (λ (t : GraphTask). t.lock.0) c.index-tasks-task.is, ap (λ (g : GraphView). g.locks) c.graph.ensures.value, c.state.ensures.belongs.locks, ap (λ (s : StateView). length s.owners) c.state.ensures.value)

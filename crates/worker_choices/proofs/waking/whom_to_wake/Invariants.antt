@@ -1,6 +1,0 @@
--- each worker so far that sleeps still waits
-use Rattle.worker_choices.specs.Ready.{StillWait}
-use Rattle.worker_choices.proofs.waking.whom_to_wake.Given as goal
-
-abbrev pub invariant-loop-worker : goal.invariant-loop-worker
-invariant-loop-worker l = StillWait l.book.graph l.book.state l.awaited l.worker

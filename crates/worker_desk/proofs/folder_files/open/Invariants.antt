@@ -1,4 +1,0 @@
-use Rattle.worker_desk.proofs.folder_files.open.Given as goal
-
-abbrev pub decreases-loop-retries : goal.decreases-loop-retries
-decreases-loop-retries g l = l.retries.left

@@ -1,5 +1,0 @@
-use Rattle.worker_desk.proofs.Printing.{put_more}
-use Rattle.worker_desk.proofs.sinks.put_all.Goals as goal
-
-pub loop-rest-preserved : goal.loop-rest-preserved
-loop-rest-preserved g c = put_more _ _ _ _ c.loop-rest.invariant.1 c.loop-rest.invariant.2 c.in_ok-taken.ensures.within c.in_ok-taken.ensures.taken c.in_ok-taken.ensures.kept

@@ -1,9 +1,0 @@
-use Rattle.std.proofs.Common.{◌≡◌, ℕ, List, ◌++◌, length}
-use Rattle.worker_desk.specs.SinkView.{Wrote}
-use Rattle.worker_desk.proofs.sinks.put_all.Given as goal
-
-abbrev pub invariant-loop-rest : goal.invariant-loop-rest
-invariant-loop-rest g l = (front : List ℕ) × (l.piece ≡ front ++ l.rest) × Wrote (g.K.Sink.seen l.fn.sink) (g.K.Sink.seen l.sink) front
-
-abbrev pub decreases-loop-rest : goal.decreases-loop-rest
-decreases-loop-rest g l = length l.rest
