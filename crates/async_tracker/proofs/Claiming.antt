@@ -23,8 +23,8 @@ use Rattle.coordination.specs.Shown.{claimed_shown, lease_shown}
 use Rattle.coordination.specs.declared.rule.Sight.{Sight}
 use Rattle.async_tracker.specs.Shows.{IsFree, IsIdleOrParked, IsItemHere, ShowsClaimed, ShowsClosed}
 use Rattle.async_tracker.specs.Waits.{NeedsLease}
-use Rattle.coordination.proofs.Shown.{shows_left}
-use Rattle.async_tracker.proofs.Claims.{action_claimed, idle_shown, unit_claimed, unit_runs}
+use Rattle.coordination.proofs.lemmas.Shown.{shows_left}
+use Rattle.async_tracker.proofs.lemmas.Claims.{action_claimed, idle_shown, unit_claimed, unit_runs}
 
 -- what is so of a worker in a state where it may claim
 pub record MayClaim (s : StateView) (w : WorkerId) : Type 0 where

@@ -1,7 +1,5 @@
-pub mod Claims
+pub mod lemmas
 pub mod Owned
-pub mod After
 pub mod Claiming
 pub mod Parking
-pub mod Resumed
-pub mod Turns
+pub mod TaskSteps

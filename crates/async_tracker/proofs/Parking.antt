@@ -11,8 +11,8 @@ use Rattle.resource_lock.specs.Good.{Good}
 use Rattle.resource_lock.specs.GraphView.{GraphView, action_of}
 use Rattle.resource_lock.specs.Ranges.{items_of, lock_with, task_with}
 use Rattle.resource_lock.specs.StateView.{Holding, StateView, has_parked, holding_of, is_owner, is_parked, mark_of, owns, stands_in, IsLockOf, IsWorkerOf}
-use Rattle.resource_lock.proofs.Kept.{kept}
-use Rattle.resource_lock.proofs.Runs.{worker_from}
+use Rattle.resource_lock.proofs.lemmas.Kept.{kept}
+use Rattle.resource_lock.proofs.lemmas.Runs.{worker_from}
 use Rattle.resource_lock.specs.declared.changes.Change.{Change}
 use Rattle.resource_lock.specs.declared.changes.Change.TheVariants.{Unlock, Give, Move, Park as ParkLock}
 use Rattle.resource_lock.specs.declared.graphs.Retention.{Retention}
@@ -31,13 +31,13 @@ use Rattle.coordination.specs.Agrees.{Finds}
 use Rattle.coordination.specs.Calls.{HasFinished}
 use Rattle.coordination.specs.Shown.{ShowsTheSame, claimed_shown, lease_shown, locks_shown, parked_shown}
 use Rattle.coordination.specs.declared.rule.Sight.{Sight}
-use Rattle.coordination.proofs.Entries.{belongs_sound, good_sound}
-use Rattle.coordination.proofs.Shown.{Leaves, shows_left}
+use Rattle.coordination.proofs.lemmas.Entries.{belongs_sound, good_sound}
+use Rattle.coordination.proofs.lemmas.Shown.{Leaves, shows_left}
 use Rattle.async_tracker.specs.Shows.{HasParkedLast, HasReleased, IsFree, IsIdleOrParked, IsParkedBy, OwnsToPark, ShowsParked, WorksOn, is_action, is_unit, locks_on_park, parked_on_park}
 use Rattle.async_tracker.specs.ParkedView.{ParkedView}
 use Rattle.async_tracker.specs.Waits.{ActionIsNotQueued, CannotQueue, can_queue}
 use Rattle.async_tracker.proofs.Owned.{owned_there, stands_in_owned}
-use Rattle.async_tracker.proofs.Claims.{action_claimed, any_with, has_member, task_runs}
+use Rattle.async_tracker.proofs.lemmas.Claims.{action_claimed, any_with, has_member, task_runs}
 
 -- the worker works on the task in every state that it finds
 works_found : (old : Sight) (book : BookView) (t : ℕ) → Finds old.worker old.seen book → WorksOn old t → works_on book.state old.worker t ≡ true

@@ -1,3 +1,4 @@
 pub mod ParkedView
 pub mod Shows
+pub mod Tasks
 pub mod Waits

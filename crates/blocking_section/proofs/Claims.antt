@@ -11,7 +11,7 @@ use Rattle.resource_lock.specs.declared.marks.MarkId.{MarkId}
 use Rattle.resource_lock.specs.declared.marks.MarkId.TheVariants.{Task as TaskOf, Action as ActionOf, Unit as UnitOf}
 use Rattle.history_laws.specs.Own.{action_at, claimed, places_from, task_at, unit_at}
 use Rattle.history_laws.specs.OwnChanges.{with_member}
-use Rattle.history_laws.proofs.Others.{running_of}
+use Rattle.history_laws.proofs.lemmas.Others.{running_of}
 use Rattle.blocking_section.specs.Sections.{is_action, is_unit}
 
 -- a test of the marks of one kind

@@ -16,7 +16,7 @@ use Rattle.resource_lock.specs.declared.ids.WorkerId.{WorkerId}
 use Rattle.resource_lock.specs.declared.marks.Mark.TheVariants.{Waiting, Running}
 use Rattle.resource_lock.specs.declared.marks.MarkId.{MarkId}
 use Rattle.resource_lock.specs.declared.marks.MarkId.TheVariants.{Task as TaskOf, Action as ActionOf, Unit as UnitOf}
-use Rattle.resource_lock.proofs.Units.{action_there}
+use Rattle.resource_lock.proofs.lemmas.Units.{action_there}
 use Rattle.lock_transforms.specs.Table.{condition, earlier_passed, owned_from, parked_locks, works_on}
 use Rattle.lock_transforms.specs.Taking.{rises}
 use Rattle.lock_transforms.specs.declared.entries.Kind.TheVariants.{Block}

@@ -11,7 +11,7 @@ use Rattle.resource_lock.specs.declared.ids.WorkerId.{WorkerId}
 use Rattle.resource_lock.specs.declared.marks.Mark.TheVariants.{Running}
 use Rattle.resource_lock.specs.declared.marks.MarkId.{MarkId}
 use Rattle.resource_lock.specs.declared.marks.MarkId.TheVariants.{Task as TaskOf, Unit as UnitOf}
-use Rattle.resource_lock.proofs.Undo.{owner_from}
+use Rattle.resource_lock.proofs.lemmas.Undo.{owner_from}
 use Rattle.lock_transforms.specs.Allowed.{IsFixedList, IsUnmet}
 use Rattle.lock_journal.specs.BookView.{BookView}
 use Rattle.lock_transforms.specs.Table.{list_of, owned}
@@ -21,8 +21,8 @@ use Rattle.coordination.specs.Agrees.{Finds}
 use Rattle.coordination.specs.Calls.{HasFinished}
 use Rattle.coordination.specs.Shown.{claimed_shown, lease_shown, locks_shown, parked_shown}
 use Rattle.coordination.specs.declared.rule.Sight.{Sight}
-use Rattle.coordination.proofs.Nothing.{owns_none}
-use Rattle.coordination.proofs.Shown.{ShowsAfter, shows_after}
+use Rattle.coordination.proofs.lemmas.Nothing.{owns_none}
+use Rattle.coordination.proofs.lemmas.Shown.{ShowsAfter, shows_after}
 use Rattle.blocking_section.specs.Sections.{HasSetDown, HasUnit, IsGivenBackBy, IsNotReady, MayEnter, OwnsNothingMeanwhile, is_ready, with_unit}
 use Rattle.blocking_section.proofs.Claims.{has_member, no_action, no_unit, task_runs}
 use Rattle.blocking_section.proofs.Down.{down, down_claimed, down_holding, down_locks, enters_for, enters_without}

@@ -1,3 +1,4 @@
+pub mod lemmas
 pub mod After
 pub mod Claims
 pub mod Down
@@ -5,4 +6,3 @@ pub mod Up
 pub mod Entered
 pub mod Left
 pub mod Ready
-pub mod Stays

@@ -12,17 +12,17 @@ use Rattle.resource_lock.specs.declared.ids.WorkerId.{WorkerId}
 use Rattle.resource_lock.specs.declared.marks.Mark.TheVariants.{Waiting, Running, Passed}
 use Rattle.resource_lock.specs.declared.marks.MarkId.{MarkId}
 use Rattle.resource_lock.specs.declared.marks.MarkId.TheVariants.{Task as TaskOf, Action as ActionOf, Unit as UnitOf}
-use Rattle.resource_lock.proofs.Undo.{same_mark_is}
-use Rattle.resource_lock.proofs.Units.{action_there}
+use Rattle.resource_lock.proofs.lemmas.Undo.{same_mark_is}
+use Rattle.resource_lock.proofs.lemmas.Units.{action_there}
 use Rattle.lock_transforms.specs.Allowed.{Lawful}
 use Rattle.lock_journal.specs.BookView.{BookView}
 use Rattle.lock_transforms.specs.Entry.{Entry, replay}
 use Rattle.lock_transforms.specs.Table.{earlier_passed, has_passed, units_passed, works_on}
-use Rattle.lock_transforms.proofs.Disabled.{all_of_still, and_still}
+use Rattle.lock_transforms.proofs.lemmas.Disabled.{all_of_still, and_still}
 use Rattle.history_laws.specs.Marks.{IsEnded}
-use Rattle.history_laws.proofs.Fitting.{RangesApart, apart_of}
-use Rattle.history_laws.proofs.Growing.{marks_stay}
-use Rattle.history_laws.proofs.OwnTasks.{actions_stay, waiting_units_stay}
+use Rattle.history_laws.proofs.lemmas.Fitting.{RangesApart, apart_of}
+use Rattle.history_laws.proofs.lemmas.Growing.{marks_stay}
+use Rattle.history_laws.proofs.lemmas.OwnTasks.{actions_stay, waiting_units_stay}
 use Rattle.coordination.specs.Agrees.{Finds}
 use Rattle.coordination.specs.declared.rule.Sight.{Sight}
 use Rattle.blocking_section.specs.Sections.{CouldEnter, IsNotReady, is_ready}

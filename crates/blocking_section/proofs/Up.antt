@@ -19,10 +19,10 @@ use Rattle.resource_lock.specs.declared.marks.Mark.{Mark}
 use Rattle.resource_lock.specs.declared.marks.Mark.TheVariants.{Running}
 use Rattle.resource_lock.specs.declared.marks.MarkId.{MarkId}
 use Rattle.resource_lock.specs.declared.marks.MarkId.TheVariants.{Unit as UnitOf}
-use Rattle.resource_lock.proofs.Kept.{kept, leases-with_holding}
-use Rattle.resource_lock.proofs.Lists.{each_once-front}
-use Rattle.resource_lock.proofs.Runs.{can_all-append, named_along, same_shape-make, same_shape-make_all, worker_along}
-use Rattle.resource_lock.proofs.Undo.{holding_now, same_lock, without_last-push}
+use Rattle.resource_lock.proofs.lemmas.Kept.{kept, leases-with_holding}
+use Rattle.resource_lock.proofs.lemmas.Lists.{each_once-front}
+use Rattle.resource_lock.proofs.lemmas.Runs.{can_all-append, named_along, same_shape-make, same_shape-make_all, worker_along}
+use Rattle.resource_lock.proofs.lemmas.Undo.{holding_now, same_lock, without_last-push}
 use Rattle.item_actions.specs.declared.outcomes.Outcome.{Outcome}
 use Rattle.item_actions.specs.declared.outcomes.Outcome.TheVariants as outcomes
 use Rattle.lock_transforms.specs.Table.{condition, is_enabled, list_of, mark_from, taken_again, taken_up}
@@ -30,7 +30,7 @@ use Rattle.lock_transforms.specs.Taking.{can_take_all, rises}
 use Rattle.lock_transforms.specs.declared.entries.Closed.{Closed}
 use Rattle.lock_transforms.specs.declared.entries.Kind.TheVariants.{Unblock}
 use Rattle.history_laws.specs.OwnChanges.{after_all, claimed_after, lock_before, locks_after, with_member}
-use Rattle.history_laws.proofs.OwnChanges.{own_holding_all}
+use Rattle.history_laws.proofs.lemmas.OwnChanges.{own_holding_all}
 use Rattle.blocking_section.proofs.After.{after_all-append}
 
 -- lists backwards

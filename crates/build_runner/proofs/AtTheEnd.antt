@@ -26,7 +26,7 @@ use Rattle.build_runner.specs.Points.{HasFinishedWork}
 use Rattle.build_runner.specs.Run.{HasResults, depth}
 use Rattle.build_runner.specs.Units.{given}
 use Rattle.build_runner.specs.Worked.{HasComeToTheEnd, HasWorked}
-use Rattle.build_runner.proofs.Numbered.{element, passes_count, worker_at}
+use Rattle.coordination.proofs.lemmas.Numbered.{element, passes_count, worker_at}
 
 -- what has ended stays so, whatever entries follow
 abbrev pub TasksStay : Type 0

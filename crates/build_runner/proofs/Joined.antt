@@ -11,7 +11,7 @@ use Rattle.build_runner.specs.Run.{AreAlike}
 use Rattle.build_runner.specs.Team.{CanWork}
 use Rattle.build_runner.specs.Worked.{HasComeToTheEnd, HasWorked}
 use Rattle.build_runner.proofs.AtTheEnd.{comes_to_the_end}
-use Rattle.build_runner.proofs.Numbered.{element, same_numbers}
+use Rattle.coordination.proofs.lemmas.Numbered.{element, same_numbers}
 use Rattle.build_runner.proofs.Places.{place_within, rise, stay}
 use Rattle.build_runner.proofs.Seated.{worked_as}
 

@@ -19,7 +19,7 @@ use Rattle.plan_reader.specs.Units.{PlannedUnit}
 use Rattle.history_laws.specs.Answers.{IsHonestWorker}
 use Rattle.lock_journal.specs.Closings.{closed_of}
 use Rattle.history_laws.specs.ClosedBy.{closed_at, closed_by, closed_in, faults_by, faults_in}
-use Rattle.history_laws.proofs.Growing.{closed_by-push}
+use Rattle.history_laws.proofs.lemmas.Growing.{closed_by-push}
 use Rattle.coordination.specs.Agrees.{Finds}
 use Rattle.coordination.specs.Attempts.{Cause, Making}
 use Rattle.coordination.specs.Calls.{AskedInVain, HasFailed, HasFinished, HasLooked, HasStopped, IsAnswered, WasStopped}
@@ -175,6 +175,13 @@ ran_closes {kind} {makes} {fails} {retries} {old} {new} (Ok true) none finished 
 ran_closes (Ok false) none finished failed looked stopped = failed_closes (failed refl)
 ran_closes (Err Halt.NoMemory) none finished failed looked stopped = looked_closes (looked refl)
 ran_closes (Err (Halt.Stopped by)) none finished failed looked stopped = stopped_closes (stopped by refl)
+
+-- the same of a call that fails for want of memory alone
+pub tried_closes : {E : Type 0} {kind : Kind} {makes : Making} {fails : Cause} {old new : Sight} (r : Result Bool E) → closed_of kind ≡ []
+    → (r ≡ Ok true → HasFinished kind makes old new) → (r ≡ Ok false → HasFailed kind fails old new) → OnErr r (HasLooked old new) → HasClosed [] old new
+tried_closes {old = old} {new} (Ok true) none finished failed looked = subst (λ ds. HasClosed ds old new) none (finished_closes (finished refl))
+tried_closes (Ok false) none finished failed looked = failed_closes (failed refl)
+tried_closes (Err e) none finished failed looked = looked_closes looked
 
 -- the same of a call that gives a value where it finishes
 pub gave_closes : {T : Type 0} {retries : Cause} {old new : Sight} (kind : Kind) (makes : Making) (r : Result T Halt) → closed_of kind ≡ []

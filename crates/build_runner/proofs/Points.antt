@@ -1,37 +1,25 @@
 -- What a worker has at one point of a run, by what it had at the point before.
-use Rattle.std.proofs.Common.{arith, Some, Result, Ok, ◌≡◌, ℕ, ◌<◌, Bool, true, false, cond, List, [], ◌∷◌, ◌++◌, inl, inr, refl, sym, ap, ◌∙◌, subst, Contains}
+use Rattle.std.proofs.Common.{arith, Some, Result, Ok, ◌≡◌, ℕ, ◌<◌, Bool, true, false, List, [], ◌∷◌, ◌++◌, inl, inr, refl, sym, ap, ◌∙◌, subst, Contains}
 use Rattle.std.specs.Prelude.{nat_lt}
-use Rattle.std.specs.List.{list_all, list_any}
+use Rattle.std.specs.List.{list_any}
 use Rattle.std.proofs.lemmas.Bool.{eq-eqb, false≢true, le-ltb}
-use Rattle.std.proofs.lemmas.List.{append-nil, append_assoc}
-use Rattle.resource_lock.specs.Change.{holding_after, same_mark, without_last}
+use Rattle.resource_lock.specs.Change.{without_last}
 use Rattle.resource_lock.specs.GraphView.{GraphView, action_of, task_of}
 use Rattle.resource_lock.specs.Fits.{Fits}
-use Rattle.resource_lock.specs.Ranges.{IsActionOf, IsFetchOf, actions_of, lock_with, task_with, units_of}
-use Rattle.resource_lock.specs.StateView.{Holding, StateView, holding_of, mark_of, runs_by, stands_in}
-use Rattle.resource_lock.specs.declared.changes.Change.{Change}
-use Rattle.resource_lock.specs.declared.changes.Change.TheVariants.{Unlock, Give, Move}
+use Rattle.resource_lock.specs.Ranges.{IsActionOf, IsFetchOf, lock_with, task_with}
+use Rattle.resource_lock.specs.StateView.{Holding, holding_of, stands_in}
 use Rattle.resource_lock.specs.declared.graphs.GraphAction.{GraphAction}
 use Rattle.resource_lock.specs.declared.graphs.Retention.{Retention}
 use Rattle.resource_lock.specs.declared.graphs.Retention.TheVariants.{Retain, Release, ReleaseAndReacquire}
 use Rattle.resource_lock.specs.declared.ids.LockId.{LockId}
-use Rattle.resource_lock.specs.declared.ids.WorkerId.{WorkerId}
-use Rattle.resource_lock.specs.declared.marks.Mark.{Mark}
-use Rattle.resource_lock.specs.declared.marks.Mark.TheVariants.{Waiting, Running, Passed, Failed, Skipped}
-use Rattle.resource_lock.specs.declared.marks.MarkId.{MarkId}
 use Rattle.resource_lock.specs.declared.marks.MarkId.TheVariants.{Task as TaskOf, Action as ActionOf, Unit as UnitOf}
-use Rattle.lock_transforms.specs.Allowed.{IsFixedList}
-use Rattle.lock_transforms.specs.Table.{end_mark, units_passed, moved_units, skipped_action, skipped_actions, skipped_waiting}
-use Rattle.lock_transforms.specs.declared.entries.Kind.TheVariants.{Start, Skip, End}
-use Rattle.history_laws.proofs.Fitting.{apart_of}
-use Rattle.history_laws.specs.OwnChanges.{after_all, claimed_after, lock_before, locks_after, mark_before, with_if, with_member, without_member}
-use Rattle.coordination.specs.Calls.{HasFailed, HasFinished}
-use Rattle.coordination.specs.Attempts.{Cause}
+use Rattle.history_laws.proofs.lemmas.Fitting.{apart_of}
+use Rattle.history_laws.specs.OwnChanges.{lock_before, mark_before, with_member, without_member}
 use Rattle.coordination.specs.Holds.{HoldsNothing}
-use Rattle.coordination.specs.Shown.{Shows, ShowsTheSame, blocked_shown, claimed_shown, lease_shown, locks_shown, parked_shown}
+use Rattle.coordination.specs.Shown.{ShowsTheSame, blocked_shown, claimed_shown, lease_shown, locks_shown, parked_shown}
 use Rattle.coordination.specs.declared.rule.Sight.{Sight}
-use Rattle.coordination.proofs.Shown.{failed_shows, shows_left}
 use Rattle.async_tracker.specs.Shows.{IsIdleOrParked, OwnsToPark, is_action, is_unit, locks_on_park, parked_on_park, ShowsParked, ShowsResumed, WorksOn}
+use Rattle.async_tracker.specs.Tasks.{MayEnd, ShowsEnded, ShowsStarted, locks_on_end}
 use Rattle.blocking_section.specs.Sections.{HasSetDown, HasTakenUp}
 use Rattle.build_runner.specs.Points.{CanHelp, IsFetchIn, IsInTask, RunsTask}
 
@@ -116,25 +104,14 @@ rests_helps {s} rests = record {
 }
 
 -- a task starts
-
-pub started : {t : ℕ} {old new : Sight} → HasFinished (Start t) (IsFixedList (Start t)) old new → HoldsNothing old → RunsTask t new
-started {t} {old} {new} f rests = let shows = left in record {
+pub started : {t : ℕ} {old new : Sight} → ShowsStarted t old new → HoldsNothing old → RunsTask t new
+started {t} shows rests = record {
   locks = shows.locks ∙ ap (λ (g : GraphView). (task_of g t).lock ∷ []) (sym shows.graph);
   lease = shows.lease;
   claimed = shows.claimed;
   parked = shows.parked;
   blocked = shows.blocked ∙ ap (λ (h : Holding). h.blocked) rests.holding;
 }
-  where
-    w : WorkerId
-    w = old.worker
-
-    left : Shows ((task_of old.seen.graph t).lock ∷ []) true (TaskOf t ∷ []) [] old new
-    left = shows_left f f.finished.made record {
-      holding = ap (λ (h : Holding). record { lease = true; parked = h.parked; blocked = blocked_shown old }) rests.holding;
-      locks = λ i. with_member lock_before (task_of (f.found.agrees.graph i) t).lock (rests.locks i);
-      claimed = λ i. with_if mark_before (eq-eqb w.0 w.0 refl i) (TaskOf t) (rests.claimed i);
-    }
 
 -- a running task's worker works on it
 pub runs_works : {t : ℕ} {s : Sight} → RunsTask t s → WorksOn s t
@@ -144,111 +121,38 @@ runs_works {t} {s} runs = record {
   actions = ap (list_any is_action) runs.claimed;
 }
 
--- changes that are nobody's own: what isn't run is skipped
-
-module _ {X : Type 0} (after : X → Change → X) (quiet : (x : X) (m : MarkId) → after x (Move m Waiting Skipped) ≡ x) where
-  quiet_units : (x : X) (us : List ℕ) (rest : List Change) → after_all after x (moved_units us Waiting Skipped ++ rest) ≡ after_all after x rest
-  quiet_units x [] rest = refl
-  quiet_units x (u ∷ us) rest = ap (λ y. after_all after y (moved_units us Waiting Skipped ++ rest)) (quiet x (UnitOf u)) ∙ quiet_units x us rest
-
-  quiet_action : (g : GraphView) (x : X) (a : ℕ) (rest : List Change) → after_all after x (skipped_action g a ++ rest) ≡ after_all after x rest
-  quiet_action g x a rest = ap (λ y. after_all after y (moved_units (units_of g a) Waiting Skipped ++ rest)) (quiet x (ActionOf a)) ∙ quiet_units x (units_of g a) rest
-
-  quiet_actions : (g : GraphView) (x : X) (acts : List ℕ) (rest : List Change) → after_all after x (skipped_actions g acts ++ rest) ≡ after_all after x rest
-  quiet_actions g x [] rest = refl
-  quiet_actions g x (a ∷ acts) rest =
-      ap (after_all after x) (append_assoc (skipped_action g a) (skipped_actions g acts) rest)
-      ∙ (quiet_action g x a (skipped_actions g acts ++ rest) ∙ quiet_actions g x acts rest)
-
-  quiet_first : (g : GraphView) (s : StateView) (x : X) (a : ℕ) (acts : List ℕ) (rest : List Change) (b : Bool) → after_all after x (skipped_waiting g s acts ++ rest) ≡ after_all after x rest
-      → after_all after x ((cond b (skipped_action g a) [] ++ skipped_waiting g s acts) ++ rest) ≡ after_all after x rest
-  quiet_first g s x a acts rest true quiet_rest =
-      ap (after_all after x) (append_assoc (skipped_action g a) (skipped_waiting g s acts) rest)
-      ∙ (quiet_action g x a (skipped_waiting g s acts ++ rest) ∙ quiet_rest)
-  quiet_first g s x a acts rest false quiet_rest = quiet_rest
-
-  quiet_waiting : (g : GraphView) (s : StateView) (x : X) (acts : List ℕ) (rest : List Change) → after_all after x (skipped_waiting g s acts ++ rest) ≡ after_all after x rest
-  quiet_waiting g s x [] rest = refl
-  quiet_waiting g s x (a ∷ acts) rest = quiet_first g s x a acts rest (same_mark (mark_of s (ActionOf a)) Waiting) (quiet_waiting g s x acts rest)
-
--- what ends is run by nobody
-ends_run : (w : WorkerId) (b : Bool) → runs_by w (cond b Passed Failed) ≡ false
-ends_run w true = refl
-ends_run w false = refl
-
--- the task's own move to its end, and what it gives back
-leaves_task : (w : WorkerId) (t : ℕ) (to : Mark) → runs_by w to ≡ false → claimed_after w (TaskOf t ∷ []) (Move (TaskOf t) (Running w) to) ≡ []
-leaves_task w t to ends = rw ends (rw (eq-eqb w.0 w.0 refl) (alone_task t))
-
--- a task ends
-pub ended : {t : ℕ} {old new : Sight} → HasFinished (End t) (IsFixedList (End t)) old new → IsInTask t old → HoldsNothing new
-ended {t} {old} {new} f in_task = by_lease in_task
+-- the worker of the task may end it, and then has nothing
+pub may_end : {t : ℕ} {s : Sight} → IsInTask t s → MayEnd s t
+may_end {t} {s} in_task = at in_task
   where
-    w : WorkerId
-    w = old.worker
-
-    g : GraphView
-    g = f.before.graph
-
-    s : StateView
-    s = f.before.state
-
-    to : Mark
-    to = end_mark g s t
-
-    moved : Change
-    moved = Move (TaskOf t) (Running w) to
-
-    tail : Bool → List Change
-    tail b = cond b (Unlock (task_of g t).lock ∷ Give ∷ []) []
-
-    lease_is : (holding_of s w).lease ≡ lease_shown old
-    lease_is = ap (λ (h : Holding). h.lease) f.found.agrees.state.holding
-
-    changes : f.changes ≡ skipped_waiting g s (actions_of g t) ++ moved ∷ tail (lease_shown old)
-    changes = f.finished.made ∙ ap (λ b. skipped_waiting g s (actions_of g t) ++ moved ∷ tail b) lease_is
-
-    at : (b : Bool) → lease_shown old ≡ b → after_all locks_after (locks_shown old) (moved ∷ tail b) ≡ [] → claimed_shown old ≡ TaskOf t ∷ [] → parked_shown old ≡ [] → blocked_shown old ≡ false → HoldsNothing new
-    at b lease locks claimed parked blocked =
-        let shows : Shows [] false [] [] old new = shows_left f (changes ∙ ap (λ x. skipped_waiting g s (actions_of g t) ++ moved ∷ tail x) lease) record {
-          holding = quiet_waiting holding_after (λ x m. refl) g s (holding_of old.seen.state w) (actions_of g t) (moved ∷ tail b) ∙ given_back b (holding_of old.seen.state w) lease parked;
-          locks = quiet_waiting locks_after (λ x m. refl) g s (locks_shown old) (actions_of g t) (moved ∷ tail b) ∙ locks;
-          claimed = quiet_waiting (claimed_after w) (λ x m. refl) g s (claimed_shown old) (actions_of g t) (moved ∷ tail b) ∙ (ap (λ ms. after_all (claimed_after w) ms (moved ∷ tail b)) claimed ∙ (ap (λ ms. after_all (claimed_after w) ms (tail b)) (leaves_task w t to (ends_run w (list_all (units_passed g s) (actions_of g t)))) ∙ tail_claims b));
-        } in record {
-          locks = shows.locks;
-          claimed = shows.claimed;
-          holding = by_parts (holding_of new.seen.state new.worker) false [] false shows.lease shows.parked (shows.blocked ∙ blocked);
-        }
-      where
-        tail_claims : (b : Bool) → after_all (claimed_after w) [] (tail b) ≡ []
-        tail_claims true = refl
-        tail_claims false = refl
-
-        given_back : (b : Bool) (h : Holding) → h.lease ≡ b → h.parked ≡ [] → after_all holding_after h (moved ∷ tail b) ≡ record { lease = false; parked = []; blocked = h.blocked }
-        given_back true h e k = by_parts _ false [] h.blocked refl k refl
-        given_back false h e k = by_parts _ false [] h.blocked e k refl
-
-    by_lease : IsInTask t old → HoldsNothing new
-    by_lease (inl runs) = at true runs.lease
-        (ap (λ ls. after_all locks_after ls (moved ∷ tail true)) (runs.locks ∙ ap (λ (k : GraphView). (task_of k t).lock ∷ []) (sym f.found.agrees.graph)) ∙ alone_lock (task_of g t).lock)
-        runs.claimed runs.parked runs.blocked
-    by_lease (inr released) = at false released.lease released.locks released.claimed released.parked released.blocked
-
--- a task is skipped
-pub skipped : {t : ℕ} {old new : Sight} → HasFinished (Skip t) (IsFixedList (Skip t)) old new → HoldsNothing old → HoldsNothing new
-skipped {t} {old} {new} f rests =
-    let w = old.worker in
-    let g = f.before.graph in
-    let acts = actions_of g t in
-    let shows : Shows [] false [] [] old new = shows_left f (f.finished.made ∙ ap (λ cs. Move (TaskOf t) Waiting Skipped ∷ cs) (sym (append-nil (skipped_actions g acts)))) record {
-      holding = quiet_actions holding_after (λ x m. refl) g (holding_of old.seen.state w) acts [] ∙ ap (λ (h : Holding). record { lease = h.lease; parked = h.parked; blocked = blocked_shown old }) rests.holding;
-      locks = quiet_actions locks_after (λ x m. refl) g (locks_shown old) acts [] ∙ rests.locks;
-      claimed = quiet_actions (claimed_after w) (λ x m. refl) g (claimed_shown old) acts [] ∙ rests.claimed;
-    } in record {
-      locks = shows.locks;
-      claimed = shows.claimed;
-      holding = by_parts (holding_of new.seen.state new.worker) false [] false shows.lease shows.parked (shows.blocked ∙ ap (λ (h : Holding). h.blocked) rests.holding);
+    from_marks : claimed_shown s ≡ TaskOf t ∷ [] → blocked_shown s ≡ false → MayEnd s t
+    from_marks claimed blocked = record {
+      task = subst (λ ms. Contains ms (TaskOf t)) (sym claimed) (0, omega arith, refl);
+      actions = ap (list_any is_action) claimed;
+      units = ap (list_any is_unit) claimed;
+      blocked = blocked;
     }
+
+    at : IsInTask t s → MayEnd s t
+    at (inl runs) = from_marks runs.claimed runs.blocked
+    at (inr released) = from_marks released.claimed released.blocked
+
+pub ended : {t : ℕ} {old new : Sight} → ShowsEnded t old new → IsInTask t old → HoldsNothing new
+ended {t} {old} {new} shows in_task = at in_task
+  where
+    l : LockId
+    l = (task_of old.seen.graph t).lock
+
+    nothing : locks_on_end (lease_shown old) l (locks_shown old) ≡ [] → claimed_shown old ≡ TaskOf t ∷ [] → parked_shown old ≡ [] → blocked_shown old ≡ false → HoldsNothing new
+    nothing locks claimed parked blocked = record {
+      locks = shows.locks ∙ locks;
+      claimed = shows.claimed ∙ (ap (without_member mark_before (TaskOf t)) claimed ∙ alone_task t);
+      holding = by_parts (holding_of new.seen.state new.worker) false [] false shows.lease (shows.parked ∙ parked) (shows.blocked ∙ blocked);
+    }
+
+    at : IsInTask t old → HoldsNothing new
+    at (inl runs) = nothing ((λ i. locks_on_end (runs.lease i) l (runs.locks i)) ∙ alone_lock l) runs.claimed runs.parked runs.blocked
+    at (inr released) = nothing (λ i. locks_on_end (released.lease i) l (released.locks i)) released.claimed released.parked released.blocked
 
 -- a worker that ran the task, parked and resumed
 pub resumed : {t : ℕ} {old mid new : Sight} (a : ℕ) (r : Retention) (l : LockId) → l ≡ (task_of old.seen.graph t).lock → RunsTask t old → ShowsParked r l a old mid → ShowsResumed r l a mid new → IsInTask t new
@@ -302,11 +206,6 @@ took_up {t} u runs down up graph locks = record {
   blocked = up.blocked;
 }
 
--- whether the skip came about or not
-pub skipped_or_not : {t : ℕ} {fails : Cause} {old new : Sight} (b : Bool) → (b ≡ true → HasFinished (Skip t) (IsFixedList (Skip t)) old new) → (b ≡ false → HasFailed (Skip t) fails old new) → HoldsNothing old → HoldsNothing new
-skipped_or_not true finished failed rests = skipped (finished refl) rests
-skipped_or_not false finished failed rests = same_rests (failed_shows (failed refl)) rests
-
 -- an action of the task is under no other
 pub own_task : {g : GraphView} {t a : ℕ} → Fits g → IsActionOf g t a → task_with g a ≡ t
 own_task {g} {t} {a} fits own = let apart = apart_of g fits in apart.one_task (task_with g a) t a (apart.own_task a (apart.action_within t a own)) own
@@ -350,5 +249,5 @@ fetch_in {g} {t} {a} found fits own is fetch =
     let apart = apart_of g fits in
     (record { action = a; fetch = is_fetch; task = own_task fits own }, (apart.unit_within a found.first_unit (inl is_fetch)).1)
 
-pub ok_is : {E : Type 0} {b : Bool} → ◌≡◌ {A = Result Bool E} (Ok b) (Ok true) → b ≡ true
+pub ok_is : {E : Type 0} {b d : Bool} → ◌≡◌ {A = Result Bool E} (Ok b) (Ok d) → b ≡ d
 ok_is is = cc

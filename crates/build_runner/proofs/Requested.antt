@@ -6,13 +6,13 @@ use Rattle.lock_journal.specs.BookView.{BookView}
 use Rattle.lock_transforms.specs.Entry.{Entry}
 use Rattle.lock_transforms.specs.declared.entries.Closed.{Closed}
 use Rattle.resource_lock.specs.declared.ids.WorkerId.{WorkerId}
-use Rattle.daemon_items.specs.Requests.{SentView}
+use Rattle.item_work.specs.Requests.{SentView}
 use Rattle.plan_reader.specs.Units.{PlannedUnit}
 use Rattle.history_laws.specs.ClosedBy.{closed_by}
 use Rattle.coordination.specs.Passes.{PassView}
 use Rattle.coordination.specs.declared.rule.Sight.{Sight}
 use Rattle.build_runner.specs.Sent.{AreSentFor, HasSent}
-use Rattle.build_runner.proofs.Numbered.{element}
+use Rattle.coordination.proofs.lemmas.Numbered.{element}
 use Rattle.build_runner.proofs.Places.{place_within}
 
 -- a worker that began with an empty history sent what is sent for all that it closed

@@ -7,7 +7,7 @@ use Rattle.item_actions.specs.Files.{Folder}
 use Rattle.plan_reader.specs.Units.{PlannedUnit}
 use Rattle.coordination.specs.Passes.{PassView}
 use Rattle.build_runner.specs.Worked.{HasWorked}
-use Rattle.build_runner.proofs.Numbered.{element}
+use Rattle.coordination.proofs.lemmas.Numbered.{element}
 
 -- what a slice of a whole Vec leaves in it
 pub written_back : {X : Type 0} (xs ys : List X) (n : ℕ) → length xs ≡ n → take n (xs ++ drop (length xs) ys) ≡ xs

@@ -6,7 +6,7 @@ use Rattle.resource_lock.specs.Ranges.{IsFetchOf}
 use Rattle.lock_transforms.specs.declared.entries.Closed.{Closed}
 use Rattle.daemon_requirements.specs.RequirementsView.{RequirementsView}
 use Rattle.daemon_desk.specs.declared.sent.SentRequest.{SentRequest}
-use Rattle.daemon_items.specs.Requests.{SentView, Sends}
+use Rattle.item_work.specs.Requests.{SentView, Sends}
 use Rattle.plan_reader.specs.Units.{PlannedUnit}
 use Rattle.coordination.specs.declared.rule.Sight.{Sight}
 use Rattle.build_runner.specs.Kept.{HasClosed}

@@ -4,8 +4,8 @@ ghost use Rattle.daemon_manager.specs.Events.{NoneIdle, IsLegal};
 ghost use Rattle.build_runner.specs.Sent.{sent_view};
 
 use daemon_desk::Desk;
-use daemon_items::PoolLock;
 use daemon_manager::{Event, Pool};
+use item_work::PoolLock;
 
 /// Stops the idle daemons, those that were released first before the others.
 fn stop_idle<D: Desk>(pool: &mut Pool<D::Link>, desk: &mut D)

@@ -18,10 +18,10 @@ use coordination::{Halt, Pass};
 use daemon_desk::Desk;
 use daemon_requirements::Linked;
 use item_actions::{ItemAction, Outcome};
+use item_work::work_in_thread;
 use lock_transforms::Closed;
 use std::alloc::Global;
 use std::sync::Wait;
-use work_queue::work_in_thread;
 
 /// What a fetch gives: the number of the file's bytes. Reading sends nothing.
 fn fetched<D: Desk>(alloc: Global, desk: &mut D, work: UnitWork<'_>) -> Outcome

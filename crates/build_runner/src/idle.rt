@@ -1,5 +1,5 @@
 //! An idle worker: it does what is next until all tasks have ended.
-ghost use Rattle.std.specs.Prelude.{◌≡◌, [], All, IfOk, OnOk, length, map};
+ghost use Rattle.std.specs.Prelude.{◌≡◌, ◌<◌, [], All, IfOk, OnOk, length, map};
 ghost use Rattle.coordination.specs.Holds.{HoldsNothing};
 ghost use Rattle.coordination.specs.Shown.{ShowsTheSame};
 ghost use Rattle.build_runner.specs.Choices.{IsThere};
@@ -12,12 +12,12 @@ use crate::choices::{Choice, WhatIsNext};
 use crate::items::help;
 use crate::site::Site;
 use crate::tasks::run_task;
+use async_tracker::skip_task;
 use coordination::{Halt, Pass};
 use daemon_desk::Desk;
 use daemon_requirements::Linked;
 use file_access::Gate;
 use history_laws::only_items_are_queued;
-use lock_transforms::kinds::Skip;
 use std::sync::Wait;
 
 /// Skips a task, unless it can't be skipped any more.
@@ -28,13 +28,16 @@ fn skip<R: Wait, G, L: Linked>(
     task: u32,
 ) -> Result<(), Halt>
     requires service { pass.old.service ≡ site.now.service.now.service }
+    requires task { task < length pass.old.sight.seen.graph.tasks }
     requires rests { HoldsNothing pass.old.sight }
     ensures service { pass.new.service ≡ pass.old.service }
     ensures closed { HasClosed [] pass.old.sight pass.new.sight }
     ensures rests { OnOk result (HoldsNothing pass.new.sight) }
 {
-    site.service.with_state_lock(rt, pass, &Skip { task })?;
-    Ok(())
+    match skip_task(rt, site.service, pass, task) {
+        Ok(_) => Ok(()),
+        Err(_) => Err(Halt::NoMemory),
+    }
 }
 
 /// Asks what is next.

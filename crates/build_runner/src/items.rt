@@ -20,10 +20,10 @@ use daemon_desk::Desk;
 use daemon_requirements::Linked;
 use file_access::Gate;
 use item_actions::{ItemAction, Outcome};
+use item_work::{run_item, work_in_thread};
 use lease_service::{Lease, current_lease};
 use lock_transforms::Closed;
 use std::sync::Wait;
-use work_queue::{run_item, work_in_thread};
 
 /// What a unit gives.
 fn outcome_of<R: Wait, D: Desk, G>(

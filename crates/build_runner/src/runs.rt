@@ -22,13 +22,13 @@ use crate::site::Site;
 use crate::team::{Worker, all_ended, part, seat, work};
 use coordination::{Opened, Pass};
 use daemon_desk::Desk;
-use daemon_items::PoolLock;
 use daemon_manager::Pool;
 use file_access::Gate;
 use history_laws::{
     every_run_comes_to_its_plan, histories_go_on, honest_workers_give_the_answers,
     lawful_histories_lead_to_good_states,
 };
+use item_work::PoolLock;
 use lock_journal::Book;
 use plan_reader::Plan;
 use std::alloc::{AllocError, Global};

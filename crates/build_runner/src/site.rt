@@ -1,7 +1,7 @@
 use crate::units::UnitWork;
 use coordination::Coordination;
-use daemon_items::PoolLock;
 use daemon_requirements::Linked;
+use item_work::PoolLock;
 use resource_lock::Graph;
 use std::alloc::Global;
 

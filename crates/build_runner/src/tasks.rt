@@ -13,12 +13,11 @@ ghost use Rattle.build_runner.specs.Units.{HasFileName, unit_view};
 use crate::fetching::fetch;
 use crate::parked::wait_for_items;
 use crate::site::Site;
-use async_tracker::{Parked, park, submit};
+use async_tracker::{Parked, end_task, park, start_task, submit};
 use coordination::{Halt, Pass};
 use daemon_desk::Desk;
 use daemon_requirements::Linked;
 use file_access::Gate;
-use lock_transforms::kinds::{End, Start};
 use resource_lock::{Graph, GraphAction};
 use std::ops::Range;
 use std::sync::Wait;
@@ -183,8 +182,7 @@ fn end<R: Wait, G, L: Linked>(
     ensures closed { HasClosed [] pass.old.sight pass.new.sight }
     ensures rests { OnOk result (HoldsNothing pass.new.sight) }
 {
-    site.service.with_state_lock(rt, pass, &End { task })?;
-    Ok(())
+    end_task(rt, site.service, pass, task)
 }
 
 /// Starts a task and runs it to its end, unless it can't be started any more.
@@ -233,5 +231,8 @@ fn start<R: Wait, G, L: Linked>(
     ensures runs { result ≡ Ok true → RunsTask task pass.new.sight }
     ensures rests { result ≡ Ok false → HoldsNothing pass.new.sight }
 {
-    site.service.with_state_lock(rt, pass, &Start { task })
+    match start_task(rt, site.service, pass, task) {
+        Ok(started) => Ok(started),
+        Err(_) => Err(Halt::NoMemory),
+    }
 }

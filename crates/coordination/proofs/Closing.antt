@@ -7,7 +7,7 @@ use lib.ListN.{get_elem?}
 use Rattle.atomic_table.specs.Table.{Final, Seen}
 use Rattle.resource_lock.specs.GraphView.{GraphView}
 use Rattle.resource_lock.specs.declared.ids.WorkerId.{WorkerId}
-use Rattle.resource_lock.proofs.Undo.{same_worker}
+use Rattle.resource_lock.proofs.lemmas.Undo.{same_worker}
 use Rattle.lock_journal.specs.BookView.{BookView}
 use Rattle.coordination.specs.declared.rule.Sight.{Sight}
 use Rattle.coordination.specs.declared.rule.SeatView.{SeatView}

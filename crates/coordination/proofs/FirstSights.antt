@@ -8,7 +8,7 @@ use Rattle.coordination.specs.Holds.{HoldsNothing}
 use Rattle.coordination.specs.Passes.{PassView}
 use Rattle.coordination.specs.Sights.{sights_from}
 use Rattle.coordination.specs.declared.rule.Sight.{Sight}
-use Rattle.coordination.proofs.Nothing.{owns_nothing, runs_nothing}
+use Rattle.coordination.proofs.lemmas.Nothing.{owns_nothing, runs_nothing}
 
 first_sights : (w n : ℕ) (book : BookView) → All (λ (s : Sight). s.seen ≡ book) (sights_from w n book)
 first_sights w zero book k d lt = absurd (omega arith)

@@ -1,4 +1,4 @@
-pub mod Growing
+pub mod lemmas
 pub mod Moves
 pub mod Seating
 pub mod Tries
@@ -8,9 +8,6 @@ pub mod Closing
 pub mod Opening
 pub mod InPlace
 pub mod Following
-pub mod Entries
-pub mod Shown
-pub mod Nothing
 pub mod Rests
 pub mod Totals
 pub mod Together

@@ -21,7 +21,7 @@ use Rattle.coordination.specs.Attempts.{Asked, Attempted, Cause, Making}
 use Rattle.coordination.specs.Calls.{AskedInVain, HasFailed, HasFinished, HasLooked, IsAnswered, WasStopped}
 use Rattle.coordination.specs.Sights.{hearing, seeing}
 use Rattle.coordination.specs.Tries.{HasTried, IsReplied, OnlyLooked}
-use Rattle.coordination.proofs.Growing.{agrees_same, agrees_self, agrees_then}
+use Rattle.coordination.proofs.lemmas.Growing.{agrees_same, agrees_self, agrees_then}
 
 -- at a result that is known by an equation
 pub at_result : {E : Type 0} (kind : Kind) (makes : Making) (fails retries : Cause) (s s' : Sight) (r r' : Result Disposition E) → r ≡ r' → Attempted kind makes fails retries s s' r → Attempted kind makes fails retries s s' r'

@@ -18,7 +18,7 @@ use Rattle.coordination.specs.declared.rule.SeatView.{SeatView}
 use Rattle.coordination.specs.Sights.{seeing, stopping, hearing, one, holding}
 use Rattle.coordination.specs.Agrees.{Agrees, IsSoundBook}
 use Rattle.coordination.specs.Rule.{AddsOwn, FitsSight, OutFits, busy_of, home_of, Orderly, taken, put_back, stopped_at, heard, marked}
-use Rattle.coordination.proofs.Growing.{goes_on, agrees_self, agrees_then}
+use Rattle.coordination.proofs.lemmas.Growing.{goes_on, agrees_self, agrees_then}
 
 abbrev pub S : Type 0
 S = State BookView SeatView

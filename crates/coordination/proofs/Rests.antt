@@ -8,13 +8,13 @@ use Rattle.resource_lock.specs.GraphView.{GraphView}
 use Rattle.resource_lock.specs.StateView.{StateView, empty_holding, holding_of, owner_of}
 use Rattle.resource_lock.specs.declared.ids.LockId.{LockId}
 use Rattle.resource_lock.specs.declared.ids.WorkerId.{WorkerId}
-use Rattle.resource_lock.proofs.Undo.{same_worker}
+use Rattle.resource_lock.proofs.lemmas.Undo.{same_worker}
 use Rattle.lock_transforms.specs.Allowed.{lawful_from}
 use Rattle.lock_transforms.specs.Entry.{Entry, effect}
 use Rattle.lock_journal.specs.BookView.{BookView}
 use Rattle.lock_transforms.specs.Table.{owned}
 use Rattle.history_laws.specs.Own.{NamesWorkers, claimed}
-use Rattle.history_laws.proofs.Named.{named}
+use Rattle.history_laws.proofs.lemmas.Named.{named}
 use Rattle.coordination.specs.declared.rule.Sight.{Sight}
 use Rattle.coordination.specs.Agrees.{Agrees, IsSoundBook}
 use Rattle.resource_lock.specs.AtRest.{IsAtRest}
@@ -22,8 +22,8 @@ use Rattle.coordination.specs.Holds.{HoldsNothing}
 use Rattle.coordination.specs.Passes.{PassView}
 use Rattle.coordination.specs.Sights.{no_book, sight, workers_from}
 use Rattle.coordination.proofs.Closing.{there_is}
-use Rattle.coordination.proofs.Entries.{belongs_sound}
-use Rattle.coordination.proofs.Nothing.{owns_none, runs_none}
+use Rattle.coordination.proofs.lemmas.Entries.{belongs_sound}
+use Rattle.coordination.proofs.lemmas.Nothing.{owns_none, runs_none}
 
 -- a fact of each pass is one of each sight
 pub to_sights : (P : Sight → Type 0) (ps : List PassView) → All (λ p. P p.sight) ps → All P (map (λ p. p.sight) ps)

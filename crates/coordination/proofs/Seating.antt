@@ -13,7 +13,7 @@ use Rattle.coordination.specs.declared.rule.SeatView.{SeatView}
 use Rattle.coordination.specs.Sights.{sight, all_of, nobody, sights_from, starting}
 use Rattle.coordination.specs.Agrees.{IsSoundBook}
 use Rattle.coordination.specs.Rule.{FitsSight, OutFits, Orderly, M, both_sights}
-use Rattle.coordination.proofs.Growing.{agrees_self}
+use Rattle.coordination.proofs.lemmas.Growing.{agrees_self}
 use Rattle.coordination.proofs.Moves.{set_views, more_views}
 
 -- the same at another seat

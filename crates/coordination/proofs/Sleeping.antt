@@ -2,7 +2,7 @@
 use Rattle.std.proofs.Common.{◌≡◌, ℕ, List, Option, None, Some, count_by, is_some, ap, arith}
 use Rattle.std.specs.Prelude.{slice_get}
 use Rattle.std.proofs.lemmas.Option.{get_or_from_slice_get, slice_get_within}
-use Rattle.resource_lock.proofs.Lists.{count_by-set, one_if}
+use Rattle.resource_lock.proofs.lemmas.Lists.{count_by-set, one_if}
 use Rattle.lock_journal.specs.BookView.{BookView}
 use Rattle.worker_choices.specs.declared.awaited.Awaited.{Awaited}
 use Rattle.worker_choices.specs.declared.woken.Woken.TheVariants as woken

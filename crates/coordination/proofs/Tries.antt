@@ -11,7 +11,7 @@ use Rattle.lock_journal.specs.Ran.{FinishesIn, FailsIn, IsToRetry}
 use Rattle.lock_transforms.specs.declared.entries.Kind.{Kind}
 use Rattle.lock_transforms.specs.declared.transforms.Disposition.{Disposition}
 use Rattle.lock_transforms.specs.declared.transforms.Disposition.TheVariants.{Finished, Failed, Retry}
-use Rattle.history_laws.proofs.Growing.{lawful-push, replay-push}
+use Rattle.history_laws.proofs.lemmas.Growing.{lawful-push, replay-push}
 use Rattle.coordination.specs.declared.rule.Sight.{Sight}
 use Rattle.coordination.specs.Agrees.{IsSoundBook}
 use Rattle.coordination.specs.Attempts.{Answers, Asked, Attempted, Cause, Making, Ran}

@@ -1,4 +1,4 @@
-ghost use Rattle.std.specs.Prelude.{◌<◌};
+ghost use Rattle.std.specs.Prelude.{◌≡◌, ◌<◌, ℕ, List, get_or, length, map};
 ghost use Rattle.resource_lock.specs.AtRest.{IsAtRest};
 ghost use Rattle.resource_lock.specs.Good.{Good};
 ghost use Rattle.resource_lock.specs.GraphView.{GraphView};
@@ -9,6 +9,7 @@ ghost use Rattle.resource_lock.specs.declared.ids.WorkerId.{WorkerId};
 ghost use Rattle.lock_journal.specs.BookView.{BookView};
 ghost use Rattle.history_laws.specs.Own.{NamesWorkers};
 ghost use Rattle.coordination.specs.Agrees.{IsSoundBook};
+ghost use Rattle.coordination.specs.Passes.{PassView};
 
 /// In the state that a run begins in nobody has anything, so a service can be opened with it.
 pub fn openings_are_at_rest()
@@ -22,4 +23,12 @@ pub fn sound_books_have_good_states()
     ensures belongs { (book : BookView) → IsSoundBook book → BelongsTo book.graph book.state }
     ensures workers { (book : BookView) → IsSoundBook book → NamesWorkers book.graph.workers book.state }
     ensures known { (book : BookView) (w : WorkerId) → IsSoundBook book → w.0 < book.graph.workers → IsWorkerOf book.state w }
+{}
+
+/// Passes that have, place by place, the workers of others have their numbers. So a service can be finished with the passes that
+/// threads have used.
+pub fn used_passes_have_their_numbers()
+    ensures { (old new : List PassView) → length new ≡ length old
+        → ((i : ℕ) (p : PassView) → i < length old → (get_or new i p).sight.worker ≡ (get_or old i p).sight.worker)
+        → map (λ p. p.sight.worker.0) new ≡ map (λ p. p.sight.worker.0) old }
 {}

@@ -19,7 +19,9 @@ mod slots;
 mod waiters;
 
 pub use halts::Halt;
-pub use laws::{openings_are_at_rest, sound_books_have_good_states};
+pub use laws::{
+    openings_are_at_rest, sound_books_have_good_states, used_passes_have_their_numbers,
+};
 pub use passes::Pass;
 pub use questions::Question;
 pub use rule::Sight;

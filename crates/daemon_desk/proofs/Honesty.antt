@@ -13,7 +13,7 @@ use Rattle.daemon_protocol.specs.declared.frames.Frame.TheVariants as frames
 use Rattle.daemon_protocol.specs.declared.frames.Reply.{Reply}
 use Rattle.daemon_protocol.specs.declared.frames.Request.{Request}
 use Rattle.daemon_protocol.specs.declared.starts.StreamStart.TheVariants.{Unfinished, Whole}
-use Rattle.daemon_protocol.proofs.Settled.{settles}
+use Rattle.daemon_protocol.proofs.lemmas.Settled.{settles}
 use Rattle.daemon_server.specs.Answer.{Answer, asked, reply, replies, IsHonestAnswer}
 use Rattle.daemon_server.specs.Serving.{Outside, HasServed}
 use Rattle.daemon_server.specs.declared.serving.Served.TheVariants.{Done}

@@ -1,7 +1,9 @@
 -- A desk in memory, and what its calls do to it.
-use Rattle.std.specs.Prelude.{ℕ, List, [], ◌∷◌, ◌++◌, Bool, Option, None, Some}
+use Rattle.std.specs.Prelude.{ℕ, List, [], ◌∷◌, ◌++◌, Bool, true, false, Option, None, Some, Result, Err}
 use Rattle.item_actions.specs.Files.{Folder}
 use Rattle.file_access.specs.Calls.{CallsView, next, after_call}
+use Rattle.file_access.specs.declared.files.DeskFail.{DeskFail}
+use Rattle.file_access.specs.declared.files.DeskFail.TheVariants.{Failed}
 use Rattle.daemon_desk.specs.declared.lies.Lie.{Lie}
 use Rattle.daemon_desk.specs.declared.sent.SentRequest.{SentRequest}
 
@@ -23,6 +25,11 @@ known_files desk = told desk.lies desk.files
 -- the desk after one more call
 abbrev pub called : Bool → MemoryDeskView → MemoryDeskView
 called failed desk = record desk { log = after_call failed desk.log }
+
+-- a call that gave this answer failed
+abbrev pub is_fault : {T : Type 0} → Result T DeskFail → Bool
+is_fault (Err Failed) = true
+is_fault _ = false
 
 -- the desk with one more request sent
 abbrev pub and_sends : MemoryDeskView → SentRequest → MemoryDeskView

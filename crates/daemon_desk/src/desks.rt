@@ -1,10 +1,12 @@
-ghost use Rattle.std.specs.Prelude.{◌≡◌, ◌≤◌, ℕ, List, Option, None, Some, IfOk, IfSome, IsSome, OnOk, OnErr, true};
+ghost use Rattle.std.specs.Prelude.{◌≡◌, ◌≤◌, ℕ, Bool, List, Option, None, Some, IfOk, IfSome, IsSome, OnOk, OnErr, false, true};
 ghost use Rattle.std.specs.Result.{IsErrOf};
 ghost use Rattle.item_actions.specs.Forms.{is_file_name};
 ghost use Rattle.file_access.specs.Calls.{next};
+ghost use Rattle.file_access.specs.ReadView.{IsFaultCounted};
 ghost use Rattle.file_access.specs.SinkView.{Rises};
 ghost use Rattle.daemon_protocol.specs.declared.frames.Request.{Request as Asked};
 ghost use Rattle.daemon_desk.specs.declared.sent.SentRequest.{SentRequest as Sent};
+ghost use Rattle.daemon_desk.specs.LinkView.{is_settled};
 ghost use Rattle.daemon_desk.specs.Replies.{IsReplyTo};
 ghost use Rattle.daemon_desk.specs.Sent.{and_sent, sent_over};
 
@@ -15,11 +17,12 @@ use std::alloc::Global;
 
 /// The files of a build and its daemons, which are started, asked and stopped.
 ///
-/// Failed comes only where the count of faults rose in the call. A fault of a link is counted by the desk that used the
-/// link, so a link may be used through any desk of its type. Each link has to be stopped in the end, also one that failed.
+/// The count of faults rises by one in a call that answers Failed, and in no other. A fault of a link is counted by the desk that used the
+/// link, so a link may be used through any desk of its type. A link on which a call failed is broken for good, since half a
+/// request or half a reply may be left in it.
 pub trait Desk: Files {
-    /// The way to a daemon that was started.
-    type Link: Linked + Send + Drop;
+    /// The way to a daemon that was started. It can't be dropped: `stop` alone ends it, also one that is broken.
+    type Link: Linked + Send;
 
     /// How many requests were sent; it stands still at 2^64 - 1.
     ghost sends: { Self → ℕ };
@@ -30,18 +33,23 @@ pub trait Desk: Files {
     /// The request that waits on a link for its reply, or none.
     ghost waiting: { Self.Link → Option Asked };
 
+    /// Whether a call on a link failed.
+    ghost broken: { Self.Link → Bool };
+
     /// Starts a daemon with these requirements. NoMemory comes before it is started.
     fn start(&mut self, alloc: Global, asked: &Requirements) -> Result<Self::Link, DeskFail>
         ensures files { Self.files self.new ≡ Self.files self.old }
+        ensures counted { IsFaultCounted (Self.faults self.old) (Self.faults self.new) result }
         ensures kept { Self.faults self.old ≤ Self.faults self.new }
         ensures failed { IsErrOf result DeskFail.Failed → Rises (Self.faults self.old) (Self.faults self.new) }
         ensures made { IfOk result (λ link. Self.Link.requirements link ≡ asked.now) }
         ensures idle { IfOk result (λ link. waiting link ≡ None) }
+        ensures whole { IfOk result (λ link. broken link ≡ false) }
         ensures sends { sends self.new ≡ sends self.old }
         ensures sent { sent self.new ≡ sent self.old };
 
     /// Sends a request over a link, which then waits for its reply. The request's file has the form of a file's name. After
-    /// an error the request isn't among those sent, and what waits on the link is what waited before.
+    /// an error the request isn't among those sent, what waits on the link is what waited before, and the link is broken.
     fn send(
         &mut self,
         alloc: Global,
@@ -50,6 +58,7 @@ pub trait Desk: Files {
     ) -> Result<(), DeskFail>
         requires { is_file_name request.now.file ≡ true }
         ensures files { Self.files self.new ≡ Self.files self.old }
+        ensures counted { IsFaultCounted (Self.faults self.old) (Self.faults self.new) result }
         ensures kept { Self.faults self.old ≤ Self.faults self.new }
         ensures failed { IsErrOf result DeskFail.Failed → Rises (Self.faults self.old) (Self.faults self.new) }
         ensures made { Self.Link.requirements link.new ≡ Self.Link.requirements link.old }
@@ -58,18 +67,23 @@ pub trait Desk: Files {
         ensures sent { OnOk result (sent self.new ≡ and_sent (sent self.old) (sent_over (Self.Link.requirements link.old) request.now)) }
         ensures waited { OnErr result (waiting link.new ≡ waiting link.old) }
         ensures not_counted { OnErr result (sends self.new ≡ sends self.old) }
-        ensures not_sent { OnErr result (sent self.new ≡ sent self.old) };
+        ensures not_sent { OnErr result (sent self.new ≡ sent self.old) }
+        ensures whole { OnOk result (broken link.new ≡ broken link.old) }
+        ensures broken { OnErr result (broken link.new ≡ true) };
 
     /// Receives the reply to the request that waits on the link; afterwards none waits. An answer that begins with no reply,
-    /// or with one for another unit or with a fault, is Failed.
+    /// or with one for another unit or with a fault, is Failed. After an error the link is broken.
     fn receive(&mut self, alloc: Global, link: &mut Self::Link) -> Result<Reply, DeskFail>
         requires { IsSome (waiting link.old) }
         ensures files { Self.files self.new ≡ Self.files self.old }
+        ensures counted { IsFaultCounted (Self.faults self.old) (Self.faults self.new) result }
         ensures kept { Self.faults self.old ≤ Self.faults self.new }
         ensures failed { IsErrOf result DeskFail.Failed → Rises (Self.faults self.old) (Self.faults self.new) }
         ensures made { Self.Link.requirements link.new ≡ Self.Link.requirements link.old }
         ensures reply { IfOk result (λ reply. IfSome (waiting link.old) (λ request. IsReplyTo (Self.files self.old) request reply)) }
         ensures idle { waiting link.new ≡ None }
+        ensures whole { OnOk result (broken link.new ≡ broken link.old) }
+        ensures broken { OnErr result (broken link.new ≡ true) }
         ensures sends { sends self.new ≡ sends self.old }
         ensures sent { sent self.new ≡ sent self.old };
 
@@ -79,6 +93,9 @@ pub trait Desk: Files {
         ensures faults { Self.faults self.new ≡ Self.faults self.old }
         ensures sends { sends self.new ≡ sends self.old }
         ensures sent { sent self.new ≡ sent self.old };
+
+    /// A link is settled where it isn't broken and no request waits on it.
+    ghost settled_links: { (link : Self.Link) → Self.Link.settled link ≡ is_settled (broken link) (waiting link) };
 
     /// Reading a file sends nothing.
     ghost reads_send_nothing: { (old new : Self) → Self.keeps old new → (sends new ≡ sends old) × (sent new ≡ sent old) };

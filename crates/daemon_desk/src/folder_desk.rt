@@ -54,7 +54,7 @@ impl<R: Drop> FolderDesk<R> {
     }
 
     // Counts the fault of an answer, and hands the answer on.
-    fn counted<T: Drop>(&mut self, answer: Result<T, DeskFail>) -> Result<T, DeskFail>
+    fn counted<T>(&mut self, answer: Result<T, DeskFail>) -> Result<T, DeskFail>
         ensures same { result ≡ answer }
         ensures counted { self.new ≡ after_answer answer self.old }
     {
@@ -85,7 +85,7 @@ impl<R: rt::Files + Drop> Files for FolderDesk<R> {
 }
 
 impl<R: rt::Files + Processes<Started = SystemProcess> + Drop> Desk for FolderDesk<R> {
-    ghost use Rattle.std.specs.Prelude.{None};
+    ghost use Rattle.std.specs.Prelude.{None, refl};
     ghost use Rattle.std.proofs.Common.{rules};
 
     type Link = FolderLink;
@@ -95,6 +95,8 @@ impl<R: rt::Files + Processes<Started = SystemProcess> + Drop> Desk for FolderDe
     ghost sent = { λ _. None };
 
     ghost waiting = { λ link. link.waiting };
+
+    ghost broken = { λ link. link.broken };
 
     fn start(&mut self, alloc: Global, asked: &Requirements) -> Result<FolderLink, DeskFail> {
         let link = FolderLink::start(&self.rt, alloc, self.program.as_str(), asked);
@@ -122,6 +124,8 @@ impl<R: rt::Files + Processes<Started = SystemProcess> + Drop> Desk for FolderDe
     fn stop(&mut self, link: FolderLink) {
         link.stop();
     }
+
+    ghost settled_links = { λ _. refl };
 
     ghost reads_send_nothing = { Prim.search rules };
 }

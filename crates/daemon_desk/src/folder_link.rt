@@ -3,6 +3,7 @@ ghost use Rattle.item_actions.specs.Forms.{is_file_name};
 ghost use Rattle.item_actions.specs.declared.outcomes.Outcome.TheVariants as outcomes;
 ghost use Rattle.daemon_protocol.specs.Spelling.{spelling, IsValid};
 ghost use Rattle.daemon_protocol.specs.declared.frames.Frame.TheVariants.{Stop};
+ghost use Rattle.daemon_desk.specs.LinkView.{new_link};
 ghost use Rattle.daemon_desk.specs.Replies.{IsReplyTo};
 ghost use Rattle.daemon_desk.specs.Requests.{request_in};
 
@@ -16,11 +17,12 @@ use std::alloc::Global;
 use std::marker::Model;
 use std::process::{Child, ChildStdin, ChildStdout, Command, Processes, SystemProcess};
 
-/// A link to a child process. It has to be stopped: a drop doesn't wait for the child.
-#[derive(Drop)]
+/// A link to a child process. It can't be dropped, since a drop wouldn't wait for the child: it has to be stopped.
 pub struct FolderLink {
     made_for: Requirements,
     waiting: Option<Request>,
+    // Whether a call failed. Contracts alone ask for it.
+    broken: bool,
     // The bytes of the reply at hand, kept for their memory.
     held: Vec<u8>,
     child: Child<SystemProcess>,
@@ -39,7 +41,7 @@ impl Model for FolderLink {
 
     ghost Value = { LinkView };
 
-    ghost view = { λ link. record { made_for = link.made_for; waiting = link.waiting } };
+    ghost view = { λ link. record { made_for = link.made_for; waiting = link.waiting; broken = link.broken } };
 }
 
 impl FolderLink {
@@ -50,7 +52,7 @@ impl FolderLink {
         own: &str,
         asked: &Requirements,
     ) -> Result<FolderLink, DeskFail>
-        ensures { IfOk result (λ link. link ≡ record { made_for = asked.now; waiting = None }) }
+        ensures { IfOk result (λ link. link ≡ new_link asked.now) }
     {
         let made_for = asked.copy(alloc)?;
         let child = spawn(rt, alloc, own, asked)?;
@@ -63,12 +65,13 @@ impl FolderLink {
         made_for: Requirements,
         mut child: Child<SystemProcess>,
     ) -> Result<FolderLink, DeskFail>
-        ensures { IfOk result (λ link. link ≡ record { made_for = made_for; waiting = None }) }
+        ensures { IfOk result (λ link. link ≡ new_link made_for) }
     {
         match pipes_of(&mut child) {
             Some(pipes) => Ok(FolderLink {
                 made_for,
                 waiting: None,
+                broken: false,
                 held: Vec::new(alloc),
                 child,
                 pipes,
@@ -80,8 +83,21 @@ impl FolderLink {
         }
     }
 
-    /// Writes a request to the child. Nothing is counted here.
+    /// Writes a request to the child, and is broken where that fails. Nothing is counted here.
     pub(crate) fn send(&mut self, alloc: Global, request: &Request) -> Result<(), DeskFail>
+        requires { is_file_name request.now.file ≡ true }
+        ensures ok { OnOk result (self.new ≡ record self.old { waiting = Some request.now }) }
+        ensures err { OnErr result (self.new ≡ record self.old { broken = true }) }
+    {
+        let sent = self.put(alloc, request);
+        if sent.is_err() {
+            self.broken = true;
+        }
+        sent
+    }
+
+    // Writes a request to the child, which then waits for its reply.
+    fn put(&mut self, alloc: Global, request: &Request) -> Result<(), DeskFail>
         requires { is_file_name request.now.file ≡ true }
         ensures ok { OnOk result (self.new ≡ record self.old { waiting = Some request.now }) }
         ensures err { OnErr result (self.new ≡ self.old) }
@@ -92,8 +108,21 @@ impl FolderLink {
         Ok(())
     }
 
-    /// Reads the reply to the request that waits. Nothing is counted here.
+    /// Reads the reply to the request that waits, and is broken where that fails. Nothing is counted here.
     pub(crate) fn receive(&mut self, alloc: Global) -> Result<Reply, DeskFail>
+        ensures reply { IfOk result (λ reply. IfSome self.old.waiting (λ request. IsReplyTo None request reply)) }
+        ensures ok { OnOk result (self.new ≡ record self.old { waiting = None }) }
+        ensures err { OnErr result (self.new ≡ record self.old { waiting = None; broken = true }) }
+    {
+        let reply = self.take_reply(alloc);
+        if reply.is_err() {
+            self.broken = true;
+        }
+        reply
+    }
+
+    // Reads the reply to the request that waits, which then waits no more.
+    fn take_reply(&mut self, alloc: Global) -> Result<Reply, DeskFail>
         ensures reply { IfOk result (λ reply. IfSome self.old.waiting (λ request. IsReplyTo None request reply)) }
         ensures left { self.new ≡ record self.old { waiting = None } }
     {
@@ -108,6 +137,7 @@ impl FolderLink {
         let FolderLink {
             made_for: _,
             waiting: _,
+            broken: _,
             held: _,
             mut child,
             pipes,
@@ -177,7 +207,11 @@ fn pipes_of(child: &mut Child<SystemProcess>) -> Option<Pipes> {
 }
 
 impl Linked for FolderLink {
+    ghost use Rattle.daemon_desk.specs.LinkView.{is_settled};
+
     ghost requirements = { λ link. link.made_for };
+
+    ghost settled = { λ link. is_settled link.broken link.waiting };
 
     fn made_for(&self) -> &Requirements {
         &self.made_for

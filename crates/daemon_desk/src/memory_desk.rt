@@ -3,7 +3,8 @@ ghost use Rattle.std.specs.Result.{IsErrOf};
 ghost use Rattle.item_actions.specs.Forms.{is_file_name};
 ghost use Rattle.file_access.specs.Calls.{no_calls, next_fails};
 ghost use Rattle.file_access.specs.ReadView.{ReadsFrom};
-ghost use Rattle.daemon_desk.specs.MemoryDeskView.{called, and_sends, known_files};
+ghost use Rattle.daemon_desk.specs.LinkView.{new_link};
+ghost use Rattle.daemon_desk.specs.MemoryDeskView.{called, and_sends, is_fault, known_files};
 ghost use Rattle.daemon_desk.specs.Replies.{IsReplyTo};
 ghost use Rattle.daemon_desk.specs.Sent.{sent_over};
 
@@ -94,10 +95,34 @@ impl MemoryDesk {
         Ok(())
     }
 
+    // Counts a call, and lets a request wait on a link, unless the call fails.
+    fn put(
+        &mut self,
+        alloc: Global,
+        link: &mut MemoryLink,
+        request: &Request,
+    ) -> Result<(), DeskFail>
+        requires { is_file_name request.now.file ≡ true }
+        ensures failed { IsErrOf result DeskFail.Failed ↔ IsTrue (next_fails self.old.log) }
+        ensures kept { OnErr result (link.new ≡ link.old) }
+        ensures not { OnErr result (self.new ≡ called (next_fails self.old.log) self.old) }
+        ensures waits { OnOk result (link.new ≡ record link.old { waiting = Some request.now }) }
+        ensures after { OnOk result (self.new ≡ and_sends (called false self.old) (sent_over link.old.made_for request.now)) }
+    {
+        if self.call_fails() {
+            return Err(DeskFail::Failed);
+        }
+        let waiting = request.copy(alloc)?;
+        self.add(alloc, link.made_for(), request)?;
+        link.wait_for(waiting);
+        Ok(())
+    }
+
     // The reply to the request that waits, by the daemon or by the lie at this call. The call isn't counted here.
     fn reply(&mut self, alloc: Global, link: &mut MemoryLink) -> Result<Reply, DeskFail>
         ensures same { self.new ≡ self.old }
         ensures link { link.new ≡ record link.old { waiting = None } }
+        ensures fails { IsTrue (next_fails self.old.log) → IsErrOf result DeskFail.Failed }
         ensures reply { IfOk result (λ reply. IfSome link.old.waiting (λ request. IsReplyTo (known_files self.old) request reply)) }
     {
         let Some(request) = link.take_waiting() else {
@@ -126,6 +151,13 @@ impl MemoryDesk {
     }
 }
 
+// Whether the call that gave this answer failed.
+fn is_fault<T>(answer: &Result<T, DeskFail>) -> bool
+    ensures { result ≡ is_fault answer.now }
+{
+    matches!(answer, Err(DeskFail::Failed))
+}
+
 impl Files for MemoryDesk {
     ghost use Rattle.std.specs.Prelude.{◌≡◌};
     ghost use Rattle.file_access.specs.Calls.{next_fails};
@@ -150,7 +182,7 @@ impl Files for MemoryDesk {
 }
 
 impl Desk for MemoryDesk {
-    ghost use Rattle.std.specs.Prelude.{Some};
+    ghost use Rattle.std.specs.Prelude.{Some, refl};
     ghost use Rattle.std.proofs.Common.{rules};
 
     type Link = MemoryLink;
@@ -161,9 +193,11 @@ impl Desk for MemoryDesk {
 
     ghost waiting = { λ link. link.waiting };
 
+    ghost broken = { λ link. link.broken };
+
     fn start(&mut self, alloc: Global, asked: &Requirements) -> Result<MemoryLink, DeskFail>
         ensures failed { IsErrOf result DeskFail.Failed ↔ IsTrue (next_fails self.old.log) }
-        ensures link { IfOk result (λ link. link ≡ record { made_for = asked.now; waiting = None }) }
+        ensures link { IfOk result (λ link. link ≡ new_link asked.now) }
         ensures after { self.new ≡ called (next_fails self.old.log) self.old }
     {
         if self.call_fails() {
@@ -180,31 +214,41 @@ impl Desk for MemoryDesk {
     ) -> Result<(), DeskFail>
         requires { is_file_name request.now.file ≡ true }
         ensures failed { IsErrOf result DeskFail.Failed ↔ IsTrue (next_fails self.old.log) }
-        ensures kept { OnErr result (link.new ≡ link.old) }
+        ensures broken { OnErr result (link.new ≡ record link.old { broken = true }) }
         ensures not { OnErr result (self.new ≡ called (next_fails self.old.log) self.old) }
         ensures waits { OnOk result (link.new ≡ record link.old { waiting = Some request.now }) }
         ensures after { OnOk result (self.new ≡ and_sends (called false self.old) (sent_over link.old.made_for request.now)) }
     {
-        if self.call_fails() {
-            return Err(DeskFail::Failed);
+        let sent = self.put(alloc, link, request);
+        if sent.is_err() {
+            link.break_off();
         }
-        let waiting = request.copy(alloc)?;
-        self.add(alloc, link.made_for(), request)?;
-        link.wait_for(waiting);
-        Ok(())
+        sent
     }
 
-    fn receive(&mut self, alloc: Global, link: &mut MemoryLink) -> Result<Reply, DeskFail> {
+    fn receive(&mut self, alloc: Global, link: &mut MemoryLink) -> Result<Reply, DeskFail>
+        ensures failed { IsTrue (next_fails self.old.log) → IsErrOf result DeskFail.Failed }
+        ensures reply { IfOk result (λ reply. IfSome link.old.waiting (λ request. IsReplyTo (known_files self.old) request reply)) }
+        ensures link { OnOk result (link.new ≡ record link.old { waiting = None }) }
+        ensures broken { OnErr result (link.new ≡ record link.old { waiting = None; broken = true }) }
+        ensures after { self.new ≡ called (is_fault result) self.old }
+    {
         let reply = self.reply(alloc, link);
-        self.calls.add(matches!(reply, Err(DeskFail::Failed)));
+        if reply.is_err() {
+            link.break_off();
+        }
+        self.calls.add(is_fault(&reply));
         reply
     }
 
-    fn stop(&mut self, _link: MemoryLink)
+    fn stop(&mut self, link: MemoryLink)
         ensures { self.new ≡ called false self.old }
     {
+        link.end();
         self.calls.add(false);
     }
+
+    ghost settled_links = { λ _. refl };
 
     ghost reads_send_nothing = { Prim.search rules };
 }

@@ -13,22 +13,12 @@ use Rattle.daemon_manager.specs.declared.idle.TheConstants.{MAX_IDLE_DAEMONS}
 use Rattle.daemon_manager.specs.Events.{daemon_of, started_with, started, DaemonView, pool, idle, IsBusy, IsLegal}
 use Rattle.daemon_manager.specs.LedgerView.{one_if_busy}
 use Rattle.daemon_manager.specs.PoolView.{IsPool}
-use Rattle.daemon_manager.proofs.Order.{Some-is}
+use Rattle.daemon_manager.proofs.Order.{Some-is, length-mapped, map-remove}
 use Rattle.daemon_manager.proofs.IdleKept.{stood, differ}
 use Rattle.daemon_manager.proofs.LedgerKept.{None-is-not}
 use Rattle.daemon_manager.proofs.Appending.{pool_other, pool_same, pool_before, pool_next, next_is_none}
 use Rattle.daemon_manager.proofs.Ordering.{left_by, released, idle_more, idle_distinct, left_all, left_one}
 use Rattle.daemon_manager.proofs.Legality.{legal_more}
-
-map-remove : {X Y : Type 0} (f : X → Y) (xs : List X) (i : ℕ) → map f (remove xs i) ≡ remove (map f xs) i
-map-remove f [] zero = refl
-map-remove f [] (suc i) = refl
-map-remove f (x ∷ xs) zero = refl
-map-remove f (x ∷ xs) (suc i) = ap (λ ys. f x ∷ ys) (map-remove f xs i)
-
-length-mapped : {X Y : Type 0} (f : X → Y) (xs : List X) → length (map f xs) ≡ length xs
-length-mapped f [] = refl
-length-mapped f (x ∷ xs) = ap suc (length-mapped f xs)
 
 pub first_and_rest : {X : Type 0} (xs : List X) (x : X) → slice_get xs 0 ≡ Some x → xs ≡ x ∷ remove xs 0
 first_and_rest [] x there = absurd (None-is-not there)
@@ -38,6 +28,14 @@ pub split_at : {X : Type 0} (xs : List X) (i : ℕ) (x : X) → slice_get xs i �
 split_at [] i x there = absurd (None-is-not there)
 split_at (y ∷ ys) zero x there = ap (λ z. z ∷ ys) (Some-is there)
 split_at (y ∷ ys) (suc i) x there = ap (λ zs. y ∷ zs) (split_at ys i x there)
+
+-- what holds of all holds of those that are left
+pub All-left : {X : Type 0} (P : X → Type 0) (xs : List X) (i : ℕ) → i < length xs → All P xs → All P (remove xs i)
+All-left P xs i within all k d left = let from = stood xs i k d within left in subst P (sym from.2.1) (all from.0 d from.1)
+
+-- what holds of all holds of the one at a place
+pub All-there : {X : Type 0} (P : X → Type 0) (xs : List X) (i : ℕ) (x : X) → slice_get xs i ≡ Some x → All P xs → P x
+All-there P xs i x there all = subst P (get_or_from_slice_get xs i x x there) (all i x (slice_get_within xs i x there))
 
 idle_not_busy : {q r : RequirementsView} → ◌≡◌ {A = Option DaemonView} (Some (record { requirements = q; state = Idle })) (Some (record { requirements = r; state = Busy })) → ⊥
 idle_not_busy e = omega (arith, ap (λ (v : DaemonView). one_if_busy v.state) (Some-is e))
@@ -115,7 +113,7 @@ module _ {L : Type 0} (made_for : L → RequirementsView) where
           let numbers : (j : ℕ) (d : ℕ) (i : IdleDaemon L) → j < length held → get_or (idle events) j d ≡ (get_or held j i).daemon = λ j d i within.
           get_or_from_slice_get (idle events) j _ d (ap (λ xs. slice_get xs j) (sym agrees.numbers) ∙ slice_get-map (λ (i : IdleDaemon L). i.daemon) held j ∙ ap (λ o. Rattle.std.specs.Prelude.option_map (λ (i : IdleDaemon L). i.daemon) o) (slice_get-get_or held j i within)) in
           let long : length (idle events) ≡ length held = ap length (sym agrees.numbers) ∙ length-mapped (λ (i : IdleDaemon L). i.daemon) held in
-          differ (idle events) place from.0 h.daemon (idle_distinct events) (omega (arith, long, within_held)) (omega (arith, long, from.1)) from.2.0
+          differ (λ x. x) (idle events) place from.0 h.daemon (idle_distinct events) (omega (arith, long, within_held)) (omega (arith, long, from.1)) from.2.0
           (numbers from.0 h.daemon i from.1 ∙ ap (λ (x : IdleDaemon L). x.daemon) (sym from.2.1) ∙ same ∙ sym (get_or_from_slice_get (idle events) place h.daemon h.daemon number_there))
 
       -- an event about an idle daemon that isn't released

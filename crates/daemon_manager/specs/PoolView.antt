@@ -1,5 +1,5 @@
 -- A pool: all that happened, and the links to the idle daemons.
-use Rattle.std.specs.Prelude.{◌≡◌, ◌+◌, ◌≤◌, ℕ, List, length, map, All, Some}
+use Rattle.std.specs.Prelude.{◌≡◌, ◌+◌, ◌≤◌, ℕ, Bool, true, List, length, map, All, Some}
 use Rattle.daemon_requirements.specs.RequirementsView.{RequirementsView}
 use Rattle.daemon_manager.specs.declared.events.Event.{Event}
 use Rattle.daemon_manager.specs.declared.events.DaemonState.TheVariants.{Busy, Idle}
@@ -26,6 +26,10 @@ module _ {L : Type 0} (made_for : L → RequirementsView) where
   -- the reserved daemon is this pool's: it is busy here, and its link is made for what it was started with
   abbrev pub IsOf : PoolView L → Reserved L → Type 0
   IsOf p r = pool p.events r.daemon ≡ Some (record { requirements = made_for r.link; state = Busy })
+
+-- nothing failed on the links of the idle daemons, and no reply is due on them
+abbrev pub AreSettled : {L : Type 0} → (L → Bool) → List (IdleDaemon L) → Type 0
+AreSettled settled daemons = All (λ i. settled i.link ≡ true) daemons
 
 -- what a pool keeps beside what contracts see: there is room for the events that its daemons may still need, two of
 -- each busy one and one of each idle one

@@ -1,5 +1,5 @@
 //! A pool of daemons: what happened to all, and the links to the idle ones.
-ghost use Rattle.std.specs.Prelude.{◌≡◌, ◌+◌, ◌<◌, ◌^◌, [], IfOk, IfErr, OnErr, length};
+ghost use Rattle.std.specs.Prelude.{◌≡◌, ◌+◌, ◌<◌, ◌^◌, [], IfOk, IfErr, IfSome, OnErr, false, length, true};
 ghost use Rattle.daemon_manager.specs.Calls.{Adopts, FailsOrNot, Releases, ReservesOrNot, StopsOrNot};
 ghost use Rattle.daemon_manager.specs.Events.{NoneIdle, IsLegal, idle};
 ghost use Rattle.daemon_manager.specs.PoolView.{HasRoom, IsPool};
@@ -13,8 +13,7 @@ use std::alloc::{AllocError, Global};
 use std::marker::Model;
 
 /// The daemons of a run, by what happened to them. The pool holds the links to the idle ones itself, so nobody
-/// else has one.
-#[derive(Drop)]
+/// else has one. It can't be dropped: it ends by `into_events`, once no daemon is idle.
 pub struct Pool<L: Linked> {
     ledger: Ledger,
     idle: IdleDaemons<L>,
@@ -22,16 +21,17 @@ pub struct Pool<L: Linked> {
 
 impl<L: Linked> Model for Pool<L> {
     ghost use Rattle.std.specs.Prelude.{length};
-    ghost use Rattle.daemon_manager.specs.PoolView.{PoolView, HasRoom, IsPool};
+    ghost use Rattle.daemon_manager.specs.PoolView.{PoolView, AreSettled, HasRoom, IsPool};
 
     ghost Value = { PoolView L };
 
     ghost view = { λ p. record { events = p.ledger.events; idle = p.idle } };
 
-    ghost invariant = { λ p. IsPool L.requirements (record { events = p.ledger.events; idle = p.idle }) × HasRoom p.ledger (length p.idle) };
+    ghost invariant = { λ p. IsPool L.requirements (record { events = p.ledger.events; idle = p.idle })
+        × HasRoom p.ledger (length p.idle) × AreSettled L.settled p.idle };
 }
 
-impl<L: Linked + Drop> Pool<L> {
+impl<L: Linked> Pool<L> {
     /// A pool to which nothing has happened. The error is want of memory alone.
     pub fn new(alloc: Global) -> Result<Pool<L>, AllocError>
         ensures events { IfOk result (λ p. p.events ≡ []) }
@@ -42,14 +42,16 @@ impl<L: Linked + Drop> Pool<L> {
         Ok(Pool { ledger, idle })
     }
 
-    /// Reserves for the unit, of the idle daemons that cover what is asked, the one that was released last. It gives
-    /// None, and changes nothing, exactly where none covers. The error is want of memory alone, and changes nothing.
+    /// Reserves for the unit, of the idle daemons that cover what is asked, the one that was released last. Its link is
+    /// settled. It gives None, and changes nothing, exactly where none covers. The error is want of memory alone, and
+    /// changes nothing.
     pub fn reserve_idle(
         &mut self,
         unit: u32,
         asked: &Requirements,
     ) -> Result<Option<Reserved<L>>, AllocError>
         ensures reserved { IfOk result (ReservesOrNot L.requirements self.old self.new asked.now unit) }
+        ensures settled { IfOk result (λ found. IfSome found (λ reserved. L.settled reserved.link ≡ true)) }
         ensures no_memory { OnErr result (self.new ≡ self.old) }
     {
         let Some(place) = self.idle.last_covering(asked) else {
@@ -83,10 +85,11 @@ impl<L: Linked + Drop> Pool<L> {
         Ok(Reserved { daemon, unit, link })
     }
 
-    /// Takes a daemon back, which becomes the last released one. Where `MAX_IDLE_DAEMONS` were idle before, the first of
-    /// them is stopped: its link is given, for the caller to stop. The link of a value that isn't this pool's comes back,
-    /// and nothing changes. It takes no memory.
+    /// Takes a daemon back, which becomes the last released one. Its link has to be settled. Where `MAX_IDLE_DAEMONS` were
+    /// idle before, the first of them is stopped: its link is given, for the caller to stop. The link of a value that isn't
+    /// this pool's comes back, and nothing changes. It takes no memory.
     pub fn release(&mut self, reserved: Reserved<L>) -> Option<L>
+        requires { L.settled reserved.link ≡ true }
         ensures { Releases L.requirements self.old self.new reserved result }
     {
         let asked = reserved.link.made_for();
@@ -109,9 +112,10 @@ impl<L: Linked + Drop> Pool<L> {
         Some(link)
     }
 
-    /// Takes note that a daemon failed its unit: it is never idle again. Its link is given, for the caller to stop. The
-    /// link of a value that isn't this pool's comes back, and nothing changes. It takes no memory.
+    /// Takes note that a daemon failed its unit: it is never idle again. Its link isn't settled, and is given, for the
+    /// caller to stop. The link of a value that isn't this pool's comes back, and nothing changes. It takes no memory.
     pub fn fail(&mut self, reserved: Reserved<L>) -> L
+        requires { L.settled reserved.link ≡ false }
         ensures { FailsOrNot L.requirements self.old self.new reserved result }
     {
         let asked = reserved.link.made_for();
@@ -163,7 +167,9 @@ impl<L: Linked + Drop> Pool<L> {
         ensures legal { IsLegal result.items }
         ensures none_idle { NoneIdle result.items }
     {
-        self.ledger.into_events()
+        let Pool { ledger, idle } = self;
+        idle.destroy_empty();
+        ledger.into_events()
     }
 }
 

@@ -2,8 +2,8 @@ ghost use Rattle.std.specs.Prelude.{◌≡◌};
 ghost use Rattle.std.specs.Borrow.{sem};
 ghost use Rattle.daemon_manager.specs.Lending.{lends_link};
 
-/// A daemon that works for a unit, with the link to it. Who has the value owns the link.
-#[derive(Drop)]
+/// A daemon that works for a unit, with the link to it. Who has the value owns the link, and has to give it back: the value
+/// can't be dropped, and only the pool takes it apart, by `release` and by `fail`.
 pub struct Reserved<L> {
     pub(crate) daemon: u64,
     pub(crate) unit: u32,

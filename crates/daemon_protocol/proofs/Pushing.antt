@@ -7,7 +7,7 @@ use Rattle.daemon_protocol.specs.declared.starts.StreamStart.TheVariants.{Refuse
 use Rattle.daemon_protocol.specs.declared.starts.Flaw.TheVariants.{Field}
 use Rattle.daemon_protocol.specs.StreamStart.{look, look_field, Cuts}
 use Rattle.daemon_protocol.specs.DecoderView.{IsPushed}
-use Rattle.daemon_protocol.proofs.Settled.{cuts_more}
+use Rattle.daemon_protocol.proofs.lemmas.Settled.{cuts_more}
 use Rattle.daemon_protocol.proofs.Starting.{rest}
 
 pub pushed : (bytes : List ℕ) (at n : ℕ) (o : Option Frame) (before after : List Frame) (is : Bool) → is ≡ true → IsPushed o before after is

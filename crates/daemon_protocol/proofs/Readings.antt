@@ -9,7 +9,7 @@ use Rattle.daemon_protocol.specs.declared.frames.Frame.{Frame}
 use Rattle.daemon_protocol.specs.declared.frames.FrameRefusal.{FrameRefusal}
 use Rattle.daemon_protocol.specs.declared.starts.Flaw.{Flaw}
 use Rattle.daemon_protocol.specs.declared.starts.StreamStart.TheVariants.{Unfinished, Refused}
-use Rattle.daemon_protocol.proofs.Settled.{settles, cuts_longer, cuts_piece}
+use Rattle.daemon_protocol.proofs.lemmas.Settled.{settles, cuts_longer, cuts_piece}
 
 pub reads_nothing : Reads [] [] nothing_read
 reads_nothing = record { rest = []; cuts = nothing []; place = omega arith; end = (refl, refl) }

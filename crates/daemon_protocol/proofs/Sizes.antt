@@ -9,7 +9,7 @@ use Rattle.daemon_protocol.specs.declared.starts.StreamStart.TheVariants.{Unfini
 use Rattle.daemon_protocol.specs.declared.starts.Flaw.TheVariants.{Length, Tag}
 use Rattle.daemon_protocol.specs.Bodies.{frame_of}
 use Rattle.daemon_protocol.specs.StreamStart.{look, look_length, look_body, look_field}
-use Rattle.daemon_protocol.proofs.Settled.{enough, fits_body}
+use Rattle.daemon_protocol.proofs.lemmas.Settled.{enough, fits_body}
 
 -- the length of the body, by the bytes behind the tag
 abbrev pub body_len : List ℕ → ℕ

@@ -16,10 +16,10 @@ use Rattle.daemon_protocol.specs.declared.frames.Frame.TheVariants.{Request, Rep
 use Rattle.daemon_protocol.specs.declared.frames.Request.{Request as Asked}
 use Rattle.daemon_protocol.specs.declared.starts.StreamStart.{StreamStart}
 use Rattle.daemon_protocol.specs.declared.starts.StreamStart.TheVariants.{Unfinished, Whole, Refused}
-use Rattle.daemon_protocol.proofs.Settled.{cuts_longer, cuts_piece}
+use Rattle.daemon_protocol.proofs.lemmas.Settled.{cuts_longer, cuts_piece}
 use Rattle.file_access.specs.SinkView.{SinkView, Rises, Wrote, Broke}
 use Rattle.file_access.specs.SourceView.{SourceView}
-use Rattle.file_access.proofs.Printing.{wrote_nothing, wrote_then, broke_then}
+use Rattle.file_access.proofs.lemmas.Printing.{wrote_nothing, wrote_then, broke_then}
 use Rattle.daemon_server.specs.Answer.{Answer, asked, reply, replies, IsHonestAnswer, IsWorkedOut}
 use Rattle.item_actions.specs.Value.{is_fault}
 use Rattle.daemon_server.specs.declared.serving.TheConstants.{MAX_STREAM_BYTES}

@@ -7,7 +7,7 @@ use Rattle.std.specs.Io.KnownBytes.{Consumes, IsAtEnd, Keeps}
 use Rattle.daemon_protocol.specs.StreamStart.{look}
 use Rattle.daemon_protocol.specs.declared.frames.Frame.{Frame}
 use Rattle.daemon_protocol.specs.declared.starts.StreamStart.TheVariants.{Whole}
-use Rattle.daemon_protocol.proofs.Settled.{fits}
+use Rattle.daemon_protocol.proofs.lemmas.Settled.{fits}
 use Rattle.file_access.specs.SourceView.{SourceView}
 use Rattle.daemon_server.specs.Taking.{Takes, TakesBehind}
 

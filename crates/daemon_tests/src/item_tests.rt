@@ -1,15 +1,15 @@
-//! Tests of `daemon_items`: items on a.txt that daemons in memory work out, one after the other.
-ghost use Rattle.std.specs.Prelude.{◌≡◌, IfOk, true};
+//! Tests of `item_work`: items on a.txt that daemons in memory work out, one after the other.
+ghost use Rattle.std.specs.Prelude.{◌≡◌, [], IfOk, true};
 ghost use Rattle.item_actions.specs.Forms.{is_file_name};
 
 use crate::asked::requirements_of;
 use crate::lines::{add_events, add_outcome, check};
 use crate::memory_desks::desk;
 use daemon_desk::Desk;
-use daemon_items::{PoolLock, work_in_daemon};
-use daemon_manager::Pool;
+use daemon_manager::{Event, Pool};
 use daemon_requirements::{Isolation, Work};
 use item_actions::{ItemAction, Text, is_file_name};
+use item_work::{PoolLock, work_in_daemon};
 use std::alloc::{AllocError, Global};
 use std::process::Abort;
 use std::sync::{Mutex, Wait};
@@ -65,23 +65,19 @@ fn add_items<R: Wait + Abort, D: Desk>(
 }
 
 /// Stops the idle daemons.
-fn stop_idle<D: Desk>(desk: &mut D, pool: &mut Pool<D::Link>) {
-    for _ in 0..pool.idle() {
-        if let Some(link) = pool.stop_idle() {
-            desk.stop(link);
-        }
+fn stop_idle<D: Desk>(desk: &mut D, pool: &mut Pool<D::Link>)
+    ensures { pool.new.idle ≡ [] }
+{
+    while let Some(link) = pool.stop_idle() {
+        desk.stop(link);
     }
 }
 
-/// Stops the idle daemons, and tells all events.
-fn add_end<D: Desk>(
-    desk: &mut D,
-    pool: &mut Pool<D::Link>,
-    line: &mut String,
-) -> Result<(), AllocError> {
-    stop_idle(desk, pool);
-    add_events(pool.events(), line)?;
-    write!(line, "{} idle", pool.idle())
+/// Stops the idle daemons, and gives all events.
+fn close<D: Desk>(desk: &mut D, pool: PoolLock<D::Link>) -> Vec<Event> {
+    let mut pool = pool.into_inner();
+    stop_idle(desk, &mut pool);
+    pool.into_events()
 }
 
 /// The outcomes of these items on a new pool, and all events.
@@ -93,8 +89,10 @@ fn add_run<R: Wait + Abort, D: Desk>(
     line: &mut String,
 ) -> Result<(), AllocError> {
     let pool = Mutex::new(Pool::new(alloc)?);
-    add_items(rt, alloc, desk, &pool, heaps, line)?;
-    add_end(desk, &mut pool.into_inner(), line)
+    let added = add_items(rt, alloc, desk, &pool, heaps, line);
+    let events = close(desk, pool);
+    added?;
+    add_events(&events, line)
 }
 
 /// Calls of the desk that fail, a lie in place of the first reply, the heaps that items ask for, and what comes of them.
@@ -111,7 +109,7 @@ fn check_run<R: Wait + Abort>(rt: &R, alloc: Global, row: &Row) -> Result<(), Al
     let mut desk = desk(alloc, failing, lie)?;
     let mut line = String::new(alloc);
     add_run(rt, alloc, &mut *desk, heaps, &mut line)?;
-    write!(line, ", {} failed", desk.count())?;
+    write!(line, "{} failed", desk.count())?;
     check(rt, &line, expected);
     Ok(())
 }
@@ -124,19 +122,17 @@ fn check_rows<R: Wait + Abort>(rt: &R, alloc: Global, rows: &[Row]) -> Result<()
 }
 
 const ANSWERED: &str =
-    "3. 14. started 0. reserved 0 for 0. released 0. reserved 0 for 1. released 0. stopped 0. 0 idle, 0 failed";
+    "3. 14. started 0. reserved 0 for 0. released 0. reserved 0 for 1. released 0. stopped 0. 0 failed";
 
-const NOT_STARTED: &str =
-    "fault. 14. started 0. reserved 0 for 1. released 0. stopped 0. 0 idle, 1 failed";
+const NOT_STARTED: &str = "fault. 14. started 0. reserved 0 for 1. released 0. stopped 0. 1 failed";
 
 const FIRST_FAILED: &str =
-    "fault. 14. started 0. reserved 0 for 0. failed 0. started 1. reserved 1 for 1. released 1. stopped 1. 0 idle, 1 failed";
+    "fault. 14. started 0. reserved 0 for 0. failed 0. started 1. reserved 1 for 1. released 1. stopped 1. 1 failed";
 
 const SECOND_FAILED: &str =
-    "3. fault. started 0. reserved 0 for 0. released 0. reserved 0 for 1. failed 0. 0 idle, 1 failed";
+    "3. fault. started 0. reserved 0 for 0. released 0. reserved 0 for 1. failed 0. 1 failed";
 
-const NEITHER_ANSWERED: &str =
-    "fault. fault. started 0. reserved 0 for 0. failed 0. 0 idle, 2 failed";
+const NEITHER_ANSWERED: &str = "fault. fault. started 0. reserved 0 for 0. failed 0. 2 failed";
 
 // Two items that ask for the same.
 const TWO: &[u32] = &[512, 512];
@@ -199,7 +195,7 @@ static WITHOUT_MEMORY: Row = (
     &[],
     Some(b"\x02\0\0\0\x05\0\0\0\0\x06"),
     TWO,
-    "no memory. 14. started 0. reserved 0 for 0. released 0. reserved 0 for 1. released 0. stopped 0. 0 idle, 0 failed",
+    "no memory. 14. started 0. reserved 0 for 0. released 0. reserved 0 for 1. released 0. stopped 0. 0 failed",
 );
 
 #[test]
@@ -208,7 +204,7 @@ fn a_daemon_without_memory_is_used_again(rt: HostRuntime) -> Result<(), AllocErr
 }
 
 const SMALLER_FIRST: &str =
-    "3. 14. started 0. reserved 0 for 0. released 0. started 1. reserved 1 for 1. released 1. stopped 0. stopped 1. 0 idle, 0 failed";
+    "3. 14. started 0. reserved 0 for 0. released 0. started 1. reserved 1 for 1. released 1. stopped 0. stopped 1. 0 failed";
 
 static COVERING: [Row; 2] = [
     (&[], None, &[512, 1024], SMALLER_FIRST),
@@ -232,7 +228,7 @@ macro_rules! nine {
             "started 4. reserved 4 for 4. released 4. started 5. reserved 5 for 5. released 5. ",
             "started 6. reserved 6 for 6. released 6. started 7. reserved 7 for 7. released 7. ",
             "started 8. reserved 8 for 8. released 8. stopped 0. stopped 1. stopped 2. stopped 3. ",
-            "stopped 4. stopped 5. stopped 6. stopped 7. stopped 8. 0 idle, ",
+            "stopped 4. stopped 5. stopped 6. stopped 7. stopped 8. ",
             $failed
         )
     };

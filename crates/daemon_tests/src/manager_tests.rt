@@ -1,8 +1,10 @@
 //! Tests of `daemon_manager`: callers of the pool, whose links are the requirements that they are made for.
+ghost use Rattle.std.specs.Prelude.{◌≡◌, [], IfOk, true};
+
 use crate::asked::requirements_of;
 use crate::lines::{add_events, check};
 use crate::requirement_tests::{Link, heap_of};
-use daemon_manager::{DaemonState, Pool, Reserved};
+use daemon_manager::{DaemonState, Event, Pool, Reserved};
 use daemon_requirements::{Linked, Requirements};
 use std::alloc::{AllocError, Global};
 use std::process::Abort;
@@ -12,9 +14,12 @@ fn start(
     pool: &mut Pool<Link>,
     unit: u32,
     asked: Requirements,
-) -> Result<Reserved<Link>, AllocError> {
-    let link = Link(asked.copy(alloc)?);
-    match pool.adopt(link, asked, unit) {
+) -> Result<Reserved<Link>, AllocError>
+    ensures { IfOk result (λ reserved. reserved.link.settled ≡ true) }
+{
+    let made_for = asked.copy(alloc)?;
+    let settled = true;
+    match pool.adopt(Link { made_for, settled }, asked, unit) {
         Ok(reserved) => Ok(reserved),
         Err(_) => Err(AllocError),
     }
@@ -26,7 +31,9 @@ fn take(
     pool: &mut Pool<Link>,
     unit: u32,
     heap_mb: u32,
-) -> Result<Reserved<Link>, AllocError> {
+) -> Result<Reserved<Link>, AllocError>
+    ensures { IfOk result (λ reserved. reserved.link.settled ≡ true) }
+{
     let asked = requirements_of(alloc, heap_mb)?;
     match pool.reserve_idle(unit, &asked)? {
         Some(reserved) => Ok(reserved),
@@ -41,23 +48,37 @@ fn work(alloc: Global, pool: &mut Pool<Link>, unit: u32, heap_mb: u32) -> Result
     Ok(())
 }
 
-/// Stops the idle daemons, and tells the events.
-fn add_end<L: Linked + Drop>(mut pool: Pool<L>, line: &mut String) -> Result<(), AllocError> {
-    for _ in 0..pool.idle() {
-        let _ = pool.stop_idle();
+/// Stops the idle daemons.
+fn stop_idle<L: Linked + Drop>(pool: &mut Pool<L>)
+    ensures { pool.new.idle ≡ [] }
+{
+    while let Some(link) = pool.stop_idle() {
+        drop(link);
     }
-    if pool.idle() > 0 {
-        return line.push_str("a daemon is idle");
-    }
-    add_events(&pool.into_events(), line)
+}
+
+/// Stops the idle daemons, and gives the events.
+fn close<L: Linked + Drop>(mut pool: Pool<L>) -> Vec<Event> {
+    stop_idle(&mut pool);
+    pool.into_events()
+}
+
+fn work_twice(
+    alloc: Global,
+    pool: &mut Pool<Link>,
+    [first, last]: [u32; 2],
+) -> Result<(), AllocError> {
+    work(alloc, pool, 0, first)?;
+    work(alloc, pool, 1, last)
 }
 
 /// What happens to the daemons of two units that ask for these heaps.
-fn add_two(alloc: Global, [first, last]: [u32; 2], line: &mut String) -> Result<(), AllocError> {
+fn add_two(alloc: Global, heaps: [u32; 2], line: &mut String) -> Result<(), AllocError> {
     let mut pool = Pool::new(alloc)?;
-    work(alloc, &mut pool, 0, first)?;
-    work(alloc, &mut pool, 1, last)?;
-    add_end(pool, line)
+    let worked = work_twice(alloc, &mut pool, heaps);
+    let events = close(pool);
+    worked?;
+    add_events(&events, line)
 }
 
 fn check_two(
@@ -90,7 +111,7 @@ fn is_first(reserved: &mut Reserved<Link>) -> bool {
 }
 
 /// Whether the daemon that failed last isn't idle.
-fn has_failed<L: Linked + Drop>(pool: &Pool<L>) -> bool {
+fn has_failed<L: Linked>(pool: &Pool<L>) -> bool {
     match pool.events().last() {
         Some(event) => pool.idle() == 0 && matches!(event.state(), DaemonState::Failed),
         None => false,
@@ -101,6 +122,7 @@ fn has_failed<L: Linked + Drop>(pool: &Pool<L>) -> bool {
 fn fails(alloc: Global, pool: &mut Pool<Link>) -> Result<bool, AllocError> {
     let mut reserved = take(alloc, pool, 7, 512)?;
     let is_first = is_first(&mut reserved);
+    reserved.link().settled = false;
     let link = pool.fail(reserved);
     Ok(is_first && heap_of(&link) == 512 && has_failed(pool))
 }
@@ -108,6 +130,8 @@ fn fails(alloc: Global, pool: &mut Pool<Link>) -> Result<bool, AllocError> {
 #[test]
 fn a_reserved_daemon_fails_and_is_not_used_again(rt: HostRuntime) -> Result<(), AllocError> {
     let mut pool = Pool::new(rt.alloc())?;
-    assert!(rt; fails(rt.alloc(), &mut pool)?);
+    let failed = fails(rt.alloc(), &mut pool);
+    let _ = close(pool);
+    assert!(rt; failed?);
     Ok(())
 }

@@ -170,15 +170,20 @@ fn a_copy_has_the_same_fields(rt: HostRuntime) -> Result<(), AllocError> {
     Ok(())
 }
 
-/// A link that is nothing but the requirements that it is made for.
+/// A link that is nothing but the requirements that it is made for, and whether it is settled.
 #[derive(Drop)]
-pub(crate) struct Link(pub(crate) Requirements);
+pub(crate) struct Link {
+    pub(crate) made_for: Requirements,
+    pub(crate) settled: bool,
+}
 
 impl Linked for Link {
-    ghost requirements = { λ link. link.0 };
+    ghost requirements = { λ link. link.made_for };
+
+    ghost settled = { λ link. link.settled };
 
     fn made_for(&self) -> &Requirements {
-        &self.0
+        &self.made_for
     }
 }
 
@@ -189,7 +194,10 @@ pub(crate) fn heap_of<L: Linked>(link: &L) -> u32 {
 
 #[test]
 fn a_link_tells_what_it_is_made_for(rt: HostRuntime) -> Result<(), AllocError> {
-    let link = Link(requirements(rt.alloc(), &PLAIN)?);
+    let link = Link {
+        made_for: requirements(rt.alloc(), &PLAIN)?,
+        settled: true,
+    };
     assert!(rt; heap_of(&link) == 512);
     Ok(())
 }

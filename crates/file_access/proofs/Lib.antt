@@ -1,4 +1,3 @@
+pub mod lemmas
 mod Digits
 mod Gathering
-pub mod Printing
-pub mod Telling

@@ -1,4 +1,4 @@
-//! Tests of `item_actions`, `file_access`, `history_text` and `history_reader`.
+//! Tests of `item_actions`, `file_access`, `history_text`, `history_reader` and `history_check`.
 #![tactic(auto)]
 
 #[cfg(test)]
@@ -7,6 +7,8 @@ mod file_access_tests;
 mod folder_tests;
 #[cfg(test)]
 mod gate_tests;
+#[cfg(test)]
+mod history_check_tests;
 #[cfg(test)]
 mod history_reader_tests;
 #[cfg(test)]

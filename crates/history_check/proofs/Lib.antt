@@ -4,5 +4,8 @@ pub mod Passing
 pub mod Steps
 pub mod OneAnswer
 pub mod Given
+pub mod Agreeing
+pub mod Decided
+pub mod OneByOne
 pub mod EndLines
 pub mod Rooms

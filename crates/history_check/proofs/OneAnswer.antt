@@ -14,10 +14,10 @@ use Rattle.history_text.specs.Text.{numbered, entry_text, end_text}
 use Rattle.history_reader.specs.HistoryView.{HistoryView}
 use Rattle.history_reader.specs.Lines.{is_unbroken, IsLine, first_line, next_number}
 use Rattle.history_reader.specs.Grammar.{HistoryFits, StopsInHead, StopsAt, head_of, lines_of, text_of}
-use Rattle.history_reader.proofs.Splits.{same_line}
-use Rattle.history_reader.proofs.LineLaws.{first_is_line}
-use Rattle.history_reader.proofs.TextLaws.{NoEntryAt, same_from, no_entry_at_end, text_parts, one_place}
-use Rattle.history_check.specs.Verdict.{IsFirstUnlawful, IsVerdict}
+use Rattle.history_reader.proofs.lemmas.Splits.{same_line}
+use Rattle.history_reader.proofs.lemmas.LineLaws.{first_is_line}
+use Rattle.history_reader.proofs.lemmas.TextLaws.{NoEntryAt, same_from, no_entry_at_end, text_parts, one_place}
+use Rattle.history_check.specs.Verdict.{IsFirstUnlawful, IsVerdict, IsAnswerTo}
 use Rattle.history_check.specs.Naming.{IsOtherLine, ArePassedOver, BeginsHistory, BreaksBehind, Names}
 use Rattle.history_check.specs.Checking.{AnswersHistory, AnswersBreak, IsAnswer}
 use Rattle.history_check.specs.declared.checks.Checked.{Checked}
@@ -26,10 +26,10 @@ use Rattle.history_check.proofs.Steps.{begins_first}
 
 -- ---- where the text begins
 
-abbrev Starts : List ℕ → Type 0
+abbrev pub Starts : List ℕ → Type 0
 Starts text = BeginsHistory text ⊎ (is_unbroken text ≡ true)
 
-line_is_broken : (line : List ℕ) → IsLine line → is_unbroken line ≡ true → ⊥
+pub line_is_broken : (line : List ℕ) → IsLine line → is_unbroken line ≡ true → ⊥
 line_is_broken line whole unbroken =
     let parts : (is_unbroken whole.front && is_unbroken (codes "\n")) ≡ true = sym (list_all-append (λ b. not (nat_eq b 10)) whole.front (codes "\n")) ∙ (ap is_unbroken (sym whole.is) ∙ unbroken) in
     false≢true (and_parts (is_unbroken whole.front) (is_unbroken (codes "\n")) parts).1
@@ -49,7 +49,7 @@ same_text (l ∷ ls) (k ∷ ks) s t a b begins begun is =
     same_text ls ks s t a.1 b.1 begins begun
     (same_line l (concat ls ++ s) k (concat ks ++ t) (inl a.0.whole) b.0.whole (sym (append_assoc l (concat ls) s) ∙ (is ∙ append_assoc k (concat ks) t))).rest
 
-named_text : (all passed other s t : List ℕ) → ArePassedOver passed → ArePassedOver other → Starts s → Starts t → all ≡ passed ++ s → all ≡ other ++ t → s ≡ t
+pub named_text : (all passed other s t : List ℕ) → ArePassedOver passed → ArePassedOver other → Starts s → Starts t → all ≡ passed ++ s → all ≡ other ++ t → s ≡ t
 named_text all passed other s t a b begins begun one two =
     same_text a.lines b.lines s t a.others b.others begins begun
     (ap (λ bs. bs ++ s) (sym a.is) ∙ (sym one ∙ (two ∙ ap (λ bs. bs ++ t) b.is)))
@@ -111,7 +111,7 @@ not_both : (g : GraphView) (es : List Entry) (n : ℕ) → lawful_from g (openin
 not_both g es n lawful first =
     first.refused (allowed_there g (opening_of g) first.before first.entry first.behind (subst (lawful_from g (opening_of g)) first.is lawful))
 
-one_verdict : (g : GraphView) (es : List Entry) (a b : Checked) → IsVerdict g es a → IsVerdict g es b → a ≡ b
+pub one_verdict : (g : GraphView) (es : List Entry) (a b : Checked) → IsVerdict g es a → IsVerdict g es b → a ≡ b
 one_verdict g es (checked.Lawful m) (checked.Lawful n) a b = ap checked.Lawful (a.1 ∙ sym b.1)
 one_verdict g es (checked.Lawful m) (checked.NotLawful n) a b = absurd (not_both g es n a.0 b)
 one_verdict g es (checked.NotLawful m) (checked.Lawful n) a b = absurd (not_both g es m b.0 a)
@@ -120,9 +120,6 @@ one_verdict g es (checked.NotLawful m) (checked.NotLawful n) a b =
     ap checked.NotLawful (a.number ∙ (ap (λ n. n + 1) same ∙ sym b.number))
 
 -- ---- answers
-
-abbrev verdict_of : PlanView → HistoryView → Checked → Type 0
-verdict_of p h a = IsVerdict (graph_of p h.workers h.max h.parallel) h.entries a
 
 starts_text : (h : HistoryView) (text more : List ℕ) → text ≡ text_of h → Starts (text ++ more)
 starts_text h text more is = subst Starts (ap (λ bs. bs ++ more) (sym is)) (inl (subst BeginsHistory (sym (with_end h more)) (begins_first h (end_text (length h.entries) ++ more))))
@@ -137,7 +134,7 @@ both_histories p all came more came' more' a b one two x y =
     (behind_names all more x.names one) (behind_names all more' y.names two) in
     let texts : text_of x.history ++ more ≡ text_of y.history ++ more' = ap (λ bs. bs ++ more) (sym x.names.history.is) ∙ (same ∙ ap (λ bs. bs ++ more') y.names.history.is) in
     let equal = same_history x.history y.history more more' x.names.history.fits y.names.history.fits texts in
-    one_verdict (graph_of p y.history.workers y.history.max y.history.parallel) y.history.entries a b (subst (λ h. verdict_of p h a) equal x.verdict) y.verdict
+    one_verdict (graph_of p y.history.workers y.history.max y.history.parallel) y.history.entries a b (subst (λ h. IsAnswerTo p h a) equal x.verdict) y.verdict
 
 history_or_break : (p : PlanView) (all came more : List ℕ) (a b : Checked) → all ≡ came ++ more → AnswersHistory p came a → AnswersBreak all b → ⊥
 history_or_break p all came more a b one x y =

@@ -1,5 +1,5 @@
 -- What was taken of an input, line by line.
-use Rattle.std.proofs.Common.{◌≡◌, ℕ, zero, suc, ◌+◌, ◌-◌, Bool, true, false, List, [], ◌∷◌, ◌++◌, length, take, length-append, Option, Some, None, refl, sym, ap, subst, ◌∙◌, append_assoc, append-nil, arith, inl, inr, ◌⊎◌}
+use Rattle.std.proofs.Common.{◌≡◌, ℕ, zero, suc, ◌+◌, ◌-◌, ◌<◌, Bool, true, false, List, [], ◌∷◌, ◌++◌, length, take, codes, length-append, Option, Some, None, refl, sym, ap, subst, ◌∙◌, append_assoc, append-nil, arith, inl, inr, ◌⊎◌}
 use Rattle.std.specs.List.{AllByRecursion, concat}
 use Rattle.std.specs.Io.KnownBytes.{Consumes}
 use Rattle.std.proofs.KnownBytes.{Consumes-nil, Consumes-trans}
@@ -9,10 +9,11 @@ use Rattle.history_reader.specs.Lines.{is_unbroken, IsLine, IsLineBefore, Begins
 use Rattle.history_check.specs.LinesView.{LinesView}
 use Rattle.history_check.specs.Taking.{Takes, TakesNext, IsOver, IsCutOff, EndsLine, LosesPiece}
 use Rattle.history_check.specs.Naming.{IsOtherLine, ArePassedOver}
-use Rattle.history_check.specs.Checking.{still_given, all_given, IsFront, Fails, HasTaken}
+use Rattle.history_check.specs.Checking.{still_given, all_given, IsFront, IsJustDecided, Fails, HasTaken}
 use Rattle.history_check.specs.declared.fails.CheckFail.{CheckFail}
 use Rattle.history_check.specs.declared.fails.CheckFail.TheVariants.{SourceFault, NoMemory}
 use Rattle.history_check.specs.declared.inputs.TheConstants.{MAX_INPUT_BYTES}
+use Rattle.history_check.specs.declared.lines.TheConstants.{MAX_PIECE}
 
 pub none_passed : ArePassedOver []
 none_passed = record { lines = []; others = tt; is = refl }
@@ -110,6 +111,32 @@ alone left lines (inr cut) = record { is = sym (append-nil lines.line); line_bef
 pub ends_either : (left : Option (List ℕ)) (lines : LinesView) (whole : Bool) → EndsLine left lines whole → IsLine lines.line ⊎ IsCutOff left lines
 ends_either left lines true ends = inl ends
 ends_either left lines false ends = inr ends
+
+-- ---- what was decided last
+
+-- the bytes behind a front, parted before the last of them
+parted : (passed front line ahead piece last : List ℕ) → line ++ ahead ≡ piece ++ last → passed ++ ((front ++ line) ++ ahead) ≡ (passed ++ (front ++ piece)) ++ last
+parted passed front line ahead piece last is =
+    ap (λ bs. passed ++ bs) (append_assoc front line ahead ∙ (ap (λ bs. front ++ bs) is ∙ sym (append_assoc front piece last)))
+    ∙ sym (append_assoc passed (front ++ piece) last)
+
+pub just_decided : {start now : SourceView} {is : LinesView} (front : List ℕ) (so_far : HasTaken start now is (front ++ is.line)) → IsFront front → IsLine is.line ⊎ IsCutOff now.left is → length is.ahead < MAX_PIECE
+    → IsJustDecided (so_far.passed ++ ((front ++ is.line) ++ is.ahead))
+just_decided {start} {now} {is} front so_far begun (inl whole) few = record {
+  before = so_far.passed ++ (front ++ whole.front);
+  last = codes "\n" ++ is.ahead;
+  undecided = record { passed = so_far.passed; over = so_far.over; front = front; begun = begun; piece = whole.front; unbroken = whole.unbroken; is = sym (append_assoc so_far.passed front whole.front) };
+  few = omega (arith, few, length-append (codes "\n") is.ahead);
+  is = parted so_far.passed front is.line is.ahead whole.front (codes "\n" ++ is.ahead)
+      (ap (λ bs. bs ++ is.ahead) whole.is ∙ append_assoc whole.front (codes "\n") is.ahead);
+}
+just_decided {start} {now} {is} front so_far begun (inr cut) few = record {
+  before = so_far.passed ++ (front ++ is.line);
+  last = is.ahead;
+  undecided = record { passed = so_far.passed; over = so_far.over; front = front; begun = begun; piece = is.line; unbroken = cut.unbroken; is = sym (append_assoc so_far.passed front is.line) };
+  few = omega (arith, few);
+  is = parted so_far.passed front is.line is.ahead is.line is.ahead refl;
+}
 
 -- a piece more was taken
 piece_taken : {start mid now : SourceView} {was : LinesView} (front piece : List ℕ) (so_far : HasTaken start mid was front) → Takes mid now was.room piece → Takes start now MAX_INPUT_BYTES (so_far.passed ++ (front ++ (was.ahead ++ piece)))

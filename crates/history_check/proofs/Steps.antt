@@ -7,10 +7,10 @@ use Rattle.history_text.specs.Text.{numbered, entry_text, end_text}
 use Rattle.history_reader.specs.HistoryView.{HistoryView}
 use Rattle.history_reader.specs.Lines.{is_unbroken, IsLine, IsLineBefore, AddsEntry, Ends, StopsIt, IsWrongAfter, Opens, OpensNone, first_line, second_line, next_number}
 use Rattle.history_reader.specs.Grammar.{HistoryFits, StopsInHead, StopsAt, head_of, lines_of}
-use Rattle.history_reader.proofs.Splits.{same_line}
-use Rattle.history_reader.proofs.LineLaws.{entry_line, end_line}
-use Rattle.history_reader.proofs.TextLaws.{first_wrong, second_wrong}
-use Rattle.history_reader.proofs.ReadLaws.{ReadSoFar, at_start, read_on, read_ended, opened_so_far}
+use Rattle.history_reader.proofs.lemmas.Splits.{same_line}
+use Rattle.history_reader.proofs.lemmas.LineLaws.{entry_line, end_line}
+use Rattle.history_reader.proofs.lemmas.TextLaws.{first_wrong, second_wrong}
+use Rattle.history_reader.proofs.lemmas.ReadLaws.{ReadSoFar, at_start, read_on, read_ended, opened_so_far}
 use Rattle.history_check.specs.LinesView.{LinesView}
 use Rattle.history_check.specs.Taking.{TakesNext, IsCutOff, EndsLine, StaysWithin, LosesPiece}
 use Rattle.history_check.specs.CheckView.{CheckView, IsCheckOf, OpensCheck, CheckGoesOn}
@@ -26,7 +26,8 @@ use Rattle.history_reader.specs.declared.histories.HistoryLine.TheVariants as li
 use Rattle.history_reader.specs.declared.fails.TextFail.{TextFail}
 use Rattle.history_reader.specs.declared.fails.TextFail.TheVariants.{Stops}
 use Rattle.std.specs.Prelude.{IsErrAnd}
-use Rattle.history_check.proofs.Passing.{taken_more, taken_past, came, to_come, given_behind, line_before, alone, cut_off, ends_either, memory_failed, line_failed}
+use Rattle.history_check.specs.declared.lines.TheConstants.{MAX_PIECE}
+use Rattle.history_check.proofs.Passing.{just_decided, taken_more, taken_past, came, to_come, given_behind, line_before, alone, cut_off, ends_either, memory_failed, line_failed}
 
 in_head : (text : List ℕ) → StopsAt text 0 → StopsInHead text 0
 in_head text (inl a) = a
@@ -35,6 +36,7 @@ in_head text (inr b) = absurd (let number : 0 ≡ length b.before.entries + 1 = 
 -- the head lacks: what is behind the lines passed over isn't the first line, and no line
 pub no_head : {start now : SourceView} {is : LinesView} → (so_far : HasTaken start now is ([] ++ is.line)) → IsCutOff now.left is → is.line ≢ first_line → FindsNone start now
 no_head {start} {now} {is} so_far cut other =
+    let few : length is.ahead < MAX_PIECE = omega (arith, ap length cut.alone) in
     let none : to_come is now.left ≡ [] = cut_off now.left is cut in
     let whole : is.line ++ to_come is now.left ≡ is.line = ap (λ bs. is.line ++ bs) none ∙ append-nil is.line in (
       so_far.passed ++ (([] ++ is.line) ++ is.ahead),
@@ -47,11 +49,12 @@ no_head {start} {now} {is} so_far cut other =
         stops = inl (in_head (is.line ++ to_come is now.left) (first_wrong is.line (to_come is now.left) (inr (cut.unbroken, none)) other));
         is = given_behind ([] ++ is.line) so_far;
       },
+      just_decided [] so_far (inl refl) (inr cut) few,
     )
 
 -- the second line is wrong or lacks
-pub no_second : {start mid now : SourceView} {was is : LinesView} → HasTaken start mid was first_line → TakesNext mid now was is → IsLine is.line ⊎ IsCutOff now.left is → OpensNone is.line → FindsNone start now
-no_second {start} {mid} {now} {was} {is} so_far next ends none =
+pub no_second : {start mid now : SourceView} {was is : LinesView} → HasTaken start mid was first_line → TakesNext mid now was is → IsLine is.line ⊎ IsCutOff now.left is → length is.ahead < MAX_PIECE → OpensNone is.line → FindsNone start now
+no_second {start} {mid} {now} {was} {is} so_far next ends few none =
     let more = taken_more first_line so_far next in
     let rest = to_come is now.left in (
       more.passed ++ ((first_line ++ is.line) ++ is.ahead),
@@ -64,6 +67,7 @@ no_second {start} {mid} {now} {was} {is} so_far next ends none =
         stops = inl (in_head (first_line ++ (is.line ++ rest)) (second_wrong is.line rest (line_before now.left is ends) none));
         is = given_behind (first_line ++ is.line) more ∙ ap (λ bs. more.passed ++ bs) (append_assoc first_line is.line rest);
       },
+      just_decided first_line more (inr (inl refl)) ends few,
     )
 
 -- the head is whole
@@ -107,6 +111,7 @@ end_taken {p} {start} {mid} {now} {was} {is} {c} {d} {k} a u next ends none ende
         };
         verdict = subst (λ (g : GraphView). IsVerdict g k.entries a) check.graph verdict;
       }),
+      just_decided (lines_of u.history) more (inr (inr (u.history, u.fits, refl))) ends (omega (arith, ap length none)),
     )
 
 -- a line of a history that is wrong breaks it, whatever is behind
@@ -129,8 +134,8 @@ begins_first h rest = record {
 }
 
 -- the text stops being a history
-pub stop_taken : {p : PlanView} {start mid now : SourceView} {was is : LinesView} {c : CheckView} {k : HistoryView} (n : ℕ) (u : IsUnderway p start mid was c) → TakesNext mid now was is → IsLine is.line ⊎ IsCutOff now.left is → StopsIt u.history is.line k n → Answers p start now (checked.NotLawful n)
-stop_taken {p} {start} {mid} {now} {was} {is} {c} {k} n u next ends stops =
+pub stop_taken : {p : PlanView} {start mid now : SourceView} {was is : LinesView} {c : CheckView} {k : HistoryView} (n : ℕ) (u : IsUnderway p start mid was c) → TakesNext mid now was is → IsLine is.line ⊎ IsCutOff now.left is → length is.ahead < MAX_PIECE → StopsIt u.history is.line k n → Answers p start now (checked.NotLawful n)
+stop_taken {p} {start} {mid} {now} {was} {is} {c} {k} n u next ends few stops =
     let more = taken_more (lines_of u.history) u.taken next in
     let rest = to_come is now.left in (
       more.passed ++ ((lines_of u.history ++ is.line) ++ is.ahead),
@@ -147,11 +152,12 @@ stop_taken {p} {start} {mid} {now} {was} {is} {c} {k} n u next ends stops =
         };
         answer = refl;
       }),
+      just_decided (lines_of u.history) more (inr (inr (u.history, u.fits, refl))) ends few,
     )
 
 -- no head: that is answered at 0
 pub none_found : {p : PlanView} {start now : SourceView} → FindsNone start now → Answers p start now (checked.NotLawful 0)
-none_found found = (found.0, found.1, inr (record { number = 0; breaks = found.2; answer = refl }))
+none_found found = (found.0, found.1, inr (record { number = 0; breaks = found.2; answer = refl }), found.3)
 
 -- ---- what the calls for a line answer
 
@@ -196,10 +202,10 @@ on_end {p} {start} {mid} {now} {was} {is} {c} {d} least count text whole a answe
     let next : CheckGoesOn p u.history is.line d (one_taken lines.End) = goes_there p u.history (one_taken a) (one_taken lines.End) same (ap one_taken end) goes u.check in
     end_taken answer u took.0 (ends_either now.left is whole took.1) (none_ahead least count long (counted ∙ u.check.count) took.2 next.1) next.1 next.2 (verdict p next.0 next.2)
 
-pub on_stop : {p : PlanView} {start mid now : SourceView} {was is : LinesView} {c d : CheckView} (least n : ℕ) (text : List ℕ) (whole : Bool) (fail : TextFail) (u : IsUnderway p start mid was c) → Took least mid now was is whole → text ≡ is.line → fail ≡ Stops n → Goes c d text (one_failed fail) → Answers p start now (checked.NotLawful n)
-on_stop {p} {start} {mid} {now} {was} {is} {c} {d} least n text whole fail u took same stops goes =
+pub on_stop : {p : PlanView} {start mid now : SourceView} {was is : LinesView} {c d : CheckView} (least n : ℕ) (text : List ℕ) (whole : Bool) (fail : TextFail) (u : IsUnderway p start mid was c) → Took least mid now was is whole → least < MAX_PIECE → text ≡ is.line → fail ≡ Stops n → Goes c d text (one_failed fail) → Answers p start now (checked.NotLawful n)
+on_stop {p} {start} {mid} {now} {was} {is} {c} {d} least n text whole fail u took small same stops goes =
     let next : CheckGoesOn p u.history is.line d (one_failed (Stops n)) = goes_there p u.history (one_failed fail) (one_failed (Stops n)) same (ap one_failed stops) goes u.check in
-    stop_taken n u took.0 (ends_either now.left is whole took.1) next.1
+    stop_taken n u took.0 (ends_either now.left is whole took.1) (omega (arith, took.2.ahead, small)) next.1
 
 pub no_room : {p : PlanView} {start mid now : SourceView} {was is : LinesView} {c : CheckView} (u : IsUnderway p start mid was c) → TakesNext mid now was is → Fails start now NoMemory
 no_room u next = memory_failed (lines_of u.history) next.piece u.taken next.takes
@@ -221,9 +227,9 @@ on_head {p} {start} {mid} {now} {was} {is} text c so_far next same opened =
     let opens : Opens is.line opened.0 = subst (λ (t : List ℕ). Opens t opened.0) same opened.1 in
     head_taken so_far next opens opened.2
 
-pub on_no_head : {start mid now : SourceView} {was is : LinesView} (least : ℕ) (text : List ℕ) (whole : Bool) → HasTaken start mid was first_line → Took least mid now was is whole → text ≡ is.line → OpensNone text → FindsNone start now
-on_no_head {start} {mid} {now} {was} {is} least text whole so_far took same none =
-    no_second so_far took.0 (ends_either now.left is whole took.1) (subst (λ (t : List ℕ). OpensNone t) same none)
+pub on_no_head : {start mid now : SourceView} {was is : LinesView} (least : ℕ) (text : List ℕ) (whole : Bool) → HasTaken start mid was first_line → Took least mid now was is whole → least < MAX_PIECE → text ≡ is.line → OpensNone text → FindsNone start now
+on_no_head {start} {mid} {now} {was} {is} least text whole so_far took small same none =
+    no_second so_far took.0 (ends_either now.left is whole took.1) (omega (arith, took.2.ahead, small)) (subst (λ (t : List ℕ). OpensNone t) same none)
 
 pub fails_at_head : (start mid now : SourceView) (was : LinesView) (fail : CheckFail) → HasTaken start mid was first_line → LosesPiece mid now was fail → Fails start now fail
 fails_at_head start mid now was fail so_far lost = line_failed start mid now was first_line fail so_far (inr (inl refl)) lost

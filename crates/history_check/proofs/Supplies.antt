@@ -9,7 +9,7 @@ use Rattle.file_access.specs.SinkView.{Rises}
 use Rattle.file_access.specs.SourceView.{SourceView}
 use Rattle.memchr.specs.Find.{Nowhere, NoneBefore, Passes, is_byte}
 use Rattle.history_reader.specs.Lines.{is_unbroken}
-use Rattle.history_reader.proofs.Splits.{joined, unbroken_before}
+use Rattle.history_reader.proofs.lemmas.Splits.{joined, unbroken_before}
 use Rattle.history_check.specs.LinesView.{LinesView}
 use Rattle.history_check.specs.Taking.{Takes, SplitsLine, Splits, TakesPiece, LosesPiece, TakesLine}
 use Rattle.history_check.specs.declared.fails.CheckFail.{CheckFail}

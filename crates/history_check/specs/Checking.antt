@@ -4,7 +4,6 @@ use Rattle.std.specs.Io.KnownBytes.{Consumes}
 use Rattle.file_access.specs.SinkView.{Rises}
 use Rattle.file_access.specs.SourceView.{SourceView}
 use Rattle.plan_reader.specs.PlanView.{PlanView}
-use Rattle.plan_reader.specs.Graph.{graph_of}
 use Rattle.history_text.specs.Text.{end_text}
 use Rattle.history_reader.specs.HistoryView.{HistoryView}
 use Rattle.history_reader.specs.Lines.{is_unbroken, first_line}
@@ -12,13 +11,14 @@ use Rattle.history_reader.specs.Grammar.{HistoryFits, lines_of}
 use Rattle.history_check.specs.LinesView.{LinesView}
 use Rattle.history_check.specs.Taking.{Takes}
 use Rattle.history_check.specs.CheckView.{CheckView, IsCheckOf}
-use Rattle.history_check.specs.Verdict.{IsVerdict}
+use Rattle.history_check.specs.Verdict.{IsAnswerTo}
 use Rattle.history_check.specs.Naming.{ArePassedOver, Names, Breaks}
 use Rattle.history_check.specs.declared.checks.Checked.{Checked}
 use Rattle.history_check.specs.declared.checks.Checked.TheVariants as checked
 use Rattle.history_check.specs.declared.fails.CheckFail.{CheckFail}
 use Rattle.history_check.specs.declared.fails.CheckFail.TheVariants.{SourceFault, NoMemory}
 use Rattle.history_check.specs.declared.inputs.TheConstants.{MAX_INPUT_BYTES}
+use Rattle.history_check.specs.declared.lines.TheConstants.{MAX_PIECE}
 
 -- the bytes that may still be taken, as far as they are known
 abbrev pub still_given : ℕ → Option (List ℕ) → List ℕ
@@ -33,7 +33,7 @@ all_given came left = came ++ still_given (MAX_INPUT_BYTES - length came) left
 pub record AnswersHistory (p : PlanView) (came : List ℕ) (a : Checked) : Type 0 where
   pub history : HistoryView
   pub names : Names came history
-  pub verdict : IsVerdict (graph_of p history.workers history.max history.parallel) history.entries a
+  pub verdict : IsAnswerTo p history a
 
 -- Of all bytes the text stops being a history at the number that is answered.
 pub record AnswersBreak (all : List ℕ) (a : Checked) : Type 0 where
@@ -58,6 +58,14 @@ pub record IsUndecided (came : List ℕ) : Type 0 where
   pub unbroken : is_unbroken piece ≡ true
   pub is : came ≡ passed ++ front ++ piece
 
+-- Nothing was decided before the last bytes came, which are no more than one call takes.
+pub record IsJustDecided (came : List ℕ) : Type 0 where
+  pub before : List ℕ
+  pub last : List ℕ
+  pub undecided : IsUndecided before
+  pub few : length last ≤ MAX_PIECE
+  pub is : came ≡ before ++ last
+
 -- what was taken where the check fails
 abbrev pub Fails : SourceView → SourceView → CheckFail → Type 0
 Fails old new SourceFault = (came : List ℕ) × Takes old new MAX_INPUT_BYTES came × IsUndecided came × Rises old.faults new.faults
@@ -65,7 +73,7 @@ Fails old new NoMemory = (came : List ℕ) × Takes old new MAX_INPUT_BYTES came
 
 -- what was taken, and what is answered of it
 abbrev pub Answers : PlanView → SourceView → SourceView → Checked → Type 0
-Answers p old new a = (came : List ℕ) × Takes old new MAX_INPUT_BYTES came × IsAnswer p came (all_given came new.left) a
+Answers p old new a = (came : List ℕ) × Takes old new MAX_INPUT_BYTES came × IsAnswer p came (all_given came new.left) a × IsJustDecided came
 
 abbrev pub HasChecked : PlanView → SourceView → SourceView → Result Checked CheckFail → Type 0
 HasChecked p old new (Ok a) = Answers p old new a
@@ -90,7 +98,7 @@ pub record HasBytesLeft (count : ℕ) (lines : LinesView) : Type 0 where
 
 -- no text of a history, for any plan
 abbrev pub FindsNone : SourceView → SourceView → Type 0
-FindsNone start now = (came : List ℕ) × Takes start now MAX_INPUT_BYTES came × Breaks (all_given came now.left) 0
+FindsNone start now = (came : List ℕ) × Takes start now MAX_INPUT_BYTES came × Breaks (all_given came now.left) 0 × IsJustDecided came
 
 abbrev pub FindsHead : SourceView → SourceView → LinesView → Result Bool CheckFail → Type 0
 FindsHead start now lines (Ok true) = HasTaken start now lines first_line

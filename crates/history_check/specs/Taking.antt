@@ -1,5 +1,5 @@
 -- What taking lines does to a source.
-use Rattle.std.specs.Prelude.{ℕ, ◌≡◌, ◌+◌, ◌-◌, ◌<◌, ◌≤◌, ◌⊎◌, Bool, true, false, if◌then◌else◌, nat_lt, List, [], ◌++◌, length, Option, Result, Ok, Err}
+use Rattle.std.specs.Prelude.{ℕ, ◌≡◌, ◌+◌, ◌<◌, ◌≤◌, ◌⊎◌, Bool, true, false, List, [], ◌++◌, length, Option, Result, Ok, Err}
 use Rattle.std.specs.Io.KnownBytes.{Consumes, IsAtEnd}
 use Rattle.file_access.specs.SinkView.{Rises}
 use Rattle.file_access.specs.SourceView.{SourceView}
@@ -14,9 +14,9 @@ pub record Takes (old new : SourceView) (room : ℕ) (piece : List ℕ) : Type 0
   pub faults : old.faults ≤ new.faults
   pub few : length piece ≤ room
 
--- how many bytes more are taken of a line that has so many and no line end
-abbrev pub wanted : ℕ → ℕ → ℕ
-wanted least held = if nat_lt held least then least - held else 1 + least
+-- so many bytes more of a line that has no line end yet: up to the least, or behind it the line end and as many again
+abbrev pub MayTake : ℕ → ℕ → ℕ → Type 0
+MayTake least held more = (held + more ≤ least) ⊎ ((least ≤ held) × (more ≤ 1 + least))
 
 -- the bytes were a line and what is ahead
 pub record SplitsLine (looked : ℕ) (was is : LinesView) : Type 0 where

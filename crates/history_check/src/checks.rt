@@ -1,14 +1,14 @@
-ghost use Rattle.std.specs.Prelude.{◌≡◌, ◌-◌, ◌^◌, ◌+◌, ◌<◌, ◌≤◌, length, OnOk, OnErr};
+ghost use Rattle.std.specs.Prelude.{◌≡◌, ◌-◌, ◌^◌, ◌<◌, option_map};
 ghost use Rattle.plan_reader.specs.PlanView.{PlanView};
-ghost use Rattle.history_reader.specs.HistoryView.{HistoryView, entry_with};
-ghost use Rattle.history_check.specs.CheckView.{check_of, IsCheckOf, OpensCheck, CheckGoesOn, Adds, IsCounted};
+ghost use Rattle.history_reader.specs.HistoryView.{HistoryView, changes_of};
+ghost use Rattle.history_check.specs.CheckView.{IsCheckOf, OpensCheck, CheckGoesOn, IsCounted};
 ghost use Rattle.history_check.specs.Verdict.{IsVerdict};
 
+use crate::entry_checks::EntryCheck;
 use history_reader::{EntryHead, History, HistoryLine, LineHead, TextFail, read_line_into};
-use lock_journal::Book;
 use plan_reader::Plan;
 use resource_lock::Change;
-use std::alloc::{AllocError, Global};
+use std::alloc::Global;
 use std::marker::Model;
 
 /// What the check of a history answers.
@@ -25,21 +25,17 @@ pub enum Checked {
 /// isn't allowed.
 #[derive(Drop)]
 pub struct HistoryCheck {
-    book: Book,
-    count: u64,
+    entries: EntryCheck,
     // Those of the entry that is looked at.
     changes: Vec<Change>,
 }
 
 impl Model for HistoryCheck {
-    ghost use Rattle.std.specs.Prelude.{◌≤◌, length};
     ghost use Rattle.history_check.specs.CheckView.{CheckView};
 
     ghost Value = { CheckView };
 
-    ghost view = { λ c. record { graph = c.book.graph; admitted = c.book.history; count = c.count } };
-
-    ghost invariant = { λ c. length c.book.history ≤ c.count };
+    ghost view = { λ c. c.entries };
 }
 
 impl HistoryCheck {
@@ -51,11 +47,15 @@ impl HistoryCheck {
         let Some(opened) = History::opening(alloc, line) else {
             return Err(TextFail::Stops(0));
         };
-        let graph = plan.graph(alloc, opened.workers, opened.max, opened.parallel)?;
-        let book = Book::opening(alloc, graph, 0, 0)?;
+        let entries = EntryCheck::opening(
+            alloc,
+            plan,
+            opened.workers,
+            opened.max,
+            opened.parallel,
+        )?;
         Ok(HistoryCheck {
-            book,
-            count: 0,
+            entries,
             changes: Vec::new(alloc),
         })
     }
@@ -64,7 +64,7 @@ impl HistoryCheck {
     pub fn count(&self) -> u64
         ensures { result ≡ self.now.count }
     {
-        self.count
+        self.entries.count()
     }
 
     /// Takes one more line with its line end. Of an entry it is noted whether it is allowed after those before
@@ -75,11 +75,10 @@ impl HistoryCheck {
         ensures counted { IsCounted self.old line.now self.new result }
         ensures goes_on { (p : PlanView) (h : HistoryView) → IsCheckOf p h self.old → CheckGoesOn p h line.now self.new result }
     {
-        let count = self.count();
-        match read_line_into(&mut self.changes, count, line)? {
+        match read_line_into(&mut self.changes, self.entries.count(), line)? {
             LineHead::Entry(head) => {
-                add(&mut self.book, count, &head, &self.changes)?;
-                self.count += 1;
+                let changes = changes_of(&head, &self.changes);
+                self.entries.admit(head.worker, &head.kind, changes)?;
                 Ok(HistoryLine::Entry)
             }
             LineHead::End => Ok(HistoryLine::End),
@@ -90,31 +89,17 @@ impl HistoryCheck {
     pub fn answer(&self) -> Checked
         ensures { (p : PlanView) (h : HistoryView) → IsCheckOf p h self.now → IsVerdict self.now.graph h.entries result }
     {
-        // Of the state, that the history that leads to it is lawful.
-        let _ = self.book.state();
-        let admitted = self.book.len();
-        if admitted == self.count {
-            Checked::Lawful(admitted)
-        } else {
-            Checked::NotLawful(admitted + 1)
-        }
+        self.entries.answer()
     }
 }
 
-// Adds an entry to the book while all before it were allowed and it is too.
-fn add(book: &mut Book, count: u64, head: &EntryHead, changes: &[Change]) -> Result<(), AllocError>
-    requires { length book.old.history ≤ count }
-    ensures added { OnOk result (Adds (check_of book.old count) (check_of book.new (count + 1)) (entry_with head.now changes.now)) }
-    ensures kept { OnErr result (check_of book.new count ≡ check_of book.old count) }
+// The changes of an entry that finished.
+fn changes_of<'a>(head: &EntryHead, changes: &'a [Change]) -> Option<&'a [Change]>
+    ensures { option_map (λ c. c.now) result ≡ changes_of head.now.is_finished changes.now }
 {
-    let _ = book.state();
-    if book.len() == count {
-        let changes = if head.is_finished {
-            Some(changes)
-        } else {
-            None
-        };
-        book.admit(head.worker, &head.kind, changes)?;
+    if head.is_finished {
+        Some(changes)
+    } else {
+        None
     }
-    Ok(())
 }

@@ -24,7 +24,8 @@ const LEAST_HISTORY: usize = 16;
 /// Lines before the first that is `history 1` are passed over. The text is taken up to its `end` line, and what
 /// follows is left in the source. A text that isn't at its end after `MAX_INPUT_BYTES`, of which the lines that
 /// are passed over are a part, stops being a history there. NotLawful comes where the text stops being a history,
-/// with the number at which it does, and else where an entry isn't allowed.
+/// with the number at which it does, and else where an entry isn't allowed. Whatever is answered, nothing was
+/// decided before the last bytes that were taken, at most `MAX_PIECE`.
 pub fn check_input<I: Source>(
     alloc: Global,
     plan: &Plan,

@@ -1,13 +1,20 @@
-//! Checks a printed history against a plan, line by line as its lines come.
+//! Checks a history against a plan: whole, or a printed one line by line as its lines come.
 #![tactic(auto)]
 
 mod checks;
+mod entry_checks;
 mod fails;
 mod inputs;
 mod laws;
 mod lines;
+mod whole;
 
 pub use checks::{Checked, HistoryCheck};
 pub use fails::CheckFail;
 pub use inputs::{MAX_INPUT_BYTES, check_input};
-pub use laws::{an_input_has_one_answer, the_first_bytes_may_be_taken};
+pub use laws::{
+    an_input_has_one_answer, little_is_taken_behind_a_wrong_line, the_first_bytes_may_be_taken,
+    whole_and_line_by_line_agree,
+};
+pub use lines::MAX_PIECE;
+pub use whole::check;

@@ -1,7 +1,7 @@
 //! Lines of a source, taken in pieces that never reach behind the text.
 ghost use Rattle.std.specs.Prelude.{◌≡◌, ◌≤◌, ◌<◌, [], length, true, take};
 ghost use Rattle.history_reader.specs.Lines.{is_unbroken};
-ghost use Rattle.history_check.specs.Taking.{Splits, TakesPiece, TakesLine, wanted};
+ghost use Rattle.history_check.specs.Taking.{Splits, TakesPiece, TakesLine, MayTake};
 ghost use Rattle.history_check.specs.declared.lines.TheConstants.{MAX_PIECE};
 
 use crate::fails::CheckFail;
@@ -13,7 +13,7 @@ use std::marker::Model;
 use std::mem::swap;
 
 /// The most bytes that are taken by one call.
-pub(crate) const MAX_PIECE: usize = 32;
+pub const MAX_PIECE: usize = 32;
 
 /// The line that was taken last, the bytes behind it that were taken too, and how many more may be taken.
 #[derive(Drop)]
@@ -119,7 +119,9 @@ impl Lines {
 // How many bytes more may be taken of a line that has so many and no line end.
 fn wanted(held: usize, least: usize) -> usize
     requires { least < MAX_PIECE }
-    ensures { result ≡ wanted least held }
+    ensures some { 0 < result }
+    ensures few { result ≤ MAX_PIECE }
+    ensures within { MayTake least held result }
 {
     if held < least {
         least - held

@@ -19,7 +19,7 @@ use Rattle.lock_journal.specs.Closings.{closing_of, where_finished, closings, la
 use Rattle.lock_transforms.specs.Entry.{Entry, effect, replay}
 use Rattle.lock_transforms.specs.Table.{has_passed, mark_from}
 use Rattle.history_laws.specs.Closing.{IsDone, IsClosedOnce}
-use Rattle.history_laws.proofs.Fitting.{apart_of}
+use Rattle.history_laws.proofs.lemmas.Fitting.{apart_of}
 use Rattle.history_laws.proofs.History.{ClosedAs}
 use Rattle.history_laws.proofs.Ranges.{each-append}
 use Rattle.history_laws.proofs.Runs.{holds_after}

@@ -13,7 +13,7 @@ use Rattle.resource_lock.specs.StateView.{StateView, mark_of}
 use Rattle.lock_transforms.specs.Allowed.{Lawful}
 use Rattle.lock_transforms.specs.Entry.{Entry, replay}
 use Rattle.history_laws.specs.Marks.{IsEnded, HasEnded}
-use Rattle.history_laws.proofs.Fitting.{apart_of}
+use Rattle.history_laws.proofs.lemmas.Fitting.{apart_of}
 use Rattle.history_laws.proofs.Kept.{TaskFact, WholeEnded, IsKept}
 use Rattle.history_laws.proofs.Ranges.{unit_of_range}
 use Rattle.history_laws.proofs.Runs.{holds_after}

@@ -21,8 +21,8 @@ use Rattle.lock_transforms.specs.Entry.{Entry}
 use Rattle.lock_transforms.specs.Table.{end_mark, mark_from}
 use Rattle.history_laws.specs.Runs.{finished_as, times, starts, skips, claims}
 use Rattle.history_laws.proofs.Conditions.{all_passed}
-use Rattle.history_laws.proofs.Fitting.{RangesApart}
-use Rattle.history_laws.proofs.Growing.{closings-push}
+use Rattle.history_laws.proofs.lemmas.Fitting.{RangesApart}
+use Rattle.history_laws.proofs.lemmas.Growing.{closings-push}
 use Rattle.history_laws.proofs.Marks.{StaysOrMoves}
 use Rattle.history_laws.proofs.Moves.{MayMove}
 use Rattle.history_laws.proofs.Steps.{IsStep}

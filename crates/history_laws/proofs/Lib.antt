@@ -1,6 +1,6 @@
+pub mod lemmas
 pub mod Conditions
 pub mod Ranges
-pub mod Fitting
 pub mod Marks
 pub mod Moves
 pub mod Finished
@@ -14,15 +14,10 @@ pub mod Order
 pub mod Ending
 pub mod Depth
 pub mod InOrder
-pub mod Growing
 pub mod Closing
 pub mod Status
-pub mod Others
 pub mod Honest
 pub mod InTurn
 pub mod WorkedRows
 pub mod ByNumber
-pub mod OwnChanges
-pub mod Named
-pub mod OwnTasks
 pub mod Queue

@@ -11,14 +11,14 @@ use Rattle.resource_lock.specs.Change.{same_mark}
 use Rattle.resource_lock.specs.GraphView.{GraphView, task_of, action_of}
 use Rattle.resource_lock.specs.Ranges.{earlier_actions, task_with, actions_of, items_of, units_of, IsIn, IsActionOf, IsUnitOf}
 use Rattle.resource_lock.specs.StateView.{StateView, mark_of}
-use Rattle.resource_lock.proofs.Undo.{same_mark_is}
+use Rattle.resource_lock.proofs.lemmas.Undo.{same_mark_is}
 use Rattle.lock_transforms.specs.declared.entries.Kind.{Kind}
 use Rattle.lock_transforms.specs.declared.entries.Kind.TheVariants.{Start, Skip, Submit, Park, Resume, Claim, Close, Block, Unblock, End, Acquire, HandBack}
 use Rattle.lock_transforms.specs.Table.{has_passed, has_fallen, has_ended, earlier_passed, fetch_closed, never_ran, works_on, units_passed, condition}
 use Rattle.history_laws.specs.Closing.{IsDone}
 use Rattle.history_laws.specs.Marks.{IsEnded}
 use Rattle.history_laws.proofs.Conditions.{HasFallen, EarlierPassed, EarlierFailed, FetchDone, IsThrough, MarkCondition}
-use Rattle.history_laws.proofs.Fitting.{RangesApart}
+use Rattle.history_laws.proofs.lemmas.Fitting.{RangesApart}
 use Rattle.history_laws.proofs.Kept.{list_all-true}
 use Rattle.history_laws.proofs.Ranges.{Has, has_in_range, has_unit, has_action, each_has, each_in_range, each_unit}
 

@@ -12,9 +12,9 @@ use Rattle.resource_lock.specs.declared.marks.MarkId.TheVariants.{Task as TaskOf
 use Rattle.resource_lock.specs.Change.{with_mark, can, make, make_all, can_all}
 use Rattle.resource_lock.specs.Shape.{SameShape}
 use Rattle.resource_lock.specs.StateView.{StateView, Holding, mark_of, IsMarkOf}
-use Rattle.resource_lock.proofs.Lists.{get_or-set_cases}
-use Rattle.resource_lock.proofs.Runs.{same_shape-make}
-use Rattle.resource_lock.proofs.Undo.{same_mark_is}
+use Rattle.resource_lock.proofs.lemmas.Lists.{get_or-set_cases}
+use Rattle.resource_lock.proofs.lemmas.Runs.{same_shape-make}
+use Rattle.resource_lock.proofs.lemmas.Undo.{same_mark_is}
 
 -- P holds of each move, of its mark's number, where it goes from and where it goes to
 abbrev pub MoveIs : (MarkId → Mark → Mark → Type 0) → Change → Type 0

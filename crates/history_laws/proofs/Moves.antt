@@ -17,7 +17,7 @@ use Rattle.resource_lock.specs.Change.{same_mark}
 use Rattle.resource_lock.specs.GraphView.{GraphView, task_of, action_of}
 use Rattle.resource_lock.specs.Ranges.{actions_of, items_of, units_of, IsActionOf, IsItemOf, IsUnitOf, lock_with}
 use Rattle.resource_lock.specs.StateView.{StateView, holding_of, mark_of}
-use Rattle.resource_lock.proofs.Undo.{same_mark_is}
+use Rattle.resource_lock.proofs.lemmas.Undo.{same_mark_is}
 use Rattle.lock_transforms.specs.declared.entries.Kind.{Kind}
 use Rattle.lock_transforms.specs.declared.entries.Kind.TheVariants.{Start, Skip, Submit, Park, Resume, Claim, Close, Block, Unblock, End, Acquire, HandBack}
 use Rattle.lock_transforms.specs.Allowed.{IsListOf}

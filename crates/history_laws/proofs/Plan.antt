@@ -20,7 +20,7 @@ use Rattle.history_laws.specs.Marks.{IsEnded, HasEnded}
 use Rattle.history_laws.specs.Outcomes.{action_passes, task_passes, task_outcome, earlier_pass, is_skipped, unit_outcome, AreRanks}
 use Rattle.history_laws.specs.Runs.{GivesClosedOutcomes, ComesTo}
 use Rattle.history_laws.proofs.Conditions.{HasFallen, EarlierFailed}
-use Rattle.history_laws.proofs.Fitting.{RangesApart}
+use Rattle.history_laws.proofs.lemmas.Fitting.{RangesApart}
 use Rattle.history_laws.proofs.History.{IsRecorded, ClosedAs}
 use Rattle.history_laws.proofs.Kept.{HasFallenUnit, UnitsAre, UnitsBefore, TaskFact, UnitFact, IsKept}
 use Rattle.history_laws.proofs.Ranges.{Has, has_unit, has_action, has_in_range, each_in_range, each_unit, each_action, each_has}

@@ -13,7 +13,7 @@ use Rattle.resource_lock.specs.GraphView.{GraphView, action_of}
 use Rattle.resource_lock.specs.Opening.{opening_of}
 use Rattle.resource_lock.specs.Ranges.{IsItem, first_item, is_item}
 use Rattle.resource_lock.specs.StateView.{StateView, mark_of}
-use Rattle.resource_lock.proofs.Units.{is_item_from}
+use Rattle.resource_lock.proofs.lemmas.Units.{is_item_from}
 use Rattle.item_actions.specs.declared.outcomes.Outcome.{Outcome}
 use Rattle.item_actions.specs.declared.outcomes.Outcome.TheVariants.{Number, Digest}
 use Rattle.lock_transforms.specs.declared.entries.Kind.{Kind}
@@ -21,7 +21,7 @@ use Rattle.lock_transforms.specs.declared.entries.Kind.TheVariants.{Skip, Submit
 use Rattle.lock_transforms.specs.Allowed.{Finishes, Lawful, lawful_from}
 use Rattle.lock_transforms.specs.Entry.{Entry, changed, effect, replay, replay_from}
 use Rattle.lock_transforms.specs.Table.{mark_from}
-use Rattle.history_laws.proofs.Fitting.{apart_of}
+use Rattle.history_laws.proofs.lemmas.Fitting.{apart_of}
 use Rattle.history_laws.proofs.Marks.{StaysOrMoves, stays_or_moves}
 use Rattle.history_laws.proofs.Moves.{MayMove, list_moves}
 use Rattle.history_laws.proofs.Runs.{all_wait}

@@ -10,12 +10,12 @@ use Rattle.resource_lock.specs.Change.{make_all}
 use Rattle.resource_lock.specs.Opening.{opening_of}
 use Rattle.resource_lock.specs.GraphView.{GraphView}
 use Rattle.resource_lock.specs.StateView.{StateView}
-use Rattle.resource_lock.proofs.Runs.{belongs_opening, same_shape-make_all}
+use Rattle.resource_lock.proofs.lemmas.Runs.{belongs_opening, same_shape-make_all}
 use Rattle.lock_transforms.specs.declared.entries.Kind.{Kind}
 use Rattle.lock_transforms.specs.Allowed.{IsKindOf, Finishes, Allowed, lawful_from, Lawful}
 use Rattle.lock_transforms.specs.Entry.{Entry, changed, effect, replay_from, replay}
 use Rattle.history_laws.proofs.Finished.{final_by, has_moved}
-use Rattle.history_laws.proofs.Fitting.{RangesApart}
+use Rattle.history_laws.proofs.lemmas.Fitting.{RangesApart}
 use Rattle.history_laws.proofs.History.{IsRecorded, ClosedAs, times_begun, times_skipped, recorded_finished, recorded_failed}
 use Rattle.history_laws.proofs.Kept.{TaskFact, ActionFact, UnitFact, IsKept}
 use Rattle.history_laws.proofs.MarkConditions.{mark_condition}

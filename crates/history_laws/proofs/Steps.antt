@@ -9,7 +9,7 @@ use Rattle.resource_lock.specs.GraphView.{GraphView, action_of}
 use Rattle.resource_lock.specs.Ranges.{IsActionOf, IsFetchOf, IsUnitOf}
 use Rattle.resource_lock.specs.Shape.{SameShape}
 use Rattle.resource_lock.specs.StateView.{StateView, mark_of}
-use Rattle.resource_lock.proofs.Runs.{belongs_along}
+use Rattle.resource_lock.proofs.lemmas.Runs.{belongs_along}
 use Rattle.item_actions.specs.declared.outcomes.Outcome.{Outcome}
 use Rattle.item_actions.specs.declared.outcomes.Outcome.TheVariants.{Number, Digest, NotThere, TooLong, Fault, NoMemory, Skipped as NotRun}
 use Rattle.lock_transforms.specs.declared.entries.Kind.{Kind}
@@ -19,7 +19,7 @@ use Rattle.history_laws.specs.Closing.{IsDone}
 use Rattle.history_laws.specs.Marks.{IsEnded, AfterPassed}
 use Rattle.history_laws.proofs.Conditions.{HasFallen, EarlierPassed, EarlierFailed, FetchDone, IsThrough, MarkCondition, all_passed}
 use Rattle.history_laws.proofs.Finished.{IsFinal, HasMoved}
-use Rattle.history_laws.proofs.Fitting.{RangesApart}
+use Rattle.history_laws.proofs.lemmas.Fitting.{RangesApart}
 use Rattle.history_laws.proofs.Kept.{ended_stays, HasFallenUnit, UnitsBefore, UnitsEnded, WholeEnded, HasUnpassed, TaskFact, ActionFact, UnitFact, IsKept, fallen_stays, after_passed_stays, after_fallen_stays, units_are_stays, units_before_stays, units_ended_stays, fetch_done_stays, earlier_failed_stays, task_fact_stays, action_fact_stays, unit_fact_stays, all_passed-true, all_passed-false, ended_not_passed}
 use Rattle.history_laws.proofs.Marks.{StaysOrMoves}
 use Rattle.history_laws.proofs.Moves.{MayMove}

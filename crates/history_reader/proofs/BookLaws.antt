@@ -9,8 +9,8 @@ use Rattle.resource_lock.specs.Fits.{Fits}
 use Rattle.resource_lock.specs.Opening.{opening_of}
 use Rattle.resource_lock.specs.Shape.{BelongsTo}
 use Rattle.resource_lock.specs.Change.{NamesOnly, names_only, can, can_all, make}
-use Rattle.resource_lock.proofs.Runs.{same_shape-make, same_shape-make_all, belongs_along, belongs_opening, all_named_along}
-use Rattle.resource_lock.proofs.Units.{few_actions_in_all}
+use Rattle.resource_lock.proofs.lemmas.Runs.{same_shape-make, same_shape-make_all, belongs_along, belongs_opening, all_named_along}
+use Rattle.resource_lock.proofs.lemmas.Units.{few_actions_in_all}
 use Rattle.lock_transforms.specs.Entry.{Entry, effect, changed}
 use Rattle.lock_transforms.specs.Allowed.{IsKindOf, Finishes, Allowed, lawful_from, Lawful}
 use Rattle.lock_journal.specs.Bounds.{IsFitOutcome, IsFitKind}

@@ -1,15 +1,12 @@
+pub mod lemmas
 pub mod Numbers
 pub mod Digits
 pub mod Words
-pub mod Splits
 pub mod DigestLaws
 pub mod ChangeLaws
 pub mod ListLaws
 pub mod KindLaws
 pub mod EntryLaws
 pub mod SettingsLaws
-pub mod LineLaws
 pub mod Further
 pub mod BookLaws
-pub mod TextLaws
-pub mod ReadLaws

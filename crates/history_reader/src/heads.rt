@@ -3,7 +3,7 @@ ghost use Rattle.std.specs.Option.{option_map};
 ghost use Rattle.history_reader.specs.Reading.{count_at, parallel_at, settings_at};
 ghost use Rattle.history_reader.specs.Lines.{first_line, OpensNone, IsSaidBy};
 
-use crate::tokens::{read_number, text_after};
+use crate::tokens::{by_word, read_number, text_after};
 use resource_lock::MAX_WORKERS;
 
 /// What the second line of a history says.
@@ -37,11 +37,9 @@ fn read_count(text: &[u8]) -> Option<(u32, &[u8])>
 fn read_parallel(text: &[u8]) -> Option<(bool, &[u8])>
     ensures { option_map (λ x. (x.0, x.1.now)) result ≡ parallel_at text.now }
 {
-    if let Some(rest) = text_after(text, b"yes") {
-        return Some((true, rest));
-    }
-    if let Some(rest) = text_after(text, b"no") {
-        return Some((false, rest));
+    by_word! { text:
+        b"yes" => true,
+        b"no" => false,
     }
     None
 }

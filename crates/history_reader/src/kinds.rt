@@ -3,7 +3,7 @@ ghost use Rattle.std.specs.Option.{option_map};
 ghost use Rattle.history_reader.specs.Reading.{kind_at, pause_at};
 
 use crate::outcomes::read_closed;
-use crate::tokens::{read_short, text_after};
+use crate::tokens::{by_word, read_short};
 use lock_transforms::Kind;
 
 // The kinds that close or wait.
@@ -11,23 +11,12 @@ use lock_transforms::Kind;
 fn read_pause(text: &[u8]) -> Option<(Kind, &[u8])>
     ensures { option_map (λ x. (x.0, x.1.now)) result ≡ pause_at text.now }
 {
-    if let Some(rest) = text_after(text, b"close ") {
-        let (value, rest) = read_closed(rest)?;
-        return Some((Kind::Close(value), rest));
-    }
-    if let Some(rest) = text_after(text, b"block -") {
-        return Some((Kind::Block(None), rest));
-    }
-    if let Some(rest) = text_after(text, b"block ") {
-        let (value, rest) = read_short(rest)?;
-        return Some((Kind::Block(Some(value)), rest));
-    }
-    if let Some(rest) = text_after(text, b"unblock -") {
-        return Some((Kind::Unblock(None), rest));
-    }
-    if let Some(rest) = text_after(text, b"unblock ") {
-        let (value, rest) = read_closed(rest)?;
-        return Some((Kind::Unblock(Some(value)), rest));
+    by_word! { text:
+        b"close " read_closed(closed) => Kind::Close(closed),
+        b"block -" => Kind::Block(None),
+        b"block " read_short(unit) => Kind::Block(Some(unit)),
+        b"unblock -" => Kind::Unblock(None),
+        b"unblock " read_closed(closed) => Kind::Unblock(Some(closed)),
     }
     None
 }
@@ -37,39 +26,16 @@ fn read_pause(text: &[u8]) -> Option<(Kind, &[u8])>
 pub(crate) fn read_kind(text: &[u8]) -> Option<(Kind, &[u8])>
     ensures { option_map (λ x. (x.0, x.1.now)) result ≡ kind_at text.now }
 {
-    if let Some(rest) = text_after(text, b"start ") {
-        let (value, rest) = read_short(rest)?;
-        return Some((Kind::Start(value), rest));
-    }
-    if let Some(rest) = text_after(text, b"skip ") {
-        let (value, rest) = read_short(rest)?;
-        return Some((Kind::Skip(value), rest));
-    }
-    if let Some(rest) = text_after(text, b"submit ") {
-        let (value, rest) = read_short(rest)?;
-        return Some((Kind::Submit(value), rest));
-    }
-    if let Some(rest) = text_after(text, b"park ") {
-        let (value, rest) = read_short(rest)?;
-        return Some((Kind::Park(value), rest));
-    }
-    if let Some(rest) = text_after(text, b"resume ") {
-        let (value, rest) = read_short(rest)?;
-        return Some((Kind::Resume(value), rest));
-    }
-    if let Some(rest) = text_after(text, b"claim ") {
-        let (value, rest) = read_short(rest)?;
-        return Some((Kind::Claim(value), rest));
-    }
-    if let Some(rest) = text_after(text, b"end ") {
-        let (value, rest) = read_short(rest)?;
-        return Some((Kind::End(value), rest));
-    }
-    if let Some(rest) = text_after(text, b"acquire") {
-        return Some((Kind::Acquire, rest));
-    }
-    if let Some(rest) = text_after(text, b"handback") {
-        return Some((Kind::HandBack, rest));
+    by_word! { text:
+        b"start " read_short(task) => Kind::Start(task),
+        b"skip " read_short(task) => Kind::Skip(task),
+        b"submit " read_short(action) => Kind::Submit(action),
+        b"park " read_short(action) => Kind::Park(action),
+        b"resume " read_short(action) => Kind::Resume(action),
+        b"claim " read_short(unit) => Kind::Claim(unit),
+        b"end " read_short(task) => Kind::End(task),
+        b"acquire" => Kind::Acquire,
+        b"handback" => Kind::HandBack,
     }
     read_pause(text)
 }

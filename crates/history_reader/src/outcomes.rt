@@ -3,7 +3,7 @@ ghost use Rattle.std.specs.Option.{option_map};
 ghost use Rattle.history_reader.specs.Reading.{outcome_at, closed_at};
 
 use crate::digests::read_digest;
-use crate::tokens::{read_long, read_short, text_after};
+use crate::tokens::{by_word, read_long, read_short, text_after};
 use item_actions::Outcome;
 use lock_transforms::Closed;
 
@@ -11,25 +11,13 @@ use lock_transforms::Closed;
 fn read_outcome(text: &[u8]) -> Option<(Outcome, &[u8])>
     ensures { option_map (λ x. (x.0, x.1.now)) result ≡ outcome_at text.now }
 {
-    if let Some(rest) = text_after(text, b"number ") {
-        let (value, rest) = read_long(rest)?;
-        return Some((Outcome::Number(value), rest));
-    }
-    if let Some(rest) = text_after(text, b"digest ") {
-        let (digest, rest) = read_digest(rest)?;
-        return Some((Outcome::Digest(digest), rest));
-    }
-    if let Some(rest) = text_after(text, b"missing") {
-        return Some((Outcome::NotThere, rest));
-    }
-    if let Some(rest) = text_after(text, b"too-long") {
-        return Some((Outcome::TooLong, rest));
-    }
-    if let Some(rest) = text_after(text, b"fault") {
-        return Some((Outcome::Fault, rest));
-    }
-    if let Some(rest) = text_after(text, b"no-memory") {
-        return Some((Outcome::NoMemory, rest));
+    by_word! { text:
+        b"number " read_long(number) => Outcome::Number(number),
+        b"digest " read_digest(digest) => Outcome::Digest(digest),
+        b"missing" => Outcome::NotThere,
+        b"too-long" => Outcome::TooLong,
+        b"fault" => Outcome::Fault,
+        b"no-memory" => Outcome::NoMemory,
     }
     None
 }

@@ -43,6 +43,21 @@ pub(crate) fn text_after_number(text: &[u8], number: u64) -> Option<&[u8]>
     text_after(text, digits.format(number).as_bytes())
 }
 
+/// A table of words: returns the value of the first of them that the text begins with, and the text after it. What
+/// is read behind a word may be part of its value.
+macro_rules! by_word {
+    ($text:ident: $($word:literal $($read:ident($value:ident))? => $made:expr,)+) => {
+        $(
+            if let Some(rest) = $crate::tokens::text_after($text, $word) {
+                $(let ($value, rest) = $read(rest)?;)?
+                return Some(($made, rest));
+            }
+        )+
+    };
+}
+
+pub(crate) use by_word;
+
 fn read_digits(text: &[u8], first: u64, last: u64) -> Option<(u64, &[u8])>
     requires { first ≤ last }
     ensures reads { option_map (λ x. (x.0, x.1.now)) result ≡ number_after (last + 1) first text.now }

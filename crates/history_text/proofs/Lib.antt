@@ -1,4 +1,4 @@
-pub mod Numbering
+pub mod lemmas
 pub mod Parts
 pub mod Counting
 pub mod Agreeing

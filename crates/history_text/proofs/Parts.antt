@@ -9,12 +9,12 @@ use Rattle.item_actions.specs.declared.outcomes.Outcome.{Outcome}
 use Rattle.resource_lock.specs.declared.marks.Mark.{Mark}
 use Rattle.file_access.specs.SinkView.{SinkView}
 use Rattle.file_access.specs.PageView.{PageView, Adds}
-use Rattle.file_access.proofs.Telling.{adds_as, adds_then}
+use Rattle.file_access.proofs.lemmas.Telling.{adds_as, adds_then}
 use Rattle.plan_reader.specs.PlanView.{PlanTaskView}
 use Rattle.plan_reader.specs.Units.{task_units}
 use Rattle.history_text.specs.Text.{numbered}
 use Rattle.history_text.specs.Results.{task_text, tasks_text}
-use Rattle.history_text.proofs.Numbering.{numbered-append, take_next}
+use Rattle.history_text.proofs.lemmas.Numbering.{numbered-append, take_next}
 
 -- a part lies within the whole
 pub within_whole : {X Y : Type 0} (f : X → List Y) (xs : List X) (i : ℕ) (x : X) → slice_get xs i ≡ Some x → length (flat_map f (take i xs)) + length (f x) ≤ length (flat_map f xs)

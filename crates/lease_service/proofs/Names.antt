@@ -7,7 +7,8 @@ use Rattle.std.specs.Option.{option_map}
 use Rattle.std.proofs.lemmas.Cmp.{nat_list_eq_equiv}
 use Rattle.std.proofs.lemmas.List.{length-map, map-append, take_more}
 use Rattle.std.proofs.lemmas.Map.Keys.{apart_from_distinct, IsDistinct-tail}
-use Rattle.lease_service.specs.ProjectLocks.{ProjectLocksView, lock_at, lock_of, project_locks_view}
+use Rattle.resource_lock.specs.ProjectLocks.{project_lock}
+use Rattle.lease_service.specs.ProjectLocks.{ProjectLocksView, lock_of, project_locks_view}
 use Rattle.lease_service.specs.declared.project_locks.ProjectLocks.TheInside.{Inside}
 
 module _ {X Y : Type 0} (p : Y → Bool) (h : X → Y) where
@@ -45,7 +46,7 @@ inserted names keys new i d key within distinct so_far is made =
 
 -- the lock of a name that is found at a place, or nowhere
 pub lock_found : (locks : ProjectLocksView) (inside : Inside) (name shown : List ℕ) (r : Option ℕ) → project_locks_view inside ≡ locks → shown ≡ name
-    → r ≡ position (λ k. bytes_eq shown (string_bytes k)) inside.names.keys → option_map (lock_at inside.parallel) r ≡ lock_of locks name
+    → r ≡ position (λ k. bytes_eq shown (string_bytes k)) inside.names.keys → option_map (project_lock inside.parallel) r ≡ lock_of locks name
 lock_found locks inside name shown r view same found =
-    ap (option_map (lock_at inside.parallel)) (found ∙ sym (position_of_map (bytes_eq shown) string_bytes inside.names.keys))
+    ap (option_map (project_lock inside.parallel)) (found ∙ sym (position_of_map (bytes_eq shown) string_bytes inside.names.keys))
     ∙ (λ j. lock_of (view j) (same j))

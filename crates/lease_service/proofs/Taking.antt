@@ -25,7 +25,7 @@ use Rattle.coordination.specs.Agrees.{Finds}
 use Rattle.coordination.specs.Attempts.{Cause}
 use Rattle.coordination.specs.Calls.{HasFailed, HasFinished, HasLooked, WasStopped}
 use Rattle.coordination.specs.Shown.{ShowsTheSame, claimed_shown, locks_shown}
-use Rattle.coordination.proofs.Shown.{looked_shows, shows_left, stopped_for, stopped_shows}
+use Rattle.coordination.proofs.lemmas.Shown.{looked_shows, shows_left, stopped_for, stopped_shows}
 use Rattle.lease_service.specs.Shows.{MayTake, ShowsTaken, with_locks}
 use Rattle.lease_service.proofs.Owned.{filter_same, runs_nothing, stands_in_owned}
 

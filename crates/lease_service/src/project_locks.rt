@@ -5,7 +5,7 @@ ghost use Rattle.lease_service.specs.ProjectLocks.{lock_count, lock_of};
 
 use indexmap::IndexSet;
 use item_actions::Text;
-use resource_lock::LockId;
+use resource_lock::{LockId, project_lock, project_lock_count};
 use std::alloc::{AllocError, Global};
 use std::marker::Model;
 
@@ -49,18 +49,13 @@ impl ProjectLocks {
         ensures { result ≡ lock_of self.now project.now }
     {
         let number = self.names.get_index_of(project.as_str())?;
-        Some(LockId(if self.parallel { number as u32 } else { 0 }))
+        Some(project_lock(self.parallel, number as u32))
     }
 
     /// How many locks there are: as many as projects, or one for all.
     pub fn count(&self) -> u32
         ensures { result ≡ lock_count self.now }
     {
-        let projects = self.names.len();
-        if self.parallel {
-            projects as u32
-        } else {
-            projects.min(1) as u32
-        }
+        project_lock_count(self.parallel, self.names.len() as u32)
     }
 }

@@ -3,10 +3,10 @@ use Rattle.std.proofs.Common.{◌≡◌, ◌≤◌, ℕ, zero, suc, inl, inr, Li
 use Rattle.std.proofs.KnownBytes.{Consumes-nil}
 use Rattle.item_actions.specs.Files.{Folder}
 use Rattle.lock_journal.specs.BookView.{BookView}
-use Rattle.file_access.proofs.Printing.{wrote_nothing}
+use Rattle.file_access.proofs.lemmas.Printing.{wrote_nothing}
 use Rattle.daemon_manager.specs.declared.events.Event.{Event}
 use Rattle.daemon_desk.specs.declared.sent.SentRequest.{SentRequest}
-use Rattle.daemon_items.specs.Requests.{SentView}
+use Rattle.item_work.specs.Requests.{SentView}
 use Rattle.build_runner.specs.Run.{AreAlike}
 use Rattle.command_words.specs.Failing.{NoMemoryOr}
 use Rattle.command_words.specs.declared.commands.Command.{Command}

@@ -26,7 +26,7 @@ use Rattle.build_runner.specs.declared.options.RunOptions.{RunOptions}
 use Rattle.command_words.specs.declared.commands.RunWords.{RunWords}
 use Rattle.history_text.specs.Results.{results_text, summary_text, task_marks}
 use Rattle.file_access.specs.SinkView.{SinkView, Wrote}
-use Rattle.file_access.proofs.Printing.{wrote_nothing}
+use Rattle.file_access.proofs.lemmas.Printing.{wrote_nothing}
 use Rattle.leases_cli.specs.Around.{DesksView}
 use Rattle.leases_cli.specs.Causes.{IsFileCause, OrNoMemory}
 use Rattle.leases_cli.specs.Answered.{RunAnswered, IsNamedRun, all_pass, behind_results, have_all_passed, run_text, text_by_book, values_or_closings}

@@ -4,7 +4,7 @@ use Rattle.item_actions.specs.Files.{Folder}
 use Rattle.file_access.specs.SinkView.{SinkView}
 use Rattle.file_access.specs.SourceView.{SourceView}
 use Rattle.daemon_desk.specs.declared.sent.SentRequest.{SentRequest}
-use Rattle.daemon_items.specs.Requests.{SentView}
+use Rattle.item_work.specs.Requests.{SentView}
 use Rattle.build_runner.specs.Sent.{sent_view}
 use Rattle.command_words.specs.declared.commands.Command.{Command}
 use Rattle.command_words.specs.declared.commands.Command.TheVariants.{Run, Worker, Check, Make}

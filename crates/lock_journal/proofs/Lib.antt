@@ -1,3 +1,3 @@
-pub mod Replays
+pub mod lemmas
 pub mod Stored
 pub mod Outcomes

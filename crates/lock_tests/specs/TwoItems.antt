@@ -2,9 +2,12 @@
 use Rattle.std.specs.Prelude.{◌≡◌, false, [], ◌∷◌}
 use Rattle.resource_lock.specs.GraphView.{GraphView}
 use Rattle.resource_lock.specs.declared.graphs.Retention.{Retention}
+use Rattle.resource_lock.specs.declared.marks.MarkId.TheVariants.{Task as TaskOf, Action as ActionOf}
+use Rattle.coordination.specs.Shown.{claimed_shown}
 use Rattle.coordination.specs.declared.rule.Sight.{Sight}
 use Rattle.async_tracker.specs.ParkedView.{ParkedView}
 use Rattle.async_tracker.specs.Shows.{IsFree, IsIdleOrParked, IsParkedBy}
+use Rattle.async_tracker.specs.Tasks.{MayEnd}
 
 -- one lock, two workers and one lease
 abbrev pub two_items : Retention → GraphView
@@ -24,6 +27,13 @@ pub record HasTwoItems (g : GraphView) : Type 0 where
 -- The worker waits for the two items, and can claim one.
 pub record CanHelp (s : Sight) (p : ParkedView) : Type 0 where
   pub graph : HasTwoItems s.seen.graph
+  pub action : p.action ≡ 0
+  pub claimed : claimed_shown s ≡ TaskOf 0 ∷ ActionOf 0 ∷ []
   pub own : IsParkedBy s p
   pub free : IsFree s
   pub waits : IsIdleOrParked s
+
+-- The worker runs the task, whose items have ended.
+pub record CanEnd (s : Sight) : Type 0 where
+  pub graph : HasTwoItems s.seen.graph
+  pub may : MayEnd s 0

@@ -5,15 +5,17 @@ ghost use Rattle.resource_lock.specs.declared.marks.MarkId.TheVariants as ids;
 ghost use Rattle.item_actions.specs.declared.outcomes.Outcome.TheVariants as outcomes;
 ghost use Rattle.coordination.specs.Holds.{HoldsNothing};
 ghost use Rattle.coordination.specs.Shown.{Shows};
-ghost use Rattle.lock_tests.specs.TwoItems.{CanHelp, HasTwoItems};
+ghost use Rattle.lock_tests.specs.TwoItems.{CanEnd, CanHelp, HasTwoItems};
 
 use crate::entries::{EntryRow, are_entries};
 use crate::rows::{Limits, TaskRow};
 use crate::services::{open, yield_a_while};
-use async_tracker::{Held, Parked, claim, close, closing_undoes_claiming, park, resume, submit};
+use async_tracker::{
+    Held, Parked, claim, close, closing_undoes_claiming, end_task, park, resume, start_task, submit,
+};
 use coordination::{Coordination, Halt, Opened, Pass};
 use item_actions::Outcome;
-use lock_transforms::kinds::{Acquire, End, HandBack, Shortage, Start};
+use lock_transforms::kinds::{Acquire, HandBack, Shortage};
 use lock_transforms::{Closed, Kind};
 use resource_lock::{Change, GraphAction, LockId, Mark, MarkId, Retention, WorkerId};
 use std::alloc::{AllocError, Global};
@@ -30,7 +32,10 @@ fn start<R: Wait>(rt: &R, service: &Coordination, pass: &mut Pass) -> Result<boo
     ensures service { pass.new.service ≡ pass.old.service }
     ensures started { result ≡ Ok true → Shows (record { 0 = 0 } ∷ []) true (ids.Task 0 ∷ []) [] pass.old.sight pass.new.sight }
 {
-    service.with_state_lock(rt, pass, &Start { task: 0 })
+    match start_task(rt, service, pass, 0) {
+        Ok(started) => Ok(started),
+        Err(_) => Err(Halt::NoMemory),
+    }
 }
 
 /// Starts the task, and waits for its items. None says that it can't be started.
@@ -104,6 +109,7 @@ fn go_on<R: Wait>(
     requires service { pass.old.service ≡ service.now.service }
     requires helps { CanHelp pass.old.sight parked }
     ensures service { pass.new.service ≡ pass.old.service }
+    ensures ends { result ≡ Ok true → CanEnd pass.new.sight }
 {
     match resume(rt, service, pass, parked) {
         Ok(()) => Ok(true),
@@ -124,9 +130,11 @@ fn run_task<R: Wait>(rt: &R, service: &Coordination, pass: &mut Pass) -> Result<
         return Ok(false);
     };
     let ran = run_both(rt, service, pass, &parked)?;
-    let resumed = go_on(rt, service, pass, parked)?;
-    let ended = service.with_state_lock(rt, pass, &End { task: 0 })?;
-    Ok(ran && resumed && ended)
+    if !go_on(rt, service, pass, parked)? {
+        return Ok(false);
+    }
+    end_task(rt, service, pass, 0)?;
+    Ok(ran)
 }
 
 /// A service with two workers, one lock and one lease, and the task with two items.

@@ -9,7 +9,7 @@ use Rattle.resource_lock.specs.Change.{make, make_all, can_all}
 use Rattle.resource_lock.specs.GraphView.{GraphView}
 use Rattle.resource_lock.specs.Fits.{Fits}
 use Rattle.resource_lock.specs.Shape.{BelongsTo}
-use Rattle.resource_lock.proofs.Runs.{can_all-append}
+use Rattle.resource_lock.proofs.lemmas.Runs.{can_all-append}
 use Rattle.resource_lock.specs.declared.ids.LockId.{LockId}
 use Rattle.resource_lock.specs.declared.ids.WorkerId.{WorkerId}
 use Rattle.resource_lock.specs.declared.changes.Change.{Change}

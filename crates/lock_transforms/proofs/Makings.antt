@@ -1,18 +1,50 @@
 -- Lists of changes made one after another.
-use Rattle.std.proofs.Common.{◌≡◌, ℕ, zero, suc, ◌<◌, ◌≤◌, ◌+◌, ◌-◌, length, take, drop, get_or, List, [], ◌∷◌, ◌++◌, Bool, true, false, ◌&&◌, refl, sym, ◌∙◌, ap, subst, arith, zero-add, add-zero, inl, inr}
-use Rattle.std.proofs.lemmas.Bool.{and_from, and_left, and_right, false≢true, cases_Bool}
+use Rattle.std.proofs.Common.{◌≡◌, ℕ, zero, suc, ◌<◌, ◌≤◌, ◌+◌, ◌-◌, length, take, drop, get_or, List, [], ◌∷◌, ◌++◌, Bool, true, false, cond, ◌&&◌, refl, sym, ◌∙◌, ap, subst, arith, zero-add, add-zero, inl, inr}
+use Rattle.std.proofs.lemmas.Bool.{and_from, and_left, and_parts, and_right, false≢true, cases_Bool}
 use Rattle.std.specs.List.{range_with_len}
 use Rattle.std.proofs.lemmas.List.{append_assoc, append-nil, length-append, length_push, take_more, take-append-drop}
-use Rattle.resource_lock.proofs.Runs.{belongs_along, same_shape-make_all, named_along, make_all-append, can_all-append}
+use Rattle.resource_lock.proofs.lemmas.Runs.{belongs_along, same_shape-make_all, named_along, make_all-append, can_all-append}
 use Rattle.resource_lock.specs.StateView.{StateView}
 use Rattle.resource_lock.specs.GraphView.{GraphView}
 use Rattle.resource_lock.specs.Shape.{SameShape, BelongsTo}
-use Rattle.resource_lock.specs.Change.{can, make_all, can_all, NamesOnly}
+use Rattle.resource_lock.specs.Change.{can, make, make_all, can_all, NamesOnly}
 use Rattle.resource_lock.specs.declared.ids.WorkerId.{WorkerId}
 use Rattle.resource_lock.specs.declared.changes.Change.{Change}
 use Rattle.lock_transforms.specs.TentativeView.{TentativeView, noted, Worked}
-use Rattle.lock_transforms.specs.Making.{MadeAll, Makes}
+use Rattle.lock_transforms.specs.Making.{MadeAll, Makes, possible_front}
 use Rattle.lock_transforms.proofs.Steps.{leads_none, leads_more}
+
+-- what is made of a list can be made
+front_possible : (s : StateView) (w : WorkerId) (cs : List Change) → can_all s w (possible_front s w cs) ≡ true
+front_possible s w [] = refl
+front_possible s w (c ∷ cs) = elim (cases_Bool (can s w c)) [
+  | inl can_be ↦ subst (λ b. can_all s w (cond b (c ∷ possible_front (make s w c) w cs) []) ≡ true) (sym can_be)
+      (and_from (can s w c) (can_all (make s w c) w (possible_front (make s w c) w cs)) can_be (front_possible (make s w c) w cs))
+  | inr cannot ↦ subst (λ b. can_all s w (cond b (c ∷ possible_front (make s w c) w cs) []) ≡ true) (sym cannot) refl
+]
+
+-- a list that can be made, and what is made of another behind it
+front-append : (s : StateView) (w : WorkerId) (cs ds : List Change) → can_all s w cs ≡ true → possible_front s w (cs ++ ds) ≡ cs ++ possible_front (make_all s w cs) w ds
+front-append s w [] ds possible = refl
+front-append s w (c ∷ cs) ds possible =
+    let parts = and_parts (can s w c) (can_all (make s w c) w cs) possible in
+    ap (λ b. cond b (c ∷ possible_front (make s w c) w (cs ++ ds)) []) parts.0 ∙ ap (λ l. c ∷ l) (front-append (make s w c) w cs ds parts.1)
+
+-- of a list that can be made all is made
+front_whole : (s : StateView) (w : WorkerId) (cs : List Change) → can_all s w cs ≡ true → possible_front s w cs ≡ cs
+front_whole s w [] possible = refl
+front_whole s w (c ∷ cs) possible =
+    let parts = and_parts (can s w c) (can_all (make s w c) w cs) possible in
+    ap (λ b. cond b (c ∷ possible_front (make s w c) w cs) []) parts.0 ∙ ap (λ l. c ∷ l) (front_whole (make s w c) w cs parts.1)
+
+-- nothing is made behind a list that can't be made
+front_stopped : (s : StateView) (w : WorkerId) (cs ds : List Change) → can_all s w cs ≡ false → possible_front s w (cs ++ ds) ≡ possible_front s w cs
+front_stopped s w [] ds impossible = absurd (false≢true (sym impossible))
+front_stopped s w (c ∷ cs) ds impossible = elim (cases_Bool (can s w c)) [
+  | inl can_be ↦ subst (λ b. cond b (c ∷ possible_front (make s w c) w (cs ++ ds)) [] ≡ cond b (c ∷ possible_front (make s w c) w cs) []) (sym can_be)
+      (ap (λ l. c ∷ l) (front_stopped (make s w c) w cs ds (sym (ap (λ b. b && can_all (make s w c) w cs) can_be) ∙ impossible)))
+  | inr cannot ↦ subst (λ b. cond b (c ∷ possible_front (make s w c) w (cs ++ ds)) [] ≡ cond b (c ∷ possible_front (make s w c) w cs) []) (sym cannot) refl
+]
 
 -- one change that can be made
 pub makes_one : (t : TentativeView) (c : Change) → NamesOnly t.state c → can t.state t.worker c ≡ true → 0 < t.room → Makes t (noted t c) (c ∷ []) true
@@ -24,6 +56,8 @@ makes_one t c named possible room =
       room = omega arith;
       few = omega arith;
       leads = λ before l. leads_more before t c l named possible;
+      front = subst (MadeAll t (noted t c)) (sym (front_whole t.state t.worker (c ∷ []) (and_from (can t.state t.worker c) true possible refl)))
+          (record { made = refl; state = refl; possible = and_from (can t.state t.worker c) true possible refl });
       whole = λ e. record { made = refl; state = refl; possible = and_from (can t.state t.worker c) true possible refl };
       stopped = λ e. absurd (false≢true (sym e));
     }
@@ -36,6 +70,7 @@ makes_none t = record {
   room = refl;
   few = omega arith;
   leads = λ before l. l;
+  front = record { made = sym (append-nil t.made); state = refl; possible = refl };
   whole = λ e. record { made = sym (append-nil t.made); state = refl; possible = refl };
   stopped = λ e. absurd (false≢true (sym e));
 }
@@ -48,6 +83,7 @@ makes_not t c impossible = record {
   room = refl;
   few = omega arith;
   leads = λ before l. l;
+  front = subst (λ b. MadeAll t t (cond b (c ∷ []) [])) (sym impossible) (record { made = sym (append-nil t.made); state = refl; possible = refl });
   whole = λ e. absurd (false≢true e);
   stopped = λ e. ap (λ b. b && true) impossible;
 }
@@ -58,6 +94,19 @@ makes_answer {all = all} makes = elim (cases_Bool all) [
   | inl whole ↦ whole ∙ sym (makes.whole whole).possible
   | inr stopped ↦ stopped ∙ sym (makes.stopped stopped)
 ]
+
+-- all of a list made, and then all of another
+made_then : {a b c : TentativeView} {cs ds : List Change} → b.worker ≡ a.worker → MadeAll a b cs → MadeAll b c ds → MadeAll a c (cs ++ ds)
+made_then {a} {b} {c} {cs} {ds} same first second = record {
+  made = second.made ∙ ap (λ (made : List Change). made ++ ds) first.made ∙ append_assoc a.made cs ds;
+  state = second.state
+      ∙ ap (λ (w : WorkerId). make_all b.state w ds) same
+      ∙ ap (λ (s : StateView). make_all s a.worker ds) first.state
+      ∙ sym (make_all-append a.state a.worker cs ds);
+  possible = can_all-append a.state a.worker cs ds
+      ∙ and_from (can_all a.state a.worker cs) (can_all (make_all a.state a.worker cs) a.worker ds) first.possible
+      (ap (λ (s : StateView). can_all s a.worker ds) (sym first.state) ∙ ap (λ (w : WorkerId). can_all b.state w ds) (sym same) ∙ second.possible);
+}
 
 -- a list, and then another
 pub makes_then : {a b c : TentativeView} {cs ds : List Change} {all : Bool} → Makes a b cs true → Makes b c ds all → Makes a c (cs ++ ds) all
@@ -74,14 +123,9 @@ makes_then {a} {b} {c} {cs} {ds} {all} first second =
       room = second.room ∙ first.room;
       few = omega (arith, first.few, second.few);
       leads = λ before l. second.leads before (first.leads before l);
-      whole = λ e. let rest : MadeAll b c ds = second.whole e in record {
-        made = rest.made ∙ ap (λ (made : List Change). made ++ ds) whole.made ∙ append_assoc a.made cs ds;
-        state = rest.state
-            ∙ ap (λ (w : WorkerId). make_all b.state w ds) first.worker
-            ∙ ap (λ (s : StateView). make_all s a.worker ds) whole.state
-            ∙ sym (make_all-append a.state a.worker cs ds);
-        possible = split ∙ and_from (can_all a.state a.worker cs) (can_all b.state b.worker ds) whole.possible rest.possible;
-      };
+      front = subst (MadeAll a c) (sym (front-append a.state a.worker cs ds whole.possible))
+          (made_then first.worker whole (subst (MadeAll b c) (λ i. possible_front (whole.state i) (first.worker i) ds) second.front));
+      whole = λ e. made_then first.worker whole (second.whole e);
       stopped = λ e. split ∙ and_right (can_all a.state a.worker cs) (can_all b.state b.worker ds) (second.stopped e);
     }
 
@@ -95,6 +139,7 @@ makes_stopped {a} {b} {cs} ds first =
       room = first.room;
       few = omega (arith, first.few);
       leads = first.leads;
+      front = subst (MadeAll a b) (sym (front_stopped a.state a.worker cs ds (first.stopped refl))) first.front;
       whole = λ e. absurd (false≢true e);
       stopped = λ e. can_all-append a.state a.worker cs ds ∙ and_left (can_all a.state a.worker cs) (can_all (make_all a.state a.worker cs) a.worker ds) (first.stopped refl);
     }

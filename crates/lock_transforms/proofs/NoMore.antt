@@ -3,11 +3,11 @@ use Rattle.std.proofs.Common.{◌≡◌, ◌≢◌, ◌≤◌, ◌<◌, ℕ, Lis
 use Rattle.std.specs.Option.{is_none}
 use Rattle.std.proofs.lemmas.Bool.{and_parts, and_from, cases_eq, cases_lt, eqb-true, ltb-true, lt-ltb, false≢true}
 use Rattle.std.proofs.lemmas.List.{get_or-set_same, get_or-set_other, length-set, set_past}
-use Rattle.resource_lock.proofs.Lists.{get_or-set_cases, one_if}
-use Rattle.resource_lock.proofs.Kept.{leases-with_holding}
-use Rattle.resource_lock.proofs.Others.{others_keep}
-use Rattle.resource_lock.proofs.Runs.{same_shape-make, same_shape-sym, same_shape-trans, worker_along}
-use Rattle.resource_lock.proofs.Undo.{holding_now}
+use Rattle.resource_lock.proofs.lemmas.Lists.{get_or-set_cases, one_if}
+use Rattle.resource_lock.proofs.lemmas.Kept.{leases-with_holding}
+use Rattle.resource_lock.proofs.lemmas.Others.{others_keep}
+use Rattle.resource_lock.proofs.lemmas.Runs.{same_shape-make, same_shape-sym, same_shape-trans, worker_along}
+use Rattle.resource_lock.proofs.lemmas.Undo.{holding_now}
 use Rattle.resource_lock.specs.StateView.{StateView, Holding, holding_of, is_owner, owner_of, owns, leases_out, mark_of, has_parked, stands_in, runs_by, IsWorkerOf}
 use Rattle.resource_lock.specs.Change.{same_mark, names_only, stands_last, can, make, can_all, holding_after, with_holding}
 use Rattle.resource_lock.specs.Shape.{SameShape}

@@ -5,9 +5,9 @@ use Rattle.std.proofs.lemmas.Bool.{and_parts, and_from, both_ways, cases_Bool, e
 use Rattle.std.proofs.lemmas.List.{drop-set-lt, get_or-set_same, length-drop}
 use Rattle.std.proofs.lemmas.List.Elements.{All-from_get_or}
 use Rattle.std.proofs.lemmas.List.Folds.{list_any_none}
-use Rattle.resource_lock.proofs.Kept.{kept}
-use Rattle.resource_lock.proofs.Runs.{can_all-append, named_along, same_shape-make, worker_along}
-use Rattle.resource_lock.proofs.Undo.{holding_now}
+use Rattle.resource_lock.proofs.lemmas.Kept.{kept}
+use Rattle.resource_lock.proofs.lemmas.Runs.{can_all-append, named_along, same_shape-make, worker_along}
+use Rattle.resource_lock.proofs.lemmas.Undo.{holding_now}
 use Rattle.resource_lock.specs.Change.{same_mark, can, can_all, make, make_all, holding_after}
 use Rattle.resource_lock.specs.Good.{Good}
 use Rattle.resource_lock.specs.GraphView.{GraphView, action_of}

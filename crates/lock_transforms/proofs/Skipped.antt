@@ -18,7 +18,7 @@ use Rattle.lock_transforms.specs.TentativeView.{TentativeView}
 use Rattle.lock_transforms.specs.Making.{Makes}
 use Rattle.lock_transforms.specs.Table.{moved_units, skipped_action, skipped_actions, skipped_waiting}
 use Rattle.lock_transforms.proofs.Makings.{Joins}
-use Rattle.lock_transforms.proofs.Within.{IsTaskOf, task_fits, units_within, next_units}
+use Rattle.lock_transforms.proofs.lemmas.Within.{IsTaskOf, task_fits, units_within, next_units}
 
 pub skipped_actions-append : (g : GraphView) → Joins (skipped_actions g)
 skipped_actions-append g [] bs = refl

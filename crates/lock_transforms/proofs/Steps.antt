@@ -2,7 +2,7 @@
 use Rattle.std.proofs.Common.{◌≡◌, [], ◌∷◌, true, ◌&&◌, refl, sym, ◌∙◌, ap, subst}
 use Rattle.std.specs.List.{AllByRecursion}
 use Rattle.std.proofs.lemmas.Bool.{and_from}
-use Rattle.resource_lock.proofs.Runs.{same_shape-make_all, same_shape-sym, can_all-append, named_along, all_named_from, make_all-append}
+use Rattle.resource_lock.proofs.lemmas.Runs.{same_shape-make_all, same_shape-sym, can_all-append, named_along, all_named_from, make_all-append}
 use Rattle.resource_lock.specs.StateView.{StateView}
 use Rattle.resource_lock.specs.Change.{can, make, make_all, can_all, NamesOnly}
 use Rattle.resource_lock.specs.Shape.{SameShape}

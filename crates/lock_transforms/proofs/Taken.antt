@@ -5,9 +5,9 @@ use Rattle.std.specs.List.{All, AllByRecursion, list_all, filter, slice_index_or
 use Rattle.std.proofs.lemmas.Bool.{and_parts, and_from, not_from_false, eq-eqb, leb-true, le-leb, lt-ltb, ltb-true, false_from_ne_true, false≢true, cases_Bool}
 use Rattle.std.proofs.lemmas.List.{append_assoc, append-nil, length-append, length-take, take_all, take_more, take-append-drop, get_or-set_same, get_or-set_other}
 use Rattle.std.proofs.Math.Bool.{and-true}
-use Rattle.resource_lock.proofs.Lists.{get_or-set_cases}
-use Rattle.resource_lock.proofs.Undo.{same_lock}
-use Rattle.resource_lock.proofs.Runs.{same_shape-make_all, make_all-append, can_all-append}
+use Rattle.resource_lock.proofs.lemmas.Lists.{get_or-set_cases}
+use Rattle.resource_lock.proofs.lemmas.Undo.{same_lock}
+use Rattle.resource_lock.proofs.lemmas.Runs.{same_shape-make_all, make_all-append, can_all-append}
 use Rattle.resource_lock.specs.StateView.{StateView, Holding, empty_holding, holding_of, owner_of, is_owner, owns, stands_in, has_parked, leases_out, IsLockOf}
 use Rattle.resource_lock.specs.Change.{can, make, make_all, can_all}
 use Rattle.resource_lock.specs.Shape.{SameShape}
@@ -27,7 +27,7 @@ use Rattle.lock_transforms.specs.Taking.{lock_taken, locks_taken, lease_taken, a
 use Rattle.lock_transforms.specs.declared.entries.Kind.TheVariants as kinds
 use Rattle.lock_transforms.specs.GoingOn.{WaitsForNews}
 use Rattle.lock_transforms.proofs.NoMore.{NoMore, Still, no_more_after}
-use Rattle.lock_transforms.proofs.Disabled.{all_of_still, and_still, condition_still, or_still, same_still}
+use Rattle.lock_transforms.proofs.lemmas.Disabled.{all_of_still, and_still, condition_still, or_still, same_still}
 use Rattle.lock_transforms.proofs.Makings.{makes_none, makes_not, makes_one, makes_then, makes_stopped, made_is, worked_from}
 
 -- taking a lock, as far as it can be taken

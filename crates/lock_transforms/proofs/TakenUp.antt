@@ -3,9 +3,9 @@ use Rattle.std.proofs.Common.{◌≡◌, ℕ, ◌<◌, ◌≤◌, ◌+◌, ◌-�
 use Rattle.std.proofs.lemmas.List.{get_or-reverse, get_or-take, length-append, length-reverse, length-take-le, take_all, take-append-drop, take_more, take-take}
 use Rattle.std.proofs.lemmas.List.Folds.{list_any_at}
 use Rattle.std.proofs.lemmas.Bool.{and_parts, eq-eqb}
-use Rattle.resource_lock.proofs.Lists.{length-le_from_once}
-use Rattle.resource_lock.proofs.Undo.{holding_now}
-use Rattle.resource_lock.proofs.Runs.{worker_along, same_shape-make}
+use Rattle.resource_lock.proofs.lemmas.Lists.{length-le_from_once}
+use Rattle.resource_lock.proofs.lemmas.Undo.{holding_now}
+use Rattle.resource_lock.proofs.lemmas.Runs.{worker_along, same_shape-make}
 use Rattle.resource_lock.specs.StateView.{StateView, Holding, holding_of, stands_in, IsLockOf, IsWorkerOf}
 use Rattle.resource_lock.specs.Good.{Good}
 use Rattle.resource_lock.specs.Change.{make, make_all, without_last, holding_after}

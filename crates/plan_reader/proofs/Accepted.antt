@@ -22,8 +22,8 @@ use Rattle.plan_table.specs.Forms.{Text, is_name}
 use Rattle.plan_table.specs.Keys.{projects_of, tasks_of, requirements_of, name_of, after_of, actions_of, wait_of, items_of, fetch_of, heap_of, args_of, properties_of, variables_of}
 use Rattle.plan_table.specs.Search.{places, table_refusal}
 use Rattle.plan_table.specs.Formed.{IsFormedAction}
-use Rattle.plan_table.proofs.Lists.{map_of_map}
-use Rattle.plan_table.proofs.FormedLaws.{is_formed}
+use Rattle.plan_table.proofs.lemmas.Lists.{map_of_map}
+use Rattle.plan_table.proofs.lemmas.FormedLaws.{is_formed}
 use Rattle.resource_lock.specs.declared.limits.TheConstants.{MAX_TASKS, MAX_UNITS, MAX_ACTIONS_PER_TASK, MAX_AFTER}
 use Rattle.plan_reader.specs.declared.limits.TheConstants.{MAX_PROJECTS, MAX_REQUIREMENTS, MAX_LISTED}
 use Rattle.plan_reader.specs.declared.rows.Row.TheVariants.{NoSuchProject, ReleaseNotLast, ClassLoader, TooMany, BadRequirements}

@@ -122,7 +122,7 @@ answered d (Err e) ranked none made memory = subst (Refuses (AnswersRanks d)) (s
 
 -- ---- the text
 
-pub text_refused : (reading : Result Data PlanRefusal) (e : PlanFail) → document.Refuses e reading → Refuses (ReadsBy reading) e
+pub text_refused : (reading : Result Data PlanRefusal) (e : PlanFail) → document.RefusesDocument e reading → Refuses (ReadsBy reading) e
 text_refused reading NoMemory h = tt
 text_refused reading (Refused r) h = subst (λ x. ReadsBy x (Err r)) (sym h) refl
 

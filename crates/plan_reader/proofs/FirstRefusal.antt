@@ -14,8 +14,8 @@ use Rattle.plan_table.specs.declared.refusals.PlanRefusal.TheVariants as refusal
 use Rattle.plan_table.specs.First.{cause_number, part_number, place_of, excess_number, IsEarlier, IsBefore, IsFirst, IsFirstOf, FirstAt, holds_on, TableHolds}
 use Rattle.plan_table.specs.Keys.{tasks_of}
 use Rattle.plan_table.specs.Search.{first_of, place_at, table_refusal}
-use Rattle.plan_table.proofs.FirstAnswers.{option_or_none, option_or_some}
-use Rattle.plan_table.proofs.FirstLaws.{is_first_refusal}
+use Rattle.plan_table.proofs.lemmas.FirstAnswers.{option_or_none, option_or_some}
+use Rattle.plan_table.proofs.lemmas.FirstLaws.{is_first_refusal}
 use Rattle.plan_reader.specs.declared.rows.Row.{Row}
 use Rattle.plan_reader.specs.declared.rows.Row.TheVariants.{NoSuchProject, NoSuchTask, ReleaseNotLast, ClassLoader, TooMany, BadRequirements}
 use Rattle.plan_reader.specs.First.{HasTwice, HasNoRank, passes_limit, DocumentHolds, refusal_in}

@@ -14,8 +14,8 @@ use Rattle.plan_table.specs.First.{FirstAt}
 use Rattle.plan_table.specs.Forms.{Text}
 use Rattle.plan_table.specs.Keys.{name_of}
 use Rattle.plan_table.specs.Search.{places, parts, place_at}
-use Rattle.plan_table.proofs.FirstAnswers.{option_map_none, option_map_some, first_of_some}
-use Rattle.plan_table.proofs.FirstPlaces.{Finds, found_nowhere, found_first}
+use Rattle.plan_table.proofs.lemmas.FirstAnswers.{option_map_none, option_map_some, first_of_some}
+use Rattle.plan_table.proofs.lemmas.FirstPlaces.{Finds, found_nowhere, found_first}
 use Rattle.plan_reader.specs.First.{IsTwice, HasTwice}
 use Rattle.plan_reader.specs.NameNumbers.{is_repeat, first_repeat}
 use Rattle.plan_reader.specs.Search.{first_twice, twice_in, twice_refusal}

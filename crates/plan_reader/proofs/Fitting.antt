@@ -1,5 +1,5 @@
 -- The graph of a plan fits.
-use Rattle.std.proofs.Common.{◌≡◌, ◌⊎◌, ◌+◌, ◌-◌, ◌<◌, ◌≤◌, ℕ, zero, suc, min, Bool, true, false, if◌then◌else◌, List, [], ◌∷◌, ◌++◌, map, length, get_or, Option, None, Some, is_some, refl, ap, sym, subst, ◌∙◌, inl, inr, arith, length-append}
+use Rattle.std.proofs.Common.{◌≡◌, ◌⊎◌, ◌+◌, ◌-◌, ◌<◌, ◌≤◌, ℕ, zero, suc, Bool, true, false, List, [], ◌∷◌, ◌++◌, map, length, get_or, Option, None, Some, is_some, refl, ap, sym, subst, ◌∙◌, inl, inr, arith, length-append}
 use Rattle.std.specs.List.{All, flat_map, sum_by}
 use Rattle.std.proofs.lemmas.Bool.{cases_lt}
 use Rattle.std.proofs.lemmas.List.{length-map, get_or_append_left, get_or-append_right}
@@ -16,12 +16,13 @@ use Rattle.plan_reader.specs.declared.limits.TheConstants.{MAX_PROJECTS}
 use Rattle.plan_reader.specs.PlanView.{PlanActionView, PlanTaskView, PlanView}
 use Rattle.plan_reader.specs.Units.{fetch_units, item_unit, action_units, task_units, plan_units}
 use Rattle.plan_reader.specs.IsPlan.{IsPlan}
-use Rattle.plan_reader.specs.Graph.{lock_of, locks_of, tasks_from, actions_from, units_in_all, all_actions_from, graph_of}
+use Rattle.resource_lock.specs.ProjectLocks.{project_lock, project_lock_count}
+use Rattle.plan_reader.specs.Graph.{tasks_from, actions_from, units_in_all, all_actions_from, graph_of}
 
 -- ---- tasks
 
 abbrev pub task_outline : Bool → ℕ → PlanTaskView → GraphTaskView
-task_outline parallel first t = record { lock = lock_of parallel t.project; after = t.after; first_action = first; actions = length t.actions }
+task_outline parallel first t = record { lock = project_lock parallel t.project; after = t.after; first_action = first; actions = length t.actions }
 
 each_task : (P : GraphTaskView → Type 0) (parallel : Bool) (first : ℕ) (ts : List PlanTaskView)
     → ((k : ℕ) (d : PlanTaskView) → k < length ts → (n : ℕ) → P (task_outline parallel n (get_or ts k d))) → All P (tasks_from parallel first ts)
@@ -34,11 +35,11 @@ length-tasks_from : (parallel : Bool) (first : ℕ) (ts : List PlanTaskView) →
 length-tasks_from parallel first [] = refl
 length-tasks_from parallel first (t ∷ ts) = ap suc (length-tasks_from parallel (first + length t.actions) ts)
 
-lock_within : (parallel : Bool) (project projects : ℕ) → project < projects → (lock_of parallel project).0 < (if parallel then projects else min 1 projects)
+lock_within : (parallel : Bool) (project projects : ℕ) → project < projects → (project_lock parallel project).0 < project_lock_count parallel projects
 lock_within true project projects within = within
 lock_within false project projects within = omega arith
 
-few_locks : (parallel : Bool) (projects : ℕ) → projects ≤ MAX_PROJECTS → (if parallel then projects else min 1 projects) ≤ MAX_LOCKS
+few_locks : (parallel : Bool) (projects : ℕ) → projects ≤ MAX_PROJECTS → project_lock_count parallel projects ≤ MAX_LOCKS
 few_locks true projects few = omega (arith, few)
 few_locks false projects few = omega (arith, few)
 
@@ -158,7 +159,7 @@ graph_fits p workers max_leases parallel h some_worker few_workers some_lease fe
       few_units = h.few_units;
       few_actions = each_task (λ t. t.actions ≤ MAX_ACTIONS_PER_TASK) parallel 0 p.tasks (λ k d within n. h.few_actions k d within);
       few_after = each_task (λ t. length t.after ≤ MAX_AFTER) parallel 0 p.tasks (λ k d within n. h.few_after k d within);
-      locks_within = each_task (λ t. t.lock.0 < locks_of parallel p) parallel 0 p.tasks (λ k d within n. lock_within parallel _ (length p.projects) (h.project_within k d within));
+      locks_within = each_task (λ t. t.lock.0 < project_lock_count parallel (length p.projects)) parallel 0 p.tasks (λ k d within n. lock_within parallel _ (length p.projects) (h.project_within k d within));
       after_within = subst (λ n. All (λ t. All (λ m. m < n) t.after) (tasks_from parallel 0 p.tasks)) (sym tasks) (each_task (λ t. All (λ m. m < length p.tasks) t.after) parallel 0 p.tasks (λ k d within n. h.after_within k d within));
       actions_follow = actions_follow parallel 0 0 0 p.tasks (length (all_actions_from 0 0 p.tasks)) (omega arith);
       units_follow = all_units_follow 0 0 p.tasks (length (plan_units p)) (omega arith);
@@ -185,7 +186,7 @@ all_units_made task first (t ∷ ts) =
 
 -- the parts make the graph
 pub same_graph : (p : PlanView) (workers max_leases locks : ℕ) (parallel : Bool) (tasks : List GraphTask) (actions : List GraphAction)
-    → locks ≡ locks_of parallel p → map graph_view tasks ≡ tasks_from parallel 0 p.tasks → actions ≡ all_actions_from 0 0 p.tasks
+    → locks ≡ project_lock_count parallel (length p.projects) → map graph_view tasks ≡ tasks_from parallel 0 p.tasks → actions ≡ all_actions_from 0 0 p.tasks
     → made_of locks workers max_leases tasks actions ≡ graph_of p workers max_leases parallel
 same_graph p workers max_leases locks parallel tasks actions a b c =
     let units : sum_by units_in actions ≡ length (plan_units p) = ap (sum_by units_in) c ∙ all_units_made 0 0 p.tasks in

@@ -13,7 +13,8 @@ use Rattle.plan_reader.specs.declared.plans.PlanTask.{PlanTask}
 use Rattle.plan_table.specs.Forms.{Text}
 use Rattle.plan_reader.specs.PlanView.{work_view, plan_action_view, plan_task_view}
 use Rattle.plan_reader.specs.Units.{PlannedUnit, fetch_units, item_unit, action_units, task_units}
-use Rattle.plan_reader.specs.Graph.{lock_of, tasks_from, actions_from, units_in_all, all_actions_from}
+use Rattle.resource_lock.specs.ProjectLocks.{project_lock}
+use Rattle.plan_reader.specs.Graph.{tasks_from, actions_from, units_in_all, all_actions_from}
 use Rattle.plan_reader.proofs.Fitting.{task_outline, units_in_all-task_units}
 
 -- the elements from this one on
@@ -28,7 +29,7 @@ few_at ts i x within is few =
     let same = get_or-map plan_task_view ts i x (plan_task_view x) within ∙ ap plan_task_view (sym is) in
     rw (length-map x.actions.items plan_action_view) at (subst (λ t. length t.actions ≤ MAX_ACTIONS_PER_TASK) same here)
 
-pub outlined : (parallel : _) (x : PlanTask) (lock : LockId) (after : List ℕ) (first actions : ℕ) → lock ≡ lock_of parallel x.project → after ≡ x.after.items → actions ≡ length x.actions.items
+pub outlined : (parallel : _) (x : PlanTask) (lock : LockId) (after : List ℕ) (first actions : ℕ) → lock ≡ project_lock parallel x.project → after ≡ x.after.items → actions ≡ length x.actions.items
     → record { lock = lock; after = after; first_action = first; actions = actions } ≡ task_outline parallel first (plan_task_view x)
 outlined parallel x lock after first actions a b c =
     let d : actions ≡ length (map plan_action_view x.actions.items) = c ∙ sym (length-map x.actions.items plan_action_view) in

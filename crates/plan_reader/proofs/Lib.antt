@@ -17,8 +17,6 @@ pub mod FirstRefusal
 pub mod FirstOfText
 pub mod Answering
 pub mod OneAnswer
-pub mod Positions
-pub mod Sound
 pub mod Near
 pub mod Marks
 pub mod TakenTasks

@@ -11,15 +11,15 @@ use Rattle.toml.specs.Data.{Data}
 use Rattle.plan_table.specs.declared.refusals.Part.TheVariants as part
 use Rattle.plan_table.specs.Forms.{Text}
 use Rattle.plan_table.specs.Keys.{projects_of, tasks_of, requirements_of, after_of}
-use Rattle.plan_table.proofs.Lists.{any_of_map, map_of_map}
+use Rattle.plan_table.proofs.lemmas.Lists.{any_of_map, map_of_map}
+use Rattle.plan_table.proofs.lemmas.LookLaws.{never, no_first_place}
 use Rattle.plan_reader.specs.declared.rows.Row.TheVariants.{NoSuchTask}
 use Rattle.plan_reader.specs.NameNumbers.{texts, has_name, number_of, first_repeat}
 use Rattle.plan_reader.specs.Names.{names_in, once, dependency_numbers, dependencies_of, lacks_any, known_numbers, known_rows}
 use Rattle.plan_reader.specs.Rows.{holds}
 use Rattle.plan_reader.specs.Search.{row_refusal, refusal_of, table_at}
-use Rattle.plan_reader.proofs.Positions.{position_any}
+use Rattle.plan_table.proofs.lemmas.Positions.{position_any}
 use Rattle.plan_reader.proofs.Quiet.{distinct, row_quiet}
-use Rattle.plan_reader.proofs.Sound.{silent}
 
 pub at_place : (names : List Text) → first_repeat names ≡ None → (i : ℕ) (t : Text) → i < length names → get_or names i [] ≡ t → position (bytes_eq t) names ≡ Some i
 at_place names none i t within is = by (position (bytes_eq t) names) refl
@@ -105,12 +105,8 @@ none_from_all : {X : Type 0} (p : X → Bool) (xs : List X) → All (λ x. p x �
 none_from_all p [] all = refl
 none_from_all p (x ∷ xs) all = or_from (p x) (list_any p xs) (all 0 x (omega arith)) (none_from_all p xs (λ k d within. all (suc k) d (omega (arith, within))))
 
-never : {X : Type 0} (xs : List X) → list_any (λ x. false) xs ≡ false
-never [] = refl
-never (x ∷ xs) = never xs
-
 no_such_task : (d : Data) → list_any (λ t. lacks_any (names_in d).tasks (after_of t)) (tasks_of d) ≡ false → row_refusal d NoSuchTask ≡ None
-no_such_task d none = ap (option_map (λ p. refusal_of NoSuchTask (table_at d p) p)) (silent (holds (names_in d) NoSuchTask) d refl (never (projects_of d)) none (never (requirements_of d)))
+no_such_task d none = ap (option_map (λ p. refusal_of NoSuchTask (table_at d p) p)) (no_first_place (holds (names_in d) NoSuchTask) d (or_from _ _ (never (projects_of d)) (or_from _ _ none (or_from _ _ (never (requirements_of d)) refl))))
 
 pub dependencies_known : (d : Data) (rows : List (List ℕ)) → Some rows ≡ known_rows (names_in d).tasks (tasks_of d) → (row_refusal d NoSuchTask ≡ None) × (rows ≡ dependencies_of d)
 dependencies_known d rows e = by (list_any (λ t. lacks_any (names_in d).tasks (after_of t)) (tasks_of d)) refl e

@@ -16,7 +16,7 @@ use Rattle.task_ranks.specs.Rank.{lists_of}
 use Rattle.plan_table.specs.Forms.{Text}
 use Rattle.plan_reader.specs.NameNumbers.{is_repeat, AreNumbered}
 use Rattle.plan_reader.specs.Names.{once}
-use Rattle.plan_reader.proofs.Positions.{position_any, position_push}
+use Rattle.plan_table.proofs.lemmas.Positions.{position_any, position_push}
 
 abbrev pub Numbers : Type 0
 Numbers = BTreeMap (Bor (List ℕ)) ℕ

@@ -15,8 +15,8 @@ use Rattle.plan_table.specs.First.{part_number}
 use Rattle.plan_table.specs.Forms.{Text}
 use Rattle.plan_table.specs.Keys.{name_of}
 use Rattle.plan_table.specs.Search.{places, parts, first_in, first_place}
-use Rattle.plan_table.proofs.FirstAnswers.{first_of_none}
-use Rattle.plan_table.proofs.FirstPlaces.{part_at}
+use Rattle.plan_table.proofs.lemmas.FirstAnswers.{first_of_none}
+use Rattle.plan_table.proofs.lemmas.FirstPlaces.{part_at}
 use Rattle.plan_reader.specs.declared.rows.Row.{Row}
 use Rattle.plan_reader.specs.NameNumbers.{is_repeat, first_repeat}
 use Rattle.plan_reader.specs.Names.{names_in}

@@ -1,23 +1,16 @@
 -- The graph of a plan.
-use Rattle.std.specs.Prelude.{ℕ, ◌+◌, min, Bool, List, [], ◌∷◌, ◌++◌, length, is_some, if◌then◌else◌}
+use Rattle.std.specs.Prelude.{ℕ, ◌+◌, Bool, List, [], ◌∷◌, ◌++◌, length, is_some}
 use Rattle.resource_lock.specs.GraphView.{GraphView, GraphTaskView}
-use Rattle.resource_lock.specs.declared.ids.LockId.{LockId}
+use Rattle.resource_lock.specs.ProjectLocks.{project_lock, project_lock_count}
 use Rattle.resource_lock.specs.declared.graphs.GraphAction.{GraphAction}
 use Rattle.plan_reader.specs.PlanView.{PlanActionView, PlanTaskView, PlanView}
 use Rattle.plan_reader.specs.Units.{action_units, plan_units}
-
--- with parallel each project has a lock of its own, without it all share one
-abbrev pub lock_of : Bool → ℕ → LockId
-lock_of parallel project = record { 0 = if parallel then project else 0 }
-
-abbrev pub locks_of : Bool → PlanView → ℕ
-locks_of parallel p = if parallel then length p.projects else min 1 (length p.projects)
 
 -- the tasks, whose actions are numbered from this one on
 abbrev pub tasks_from : Bool → ℕ → List PlanTaskView → List GraphTaskView
 tasks_from parallel first [] = []
 tasks_from parallel first (t ∷ ts) = record {
-  lock = lock_of parallel t.project;
+  lock = project_lock parallel t.project;
   after = t.after;
   first_action = first;
   actions = length t.actions;
@@ -45,7 +38,7 @@ all_actions_from task first (t ∷ ts) = actions_from task first t.actions ++ al
 
 abbrev pub graph_of : PlanView → ℕ → ℕ → Bool → GraphView
 graph_of p workers max_leases parallel = record {
-  locks = locks_of parallel p;
+  locks = project_lock_count parallel (length p.projects);
   workers = workers;
   max_leases = max_leases;
   units = length (plan_units p);

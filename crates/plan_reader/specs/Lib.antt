@@ -7,7 +7,6 @@ pub mod Names
 pub mod Rooms
 pub mod Rows
 pub mod Search
-pub mod Sound
 pub mod Planned
 pub mod Taken
 pub mod Reading

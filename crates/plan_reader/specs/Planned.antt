@@ -56,15 +56,15 @@ requirements_named names profiles (Some name) = unwrap_or (option_and_then (slic
 -- ---- items
 
 -- what is counted has the form of a needle
-abbrev pub count_of : Text → ItemAction
-count_of needle = if is_needle needle then Count needle else Bytes
+abbrev pub needle_action : Text → ItemAction
+needle_action needle = if is_needle needle then Count needle else Bytes
 
 abbrev pub action_of_kind : ActionKind → Text → ItemAction
 action_of_kind kind.Lines needle = Lines
 action_of_kind kind.Words needle = Words
 action_of_kind kind.Bytes needle = Bytes
 action_of_kind kind.Longest needle = Longest
-action_of_kind kind.Count needle = count_of needle
+action_of_kind kind.Count needle = needle_action needle
 action_of_kind kind.Sha256 needle = Sha256
 
 -- a document with a word of no action is refused

@@ -2,13 +2,14 @@
 ghost use Rattle.std.specs.Prelude.{◌≡◌, ◌+◌, ◌<◌, ◌≤◌, ◌++◌, map, length, IfOk, All};
 ghost use Rattle.std.specs.List.{flat_map};
 ghost use Rattle.resource_lock.specs.GraphView.{graph_view};
+ghost use Rattle.resource_lock.specs.ProjectLocks.{project_lock_count};
 ghost use Rattle.resource_lock.specs.declared.limits.TheConstants.{MAX_ACTIONS_PER_TASK, MAX_LEASES, MAX_TASKS, MAX_UNITS, MAX_WORKERS};
 ghost use Rattle.plan_reader.specs.PlanView.{plan_action_view, plan_task_view};
 ghost use Rattle.plan_reader.specs.Units.{task_units};
-ghost use Rattle.plan_reader.specs.Graph.{lock_of, locks_of, tasks_from, actions_from, units_in_all, all_actions_from, graph_of};
+ghost use Rattle.plan_reader.specs.Graph.{tasks_from, actions_from, units_in_all, all_actions_from, graph_of};
 
 use crate::plans::{Plan, PlanAction, PlanTask};
-use resource_lock::{Graph, GraphAction, GraphTask, LockId};
+use resource_lock::{Graph, GraphAction, GraphTask, project_lock, project_lock_count};
 use std::alloc::{AllocError, Global};
 
 impl Plan {
@@ -35,18 +36,10 @@ impl Plan {
 
     /// How many locks there are.
     fn locks(&self, parallel: bool) -> u32
-        ensures { result ≡ locks_of parallel self.now }
+        ensures { result ≡ project_lock_count parallel (length self.now.projects) }
     {
-        let projects = self.projects().len() as u32;
-        if parallel { projects } else { projects.min(1) }
+        project_lock_count(parallel, self.projects().len() as u32)
     }
-}
-
-/// The lock of a project.
-fn lock_of(parallel: bool, project: u32) -> LockId
-    ensures { result ≡ lock_of parallel project }
-{
-    LockId(if parallel { project } else { 0 })
 }
 
 /// The tasks of the graph.
@@ -64,7 +57,7 @@ fn graph_tasks(
     for task in tasks {
         let actions = task.actions.len() as u32;
         made.push(GraphTask {
-            lock: lock_of(parallel, task.project),
+            lock: project_lock(parallel, task.project),
             after: task.after.clone()?,
             first_action,
             actions,

@@ -2,12 +2,10 @@
 #![tactic(auto)]
 
 mod graphs;
-mod guesses;
-mod key_values;
+mod hashed_places;
 mod known;
 mod laws;
 mod limits;
-mod look;
 mod name_table;
 mod names;
 mod parts;

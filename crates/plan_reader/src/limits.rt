@@ -24,40 +24,16 @@ const MAX_REQUIREMENTS: usize = 256;
 /// The most arguments, properties or variables of one requirements table.
 const MAX_LISTED: usize = 64;
 
-fn project_count(document: &Value) -> usize
-    ensures { result ≡ length (projects_of (view document.now)) }
+fn table_count(tables: &[Value]) -> usize
+    ensures { result ≡ length (map view tables.now) }
 {
-    projects_of(document).len()
+    tables.len()
 }
 
-fn task_count(document: &Value) -> usize
-    ensures { result ≡ length (tasks_of (view document.now)) }
+fn text_count(texts: &[Value]) -> usize
+    ensures { result ≡ length (map (λ v. text_of (view v)) texts.now) }
 {
-    tasks_of(document).len()
-}
-
-fn requirements_count(document: &Value) -> usize
-    ensures { result ≡ length (requirements_of (view document.now)) }
-{
-    requirements_of(document).len()
-}
-
-fn action_count(task: &Value) -> usize
-    ensures { result ≡ length (actions_of (view task.now)) }
-{
-    actions_of(task).len()
-}
-
-fn after_count(task: &Value) -> usize
-    ensures { result ≡ length (after_of (view task.now)) }
-{
-    after_of(task).len()
-}
-
-fn args_count(requirements: &Value) -> usize
-    ensures { result ≡ length (args_of (view requirements.now)) }
-{
-    args_of(requirements).len()
+    texts.len()
 }
 
 fn unit_count(action: &Value) -> usize
@@ -101,13 +77,13 @@ fn has_many_units(document: &Value) -> bool
 fn excess_of_plan(document: &Value) -> Option<Which>
     ensures { result ≡ excess_of_plan (view document.now) }
 {
-    if project_count(document) > MAX_PROJECTS {
+    if table_count(projects_of(document)) > MAX_PROJECTS {
         Some(Which::Projects)
-    } else if task_count(document) > MAX_TASKS {
+    } else if table_count(tasks_of(document)) > MAX_TASKS {
         Some(Which::Tasks)
     } else if has_many_units(document) {
         Some(Which::Units)
-    } else if requirements_count(document) > MAX_REQUIREMENTS {
+    } else if table_count(requirements_of(document)) > MAX_REQUIREMENTS {
         Some(Which::Requirements)
     } else {
         None
@@ -117,9 +93,9 @@ fn excess_of_plan(document: &Value) -> Option<Which>
 fn excess_of_task(task: &Value) -> Option<Which>
     ensures { result ≡ excess_of_task (view task.now) }
 {
-    if action_count(task) > MAX_ACTIONS_PER_TASK as usize {
+    if table_count(actions_of(task)) > MAX_ACTIONS_PER_TASK as usize {
         Some(Which::Actions)
-    } else if after_count(task) > MAX_AFTER {
+    } else if text_count(after_of(task)) > MAX_AFTER {
         Some(Which::After)
     } else {
         None
@@ -138,7 +114,7 @@ fn pair_count(pairs: Option<&Table>) -> usize
 fn has_few_lists(requirements: &Value) -> bool
     ensures { result ≡ has_few_lists (view requirements.now) }
 {
-    args_count(requirements) <= MAX_LISTED
+    text_count(args_of(requirements)) <= MAX_LISTED
         && pair_count(properties_of(requirements)) <= MAX_LISTED
         && pair_count(variables_of(requirements)) <= MAX_LISTED
 }

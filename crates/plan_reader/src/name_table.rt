@@ -3,7 +3,7 @@ ghost use Rattle.std.specs.Prelude.{◌≡◌, length, None, Some, IsTrue, IfOk,
 ghost use Rattle.std.specs.Str.{bytes_eq};
 ghost use Rattle.plan_reader.specs.NameNumbers.{texts, has_name, first_repeat, number_of, AreNumbered};
 
-use crate::guesses::Guesses;
+use crate::hashed_places::HashedPlaces;
 use item_actions::Text;
 use std::alloc::{AllocError, Global};
 use std::collections::BTreeMap;
@@ -15,7 +15,7 @@ use std::marker::Model;
 pub(crate) struct NameTable<'a> {
     names: Vec<&'a str>,
     numbers: BTreeMap<&'a str, usize>,
-    guesses: Guesses,
+    hashed: HashedPlaces,
 }
 
 impl<'a> Model for NameTable<'a> {
@@ -69,11 +69,11 @@ impl<'a> NameTable<'a> {
     {
         match numbers_of(alloc, names.as_slice())? {
             Ok(numbers) => {
-                let guesses = Guesses::new(alloc, names.as_slice())?;
+                let hashed = HashedPlaces::new(alloc, names.as_slice())?;
                 Ok(Ok(NameTable {
                     names,
                     numbers,
-                    guesses,
+                    hashed,
                 }))
             }
             Err(number) => Ok(Err(number)),
@@ -116,7 +116,7 @@ impl<'a> NameTable<'a> {
     pub(crate) fn place_of(&self, name: &str) -> Option<usize>
         ensures { result ≡ position (bytes_eq name.now) self.now }
     {
-        let place = self.guesses.place_of(name);
+        let place = self.hashed.place_of(name);
         if self.stands_at(place, name) {
             Some(place)
         } else {

@@ -85,14 +85,14 @@ fn add_number(
 /// Where the next name is looked for first: behind the one before it, where that one stood so too. Names often stand in
 /// their order, and where they don't a look there is lost.
 #[derive(Clone, Copy)]
-struct Guess {
+struct LikelyNext {
     next: u32,
     is_likely: bool,
 }
 
-impl Guess {
+impl LikelyNext {
     /// Before the first name.
-    const NONE: Guess = Guess {
+    const NONE: LikelyNext = LikelyNext {
         next: 0,
         is_likely: false,
     };
@@ -103,8 +103,8 @@ impl Guess {
     }
 
     /// Behind a name of this number.
-    fn behind(self, number: u32) -> Guess {
-        Guess {
+    fn behind(self, number: u32) -> LikelyNext {
+        LikelyNext {
             next: number.saturating_add(1),
             is_likely: number == self.next,
         }
@@ -117,7 +117,7 @@ fn numbers_of(
     names: &NameTable,
     marks: &mut [usize],
     mark: usize,
-    guess: &mut Guess,
+    next: &mut LikelyNext,
     values: &[Value],
 ) -> Result<Option<Vec<u32>>, AllocError>
     requires len { length marks.old ≡ length names.now }
@@ -127,10 +127,10 @@ fn numbers_of(
 {
     let mut numbers = Vec::with_capacity(alloc, values.len())?;
     for value in values {
-        match names.number_near(guess.number(), text_of(value))? {
+        match names.number_near(next.number(), text_of(value))? {
             Some(number) => {
                 add_number(&mut numbers, marks, mark, number)?;
-                *guess = guess.behind(number);
+                *next = next.behind(number);
             }
             None => return Ok(None),
         }
@@ -143,7 +143,7 @@ fn dependency_numbers(
     names: &NameTable,
     marks: &mut [usize],
     mark: usize,
-    guess: &mut Guess,
+    next: &mut LikelyNext,
     task: &Value,
 ) -> Result<Option<Vec<u32>>, AllocError>
     requires len { length marks.old ≡ length names.now }
@@ -151,7 +151,7 @@ fn dependency_numbers(
     ensures marks { IfOk result (λ _. (k : ℕ) → slice_index marks.new k ≤ mark) }
     ensures numbers { IfOk result (λ o. option_map (λ v. v.items) o ≡ known_numbers names.now (after_of (view task.now))) }
 {
-    numbers_of(alloc, names, marks, mark, guess, after_of(task))
+    numbers_of(alloc, names, marks, mark, next, after_of(task))
 }
 
 fn rows_of(
@@ -163,9 +163,9 @@ fn rows_of(
 {
     let mut rows = Vec::with_capacity(alloc, tasks.len())?;
     let mut marks = vec![in alloc; 0; names.len()]?;
-    let mut guess = Guess::NONE;
+    let mut next = LikelyNext::NONE;
     for (number, task) in tasks.iter().enumerate() {
-        match dependency_numbers(alloc, names, &mut marks, number + 1, &mut guess, task)? {
+        match dependency_numbers(alloc, names, &mut marks, number + 1, &mut next, task)? {
             Some(row) => rows.push(row)?,
             None => return Ok(None),
         }

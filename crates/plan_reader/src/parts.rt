@@ -5,7 +5,7 @@ ghost use Rattle.toml.specs.View.{view};
 ghost use Rattle.plan_table.specs.Keys.{actions_of, items_of, name_of};
 ghost use Rattle.plan_reader.specs.PlanView.{process_of as shown_process, work_view, plan_action_view, plan_task_view};
 ghost use Rattle.plan_reader.specs.NameNumbers.{first_repeat};
-ghost use Rattle.plan_reader.specs.Planned.{count_of, action_of_kind, action_named, default_requirements, process_of, work_of, retention_named, action_of};
+ghost use Rattle.plan_reader.specs.Planned.{needle_action, action_of_kind, action_named, default_requirements, process_of, work_of, retention_named, action_of};
 ghost use Rattle.plan_reader.specs.Taken.{known_names, named, task_after};
 
 use crate::known::Known;
@@ -23,8 +23,8 @@ use std::alloc::{AllocError, Global};
 use toml::Value;
 
 /// What counts a needle. A document whose needle is out of form is refused before.
-fn count_of(needle: &str) -> ItemAction
-    ensures { result ≡ count_of needle.now }
+fn needle_action(needle: &str) -> ItemAction
+    ensures { result ≡ needle_action needle.now }
 {
     match Needle::of(needle.as_bytes()) {
         Some(needle) => ItemAction::Count(needle),
@@ -40,7 +40,7 @@ fn action_of_kind(kind: ActionKind, needle: &str) -> ItemAction
         ActionKind::Words => ItemAction::Words,
         ActionKind::Bytes => ItemAction::Bytes,
         ActionKind::Longest => ItemAction::Longest,
-        ActionKind::Count => count_of(needle),
+        ActionKind::Count => needle_action(needle),
         ActionKind::Sha256 => ItemAction::Sha256,
     }
 }

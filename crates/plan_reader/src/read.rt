@@ -9,7 +9,6 @@ ghost use Rattle.plan_reader.specs.Planned.{plan_of};
 ghost use Rattle.plan_reader.specs.Search.{twice_in, twice_refusal, row_refusal, rows_refusal, rows_before, rows_behind, refusal_before, refusal_behind};
 ghost use Rattle.plan_reader.specs.Reading.{IsAccepted, AnswersRanks, AnswersBy, Reads, Refuses, Gives, RefusesBy, RefusesCycle};
 
-use crate::look::refuses_nothing;
 use crate::name_table::NameTable;
 use crate::names::{Names, dependencies_of, numbered_names};
 use crate::parts::{names_taken, tasks_of_plan};
@@ -102,9 +101,6 @@ fn check_table(document: &Value) -> Result<(), PlanFail>
     ensures ok { IfOk result (λ _. table_refusal (view document.now) ≡ None) }
     ensures err { IfErr result (RefusesBy (table_refusal (view document.now))) }
 {
-    if refuses_nothing(document) {
-        return Ok(());
-    }
     match table_refusal(document) {
         Some(refusal) => Err(PlanFail::Refused(refusal)),
         None => Ok(()),

@@ -1,7 +1,4 @@
-pub mod Lists
+pub mod lemmas
 pub mod DocumentLaws
-pub mod FirstAnswers
-pub mod FirstPlaces
-pub mod FirstLaws
-pub mod FormedLaws
+pub mod Fitting
 pub mod TakenOut

@@ -24,14 +24,14 @@ abbrev pub document_reading : List ℕ → Result Data PlanRefusal
 document_reading bytes = if nat_lt max_file_bytes (length bytes) then Err TooLong else document_or_not_toml (document_of bytes)
 
 -- memory ran out, or this is the refusal
-abbrev pub Refuses : PlanFail → Result Data PlanRefusal → Type 0
-Refuses NoMemory reading = Unit {0}
-Refuses (Refused r) reading = reading ≡ Err r
+abbrev pub RefusesDocument : PlanFail → Result Data PlanRefusal → Type 0
+RefusesDocument NoMemory reading = Unit {0}
+RefusesDocument (Refused r) reading = reading ≡ Err r
 
 -- this is the document, or the refusal, or memory ran out
 abbrev pub ReadsDocument : Result Value PlanFail → Result Data PlanRefusal → Type 0
 ReadsDocument (Ok v) reading = reading ≡ Ok (view v)
-ReadsDocument (Err fail) reading = Refuses fail reading
+ReadsDocument (Err fail) reading = RefusesDocument fail reading
 
 -- the number of each is one that a place can have, which is below 2 ^ 32
 abbrev pub have_numbers : List Data → Bool

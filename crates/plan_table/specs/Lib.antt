@@ -4,6 +4,7 @@ pub mod Keys
 pub mod Document
 pub mod Rules
 pub mod Tables
+pub mod Look
 pub mod Search
 pub mod First
 pub mod Formed

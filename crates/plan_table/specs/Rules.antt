@@ -5,7 +5,9 @@ use Rattle.toml.specs.Data.{Data}
 use Rattle.plan_table.specs.declared.rules.TableKind.{TableKind}
 use Rattle.plan_table.specs.declared.rules.TableKind.TheVariants.{Document, Project, Task, Action, Item, Requirements}
 use Rattle.plan_table.specs.declared.rules.ValueForm.{ValueForm}
-use Rattle.plan_table.specs.declared.rules.ValueForm.TheVariants.{Name, Names, FileName, Needle, Executable, Encoding, Arguments, Settings, Wait, Do, Isolation, Integer, Boolean, Tables}
+use Rattle.plan_table.specs.declared.rules.ValueForm.TheVariants.{One, Many, Settings, Wait, Do, Isolation, Integer, Boolean, Tables}
+use Rattle.plan_table.specs.declared.rules.TextForm.{TextForm}
+use Rattle.plan_table.specs.declared.rules.TextForm.TheVariants.{Name, FileName, Needle, Executable, Encoding, Argument}
 use Rattle.plan_table.specs.declared.rules.KeyRule.{KeyRule}
 use Rattle.item_actions.specs.Forms.{is_file_name}
 use Rattle.item_actions.specs.Words.{action_kind_of}
@@ -34,35 +36,35 @@ rules Document =
     ∷ optional (codes "task") Tables
     ∷ optional (codes "requirements") Tables
     ∷ []
-rules Project = required (codes "name") Name ∷ []
+rules Project = required (codes "name") (One Name) ∷ []
 rules Task =
-    required (codes "name") Name
-    ∷ required (codes "project") Name
-    ∷ optional (codes "after") Names
+    required (codes "name") (One Name)
+    ∷ required (codes "project") (One Name)
+    ∷ optional (codes "after") (Many Name)
     ∷ optional (codes "action") Tables
     ∷ []
 rules Action =
     optional (codes "wait") Wait
-    ∷ optional (codes "fetch") FileName
+    ∷ optional (codes "fetch") (One FileName)
     ∷ required (codes "item") Tables
     ∷ []
 rules Item =
     required (codes "do") Do
-    ∷ required (codes "file") FileName
-    ∷ optional (codes "needle") Needle
+    ∷ required (codes "file") (One FileName)
+    ∷ optional (codes "needle") (One Needle)
     ∷ optional (codes "isolation") Isolation
-    ∷ optional (codes "requirements") Name
+    ∷ optional (codes "requirements") (One Name)
     ∷ []
 rules Requirements =
-    required (codes "name") Name
-    ∷ optional (codes "executable") Executable
+    required (codes "name") (One Name)
+    ∷ optional (codes "executable") (One Executable)
     ∷ optional (codes "heap_mb") Integer
-    ∷ optional (codes "args") Arguments
+    ∷ optional (codes "args") (Many Argument)
     ∷ optional (codes "properties") Settings
     ∷ optional (codes "variables") Settings
     ∷ optional (codes "debug") Boolean
     ∷ optional (codes "assertions") Boolean
-    ∷ optional (codes "encoding") Encoding
+    ∷ optional (codes "encoding") (One Encoding)
     ∷ []
 
 -- ---- words
@@ -73,13 +75,8 @@ isolations = codes "none" ∷ codes "process" ∷ codes "classloader" ∷ []
 -- ---- a value's type, and the form of its texts
 
 abbrev pub has_type : ValueForm → Data → Bool
-has_type Name d = is_text d
-has_type Names d = is_array_of_texts d
-has_type FileName d = is_text d
-has_type Needle d = is_text d
-has_type Executable d = is_text d
-has_type Encoding d = is_text d
-has_type Arguments d = is_array_of_texts d
+has_type (One form) d = is_text d
+has_type (Many form) d = is_array_of_texts d
 has_type Settings d = is_table_of_texts d
 has_type Wait d = is_some (retention_of (text_of d))
 has_type Do d = is_some (action_kind_of (text_of d))
@@ -88,16 +85,23 @@ has_type Integer d = is_integer d
 has_type Boolean d = is_boolean d
 has_type Tables d = is_array d
 
+abbrev pub is_formed : TextForm → Text → Bool
+is_formed Name = is_name
+is_formed FileName = is_file_name
+is_formed Needle = is_needle
+is_formed Executable = is_executable
+is_formed Encoding = is_encoding
+is_formed Argument = is_value
+
 abbrev pub is_setting : Text × Text → Bool
 is_setting p = is_key p.0 && is_value p.1
 
 abbrev pub has_form : ValueForm → Data → Bool
-has_form Name d = is_name (text_of d)
-has_form Names d = list_all is_name (texts_of d)
-has_form FileName d = is_file_name (text_of d)
-has_form Needle d = is_needle (text_of d)
-has_form Executable d = is_executable (text_of d)
-has_form Encoding d = is_encoding (text_of d)
-has_form Arguments d = list_all is_value (texts_of d)
+has_form (One form) d = is_formed form (text_of d)
+has_form (Many form) d = list_all (is_formed form) (texts_of d)
 has_form Settings d = list_all is_setting (table_pairs (Some d))
 has_form _ d = true
+
+-- of the type, and in the form
+abbrev pub fits : ValueForm → Data → Bool
+fits form d = has_type form d && has_form form d

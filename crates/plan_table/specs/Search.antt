@@ -3,6 +3,7 @@ use Rattle.std.specs.Prelude.{ℕ, Bool, ◌||◌, List, [], ◌∷◌, Option, 
 use Rattle.std.specs.Option.{option_or}
 use Rattle.std.specs.List.{list_any, position}
 use Rattle.toml.specs.Data.{Data}
+use Rattle.plan_table.specs.declared.rules.TableKind.{TableKind}
 use Rattle.plan_table.specs.declared.rules.TableKind.TheVariants as kind
 use Rattle.plan_table.specs.declared.tables.TableTest.{TableTest}
 use Rattle.plan_table.specs.declared.tables.TableTest.TheVariants.{UnknownKey, WrongType, Missing, BadName}
@@ -12,7 +13,7 @@ use Rattle.plan_table.specs.declared.refusals.Place.{Place}
 use Rattle.plan_table.specs.declared.refusals.PlanRefusal.{PlanRefusal}
 use Rattle.plan_table.specs.declared.refusals.PlanRefusal.TheVariants as refusal
 use Rattle.plan_table.specs.Keys.{projects_of, tasks_of, requirements_of, actions_of, items_of}
-use Rattle.plan_table.specs.Tables.{holds}
+use Rattle.plan_table.specs.Tables.{holds, tests}
 
 -- ---- the search
 
@@ -42,18 +43,18 @@ first_place test d = first_of (first_in test d) parts
 
 -- ---- the tests of tables
 
-abbrev pub holds_in_action : TableTest → Data → Bool
-holds_in_action t d = holds t kind.Action d || list_any (holds t kind.Item) (items_of d)
+abbrev pub in_action : (TableKind → Data → Bool) → Data → Bool
+in_action test d = test kind.Action d || list_any (test kind.Item) (items_of d)
 
 -- what stands in an action or an item holds at its task
-abbrev pub holds_at : TableTest → Part → Data → Bool
-holds_at t Plan d = holds t kind.Document d
-holds_at t Project d = holds t kind.Project d
-holds_at t Task d = holds t kind.Task d || list_any (holds_in_action t) (actions_of d)
-holds_at t Requirements d = holds t kind.Requirements d
+abbrev pub in_part : (TableKind → Data → Bool) → Part → Data → Bool
+in_part test Plan d = test kind.Document d
+in_part test Project d = test kind.Project d
+in_part test Task d = test kind.Task d || list_any (in_action test) (actions_of d)
+in_part test Requirements d = test kind.Requirements d
 
-abbrev pub tests : List TableTest
-tests = UnknownKey ∷ WrongType ∷ Missing ∷ BadName ∷ []
+abbrev pub holds_at : TableTest → Part → Data → Bool
+holds_at t = in_part (holds t)
 
 abbrev pub refusal_of : TableTest → Place → PlanRefusal
 refusal_of UnknownKey p = refusal.UnknownKey p

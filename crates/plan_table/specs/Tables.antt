@@ -1,5 +1,5 @@
 -- The tests of one table of a plan.
-use Rattle.std.specs.Prelude.{codes, Bool, false, not, ◌&&◌, ◌||◌, ◌==◌, List, length, is_some, is_none}
+use Rattle.std.specs.Prelude.{codes, Bool, false, not, ◌&&◌, ◌||◌, ◌==◌, List, [], ◌∷◌, length, is_some, is_none}
 use Rattle.std.specs.List.{list_any}
 use Rattle.std.specs.Option.{option_map_or}
 use Rattle.std.specs.Str.{bytes_eq}
@@ -31,12 +31,12 @@ abbrev pub asks_for_process : Data → Bool
 asks_for_process d = bytes_eq (isolation_of d) (codes "process")
 
 -- a needle where nothing is counted, or requirements where no process is asked for
-abbrev pub has_idle_key : Data → Bool
-has_idle_key d = (is_some (get (codes "needle") d) && not (counts d)) || (is_some (get (codes "requirements") d) && not (asks_for_process d))
+abbrev pub has_idle_key : TableKind → Data → Bool
+has_idle_key Item d = (is_some (get (codes "needle") d) && not (counts d)) || (is_some (get (codes "requirements") d) && not (asks_for_process d))
+has_idle_key _ d = false
 
 abbrev pub unknown_key : TableKind → Data → Bool
-unknown_key Item d = has_other_key (rules Item) d || has_idle_key d
-unknown_key kind d = has_other_key (rules kind) d
+unknown_key kind d = has_other_key (rules kind) d || has_idle_key kind d
 
 -- ---- a value of another type
 
@@ -82,3 +82,6 @@ holds UnknownKey = unknown_key
 holds WrongType = wrong_type
 holds Missing = missing
 holds BadName = bad_name
+
+abbrev pub tests : List TableTest
+tests = UnknownKey ∷ WrongType ∷ Missing ∷ BadName ∷ []

@@ -2,7 +2,7 @@
 ghost use Rattle.std.specs.Prelude.{◌≡◌, true, map, Some, None, Ok, Err, IfOk, IfErr};
 ghost use Rattle.toml.specs.View.{view};
 ghost use Rattle.plan_table.specs.declared.refusals.PlanRefusal.TheVariants.{NotToml};
-ghost use Rattle.plan_table.specs.Document.{document_of, document_or_not_toml, document_reading, Refuses, ReadsDocument, have_numbers, is_numbered};
+ghost use Rattle.plan_table.specs.Document.{document_of, document_or_not_toml, document_reading, RefusesDocument, ReadsDocument, have_numbers, is_numbered};
 
 use crate::keys::{projects_of, requirements_of, tasks_of};
 use crate::refusals::{PlanFail, PlanRefusal};
@@ -25,7 +25,7 @@ fn parse_document(alloc: Global, bytes: &[u8]) -> Result<Value, PlanFail>
     }
 }
 
-#[tactic(auto, using(crate::proofs::Lists::length_of_view))]
+#[tactic(auto, using(crate::proofs::lemmas::Lists::length_of_view))]
 fn have_numbers(values: &[Value]) -> bool
     ensures { result ≡ have_numbers (map view values.now) }
 {

@@ -6,6 +6,7 @@ mod document;
 mod forms;
 mod keys;
 mod laws;
+mod look;
 mod refusal_places;
 mod refusals;
 mod rules;
@@ -16,7 +17,6 @@ mod taking;
 mod values;
 
 pub use document::read_document;
-pub use forms::{MAX_NAME_BYTES, is_encoding, is_executable, is_key, is_name, is_needle, is_value};
 pub use keys::{
     actions_of, after_of, args_of, assertions_of, debug_of, do_of, fetch_of, heap_of, isolation_of,
     items_of, name_of, needle_of, project_of, projects_of, properties_of, requirements_name_of,

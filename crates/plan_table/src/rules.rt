@@ -1,10 +1,9 @@
 //! The keys that each table of a plan may have, and what may stand under them.
-ghost use Rattle.std.specs.Prelude.{◌≡◌, Some, string_bytes, map};
+ghost use Rattle.std.specs.Prelude.{◌≡◌, ◌&&◌, Some, string_bytes, map};
 ghost use Rattle.std.specs.List.{list_all};
 ghost use Rattle.toml.specs.View.{view};
-ghost use Rattle.plan_table.specs.Forms.{is_name, is_value};
-ghost use Rattle.plan_table.specs.Values.{text_of, texts_of, table_pairs};
-ghost use Rattle.plan_table.specs.Rules.{rule_of, rules, isolations, has_type, is_setting, has_form};
+ghost use Rattle.plan_table.specs.Values.{is_array_of_texts, is_text, text_of, texts_of, table_pairs};
+ghost use Rattle.plan_table.specs.Rules.{rule_of, rules, isolations, has_type, is_formed, is_setting, has_form, fits};
 
 use crate::forms::{is_encoding, is_executable, is_key, is_name, is_needle, is_value};
 use crate::values::{is_array_of_texts, is_table_of_texts, is_word, members, text_of};
@@ -23,17 +22,24 @@ pub(crate) enum TableKind {
     Requirements,
 }
 
-/// What may stand under a key: its type and, for texts, their form.
+/// The form of a text.
 #[derive(Clone, Copy)]
-pub(crate) enum ValueForm {
+pub(crate) enum TextForm {
     Name,
-    Names,
     FileName,
     Needle,
     Executable,
     Encoding,
+    Argument,
+}
+
+/// What may stand under a key: its type and, for texts, their form.
+#[derive(Clone, Copy)]
+pub(crate) enum ValueForm {
+    /// One text.
+    One(TextForm),
     /// A list of texts.
-    Arguments,
+    Many(TextForm),
     /// A table of texts, for properties and variables.
     Settings,
     Wait,
@@ -54,18 +60,13 @@ pub(crate) struct KeyRule {
 }
 
 macro_rules! rule {
-    (required $key:literal: $form:ident) => {
+    (required $($row:tt)*) => { rule!(true, $($row)*) };
+    (optional $($row:tt)*) => { rule!(false, $($row)*) };
+    ($is_required:literal, $key:literal: $form:ident $(($text:ident))?) => {
         KeyRule {
             key: $key,
-            form: ValueForm::$form,
-            is_required: true,
-        }
-    };
-    (optional $key:literal: $form:ident) => {
-        KeyRule {
-            key: $key,
-            form: ValueForm::$form,
-            is_required: false,
+            form: ValueForm::$form $((TextForm::$text))?,
+            is_required: $is_required,
         }
     };
 }
@@ -76,39 +77,39 @@ static DOCUMENT_RULES: [KeyRule; 3] = [
     rule!(optional "requirements": Tables),
 ];
 
-static PROJECT_RULES: [KeyRule; 1] = [rule!(required "name": Name)];
+static PROJECT_RULES: [KeyRule; 1] = [rule!(required "name": One(Name))];
 
 static TASK_RULES: [KeyRule; 4] = [
-    rule!(required "name": Name),
-    rule!(required "project": Name),
-    rule!(optional "after": Names),
+    rule!(required "name": One(Name)),
+    rule!(required "project": One(Name)),
+    rule!(optional "after": Many(Name)),
     rule!(optional "action": Tables),
 ];
 
 static ACTION_RULES: [KeyRule; 3] = [
     rule!(optional "wait": Wait),
-    rule!(optional "fetch": FileName),
+    rule!(optional "fetch": One(FileName)),
     rule!(required "item": Tables),
 ];
 
 static ITEM_RULES: [KeyRule; 5] = [
     rule!(required "do": Do),
-    rule!(required "file": FileName),
-    rule!(optional "needle": Needle),
+    rule!(required "file": One(FileName)),
+    rule!(optional "needle": One(Needle)),
     rule!(optional "isolation": Isolation),
-    rule!(optional "requirements": Name),
+    rule!(optional "requirements": One(Name)),
 ];
 
 static REQUIREMENTS_RULES: [KeyRule; 9] = [
-    rule!(required "name": Name),
-    rule!(optional "executable": Executable),
+    rule!(required "name": One(Name)),
+    rule!(optional "executable": One(Executable)),
     rule!(optional "heap_mb": Integer),
-    rule!(optional "args": Arguments),
+    rule!(optional "args": Many(Argument)),
     rule!(optional "properties": Settings),
     rule!(optional "variables": Settings),
     rule!(optional "debug": Boolean),
     rule!(optional "assertions": Boolean),
-    rule!(optional "encoding": Encoding),
+    rule!(optional "encoding": One(Encoding)),
 ];
 
 /// The keys that a table of this sort may have.
@@ -132,12 +133,8 @@ pub(crate) fn has_type(form: ValueForm, value: &Value) -> bool
     ensures { result ≡ has_type form (view value.now) }
 {
     match form {
-        ValueForm::Name
-        | ValueForm::FileName
-        | ValueForm::Needle
-        | ValueForm::Executable
-        | ValueForm::Encoding => value.is_str(),
-        ValueForm::Names | ValueForm::Arguments => is_array_of_texts(value),
+        ValueForm::One(_) => value.is_str(),
+        ValueForm::Many(_) => is_array_of_texts(value),
         ValueForm::Settings => is_table_of_texts(value),
         ValueForm::Wait => Retention::of_word(text_of(value)).is_some(),
         ValueForm::Do => ActionKind::of_word(text_of(value)).is_some(),
@@ -148,32 +145,29 @@ pub(crate) fn has_type(form: ValueForm, value: &Value) -> bool
     }
 }
 
-fn are_names(values: &[Value]) -> bool
-    ensures { result ≡ list_all (λ v. is_name (text_of (view v))) values.now }
+fn is_formed(form: TextForm, text: &str) -> bool
+    ensures { result ≡ is_formed form text.now }
 {
-    values
-        .iter()
-        .all(|value| is_name(text_of(value).as_bytes()))
+    match form {
+        TextForm::Name => is_name(text.as_bytes()),
+        TextForm::FileName => is_file_name(text.as_bytes()),
+        TextForm::Needle => is_needle(text.as_bytes()),
+        TextForm::Executable => is_executable(text.as_bytes()),
+        TextForm::Encoding => is_encoding(text.as_bytes()),
+        TextForm::Argument => is_value(text.as_bytes()),
+    }
 }
 
-fn has_names(value: &Value) -> bool
-    ensures { result ≡ list_all is_name (texts_of (view value.now)) }
+fn are_formed(form: TextForm, values: &[Value]) -> bool
+    ensures { result ≡ list_all (λ v. is_formed form (text_of (view v))) values.now }
 {
-    are_names(members(value))
+    values.iter().all(|value| is_formed(form, text_of(value)))
 }
 
-fn are_arguments(values: &[Value]) -> bool
-    ensures { result ≡ list_all (λ v. is_value (text_of (view v))) values.now }
+fn has_formed_texts(form: TextForm, value: &Value) -> bool
+    ensures { result ≡ list_all (is_formed form) (texts_of (view value.now)) }
 {
-    values
-        .iter()
-        .all(|value| is_value(text_of(value).as_bytes()))
-}
-
-fn has_arguments(value: &Value) -> bool
-    ensures { result ≡ list_all is_value (texts_of (view value.now)) }
-{
-    are_arguments(members(value))
+    are_formed(form, members(value))
 }
 
 fn are_settings(table: &Table) -> bool
@@ -182,7 +176,7 @@ fn are_settings(table: &Table) -> bool
     table.iter().all(|(key, value)| is_key(key.as_bytes()) && is_value(text_of(value).as_bytes()))
 }
 
-#[tactic(auto, using(crate::proofs::Lists::settings_of_table))]
+#[tactic(auto, using(crate::proofs::lemmas::Lists::settings_of_table))]
 fn has_settings(value: &Value) -> bool
     ensures { result ≡ list_all is_setting (table_pairs (Some (view value.now))) }
 {
@@ -197,19 +191,46 @@ pub(crate) fn has_form(form: ValueForm, value: &Value) -> bool
     ensures { result ≡ has_form form (view value.now) }
 {
     match form {
-        ValueForm::Name => is_name(text_of(value).as_bytes()),
-        ValueForm::FileName => is_file_name(text_of(value).as_bytes()),
-        ValueForm::Needle => is_needle(text_of(value).as_bytes()),
-        ValueForm::Executable => is_executable(text_of(value).as_bytes()),
-        ValueForm::Encoding => is_encoding(text_of(value).as_bytes()),
-        ValueForm::Names => has_names(value),
-        ValueForm::Arguments => has_arguments(value),
+        ValueForm::One(form) => is_formed(form, text_of(value)),
+        ValueForm::Many(form) => has_formed_texts(form, value),
         ValueForm::Settings => has_settings(value),
-        ValueForm::Wait
-        | ValueForm::Do
-        | ValueForm::Isolation
-        | ValueForm::Integer
-        | ValueForm::Boolean
-        | ValueForm::Tables => true,
+        _ => true,
+    }
+}
+
+fn is_text_in(form: TextForm, value: &Value) -> bool
+    ensures { result ≡ (is_text (view value.now) && is_formed form (text_of (view value.now))) }
+{
+    match value {
+        Value::String(text) => is_formed(form, text.as_str()),
+        _ => false,
+    }
+}
+
+fn are_texts_in(form: TextForm, values: &[Value]) -> bool
+    ensures { result ≡ list_all (λ v. is_text (view v) && is_formed form (text_of (view v))) values.now }
+{
+    values.iter().all(|value| is_text_in(form, value))
+}
+
+#[tactic(auto, using(crate::proofs::lemmas::Lists::texts_of_array))]
+fn is_array_in(form: TextForm, value: &Value) -> bool
+    ensures { result ≡ (is_array_of_texts (view value.now) && list_all (is_formed form) (texts_of (view value.now))) }
+{
+    match value {
+        Value::Array(values) => are_texts_in(form, values.as_slice()),
+        _ => false,
+    }
+}
+
+/// Whether the value has the type that the form asks for, with its texts in their form. Nearly all values are texts and
+/// lists of texts, which are looked at once for both.
+pub(crate) fn fits(form: ValueForm, value: &Value) -> bool
+    ensures { result ≡ fits form (view value.now) }
+{
+    match form {
+        ValueForm::One(form) => is_text_in(form, value),
+        ValueForm::Many(form) => is_array_in(form, value),
+        _ => has_type(form, value) && has_form(form, value),
     }
 }

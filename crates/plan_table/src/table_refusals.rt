@@ -1,59 +1,64 @@
 //! The first refusal that the tables of a plan give by themselves.
-ghost use Rattle.std.specs.Prelude.{◌≡◌, true, option_map};
+ghost use Rattle.std.specs.Prelude.{◌≡◌, true, is_none, option_map};
 ghost use Rattle.std.specs.List.{list_any};
 ghost use Rattle.toml.specs.View.{view};
 ghost use Rattle.plan_table.specs.Document.{is_numbered};
 ghost use Rattle.plan_table.specs.Keys.{actions_of, items_of};
-ghost use Rattle.plan_table.specs.Search.{holds_in_action, holds_at, first_place, refusal_of, table_refusal};
-ghost use Rattle.plan_table.specs.Tables.{holds};
+ghost use Rattle.plan_table.specs.Look.{is_found};
+ghost use Rattle.plan_table.specs.Search.{in_action, in_part, holds_at, first_place, refusal_of, table_refusal};
 
 use crate::keys::{actions_of, items_of};
+use crate::look::{Sought, is_found};
 use crate::refusals::{Part, Place, PlanRefusal};
 use crate::rules::TableKind;
 use crate::search::{PlaceTest, first_place};
-use crate::tables::{TableTest, holds};
+use crate::tables::TableTest;
 use toml::Value;
 
-fn holds_in_items(test: TableTest, items: &[Value]) -> bool
-    ensures { result ≡ list_any (λ v. holds test TableKind.Item (view v)) items.now }
+fn is_in_items(sought: Sought, items: &[Value]) -> bool
+    ensures { result ≡ list_any (λ v. is_found sought TableKind.Item (view v)) items.now }
 {
-    items.iter().any(|item| holds(test, TableKind::Item, item))
+    items
+        .iter()
+        .any(|item| is_found(sought, TableKind::Item, item))
 }
 
-fn holds_in_items_of(test: TableTest, action: &Value) -> bool
-    ensures { result ≡ list_any (holds test TableKind.Item) (items_of (view action.now)) }
+fn is_in_items_of(sought: Sought, action: &Value) -> bool
+    ensures { result ≡ list_any (is_found sought TableKind.Item) (items_of (view action.now)) }
 {
-    holds_in_items(test, items_of(action))
+    is_in_items(sought, items_of(action))
 }
 
-fn holds_in_action(test: TableTest, action: &Value) -> bool
-    ensures { result ≡ holds_in_action test (view action.now) }
+fn is_in_action(sought: Sought, action: &Value) -> bool
+    ensures { result ≡ in_action (is_found sought) (view action.now) }
 {
-    holds(test, TableKind::Action, action) || holds_in_items_of(test, action)
+    is_found(sought, TableKind::Action, action) || is_in_items_of(sought, action)
 }
 
-fn holds_in_actions(test: TableTest, actions: &[Value]) -> bool
-    ensures { result ≡ list_any (λ v. holds_in_action test (view v)) actions.now }
+fn is_in_actions(sought: Sought, actions: &[Value]) -> bool
+    ensures { result ≡ list_any (λ v. in_action (is_found sought) (view v)) actions.now }
 {
-    actions.iter().any(|action| holds_in_action(test, action))
+    actions.iter().any(|action| is_in_action(sought, action))
 }
 
-fn holds_in_actions_of(test: TableTest, task: &Value) -> bool
-    ensures { result ≡ list_any (holds_in_action test) (actions_of (view task.now)) }
+fn is_in_actions_of(sought: Sought, task: &Value) -> bool
+    ensures { result ≡ list_any (in_action (is_found sought)) (actions_of (view task.now)) }
 {
-    holds_in_actions(test, actions_of(task))
+    is_in_actions(sought, actions_of(task))
 }
 
-// What stands in an action or an item holds at its task.
-impl PlaceTest for TableTest {
-    ghost test = { holds_at };
+// What stands in an action or an item is found at its task.
+impl PlaceTest for Sought {
+    ghost test = { λ s. in_part (is_found s) };
 
     fn holds(&self, part: Part, table: &Value) -> bool {
         match part {
-            Part::Plan => holds(*self, TableKind::Document, table),
-            Part::Project => holds(*self, TableKind::Project, table),
-            Part::Task => holds(*self, TableKind::Task, table) || holds_in_actions_of(*self, table),
-            Part::Requirements => holds(*self, TableKind::Requirements, table),
+            Part::Plan => is_found(*self, TableKind::Document, table),
+            Part::Project => is_found(*self, TableKind::Project, table),
+            Part::Task => {
+                is_found(*self, TableKind::Task, table) || is_in_actions_of(*self, table)
+            }
+            Part::Requirements => is_found(*self, TableKind::Requirements, table),
         }
     }
 }
@@ -62,7 +67,7 @@ fn refusal_by(test: TableTest, document: &Value) -> Option<PlanRefusal>
     requires { is_numbered (view document.now) ≡ true }
     ensures { result ≡ option_map (refusal_of test) (first_place (holds_at test) (view document.now)) }
 {
-    match first_place(&test, document) {
+    match first_place(&Sought::One(test), document) {
         Some(place) => Some(refusal_of(test, place)),
         None => None,
     }
@@ -79,12 +84,26 @@ fn refusal_of(test: TableTest, place: Place) -> PlanRefusal
     }
 }
 
+/// Whether one look at each table finds nothing to refuse.
+#[tactic(auto, using(crate::proofs::lemmas::LookLaws::nothing_refused))]
+fn refuses_nothing(document: &Value) -> bool
+    requires { is_numbered (view document.now) ≡ true }
+    ensures { result ≡ is_none (table_refusal (view document.now)) }
+{
+    first_place(&Sought::Anything, document).is_none()
+}
+
 /// The first refusal among UnknownKey, WrongType, Missing and BadName that the tables of a document give, at its
 /// first place. It takes no memory. `read_document` gives documents that are numbered.
+///
+/// Each table is looked at once. Only where that look finds something, the first refusal is searched.
 pub fn table_refusal(document: &Value) -> Option<PlanRefusal>
     requires { is_numbered (view document.now) ≡ true }
     ensures { result ≡ table_refusal (view document.now) }
 {
+    if refuses_nothing(document) {
+        return None;
+    }
     if let Some(refusal) = refusal_by(TableTest::UnknownKey, document) {
         return Some(refusal);
     }

@@ -35,7 +35,7 @@ fn is_key_of_rule(rules: &[KeyRule], key: &str) -> bool
     rules.iter().any(|rule| rule.key == key)
 }
 
-#[tactic(auto, using(crate::proofs::Lists::any_of_map))]
+#[tactic(auto, using(crate::proofs::lemmas::Lists::any_of_map))]
 fn has_rule(rules: &[KeyRule], key: &str) -> bool
     ensures { result ≡ has_rule (map rule_of rules.now) key.now }
 {
@@ -48,20 +48,14 @@ fn has_key_without_rule(table: &Table, rules: &[KeyRule]) -> bool
     table.keys().any(|key| !has_rule(rules, key.as_str()))
 }
 
-#[tactic(auto, using(crate::proofs::Lists::other_key_of_table))]
-fn has_other_key(table: &Value, rules: &[KeyRule]) -> bool
-    ensures { result ≡ has_other_key (map rule_of rules.now) (view table.now) }
-{
-    match table {
-        Value::Table(table) => has_key_without_rule(table, rules),
-        _ => false,
-    }
-}
-
-fn has_unknown_key(kind: TableKind, table: &Value) -> bool
+#[tactic(auto, using(crate::proofs::lemmas::Lists::other_key_of_table))]
+fn has_other_key(kind: TableKind, table: &Value) -> bool
     ensures { result ≡ has_other_key (rules kind) (view table.now) }
 {
-    has_other_key(table, rules_of(kind))
+    match table {
+        Value::Table(table) => has_key_without_rule(table, rules_of(kind)),
+        _ => false,
+    }
 }
 
 fn counts(item: &Value) -> bool
@@ -76,30 +70,36 @@ fn asks_for_process(item: &Value) -> bool
     isolation_of(item) == "process"
 }
 
-fn has_idle_key(item: &Value) -> bool
-    ensures { result ≡ has_idle_key (view item.now) }
+/// Whether a key stands there that means nothing beside the others.
+pub(crate) fn has_idle_key(kind: TableKind, table: &Value) -> bool
+    ensures { result ≡ has_idle_key kind (view table.now) }
 {
-    item.get("needle").is_some() && !counts(item)
-        || item.get("requirements").is_some() && !asks_for_process(item)
+    match kind {
+        TableKind::Item => {
+            table.get("needle").is_some() && !counts(table)
+                || table.get("requirements").is_some() && !asks_for_process(table)
+        }
+        _ => false,
+    }
 }
 
 fn unknown_key(kind: TableKind, table: &Value) -> bool
     ensures { result ≡ unknown_key kind (view table.now) }
 {
-    match kind {
-        TableKind::Item => has_unknown_key(kind, table) || has_idle_key(table),
-        _ => has_unknown_key(kind, table),
-    }
+    has_other_key(kind, table) || has_idle_key(kind, table)
 }
 
 fn fails(test: RuleTest, table: &Value, rule: &KeyRule) -> bool
     ensures { result ≡ fails test (view table.now) (rule_of rule.now) }
 {
-    match (test, table.get(rule.key)) {
-        (RuleTest::Mistyped, Some(value)) => !has_type(rule.form, value),
-        (RuleTest::Misformed, Some(value)) => !has_form(rule.form, value),
-        (RuleTest::Lacking, None) => rule.is_required,
-        _ => false,
+    match test {
+        RuleTest::Mistyped => table
+            .get(rule.key)
+            .is_some_and(|value| !has_type(rule.form, value)),
+        RuleTest::Misformed => table
+            .get(rule.key)
+            .is_some_and(|value| !has_form(rule.form, value)),
+        RuleTest::Lacking => rule.is_required && table.get(rule.key).is_none(),
     }
 }
 
@@ -122,7 +122,7 @@ fn wrong_type(kind: TableKind, table: &Value) -> bool
     !table.is_table() || any_fails_of(RuleTest::Mistyped, kind, table)
 }
 
-#[tactic(auto, using(crate::proofs::Lists::length_of_view))]
+#[tactic(auto, using(crate::proofs::lemmas::Lists::length_of_view))]
 fn has_no_items(action: &Value) -> bool
     ensures { result ≡ (length (items_of (view action.now)) == 0) }
 {
@@ -139,7 +139,8 @@ fn lacks_more(kind: TableKind, table: &Value) -> bool
     }
 }
 
-fn missing(kind: TableKind, table: &Value) -> bool
+/// Whether a key isn't there that should be.
+pub(crate) fn missing(kind: TableKind, table: &Value) -> bool
     ensures { result ≡ missing kind (view table.now) }
 {
     any_fails_of(RuleTest::Lacking, kind, table) || lacks_more(kind, table)

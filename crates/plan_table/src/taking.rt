@@ -3,7 +3,7 @@
 ghost use Rattle.std.specs.Prelude.{◌≡◌, codes, map, string_bytes, option_map, IfOk};
 ghost use Rattle.toml.specs.Data.{get};
 ghost use Rattle.toml.specs.View.{view};
-ghost use Rattle.plan_table.specs.Values.{elements, table_pairs, text_of, text_or_empty, text_or, list_at, text_at, pairs_at, optional_text_at};
+ghost use Rattle.plan_table.specs.Values.{text_of, text_or, list_at, text_at, pairs_at, optional_text_at};
 ghost use Rattle.plan_table.specs.Keys.{projects_of, tasks_of, requirements_of, name_of, actions_of, fetch_of, items_of, file_of, executable_of, args_of, properties_of, variables_of, encoding_of};
 ghost use Rattle.plan_table.specs.Taking.{KeepsOthers};
 
@@ -44,41 +44,13 @@ pub fn into_text(alloc: Global, value: Value) -> Text
     }
 }
 
-fn into_text_or_empty(alloc: Global, value: Option<Value>) -> Text
-    ensures { result ≡ text_or_empty (option_map view value) }
-{
-    match value {
-        Some(value) => into_text(alloc, value),
-        None => Text::from(String::new(alloc)),
-    }
-}
-
-/// The members of an array, and none of another value.
-#[tactic(auto, using(crate::proofs::Lists::elements_of_array))]
-fn into_elements(alloc: Global, value: Option<Value>) -> Vec<Value>
-    ensures { map view result.items ≡ elements (option_map view value) }
-{
-    match value {
-        Some(Value::Array(items)) => items,
-        _ => Vec::new(alloc),
-    }
-}
-
 fn take_text(alloc: Global, table: &mut Value, key: &str) -> Text
     ensures text { result ≡ text_at key.now (view table.old) }
     ensures others { KeepsOthers key.now (view table.old) (view table.new) }
 {
-    into_text_or_empty(alloc, take(table, key))
-}
-
-/// The members of a table, and none of another value.
-#[tactic(auto, using(crate::proofs::Lists::pairs_of_table))]
-fn into_members(alloc: Global, value: Option<Value>) -> Table
-    ensures { map (λ e. (string_bytes e.0, text_of (view e.1))) result.entries ≡ table_pairs (option_map view value) }
-{
-    match value {
-        Some(Value::Table(members)) => members,
-        _ => Table::new(alloc),
+    match take(table, key) {
+        Some(value) => into_text(alloc, value),
+        None => Text::from(String::new(alloc)),
     }
 }
 
@@ -97,18 +69,28 @@ fn take_text_or(
     }
 }
 
+/// Takes the members of a table, and none of another value.
+#[tactic(auto, using(crate::proofs::lemmas::Lists::pairs_of_table))]
 fn take_members(alloc: Global, table: &mut Value, key: &str) -> Table
     ensures members { map (λ e. (string_bytes e.0, text_of (view e.1))) result.entries ≡ pairs_at key.now (view table.old) }
     ensures others { KeepsOthers key.now (view table.old) (view table.new) }
 {
-    into_members(alloc, take(table, key))
+    match take(table, key) {
+        Some(Value::Table(members)) => members,
+        _ => Table::new(alloc),
+    }
 }
 
+/// Takes the members of an array, and none of another value.
+#[tactic(auto, using(crate::proofs::lemmas::Lists::elements_of_array))]
 fn take_list(alloc: Global, table: &mut Value, key: &str) -> Vec<Value>
     ensures list { map view result.items ≡ list_at key.now (view table.old) }
     ensures others { KeepsOthers key.now (view table.old) (view table.new) }
 {
-    into_elements(alloc, take(table, key))
+    match take(table, key) {
+        Some(Value::Array(items)) => items,
+        _ => Vec::new(alloc),
+    }
 }
 
 /// Takes the projects of a document.

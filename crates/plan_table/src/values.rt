@@ -4,7 +4,7 @@ ghost use Rattle.std.specs.Prelude.{string_bytes, ◌≡◌, [], map, Some, opti
 ghost use Rattle.std.specs.List.{list_all};
 ghost use Rattle.std.specs.Option.{option_map_or};
 ghost use Rattle.toml.specs.View.{view};
-ghost use Rattle.plan_table.specs.Values.{elements, text_of, text_or_empty, text_or, integer_or, boolean_or, optional_text_at, table_pairs, list_at, text_at, is_text, is_array_of_texts, is_table_of_texts, is_word};
+ghost use Rattle.plan_table.specs.Values.{elements, text_of, text_or, integer_or, boolean_or, optional_text_at, table_pairs, list_at, text_at, is_text, is_array_of_texts, is_table_of_texts, is_word};
 
 use toml::{Table, Value};
 
@@ -19,22 +19,13 @@ pub fn text_of<'a>(value: &'a Value) -> &'a str
 }
 
 /// The members of an array, and none of another value.
-#[tactic(auto, using(crate::proofs::Lists::elements_of_array))]
+#[tactic(auto, using(crate::proofs::lemmas::Lists::elements_of_array))]
 fn elements<'a>(value: Option<&'a Value>) -> &'a [Value]
     ensures { map view result.now ≡ elements (option_map (λ v. view v.now) value.entry) }
 {
     match value {
         Some(Value::Array(items)) => items.as_slice(),
         _ => &[],
-    }
-}
-
-fn text_or_empty<'a>(value: Option<&'a Value>) -> &'a str
-    ensures { result.now ≡ text_or_empty (option_map (λ v. view v.now) value.entry) }
-{
-    match value {
-        Some(value) => text_of(value),
-        None => "",
     }
 }
 
@@ -47,7 +38,7 @@ pub(crate) fn list_at<'a>(value: &'a Value, key: &str) -> &'a [Value]
 pub(crate) fn text_at<'a>(value: &'a Value, key: &str) -> &'a str
     ensures { result.now ≡ text_at key.now (view value.entry.now) }
 {
-    text_or_empty(value.get(key))
+    text_or(value.get(key), "")
 }
 
 pub(crate) fn text_or<'a>(value: Option<&'a Value>, default: &'static str) -> &'a str
@@ -87,7 +78,7 @@ pub(crate) fn boolean_or(value: Option<&Value>, default: bool) -> bool
 }
 
 /// The table, and none in place of another value.
-#[tactic(auto, using(crate::proofs::Lists::pairs_of_table))]
+#[tactic(auto, using(crate::proofs::lemmas::Lists::pairs_of_table))]
 pub(crate) fn table_of<'a>(value: Option<&'a Value>) -> Option<&'a Table>
     ensures { option_map_or (λ m. map (λ e. (string_bytes e.0, text_of (view e.1))) m.now.entries) result [] ≡ table_pairs
         (option_map (λ v. view v.now) value.entry) }
@@ -129,7 +120,7 @@ fn has_text_values(table: &Table) -> bool
     table.values().all(Value::is_str)
 }
 
-#[tactic(auto, using(crate::proofs::Lists::texts_of_table))]
+#[tactic(auto, using(crate::proofs::lemmas::Lists::texts_of_table))]
 pub(crate) fn is_table_of_texts(value: &Value) -> bool
     ensures { result ≡ is_table_of_texts (view value.now) }
 {
@@ -140,7 +131,7 @@ pub(crate) fn is_table_of_texts(value: &Value) -> bool
 }
 
 /// Whether the text is one of these words.
-#[tactic(auto, using(crate::proofs::Lists::any_of_map))]
+#[tactic(auto, using(crate::proofs::lemmas::Lists::any_of_map))]
 pub(crate) fn is_word(value: &Value, words: &[&str]) -> bool
     ensures { result ≡ is_word (map (λ s. s.now) words.now) (view value.now) }
 {

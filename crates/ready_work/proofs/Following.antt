@@ -15,9 +15,9 @@ use Rattle.resource_lock.specs.declared.ids.WorkerId.{WorkerId}
 use Rattle.resource_lock.specs.declared.marks.Mark.{Mark}
 use Rattle.resource_lock.specs.declared.marks.Mark.TheVariants.{Waiting, Queued, Running, Passed, Failed, Skipped}
 use Rattle.resource_lock.specs.declared.marks.MarkId.TheVariants.{Task as TaskOf, Action as ActionOf, Unit as UnitOf}
-use Rattle.resource_lock.proofs.Lists.{get_or-set_cases}
-use Rattle.resource_lock.proofs.Runs.{all_named_along, same_shape-make_all}
-use Rattle.resource_lock.proofs.Undo.{same_mark_is}
+use Rattle.resource_lock.proofs.lemmas.Lists.{get_or-set_cases}
+use Rattle.resource_lock.proofs.lemmas.Runs.{all_named_along, same_shape-make_all}
+use Rattle.resource_lock.proofs.lemmas.Undo.{same_mark_is}
 use Rattle.ready_work.specs.Choices.{CanSkip, IsFree, IsStartable, IsOpenUnit, IsQueued, IsUnended}
 use Rattle.ready_work.specs.Dependents.{AreDependents}
 use Rattle.ready_work.specs.ReadyWork.{Follows, IsIndexBut, Notes, TouchLock, TouchTask, TouchUnit, TouchesLock, TouchesTask, TouchesUnit}

@@ -6,10 +6,10 @@ use Rattle.std.proofs.lemmas.List.{map-set, get_or-map, length-map, length-set, 
 use Rattle.std.proofs.lemmas.List.Sums.{count_by-le-length, get_or-le-sum_by}
 use Rattle.std.proofs.lemmas.List.Elements.{All-set}
 use Rattle.std.proofs.lemmas.Bool.{and_parts, not-true, cases_eq}
-use Rattle.resource_lock.proofs.Undo.{same_worker, holding_now}
-use Rattle.resource_lock.proofs.Lists.{one_if, length-le_from_once}
-use Rattle.resource_lock.proofs.Kept.{kept, leases-with_holding}
-use Rattle.resource_lock.proofs.Counted.{own_counts, other_counts, moves, can_recount}
+use Rattle.resource_lock.proofs.lemmas.Undo.{same_worker, holding_now}
+use Rattle.resource_lock.proofs.lemmas.Lists.{one_if, length-le_from_once}
+use Rattle.resource_lock.proofs.lemmas.Kept.{kept, leases-with_holding}
+use Rattle.resource_lock.proofs.lemmas.Counted.{own_counts, other_counts, moves, can_recount}
 use Rattle.resource_lock.specs.StateView.{StateView, Holding, empty_holding, holding_of, is_owner, leases_out, IsWorkerOf}
 use Rattle.resource_lock.specs.Change.{can, make, holding_after, with_owner, with_mark, NamesOnly}
 use Rattle.resource_lock.specs.Good.{Good}

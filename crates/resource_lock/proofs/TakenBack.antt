@@ -1,7 +1,7 @@
 -- Changes that led to a state, without the last of them.
 use Rattle.std.proofs.Common.{List, [], ◌∷◌, ◌++◌, sym, ◌∙◌, subst}
 use Rattle.std.proofs.lemmas.Bool.{and_parts}
-use Rattle.resource_lock.proofs.Runs.{same_shape-make_all, worker_along, all_named-append, can_all-append, TakesBack, last_taken_back}
+use Rattle.resource_lock.proofs.lemmas.Runs.{same_shape-make_all, worker_along, all_named-append, can_all-append, TakesBack, last_taken_back}
 use Rattle.resource_lock.specs.StateView.{StateView, IsWorkerOf}
 use Rattle.resource_lock.specs.Change.{make, make_all, can_all, inverse_of}
 use Rattle.resource_lock.specs.Shape.{SameShape}

@@ -17,3 +17,4 @@ pub mod Counting
 pub mod Shape
 pub mod Leading
 pub mod Words
+pub mod ProjectLocks

@@ -9,6 +9,7 @@ mod ids;
 mod laws;
 mod limits;
 mod marks;
+mod project_locks;
 mod states;
 mod unit_ranges;
 
@@ -20,4 +21,5 @@ pub use limits::{
     MAX_ACTIONS_PER_TASK, MAX_AFTER, MAX_LEASES, MAX_LOCKS, MAX_TASKS, MAX_UNITS, MAX_WORKERS,
 };
 pub use marks::{Mark, MarkId};
+pub use project_locks::{project_lock, project_lock_count};
 pub use states::State;

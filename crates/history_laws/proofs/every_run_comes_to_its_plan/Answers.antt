@@ -1,6 +1,6 @@
 -- Each is a lemma, for a graph that fits and where every mark has ended.
 use Rattle.history_laws.proofs.Ending.{ended_by_tasks}
-use Rattle.history_laws.proofs.Fitting.{apart_of}
+use Rattle.history_laws.proofs.lemmas.Fitting.{apart_of}
 use Rattle.history_laws.proofs.Order.{is_orderly}
 use Rattle.history_laws.proofs.Plan.{comes_to}
 use Rattle.history_laws.proofs.Runs.{holds_after}

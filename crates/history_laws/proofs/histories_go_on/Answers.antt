@@ -1,5 +1,5 @@
 -- Each is a lemma.
-use Rattle.history_laws.proofs.Growing.{lawful-front, marks_stay, tasks_stay}
+use Rattle.history_laws.proofs.lemmas.Growing.{lawful-front, marks_stay, tasks_stay}
 use Rattle.history_laws.proofs.histories_go_on.Goals as goal
 
 pub returns : goal.returns

@@ -1,5 +1,5 @@
 -- All are lemmas.
-use Rattle.history_laws.proofs.Named.{belongs, good, named}
+use Rattle.history_laws.proofs.lemmas.Named.{belongs, good, named}
 use Rattle.history_laws.proofs.lawful_histories_lead_to_good_states.Goals as goal
 
 pub returns : goal.returns

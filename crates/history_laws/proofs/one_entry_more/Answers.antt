@@ -1,5 +1,5 @@
 -- Each is a lemma.
-use Rattle.history_laws.proofs.Growing.{lawful-push, replay-push, closings-push, outcome_in-push, closed_by-push, faults_by-push}
+use Rattle.history_laws.proofs.lemmas.Growing.{lawful-push, replay-push, closings-push, outcome_in-push, closed_by-push, faults_by-push}
 use Rattle.history_laws.proofs.one_entry_more.Goals as goal
 
 pub returns : goal.returns

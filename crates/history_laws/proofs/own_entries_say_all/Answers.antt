@@ -1,5 +1,5 @@
 -- Both are lemmas.
-use Rattle.history_laws.proofs.Growing.{closed_by-own, same_by_own}
+use Rattle.history_laws.proofs.lemmas.Growing.{closed_by-own, same_by_own}
 use Rattle.history_laws.proofs.own_entries_say_all.Goals as goal
 
 pub returns : goal.returns

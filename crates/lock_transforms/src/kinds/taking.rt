@@ -11,8 +11,8 @@ use resource_lock::LockId;
 /// none. It takes no memory.
 ///
 /// It answers whether all could be taken: false exactly where another worker owns one of the locks,
-/// or the worker has no lease and as many as may be are out. What was taken before the first that
-/// couldn't be is then still taken.
+/// or the worker has no lease and as many as may be are out. Exactly what comes before the first that
+/// couldn't be taken is then taken.
 pub fn take_all(work: &mut Tentative, locks: &[LockId]) -> bool
     requires in_range { All (IsLockOf work.old.state) locks.now }
     requires not_parked { All (λ l. has_parked work.old.state work.old.worker l ≡ false) locks.now }

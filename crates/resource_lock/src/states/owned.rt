@@ -1,5 +1,5 @@
 //! What a worker owns and runs, by its counts.
-#![tactic(auto, using(crate::proofs::Counted::any_counted))]
+#![tactic(auto, using(crate::proofs::lemmas::Counted::any_counted))]
 
 ghost use Rattle.std.specs.Prelude.{◌≡◌};
 ghost use Rattle.resource_lock.specs.Counting.{counts_of};

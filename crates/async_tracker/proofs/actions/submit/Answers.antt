@@ -1,6 +1,6 @@
 use Rattle.std.proofs.Common.{rules, ◌∙◌, ap, Ok}
-use Rattle.coordination.proofs.Shown.{looked_shows, stopped_for, stopped_shows, surely_finished}
-use Rattle.async_tracker.proofs.After.{halted}
+use Rattle.coordination.proofs.lemmas.Shown.{looked_shows, stopped_for, stopped_shows, surely_finished}
+use Rattle.async_tracker.proofs.lemmas.After.{halted}
 use Rattle.async_tracker.proofs.Parking.{cannot_queue, submitted_shows}
 use Rattle.async_tracker.proofs.actions.submit.Goals as goal
 

@@ -1,5 +1,5 @@
-use Rattle.coordination.proofs.Shown.{failed_shows, looked_shows, stopped_for, stopped_shows}
-use Rattle.async_tracker.proofs.After.{unless_finished}
+use Rattle.coordination.proofs.lemmas.Shown.{failed_shows, looked_shows, stopped_for, stopped_shows}
+use Rattle.async_tracker.proofs.lemmas.After.{unless_finished}
 use Rattle.async_tracker.proofs.Claiming.{claim_needs_lease, claimed_shows}
 use Rattle.async_tracker.proofs.items.claim.Goals as goal
 

@@ -9,10 +9,10 @@ use Rattle.resource_lock.specs.declared.marks.MarkId.TheVariants.{Unit as UnitOf
 use Rattle.history_laws.specs.OwnChanges.{mark_before, with_member, without_member}
 use Rattle.coordination.specs.declared.rule.Sight.{Sight}
 use Rattle.coordination.specs.Shown.{ShowsTheSame, lease_shown}
-use Rattle.coordination.proofs.Growing.{agrees_self}
+use Rattle.coordination.proofs.lemmas.Growing.{agrees_self}
 use Rattle.async_tracker.specs.Shows.{HasReleased, ShowsClaimed, ShowsClosed}
 use Rattle.async_tracker.proofs.Owned.{stands_in_owned}
-use Rattle.async_tracker.proofs.Turns.{free_still, parked_still, waits_still}
+use Rattle.async_tracker.proofs.lemmas.Turns.{free_still, parked_still, waits_still}
 use Rattle.async_tracker.proofs.laws.closing_undoes_claiming.Goals as goal
 
 -- a member that was added and taken out again

@@ -2,7 +2,7 @@ use Rattle.std.proofs.Common.{◌≡◌, Bool, true, false, not, Option, Some, N
 use Rattle.std.specs.Prelude.{is_none, is_some}
 use Rattle.resource_lock.specs.Ranges.{items_of}
 use Rattle.worker_choices.specs.NextSteps.{first_open}
-use Rattle.async_tracker.proofs.Resumed.{none_open}
+use Rattle.async_tracker.proofs.lemmas.Resumed.{none_open}
 use Rattle.async_tracker.proofs.open_items.ready.Goals as goal
 
 none_by : {X : Type 0} (o : Option X) (b : Bool) → is_some o ≡ not b → b ≡ is_none o

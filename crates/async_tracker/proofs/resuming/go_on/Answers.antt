@@ -1,8 +1,8 @@
 use Rattle.std.proofs.Common.{rules, subst}
 use Rattle.lock_transforms.specs.Allowed.{IsDisabled}
 use Rattle.lock_transforms.specs.declared.entries.Kind.TheVariants.{Resume}
-use Rattle.coordination.proofs.Shown.{stopped_for}
-use Rattle.async_tracker.proofs.Resumed.{cannot_resume, looked_none}
+use Rattle.coordination.proofs.lemmas.Shown.{stopped_for}
+use Rattle.async_tracker.proofs.lemmas.Resumed.{cannot_resume, looked_none}
 use Rattle.async_tracker.proofs.resuming.go_on.Goals as goal
 
 pub returns-in_err-with_state_lock-clause-no_memory : goal.returns-in_err-with_state_lock-clause-no_memory

@@ -1,8 +1,8 @@
 use Rattle.std.proofs.Common.{rules, Err, ap, ◌∙◌}
-use Rattle.coordination.proofs.Shown.{stopped_shows}
-use Rattle.async_tracker.proofs.After.{from_ok}
-use Rattle.async_tracker.proofs.Resumed.{resumed_shows}
-use Rattle.async_tracker.proofs.Turns.{answered_then, finished_then, stopped_then}
+use Rattle.coordination.proofs.lemmas.Shown.{stopped_shows}
+use Rattle.async_tracker.proofs.lemmas.After.{from_ok}
+use Rattle.async_tracker.proofs.lemmas.Resumed.{resumed_shows}
+use Rattle.async_tracker.proofs.lemmas.Turns.{answered_then, finished_then, stopped_then}
 use Rattle.async_tracker.proofs.resuming.resume.Goals as goal
 
 pub returns-in-Ok-clause-entry : goal.returns-in-Ok-clause-entry

@@ -1,5 +1,5 @@
 use Rattle.std.proofs.Common.{rules, Ok, ap, ◌∙◌, subst}
-use Rattle.coordination.proofs.Shown.{stopped_for, stopped_shows, surely_finished}
+use Rattle.coordination.proofs.lemmas.Shown.{stopped_for, stopped_shows, surely_finished}
 use Rattle.blocking_section.specs.Sections.{IsGivenBackBy}
 use Rattle.blocking_section.proofs.Entered.{given_back, not_ready, nothing_meanwhile, set_down_shows}
 use Rattle.blocking_section.proofs.Ready.{never_unready, only_with_unit}

@@ -1,4 +1,4 @@
-use Rattle.blocking_section.proofs.Stays.{given_back_stays}
+use Rattle.blocking_section.proofs.lemmas.Stays.{given_back_stays}
 use Rattle.blocking_section.proofs.laws.sections_outlast_others.Goals as goal
 
 pub returns : goal.returns

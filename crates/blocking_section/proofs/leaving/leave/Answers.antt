@@ -4,7 +4,7 @@ use Rattle.lock_transforms.specs.declared.entries.Kind.TheVariants.{Unblock}
 use Rattle.lock_transforms.specs.Allowed.{IsDisabled, IsFixedList}
 use Rattle.lock_transforms.specs.Taking.{rises}
 use Rattle.coordination.specs.Calls.{HasFinished, WasStopped}
-use Rattle.coordination.proofs.Shown.{stopped_for, stopped_shows, surely_finished}
+use Rattle.coordination.proofs.lemmas.Shown.{stopped_for, stopped_shows, surely_finished}
 use Rattle.blocking_section.specs.BlockedView.{BlockedView}
 use Rattle.blocking_section.specs.Sections.{closed_with}
 use Rattle.blocking_section.proofs.Down.{owned_rises}

@@ -1,5 +1,5 @@
 use Rattle.std.proofs.Common.{◌≡◌, refl}
-use Rattle.build_runner.proofs.FirstDesk.{of_each}
+use Rattle.build_runner.proofs.lemmas.FirstDesk.{of_each}
 use Rattle.build_runner.specs.Sent.{sent_view}
 use Rattle.build_runner.proofs.Sending.{same_view}
 use Rattle.build_runner.proofs.daemons.close_pool.Goals as goal

@@ -1,7 +1,7 @@
 use Rattle.std.proofs.Common.{◌<◌, length, map, refl, subst, sym, ◌∙◌}
 use Rattle.resource_lock.specs.Fits.{Fits}
 use Rattle.resource_lock.specs.GraphView.{GraphView}
-use Rattle.coordination.proofs.Shown.{answered_shows}
+use Rattle.coordination.proofs.lemmas.Shown.{answered_shows}
 use Rattle.build_runner.specs.Kept.{Keeps}
 use Rattle.build_runner.specs.Parked.{IsNextParked}
 use Rattle.build_runner.specs.Units.{unit_view}

@@ -1,6 +1,6 @@
 use Rattle.std.proofs.Common.{◌≡◌, Err, None, ap, map, refl, subst, ◌∙◌}
 use Rattle.worker_choices.specs.NextSteps.{first_open}
-use Rattle.async_tracker.proofs.Resumed.{none_open_found}
+use Rattle.async_tracker.proofs.lemmas.Resumed.{none_open_found}
 use Rattle.build_runner.proofs.Keeping.{finished_closes, keeps_still, keeps_then, of_ok, some_or_none, stopped_closes}
 use Rattle.build_runner.specs.Units.{unit_view}
 use Rattle.build_runner.proofs.Sending.{sent_nothing, sent_then}

@@ -2,7 +2,7 @@ use Rattle.std.proofs.Common.{◌≡◌, ◌++◌, List, drop, get_or, length, m
 use Rattle.std.specs.List.{All}
 use Rattle.resource_lock.specs.GraphView.{GraphView}
 use Rattle.history_laws.specs.ClosedBy.{closed_by}
-use Rattle.daemon_items.specs.Requests.{SentView}
+use Rattle.item_work.specs.Requests.{SentView}
 use Rattle.coordination.specs.Sights.{workers_from}
 use Rattle.coordination.specs.declared.services.Opened.{Opened}
 use Rattle.plan_reader.specs.PlanView.{PlanView}

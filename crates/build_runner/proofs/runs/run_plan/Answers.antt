@@ -1,13 +1,13 @@
 use Rattle.std.proofs.Common.{ℕ, Box, get_or, subst, sym, ◌∙◌}
 use Rattle.std.specs.declared.alloc.Global.{Global}
 use Rattle.lock_journal.specs.BookView.{BookView}
-use Rattle.daemon_items.specs.Requests.{SentView}
+use Rattle.item_work.specs.Requests.{SentView}
 use Rattle.plan_reader.specs.Units.{plan_units}
 use Rattle.history_laws.specs.ClosedBy.{closed_by}
 use Rattle.build_runner.specs.Run.{IsRunOf}
 use Rattle.build_runner.specs.Sent.{AreSentFor, sent_view}
 use Rattle.build_runner.proofs.Counted.{counted_by}
-use Rattle.build_runner.proofs.FirstDesk.{drop_more}
+use Rattle.build_runner.proofs.lemmas.FirstDesk.{drop_more}
 use Rattle.build_runner.proofs.Keeping.{if_ok}
 use Rattle.build_runner.proofs.runs.run_plan.Goals as goal
 

@@ -1,5 +1,5 @@
 use Rattle.std.proofs.Common.{arith, ap, length}
-use Rattle.lock_transforms.proofs.Within.{task_fits}
+use Rattle.lock_transforms.proofs.lemmas.Within.{task_fits}
 use Rattle.build_runner.proofs.tasks.action_of.Goals as goal
 
 pub bounds-actions-action : goal.bounds-actions-action

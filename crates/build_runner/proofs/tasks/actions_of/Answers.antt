@@ -1,5 +1,5 @@
 use Rattle.std.proofs.Common.{arith}
-use Rattle.lock_transforms.proofs.Within.{task_read}
+use Rattle.lock_transforms.proofs.lemmas.Within.{task_read}
 use Rattle.build_runner.proofs.tasks.actions_of.Goals as goal
 
 pub overflow_add-result : goal.overflow_add-result

@@ -1,17 +1,13 @@
-use Rattle.std.proofs.Common.{Ok, refl, ap, ◌∙◌}
-use Rattle.coordination.proofs.Shown.{surely_finished}
-use Rattle.build_runner.proofs.Keeping.{ran_closes}
-use Rattle.build_runner.proofs.Points.{ended}
+use Rattle.std.proofs.Common.{refl}
+use Rattle.build_runner.proofs.Keeping.{gave_closes, on_ok}
+use Rattle.build_runner.proofs.Points.{ended, may_end}
 use Rattle.build_runner.proofs.tasks.end.Goals as goal
 
-pub returns-in_err-with_state_lock-clause-closed : goal.returns-in_err-with_state_lock-clause-closed
-returns-in_err-with_state_lock-clause-closed g c = let e = c.with_state_lock.ensures in ran_closes c.with_state_lock.result refl e.finished e.failed e.no_memory e.stopped
+pub end_task-requires-clause-may : goal.end_task-requires-clause-may
+end_task-requires-clause-may g c = may_end c.requires.in_task
 
 pub returns-clause-closed : goal.returns-clause-closed
-returns-clause-closed g c = let e = c.with_state_lock.ensures in ran_closes c.with_state_lock.result refl e.finished e.failed e.no_memory e.stopped
+returns-clause-closed g c = let e = c.end_task.ensures in gave_closes _ _ c.end_task.result refl e.entry e.no_memory e.stopped
 
 pub returns-clause-rests : goal.returns-clause-rests
-returns-clause-rests g c =
-    let e = c.with_state_lock.ensures in
-    let was = c.in_ok-with_state_lock.was in
-    ended (surely_finished c.in_ok-with_state_lock.field-0 (λ b. e.finished (was ∙ ap Ok b)) (λ b. e.failed (was ∙ ap Ok b))) c.requires.in_task
+returns-clause-rests g c = on_ok c.end_task.result (λ shows. ended shows c.requires.in_task) c.end_task.ensures.shows

@@ -1,7 +1,7 @@
 use Rattle.std.proofs.Common.{rules, ◌≡◌, ◌+◌, true, false, cond, eqb, take, sym, ap, ◌∙◌}
 use Rattle.lock_journal.specs.Shown.{entry_shown}
 use Rattle.coordination.specs.Lasts.{last_of}
-use Rattle.coordination.proofs.Growing.{last_of-more}
+use Rattle.coordination.proofs.lemmas.Growing.{last_of-more}
 use Rattle.coordination.proofs.lasts.last_number.Goals as goal
 use Rattle.coordination.proofs.lasts.last_number.Goals.{then-eq, else-eq}
 

@@ -2,7 +2,7 @@ use Rattle.std.proofs.Common.{◌≡◌, ◌+◌, ◌∷◌, [], ℕ, List, sym,
 use Rattle.resource_lock.specs.GraphView.{GraphView}
 use Rattle.coordination.specs.Parts.{ArePartsFrom, HasListRoom, IsPartOf, marks_of}
 use Rattle.coordination.specs.declared.parts.Part.{Part}
-use Rattle.coordination.proofs.Nothing.{fresh_part, parts_push}
+use Rattle.coordination.proofs.lemmas.Nothing.{fresh_part, parts_push}
 use Rattle.coordination.proofs.openings.parts_of.Goals as goal
 
 pub loop-worker-preserved : goal.loop-worker-preserved

@@ -1,4 +1,4 @@
-use Rattle.file_access.proofs.Printing.{put_more}
+use Rattle.file_access.proofs.lemmas.Printing.{put_more}
 use Rattle.file_access.proofs.sinks.put_all.Goals as goal
 
 pub loop-rest-preserved : goal.loop-rest-preserved

@@ -1,5 +1,5 @@
 use Rattle.std.proofs.Common.{◌∙◌, ap}
-use Rattle.file_access.proofs.Telling.{adds_as, adds_then}
+use Rattle.file_access.proofs.lemmas.Telling.{adds_as, adds_then}
 use Rattle.generated_plan.specs.Draws.{after_draws}
 use Rattle.generated_plan.specs.Made.{first_wait, items_text, wait_text}
 use Rattle.generated_plan.proofs.actions.write_first.Goals as goal

@@ -1,6 +1,6 @@
 use Rattle.std.proofs.Common.{◌≡◌, ◌∙◌, ap, append_assoc}
 use Rattle.item_actions.specs.Words.{action_word}
-use Rattle.file_access.proofs.Telling.{adds_as, adds_then}
+use Rattle.file_access.proofs.lemmas.Telling.{adds_as, adds_then}
 use Rattle.generated_plan.specs.Draws.{draw}
 use Rattle.generated_plan.specs.Made.{kind_drawn}
 use Rattle.generated_plan.proofs.actions.write_item.Goals as goal

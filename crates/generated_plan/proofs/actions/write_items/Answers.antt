@@ -1,5 +1,5 @@
 use Rattle.std.proofs.Common.{◌∙◌, ap}
-use Rattle.file_access.proofs.Telling.{adds_as}
+use Rattle.file_access.proofs.lemmas.Telling.{adds_as}
 use Rattle.generated_plan.specs.Draws.{after_draws, number_after}
 use Rattle.generated_plan.specs.Made.{item_text}
 use Rattle.generated_plan.proofs.Numbers.{after_one_more}

@@ -1,4 +1,4 @@
-use Rattle.file_access.proofs.Telling.{printed_from_blank}
+use Rattle.file_access.proofs.lemmas.Telling.{printed_from_blank}
 use Rattle.generated_plan.proofs.plans.make_plan.Goals as goal
 
 pub returns : goal.returns

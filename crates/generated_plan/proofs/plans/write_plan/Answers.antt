@@ -1,4 +1,4 @@
-use Rattle.file_access.proofs.Telling.{adds_then}
+use Rattle.file_access.proofs.lemmas.Telling.{adds_then}
 use Rattle.generated_plan.proofs.plans.write_plan.Goals as goal
 
 pub returns : goal.returns

@@ -1,5 +1,5 @@
 use Rattle.std.proofs.Common.{◌+◌, ◌∙◌, ap}
-use Rattle.file_access.proofs.Telling.{adds_as}
+use Rattle.file_access.proofs.lemmas.Telling.{adds_as}
 use Rattle.generated_plan.specs.Draws.{after_draws}
 use Rattle.generated_plan.specs.Made.{task_text, draws_before, draws_for_after}
 use Rattle.generated_plan.proofs.Numbers.{after_both}

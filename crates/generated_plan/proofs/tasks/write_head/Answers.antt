@@ -1,5 +1,5 @@
 use Rattle.std.proofs.Common.{ap, append_assoc, decimal}
-use Rattle.file_access.proofs.Telling.{adds_as, adds_then}
+use Rattle.file_access.proofs.lemmas.Telling.{adds_as, adds_then}
 use Rattle.generated_plan.proofs.tasks.write_head.Goals as goal
 
 pub returns : goal.returns

@@ -1,5 +1,5 @@
 use Rattle.std.proofs.Common.{◌≡◌, ◌+◌, ◌%◌, ◌∙◌, ap, arith}
-use Rattle.file_access.proofs.Telling.{adds_as}
+use Rattle.file_access.proofs.lemmas.Telling.{adds_as}
 use Rattle.generated_plan.specs.Draws.{after_draws, draw}
 use Rattle.generated_plan.specs.Made.{action_text, after_text, draws_for_after, first_wait, head_text, second_wait}
 use Rattle.generated_plan.proofs.Further.{adds_four}

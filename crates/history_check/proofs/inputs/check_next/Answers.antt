@@ -30,7 +30,8 @@ returns-in-Ok-End-clause-goes_on g c = λ p start u.
 
 pub returns-in-Err-Stops-clause-goes_on : goal.returns-in-Err-Stops-clause-goes_on
 returns-in-Err-Stops-clause-goes_on g c = λ p start u.
-    on_stop c.end_length.result _ c.line.result.now c.in_ok-take_line.field-0 c.in-Err-Stops.field-0 u c.in_ok-take_line.ensures c.line.ensures c.in-Err-Stops.field-0-is c.in-Err-Stops.ensures.goes_on
+    on_stop c.end_length.result _ c.line.result.now c.in_ok-take_line.field-0 c.in-Err-Stops.field-0 u c.in_ok-take_line.ensures
+    (end_short c.count.result c.end_length.result c.end_length.ensures (omega (arith, c.count.ensures, c.requires.entries))) c.line.ensures c.in-Err-Stops.field-0-is c.in-Err-Stops.ensures.goes_on
 
 pub returns-in-Err-NoMemory-clause-goes_on : goal.returns-in-Err-NoMemory-clause-goes_on
 returns-in-Err-NoMemory-clause-goes_on g c = λ p start u. no_room u c.in_ok-take_line.ensures.0

@@ -1,4 +1,4 @@
-use Rattle.history_reader.proofs.TextLaws.{first_wrong, second_wrong, line_wrong, behind_end}
+use Rattle.history_reader.proofs.lemmas.TextLaws.{first_wrong, second_wrong, line_wrong, behind_end}
 use Rattle.history_reader.proofs.laws.a_line_more.Goals as goal
 
 pub returns : goal.returns

@@ -1,5 +1,5 @@
 use Rattle.std.proofs.Common.{refl, sym, ◌∙◌}
-use Rattle.history_reader.proofs.TextLaws.{one_value}
+use Rattle.history_reader.proofs.lemmas.TextLaws.{one_value}
 use Rattle.history_reader.proofs.laws.each_value_has_one_text.Goals as goal
 
 pub returns : goal.returns

@@ -1,4 +1,4 @@
-use Rattle.history_reader.proofs.TextLaws.{one_place, no_history}
+use Rattle.history_reader.proofs.lemmas.TextLaws.{one_place, no_history}
 use Rattle.history_reader.proofs.laws.texts_stop_at_one_place.Goals as goal
 
 pub returns : goal.returns

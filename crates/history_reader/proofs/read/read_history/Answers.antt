@@ -1,6 +1,6 @@
 use Rattle.std.proofs.Common.{sym, ◌∙◌}
 use Rattle.std.proofs.lemmas.Bool.{false≢true}
-use Rattle.history_reader.proofs.ReadLaws.{no_first, no_second, opened, read_opened}
+use Rattle.history_reader.proofs.lemmas.ReadLaws.{no_first, no_second, opened, read_opened}
 use Rattle.history_reader.proofs.read.read_history.Goals as goal
 
 pub returns-then-not-is_first_line : goal.returns-then-not-is_first_line

@@ -1,7 +1,7 @@
 use Rattle.std.proofs.Common.{sym, ◌∙◌}
 use Rattle.history_reader.specs.HistoryView.{history_view}
 use Rattle.history_reader.proofs.Words.{not_nil}
-use Rattle.history_reader.proofs.ReadLaws.{added_one, ended_there, failed_there, read_on, read_past}
+use Rattle.history_reader.proofs.lemmas.ReadLaws.{added_one, ended_there, failed_there, read_on, read_past}
 use Rattle.history_reader.proofs.read.read_lines.Goals as goal
 
 pub returns-in_err-take_line : goal.returns-in_err-take_line

@@ -1,7 +1,7 @@
 use Rattle.std.proofs.Common.{◌++◌, length}
 use Rattle.history_reader.specs.HistoryView.{history_view}
 use Rattle.history_reader.specs.Grammar.{lines_of}
-use Rattle.history_reader.proofs.ReadLaws.{ReadSoFar}
+use Rattle.history_reader.proofs.lemmas.ReadLaws.{ReadSoFar}
 use Rattle.history_reader.proofs.read.read_lines.Given as goal
 
 abbrev pub invariant-loop-history : goal.invariant-loop-history

@@ -1,4 +1,4 @@
-use Rattle.history_reader.proofs.Splits.{split_there, split_nowhere}
+use Rattle.history_reader.proofs.lemmas.Splits.{split_there, split_nowhere}
 use Rattle.history_reader.proofs.tokens.next_line.Goals as goal
 
 pub returns-in-Some : goal.returns-in-Some

@@ -1,5 +1,5 @@
 use Rattle.std.proofs.Common.{append_assoc}
-use Rattle.file_access.proofs.Telling.{adds_as, adds_then}
+use Rattle.file_access.proofs.lemmas.Telling.{adds_as, adds_then}
 use Rattle.history_text.proofs.changes.write_move.Goals as goal
 
 pub returns : goal.returns

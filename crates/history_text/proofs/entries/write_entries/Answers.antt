@@ -1,7 +1,7 @@
 use Rattle.std.proofs.Common.{◌+◌, arith}
 use Rattle.lock_journal.specs.Shown.{entry_shown}
 use Rattle.history_text.specs.Text.{entry_text}
-use Rattle.history_text.proofs.Numbering.{adds_next}
+use Rattle.history_text.proofs.lemmas.Numbering.{adds_next}
 use Rattle.history_text.proofs.entries.write_entries.Goals as goal
 
 pub loop-place-preserved : goal.loop-place-preserved

@@ -1,5 +1,5 @@
 use Rattle.std.proofs.Common.{◌++◌, ap, codes, sym}
-use Rattle.file_access.proofs.Telling.{adds_as}
+use Rattle.file_access.proofs.lemmas.Telling.{adds_as}
 use Rattle.history_text.specs.Text.{kind_text}
 use Rattle.history_text.proofs.entries.write_kind.Goals as goal
 

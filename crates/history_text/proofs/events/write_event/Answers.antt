@@ -1,5 +1,5 @@
 use Rattle.std.proofs.Common.{ap, decimal, sym}
-use Rattle.file_access.proofs.Telling.{adds_as, adds_then}
+use Rattle.file_access.proofs.lemmas.Telling.{adds_as, adds_then}
 use Rattle.history_text.specs.Events.{event_text}
 use Rattle.history_text.proofs.events.write_event.Goals as goal
 

@@ -1,4 +1,4 @@
-use Rattle.file_access.proofs.Telling.{adds_then}
+use Rattle.file_access.proofs.lemmas.Telling.{adds_then}
 use Rattle.history_text.proofs.histories.write_history.Goals as goal
 
 pub returns : goal.returns

@@ -4,7 +4,7 @@ use Rattle.lock_journal.specs.Closings.{outcome_in}
 use Rattle.plan_reader.specs.PlanView.{plan_task_view}
 use Rattle.plan_reader.specs.Units.{task_units}
 use Rattle.history_text.specs.Results.{task_marks}
-use Rattle.history_text.proofs.Numbering.{slice_get_through}
+use Rattle.history_text.proofs.lemmas.Numbering.{slice_get_through}
 use Rattle.history_text.proofs.Parts.{within_whole, length-flat_map-next, adds_task}
 use Rattle.history_text.proofs.results.write_tasks.Goals as goal
 

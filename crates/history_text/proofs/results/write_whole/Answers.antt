@@ -1,6 +1,6 @@
 use Rattle.std.proofs.Common.{◌∙◌, ap, length}
 use Rattle.lock_journal.specs.Closings.{outcome_in}
-use Rattle.file_access.proofs.Telling.{adds_as, adds_then}
+use Rattle.file_access.proofs.lemmas.Telling.{adds_as, adds_then}
 use Rattle.history_text.specs.Results.{task_marks, tasks_text, summary_of, below}
 use Rattle.history_text.proofs.results.write_whole.Goals as goal
 

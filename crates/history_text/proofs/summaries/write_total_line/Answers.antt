@@ -1,5 +1,5 @@
 use Rattle.std.proofs.Common.{ap, decimal}
-use Rattle.file_access.proofs.Telling.{adds_as, adds_then}
+use Rattle.file_access.proofs.lemmas.Telling.{adds_as, adds_then}
 use Rattle.history_text.proofs.summaries.write_total_line.Goals as goal
 
 pub returns : goal.returns

@@ -1,5 +1,5 @@
 use Rattle.std.proofs.Common.{ap}
-use Rattle.file_access.proofs.Telling.{adds_as, adds_then}
+use Rattle.file_access.proofs.lemmas.Telling.{adds_as, adds_then}
 use Rattle.history_text.specs.Results.{counts_text}
 use Rattle.history_text.proofs.summaries.write_units_line.Goals as goal
 

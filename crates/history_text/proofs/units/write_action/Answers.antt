@@ -1,11 +1,11 @@
 use Rattle.std.proofs.Common.{◌∙◌, ◌++◌, ap, map, sym}
-use Rattle.file_access.proofs.Telling.{adds_as, adds_then}
+use Rattle.file_access.proofs.lemmas.Telling.{adds_as, adds_then}
 use Rattle.lock_journal.specs.Closings.{outcome_in}
 use Rattle.plan_reader.specs.PlanView.{work_view}
 use Rattle.plan_reader.specs.Units.{fetch_units, item_unit}
 use Rattle.history_text.specs.Text.{numbered}
 use Rattle.history_text.specs.Results.{unit_text}
-use Rattle.history_text.proofs.Numbering.{numbered-append}
+use Rattle.history_text.proofs.lemmas.Numbering.{numbered-append}
 use Rattle.history_text.proofs.units.write_action.Goals as goal
 
 pub returns-clause-text : goal.returns-clause-text

@@ -4,7 +4,7 @@ use Rattle.lock_journal.specs.Closings.{outcome_in}
 use Rattle.plan_reader.specs.PlanView.{plan_action_view}
 use Rattle.plan_reader.specs.Units.{action_units}
 use Rattle.history_text.specs.Results.{unit_text}
-use Rattle.history_text.proofs.Numbering.{slice_get_through}
+use Rattle.history_text.proofs.lemmas.Numbering.{slice_get_through}
 use Rattle.history_text.proofs.Parts.{within_whole, length-flat_map-next, adds_part}
 use Rattle.history_text.proofs.units.write_actions.Goals as goal
 

@@ -4,7 +4,7 @@ use Rattle.lock_journal.specs.Closings.{outcome_in}
 use Rattle.plan_reader.specs.PlanView.{work_view}
 use Rattle.plan_reader.specs.Units.{item_unit}
 use Rattle.history_text.specs.Results.{unit_text}
-use Rattle.history_text.proofs.Numbering.{adds_next, slice_get_through}
+use Rattle.history_text.proofs.lemmas.Numbering.{adds_next, slice_get_through}
 use Rattle.history_text.proofs.units.write_items.Goals as goal
 
 pub loop-index-preserved : goal.loop-index-preserved

@@ -1,4 +1,4 @@
-use Rattle.file_access.proofs.Telling.{adds_then, printed_from_blank}
+use Rattle.file_access.proofs.lemmas.Telling.{adds_then, printed_from_blank}
 use Rattle.leases_cli.proofs.check.print_lawful.Goals as goal
 
 pub returns : goal.returns

@@ -1,4 +1,4 @@
-use Rattle.file_access.proofs.Telling.{printed_from_blank}
+use Rattle.file_access.proofs.lemmas.Telling.{printed_from_blank}
 use Rattle.leases_cli.proofs.refusals.print_refusal.Goals as goal
 
 pub returns : goal.returns

@@ -1,5 +1,5 @@
 use Rattle.std.proofs.Common.{get_or, ap, arith, ◌∙◌, subst}
-use Rattle.daemon_items.specs.Requests.{SentView}
+use Rattle.item_work.specs.Requests.{SentView}
 use Rattle.plan_reader.specs.Units.{plan_units}
 use Rattle.history_laws.specs.ClosedBy.{closed_by}
 use Rattle.build_runner.specs.Sent.{AreSentFor}

@@ -1,6 +1,6 @@
 use Rattle.std.proofs.Common.{◌≡◌, ◌≤◌, refl, arith}
 use Rattle.leases_cli.specs.Worker.{HasWorked}
-use Rattle.build_runner.proofs.FirstDesk.{of_each, of_first}
+use Rattle.build_runner.proofs.lemmas.FirstDesk.{of_each, of_first}
 use Rattle.leases_cli.proofs.top.work.Goals as goal
 
 pub returns-clause-files : goal.returns-clause-files

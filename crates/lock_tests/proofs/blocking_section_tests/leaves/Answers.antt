@@ -1,6 +1,6 @@
 use Rattle.std.proofs.Common.{◌≡◌, ◌<◌, length, rules}
 use Rattle.blocking_section.specs.Sections.{IsGivenBackBy}
-use Rattle.blocking_section.proofs.Stays.{given_back_stays}
+use Rattle.blocking_section.proofs.lemmas.Stays.{given_back_stays}
 use Rattle.lock_tests.proofs.Agreeing.{ask_agrees}
 use Rattle.lock_tests.proofs.blocking_section_tests.leaves.Goals as goal
 

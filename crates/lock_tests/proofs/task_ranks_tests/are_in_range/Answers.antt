@@ -3,7 +3,7 @@ use Rattle.std.specs.List.{list_all}
 use Rattle.std.proofs.lemmas.List.{length-map}
 use Rattle.std.proofs.lemmas.List.Folds.{list_all-map}
 use Rattle.task_ranks.specs.Rank.{lists_of}
-use Rattle.task_ranks.proofs.Ranges.{in_range}
+use Rattle.task_ranks.proofs.lemmas.Ranges.{in_range}
 use Rattle.lock_tests.proofs.task_ranks_tests.are_in_range.Goals as goal
 
 pub returns : goal.returns

@@ -1,4 +1,4 @@
-use Rattle.std.proofs.Common.{[], ap}
+use Rattle.std.proofs.Common.{ap}
 use Rattle.toml.specs.View.{view}
 use Rattle.plan_table.specs.Keys.{name_of}
 use Rattle.plan_reader.specs.NameNumbers.{texts}

@@ -1,7 +1,7 @@
 use Rattle.std.proofs.Common.{sym, ◌∙◌}
 use Rattle.std.proofs.lemmas.Result.{IfOk-weaker}
 use Rattle.plan_table.specs.Keys.{heap_of}
-use Rattle.plan_table.proofs.Lists.{all_of_elements}
+use Rattle.plan_table.proofs.lemmas.Lists.{all_of_elements}
 use Rattle.plan_reader.specs.Rows.{is_heap}
 use Rattle.plan_reader.specs.Planned.{requirements_from}
 use Rattle.plan_reader.proofs.Lists.{map_of_elements}

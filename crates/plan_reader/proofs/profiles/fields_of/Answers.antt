@@ -2,7 +2,7 @@ use Rattle.std.proofs.Common.{◌≡◌, ap, codes, map, string_bytes, sym, refl
 use Rattle.toml.specs.View.{view}
 use Rattle.plan_table.specs.Values.{elements, table_pairs, text_of, text_or}
 use Rattle.plan_table.specs.Keys.{executable_of, args_of, properties_of, variables_of, encoding_of}
-use Rattle.plan_table.proofs.Lists.{map_of_map}
+use Rattle.plan_table.proofs.lemmas.Lists.{map_of_map}
 use Rattle.plan_reader.specs.Planned.{pair_of}
 use Rattle.plan_reader.proofs.profiles.fields_of.Goals as goal
 

@@ -1,5 +1,5 @@
 use Rattle.std.proofs.Common.{sym, ◌∙◌}
-use Rattle.plan_table.proofs.Lists.{any_of_elements}
+use Rattle.plan_table.proofs.lemmas.Lists.{any_of_elements}
 use Rattle.plan_reader.specs.Rows.{item_fails}
 use Rattle.plan_reader.proofs.rows.action_fails.Goals as goal
 

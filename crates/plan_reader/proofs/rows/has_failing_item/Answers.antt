@@ -1,7 +1,7 @@
 use Rattle.std.proofs.Common.{sym, ◌∙◌}
 use Rattle.std.specs.List.{list_any}
 use Rattle.plan_table.specs.Keys.{items_of}
-use Rattle.plan_table.proofs.Lists.{any_of_elements}
+use Rattle.plan_table.proofs.lemmas.Lists.{any_of_elements}
 use Rattle.plan_reader.specs.Rows.{item_fails}
 use Rattle.plan_reader.proofs.rows.has_failing_item.Goals as goal
 

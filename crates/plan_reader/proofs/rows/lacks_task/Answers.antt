@@ -2,7 +2,7 @@ use Rattle.std.proofs.Common.{ℕ, List, not, sym, ap, ◌∙◌}
 use Rattle.std.specs.List.{list_any}
 use Rattle.toml.specs.View.{view}
 use Rattle.plan_table.specs.Values.{text_of}
-use Rattle.plan_table.proofs.Lists.{any_of_map}
+use Rattle.plan_table.proofs.lemmas.Lists.{any_of_map}
 use Rattle.plan_reader.specs.NameNumbers.{has_name}
 use Rattle.plan_reader.proofs.rows.lacks_task.Goals as goal
 

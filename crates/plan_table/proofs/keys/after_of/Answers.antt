@@ -1,5 +1,5 @@
 use Rattle.std.proofs.Common.{sym}
-use Rattle.plan_table.proofs.Lists.{texts_of_elements}
+use Rattle.plan_table.proofs.lemmas.Lists.{texts_of_elements}
 use Rattle.plan_table.proofs.keys.after_of.Goals as goal
 
 pub returns : goal.returns

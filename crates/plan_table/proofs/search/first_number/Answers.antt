@@ -1,5 +1,5 @@
 use Rattle.std.proofs.Common.{◌∙◌, sym}
-use Rattle.plan_table.proofs.Lists.{position_of_elements}
+use Rattle.plan_table.proofs.lemmas.Lists.{position_of_elements}
 use Rattle.plan_table.proofs.search.first_number.Goals as goal
 
 pub returns : goal.returns

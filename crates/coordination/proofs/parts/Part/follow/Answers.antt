@@ -4,7 +4,7 @@ use Rattle.resource_lock.specs.declared.changes.Change.{Change}
 use Rattle.lock_transforms.specs.declared.transforms.Disposition.TheVariants.{Finished, Failed}
 use Rattle.coordination.specs.Parts.{Follows, LeadsOn}
 use Rattle.coordination.specs.declared.parts.Part.{Part}
-use Rattle.coordination.proofs.Entries.{changes_made, follows_at, leads_from, part_after, part_failed, room_after}
+use Rattle.coordination.proofs.lemmas.Entries.{changes_made, follows_at, leads_from, part_after, part_failed, room_after}
 use Rattle.coordination.proofs.parts.Part.follow.Goals as goal
 
 pub note_all-requires : goal.note_all-requires

@@ -9,6 +9,7 @@ invariant_of-self-2 g c =
     let starts = c.in-Ok.ensures.started in (
       rw starts.events (adopted_pool g.L.Linked.requirements inside.ledger.events inside.idle c.self.invariant.0 c.in-Ok.daemon c.args.unit c.args.requirements starts.next),
       omega (arith, starts.busy, starts.room, c.needed-more.ensures.value, c.len.ensures),
+      c.self.invariant.2,
     )
 
 pub returns-clause-adopted : goal.returns-clause-adopted

@@ -1,7 +1,7 @@
-use Rattle.std.proofs.Common.{◌∷◌, length, sym, ap, ◌∙◌, arith, refl}
+use Rattle.std.proofs.Common.{◌≡◌, ◌∷◌, true, length, sym, ap, ◌∙◌, arith, refl}
 use Rattle.std.proofs.lemmas.List.Edits.{length-remove}
 use Rattle.std.proofs.lemmas.Option.{slice_get_within}
-use Rattle.daemon_manager.proofs.PoolKept.{first_and_rest, stopped_pool}
+use Rattle.daemon_manager.proofs.PoolKept.{All-left, first_and_rest, stopped_pool}
 use Rattle.daemon_manager.proofs.pools.Pool.stop_idle.Goals as goal
 
 pub invariant_of-self : goal.invariant_of-self
@@ -10,6 +10,7 @@ invariant_of-self g c =
     let there = c.remove-daemon.ensures.daemon in (
       rw (c.note.ensures.events, c.remove-daemon.ensures.others) (stopped_pool g.L.Linked.requirements inside.ledger.events inside.idle c.self.invariant.0 0 c.remove-daemon.result there refl),
       omega (arith, c.self.invariant.1, c.note.ensures.busy, c.note.ensures.room, ap length c.remove-daemon.ensures.others, length-remove inside.idle 0 (slice_get_within inside.idle 0 c.remove-daemon.result there)),
+      rw c.remove-daemon.ensures.others (All-left (λ i. g.L.Linked.settled i.link ≡ true) inside.idle 0 (slice_get_within inside.idle 0 c.remove-daemon.result there) c.self.invariant.2),
     )
 
 pub returns : goal.returns

@@ -1,6 +1,6 @@
 use Rattle.std.proofs.Common.{ap, ◌∙◌}
 use Rattle.file_access.specs.declared.pages.Page.TheInside.{Inside}
-use Rattle.file_access.proofs.Telling.{adds_sent_as, adds_failed_as}
+use Rattle.file_access.proofs.lemmas.Telling.{adds_sent_as, adds_failed_as}
 use Rattle.file_access.proofs.pages.Page.flush.Goals as goal
 use Rattle.file_access.proofs.pages.Page.flush.Goals.{then-not-self, else-not-self}
 

@@ -1,4 +1,4 @@
-use Rattle.file_access.proofs.Telling.{adds_put_as}
+use Rattle.file_access.proofs.lemmas.Telling.{adds_put_as}
 use Rattle.file_access.proofs.pages.Page.through.Goals as goal
 
 pub returns-then-not-self : goal.returns-then-not-self

@@ -6,7 +6,7 @@ use Rattle.lock_transforms.specs.Allowed.{Allowed}
 use Rattle.lock_journal.specs.BookView.{BookView}
 use Rattle.lock_transforms.specs.Entry.{Entry, entry, effect}
 use Rattle.lock_transforms.specs.TentativeView.{TentativeView}
-use Rattle.lock_journal.proofs.Replays.{Extends, sound_extended}
+use Rattle.lock_journal.proofs.lemmas.Replays.{Extends, sound_extended}
 use Rattle.lock_journal.proofs.books.Book.add_where_allowed.Goals as goal
 
 -- the entry that was admitted

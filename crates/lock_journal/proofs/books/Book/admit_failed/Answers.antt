@@ -3,7 +3,7 @@ use Rattle.resource_lock.specs.GraphView.{GraphView}
 use Rattle.lock_transforms.specs.Allowed.{IsKindOf}
 use Rattle.lock_journal.specs.BookView.{BookView}
 use Rattle.lock_transforms.specs.Entry.{entry}
-use Rattle.lock_journal.proofs.Replays.{Extends, sound_extended}
+use Rattle.lock_journal.proofs.lemmas.Replays.{Extends, sound_extended}
 use Rattle.lock_journal.proofs.books.Book.admit_failed.Goals as goal
 
 pub invariant_of-self : goal.invariant_of-self

@@ -10,7 +10,7 @@ use Rattle.lock_transforms.specs.Allowed.{Allowed}
 use Rattle.lock_journal.specs.Bounds.{IsFitKind}
 use Rattle.lock_transforms.specs.TentativeView.{TentativeView}
 use Rattle.lock_journal.specs.BookView.{BookView}
-use Rattle.lock_journal.proofs.Replays.{Extends, sound_extended}
+use Rattle.lock_journal.proofs.lemmas.Replays.{Extends, sound_extended}
 use Rattle.lock_journal.proofs.books.Book.run.Given.{Over}
 use Rattle.lock_journal.proofs.books.Book.run.Goals as goal
 

@@ -1,4 +1,4 @@
-use Rattle.lock_transforms.proofs.Waits.{waits_disabled}
+use Rattle.lock_transforms.proofs.lemmas.Waits.{waits_disabled}
 use Rattle.lock_transforms.specs.declared.entries.Kind.TheVariants.{Start}
 use Rattle.lock_tests.proofs.coordination_tests.AwaitTransform.waits_for_news.Goals as goal
 

@@ -5,8 +5,8 @@ use native.Mathlib.Decide.{ℕ_discrete}
 use Rattle.resource_lock.specs.Change.{make}
 use Rattle.resource_lock.specs.StateView.{owner_of}
 use Rattle.resource_lock.specs.declared.ids.WorkerId.{WorkerId}
-use Rattle.resource_lock.proofs.Undo.{same_worker}
-use Rattle.lock_transforms.proofs.Disabled.{disabled_still}
+use Rattle.resource_lock.proofs.lemmas.Undo.{same_worker}
+use Rattle.lock_transforms.proofs.lemmas.Disabled.{disabled_still}
 use Rattle.lock_transforms.specs.Allowed.{IsDisabled}
 use Rattle.lock_transforms.specs.declared.entries.Kind.TheVariants.{Start}
 use Rattle.lock_tests.proofs.coordination_tests.TryStartTransform.waits_for_news.Goals as goal

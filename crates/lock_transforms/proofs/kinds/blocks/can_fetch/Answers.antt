@@ -4,7 +4,7 @@ use Rattle.std.proofs.lemmas.Bool.{and_parts, cases_Bool, both_ways, eqb-true, f
 use Rattle.std.proofs.lemmas.List.Elements.{All-from_get_or}
 use Rattle.std.proofs.lemmas.List.Folds.{list_any_at, list_any_none}
 use Rattle.std.proofs.lemmas.List.FromFn.{get_or-range_with_len, length-range_with_len}
-use Rattle.resource_lock.proofs.Units.{one_action}
+use Rattle.resource_lock.proofs.lemmas.Units.{one_action}
 use Rattle.resource_lock.specs.Change.{same_mark}
 use Rattle.resource_lock.specs.Fits.{Fits}
 use Rattle.resource_lock.specs.GraphView.{GraphView, action_of}

@@ -1,4 +1,4 @@
-use Rattle.lock_transforms.proofs.Within.{action_read, task_within}
+use Rattle.lock_transforms.proofs.lemmas.Within.{action_read, task_within}
 use Rattle.lock_transforms.proofs.kinds.ranges.action_of.Goals as goal
 
 pub returns-clause-task : goal.returns-clause-task

@@ -1,4 +1,4 @@
-use Rattle.lock_transforms.proofs.Within.{task_read}
+use Rattle.lock_transforms.proofs.lemmas.Within.{task_read}
 use Rattle.lock_transforms.proofs.kinds.ranges.actions_of.Goals as goal
 
 pub invariant_of-result : goal.invariant_of-result

@@ -1,7 +1,7 @@
 use Rattle.std.proofs.Common.{ℕ, ◌<◌, List, length, ap, sym, ◌∙◌, subst}
 use Rattle.std.specs.List.{All}
 use Rattle.resource_lock.specs.declared.graphs.GraphTask.{GraphTask}
-use Rattle.lock_transforms.proofs.Within.{task_read}
+use Rattle.lock_transforms.proofs.lemmas.Within.{task_read}
 use Rattle.lock_transforms.proofs.kinds.ranges.after_of.Goals as goal
 
 pub returns-clause-in_range : goal.returns-clause-in_range

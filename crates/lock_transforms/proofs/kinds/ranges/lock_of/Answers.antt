@@ -1,6 +1,6 @@
 use Rattle.std.proofs.Common.{◌<◌, subst}
 use Rattle.resource_lock.specs.declared.graphs.GraphTask.{GraphTask}
-use Rattle.lock_transforms.proofs.Within.{task_read}
+use Rattle.lock_transforms.proofs.lemmas.Within.{task_read}
 use Rattle.lock_transforms.proofs.kinds.ranges.lock_of.Goals as goal
 
 pub returns-clause-in_range : goal.returns-clause-in_range

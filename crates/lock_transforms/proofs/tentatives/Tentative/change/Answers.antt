@@ -1,6 +1,6 @@
 use Rattle.std.proofs.Common.{◌≡◌, true, sym, ◌∙◌, ap, subst}
-use Rattle.resource_lock.proofs.Runs.{belongs_along, same_shape-make, worker_from}
-use Rattle.resource_lock.proofs.Kept.{kept}
+use Rattle.resource_lock.proofs.lemmas.Runs.{belongs_along, same_shape-make, worker_from}
+use Rattle.resource_lock.proofs.lemmas.Kept.{kept}
 use Rattle.resource_lock.specs.StateView.{IsWorkerOf}
 use Rattle.resource_lock.specs.Change.{can, make, NamesOnly}
 use Rattle.resource_lock.specs.Good.{Good}

@@ -3,7 +3,7 @@ use Rattle.resource_lock.specs.declared.changes.Change.{Change}
 use Rattle.resource_lock.specs.Good.{Good}
 use Rattle.resource_lock.specs.Shape.{SameShape, BelongsTo}
 use Rattle.resource_lock.specs.Leading.{CameFrom}
-use Rattle.resource_lock.proofs.Runs.{same_shape-make_all, same_shape-sym, belongs_along}
+use Rattle.resource_lock.proofs.lemmas.Runs.{same_shape-make_all, same_shape-sym, belongs_along}
 use Rattle.lock_transforms.specs.TentativeView.{TentativeView}
 use Rattle.lock_transforms.proofs.tentatives.Tentative.undo.Goals as goal
 

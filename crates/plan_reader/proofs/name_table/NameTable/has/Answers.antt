@@ -1,5 +1,5 @@
 use Rattle.std.proofs.Common.{ap, is_some, bytes_eq, ◌∙◌}
-use Rattle.plan_reader.proofs.Positions.{position_any}
+use Rattle.plan_table.proofs.lemmas.Positions.{position_any}
 use Rattle.plan_reader.proofs.name_table.NameTable.has.Goals as goal
 
 pub returns : goal.returns

@@ -4,7 +4,7 @@ use Rattle.std.proofs.lemmas.List.Sorted.{IsPartitionPoint-from_clause, IsPartit
 use Rattle.resource_lock.specs.GraphView.{action_of}
 use Rattle.resource_lock.specs.Ranges.{units_in}
 use Rattle.resource_lock.proofs.Follows.{ends_rise}
-use Rattle.resource_lock.proofs.Units.{end_of, at_partition, unit_from, few_actions_in_all}
+use Rattle.resource_lock.proofs.lemmas.Units.{end_of, at_partition, unit_from, few_actions_in_all}
 use Rattle.resource_lock.proofs.graphs.Graph.action_with.Goals as goal
 
 -- the action that the search finds is there, and the unit is in its range

@@ -1,7 +1,7 @@
 use Rattle.std.proofs.Common.{leb, get_or, ◌∙◌, ap}
 use Rattle.resource_lock.specs.GraphView.{no_action}
 use Rattle.resource_lock.specs.Ranges.{first_item}
-use Rattle.resource_lock.proofs.Units.{is_item_from}
+use Rattle.resource_lock.proofs.lemmas.Units.{is_item_from}
 use Rattle.resource_lock.proofs.graphs.Graph.is_item.Goals as goal
 
 pub returns : goal.returns

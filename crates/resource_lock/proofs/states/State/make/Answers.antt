@@ -1,6 +1,6 @@
 use Rattle.std.proofs.Common.{◌+◌, map, set, refl, sym, ◌∙◌, ap, subst, arith}
 use Rattle.std.proofs.lemmas.List.{length-set}
-use Rattle.resource_lock.proofs.Lists.{one_if}
+use Rattle.resource_lock.proofs.lemmas.Lists.{one_if}
 use Rattle.resource_lock.proofs.Holding.{has_room, view_made, sound_left, lease_free, some_out, quiet}
 use Rattle.resource_lock.specs.StateView.{StateView, holding_of, leases_out, IsMarkOf}
 use Rattle.resource_lock.specs.Change.{can, NamesOnly}

@@ -1,6 +1,6 @@
 use Rattle.std.proofs.Common.{length, replicate, Option, None, refl, ◌∙◌, ap, arith}
 use Rattle.std.proofs.lemmas.List.{length-replicate}
-use Rattle.resource_lock.proofs.Begins.{same_standing, sound_opening}
+use Rattle.resource_lock.proofs.lemmas.Begins.{same_standing, sound_opening}
 use Rattle.resource_lock.specs.StateView.{empty_holding}
 use Rattle.resource_lock.specs.Counting.{no_counts}
 use Rattle.resource_lock.specs.declared.ids.WorkerId.{WorkerId}

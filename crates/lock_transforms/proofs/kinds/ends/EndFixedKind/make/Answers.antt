@@ -15,7 +15,7 @@ use Rattle.lock_transforms.specs.Making.{Makes}
 use Rattle.lock_transforms.specs.Table.{skipped_waiting, end_mark}
 use Rattle.lock_transforms.proofs.Makings.{makes_then, makes_stopped, still_belongs}
 use Rattle.lock_transforms.proofs.Skipped.{few_waiting}
-use Rattle.lock_transforms.proofs.Within.{same_range}
+use Rattle.lock_transforms.proofs.lemmas.Within.{same_range}
 use Rattle.lock_transforms.proofs.kinds.ends.EndFixedKind.make.Goals as goal
 
 -- the changes behind those that skip

@@ -5,7 +5,7 @@ use Rattle.resource_lock.specs.GraphView.{GraphView}
 use Rattle.resource_lock.specs.Ranges.{actions_of}
 use Rattle.lock_transforms.specs.Table.{skipped_actions}
 use Rattle.lock_transforms.proofs.Skipped.{few_skipped}
-use Rattle.lock_transforms.proofs.Within.{same_range}
+use Rattle.lock_transforms.proofs.lemmas.Within.{same_range}
 use Rattle.lock_transforms.proofs.kinds.skips.SkipFixedKind.make.Goals as goal
 
 pub returns-then-not-try_change-clause-few : goal.returns-then-not-try_change-clause-few

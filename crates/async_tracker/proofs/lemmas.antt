@@ -1,0 +1,4 @@
+pub mod After
+pub mod Claims
+pub mod Resumed
+pub mod Turns

@@ -1,0 +1,61 @@
+-- Two calls in turn, of which the first makes no entry.
+use Rattle.std.proofs.Common.{List, inl, inr, sym, ap, ◌∙◌, subst}
+use Rattle.std.specs.Prelude.{Contains}
+use Rattle.std.specs.List.{list_any}
+use Rattle.resource_lock.specs.Change.{stands_last}
+use Rattle.resource_lock.specs.GraphView.{GraphView, action_of}
+use Rattle.resource_lock.specs.Ranges.{lock_with}
+use Rattle.resource_lock.specs.declared.graphs.Retention.{Retention}
+use Rattle.resource_lock.specs.declared.graphs.Retention.TheVariants.{Retain, Release, ReleaseAndReacquire}
+use Rattle.resource_lock.specs.declared.ids.LockId.{LockId}
+use Rattle.resource_lock.specs.declared.ids.WorkerId.{WorkerId}
+use Rattle.resource_lock.specs.declared.marks.MarkId.{MarkId}
+use Rattle.resource_lock.specs.declared.marks.MarkId.TheVariants.{Action as ActionOf}
+use Rattle.lock_journal.specs.BookView.{BookView}
+use Rattle.lock_transforms.specs.declared.entries.Kind.{Kind}
+use Rattle.coordination.specs.Agrees.{Finds}
+use Rattle.coordination.specs.Attempts.{Cause, Making}
+use Rattle.coordination.specs.Calls.{HasFinished, IsAnswered, WasStopped}
+use Rattle.coordination.specs.Shown.{ShowsTheSame}
+use Rattle.coordination.specs.declared.rule.Sight.{Sight}
+use Rattle.coordination.proofs.lemmas.Growing.{agrees_then}
+use Rattle.async_tracker.specs.ParkedView.{ParkedView}
+use Rattle.async_tracker.specs.Shows.{HasParkedLast, IsFree, IsIdleOrParked, IsParkedBy, is_action, is_unit}
+
+module _ {A : Type 0} {answers : WorkerId → BookView → A → Type 0} {a : A} {old mid : Sight} (q : IsAnswered answers a old mid) where
+  found_later : (book : BookView) → Finds old.worker q.book book → Finds old.worker old.seen book
+  found_later book found = record { agrees = agrees_then old.worker old.seen q.book book q.found.agrees found.agrees; sound = found.sound; known = found.known }
+
+  pub finished_then : {kind : Kind} {makes : Making} {new : Sight} → HasFinished kind makes mid new → HasFinished kind makes old new
+  finished_then {kind} {makes} {new} = subst (λ (s : Sight). HasFinished kind makes s new → HasFinished kind makes old new) (sym q.sight)
+      (λ f. record { before = f.before; after = f.after; changes = f.changes; found = found_later f.before f.found; graph = f.graph; finished = f.finished; left = f.left; sight = f.sight })
+
+  pub answered_then : {B : Type 0} {others : WorkerId → BookView → B → Type 0} {b : B} {new : Sight} → IsAnswered others b mid new → IsAnswered others b old new
+  answered_then {B} {others} {b} {new} = subst (λ (s : Sight). IsAnswered others b s new → IsAnswered others b old new) (sym q.sight)
+      (λ r. record { book = r.book; found = found_later r.book r.found; answer = r.answer; sight = r.sight })
+
+  pub stopped_then : {cause : Cause} {by : WorkerId} {new : Sight} → WasStopped cause by mid new → WasStopped cause by old new
+  stopped_then {cause} {by} {new} = subst (λ (s : Sight). WasStopped cause by s new → WasStopped cause by old new) (sym q.sight)
+      (λ r. record { book = r.book; found = found_later r.book r.found; cause = r.cause; stopper = r.stopper; sight = r.sight })
+
+-- what is so of a pass that shows the same
+pub free_still : {old new : Sight} → ShowsTheSame old new → IsFree old → IsFree new
+free_still same free = record { lease = same.lease ∙ free.lease; blocked = same.blocked ∙ free.blocked; units = ap (list_any is_unit) same.claimed ∙ free.units }
+
+last_still : (r : Retention) (l : LockId) {old new : Sight} → ShowsTheSame old new → HasParkedLast r l old → HasParkedLast r l new
+last_still Retain l same last = tt
+last_still Release l same last = ap (stands_last l) same.parked ∙ last
+last_still ReleaseAndReacquire l same last = ap (stands_last l) same.parked ∙ last
+
+pub parked_still : {old new : Sight} (p : ParkedView) → ShowsTheSame old new → IsParkedBy old p → IsParkedBy new p
+parked_still {old} {new} p same by =
+    let last = last_still (action_of old.seen.graph p.action).retention (lock_with old.seen.graph p.action) same by.lock in
+    record {
+      worker = by.worker ∙ sym same.worker;
+      action = subst (λ (ms : List MarkId). Contains ms (ActionOf p.action)) (sym same.claimed) by.action;
+      lock = subst (λ (g : GraphView). HasParkedLast (action_of g p.action).retention (lock_with g p.action) new) (sym same.graph) last;
+    }
+
+pub waits_still : {old new : Sight} → ShowsTheSame old new → IsIdleOrParked old → IsIdleOrParked new
+waits_still same (inl idle) = inl (same.locks ∙ idle.0, same.claimed ∙ idle.1)
+waits_still same (inr parked) = inr (ap (list_any is_action) same.claimed ∙ parked)

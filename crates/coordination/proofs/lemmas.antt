@@ -1,0 +1,5 @@
+pub mod Entries
+pub mod Growing
+pub mod Nothing
+pub mod Numbered
+pub mod Shown

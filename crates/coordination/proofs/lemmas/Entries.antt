@@ -1,0 +1,95 @@
+-- A worker's part of a book after a transform of the worker.
+use Rattle.std.proofs.Common.{◌≡◌, ℕ, ◌-◌, List, [], ◌∷◌, ◌++◌, length, length-append, Result, Ok, Some, None, refl, sym, ap, ◌∙◌, subst, arith}
+use Rattle.std.specs.Prelude.{slice_get}
+use Rattle.std.proofs.Math.Seq.{get_or-append_seam}
+use Rattle.std.proofs.lemmas.Option.{slice_get-get_or}
+use Rattle.resource_lock.specs.Change.{make_all}
+use Rattle.resource_lock.specs.Good.{Good}
+use Rattle.resource_lock.specs.GraphView.{GraphView}
+use Rattle.resource_lock.specs.Shape.{BelongsTo}
+use Rattle.resource_lock.specs.StateView.{StateView}
+use Rattle.resource_lock.specs.declared.ids.WorkerId.{WorkerId}
+use Rattle.resource_lock.proofs.lemmas.Runs.{belongs_along, same_shape-make_all, worker_from}
+use Rattle.lock_transforms.specs.Entry.{Entry, entry}
+use Rattle.lock_journal.specs.BookView.{BookView}
+use Rattle.lock_journal.specs.LastChanges.{last_changes, made_by}
+use Rattle.lock_transforms.specs.declared.transforms.Disposition.{Disposition}
+use Rattle.lock_transforms.specs.declared.transforms.Disposition.TheVariants.{Finished, Failed}
+use Rattle.history_laws.proofs.lemmas.Named.{belongs, good}
+use Rattle.coordination.specs.Agrees.{IsSoundBook}
+use Rattle.coordination.specs.Lasts.{last_of}
+use Rattle.coordination.specs.Parts.{Follows, Has, HasListRoom, IsPartOf, LeadsOn, mark_count, marks_of}
+use Rattle.coordination.specs.declared.parts.Part.{Part}
+use Rattle.coordination.proofs.lemmas.Growing.{last_of-own}
+
+-- at a result that is known by an equation
+pub follows_at : {E : Type 0} (w : WorkerId) (old new : BookView) (r s : Result Disposition E) (part : Part) → r ≡ s → Follows w old new r part → Follows w old new s part
+follows_at w old new r s part is f = subst (λ t. Follows w old new t part) is f
+
+pub belongs_sound : (book : BookView) → IsSoundBook book → BelongsTo book.graph book.state
+belongs_sound book sound = subst (BelongsTo book.graph) (sym sound.replays) (belongs book.graph book.history sound.lawful)
+
+pub good_sound : (book : BookView) → IsSoundBook book → Good book.state
+good_sound book sound = subst Good (sym sound.replays) (good book.graph book.history sound.lawful)
+
+-- the room of the graph is that of its states
+room_in : (g : GraphView) (s : StateView) (part : Part) → BelongsTo g s → HasListRoom g.locks (marks_of g) part → HasListRoom (length s.owners) (mark_count s) part
+room_in g s part b room = record {
+  lock_room = omega (arith, b.locks, room.lock_room);
+  mark_room = omega (arith, b.tasks, b.actions, b.units, room.mark_room);
+  park_room = omega (arith, b.locks, room.park_room);
+}
+
+room_out : (g : GraphView) (s : StateView) (part : Part) → BelongsTo g s → HasListRoom (length s.owners) (mark_count s) part → HasListRoom g.locks (marks_of g) part
+room_out g s part b room = record {
+  lock_room = omega (arith, b.locks, room.lock_room);
+  mark_room = omega (arith, b.tasks, b.actions, b.units, room.mark_room);
+  park_room = omega (arith, b.locks, room.park_room);
+}
+
+last_of_more : (h : List Entry) (e : Entry) → slice_get (h ++ e ∷ []) (length (h ++ e ∷ []) - 1) ≡ Some e
+last_of_more h e =
+    let count = length-append h (e ∷ []) in
+    let place : length (h ++ e ∷ []) - 1 ≡ length h = omega arith in
+    ap (slice_get (h ++ e ∷ [])) place ∙ slice_get-get_or (h ++ e ∷ []) (length h) e (omega arith) ∙ ap Some (get_or-append_seam h e [] e)
+
+module _ {E : Type 0} (w : WorkerId) (old new : BookView) (part : Part) (f : Follows {E = E} w old new (Ok Finished) part) where
+  -- the last entry's changes are those that were made
+  pub changes_made : last_changes new.history ≡ f.grew.1
+  changes_made = ap last_changes f.grew.2.history ∙ ap made_by (last_of_more old.history (entry w f.grew.0 (Some f.grew.1)))
+
+  pub leads_from : (n : ℕ) → LeadsOn old.state w (record part { last = n }) f.grew.1
+  leads_from n =
+      let b = belongs_sound old f.sound in
+      let finishes = f.grew.2.allowed in record {
+        good = good_sound old f.sound;
+        worker = worker_from old.graph old.state w b finishes.worker;
+        named = finishes.finished.named;
+        possible = finishes.finished.possible;
+        has = record { holding = f.kept.has.holding; locks = f.kept.has.locks; claimed = f.kept.has.claimed };
+        room = let r = room_in old.graph old.state part b f.room in record { lock_room = r.lock_room; mark_room = r.mark_room; park_room = r.park_room };
+      }
+
+  module _ (after : Part) (n : ℕ) (leads : LeadsOn (make_all old.state w f.grew.1) w after []) where
+    pub part_after : after.last ≡ n → n ≡ length new.history → IsPartOf new w after
+    part_after last long =
+        let e : Entry = entry w f.grew.0 (Some f.grew.1) in
+        let history : new.history ≡ old.history ++ e ∷ [] = f.grew.2.history in record {
+          has = subst (λ (s : StateView). Has s w after) (sym f.grew.2.state) leads.has;
+          last = last ∙ (long ∙ (ap (λ (h : List Entry). length h) history ∙ sym (ap (λ (h : List Entry). last_of w h) history ∙ last_of-own w old.history e refl)));
+        }
+
+    pub room_after : HasListRoom new.graph.locks (marks_of new.graph) after
+    room_after =
+        subst (λ (g : GraphView). HasListRoom g.locks (marks_of g) after) (sym f.graph)
+        (room_out old.graph (make_all old.state w f.grew.1) after (belongs_along old.graph old.state (make_all old.state w f.grew.1) (same_shape-make_all old.state w f.grew.1) (belongs_sound old f.sound)) leads.room)
+
+-- a failed transform leaves all but the number of the last entry
+pub part_failed : {E : Type 0} (w : WorkerId) (old new : BookView) (part : Part) (n : ℕ) → Follows {E = E} w old new (Ok Failed) part → n ≡ length new.history → IsPartOf new w (record part { last = n })
+part_failed w old new part n f long =
+    let e : Entry = entry w f.grew.0 None in
+    let history : new.history ≡ old.history ++ e ∷ [] = f.grew.1 in
+    let has = subst (λ (s : StateView). Has s w part) (sym f.grew.2) f.kept.has in record {
+      has = record { holding = has.holding; locks = has.locks; claimed = has.claimed };
+      last = long ∙ (ap (λ (h : List Entry). length h) history ∙ sym (ap (λ (h : List Entry). last_of w h) history ∙ last_of-own w old.history e refl));
+    }

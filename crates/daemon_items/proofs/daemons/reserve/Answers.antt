@@ -1,7 +1,0 @@
-use Rattle.std.proofs.lemmas.Result.{IfOk-weaker}
-use Rattle.daemon_items.proofs.Coverings.{covers_itself}
-use Rattle.daemon_items.proofs.daemons.reserve.Goals as goal
-
-pub returns-in-None-clause-covers : goal.returns-in-None-clause-covers
-returns-in-None-clause-covers g c =
-    IfOk-weaker c.start.result _ _ (λ reserved made. rw made (covers_itself c.args.asked.now)) c.start.ensures.made

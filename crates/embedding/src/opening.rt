@@ -1,0 +1,41 @@
+//! A service for workers that have a project each.
+ghost use Rattle.std.specs.Prelude.{◌≡◌, All, IfOk, map};
+ghost use Rattle.resource_lock.specs.Opening.{opening_of};
+ghost use Rattle.coordination.specs.Sights.{workers_from};
+
+use anyhow::{Result, bail};
+use coordination::{Coordination, Opened, openings_are_at_rest};
+use lock_journal::Book;
+use resource_lock::Graph;
+use std::alloc::Global;
+
+/// A book without entries, for so many workers with a lock for each, and so many leases. A plan's tasks and actions aren't
+/// needed where the workers' own code says who works on what.
+fn book_of(alloc: Global, workers: u32, max_leases: u32) -> Result<Box<Book>>
+    ensures locks { IfOk result (λ book. book.value.graph.locks ≡ workers) }
+    ensures state { IfOk result (λ book. book.value.state ≡ opening_of book.value.graph) }
+{
+    if !Graph::fits(workers, workers, max_leases, &[], &[]) {
+        bail!("there are too many workers or leases");
+    }
+    let graph = Graph::new(
+        workers,
+        workers,
+        max_leases,
+        Vec::new(alloc),
+        Vec::new(alloc),
+    );
+    Ok(Box::new(alloc, Book::opening(alloc, graph, 0, 0)?)?)
+}
+
+/// A service over such a book, with a pass for each worker.
+pub(crate) fn open(alloc: Global, workers: u32, max_leases: u32) -> Result<Box<Opened>>
+    ensures locks { IfOk result (λ opened. All (λ p. p.sight.seen.graph.locks ≡ workers) opened.value.passes.items) }
+    ensures workers { IfOk result (λ opened. map (λ p. p.sight.worker.0) opened.value.passes.items
+        ≡ workers_from 0 opened.value.service.book.graph.workers) }
+    ensures service { IfOk result (λ opened. All (λ p. p.service ≡ opened.value.service.service) opened.value.passes.items) }
+{
+    openings_are_at_rest();
+    let book = book_of(alloc, workers, max_leases)?;
+    Ok(Box::new(alloc, Coordination::open(alloc, book)?)?)
+}

@@ -1,0 +1,52 @@
+//! Whole histories that were read from their texts, and checked.
+use history_check::{Checked, check};
+use history_reader::read_history;
+use plan_reader::{Plan, read_plan};
+use std::alloc::Global;
+use std::test::Fail;
+
+/// A task with one item.
+static PLAN: &[u8] = b"[[project]]\nname = \"p\"\n\n\
+    [[task]]\nname = \"t\"\nproject = \"p\"\n\n\
+    [[task.action]]\n\n\
+    [[task.action.item]]\ndo = \"lines\"\nfile = \"a.txt\"\n";
+
+/// Lines behind a head, and what is answered.
+static HISTORIES: [(&[u8], Checked); 4] = [
+    (b"end 0\n", Checked::Lawful(0)),
+    (
+        b"1 w0 start 0 | lock 0, take, task 0 waiting running\n\
+        2 w0 submit 0 | action 0 waiting queued, unit 0 waiting queued\n\
+        end 2\n",
+        Checked::Lawful(2),
+    ),
+    (
+        b"1 w0 end 0 | task 0 running passed, unlock 0, give\n\
+        2 w0 start 0 | lock 0, take, task 0 waiting running\n\
+        end 2\n",
+        Checked::NotLawful(1),
+    ),
+    (
+        b"1 w0 start 0 | lock 0, take, task 0 waiting running\n\
+        2 w1 handback | failed\n\
+        end 2\n",
+        Checked::NotLawful(2),
+    ),
+];
+
+/// What is answered of a history of one worker.
+fn answer(alloc: Global, plan: &Plan, lines: &[u8]) -> Result<Checked, Fail> {
+    let mut text = Vec::from_slice(alloc, b"history 1\nworkers 1 max 1 parallel no\n")?;
+    text.extend_from_slice(lines)?;
+    let history = read_history(alloc, &text)?;
+    Ok(check(alloc, plan, &history)?)
+}
+
+#[test]
+fn whole_histories(rt: HostRuntime) -> Result<(), Fail> {
+    let plan = read_plan(rt.alloc(), PLAN)?;
+    for (lines, checked) in HISTORIES {
+        assert!(rt; answer(rt.alloc(), &plan, lines)? == checked);
+    }
+    Ok(())
+}

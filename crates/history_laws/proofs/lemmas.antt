@@ -1,0 +1,6 @@
+pub mod Fitting
+pub mod Growing
+pub mod Named
+pub mod Others
+pub mod OwnChanges
+pub mod OwnTasks

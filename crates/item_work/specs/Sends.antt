@@ -1,0 +1,12 @@
+-- What is sent for an item, by where it runs.
+use Rattle.std.specs.Prelude.{◌≡◌}
+use Rattle.item_actions.specs.declared.outcomes.Outcome.{Outcome}
+use Rattle.daemon_requirements.specs.declared.work.Isolation.{Isolation}
+use Rattle.daemon_requirements.specs.declared.work.Isolation.TheVariants.{InThread, Process}
+use Rattle.daemon_protocol.specs.declared.frames.Request.{Request}
+use Rattle.item_work.specs.Requests.{SentView, Sends}
+
+-- nothing for an item in the worker's own thread, and for one in a process what is sent to a daemon
+abbrev pub SendsFor : Isolation → SentView → SentView → Request → Outcome → Type 0
+SendsFor InThread old new request outcome = new ≡ old
+SendsFor (Process asked) old new request outcome = Sends asked old new request outcome

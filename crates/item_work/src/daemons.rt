@@ -1,0 +1,135 @@
+//! The calls of the pool behind its lock, which is held for one call at a time: a daemon starts and works without it.
+ghost use Rattle.std.specs.Prelude.{◌≡◌, ◌≤◌, IfErr, IfOk, IfSome, false, true};
+ghost use Rattle.std.specs.Result.{IsErrOf};
+ghost use Rattle.daemon_requirements.specs.Covers.{Covers};
+ghost use Rattle.file_access.specs.SinkView.{Rises};
+
+use daemon_desk::Desk;
+use daemon_manager::{Pool, Reserved};
+use daemon_requirements::{Linked, Requirements};
+use file_access::DeskFail;
+use std::alloc::{AllocError, Global};
+use std::sync::{Mutex, Wait};
+
+/// The pool of a run's daemons, which its workers share. Neither it nor what it lends can be dropped: whoever made it takes
+/// the pool out again and closes it.
+pub type PoolLock<L> = Mutex<Pool<L>>;
+
+/// Reserves an idle daemon that covers what is asked, or starts one. Its link is settled. Where there is no memory to keep a
+/// daemon that was started, it is stopped.
+pub(crate) fn reserve<R: Wait, D: Desk>(
+    rt: &R,
+    alloc: Global,
+    desk: &mut D,
+    pool: &PoolLock<D::Link>,
+    unit: u32,
+    asked: &Requirements,
+) -> Result<Reserved<D::Link>, DeskFail>
+    ensures covers { IfOk result (λ reserved. Covers (D.Link.requirements reserved.link) asked.now) }
+    ensures settled { IfOk result (λ reserved. D.Link.settled reserved.link ≡ true) }
+    ensures files { D.files desk.new ≡ D.files desk.old }
+    ensures kept { D.faults desk.old ≤ D.faults desk.new }
+    ensures failed { IsErrOf result DeskFail.Failed → Rises (D.faults desk.old) (D.faults desk.new) }
+    ensures sends { D.sends desk.new ≡ D.sends desk.old }
+    ensures sent { D.sent desk.new ≡ D.sent desk.old }
+{
+    match reserve_idle(rt, pool, unit, asked)? {
+        Some(reserved) => Ok(reserved),
+        None => start(rt, alloc, desk, pool, unit, asked),
+    }
+}
+
+/// Starts a daemon, reserved for the unit.
+fn start<R: Wait, D: Desk>(
+    rt: &R,
+    alloc: Global,
+    desk: &mut D,
+    pool: &PoolLock<D::Link>,
+    unit: u32,
+    asked: &Requirements,
+) -> Result<Reserved<D::Link>, DeskFail>
+    ensures made { IfOk result (λ reserved. D.Link.requirements reserved.link ≡ asked.now) }
+    ensures settled { IfOk result (λ reserved. D.Link.settled reserved.link ≡ true) }
+    ensures files { D.files desk.new ≡ D.files desk.old }
+    ensures kept { D.faults desk.old ≤ D.faults desk.new }
+    ensures failed { IsErrOf result DeskFail.Failed → Rises (D.faults desk.old) (D.faults desk.new) }
+    ensures sends { D.sends desk.new ≡ D.sends desk.old }
+    ensures sent { D.sent desk.new ≡ D.sent desk.old }
+{
+    let requirements = asked.copy(alloc)?;
+    let link = desk.start(alloc, asked)?;
+    adopt_or_stop(rt, desk, pool, link, requirements, unit)
+}
+
+/// Takes a daemon in that was started with these requirements. Where there is no memory to keep it, it is stopped.
+fn adopt_or_stop<R: Wait, D: Desk>(
+    rt: &R,
+    desk: &mut D,
+    pool: &PoolLock<D::Link>,
+    link: D::Link,
+    requirements: Requirements,
+    unit: u32,
+) -> Result<Reserved<D::Link>, DeskFail>
+    requires { D.Link.requirements link ≡ requirements }
+    ensures adopted { IfOk result (λ reserved. reserved.link ≡ link) }
+    ensures stopped { IfErr result (λ fail. fail ≡ DeskFail.NoMemory) }
+    ensures files { D.files desk.new ≡ D.files desk.old }
+    ensures faults { D.faults desk.new ≡ D.faults desk.old }
+    ensures sends { D.sends desk.new ≡ D.sends desk.old }
+    ensures sent { D.sent desk.new ≡ D.sent desk.old }
+{
+    match adopt(rt, pool, link, requirements, unit) {
+        Ok(reserved) => Ok(reserved),
+        Err(link) => {
+            desk.stop(link);
+            Err(DeskFail::NoMemory)
+        }
+    }
+}
+
+/// Reserves the last released idle daemon that covers what is asked, if one does.
+fn reserve_idle<R: Wait, L: Linked>(
+    rt: &R,
+    pool: &PoolLock<L>,
+    unit: u32,
+    asked: &Requirements,
+) -> Result<Option<Reserved<L>>, AllocError>
+    ensures covers { IfOk result (λ found. IfSome found (λ reserved. Covers (L.requirements reserved.link) asked.now)) }
+    ensures settled { IfOk result (λ found. IfSome found (λ reserved. L.settled reserved.link ≡ true)) }
+{
+    pool.lock(rt).reserve_idle(unit, asked)
+}
+
+/// Takes a daemon in that was started with these requirements. Where there is no memory its link comes back.
+fn adopt<R: Wait, L: Linked>(
+    rt: &R,
+    pool: &PoolLock<L>,
+    link: L,
+    requirements: Requirements,
+    unit: u32,
+) -> Result<Reserved<L>, L>
+    requires { L.requirements link ≡ requirements }
+    ensures adopted { IfOk result (λ reserved. reserved.link ≡ link) }
+    ensures link { IfErr result (λ returned. returned ≡ link) }
+{
+    pool.lock(rt).adopt(link, requirements, unit)
+}
+
+/// Gives a daemon back whose link is settled, and the link of another to stop, where one too many is idle.
+pub(crate) fn release<R: Wait, L: Linked>(
+    rt: &R,
+    pool: &PoolLock<L>,
+    reserved: Reserved<L>,
+) -> Option<L>
+    requires { L.settled reserved.link ≡ true }
+{
+    pool.lock(rt).release(reserved)
+}
+
+/// Lets a daemon be one that failed, whose link isn't settled, and gives its link to stop.
+pub(crate) fn fail<R: Wait, L: Linked>(rt: &R, pool: &PoolLock<L>, reserved: Reserved<L>) -> L
+    requires { L.settled reserved.link ≡ false }
+    ensures { result ≡ reserved.link }
+{
+    pool.lock(rt).fail(reserved)
+}

@@ -1,0 +1,10 @@
+//! What a worker does with an item that it has claimed: it works the item out in its own thread, or has a daemon of the pool do it.
+#![tactic(auto)]
+
+mod daemons;
+mod items;
+mod processes;
+
+pub use daemons::PoolLock;
+pub use items::{run_item, work_in_thread};
+pub use processes::work_in_daemon;

@@ -1,0 +1,139 @@
+//! An item that a daemon works out.
+ghost use Rattle.std.specs.Prelude.{◌≡◌, ◌≢◌, ◌≤◌, IfOk, IfSome, true};
+ghost use Rattle.std.specs.Result.{IsErrOf, is_ok};
+ghost use Rattle.item_actions.specs.Forms.{is_file_name};
+ghost use Rattle.item_actions.specs.Value.{IsHonest, value_on};
+ghost use Rattle.item_actions.specs.declared.outcomes.Outcome.TheVariants as outcomes;
+ghost use Rattle.daemon_requirements.specs.Covers.{Covers};
+ghost use Rattle.daemon_desk.specs.Replies.{IsReplyTo};
+ghost use Rattle.file_access.specs.SinkView.{Rises};
+ghost use Rattle.item_work.specs.Requests.{Asks, Sends, request_for};
+
+use crate::daemons::{PoolLock, fail, release, reserve};
+use daemon_desk::Desk;
+use daemon_manager::Reserved;
+use daemon_protocol::{Reply, Request};
+use daemon_requirements::{Requirements, Work};
+use file_access::DeskFail;
+use item_actions::Outcome;
+use std::alloc::{AllocError, Global};
+use std::sync::Wait;
+
+/// Lets a daemon of the pool work the item out, one that covers what is asked, or starts one.
+///
+/// The item's file has the form of a file's name. Where the files are known the outcome is the action's value on them,
+/// NotThere or TooLong; else Fault, where the desk failed and its count of faults rose, or NoMemory. At most one request is
+/// sent, this unit's, over a link made for requirements that cover what is asked; it is sent where the outcome is neither
+/// Fault nor NoMemory. The pool's lock is held only for the pool's own calls, never while a daemon starts or works. A daemon
+/// that gave no reply is stopped, and never used again: its link is broken, and only settled ones are given back. No daemon is
+/// lost, since neither a reservation nor a link can be dropped.
+pub fn work_in_daemon<R: Wait, D: Desk>(
+    rt: &R,
+    alloc: Global,
+    desk: &mut D,
+    pool: &PoolLock<D::Link>,
+    unit: u32,
+    work: &Work,
+    asked: &Requirements,
+) -> Outcome
+    requires form { is_file_name work.now.file ≡ true }
+    ensures files { D.files desk.new ≡ D.files desk.old }
+    ensures kept { D.faults desk.old ≤ D.faults desk.new }
+    ensures ran { result ≢ outcomes.Skipped }
+    ensures fault { result ≡ outcomes.Fault → Rises (D.faults desk.old) (D.faults desk.new) }
+    ensures honest { IfSome (D.files desk.old) (λ known. IsHonest result (value_on known work.now.action work.now.file)) }
+    ensures sent { Sends asked.now (record { count = D.sends desk.old; requests = D.sent desk.old })
+        (record { count = D.sends desk.new; requests = D.sent desk.new }) (request_for unit work.now) result }
+{
+    let Ok(request) = request_for(alloc, unit, work) else {
+        return Outcome::NoMemory;
+    };
+    match ask_daemon(rt, alloc, desk, pool, &request, asked) {
+        Ok(reply) => reply.outcome,
+        Err(DeskFail::Failed) => Outcome::Fault,
+        Err(DeskFail::NoMemory) => Outcome::NoMemory,
+    }
+}
+
+// The request for the unit's action on its file.
+fn request_for(alloc: Global, unit: u32, work: &Work) -> Result<Request, AllocError>
+    ensures { IfOk result (λ request. request ≡ request_for unit work.now) }
+{
+    Ok(Request {
+        unit,
+        action: work.action,
+        file: work.file.copy(alloc)?,
+    })
+}
+
+// Asks a daemon of the pool, or a new one. A daemon that gave no reply is never used again: it is stopped.
+fn ask_daemon<R: Wait, D: Desk>(
+    rt: &R,
+    alloc: Global,
+    desk: &mut D,
+    pool: &PoolLock<D::Link>,
+    request: &Request,
+    asked: &Requirements,
+) -> Result<Reply, DeskFail>
+    requires { is_file_name request.now.file ≡ true }
+    ensures files { D.files desk.new ≡ D.files desk.old }
+    ensures kept { D.faults desk.old ≤ D.faults desk.new }
+    ensures failed { IsErrOf result DeskFail.Failed → Rises (D.faults desk.old) (D.faults desk.new) }
+    ensures reply { IfOk result (λ reply. IsReplyTo (D.files desk.old) request.now reply) }
+    ensures sent { Asks (record { count = D.sends desk.old; requests = D.sent desk.old })
+        (record { count = D.sends desk.new; requests = D.sent desk.new }) asked.now request.now result }
+{
+    let mut reserved = reserve(rt, alloc, desk, pool, request.unit, asked)?;
+    let answer = ask(alloc, desk, reserved.link(), request, asked);
+    give_back(rt, desk, pool, reserved, answer.is_ok());
+    answer
+}
+
+// Gives a daemon back to the pool that answered, or one that failed, and stops the daemon that the pool gives for it. Whether
+// its link is settled tells which it is.
+fn give_back<R: Wait, D: Desk>(
+    rt: &R,
+    desk: &mut D,
+    pool: &PoolLock<D::Link>,
+    reserved: Reserved<D::Link>,
+    answered: bool,
+)
+    requires { D.Link.settled reserved.link ≡ answered }
+    ensures files { D.files desk.new ≡ D.files desk.old }
+    ensures faults { D.faults desk.new ≡ D.faults desk.old }
+    ensures sends { D.sends desk.new ≡ D.sends desk.old }
+    ensures sent { D.sent desk.new ≡ D.sent desk.old }
+{
+    let spare = if answered {
+        release(rt, pool, reserved)
+    } else {
+        Some(fail(rt, pool, reserved))
+    };
+    if let Some(link) = spare {
+        desk.stop(link);
+    }
+}
+
+// Sends the request over a settled link that covers what is asked, and receives the reply. The link is then settled exactly
+// where there is one.
+fn ask<D: Desk>(
+    alloc: Global,
+    desk: &mut D,
+    link: &mut D::Link,
+    request: &Request,
+    asked: &Requirements,
+) -> Result<Reply, DeskFail>
+    requires covers { Covers (D.Link.requirements link.old) asked.now }
+    requires form { is_file_name request.now.file ≡ true }
+    requires settled { D.Link.settled link.old ≡ true }
+    ensures settled { D.Link.settled link.new ≡ is_ok result }
+    ensures files { D.files desk.new ≡ D.files desk.old }
+    ensures kept { D.faults desk.old ≤ D.faults desk.new }
+    ensures failed { IsErrOf result DeskFail.Failed → Rises (D.faults desk.old) (D.faults desk.new) }
+    ensures reply { IfOk result (λ reply. IsReplyTo (D.files desk.old) request.now reply) }
+    ensures sent { Asks (record { count = D.sends desk.old; requests = D.sent desk.old })
+        (record { count = D.sends desk.new; requests = D.sent desk.new }) asked.now request.now result }
+{
+    desk.send(alloc, link, request)?;
+    desk.receive(alloc, link)
+}

@@ -1,0 +1,3 @@
+pub mod Disabled
+pub mod Waits
+pub mod Within
