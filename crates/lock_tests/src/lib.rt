@@ -1,4 +1,4 @@
-//! Tests of the crates from `resource_lock` up to `async_tracker`.
+//! Tests of the crates from `resource_lock` up to `async_tracker`, and of `task_ordering`.
 #![tactic(auto)]
 
 #[cfg(test)]
@@ -20,5 +20,7 @@ mod resource_lock_tests;
 pub mod rows;
 #[cfg(test)]
 mod services;
+#[cfg(test)]
+mod task_ordering_tests;
 #[cfg(test)]
 mod task_ranks_tests;

@@ -3,4 +3,4 @@ use Rattle.resource_lock.specs.AtRest.{IsAtRest}
 use Rattle.embedding.proofs.opening.open.Goals as goal
 
 pub open-requires : goal.open-requires
-open-requires g c = subst IsAtRest (sym c.in_ok-book.ensures.state) (c.openings_are_at_rest.ensures _)
+open-requires g = subst IsAtRest (sym g.in_ok-book.ensures.state) (g.openings_are_at_rest.ensures _)

@@ -1,0 +1,9 @@
+pub mod Stands
+pub mod Fronts
+pub mod Reached
+pub mod Pairs
+pub mod Settling
+pub mod Steps
+pub mod Same
+pub mod Entries
+pub mod Least

@@ -1,0 +1,11 @@
+pub mod Tasks
+pub mod Orders
+pub mod Refusals
+pub mod OrderingView
+pub mod Ordering
+pub mod Checking
+pub mod Marks
+pub mod Reach
+pub mod Befores
+pub mod Placed
+pub mod Placing

@@ -1,0 +1,8 @@
+-- An ordering, as contracts see it.
+use Rattle.std.specs.Prelude.{ℕ, List}
+use Rattle.task_ranks.specs.Rank.{Dependencies}
+
+-- for each task those that stand before it, and the order
+pub record OrderingView : Type 0 where
+  pub befores : Dependencies
+  pub order : List ℕ
