@@ -12,11 +12,9 @@ meanwhile gives other figures for four threads. Without strace the system calls 
 PROGRAM is a built program of bench/programs/coordination_rounds.
 """
 
-import pathlib
 import shutil
 import statistics
 import subprocess
-import sys
 import tempfile
 
 import measure
@@ -89,14 +87,7 @@ def report(program: str) -> None:
 
 def main() -> None:
     measure.skip_without("time")
-    if len(sys.argv) > 1:
-        report(str(pathlib.Path(sys.argv[1]).resolve()))
-        return
-    measure.skip_without("rt")
-    with tempfile.TemporaryDirectory() as name:
-        workshop = measure.Workshop(pathlib.Path(name), BELOW)
-        workshop.add(PROGRAM, *BELOW)
-        report(workshop.build(PROGRAM))
+    measure.report_on(PROGRAM, BELOW, report)
 
 
 if __name__ == "__main__":

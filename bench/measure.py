@@ -4,6 +4,7 @@ A small program of a bench stands in bench/programs/NAME, laid out as a crate. I
 .rt or .antt file may stand only in a crate that crates.txt lists, and get their own endings in the copy.
 """
 
+import collections.abc
 import dataclasses
 import os
 import pathlib
@@ -73,6 +74,18 @@ class Workshop:
         if not built.exists():
             sys.exit(f"{name} wasn't built:\n{run.stdout}{run.stderr}")
         return str(shutil.copy(built, self.folder / "-".join([name, *flags])))
+
+
+def report_on(name: str, crates: list[str], report: collections.abc.Callable[[str], None]) -> None:
+    """Reports on the program of this name: that of the script's first word, or one built over copies of these crates."""
+    if len(sys.argv) > 1:
+        report(str(pathlib.Path(sys.argv[1]).resolve()))
+        return
+    skip_without("rt")
+    with tempfile.TemporaryDirectory() as folder:
+        workshop = Workshop(pathlib.Path(folder), crates)
+        workshop.add(name, *crates)
+        report(workshop.build(name))
 
 
 @dataclasses.dataclass

@@ -1,5 +1,5 @@
 -- From what the passes show at the end of a run to the book that it gives.
-use Rattle.std.proofs.Common.{◌≡◌, ℕ, suc, ◌+◌, ◌-◌, ◌^◌, ◌<◌, ◌≤◌, Bool, true, List, [], ◌∷◌, ◌++◌, length, get_or, map, Option, None, Some, refl, sym, ap, subst, arith, ◌⊎◌, inl, inr}
+use Rattle.std.proofs.Common.{◌≡◌, ℕ, suc, ◌+◌, ◌-◌, ◌^◌, ◌<◌, ◌≤◌, Bool, true, List, [], ◌∷◌, ◌++◌, length, get_or, map, Option, None, Some, refl, sym, ap, ◌∙◌, subst, arith, ◌⊎◌, inl, inr}
 use Rattle.std.specs.Prelude.{IfSome}
 use Rattle.std.specs.List.{All, AllByRecursion}
 use Rattle.std.proofs.lemmas.Bool.{cases_lt, ne_eqb}
@@ -22,10 +22,17 @@ use Rattle.coordination.specs.Agrees.{Agrees}
 use Rattle.coordination.specs.Holds.{HoldsNothing}
 use Rattle.coordination.specs.Passes.{PassView}
 use Rattle.coordination.specs.Sights.{workers_from}
+use Rattle.coordination.specs.declared.rule.Sight.{Sight}
+use Rattle.item_work.specs.Requests.{SentView}
+use Rattle.lock_transforms.specs.declared.entries.Closed.{Closed}
+use Rattle.build_runner.specs.Desks.{DeskView}
 use Rattle.build_runner.specs.Points.{HasFinishedWork}
 use Rattle.build_runner.specs.Run.{HasResults, depth}
+use Rattle.build_runner.specs.Sent.{AreSentAndOneMore, AreSentBy, AreSentFor, HasSent}
+use Rattle.build_runner.specs.Site.{SiteView}
 use Rattle.build_runner.specs.Units.{given}
-use Rattle.build_runner.specs.Worked.{HasComeToTheEnd, HasWorked}
+use Rattle.build_runner.specs.Worked.{HasComeToTheEnd, HasWorked, WasThere}
+use Rattle.build_runner.proofs.Sending.{sent_or_more}
 use Rattle.coordination.proofs.lemmas.Numbered.{element, passes_count, worker_at}
 
 -- what has ended stays so, whatever entries follow
@@ -62,7 +69,7 @@ closings_in ps n b are agrees i p low =
     let own : PassView = get_or ps i p in
     subst (λ (w : WorkerId). closed_by w b.history ≡ closed_by own.sight.worker own.sight.seen.history) (worker_at ps n i p are low) (agrees i p (omega (arith, count, low))).closings
 
-module _ (known : Option Folder) (units : List PlannedUnit) (before after : ℕ → ℕ) (ps : List PassView) (n : ℕ) (b : BookView)
+module _ (known : Option Folder) (units : List PlannedUnit) (before after : ℕ → DeskView) (ps : List PassView) (n : ℕ) (b : BookView)
     (are : map (λ (p : PassView). p.sight.worker.0) ps ≡ workers_from 0 n)
     (agrees : All (λ (p : PassView). Agrees p.sight.worker p.sight.seen b) ps)
     (entries : All (λ (e : Entry). e.worker.0 < n) b.history)
@@ -77,11 +84,16 @@ module _ (known : Option Folder) (units : List PlannedUnit) (before after : ℕ 
   closings_of : (i : ℕ) (low : i < n) → closed_by (record { 0 = i }) b.history ≡ closed_by (pass i low).sight.worker (pass i low).sight.seen.history
   closings_of i low = closings_in ps n b are agrees i (element ps i (within i low)) low
 
-  pub all_faults : (i : ℕ) → i < n → after i < 2 ^ 64 - 1 → faults_by (record { 0 = i }) b.history + before i ≤ after i
+  pub all_faults : (i : ℕ) → i < n → (after i).faults < 2 ^ 64 - 1 → faults_by (record { 0 = i }) b.history + (before i).faults ≤ (after i).faults
   all_faults i low lt =
       let f = (come i (element ps i (within i low)) low).faults lt in
       let e = ap faults_in (closings_of i low) in
       omega (arith, f, e)
+
+  pub all_requests : (i : ℕ) → i < n → AreSentFor units (closed_by (record { 0 = i }) b.history) (before i).sent (after i).sent
+  all_requests i low =
+      subst (λ (ds : List Closed). AreSentFor units ds (before i).sent (after i).sent) (sym (closings_of i low))
+      (come i (element ps i (within i low)) low).sent
 
   pub all_rest : All (λ (p : PassView). HoldsNothing p.sight) ps
   all_rest i d low = let c = passes_count ps n are in (come i d (omega (arith, c, low))).finished.rests
@@ -111,17 +123,57 @@ pub has_results : (plan : PlanView) (known : Option Folder) (b : BookView) → H
 has_results plan None b give honest every = every
 has_results plan (Some files) b give honest every = every _ (give (unit_value plan files) b.history honest)
 
--- a worker that began with an empty history
-pub comes_to_the_end : (known : Option Folder) (units : List PlannedUnit) (before after : ℕ) (old new : PassView) (ended : Bool) → HasWorked known units before after old new ended → ended ≡ true → old.sight.seen.history ≡ [] → HasComeToTheEnd known units before after new
-comes_to_the_end known units before after old new ended worked is none = record {
-  faults = λ lt.
-      let f = worked.keeps.faults lt in
-      let z : faults_by old.sight.worker old.sight.seen.history ≡ 0 = ap (λ h. faults_by old.sight.worker h) none in
-      subst (λ (w : WorkerId). faults_by w new.sight.seen.history + before ≤ after) (sym worked.keeps.worker) (omega (arith, f, z));
-  honest = at known worked.keeps.honest;
-  finished = worked.finished is;
+-- the same of a run that was broken off
+pub all_there : (units : List PlannedUnit) (before after : ℕ → DeskView) (ps : List PassView) (n : ℕ) (b : BookView) → map (λ (p : PassView). p.sight.worker.0) ps ≡ workers_from 0 n
+    → All (λ (p : PassView). Agrees p.sight.worker p.sight.seen b) ps → ((i : ℕ) (p : PassView) → i < n → WasThere units (before i) (after i) (get_or ps i p))
+    → (i : ℕ) → i < n → AreSentAndOneMore units (closed_by (record { 0 = i }) b.history) (before i).sent (after i).sent
+all_there units before after ps n b are agrees there i low =
+    let count = passes_count ps n are in
+    let p : PassView = element ps i (omega (arith, count, low)) in
+    subst (λ (ds : List Closed). AreSentAndOneMore units ds (before i).sent (after i).sent) (sym (closings_in ps n b are agrees i p low)) (there i p low)
+
+-- ---- a worker that began with an empty history
+
+-- what its desk sent, it sent for all that it closed
+sent_for_all : (done : Bool) (units : List PlannedUnit) {before after : SentView} {old new : Sight} → old.seen.history ≡ [] → HasSent done units before after old new → AreSentBy done units (closed_by new.worker new.seen.history) before after
+sent_for_all done units {before} {after} {old} {new} none sent =
+    let w : WorkerId = old.worker in
+    let e : closed_by w new.seen.history ≡ sent.closed = sent.closes.closed ∙ ap (λ (h : List Entry). closed_by w h ++ sent.closed) none in
+    subst (λ (v : WorkerId). AreSentBy done units (closed_by v new.seen.history) before after) (sym sent.closes.worker) (subst (λ (ds : List Closed). AreSentBy done units ds before after) (sym e) sent.sent)
+
+pub was_there : {D : Type 0} {view : D → DeskView} {s : SiteView} {a b : D} {old new : PassView} {ended : Bool} → HasWorked s view a b old new ended → old.sight.seen.history ≡ [] → WasThere s.units (view a) (view b) new
+was_there {view = view} {s} {a} {b} {new = new} {ended} worked none =
+    sent_or_more ended s.units (closed_by new.sight.worker new.sight.seen.history) (view a).sent (view b).sent (sent_for_all ended s.units none worked.step.sent)
+
+pub comes_to_the_end : {D : Type 0} {view : D → DeskView} {s : SiteView} {a b : D} {old new : PassView} {ended : Bool} → HasWorked s view a b old new ended → ended ≡ true → old.sight.seen.history ≡ []
+    → HasComeToTheEnd (view a).files s.units (view a) (view b) new
+comes_to_the_end {view = view} {s} {a} {b} {old} {new} {ended} worked is none =
+    let kept = worked.step.keeps in record {
+      faults = λ lt.
+          let f = kept.faults lt in
+          let z : faults_by old.sight.worker old.sight.seen.history ≡ 0 = ap (λ h. faults_by old.sight.worker h) none in
+          subst (λ (w : WorkerId). faults_by w new.sight.seen.history + (view a).faults ≤ (view b).faults) (sym kept.worker) (omega (arith, f, z));
+      honest = at (view a).files kept.honest;
+      sent = subst (λ (done : Bool). AreSentBy done s.units (closed_by new.sight.worker new.sight.seen.history) (view a).sent (view b).sent) is (sent_for_all ended s.units none worked.step.sent);
+      finished = worked.finished is;
+    }
+  where
+    at : (o : Option Folder) → IfSome o (λ files. IsHonestWorker (given s.units files) old.sight.seen.history old.sight.worker → IsHonestWorker (given s.units files) new.sight.seen.history old.sight.worker)
+        → IfSome o (λ files. IsHonestWorker (given s.units files) new.sight.seen.history new.sight.worker)
+    at None keeps = tt
+    at (Some files) keeps =
+        subst (λ (w : WorkerId). IsHonestWorker (given s.units files) new.sight.seen.history w) (sym worked.step.keeps.worker)
+        (keeps (subst (λ (h : List Entry). IsHonestWorker (given s.units files) h old.sight.worker) (sym none) tt))
+
+-- the same, where perhaps less is known of the files
+pub come_as : {known known' : Option Folder} {units : List PlannedUnit} {before after : DeskView} {p : PassView} → (known' ≡ None) ⊎ (known' ≡ known) → HasComeToTheEnd known units before after p → HasComeToTheEnd known' units before after p
+come_as {known} {known'} {units} {before} {after} {p} less come = record {
+  faults = come.faults;
+  honest = at less;
+  sent = come.sent;
+  finished = come.finished;
 }
   where
-    at : (o : Option Folder) → IfSome o (λ files. IsHonestWorker (given units files) old.sight.seen.history old.sight.worker → IsHonestWorker (given units files) new.sight.seen.history old.sight.worker) → IfSome o (λ files. IsHonestWorker (given units files) new.sight.seen.history new.sight.worker)
-    at None keeps = tt
-    at (Some files) keeps = subst (λ (w : WorkerId). IsHonestWorker (given units files) new.sight.seen.history w) (sym worked.keeps.worker) (keeps (subst (λ (h : List Entry). IsHonestWorker (given units files) h old.sight.worker) (sym none) tt))
+    at : (known' ≡ None) ⊎ (known' ≡ known) → IfSome known' (λ files. IsHonestWorker (given units files) p.sight.seen.history p.sight.worker)
+    at (inl none) = rw none tt
+    at (inr same) = rw same come.honest

@@ -1,14 +1,12 @@
 -- Each unit of a plan has the name of a file, in its form.
-use Rattle.std.proofs.Common.{◌≡◌, ℕ, List, [], ◌∷◌, map, Option, None, Some}
+use Rattle.std.proofs.Common.{ℕ, List, [], ◌∷◌, map, Option, None, Some}
 use Rattle.std.specs.List.{All, flat_map}
 use Rattle.std.proofs.lemmas.List.Elements.{All-append, All-cons, All-head, All-map, All-nil, All-tail, All-weaker}
 use Rattle.plan_table.specs.Formed.{IsFetch}
 use Rattle.plan_reader.specs.IsPlan.{HasFileNames, IsPlan}
 use Rattle.plan_reader.specs.PlanView.{PlanActionView, PlanTaskView, PlanView}
 use Rattle.plan_reader.specs.Units.{PlannedUnit, action_units, fetch_units, item_unit, plan_units, task_units}
-use Rattle.build_runner.specs.Units.{HasFileName, unit_view}
-use Rattle.build_runner.specs.declared.units.UnitWork.{UnitWork}
-use Rattle.build_runner.proofs.Seated.{of_each}
+use Rattle.build_runner.specs.Units.{HasFileName}
 
 -- all units of a list of parts have one, where all units of each part do
 of_parts : {X : Type 0} (units : X → List PlannedUnit) (xs : List X) → All (λ x. All HasFileName (units x)) xs → All HasFileName (flat_map units xs)
@@ -27,8 +25,5 @@ of_action a is = All-append HasFileName (fetch_units a.fetch) (map item_unit a.i
 of_task : (t : PlanTaskView) → All HasFileNames t.actions → All HasFileName (task_units t)
 of_task t is = of_parts action_units t.actions (All-weaker HasFileNames (λ a. All HasFileName (action_units a)) of_action t.actions is)
 
-of_plan : (p : PlanView) → IsPlan p → All HasFileName (plan_units p)
+pub of_plan : (p : PlanView) → IsPlan p → All HasFileName (plan_units p)
 of_plan p is = of_parts task_units p.tasks (All-weaker (λ t. All HasFileNames t.actions) (λ t. All HasFileName (task_units t)) of_task p.tasks is.file_names)
-
-pub file_names : (p : PlanView) (us : List UnitWork) → IsPlan p → map unit_view us ≡ plan_units p → All (λ u. HasFileName (unit_view u)) us
-file_names p us is are = of_each unit_view HasFileName us (plan_units p) are (of_plan p is)

@@ -209,6 +209,15 @@ pub of_ok : {T E P : Type 0} (r : Result T E) (x : T) → r ≡ Ok x → OnOk r 
 of_ok (Ok y) x is p = p
 of_ok (Err e) x is p = absurd (cc)
 
+-- what holds anyway holds at an error
+pub at_err : {T E P : Type 0} (r : Result T E) → P → OnErr r P
+at_err (Ok x) p = tt
+at_err (Err e) p = p
+
+pub of_err : {T E P : Type 0} (r : Result T E) (x : E) → r ≡ Err x → OnErr r P → P
+of_err (Ok y) x is p = absurd (cc)
+of_err (Err e) x is p = p
+
 -- a question that was answered, or was asked in vain, closes nothing
 pub asked_closes : {A : Type 0} {waits : WorkerId → BookView → Type 0} {old new : Sight} (answers : WorkerId → BookView → A → Type 0) (r : Result A Halt)
     → IfOk r (λ a. IsAnswered answers a old new) → ((by : WorkerId) → r ≡ Err (Halt.Stopped by) → AskedInVain waits by old new) → r ≢ Err Halt.NoMemory → HasClosed [] old new
@@ -234,12 +243,6 @@ keeps_risen known units before after closed le =
       faults = λ lt. let f = still.faults (omega arith) in omega arith;
       honest = still.honest;
     }
-
--- one unit was closed, or the closing failed
-pub keeps_or_not : {T E : Type 0} {old mid new : Sight} (known : Option Folder) (units : List PlannedUnit) (before after : ℕ) (d : Closed) (r : Result T E) → HasClosed [] old mid → OnOk r (HasClosed (d ∷ []) mid new) → OnErr r (HasClosed [] mid new)
-    → before ≤ after → (d.outcome ≡ outcomes.Fault → Rises before after) → IfSome known (λ files. IsHonest d.outcome (given units files d.unit)) → Keeps known units before after old new
-keeps_or_not known units before after d (Ok x) first closed still le rises honest = keeps_closed known units before after d (closes_then first closed) le rises honest
-keeps_or_not known units before after d (Err e) first closed still le rises honest = keeps_risen known units before after (closes_then first still) le
 
 pub some_or_none : {X : Type 0} (o : Option X) (x : X) → Some x ≡ o → o ≡ None → ⊥
 some_or_none None x some none = absurd (cc)

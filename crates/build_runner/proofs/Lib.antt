@@ -2,15 +2,16 @@ pub mod lemmas
 pub mod Keeping
 pub mod Points
 pub mod Sending
+pub mod Stepping
 pub mod Asked
 mod AtFirst
 mod AtTheEnd
-mod Counted
-mod Fetched
 mod FileNames
 mod Joined
 mod Places
+mod PlannedUnits
 mod Ranks
-mod Requested
 mod Seated
+mod SiteUnits
+mod Tallied
 mod UnitLists

@@ -13,11 +13,11 @@ module _ {D : Type 0} (old worked new : List D) (n : ℕ) (long : length worked 
       let e : n + (i - n) ≡ i = omega (arith, past) in
       ap (λ (l : List D). get_or l i d) is ∙ (get_or-append_right worked (drop n old) n i d long past ∙ (get_or-drop n old (i - n) d ∙ ap (λ (k : ℕ). get_or old k d) e))
 
-  pub stay : {X : Type 0} (f : D → X) → ((i : ℕ) (d : D) → f (get_or worked i d) ≡ f (get_or (take n old) i d)) → (i : ℕ) (d : D) → f (get_or new i d) ≡ f (get_or old i d)
+  pub stay : {X : Type 0} (f : D → X) → ((i : ℕ) (d : D) → i < n → f (get_or worked i d) ≡ f (get_or (take n old) i d)) → (i : ℕ) (d : D) → f (get_or new i d) ≡ f (get_or old i d)
   stay f same i d = at (cases_lt i n)
     where
       at : (i < n) ⊎ (n ≤ i) → f (get_or new i d) ≡ f (get_or old i d)
-      at (inl low) = ap f (place_within i d low) ∙ (same i d ∙ ap f (get_or-take n old i d low))
+      at (inl low) = ap f (place_within i d low) ∙ (same i d low ∙ ap f (get_or-take n old i d low))
       at (inr past) = ap f (place_behind i d past)
 
   pub rise : (f : D → ℕ) → ((i : ℕ) (d : D) → i < n → f (get_or (take n old) i d) ≤ f (get_or worked i d)) → (i : ℕ) (d : D) → f (get_or old i d) ≤ f (get_or new i d)

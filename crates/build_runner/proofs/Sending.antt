@@ -1,58 +1,81 @@
 -- What a desk sends goes on over the next part of a run.
-use Rattle.std.proofs.Common.{◌≡◌, ℕ, List, [], ◌∷◌, ◌++◌, Option, None, Some, Result, Ok, Err, refl, subst}
-use Rattle.std.specs.Prelude.{IfSome, OnOk, slice_get}
+use Rattle.std.proofs.Common.{◌≡◌, ℕ, List, [], ◌∷◌, ◌++◌, Bool, true, false, Option, Some, inl, inr, refl, subst, sym}
+use Rattle.std.specs.Prelude.{slice_get}
+use Rattle.std.proofs.lemmas.Bool.{false≢true}
 use Rattle.item_actions.specs.declared.actions.ItemAction.{ItemAction}
 use Rattle.lock_transforms.specs.declared.entries.Closed.{Closed}
-use Rattle.daemon_requirements.specs.RequirementsView.{RequirementsView}
+use Rattle.daemon_requirements.specs.declared.work.Isolation.{Isolation}
+use Rattle.daemon_requirements.specs.declared.work.Isolation.TheVariants.{InThread, Process}
+use Rattle.daemon_requirements.specs.declared.work.Work.{Work}
 use Rattle.daemon_desk.specs.declared.sent.SentRequest.{SentRequest}
-use Rattle.item_work.specs.Requests.{SentView}
-use Rattle.plan_reader.specs.Units.{PlannedUnit}
+use Rattle.item_work.specs.Requests.{SentView, request_for}
+use Rattle.item_work.specs.Sends.{SendsFor}
+use Rattle.plan_reader.specs.PlanView.{process_of, work_view}
+use Rattle.plan_reader.specs.Units.{PlannedUnit, item_unit}
 use Rattle.coordination.specs.declared.rule.Sight.{Sight}
 use Rattle.build_runner.specs.Kept.{HasClosed}
-use Rattle.build_runner.specs.Sent.{AreSentFor, HasSent, IsFetched, SentFor, SentForUnit, SentForWork}
+use Rattle.build_runner.specs.Sent.{AreSentAndOneMore, AreSentBy, AreSentFor, HasSent, SentFor, SentForUnit, SentForWork}
+use Rattle.build_runner.specs.Units.{IsFetched}
 use Rattle.build_runner.proofs.Keeping.{closes_then}
 
 -- nothing is sent for a fetch
-nothing_for_work : (process : Option RequirementsView) (action : Option ItemAction) (file : List ℕ) (d : Closed) {old new : SentView} → action ≡ None → new ≡ old → SentForWork process action file d old new
-nothing_for_work None action file d none same = same
-nothing_for_work (Some asked) None file d none same = same
-nothing_for_work (Some asked) (Some action) file d none same = absurd (cc)
-
-nothing_for : (o : Option PlannedUnit) (d : Closed) {old new : SentView} → IfSome o (λ unit. unit.action ≡ None) → new ≡ old → SentForUnit o d old new
-nothing_for None d fetched same = same
-nothing_for (Some u) d fetched same = nothing_for_work u.process u.action u.file d fetched same
-
 pub of_fetch : (units : List PlannedUnit) (d : Closed) {old new : SentView} → IsFetched units d.unit → new ≡ old → SentFor units d old new
-of_fetch units d fetched same = nothing_for (slice_get units d.unit) d fetched same
+of_fetch units d {old} {new} fetched same = subst (λ (o : Option PlannedUnit). SentForUnit o d old new) (sym fetched.1) same
+
+-- and for an item what running it sends
+of_work : (isolation : Isolation) (action : ItemAction) (file : List ℕ) (d : Closed) (old new : SentView) → SendsFor isolation old new (record { unit = d.unit; action = action; file = file }) d.outcome
+    → SentForWork (process_of isolation) (Some action) file d old new
+of_work InThread action file d old new sent = sent
+of_work (Process asked) action file d old new sent = sent
+
+pub of_item : (units : List PlannedUnit) (w : Work) (d : Closed) (old new : SentView) → slice_get units d.unit ≡ Some (item_unit (work_view w)) → SendsFor w.isolation old new (request_for d.unit w) d.outcome → SentFor units d old new
+of_item units w d old new is sent = subst (λ (o : Option PlannedUnit). SentForUnit o d old new) (sym is) (of_work w.isolation w.action w.file d old new sent)
+
+-- what a part that was done sent is what one sent that is said to have failed
+sent_by : (done : Bool) (units : List PlannedUnit) (ds : List Closed) (before after : SentView) → AreSentFor units ds before after → AreSentBy done units ds before after
+sent_by true units ds before after sent = sent
+sent_by false units ds before after sent = (after, sent, inl refl)
+
+pub sent_or_more : (done : Bool) (units : List PlannedUnit) (ds : List Closed) (before after : SentView) → AreSentBy done units ds before after → AreSentAndOneMore units ds before after
+sent_or_more true units ds before after sent = (after, sent, inl refl)
+sent_or_more false units ds before after sent = sent
+
+sent_less : (more less : Bool) (units : List PlannedUnit) (ds : List Closed) (before after : SentView) → (less ≡ true → more ≡ true) → AreSentBy more units ds before after → AreSentBy less units ds before after
+sent_less more false units ds before after weaker sent = sent_or_more more units ds before after sent
+sent_less true true units ds before after weaker sent = sent
+sent_less false true units ds before after weaker sent = absurd (false≢true (weaker refl))
+
+-- less is said of a part that says less
+pub sent_weaker : {units : List PlannedUnit} {before after : SentView} {old new : Sight} {more less : Bool} → (less ≡ true → more ≡ true) → HasSent more units before after old new → HasSent less units before after old new
+sent_weaker {units} {before} {after} {more = more} {less} weaker k = record { closed = k.closed; closes = k.closes; sent = sent_less more less units k.closed before after weaker k.sent }
 
 -- nothing was closed, and nothing sent
-pub sent_nothing : (units : List PlannedUnit) {before after : SentView} {old new : Sight} → HasClosed [] old new → after ≡ before → HasSent units before after old new
-sent_nothing units closes same = record { closed = []; closes = closes; sent = same }
+pub sent_nothing : (done : Bool) (units : List PlannedUnit) {before after : SentView} {old new : Sight} → HasClosed [] old new → after ≡ before → HasSent done units before after old new
+sent_nothing done units {before} {after} closes same = record { closed = []; closes = closes; sent = sent_by done units [] before after same }
 
 -- one unit was closed
-pub sent_one : (units : List PlannedUnit) (d : Closed) {before after : SentView} {old new : Sight} → HasClosed (d ∷ []) old new → SentFor units d before after → HasSent units before after old new
+pub sent_one : (units : List PlannedUnit) (d : Closed) {before after : SentView} {old new : Sight} → HasClosed (d ∷ []) old new → SentFor units d before after → HasSent true units before after old new
 sent_one units d {before} {after} closes sent = record { closed = d ∷ []; closes = closes; sent = (after, sent, refl) }
+
+-- one unit was run, and not closed
+pub sent_more : (units : List PlannedUnit) (d : Closed) {before after : SentView} {old new : Sight} → HasClosed [] old new → SentFor units d before after → HasSent false units before after old new
+sent_more units d {before} {after} closes sent = record { closed = []; closes = closes; sent = (before, refl, inr (d, sent)) }
 
 joined : (units : List PlannedUnit) (ds es : List Closed) (a b c : SentView) → AreSentFor units ds a b → AreSentFor units es b c → AreSentFor units (ds ++ es) a c
 joined units [] es a b c same rest = subst (λ v. AreSentFor units es v c) same rest
 joined units (d ∷ ds) es a b c first rest = (first.0, first.1, joined units ds es first.0 b c first.2 rest)
 
--- one part after the other
-pub sent_then : (units : List PlannedUnit) {a b c : SentView} {r s t : Sight} → HasSent units a b r s → HasSent units b c s t → HasSent units a c r t
-sent_then units {a} {b} {c} {r} {s} {t} k l = record {
+joined_by : (done : Bool) (units : List PlannedUnit) (ds es : List Closed) (a b c : SentView) → AreSentFor units ds a b → AreSentBy done units es b c → AreSentBy done units (ds ++ es) a c
+joined_by true units ds es a b c first rest = joined units ds es a b c first rest
+joined_by false units ds es a b c first rest = (rest.0, joined units ds es a b rest.0 first rest.1, rest.2)
+
+-- one part after the other, where the first was done
+pub sent_then : (last : Bool) (units : List PlannedUnit) {a b c : SentView} {r s t : Sight} → HasSent true units a b r s → HasSent last units b c s t → HasSent last units a c r t
+sent_then last units {a} {b} {c} {r} {s} {t} k l = record {
   closed = k.closed ++ l.closed;
   closes = closes_then k.closes l.closes;
-  sent = joined units k.closed l.closed a b c k.sent l.sent;
+  sent = joined_by last units k.closed l.closed a b c k.sent l.sent;
 }
-
--- one unit was closed, or the closing failed
-pub sent_or_not : {T E : Type 0} (units : List PlannedUnit) (d : Closed) (r : Result T E) (before after : SentView) {old mid : Sight} (new : Sight) → HasClosed [] old mid → OnOk r (HasClosed (d ∷ []) mid new) → SentFor units d before after → OnOk r (HasSent units before after old new)
-sent_or_not units d (Ok x) before after new first closed sent = sent_one units d (closes_then first closed) sent
-sent_or_not units d (Err e) before after new first closed sent = tt
-
--- nothing between two parts
-pub sent_next : (units : List PlannedUnit) {a b c : SentView} {r s t u : Sight} → HasSent units a b r s → HasClosed [] s t → HasSent units b c t u → HasSent units a c r u
-sent_next units first closes last = sent_then units (sent_then units first (sent_nothing units closes refl)) last
 
 pub same_view : {a b : ℕ} {x y : Option (List SentRequest)} → a ≡ b → x ≡ y → ◌≡◌ {A = SentView} (record { count = a; requests = x }) (record { count = b; requests = y })
 same_view is are = cc

@@ -1,1 +1,3 @@
 pub mod FirstDesk
+pub mod KnownFiles
+pub mod Within

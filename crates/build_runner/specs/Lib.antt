@@ -1,8 +1,11 @@
 pub mod Units
 pub mod Choices
 pub mod Parked
+pub mod Site
 pub mod Kept
 pub mod Sent
+pub mod Desks
+pub mod Steps
 pub mod Points
 pub mod Worked
 pub mod Team

@@ -1,5 +1,5 @@
 -- What a run of a plan leaves.
-use Rattle.std.specs.Prelude.{ℕ, ◌≡◌, ◌+◌, ◌++◌, ◌-◌, ◌^◌, ◌<◌, ◌≤◌, List, length, get_or, Option, None, Some, All}
+use Rattle.std.specs.Prelude.{ℕ, ◌≡◌, ◌+◌, ◌++◌, ◌-◌, ◌^◌, ◌<◌, ◌≤◌, List, length, Option, None, Some, All}
 use Rattle.item_actions.specs.Files.{Folder}
 use Rattle.item_actions.specs.declared.outcomes.Outcome.{Outcome}
 use Rattle.resource_lock.specs.AtRest.{IsAtRest}
@@ -8,12 +8,14 @@ use Rattle.lock_transforms.specs.Allowed.{Lawful}
 use Rattle.lock_transforms.specs.Entry.{Entry, replay}
 use Rattle.lock_journal.specs.BookView.{BookView}
 use Rattle.plan_reader.specs.PlanView.{PlanView}
-use Rattle.plan_reader.specs.Units.{unit_value}
+use Rattle.plan_reader.specs.Units.{plan_units, unit_value}
 use Rattle.plan_reader.specs.Graph.{graph_of}
 use Rattle.history_laws.specs.Answers.{answers}
-use Rattle.history_laws.specs.ClosedBy.{faults_by}
+use Rattle.history_laws.specs.ClosedBy.{closed_by, faults_by}
 use Rattle.history_laws.specs.Marks.{HasEnded}
 use Rattle.history_laws.specs.Runs.{ComesTo, GivesClosedOutcomes, IsOrderly}
+use Rattle.build_runner.specs.Desks.{DeskView, known_by}
+use Rattle.build_runner.specs.Sent.{AreSentAndOneMore, AreSentFor}
 use Rattle.build_runner.specs.declared.options.RunOptions.{RunOptions}
 
 -- how deep one follows `after`: no chain of tasks that come after one another is longer
@@ -26,12 +28,8 @@ abbrev pub HasResults : PlanView → Option Folder → BookView → Type 0
 HasResults plan (Some files) b = ComesTo b.graph b.history (answers (unit_value plan files) b.history) (depth plan)
 HasResults plan None b = (v : ℕ → Outcome) → GivesClosedOutcomes v b.history → ComesTo b.graph b.history v (depth plan)
 
--- the desks know the same files, or none
-abbrev pub AreAlike : {D : Type 0} → (D → Option Folder) → List D → Type 0
-AreAlike {D} files desks = (i j : ℕ) (d : D) → i < length desks → j < length desks → files (get_or desks i d) ≡ files (get_or desks j d)
-
--- A whole run of a plan with these options, while the count of faults of each worker's desk went from before to after.
-pub record IsRunOf (plan : PlanView) (options : RunOptions) (known : Option Folder) (before after : ℕ → ℕ) (b : BookView) : Type 0 where
+-- A whole run of a plan with these options, by what is known of its desks before and after.
+pub record IsRunOf (plan : PlanView) (options : RunOptions) (before after : ℕ → DeskView) (b : BookView) : Type 0 where
   -- the state is the replay of the stored entries, each allowed where it stands; at most max leases are out, and no worker owns what it has parked
   pub graph : b.graph ≡ graph_of plan options.workers options.max_leases options.parallel
   pub replays : b.state ≡ replay b.graph b.history
@@ -44,8 +42,18 @@ pub record IsRunOf (plan : PlanView) (options : RunOptions) (known : Option Fold
   pub ended : HasEnded b.state
   -- each task was started or skipped once, each closed item claimed once and closed once
   pub order : IsOrderly b.graph b.history
-  -- marks and outcomes are those of the plan alone
-  pub results : HasResults plan known b
+  -- marks and outcomes are those of the plan alone, where each worker's desk knows its files
+  pub results : HasResults plan (known_by options.workers before) b
   -- each entry is one of the workers', and the units that a worker closed with Fault number at most the rise of its desk's count, where that isn't at its end
   pub workers : All (λ e. e.worker.0 < options.workers) b.history
-  pub faults : (i : ℕ) → i < options.workers → after i < 2 ^ 64 - 1 → faults_by (record { 0 = i }) b.history + before i ≤ after i
+  pub faults : (i : ℕ) → i < options.workers → (after i).faults < 2 ^ 64 - 1 → faults_by (record { 0 = i }) b.history + (before i).faults ≤ (after i).faults
+  -- each worker's desk sent what is sent for the units that the worker closed, in their order, and nothing else
+  pub requests : (i : ℕ) → i < options.workers → AreSentFor (plan_units plan) (closed_by (record { 0 = i }) b.history) (before i).sent (after i).sent
+
+-- A run of a plan that was broken off: its workers made these entries, each allowed where it stands. Each worker's desk sent what is
+-- sent for the units that the worker closed, and for at most one more.
+pub record WasBrokenOff (plan : PlanView) (options : RunOptions) (before after : ℕ → DeskView) : Type 0 where
+  pub history : List Entry
+  pub lawful : Lawful (graph_of plan options.workers options.max_leases options.parallel) history
+  pub requests : (i : ℕ) → i < options.workers
+      → AreSentAndOneMore (plan_units plan) (closed_by (record { 0 = i }) history) (before i).sent (after i).sent

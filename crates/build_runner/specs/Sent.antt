@@ -1,8 +1,6 @@
 -- The requests that a desk sent for the units that its worker closed.
-use Rattle.std.specs.Prelude.{ℕ, ◌≡◌, List, [], ◌∷◌, Option, None, Some, IfSome, slice_get}
+use Rattle.std.specs.Prelude.{ℕ, ◌≡◌, ◌⊎◌, Bool, true, false, List, [], ◌∷◌, Option, None, Some, slice_get}
 use Rattle.item_actions.specs.declared.actions.ItemAction.{ItemAction}
-use Rattle.resource_lock.specs.GraphView.{GraphView}
-use Rattle.resource_lock.specs.Ranges.{IsFetchOf}
 use Rattle.lock_transforms.specs.declared.entries.Closed.{Closed}
 use Rattle.daemon_requirements.specs.RequirementsView.{RequirementsView}
 use Rattle.daemon_desk.specs.declared.sent.SentRequest.{SentRequest}
@@ -35,16 +33,17 @@ abbrev pub AreSentFor : List PlannedUnit → List Closed → SentView → SentVi
 AreSentFor units [] old new = new ≡ old
 AreSentFor units (d ∷ ds) old new = (mid : SentView) × SentFor units d old mid × AreSentFor units ds mid new
 
--- The worker closed these units, while its desk sent what is sent for them.
-pub record HasSent (units : List PlannedUnit) (before after : SentView) (old new : Sight) : Type 0 where
+-- what was sent for these units, in this order, and for at most one more
+abbrev pub AreSentAndOneMore : List PlannedUnit → List Closed → SentView → SentView → Type 0
+AreSentAndOneMore units ds old new = (mid : SentView) × AreSentFor units ds old mid × ((new ≡ mid) ⊎ ((d : Closed) × SentFor units d mid new))
+
+-- what was sent by a part that was done, or that failed
+abbrev pub AreSentBy : Bool → List PlannedUnit → List Closed → SentView → SentView → Type 0
+AreSentBy true units ds old new = AreSentFor units ds old new
+AreSentBy false units ds old new = AreSentAndOneMore units ds old new
+
+-- The worker closed these units, while its desk sent what is sent for them; and where the part failed, for at most one more.
+pub record HasSent (done : Bool) (units : List PlannedUnit) (before after : SentView) (old new : Sight) : Type 0 where
   pub closed : List Closed
   pub closes : HasClosed closed old new
-  pub sent : AreSentFor units closed before after
-
--- the unit is a file that is fetched
-abbrev pub IsFetched : List PlannedUnit → ℕ → Type 0
-IsFetched units u = IfSome (slice_get units u) (λ unit. unit.action ≡ None)
-
--- what the graph has as fetches are files that are fetched
-abbrev pub AreFetched : GraphView → List PlannedUnit → Type 0
-AreFetched g units = (a u : ℕ) → IsFetchOf g a u → IsFetched units u
+  pub sent : AreSentBy done units closed before after

@@ -1,16 +1,24 @@
 -- The units of a plan by their numbers, and what each gives.
-use Rattle.std.specs.Prelude.{ℕ, ◌≡◌, true, List, None, slice_get}
+use Rattle.std.specs.Prelude.{ℕ, ◌≡◌, true, List, None, Some, length, slice_get}
+use Rattle.std.specs.List.{All}
 use Rattle.item_actions.specs.Files.{Folder}
 use Rattle.item_actions.specs.Forms.{is_file_name}
 use Rattle.item_actions.specs.declared.outcomes.Outcome.{Outcome}
-use Rattle.plan_reader.specs.PlanView.{work_view}
+use Rattle.resource_lock.specs.Fits.{Fits}
+use Rattle.resource_lock.specs.GraphView.{GraphView}
+use Rattle.resource_lock.specs.Ranges.{IsFetchOf, is_item}
+use Rattle.plan_reader.specs.PlanView.{WorkView, work_view}
 use Rattle.plan_reader.specs.Units.{PlannedUnit, item_unit, value_in}
 use Rattle.build_runner.specs.declared.units.UnitWork.{UnitWork}
 use Rattle.build_runner.specs.declared.units.UnitWork.TheVariants.{Fetch, Item}
 
+-- a file that is fetched, as the plan has it
+abbrev pub fetch_unit : List ℕ → PlannedUnit
+fetch_unit file = record { action = None; file = file; process = None }
+
 -- a unit as the plan has it
 abbrev pub unit_view : UnitWork → PlannedUnit
-unit_view (Fetch file) = record { action = None; file = file.now; process = None }
+unit_view (Fetch file) = fetch_unit file.now
 unit_view (Item work) = item_unit (work_view work.now)
 
 -- what a unit gives on these files, by its number
@@ -20,3 +28,19 @@ given units files u = value_in files (slice_get units u)
 -- the unit's file has the form of a file's name
 abbrev pub HasFileName : PlannedUnit → Type 0
 HasFileName u = is_file_name u.file ≡ true
+
+-- the unit with this number is a file that is fetched
+abbrev pub IsFetched : List PlannedUnit → ℕ → Type 0
+IsFetched units u = (file : List ℕ) × (slice_get units u ≡ Some (fetch_unit file))
+
+-- the unit with this number is an item
+abbrev pub IsPlannedItem : List PlannedUnit → ℕ → Type 0
+IsPlannedItem units u = (w : WorkView) × (slice_get units u ≡ Some (item_unit w))
+
+-- The units are those of the graph, by number: what it has as fetches is fetched, what it has as items are items, and each has the name of a file.
+pub record AreUnitsOf (g : GraphView) (units : List PlannedUnit) : Type 0 where
+  pub fits : Fits g
+  pub count : g.units ≡ length units
+  pub fetches : (a u : ℕ) → IsFetchOf g a u → IsFetched units u
+  pub items : (u : ℕ) → is_item g u ≡ true → IsPlannedItem units u
+  pub named : All HasFileName units

@@ -1,22 +1,30 @@
 -- What a worker did in a run.
-use Rattle.std.specs.Prelude.{ℕ, ◌≡◌, ◌+◌, ◌-◌, ◌^◌, ◌<◌, ◌≤◌, Bool, true, List, Option, IfSome}
+use Rattle.std.specs.Prelude.{◌≡◌, ◌+◌, ◌-◌, ◌^◌, ◌<◌, ◌≤◌, Bool, true, List, Option, IfSome}
 use Rattle.item_actions.specs.Files.{Folder}
 use Rattle.plan_reader.specs.Units.{PlannedUnit}
 use Rattle.coordination.specs.Passes.{PassView}
 use Rattle.history_laws.specs.Answers.{IsHonestWorker}
-use Rattle.history_laws.specs.ClosedBy.{faults_by}
-use Rattle.build_runner.specs.Kept.{Keeps}
+use Rattle.history_laws.specs.ClosedBy.{closed_by, faults_by}
+use Rattle.build_runner.specs.Desks.{DeskView}
 use Rattle.build_runner.specs.Points.{HasFinishedWork}
+use Rattle.build_runner.specs.Sent.{AreSentAndOneMore, AreSentFor}
+use Rattle.build_runner.specs.Site.{SiteView}
+use Rattle.build_runner.specs.Steps.{Steps}
 use Rattle.build_runner.specs.Units.{given}
 
--- While the count of its desk went from before to after, the worker kept what each part of a run keeps; and it came to the end, where it says so.
-pub record HasWorked (known : Option Folder) (units : List PlannedUnit) (before after : ℕ) (old new : PassView) (ended : Bool) : Type 0 where
-  pub service : new.service ≡ old.service
-  pub keeps : Keeps known units before after old.sight new.sight
+-- The worker did what each part of a run does, and came to the end, where it says so.
+pub record HasWorked {D : Type 0} (s : SiteView) (view : D → DeskView) (before after : D) (old new : PassView) (ended : Bool) : Type 0 where
+  pub step : Steps s view before after old new ended
   pub finished : ended ≡ true → HasFinishedWork new.sight
 
--- A worker came to the end of a run that it was in from the beginning: its faults are counted, what it closed is honest, and it has nothing.
-pub record HasComeToTheEnd (known : Option Folder) (units : List PlannedUnit) (before after : ℕ) (p : PassView) : Type 0 where
-  pub faults : after < 2 ^ 64 - 1 → faults_by p.sight.worker p.sight.seen.history + before ≤ after
+-- A worker came to the end of a run that it was in from the beginning: its faults are counted, what it closed is honest, its desk
+-- sent what is sent for what it closed, and it has nothing.
+pub record HasComeToTheEnd (known : Option Folder) (units : List PlannedUnit) (before after : DeskView) (p : PassView) : Type 0 where
+  pub faults : after.faults < 2 ^ 64 - 1 → faults_by p.sight.worker p.sight.seen.history + before.faults ≤ after.faults
   pub honest : IfSome known (λ files. IsHonestWorker (given units files) p.sight.seen.history p.sight.worker)
+  pub sent : AreSentFor units (closed_by p.sight.worker p.sight.seen.history) before.sent after.sent
   pub finished : HasFinishedWork p.sight
+
+-- A worker was in a run from its beginning, and perhaps not to its end: its desk sent what is sent for what it closed, and for at most one more.
+abbrev pub WasThere : List PlannedUnit → DeskView → DeskView → PassView → Type 0
+WasThere units before after p = AreSentAndOneMore units (closed_by p.sight.worker p.sight.seen.history) before.sent after.sent

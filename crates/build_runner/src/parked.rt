@@ -1,18 +1,18 @@
 //! A parked worker: it runs items until those that it waits for have ended, and resumes.
-ghost use Rattle.std.specs.Prelude.{◌≡◌, ◌<◌, All, None, OnOk, Some, length, map};
+ghost use Rattle.std.specs.Prelude.{◌≡◌, ◌<◌, None, OnOk, Some, is_ok, length};
 ghost use Rattle.resource_lock.specs.GraphView.{action_of};
 ghost use Rattle.resource_lock.specs.Ranges.{lock_with};
 ghost use Rattle.coordination.specs.Agrees.{IsSoundBook};
 ghost use Rattle.coordination.specs.Shown.{ShowsTheSame};
 ghost use Rattle.async_tracker.specs.Shows.{IsParkedBy, ShowsResumed};
-ghost use Rattle.worker_choices.specs.NextSteps.{first_open};
-ghost use Rattle.build_runner.specs.Kept.{Keeps};
-ghost use Rattle.worker_choices.specs.NextSteps.{HasToWait};
+ghost use Rattle.worker_choices.specs.NextSteps.{HasToWait, first_open};
 ghost use Rattle.worker_choices.specs.declared.awaited.Awaited.TheVariants as awaited;
 ghost use Rattle.build_runner.specs.Parked.{IsNextParked};
 ghost use Rattle.build_runner.specs.Points.{CanHelp};
-ghost use Rattle.build_runner.specs.Sent.{HasSent, sent_view};
-ghost use Rattle.build_runner.specs.Units.{HasFileName, unit_view};
+ghost use Rattle.build_runner.specs.Site.{IsAt};
+ghost use Rattle.item_work.specs.Tallying.{ReservesForEach};
+ghost use Rattle.build_runner.specs.Desks.{desk_view};
+ghost use Rattle.build_runner.specs.Steps.{Steps};
 
 use crate::failed_units::has_failed;
 use crate::items::help;
@@ -20,11 +20,13 @@ use crate::site::Site;
 use async_tracker::{Held, Parked, resume};
 use coordination::{Halt, Pass, Question};
 use daemon_desk::Desk;
+use daemon_manager::Tally;
 use file_access::Gate;
 use history_laws::only_items_are_queued;
 use lock_journal::Book;
 use resource_lock::WorkerId;
 use std::sync::Wait;
+use std::sync::ledger::Ledger;
 use worker_choices::{Awaited, can_go_on, item_to_claim};
 
 /// What a parked worker does next.
@@ -70,35 +72,28 @@ impl Question for WhatIsNextParked {
 }
 
 /// Runs items until those of the action have ended. It says whether a unit of the action has failed.
-fn help_until_over<R: Wait, D: Desk, G: Gate>(
+fn help_until_over<R: Wait, D: Desk, G: Gate, U: Ledger, F: Ledger>(
     rt: &R,
-    site: &Site<'_, G, D::Link>,
+    site: &Site<'_, G, D::Link, U, F>,
     pass: &mut Pass,
     desk: &mut D,
+    mine: &mut Tally<U, F>,
     action: u32,
 ) -> Result<bool, Halt>
-    requires service { pass.old.service ≡ site.now.service.now.service }
-    requires graph { pass.old.sight.seen.graph ≡ site.now.graph.now }
-    requires units { site.now.graph.now.units ≡ length site.now.units.now }
-    requires named { All (λ u. HasFileName (unit_view u)) site.now.units.now }
-    requires in_range { action < length site.now.graph.now.actions }
+    requires at { IsAt site.now pass.old }
+    requires in_range { action < length site.now.graph.actions }
     requires helps { CanHelp pass.old.sight }
-    ensures service { pass.new.service ≡ pass.old.service }
-    ensures files { D.files desk.new ≡ D.files desk.old }
-    ensures keeps { Keeps (D.files desk.old) (map unit_view site.now.units.now) (D.faults desk.old) (D.faults desk.new) pass.old.sight pass.new.sight }
-    ensures sent { OnOk result (HasSent (map unit_view site.now.units.now) (sent_view D.sends D.sent desk.old)
-        (sent_view D.sends D.sent desk.new) pass.old.sight pass.new.sight) }
+    ensures step { Steps site.now (desk_view D.files D.faults D.sends D.sent) desk.old desk.new pass.old pass.new (is_ok result) }
     ensures shows { OnOk result (ShowsTheSame pass.old.sight pass.new.sight) }
     ensures sound { OnOk result (IsSoundBook pass.new.sight.seen) }
     ensures over { OnOk result (first_open pass.new.sight.seen.graph pass.new.sight.seen.state action ≡ None) }
+    ensures reserved { ReservesForEach (D.sends desk.old) (D.sends desk.new) mine.old mine.new }
 {
-    // The graph fits, so what is queued is an item.
-    let _ = site.graph.tasks();
     only_items_are_queued();
     for _ in rt.forever() {
         match site.service.ask(rt, pass, &WhatIsNextParked { action })? {
             ParkedChoice::Resume(failed) => return Ok(failed),
-            ParkedChoice::Claim(unit) => help(rt, site, pass, desk, unit)?,
+            ParkedChoice::Claim(unit) => help(rt, site, pass, desk, mine, unit)?,
         }
     }
     unreachable!()
@@ -106,29 +101,24 @@ fn help_until_over<R: Wait, D: Desk, G: Gate>(
 
 /// Runs items until those of the action have ended, and resumes. It says whether a unit of the action
 /// has failed.
-pub(crate) fn wait_for_items<R: Wait, D: Desk, G: Gate>(
+pub(crate) fn wait_for_items<R: Wait, D: Desk, G: Gate, U: Ledger, F: Ledger>(
     rt: &R,
-    site: &Site<'_, G, D::Link>,
+    site: &Site<'_, G, D::Link, U, F>,
     pass: &mut Pass,
     desk: &mut D,
+    mine: &mut Tally<U, F>,
     parked: Parked,
 ) -> Result<bool, Halt>
-    requires service { pass.old.service ≡ site.now.service.now.service }
-    requires graph { pass.old.sight.seen.graph ≡ site.now.graph.now }
-    requires units { site.now.graph.now.units ≡ length site.now.units.now }
-    requires named { All (λ u. HasFileName (unit_view u)) site.now.units.now }
-    requires in_range { parked.action < length site.now.graph.now.actions }
+    requires at { IsAt site.now pass.old }
+    requires in_range { parked.action < length site.now.graph.actions }
     requires own { IsParkedBy pass.old.sight parked }
     requires helps { CanHelp pass.old.sight }
-    ensures service { pass.new.service ≡ pass.old.service }
-    ensures files { D.files desk.new ≡ D.files desk.old }
-    ensures keeps { Keeps (D.files desk.old) (map unit_view site.now.units.now) (D.faults desk.old) (D.faults desk.new) pass.old.sight pass.new.sight }
-    ensures sent { OnOk result (HasSent (map unit_view site.now.units.now) (sent_view D.sends D.sent desk.old)
-        (sent_view D.sends D.sent desk.new) pass.old.sight pass.new.sight) }
-    ensures shows { OnOk result (ShowsResumed (action_of site.now.graph.now parked.action).retention
-        (lock_with site.now.graph.now parked.action) parked.action pass.old.sight pass.new.sight) }
+    ensures step { Steps site.now (desk_view D.files D.faults D.sends D.sent) desk.old desk.new pass.old pass.new (is_ok result) }
+    ensures shows { OnOk result (ShowsResumed (action_of site.now.graph parked.action).retention
+        (lock_with site.now.graph parked.action) parked.action pass.old.sight pass.new.sight) }
+    ensures reserved { ReservesForEach (D.sends desk.old) (D.sends desk.new) mine.old mine.new }
 {
-    let failed = help_until_over(rt, site, pass, desk, parked.action())?;
+    let failed = help_until_over(rt, site, pass, desk, mine, parked.action())?;
     match resume(rt, site.service, pass, parked) {
         Ok(()) => Ok(failed),
         Err(Held::StillWaiting(_, _)) => unreachable!(),

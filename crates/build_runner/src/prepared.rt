@@ -16,6 +16,7 @@ use lock_transforms::kinds::MAX_CHANGES;
 use plan_reader::Plan;
 use resource_lock::Graph;
 use std::alloc::{AllocError, Global};
+use std::sync::ledger::Ledger;
 
 /// The entries of a task, beside those of its actions: start and end, or skip alone.
 const ENTRIES_A_TASK: u64 = 2;
@@ -106,15 +107,15 @@ fn open_for(alloc: Global, plan: &Plan, options: &RunOptions) -> Result<Box<Open
 
 /// Room for the workers, and for the passes and desks that they leave.
 #[derive(Drop)]
-pub(crate) struct Room<D> {
-    pub team: Vec<Worker<D>>,
+pub(crate) struct Room<D, U: Ledger, F: Ledger> {
+    pub team: Vec<Worker<D, U, F>>,
     pub passes: Vec<Pass>,
     pub desks: Vec<D>,
 }
 
-impl<D: Drop> Room<D> {
+impl<D: Drop, U: Ledger, F: Ledger> Room<D, U, F> {
     /// Room for so many workers, and for all desks.
-    pub fn new(alloc: Global, workers: usize, desks: usize) -> Result<Room<D>, AllocError>
+    pub fn new(alloc: Global, workers: usize, desks: usize) -> Result<Room<D, U, F>, AllocError>
         ensures empty { IfOk result (λ room. (room.team.items ≡ []) × (room.passes.items ≡ []) × (room.desks.items ≡ [])) }
         ensures workers { IfOk result (λ room. (workers ≤ vec_capacity room.team) × (workers ≤ vec_capacity room.passes)) }
         ensures desks { IfOk result (λ room. desks ≤ vec_capacity room.desks) }

@@ -1,18 +1,16 @@
 //! A whole run of a plan.
-ghost use Rattle.std.specs.Prelude.{◌≡◌, ◌+◌, ◌++◌, ◌<◌, ◌≤◌, ℕ, [], All, IfOk, Option, drop, get_or, length, map, true, vec_capacity, vec_len};
-ghost use Rattle.item_actions.specs.Files.{Folder};
+ghost use Rattle.std.specs.Prelude.{◌≡◌, ◌+◌, ◌++◌, ◌<◌, ◌≤◌, ℕ, [], All, IfOk, OnErr, drop, get_or, length, map, sum_by, vec_capacity, vec_len};
 ghost use Rattle.resource_lock.specs.declared.limits.TheConstants.{MAX_LEASES, MAX_WORKERS};
+ghost use Rattle.daemon_manager.specs.Counts.{reservations};
 ghost use Rattle.daemon_manager.specs.Events.{NoneIdle, IsLegal};
 ghost use Rattle.coordination.specs.Passes.{PassView};
 ghost use Rattle.coordination.specs.Sights.{workers_from};
 ghost use Rattle.plan_reader.specs.Graph.{graph_of};
 ghost use Rattle.plan_reader.specs.Units.{plan_units};
-ghost use Rattle.history_laws.specs.ClosedBy.{closed_by};
-ghost use Rattle.build_runner.specs.Run.{AreAlike, IsRunOf};
-ghost use Rattle.build_runner.specs.Sent.{AreFetched, AreSentFor, HasSent, sent_view};
+ghost use Rattle.build_runner.specs.Desks.{AreAlike, DeskView, desk_view, desks_view, known_by};
+ghost use Rattle.build_runner.specs.Run.{IsRunOf, WasBrokenOff};
 ghost use Rattle.build_runner.specs.Team.{CanWork};
-ghost use Rattle.build_runner.specs.Units.{HasFileName, unit_view};
-ghost use Rattle.build_runner.specs.Worked.{HasComeToTheEnd, HasWorked};
+ghost use Rattle.build_runner.specs.Worked.{HasComeToTheEnd, HasWorked, WasThere};
 
 use crate::daemons::close_pool;
 use crate::options::RunOptions;
@@ -22,7 +20,7 @@ use crate::site::Site;
 use crate::team::{Worker, all_ended, part, seat, work};
 use coordination::{Opened, Pass};
 use daemon_desk::Desk;
-use daemon_manager::Pool;
+use daemon_manager::{CountedPool, Pool, Tallies};
 use file_access::Gate;
 use history_laws::{
     every_run_comes_to_its_plan, histories_go_on, honest_workers_give_the_answers,
@@ -32,7 +30,9 @@ use item_work::PoolLock;
 use lock_journal::Book;
 use plan_reader::Plan;
 use std::alloc::{AllocError, Global};
+use std::marker::Brand;
 use std::mem;
+use std::sync::ledger::{Blank, Ledger};
 use std::sync::{Mutex, Wait};
 use std::thread::Threads;
 use task_ranks::ranks_give_a_numbering;
@@ -43,13 +43,14 @@ fn close_service(opened: Box<Opened>, plan: &Plan, options: &RunOptions) -> Box<
     requires workers { map (λ p. p.sight.worker.0) opened.value.passes.items ≡ workers_from 0 options.now.workers }
     requires some { 1 ≤ options.now.workers }
     requires graph { opened.value.service.book.graph ≡ graph_of plan.now options.now.workers options.now.max_leases options.now.parallel }
-    ensures run { (known : Option Folder) (before after : ℕ → ℕ)
+    ensures run { (before after : ℕ → DeskView)
         → ((i : ℕ) (p : PassView) → i < options.now.workers
-        → HasComeToTheEnd known (plan_units plan.now) (before i) (after i) (get_or opened.value.passes.items i p))
-        → IsRunOf plan.now options.now known before after result.value }
-    ensures closings { (i : ℕ) (p : PassView) → i < options.now.workers
-        → closed_by (record { 0 = i }) result.value.history ≡ closed_by (get_or opened.value.passes.items i p).sight.worker
-        (get_or opened.value.passes.items i p).sight.seen.history }
+        → HasComeToTheEnd (known_by options.now.workers before) (plan_units plan.now) (before i) (after i) (get_or opened.value.passes.items i p))
+        → IsRunOf plan.now options.now before after result.value }
+    ensures broken_off { (before after : ℕ → DeskView)
+        → ((i : ℕ) (p : PassView) → i < options.now.workers
+        → WasThere (plan_units plan.now) (before i) (after i) (get_or opened.value.passes.items i p))
+        → WasBrokenOff plan.now options.now before after }
 {
     // Where each task has a rank, they can be numbered so that each stands behind those that it
     // comes after. What is said of the whole run follows from these laws of every lawful history.
@@ -66,35 +67,36 @@ fn close_service(opened: Box<Opened>, plan: &Plan, options: &RunOptions) -> Box<
     book
 }
 
-/// Has each worker work with its pass and its desk, and says whether each came to the end. The passes and the desks then
-/// lie in their places again.
-fn run_team<R: Threads + Wait + Sync, D: Desk + Send + Drop, G: Gate + Sync>(
+/// Has each worker work with its pass, its desk and a tally, and says whether each came to the end. The passes and the desks
+/// then lie in their places again.
+fn run_team<
+    R: Threads + Wait + Sync,
+    D: Desk + Send + Drop,
+    G: Gate + Sync,
+    U: Ledger + Send + Sync,
+    F: Ledger + Send + Sync,
+>(
     rt: &R,
-    site: &Site<'_, G, D::Link>,
+    site: &Site<'_, G, D::Link, U, F>,
     passes: &mut Vec<Pass>,
     desks: &mut Vec<D>,
-    room: Room<D>,
+    tallies: &mut Tallies<U, F>,
+    room: Room<D, U, F>,
 ) -> bool
     requires same { vec_len passes.old ≡ vec_len desks.old }
     requires empty { (room.team.items ≡ []) × (room.passes.items ≡ []) × (room.desks.items ≡ []) }
     requires room { (vec_len desks.old ≤ vec_capacity room.team) × (vec_len desks.old ≤ vec_capacity room.passes)
         × (vec_len desks.old ≤ vec_capacity room.desks) }
-    requires units { site.now.graph.now.units ≡ length site.now.units.now }
-    requires fetches { AreFetched site.now.graph.now (map unit_view site.now.units.now) }
-    requires named { All (λ u. HasFileName (unit_view u)) site.now.units.now }
-    requires ready { All (CanWork site.now.service.now site.now.graph.now) passes.old.items }
+    requires parts { vec_len desks.old < tallies.old.parts }
+    requires ready { All (CanWork site.now.service site.now.graph) passes.old.items }
     ensures passes { length passes.new.items ≡ vec_len desks.old }
     ensures desks { length desks.new.items ≡ vec_len desks.old }
     ensures capacity { vec_capacity desks.new ≡ vec_capacity room.desks }
-    ensures files { (i : ℕ) (d : D) → D.files (get_or desks.new.items i d) ≡ D.files (get_or desks.old.items i d) }
     ensures worked { (i : ℕ) (p : PassView) (d : D) → i < vec_len desks.old
-        → HasWorked (D.files (get_or desks.old.items i d)) (map unit_view site.now.units.now)
-        (D.faults (get_or desks.old.items i d)) (D.faults (get_or desks.new.items i d)) (get_or passes.old.items i p)
-        (get_or passes.new.items i p) result }
-    ensures sent { (i : ℕ) (p : PassView) (d : D) → i < vec_len desks.old → result ≡ true
-        → HasSent (map unit_view site.now.units.now) (sent_view D.sends D.sent (get_or desks.old.items i d))
-        (sent_view D.sends D.sent (get_or desks.new.items i d)) (get_or passes.old.items i p).sight
-        (get_or passes.new.items i p).sight }
+        → HasWorked site.now (desk_view D.files D.faults D.sends D.sent) (get_or desks.old.items i d) (get_or desks.new.items i d)
+        (get_or passes.old.items i p) (get_or passes.new.items i p) result }
+    ensures parts { tallies.new.parts ≡ tallies.old.parts }
+    ensures reserved { sum_by D.sends desks.new.items + tallies.old.reserved ≤ sum_by D.sends desks.old.items + tallies.new.reserved }
 {
     let Room {
         mut team,
@@ -104,11 +106,12 @@ fn run_team<R: Threads + Wait + Sync, D: Desk + Send + Drop, G: Gate + Sync>(
     seat(
         mem::replace(passes, left),
         mem::replace(desks, back),
+        tallies,
         &mut team,
     );
     work(rt, site, team.as_mut_slice());
     let ended = all_ended(team.as_slice());
-    part(team, passes, desks);
+    part(team, passes, desks, tallies);
     ended
 }
 
@@ -124,12 +127,19 @@ fn put_behind<D: Drop>(desks: &mut Vec<D>, mut rest: Vec<D>)
 /// Runs a plan, and leaves the daemons that are idle then in the pool.
 ///
 /// Of its book, its desks and its error holds what `run_plan` says.
-fn run_book<R: Threads + Wait + Sync, D: Desk + Send + Drop, G: Gate + Sync>(
+fn run_book<
+    R: Threads + Wait + Sync,
+    D: Desk + Send + Drop,
+    G: Gate + Sync,
+    U: Ledger + Send + Sync,
+    F: Ledger + Send + Sync,
+>(
     rt: &R,
     alloc: Global,
     plan: &Plan,
     options: &RunOptions,
-    pool: &PoolLock<D::Link>,
+    pool: &PoolLock<D::Link, U, F>,
+    tallies: &mut Tallies<U, F>,
     desks: &mut Vec<D>,
     gate: &G,
 ) -> Result<Box<Book>, AllocError>
@@ -138,17 +148,20 @@ fn run_book<R: Threads + Wait + Sync, D: Desk + Send + Drop, G: Gate + Sync>(
     requires some_lease { 1 ≤ options.now.max_leases }
     requires few_leases { options.now.max_leases ≤ MAX_LEASES }
     requires enough { options.now.workers ≤ length desks.old.items }
-    requires alike { AreAlike D.files desks.old.items }
+    requires alike { (d : D) → AreAlike options.now.workers (desks_view (desk_view D.files D.faults D.sends D.sent) desks.old.items d) }
+    requires parts { options.now.workers < tallies.old.parts }
     ensures places { length desks.new.items ≡ length desks.old.items }
     ensures files { (i : ℕ) (d : D) → D.files (get_or desks.new.items i d) ≡ D.files (get_or desks.old.items i d) }
     ensures counts { (i : ℕ) (d : D) → D.faults (get_or desks.old.items i d) ≤ D.faults (get_or desks.new.items i d) }
     ensures rest { drop options.now.workers desks.new.items ≡ drop options.now.workers desks.old.items }
-    ensures run { (d : D) → IfOk result
-        (λ book. IsRunOf plan.now options.now (D.files (get_or desks.old.items 0 d)) (λ i. D.faults (get_or desks.old.items i d))
-        (λ i. D.faults (get_or desks.new.items i d)) book.value) }
-    ensures requests { (i : ℕ) (d : D) → i < options.now.workers
-        → IfOk result (λ book. AreSentFor (plan_units plan.now) (closed_by (record { 0 = i }) book.value.history)
-        (sent_view D.sends D.sent (get_or desks.old.items i d)) (sent_view D.sends D.sent (get_or desks.new.items i d))) }
+    ensures run { (d : D) → IfOk result (λ book. IsRunOf plan.now options.now
+        (desks_view (desk_view D.files D.faults D.sends D.sent) desks.old.items d)
+        (desks_view (desk_view D.files D.faults D.sends D.sent) desks.new.items d) book.value) }
+    ensures broken_off { (d : D) → OnErr result (WasBrokenOff plan.now options.now
+        (desks_view (desk_view D.files D.faults D.sends D.sent) desks.old.items d)
+        (desks_view (desk_view D.files D.faults D.sends D.sent) desks.new.items d)) }
+    ensures parts { tallies.new.parts ≡ tallies.old.parts }
+    ensures reserved { sum_by D.sends desks.new.items + tallies.old.reserved ≤ sum_by D.sends desks.old.items + tallies.new.reserved }
 {
     let Prepared {
         graph,
@@ -157,8 +170,9 @@ fn run_book<R: Threads + Wait + Sync, D: Desk + Send + Drop, G: Gate + Sync>(
     } = Prepared::new(alloc, plan, options)?;
     let room = Room::new(alloc, options.workers as usize, desks.len())?;
     let rest = desks.split_off(options.workers as usize)?;
-    // That the units' files have their form, the plan's type says.
+    // That the units' files have their form and that the graph fits, their types say.
     let _ = plan.tasks();
+    let _ = graph.tasks();
     let parts: &mut Opened = &mut opened;
     let site = Site {
         service: &parts.service,
@@ -168,19 +182,73 @@ fn run_book<R: Threads + Wait + Sync, D: Desk + Send + Drop, G: Gate + Sync>(
         gate,
         alloc,
     };
-    let ended = run_team(rt, &site, &mut parts.passes, desks, room);
+    let ended = run_team(rt, &site, &mut parts.passes, desks, tallies, room);
     put_behind(desks, rest);
     let book = close_service(opened, plan, options);
     if ended { Ok(book) } else { Err(AllocError) }
 }
 
+/// Runs a plan, and counts what happens to the daemons in these ledgers, which have a part for each worker and one more.
+///
+/// Of what it gives holds what `run_plan` says.
+fn run_counted<
+    R: Threads + Wait + Sync,
+    D: Desk + Send + Drop,
+    G: Gate + Sync,
+    U: Ledger + Send + Sync,
+    F: Ledger + Send + Sync,
+>(
+    rt: &R,
+    alloc: Global,
+    plan: &Plan,
+    options: &RunOptions,
+    desks: &mut Vec<D>,
+    gate: &G,
+    reserved: Blank,
+    failed: Blank,
+) -> Result<RunEnd, AllocError>
+    requires some_worker { 1 ≤ options.now.workers }
+    requires few_workers { options.now.workers ≤ MAX_WORKERS }
+    requires some_lease { 1 ≤ options.now.max_leases }
+    requires few_leases { options.now.max_leases ≤ MAX_LEASES }
+    requires enough { options.now.workers ≤ length desks.old.items }
+    requires alike { (d : D) → AreAlike options.now.workers (desks_view (desk_view D.files D.faults D.sends D.sent) desks.old.items d) }
+    requires reserved { (reserved.name ≡ U.name) × (reserved.parts ≡ U.parts) × (U.parts ≡ options.now.workers + 1) }
+    requires failed { (failed.name ≡ F.name) × (failed.parts ≡ F.parts) × (F.parts ≡ options.now.workers + 1) }
+    ensures places { length desks.new.items ≡ length desks.old.items }
+    ensures files { (i : ℕ) (d : D) → D.files (get_or desks.new.items i d) ≡ D.files (get_or desks.old.items i d) }
+    ensures counts { (i : ℕ) (d : D) → D.faults (get_or desks.old.items i d) ≤ D.faults (get_or desks.new.items i d) }
+    ensures rest { drop options.now.workers desks.new.items ≡ drop options.now.workers desks.old.items }
+    ensures run { (d : D) → IfOk result (λ end. IsRunOf plan.now options.now
+        (desks_view (desk_view D.files D.faults D.sends D.sent) desks.old.items d)
+        (desks_view (desk_view D.files D.faults D.sends D.sent) desks.new.items d) end.book.value) }
+    ensures broken_off { (d : D) → OnErr result (WasBrokenOff plan.now options.now
+        (desks_view (desk_view D.files D.faults D.sends D.sent) desks.old.items d)
+        (desks_view (desk_view D.files D.faults D.sends D.sent) desks.new.items d)) }
+    ensures legal { IfOk result (λ end. IsLegal end.events.items) }
+    ensures none_idle { IfOk result (λ end. NoneIdle end.events.items) }
+    ensures reserved { IfOk result (λ end. sum_by D.sends desks.new.items ≤ sum_by D.sends desks.old.items + reservations end.events.items) }
+{
+    let pool = Pool::new(alloc)?;
+    let (pool, mut tallies) = CountedPool::<D::Link, U, F>::new(pool, reserved, failed);
+    let pool = Mutex::new(pool);
+    let book = run_book(rt, alloc, plan, options, &pool, &mut tallies, desks, gate);
+    let events = close_pool(pool, tallies, desks);
+    Ok(RunEnd {
+        book: book?,
+        events,
+    })
+}
+
 /// Runs a plan on as many threads as the options say: each worker has a pass and a desk of its own,
 /// worker i the desk with number i, and all share one book and one pool of daemons.
 ///
+/// Of the desks that it uses, those that know their files know the same.
+///
 /// The book that it gives has ended: no lock has an owner, each mark has ended, and each unit was
-/// skipped, or is closed with what its worker's desk gave: where its files are known, the value of the
-/// unit's file, or `Fault` or `NoMemory`. Each desk counts its faults, until its count stands at its end.
-/// The desks are in their places again, also after an error.
+/// skipped, or is closed with what its worker's desk gave: where all desks that it uses know their files,
+/// the value of the unit's file, or `Fault` or `NoMemory`. Each desk counts its faults, until its count
+/// stands at its end. The desks are in their places again, also after an error.
 ///
 /// Where a book is given, desk i sent the requests of the units that worker i closed, in this order, and
 /// no other: none for a fetch or an item in the thread; for an item in a process at most one, with its
@@ -188,10 +256,12 @@ fn run_book<R: Threads + Wait + Sync, D: Desk + Send + Drop, G: Gate + Sync>(
 /// outcome is neither `Fault` nor `NoMemory`.
 ///
 /// Beside the book it gives all that happened to daemons. Those that are idle when the workers have
-/// ended are stopped through the first desk, also after an error, so none is idle then.
+/// ended are stopped through the first desk, also after an error, so none is idle then. At least as many
+/// daemons were reserved as requests were sent: each request had its reservation.
 ///
-/// It fails for want of memory alone, of the run or of any of its entries; the desks have then read
-/// some of the files and asked some daemons, and what had run is lost.
+/// It fails for want of memory alone, of the run or of any of its entries. The desks have then read some
+/// of the files, and what had run is lost. Each desk sent the requests of the units that its worker closed,
+/// and of at most one more.
 pub fn run_plan<R: Threads + Wait + Sync, D: Desk + Send + Drop, G: Gate + Sync>(
     rt: &R,
     alloc: Global,
@@ -205,25 +275,23 @@ pub fn run_plan<R: Threads + Wait + Sync, D: Desk + Send + Drop, G: Gate + Sync>
     requires some_lease { 1 ≤ options.now.max_leases }
     requires few_leases { options.now.max_leases ≤ MAX_LEASES }
     requires enough { options.now.workers ≤ length desks.old.items }
-    requires alike { AreAlike D.files desks.old.items }
+    requires alike { (d : D) → AreAlike options.now.workers (desks_view (desk_view D.files D.faults D.sends D.sent) desks.old.items d) }
     ensures places { length desks.new.items ≡ length desks.old.items }
     ensures files { (i : ℕ) (d : D) → D.files (get_or desks.new.items i d) ≡ D.files (get_or desks.old.items i d) }
     ensures counts { (i : ℕ) (d : D) → D.faults (get_or desks.old.items i d) ≤ D.faults (get_or desks.new.items i d) }
     ensures rest { drop options.now.workers desks.new.items ≡ drop options.now.workers desks.old.items }
-    ensures run { (d : D) → IfOk result
-        (λ end. IsRunOf plan.now options.now (D.files (get_or desks.old.items 0 d)) (λ i. D.faults (get_or desks.old.items i d))
-        (λ i. D.faults (get_or desks.new.items i d)) end.book.value) }
-    ensures requests { (i : ℕ) (d : D) → i < options.now.workers
-        → IfOk result (λ end. AreSentFor (plan_units plan.now) (closed_by (record { 0 = i }) end.book.value.history)
-        (sent_view D.sends D.sent (get_or desks.old.items i d)) (sent_view D.sends D.sent (get_or desks.new.items i d))) }
+    ensures run { (d : D) → IfOk result (λ end. IsRunOf plan.now options.now
+        (desks_view (desk_view D.files D.faults D.sends D.sent) desks.old.items d)
+        (desks_view (desk_view D.files D.faults D.sends D.sent) desks.new.items d) end.book.value) }
+    ensures broken_off { (d : D) → OnErr result (WasBrokenOff plan.now options.now
+        (desks_view (desk_view D.files D.faults D.sends D.sent) desks.old.items d)
+        (desks_view (desk_view D.files D.faults D.sends D.sent) desks.new.items d)) }
     ensures legal { IfOk result (λ end. IsLegal end.events.items) }
     ensures none_idle { IfOk result (λ end. NoneIdle end.events.items) }
+    ensures reserved { IfOk result (λ end. sum_by D.sends desks.new.items ≤ sum_by D.sends desks.old.items + reservations end.events.items) }
 {
-    let pool = Mutex::new(Pool::new(alloc)?);
-    let book = run_book(rt, alloc, plan, options, &pool, desks, gate);
-    let events = close_pool(pool, desks);
-    Ok(RunEnd {
-        book: book?,
-        events,
-    })
+    let parts = u64::from(options.workers) + 1;
+    let reserved = Blank::new(parts);
+    let failed = Blank::new(parts);
+    run_counted::<R, D, G, Brand, Brand>(rt, alloc, plan, options, desks, gate, reserved, failed)
 }

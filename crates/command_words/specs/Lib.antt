@@ -4,5 +4,6 @@ pub mod Failing
 pub mod Matching
 pub mod Run
 pub mod Check
+pub mod Again
 pub mod Make
 pub mod Reading

@@ -48,5 +48,8 @@ run_app = with_rules (bare_app (codes "run")) (
 unfoldable pub check_app : App
 check_app = with_rules (bare_app (codes "check")) (required_rule (codes "PLAN") ∷ [])
 
+unfoldable pub again_app : App
+again_app = with_rules (bare_app (codes "again")) (required_rule (codes "PLAN") ∷ [])
+
 unfoldable pub make_app : App
 make_app = with_rules (bare_app (codes "make")) (required_rule (codes "SEED") ∷ required_rule (codes "FILE") ∷ [])

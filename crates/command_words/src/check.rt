@@ -14,7 +14,7 @@ use item_actions::Text;
 use std::alloc::Global;
 
 /// The name of the plan's file, by the parser's matches.
-fn plan_named(alloc: Global, matches: &ArgMatches<'_>) -> Result<Text, WordsFail>
+pub(crate) fn plan_named(alloc: Global, matches: &ArgMatches<'_>) -> Result<Text, WordsFail>
     ensures ok { IfOk result (λ plan. check_of_rows (rows_of (found_of matches.now)) ≡ Some plan) }
     ensures err { IfErr result (NoMemoryOr (check_of_rows (rows_of (found_of matches.now)) ≡ None)) }
 {

@@ -13,6 +13,8 @@ pub enum Command {
     Worker,
     /// Checks a history against the plan in the file of this name: 1 to 255 bytes, none of them zero.
     Check(Text),
+    /// Drives a recorded run of the plan in the file of this name again. The name is of the same form.
+    Again(Text),
     /// Prints a large plan that is made from a number.
     Make(MakeWords),
 }

@@ -1,6 +1,7 @@
 //! The words after the program's name, as a command.
 #![tactic(auto)]
 
+mod again;
 mod check;
 mod commands;
 mod make;

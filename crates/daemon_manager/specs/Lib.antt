@@ -1,4 +1,5 @@
 pub mod Calls
+pub mod Counts
 pub mod Events
 pub mod IdleOrder
 pub mod LedgerView

@@ -27,11 +27,11 @@ use Rattle.daemon_server.specs.Answering.{answer_of, AnswersAs}
 use Rattle.daemon_server.specs.Ends.{served_of}
 use Rattle.file_access.specs.declared.files.DeskFail.{DeskFail}
 use Rattle.file_access.specs.declared.files.DeskFail.TheVariants as fails
-use Rattle.daemon_server.specs.Taking.{Takes, IsTaken, TakesFrame}
+use Rattle.daemon_server.specs.Taking.{NothingBehind, Takes, IsTaken, TakesFrame}
 use Rattle.daemon_server.specs.Serving.{Outside, ending, IsOver, IsEnd, HasAnswered, HasServed, IsServing, ServesOn}
 use Rattle.daemon_server.specs.declared.serving.Served.{Served}
 use Rattle.daemon_server.specs.declared.serving.Served.TheVariants.{Done, BadFrame, SourceFault, SinkFault, NoMemory}
-use Rattle.daemon_server.proofs.Supplies.{takes_nothing}
+use Rattle.daemon_server.proofs.Supplies.{none_behind, takes_nothing}
 
 pub serving_nothing : (o : Outside) → IsServing o o MAX_STREAM_BYTES
 serving_nothing o = record {
@@ -121,17 +121,19 @@ served_sink_fault {old} {mid} {new} room n held a s takes faults whole is worked
   rest = [];
   answers = s.answers ++ a ∷ [];
   answered = answered_more room n held a s takes faults whole is worked;
+  nothing_behind = none_behind [] refl;
   end = (refl, subst (Broke old.sink new.sink) (replies_more s.answers a) (broke_then s.wrote broke));
 }
 
 -- there was no memory, and nothing more was written
-pub served_no_memory : {old mid new : Outside} (room : ℕ) (held : List ℕ) (s : IsServing old mid room) → Takes mid.source new.source room held → mid.faults ≤ new.faults → new.sink ≡ mid.sink
+pub served_no_memory : {old mid new : Outside} (room : ℕ) (held : List ℕ) (s : IsServing old mid room) → Takes mid.source new.source room held → NothingBehind held → mid.faults ≤ new.faults → new.sink ≡ mid.sink
     → HasServed old new NoMemory
-served_no_memory {old} {mid} {new} room held s takes faults sink = record {
+served_no_memory {old} {mid} {new} room held s takes behind faults sink = record {
   came = s.came ++ held;
   rest = held;
   answers = s.answers;
   answered = answered_rest room held s takes faults;
+  nothing_behind = behind;
   end = subst (λ (k : SinkView). Wrote old.sink k (replies s.answers)) (sym sink) s.wrote;
 }
 
@@ -144,6 +146,7 @@ served_source_fault {old} {mid} {new} room held s takes faults sink unfinished r
   rest = held;
   answers = s.answers;
   answered = answered_rest room held s takes faults;
+  nothing_behind = none_behind held unfinished;
   end = (unfinished, omega (arith, rises, s.source_faults), subst (λ (k : SinkView). Wrote old.sink k (replies s.answers)) (sym sink) s.wrote);
 }
 
@@ -167,11 +170,11 @@ is_over Unfinished room came held left all others (inl full) = inl (omega (arith
 is_over Unfinished room came held left all others (inr end) = inr end
 
 -- no request came any more
-pub served_end : {old mid new : Outside} (room len : ℕ) (held : List ℕ) (start : StreamStart) (served : Served) → len ≡ length held → (s : IsServing old mid room) → Takes mid.source new.source room held → mid.faults ≤ new.faults → new.sink ≡ mid.sink
+pub served_end : {old mid new : Outside} (room len : ℕ) (held : List ℕ) (start : StreamStart) (served : Served) → len ≡ length held → (s : IsServing old mid room) → Takes mid.source new.source room held → NothingBehind held → mid.faults ≤ new.faults → new.sink ≡ mid.sink
     → start ≡ look held → ((r : _) (n : ℕ) → start ≡ Whole (Request r) n → ⊥) → IsTaken start (length held) room new.source.left
     → served ≡ ending start (MAX_STREAM_BYTES - room + len) len
     → HasServed old new served
-served_end {old} {mid} {new} room len held start served counted_as s takes faults sink looked others taken is =
+served_end {old} {mid} {new} room len held start served counted_as s takes behind faults sink looked others taken is =
     let came = s.came ++ held in
     let count : length came ≡ length s.came + length held = length-append s.came held in
     let wrote : Wrote old.sink new.sink (replies s.answers) = subst (λ (k : SinkView). Wrote old.sink k (replies s.answers)) (sym sink) s.wrote in
@@ -188,6 +191,7 @@ served_end {old} {mid} {new} room len held start served counted_as s takes fault
       rest = held;
       answers = s.answers;
       answered = answered_rest room held s takes faults;
+      nothing_behind = behind;
       end = ends served same;
     }
 
@@ -195,17 +199,17 @@ served_end {old} {mid} {new} room len held start served counted_as s takes fault
 pub served_untaken : {start old : Outside} {source : SourceView} (room : ℕ) (held : List ℕ) (fail : DeskFail) → TakesFrame old.source source room held (Err fail) → IsServing start old room
     → HasServed start (record { source = source; sink = old.sink; files = old.files; faults = old.faults }) (served_of fail)
 served_untaken room held fails.Failed took s = served_source_fault room took.0 s took.1 (omega arith) refl took.2 took.3
-served_untaken room held fails.NoMemory took s = served_no_memory room took.0 s took.1 (omega arith) refl
+served_untaken room held fails.NoMemory took s = served_no_memory room took.0 s took.1 took.2 (omega arith) refl
 
 -- no reply was written
 pub served_unanswered : {old mid new : Outside} (room n : ℕ) (held : List ℕ) (r : Asked) (served : Served) → AnswersAs {A = Unit {0}} mid.files mid.faults new.faults mid.sink new.sink r (Err served) → (s : IsServing old mid room)
-    → Takes mid.source new.source room held → mid.faults ≤ new.faults → look held ≡ Whole (Request r) n → n ≡ length held
+    → Takes mid.source new.source room held → NothingBehind held → mid.faults ≤ new.faults → look held ≡ Whole (Request r) n → n ≡ length held
     → HasServed old new served
-served_unanswered room n held r SinkFault did s takes faults whole is = served_sink_fault room n held (answer_of r did.0) s takes faults whole is did.1 did.2
-served_unanswered room n held r NoMemory did s takes faults whole is = served_no_memory room held s takes faults did
-served_unanswered room n held r SourceFault did s takes faults whole is = absurd did
-served_unanswered room n held r Done did s takes faults whole is = absurd did
-served_unanswered room n held r (BadFrame place) did s takes faults whole is = absurd did
+served_unanswered room n held r SinkFault did s takes behind faults whole is = served_sink_fault room n held (answer_of r did.0) s takes faults whole is did.1 did.2
+served_unanswered room n held r NoMemory did s takes behind faults whole is = served_no_memory room held s takes behind faults did
+served_unanswered room n held r SourceFault did s takes behind faults whole is = absurd did
+served_unanswered room n held r Done did s takes behind faults whole is = absurd did
+served_unanswered room n held r (BadFrame place) did s takes behind faults whole is = absurd did
 
 -- the error that `?` hands on
 pub ended : {old new : Outside} (room : ℕ) (r : Result ℕ Served) (served : Served) → IsErrAnd r (λ x. x ≡ served) → HasServed old new served → ServesOn old new room r

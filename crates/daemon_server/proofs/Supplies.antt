@@ -1,18 +1,22 @@
 -- What was taken from a source, piece by piece.
 use Rattle.std.proofs.Common.{◌≡◌, ℕ, ◌+◌, ◌≤◌, List, [], ◌++◌, length, take, drop, length-drop, length-take-le, take_all, length-append, sym, ap, ◌∙◌, arith}
 use Rattle.std.proofs.Math.Seq.{take-add}
-use Rattle.std.proofs.lemmas.List.{take-append-le}
+use Rattle.std.proofs.lemmas.List.{append-nil, take-append-le}
 use Rattle.std.proofs.KnownBytes.{Consumes-nil, Consumes-trans, Consumes-kept}
 use Rattle.std.specs.Io.KnownBytes.{Consumes, IsAtEnd, Keeps}
-use Rattle.daemon_protocol.specs.StreamStart.{look}
+use Rattle.daemon_protocol.specs.StreamStart.{look, lacking}
 use Rattle.daemon_protocol.specs.declared.frames.Frame.{Frame}
-use Rattle.daemon_protocol.specs.declared.starts.StreamStart.TheVariants.{Whole}
+use Rattle.daemon_protocol.specs.declared.starts.StreamStart.TheVariants.{Unfinished, Whole}
 use Rattle.daemon_protocol.proofs.lemmas.Settled.{fits}
 use Rattle.file_access.specs.SourceView.{SourceView}
-use Rattle.daemon_server.specs.Taking.{Takes, TakesBehind}
+use Rattle.daemon_server.specs.Taking.{NothingBehind, Takes, TakesBehind}
 
 pub takes_nothing : (a : SourceView) (room : ℕ) → Takes a a room []
 takes_nothing a room = record { taken = Consumes-nil a.left; faults = omega arith; few = omega arith }
+
+-- where what stands there isn't told yet
+pub none_behind : (held : List ℕ) → look held ≡ Unfinished → NothingBehind held
+none_behind held unfinished = record { front = held; last = []; held_of = sym (append-nil held); unfinished = unfinished; lacked = omega arith }
 
 -- a take that failed
 pub takes_kept : (a b : SourceView) (room : ℕ) → Keeps a.left b.left → a.faults ≤ b.faults → Takes a b room []

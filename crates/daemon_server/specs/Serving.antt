@@ -12,6 +12,7 @@ use Rattle.daemon_protocol.specs.declared.starts.StreamStart.TheVariants.{Unfini
 use Rattle.file_access.specs.SinkView.{SinkView, Rises, Wrote, Broke}
 use Rattle.file_access.specs.SourceView.{SourceView}
 use Rattle.daemon_server.specs.Answer.{Answer, asked, replies, IsHonestAnswer}
+use Rattle.daemon_server.specs.Taking.{NothingBehind}
 use Rattle.daemon_server.specs.declared.serving.Served.{Served}
 use Rattle.daemon_server.specs.declared.serving.TheConstants.{MAX_STREAM_BYTES}
 use Rattle.daemon_server.specs.declared.serving.Served.TheVariants.{Done, BadFrame, SourceFault, SinkFault, NoMemory}
@@ -68,6 +69,8 @@ pub record HasServed (old new : Outside) (served : Served) : Type 0 where
   pub rest : List ℕ
   pub answers : List Answer
   pub answered : HasAnswered old new came rest answers
+  -- also behind a frame that is refused, and where there was no memory
+  pub nothing_behind : NothingBehind rest
   pub end : IsEnd old new came rest (replies answers) served
 
 -- Each request that came was answered, and so many bytes more may be taken.

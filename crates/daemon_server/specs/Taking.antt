@@ -1,7 +1,7 @@
 -- What the taking of a frame's bytes does.
 use Rattle.std.specs.Prelude.{ℕ, ◌≡◌, ◌≤◌, ◌⊎◌, List, [], ◌++◌, length, Option, Result, Ok, Err}
 use Rattle.std.specs.Io.KnownBytes.{Consumes, IsAtEnd}
-use Rattle.daemon_protocol.specs.StreamStart.{look}
+use Rattle.daemon_protocol.specs.StreamStart.{look, lacking}
 use Rattle.daemon_protocol.specs.declared.starts.StreamStart.{StreamStart}
 use Rattle.daemon_protocol.specs.declared.starts.StreamStart.TheVariants.{Unfinished, Whole, Refused}
 use Rattle.file_access.specs.SinkView.{Rises}
@@ -21,10 +21,19 @@ IsTaken (Whole f n) held room left = n ≡ held
 IsTaken (Refused flaw) held room left = Unit {0}
 IsTaken Unfinished held room left = (held ≡ room) ⊎ IsAtEnd left
 
+-- Nothing was taken behind the frame at hand: its bytes up to some place didn't tell yet what stands there, and behind these no
+-- more were taken than were lacking, of the head or of the frame whose length the head says.
+pub record NothingBehind (held : List ℕ) : Type 0 where
+  pub front : List ℕ
+  pub last : List ℕ
+  pub held_of : held ≡ front ++ last
+  pub unfinished : look front ≡ Unfinished
+  pub lacked : length last ≤ lacking front
+
 abbrev pub TakesFrame : SourceView → SourceView → ℕ → List ℕ → Result StreamStart DeskFail → Type 0
-TakesFrame old new room held (Ok start) = Takes old new room held × (start ≡ look held) × IsTaken start (length held) room new.left
+TakesFrame old new room held (Ok start) = Takes old new room held × NothingBehind held × (start ≡ look held) × IsTaken start (length held) room new.left
 TakesFrame old new room held (Err Failed) = (piece : List ℕ) × Takes old new room piece × (look piece ≡ Unfinished) × Rises old.faults new.faults
-TakesFrame old new room held (Err NoMemory) = (piece : List ℕ) × Takes old new room piece
+TakesFrame old new room held (Err NoMemory) = (piece : List ℕ) × Takes old new room piece × NothingBehind piece
 
 -- at most so many bytes were taken and held behind the others, and none only at the end
 pub record TakesBehind (old new : SourceView) (held held' : List ℕ) (most count : ℕ) : Type 0 where

@@ -30,7 +30,10 @@ pub fn take_frame<S: Source>(
             return Ok(start);
         };
         let most = min(lacking(held) as u64, room - held.len() as u64);
-        if most == 0 || take_more(source, held, most as usize)? == 0 {
+        if most == 0 {
+            return Ok(start);
+        }
+        if take_more(source, held, most as usize)? == 0 {
             return Ok(start);
         }
     }

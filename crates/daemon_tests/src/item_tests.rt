@@ -1,22 +1,34 @@
 //! Tests of `item_work`: items on a.txt that daemons in memory work out, one after the other.
-ghost use Rattle.std.specs.Prelude.{◌≡◌, [], IfOk, true};
-ghost use Rattle.item_actions.specs.Forms.{is_file_name};
+ghost use Rattle.std.specs.Prelude.{◌≡◌, [], IfOk};
+ghost use Rattle.item_work.specs.Sends.{IsNamedFor};
+ghost use Rattle.daemon_tests.specs.Asking.{AsksProcess};
 
 use crate::asked::requirements_of;
+use crate::claimed_items::{Queued, claim, close as close_item, queue_items, run_claimed};
 use crate::lines::{add_events, add_outcome, check};
 use crate::memory_desks::desk;
+use coordination::{Coordination, Pass};
 use daemon_desk::Desk;
-use daemon_manager::{Event, Pool};
+use daemon_manager::{CountedPool, Event, Pool, Tallies, Tally};
 use daemon_requirements::{Isolation, Work};
 use item_actions::{ItemAction, Text, is_file_name};
-use item_work::{PoolLock, work_in_daemon};
+use item_work::PoolLock;
+use lock_transforms::Closed;
 use std::alloc::{AllocError, Global};
+use std::marker::Brand;
 use std::process::Abort;
+use std::sync::ledger::{Blank, Ledger};
 use std::sync::{Mutex, Wait};
 
-/// The work of a unit: the first asks for the lines of a.txt, and all others for its bytes.
-fn work(rt: &impl Abort, alloc: Global, unit: u32) -> Result<Work, AllocError>
-    ensures { IfOk result (λ work. is_file_name work.file ≡ true) }
+/// The work of a unit, in a daemon with this heap at least: the first asks for the lines of a.txt, and all others for its bytes.
+pub(crate) fn work(
+    rt: &impl Abort,
+    alloc: Global,
+    unit: u32,
+    heap_mb: u32,
+) -> Result<Work, AllocError>
+    ensures named { IfOk result (λ work. IsNamedFor work.isolation work.file) }
+    ensures process { IfOk result (λ work. AsksProcess work.isolation) }
 {
     let file = Text::from_str(alloc, "a.txt")?;
     assert!(rt; is_file_name(file.bytes()));
@@ -27,46 +39,84 @@ fn work(rt: &impl Abort, alloc: Global, unit: u32) -> Result<Work, AllocError>
     Ok(Work {
         action,
         file,
-        isolation: Isolation::InThread,
+        isolation: Isolation::Process(requirements_of(alloc, heap_mb)?),
     })
 }
 
-/// Has a daemon with this heap at least work a unit's item out.
-fn add_worked<R: Wait + Abort, D: Desk>(
+/// Has a worker claim a unit's item, run it in a daemon with this heap at least, and close it.
+fn add_worked<R: Wait + Abort, D: Desk, U: Ledger, F: Ledger>(
     rt: &R,
     alloc: Global,
     desk: &mut D,
-    pool: &PoolLock<D::Link>,
+    pool: &PoolLock<D::Link, U, F>,
+    mine: &mut Tally<U, F>,
+    service: &Coordination,
+    pass: &mut Pass,
     unit: u32,
     heap_mb: u32,
     line: &mut String,
-) -> Result<(), AllocError> {
-    let work = work(rt, alloc, unit)?;
-    let asked = requirements_of(alloc, heap_mb)?;
-    let outcome = work_in_daemon(rt, alloc, desk, pool, unit, &work, &asked);
+) -> Result<(), AllocError>
+    requires { pass.old.service ≡ service.now.service }
+    ensures { pass.new.service ≡ pass.old.service }
+{
+    let work = work(rt, alloc, unit, heap_mb)?;
+    claim(rt, service, pass, unit)?;
+    let outcome = run_claimed(rt, alloc, pass, desk, pool, mine, unit, &work);
+    close_item(rt, service, pass, Closed { unit, outcome })?;
     add_outcome(outcome, line)
 }
 
-/// Has items worked out, units 0 and so on, which ask for these heaps.
-fn add_items<R: Wait + Abort, D: Desk>(
+/// Has a worker run items, units 0 and so on, which ask for these heaps.
+fn add_each<R: Wait + Abort, D: Desk, U: Ledger, F: Ledger>(
     rt: &R,
     alloc: Global,
     desk: &mut D,
-    pool: &PoolLock<D::Link>,
+    pool: &PoolLock<D::Link, U, F>,
+    mine: &mut Tally<U, F>,
+    service: &Coordination,
+    pass: &mut Pass,
     heaps: &[u32],
     line: &mut String,
-) -> Result<(), AllocError> {
+) -> Result<(), AllocError>
+    requires { pass.old.service ≡ service.now.service }
+{
     let mut unit = 0u32;
     for heap_mb in heaps {
-        add_worked(rt, alloc, desk, pool, unit, *heap_mb, line)?;
+        add_worked(
+            rt, alloc, desk, pool, mine, service, pass, unit, *heap_mb, line,
+        )?;
         unit = unit.saturating_add(1);
     }
     Ok(())
 }
 
+/// Queues items, and has a worker run them.
+fn add_items<R: Wait + Abort, D: Desk, U: Ledger, F: Ledger>(
+    rt: &R,
+    alloc: Global,
+    desk: &mut D,
+    pool: &PoolLock<D::Link, U, F>,
+    mine: &mut Tally<U, F>,
+    heaps: &[u32],
+    line: &mut String,
+) -> Result<(), AllocError> {
+    let Queued {
+        service,
+        mut first,
+        ..
+    } = queue_items(rt, alloc)?;
+    add_each(
+        rt, alloc, desk, pool, mine, &service, &mut first, heaps, line,
+    )
+}
+
 /// Stops the idle daemons.
-fn stop_idle<D: Desk>(desk: &mut D, pool: &mut Pool<D::Link>)
-    ensures { pool.new.idle ≡ [] }
+pub(crate) fn stop_idle<D: Desk, U: Ledger, F: Ledger>(
+    desk: &mut D,
+    pool: &mut CountedPool<D::Link, U, F>,
+)
+    ensures idle { pool.new.idle ≡ [] }
+    ensures sends { D.sends desk.new ≡ D.sends desk.old }
 {
     while let Some(link) = pool.stop_idle() {
         desk.stop(link);
@@ -74,10 +124,38 @@ fn stop_idle<D: Desk>(desk: &mut D, pool: &mut Pool<D::Link>)
 }
 
 /// Stops the idle daemons, and gives all events.
-fn close<D: Desk>(desk: &mut D, pool: PoolLock<D::Link>) -> Vec<Event> {
+fn close<D: Desk, U: Ledger, F: Ledger>(
+    desk: &mut D,
+    pool: PoolLock<D::Link, U, F>,
+    all: Tallies<U, F>,
+) -> Vec<Event> {
     let mut pool = pool.into_inner();
     stop_idle(desk, &mut pool);
-    pool.into_events()
+    pool.audit(all).into_events()
+}
+
+/// The outcomes of these items on a new pool, and all events. The counts are in these ledgers.
+fn add_counted<R: Wait + Abort, D: Desk, U: Ledger, F: Ledger>(
+    rt: &R,
+    alloc: Global,
+    desk: &mut D,
+    reserved: Blank,
+    failed: Blank,
+    heaps: &[u32],
+    line: &mut String,
+) -> Result<(), AllocError>
+    requires reserved { (reserved.name ≡ U.name) × (reserved.parts ≡ U.parts) × (U.parts ≡ 2) }
+    requires failed { (failed.name ≡ F.name) × (failed.parts ≡ F.parts) × (F.parts ≡ 2) }
+{
+    let pool = Pool::new(alloc)?;
+    let (pool, mut all) = CountedPool::<D::Link, U, F>::new(pool, reserved, failed);
+    let pool = Mutex::new(pool);
+    let mut mine = all.split_off();
+    let added = add_items(rt, alloc, desk, &pool, &mut mine, heaps, line);
+    all.merge(mine);
+    let events = close(desk, pool, all);
+    added?;
+    add_events(&events, line)
 }
 
 /// The outcomes of these items on a new pool, and all events.
@@ -88,11 +166,9 @@ fn add_run<R: Wait + Abort, D: Desk>(
     heaps: &[u32],
     line: &mut String,
 ) -> Result<(), AllocError> {
-    let pool = Mutex::new(Pool::new(alloc)?);
-    let added = add_items(rt, alloc, desk, &pool, heaps, line);
-    let events = close(desk, pool);
-    added?;
-    add_events(&events, line)
+    let reserved = Blank::new(2);
+    let failed = Blank::new(2);
+    add_counted::<R, D, Brand, Brand>(rt, alloc, desk, reserved, failed, heaps, line)
 }
 
 /// Calls of the desk that fail, a lie in place of the first reply, the heaps that items ask for, and what comes of them.

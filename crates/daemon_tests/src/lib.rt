@@ -4,6 +4,8 @@
 #[cfg(test)]
 mod asked;
 #[cfg(test)]
+mod claimed_items;
+#[cfg(test)]
 mod desk_tests;
 #[cfg(test)]
 mod item_tests;
@@ -13,6 +15,8 @@ mod lines;
 mod manager_tests;
 #[cfg(test)]
 mod memory_desks;
+#[cfg(test)]
+mod pool_tests;
 #[cfg(test)]
 mod protocol_tests;
 #[cfg(test)]

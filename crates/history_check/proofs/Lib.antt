@@ -9,3 +9,4 @@ pub mod Decided
 pub mod OneByOne
 pub mod EndLines
 pub mod Rooms
+pub mod Admissions

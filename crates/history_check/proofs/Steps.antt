@@ -16,7 +16,10 @@ use Rattle.history_check.specs.Taking.{TakesNext, IsCutOff, EndsLine, StaysWithi
 use Rattle.history_check.specs.CheckView.{CheckView, IsCheckOf, OpensCheck, CheckGoesOn}
 use Rattle.history_check.specs.Verdict.{IsVerdict}
 use Rattle.history_check.specs.Naming.{BeginsHistory, BreaksBehind}
-use Rattle.history_check.specs.Checking.{unread, Answers, Fails, FindsNone, FindsHead, HasTaken, HasBytesLeft, IsUnderway, TakesHead, GoesOn, HasChecked, Shortens}
+use Rattle.history_check.specs.Checking.{unread, AnswersBy, HasEnded, Fails, FindsNone, FindsHead, HasTaken, HasBytesLeft, IsUnderway, TakesHead, GoesOn, HasChecked, Shortens}
+use Rattle.history_check.specs.Admitting.{AdmitsInput, HasAdmitted}
+use Rattle.history_check.specs.declared.admitted.Admitted.{Admitted}
+use Rattle.history_check.specs.declared.admitted.Admitted.TheVariants as admitted
 use Rattle.history_check.specs.declared.checks.Checked.{Checked}
 use Rattle.history_check.specs.declared.checks.Checked.TheVariants as checked
 use Rattle.history_check.specs.declared.fails.CheckFail.{CheckFail}
@@ -95,7 +98,7 @@ entry_taken {p} {start} {mid} {now} {was} {is} {c} {d} {k} u next ends added che
     }
 
 -- the end came, and nothing is ahead
-pub end_taken : {p : PlanView} {start mid now : SourceView} {was is : LinesView} {c d : CheckView} {k : HistoryView} (a : Checked) (u : IsUnderway p start mid was c) → TakesNext mid now was is → IsLine is.line ⊎ IsCutOff now.left is → is.ahead ≡ [] → Ends u.history is.line k → IsCheckOf p k d → IsVerdict d.graph k.entries a → Answers p start now a
+pub end_taken : {p : PlanView} {start mid now : SourceView} {was is : LinesView} {c d : CheckView} {k : HistoryView} (a : Checked) (u : IsUnderway p start mid was c) → TakesNext mid now was is → IsLine is.line ⊎ IsCutOff now.left is → is.ahead ≡ [] → Ends u.history is.line k → IsCheckOf p k d → IsVerdict d.graph k.entries a → AnswersBy p start now d a
 end_taken {p} {start} {mid} {now} {was} {is} {c} {d} {k} a u next ends none ended check verdict =
     let more = taken_more (lines_of u.history) u.taken next in (
       more.passed ++ ((lines_of u.history ++ is.line) ++ is.ahead),
@@ -109,7 +112,8 @@ end_taken {p} {start} {mid} {now} {was} {is} {c} {d} {k} a u next ends none ende
           history = read_ended {text = lines_of u.history ++ is.line} {rest = is.line} {line = is.line} {more = []} {h = u.history} {k = k} (at_start u.fits) (alone now.left is ends) ended refl;
           is = ap (λ bs. more.passed ++ ((lines_of u.history ++ is.line) ++ bs)) none ∙ ap (λ bs. more.passed ++ bs) (append-nil (lines_of u.history ++ is.line));
         };
-        verdict = subst (λ (g : GraphView). IsVerdict g k.entries a) check.graph verdict;
+        check = check;
+        verdict = verdict;
       }),
       just_decided (lines_of u.history) more (inr (inr (u.history, u.fits, refl))) ends (omega (arith, ap length none)),
     )
@@ -134,8 +138,8 @@ begins_first h rest = record {
 }
 
 -- the text stops being a history
-pub stop_taken : {p : PlanView} {start mid now : SourceView} {was is : LinesView} {c : CheckView} {k : HistoryView} (n : ℕ) (u : IsUnderway p start mid was c) → TakesNext mid now was is → IsLine is.line ⊎ IsCutOff now.left is → length is.ahead < MAX_PIECE → StopsIt u.history is.line k n → Answers p start now (checked.NotLawful n)
-stop_taken {p} {start} {mid} {now} {was} {is} {c} {k} n u next ends few stops =
+pub stop_taken : {p : PlanView} {start mid now : SourceView} {was is : LinesView} {c d : CheckView} {k : HistoryView} (n : ℕ) (u : IsUnderway p start mid was c) → TakesNext mid now was is → IsLine is.line ⊎ IsCutOff now.left is → length is.ahead < MAX_PIECE → StopsIt u.history is.line k n → AnswersBy p start now d (checked.NotLawful n)
+stop_taken {p} {start} {mid} {now} {was} {is} {c} {d} {k} n u next ends few stops =
     let more = taken_more (lines_of u.history) u.taken next in
     let rest = to_come is now.left in (
       more.passed ++ ((lines_of u.history ++ is.line) ++ is.ahead),
@@ -156,7 +160,7 @@ stop_taken {p} {start} {mid} {now} {was} {is} {c} {k} n u next ends few stops =
     )
 
 -- no head: that is answered at 0
-pub none_found : {p : PlanView} {start now : SourceView} → FindsNone start now → Answers p start now (checked.NotLawful 0)
+pub none_found : {p : PlanView} {start now : SourceView} → FindsNone start now → AdmitsInput p start now (admitted.NotLawful 0)
 none_found found = (found.0, found.1, inr (record { number = 0; breaks = found.2; answer = refl }), found.3)
 
 -- ---- what the calls for a line answer
@@ -197,15 +201,15 @@ none_ahead {h} {k} {is} least count long counted within ended =
     let whole : length is.line + length is.ahead ≤ least = within.line (omega (arith, same, least_is, long)) in
     no_length is.ahead (omega (arith, whole, same, least_is, long))
 
-pub on_end : {p : PlanView} {start mid now : SourceView} {was is : LinesView} {c d : CheckView} (least count : ℕ) (text : List ℕ) (whole : Bool) (a : HistoryLine) (answer : Checked) (u : IsUnderway p start mid was c) → Took least mid now was is whole → least ≡ length (end_text count) → count ≡ c.count → text ≡ is.line → a ≡ lines.End → Goes c d text (one_taken a) → ((p : PlanView) (h : HistoryView) → IsCheckOf p h d → IsVerdict d.graph h.entries answer) → Answers p start now answer
+pub on_end : {p : PlanView} {start mid now : SourceView} {was is : LinesView} {c d : CheckView} (least count : ℕ) (text : List ℕ) (whole : Bool) (a : HistoryLine) (answer : Checked) (u : IsUnderway p start mid was c) → Took least mid now was is whole → least ≡ length (end_text count) → count ≡ c.count → text ≡ is.line → a ≡ lines.End → Goes c d text (one_taken a) → ((p : PlanView) (h : HistoryView) → IsCheckOf p h d → IsVerdict d.graph h.entries answer) → AnswersBy p start now d answer
 on_end {p} {start} {mid} {now} {was} {is} {c} {d} least count text whole a answer u took long counted same end goes verdict =
     let next : CheckGoesOn p u.history is.line d (one_taken lines.End) = goes_there p u.history (one_taken a) (one_taken lines.End) same (ap one_taken end) goes u.check in
     end_taken answer u took.0 (ends_either now.left is whole took.1) (none_ahead least count long (counted ∙ u.check.count) took.2 next.1) next.1 next.2 (verdict p next.0 next.2)
 
-pub on_stop : {p : PlanView} {start mid now : SourceView} {was is : LinesView} {c d : CheckView} (least n : ℕ) (text : List ℕ) (whole : Bool) (fail : TextFail) (u : IsUnderway p start mid was c) → Took least mid now was is whole → least < MAX_PIECE → text ≡ is.line → fail ≡ Stops n → Goes c d text (one_failed fail) → Answers p start now (checked.NotLawful n)
+pub on_stop : {p : PlanView} {start mid now : SourceView} {was is : LinesView} {c d : CheckView} (least n : ℕ) (text : List ℕ) (whole : Bool) (fail : TextFail) (u : IsUnderway p start mid was c) → Took least mid now was is whole → least < MAX_PIECE → text ≡ is.line → fail ≡ Stops n → Goes c d text (one_failed fail) → AnswersBy p start now d (checked.NotLawful n)
 on_stop {p} {start} {mid} {now} {was} {is} {c} {d} least n text whole fail u took small same stops goes =
     let next : CheckGoesOn p u.history is.line d (one_failed (Stops n)) = goes_there p u.history (one_failed fail) (one_failed (Stops n)) same (ap one_failed stops) goes u.check in
-    stop_taken n u took.0 (ends_either now.left is whole took.1) (omega (arith, took.2.ahead, small)) next.1
+    stop_taken {d = d} n u took.0 (ends_either now.left is whole took.1) (omega (arith, took.2.ahead, small)) next.1
 
 pub no_room : {p : PlanView} {start mid now : SourceView} {was is : LinesView} {c : CheckView} (u : IsUnderway p start mid was c) → TakesNext mid now was is → Fails start now NoMemory
 no_room u next = memory_failed (lines_of u.history) next.piece u.taken next.takes
@@ -260,9 +264,17 @@ pub handed_on_before : (start now : SourceView) (is : LinesView) (r : Result Boo
 handed_on_before start now is (Ok found) fail never fails = absurd never
 handed_on_before start now is (Err f) fail same fails = subst (Fails start now) (sym same) fails
 
-pub handed_on_whole : (p : PlanView) (start now : SourceView) (r : Result Checked CheckFail) (fail : CheckFail) → IsErrAnd r (λ f. f ≡ fail) → Fails start now fail → HasChecked p start now r
+pub handed_on_whole : (p : PlanView) (start now : SourceView) (r : Result Admitted CheckFail) (fail : CheckFail) → IsErrAnd r (λ f. f ≡ fail) → Fails start now fail → HasAdmitted p start now r
 handed_on_whole p start now (Ok a) fail never fails = absurd never
 handed_on_whole p start now (Err f) fail is fails = subst (Fails start now) (sym is) fails
+
+pub handed_on_ended : (p : PlanView) (start now : SourceView) (c : CheckView) (r : Result Checked CheckFail) (fail : CheckFail) → IsErrAnd r (λ f. f ≡ fail) → Fails start now fail → HasEnded p start now c r
+handed_on_ended p start now c (Ok a) fail never fails = absurd never
+handed_on_ended p start now c (Err f) fail is fails = subst (Fails start now) (sym is) fails
+
+pub handed_on_checked : (p : PlanView) (start now : SourceView) (r : Result Checked CheckFail) (fail : CheckFail) → IsErrAnd r (λ f. f ≡ fail) → Fails start now fail → HasChecked p start now r
+handed_on_checked p start now (Ok a) fail never fails = absurd never
+handed_on_checked p start now (Err f) fail is fails = subst (Fails start now) (sym is) fails
 
 abbrev failed_to : TextFail → Result CheckView TextFail
 failed_to fail = Err fail
@@ -277,7 +289,7 @@ not_opened p {text} r fail n is kind opened =
 abbrev next_gives : Option Checked → Result (Option Checked) CheckFail
 next_gives a = Ok a
 
-pub answered_there : (p : PlanView) (start now : SourceView) (is : LinesView) (c : CheckView) (r : Option Checked) (a : Checked) → r ≡ Some a → GoesOn p start now is c (next_gives r) → Answers p start now a
+pub answered_there : (p : PlanView) (start now : SourceView) (is : LinesView) (c : CheckView) (r : Option Checked) (a : Checked) → r ≡ Some a → GoesOn p start now is c (next_gives r) → AnswersBy p start now c a
 answered_there p start now is c r a same goes = subst (λ (x : Option Checked). GoesOn p start now is c (next_gives x)) same goes
 
 pub still_underway : (p : PlanView) (start now : SourceView) (is : LinesView) (c : CheckView) (r : Option Checked) → r ≡ None → GoesOn p start now is c (next_gives r) → IsUnderway p start now is c
@@ -291,7 +303,7 @@ shortened was is d r same shortens = subst (λ (x : Option Checked). Shortens wa
 abbrev head_gives : Bool → Result Bool CheckFail
 head_gives r = Ok r
 
-pub found_none : {p : PlanView} (start now : SourceView) (is : LinesView) (r : Bool) → r ≡ false → FindsHead start now is (head_gives r) → Answers p start now (checked.NotLawful 0)
+pub found_none : {p : PlanView} (start now : SourceView) (is : LinesView) (r : Bool) → r ≡ false → FindsHead start now is (head_gives r) → AdmitsInput p start now (admitted.NotLawful 0)
 found_none start now is r same finds = none_found (subst (λ (x : Bool). FindsHead start now is (head_gives x)) same finds)
 
 pub found_some : (start now : SourceView) (is : LinesView) (r : Bool) → r ≡ true → FindsHead start now is (head_gives r) → HasTaken start now is first_line
@@ -300,7 +312,7 @@ found_some start now is r same finds = subst (λ (x : Bool). FindsHead start now
 abbrev opening_gives : Option CheckView → Result (Option CheckView) CheckFail
 opening_gives r = Ok r
 
-pub opened_none : (p : PlanView) (start now : SourceView) (is : LinesView) (r : Option CheckView) → r ≡ None → TakesHead p start now is (opening_gives r) → Answers p start now (checked.NotLawful 0)
+pub opened_none : (p : PlanView) (start now : SourceView) (is : LinesView) (r : Option CheckView) → r ≡ None → TakesHead p start now is (opening_gives r) → AdmitsInput p start now (admitted.NotLawful 0)
 opened_none p start now is r same takes = none_found (subst (λ (x : Option CheckView). TakesHead p start now is (opening_gives x)) same takes)
 
 pub opened_some : (p : PlanView) (start now : SourceView) (is : LinesView) (r : Option CheckView) (c : CheckView) → r ≡ Some c → TakesHead p start now is (opening_gives r) → IsUnderway p start now is c

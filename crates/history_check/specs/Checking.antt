@@ -11,7 +11,7 @@ use Rattle.history_reader.specs.Grammar.{HistoryFits, lines_of}
 use Rattle.history_check.specs.LinesView.{LinesView}
 use Rattle.history_check.specs.Taking.{Takes}
 use Rattle.history_check.specs.CheckView.{CheckView, IsCheckOf}
-use Rattle.history_check.specs.Verdict.{IsAnswerTo}
+use Rattle.history_check.specs.Verdict.{IsAnswerTo, IsVerdict}
 use Rattle.history_check.specs.Naming.{ArePassedOver, Names, Breaks}
 use Rattle.history_check.specs.declared.checks.Checked.{Checked}
 use Rattle.history_check.specs.declared.checks.Checked.TheVariants as checked
@@ -44,6 +44,13 @@ pub record AnswersBreak (all : List ℕ) (a : Checked) : Type 0 where
 abbrev pub IsAnswer : PlanView → List ℕ → List ℕ → Checked → Type 0
 IsAnswer p came all a = AnswersHistory p came a ⊎ AnswersBreak all a
 
+-- What came is the text of a history behind lines that are passed over, and this is its check, with its answer.
+pub record EndsHistory (p : PlanView) (came : List ℕ) (c : CheckView) (a : Checked) : Type 0 where
+  pub history : HistoryView
+  pub names : Names came history
+  pub check : IsCheckOf p history c
+  pub verdict : IsVerdict c.graph history.entries a
+
 -- nothing, the first line, or the lines so far of a history
 abbrev pub IsFront : List ℕ → Type 0
 IsFront front = (front ≡ []) ⊎ (front ≡ first_line) ⊎ ((h : HistoryView) × HistoryFits h × (front ≡ lines_of h))
@@ -74,6 +81,15 @@ Fails old new NoMemory = (came : List ℕ) × Takes old new MAX_INPUT_BYTES came
 -- what was taken, and what is answered of it
 abbrev pub Answers : PlanView → SourceView → SourceView → Checked → Type 0
 Answers p old new a = (came : List ℕ) × Takes old new MAX_INPUT_BYTES came × IsAnswer p came (all_given came new.left) a × IsJustDecided came
+
+-- what was taken, and what is answered of it by this check
+abbrev pub AnswersBy : PlanView → SourceView → SourceView → CheckView → Checked → Type 0
+AnswersBy p old new c a = (came : List ℕ) × Takes old new MAX_INPUT_BYTES came
+    × (EndsHistory p came c a ⊎ AnswersBreak (all_given came new.left) a) × IsJustDecided came
+
+abbrev pub HasEnded : PlanView → SourceView → SourceView → CheckView → Result Checked CheckFail → Type 0
+HasEnded p old new c (Ok a) = AnswersBy p old new c a
+HasEnded p old new c (Err fail) = Fails old new fail
 
 abbrev pub HasChecked : PlanView → SourceView → SourceView → Result Checked CheckFail → Type 0
 HasChecked p old new (Ok a) = Answers p old new a
@@ -137,5 +153,5 @@ Shortens was is new (Err fail) = Unit {0}
 
 abbrev pub GoesOn : PlanView → SourceView → SourceView → LinesView → CheckView → Result (Option Checked) CheckFail → Type 0
 GoesOn p start now lines c (Ok None) = IsUnderway p start now lines c
-GoesOn p start now lines c (Ok (Some a)) = Answers p start now a
+GoesOn p start now lines c (Ok (Some a)) = AnswersBy p start now c a
 GoesOn p start now lines c (Err fail) = Fails start now fail

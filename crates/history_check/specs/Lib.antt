@@ -4,3 +4,4 @@ pub mod Verdict
 pub mod CheckView
 pub mod Naming
 pub mod Checking
+pub mod Admitting

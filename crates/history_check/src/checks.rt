@@ -2,8 +2,10 @@ ghost use Rattle.std.specs.Prelude.{◌≡◌, ◌-◌, ◌^◌, ◌<◌, option
 ghost use Rattle.plan_reader.specs.PlanView.{PlanView};
 ghost use Rattle.history_reader.specs.HistoryView.{HistoryView, changes_of};
 ghost use Rattle.history_check.specs.CheckView.{IsCheckOf, OpensCheck, CheckGoesOn, IsCounted};
+ghost use Rattle.history_check.specs.Admitting.{IsFinish};
 ghost use Rattle.history_check.specs.Verdict.{IsVerdict};
 
+use crate::admitted::Admitted;
 use crate::entry_checks::EntryCheck;
 use history_reader::{EntryHead, History, HistoryLine, LineHead, TextFail, read_line_into};
 use plan_reader::Plan;
@@ -83,6 +85,13 @@ impl HistoryCheck {
             }
             LineHead::End => Ok(HistoryLine::End),
         }
+    }
+
+    /// What the history so far comes to by the answer: its book where all entries are lawful.
+    pub(crate) fn finish(self, answer: Checked) -> Admitted
+        ensures { IsFinish self answer result }
+    {
+        self.entries.finish(answer)
     }
 
     /// What the check answers of the history so far.

@@ -5,8 +5,10 @@ ghost use Rattle.plan_reader.specs.Graph.{graph_of};
 ghost use Rattle.history_text.specs.Fitting.{HeadFits};
 ghost use Rattle.history_reader.specs.HistoryView.{HistoryView};
 ghost use Rattle.history_check.specs.CheckView.{IsCheckOf, Adds};
+ghost use Rattle.history_check.specs.Admitting.{IsFinish};
 ghost use Rattle.history_check.specs.Verdict.{IsVerdict};
 
+use crate::admitted::Admitted;
 use crate::checks::Checked;
 use lock_journal::Book;
 use lock_transforms::Kind;
@@ -88,6 +90,15 @@ impl EntryCheck {
             Checked::Lawful(admitted)
         } else {
             Checked::NotLawful(admitted + 1)
+        }
+    }
+    /// What the entries come to by the answer: their book where all are lawful.
+    pub(crate) fn finish(self, answer: Checked) -> Admitted
+        ensures { IsFinish self answer result }
+    {
+        match answer {
+            Checked::Lawful(_) => Admitted::Lawful(self.book),
+            Checked::NotLawful(number) => Admitted::NotLawful(number),
         }
     }
 }

@@ -2,9 +2,11 @@ ghost use Rattle.std.specs.Prelude.{◌≡◌, [], length};
 ghost use Rattle.history_text.specs.Text.{end_text};
 ghost use Rattle.plan_reader.specs.PlanView.{PlanView};
 ghost use Rattle.file_access.specs.SourceView.{SourceView};
-ghost use Rattle.history_check.specs.Checking.{HasChecked, HasBytesLeft, GoesOn, FindsHead, FindsRoom, IsUnderway, Shortens, TakesHead, HasTaken, OpensWithin};
+ghost use Rattle.history_check.specs.Checking.{HasChecked, HasEnded, HasBytesLeft, GoesOn, FindsHead, FindsRoom, IsUnderway, Shortens, TakesHead, HasTaken, OpensWithin};
+ghost use Rattle.history_check.specs.Admitting.{HasAdmitted};
 ghost use Rattle.history_reader.specs.Lines.{first_line};
 
+use crate::admitted::Admitted;
 use crate::checks::{Checked, HistoryCheck};
 use crate::fails::CheckFail;
 use crate::lines::Lines;
@@ -33,29 +35,44 @@ pub fn check_input<I: Source>(
 ) -> Result<Checked, CheckFail>
     ensures { HasChecked plan.now (I.seen input.old) (I.seen input.new) result }
 {
+    let admitted = admit_input(alloc, plan, input)?;
+    Ok(admitted.checked())
+}
+
+/// The same, with the book of the history where all its entries are lawful.
+pub fn admit_input<I: Source>(
+    alloc: Global,
+    plan: &Plan,
+    input: &mut I,
+) -> Result<Admitted, CheckFail>
+    ensures { HasAdmitted plan.now (I.seen input.old) (I.seen input.new) result }
+{
     let mut lines = Lines::new(alloc, MAX_INPUT_BYTES);
     let found = find_head(input, &mut lines)?;
     if found {
-        check_behind(alloc, plan, input, &mut lines)
+        admit_behind(alloc, plan, input, &mut lines)
     } else {
-        Ok(Checked::NotLawful(0))
+        Ok(Admitted::NotLawful(0))
     }
 }
 
-// Checks the history whose first line was taken.
-fn check_behind<I: Source>(
+// Admits the entries of the history whose first line was taken.
+fn admit_behind<I: Source>(
     alloc: Global,
     plan: &Plan,
     input: &mut I,
     lines: &mut Lines,
-) -> Result<Checked, CheckFail>
+) -> Result<Admitted, CheckFail>
     requires { HasBytesLeft 0 lines.old }
-    ensures { (start : SourceView) → HasTaken start (I.seen input.old) lines.old first_line → HasChecked plan.now start (I.seen input.new) result }
+    ensures { (start : SourceView) → HasTaken start (I.seen input.old) lines.old first_line → HasAdmitted plan.now start (I.seen input.new) result }
 {
     let opened = open_check(alloc, plan, input, lines)?;
     match opened {
-        None => Ok(Checked::NotLawful(0)),
-        Some(mut check) => check_lines(alloc, &mut check, input, lines),
+        None => Ok(Admitted::NotLawful(0)),
+        Some(mut check) => {
+            let answer = check_lines(alloc, &mut check, input, lines)?;
+            Ok(check.finish(answer))
+        }
     }
 }
 
@@ -105,7 +122,8 @@ fn check_lines<I: Source>(
     lines: &mut Lines,
 ) -> Result<Checked, CheckFail>
     requires { HasBytesLeft check.old.count lines.old }
-    ensures { (p : PlanView) (start : SourceView) → IsUnderway p start (I.seen input.old) lines.old check.old → HasChecked p start (I.seen input.new) result }
+    ensures { (p : PlanView) (start : SourceView) → IsUnderway p start (I.seen input.old) lines.old check.old
+        → HasEnded p start (I.seen input.new) check.new result }
 {
     loop {
         let next = check_next(alloc, check, input, lines)?;

@@ -1,6 +1,7 @@
 //! Checks a history against a plan: whole, or a printed one line by line as its lines come.
 #![tactic(auto)]
 
+mod admitted;
 mod checks;
 mod entry_checks;
 mod fails;
@@ -9,12 +10,13 @@ mod laws;
 mod lines;
 mod whole;
 
+pub use admitted::Admitted;
 pub use checks::{Checked, HistoryCheck};
 pub use fails::CheckFail;
-pub use inputs::{MAX_INPUT_BYTES, check_input};
+pub use inputs::{MAX_INPUT_BYTES, admit_input, check_input};
 pub use laws::{
     an_input_has_one_answer, little_is_taken_behind_a_wrong_line, the_first_bytes_may_be_taken,
     whole_and_line_by_line_agree,
 };
 pub use lines::MAX_PIECE;
-pub use whole::check;
+pub use whole::{admit, check};

@@ -20,7 +20,7 @@ use Rattle.history_laws.specs.Marks.{IsEnded, AfterPassed, HasEnded}
 use Rattle.history_laws.specs.Runs.{times, starts, skips, OnceStartedOrSkipped, NeverOrOnceClosed, StandsIn, IsOrderly}
 use Rattle.history_laws.proofs.Conditions.{MarkCondition}
 use Rattle.history_laws.proofs.lemmas.Fitting.{RangesApart}
-use Rattle.history_laws.proofs.lemmas.Growing.{lawful_from-append}
+use Rattle.lock_journal.proofs.lemmas.Replays.{lawful_from-append}
 use Rattle.history_laws.proofs.History.{ClosedAs, times_begun, times_skipped}
 use Rattle.history_laws.proofs.MarkConditions.{mark_condition}
 use Rattle.history_laws.proofs.Runs.{Holds, holds_after}

@@ -1,10 +1,16 @@
 -- What is sent for an item, by where it runs.
-use Rattle.std.specs.Prelude.{◌≡◌}
+use Rattle.std.specs.Prelude.{◌≡◌, ℕ, List, true}
+use Rattle.item_actions.specs.Forms.{is_file_name}
 use Rattle.item_actions.specs.declared.outcomes.Outcome.{Outcome}
 use Rattle.daemon_requirements.specs.declared.work.Isolation.{Isolation}
 use Rattle.daemon_requirements.specs.declared.work.Isolation.TheVariants.{InThread, Process}
 use Rattle.daemon_protocol.specs.declared.frames.Request.{Request}
 use Rattle.item_work.specs.Requests.{SentView, Sends}
+
+-- the file of an item in a process has the form of a file's name
+abbrev pub IsNamedFor : Isolation → List ℕ → Type 0
+IsNamedFor InThread file = Unit {0}
+IsNamedFor (Process asked) file = is_file_name file ≡ true
 
 -- nothing for an item in the worker's own thread, and for one in a process what is sent to a daemon
 abbrev pub SendsFor : Isolation → SentView → SentView → Request → Outcome → Type 0

@@ -1,27 +1,30 @@
 //! The calls of the pool behind its lock, which is held for one call at a time: a daemon starts and works without it.
-ghost use Rattle.std.specs.Prelude.{◌≡◌, ◌≤◌, IfErr, IfOk, IfSome, false, true};
+ghost use Rattle.std.specs.Prelude.{◌≡◌, ◌≤◌, IfErr, IfOk, IfSome, MatchResult, false, true};
 ghost use Rattle.std.specs.Result.{IsErrOf};
 ghost use Rattle.daemon_requirements.specs.Covers.{Covers};
+ghost use Rattle.daemon_manager.specs.Counts.{after_search, and_failed, and_reserved};
 ghost use Rattle.file_access.specs.SinkView.{Rises};
 
 use daemon_desk::Desk;
-use daemon_manager::{Pool, Reserved};
+use daemon_manager::{CountedPool, Reserved, Tally};
 use daemon_requirements::{Linked, Requirements};
 use file_access::DeskFail;
 use std::alloc::{AllocError, Global};
+use std::sync::ledger::Ledger;
 use std::sync::{Mutex, Wait};
 
-/// The pool of a run's daemons, which its workers share. Neither it nor what it lends can be dropped: whoever made it takes
-/// the pool out again and closes it.
-pub type PoolLock<L> = Mutex<Pool<L>>;
+/// The pool of a run's daemons, which its workers share, each with a tally of what it does. Neither it nor what it lends can be
+/// dropped: whoever made it takes the pool out again and closes it.
+pub type PoolLock<L, U, F> = Mutex<CountedPool<L, U, F>>;
 
-/// Reserves an idle daemon that covers what is asked, or starts one. Its link is settled. Where there is no memory to keep a
-/// daemon that was started, it is stopped.
-pub(crate) fn reserve<R: Wait, D: Desk>(
+/// Reserves an idle daemon that covers what is asked, or starts one. Its link is settled, and it is counted as reserved. Where
+/// there is no memory to keep a daemon that was started, it is stopped.
+pub(crate) fn reserve<R: Wait, D: Desk, U: Ledger, F: Ledger>(
     rt: &R,
     alloc: Global,
     desk: &mut D,
-    pool: &PoolLock<D::Link>,
+    pool: &PoolLock<D::Link, U, F>,
+    mine: &mut Tally<U, F>,
     unit: u32,
     asked: &Requirements,
 ) -> Result<Reserved<D::Link>, DeskFail>
@@ -32,19 +35,21 @@ pub(crate) fn reserve<R: Wait, D: Desk>(
     ensures failed { IsErrOf result DeskFail.Failed → Rises (D.faults desk.old) (D.faults desk.new) }
     ensures sends { D.sends desk.new ≡ D.sends desk.old }
     ensures sent { D.sent desk.new ≡ D.sent desk.old }
+    ensures counted { MatchResult result (λ _. mine.new ≡ and_reserved mine.old) (λ _. mine.new ≡ mine.old) }
 {
-    match reserve_idle(rt, pool, unit, asked)? {
+    match reserve_idle(rt, pool, mine, unit, asked)? {
         Some(reserved) => Ok(reserved),
-        None => start(rt, alloc, desk, pool, unit, asked),
+        None => start(rt, alloc, desk, pool, mine, unit, asked),
     }
 }
 
 /// Starts a daemon, reserved for the unit.
-fn start<R: Wait, D: Desk>(
+fn start<R: Wait, D: Desk, U: Ledger, F: Ledger>(
     rt: &R,
     alloc: Global,
     desk: &mut D,
-    pool: &PoolLock<D::Link>,
+    pool: &PoolLock<D::Link, U, F>,
+    mine: &mut Tally<U, F>,
     unit: u32,
     asked: &Requirements,
 ) -> Result<Reserved<D::Link>, DeskFail>
@@ -55,17 +60,19 @@ fn start<R: Wait, D: Desk>(
     ensures failed { IsErrOf result DeskFail.Failed → Rises (D.faults desk.old) (D.faults desk.new) }
     ensures sends { D.sends desk.new ≡ D.sends desk.old }
     ensures sent { D.sent desk.new ≡ D.sent desk.old }
+    ensures counted { MatchResult result (λ _. mine.new ≡ and_reserved mine.old) (λ _. mine.new ≡ mine.old) }
 {
     let requirements = asked.copy(alloc)?;
     let link = desk.start(alloc, asked)?;
-    adopt_or_stop(rt, desk, pool, link, requirements, unit)
+    adopt_or_stop(rt, desk, pool, mine, link, requirements, unit)
 }
 
 /// Takes a daemon in that was started with these requirements. Where there is no memory to keep it, it is stopped.
-fn adopt_or_stop<R: Wait, D: Desk>(
+fn adopt_or_stop<R: Wait, D: Desk, U: Ledger, F: Ledger>(
     rt: &R,
     desk: &mut D,
-    pool: &PoolLock<D::Link>,
+    pool: &PoolLock<D::Link, U, F>,
+    mine: &mut Tally<U, F>,
     link: D::Link,
     requirements: Requirements,
     unit: u32,
@@ -77,8 +84,9 @@ fn adopt_or_stop<R: Wait, D: Desk>(
     ensures faults { D.faults desk.new ≡ D.faults desk.old }
     ensures sends { D.sends desk.new ≡ D.sends desk.old }
     ensures sent { D.sent desk.new ≡ D.sent desk.old }
+    ensures counted { MatchResult result (λ _. mine.new ≡ and_reserved mine.old) (λ _. mine.new ≡ mine.old) }
 {
-    match adopt(rt, pool, link, requirements, unit) {
+    match adopt(rt, pool, mine, link, requirements, unit) {
         Ok(reserved) => Ok(reserved),
         Err(link) => {
             desk.stop(link);
@@ -88,22 +96,25 @@ fn adopt_or_stop<R: Wait, D: Desk>(
 }
 
 /// Reserves the last released idle daemon that covers what is asked, if one does.
-fn reserve_idle<R: Wait, L: Linked>(
+fn reserve_idle<R: Wait, L: Linked, U: Ledger, F: Ledger>(
     rt: &R,
-    pool: &PoolLock<L>,
+    pool: &PoolLock<L, U, F>,
+    mine: &mut Tally<U, F>,
     unit: u32,
     asked: &Requirements,
 ) -> Result<Option<Reserved<L>>, AllocError>
     ensures covers { IfOk result (λ found. IfSome found (λ reserved. Covers (L.requirements reserved.link) asked.now)) }
     ensures settled { IfOk result (λ found. IfSome found (λ reserved. L.settled reserved.link ≡ true)) }
+    ensures counted { MatchResult result (λ found. mine.new ≡ after_search mine.old found) (λ _. mine.new ≡ mine.old) }
 {
-    pool.lock(rt).reserve_idle(unit, asked)
+    pool.lock(rt).reserve_idle(mine, unit, asked)
 }
 
 /// Takes a daemon in that was started with these requirements. Where there is no memory its link comes back.
-fn adopt<R: Wait, L: Linked>(
+fn adopt<R: Wait, L: Linked, U: Ledger, F: Ledger>(
     rt: &R,
-    pool: &PoolLock<L>,
+    pool: &PoolLock<L, U, F>,
+    mine: &mut Tally<U, F>,
     link: L,
     requirements: Requirements,
     unit: u32,
@@ -111,14 +122,15 @@ fn adopt<R: Wait, L: Linked>(
     requires { L.requirements link ≡ requirements }
     ensures adopted { IfOk result (λ reserved. reserved.link ≡ link) }
     ensures link { IfErr result (λ returned. returned ≡ link) }
+    ensures counted { MatchResult result (λ _. mine.new ≡ and_reserved mine.old) (λ _. mine.new ≡ mine.old) }
 {
-    pool.lock(rt).adopt(link, requirements, unit)
+    pool.lock(rt).adopt(mine, link, requirements, unit)
 }
 
 /// Gives a daemon back whose link is settled, and the link of another to stop, where one too many is idle.
-pub(crate) fn release<R: Wait, L: Linked>(
+pub(crate) fn release<R: Wait, L: Linked, U: Ledger, F: Ledger>(
     rt: &R,
-    pool: &PoolLock<L>,
+    pool: &PoolLock<L, U, F>,
     reserved: Reserved<L>,
 ) -> Option<L>
     requires { L.settled reserved.link ≡ true }
@@ -126,10 +138,16 @@ pub(crate) fn release<R: Wait, L: Linked>(
     pool.lock(rt).release(reserved)
 }
 
-/// Lets a daemon be one that failed, whose link isn't settled, and gives its link to stop.
-pub(crate) fn fail<R: Wait, L: Linked>(rt: &R, pool: &PoolLock<L>, reserved: Reserved<L>) -> L
+/// Lets a daemon be one that failed, whose link isn't settled, counts it, and gives its link to stop.
+pub(crate) fn fail<R: Wait, L: Linked, U: Ledger, F: Ledger>(
+    rt: &R,
+    pool: &PoolLock<L, U, F>,
+    mine: &mut Tally<U, F>,
+    reserved: Reserved<L>,
+) -> L
     requires { L.settled reserved.link ≡ false }
-    ensures { result ≡ reserved.link }
+    ensures link { result ≡ reserved.link }
+    ensures counted { mine.new ≡ and_failed mine.old }
 {
-    pool.lock(rt).fail(reserved)
+    pool.lock(rt).fail(mine, reserved)
 }

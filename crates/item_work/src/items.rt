@@ -1,42 +1,49 @@
-ghost use Rattle.std.specs.Prelude.{◌≡◌, ◌≢◌, ◌≤◌, Contains, IfSome, true};
-ghost use Rattle.item_actions.specs.Forms.{is_file_name};
+ghost use Rattle.std.specs.Prelude.{◌≡◌, ◌≢◌, ◌≤◌, Contains, IfSome};
 ghost use Rattle.item_actions.specs.Value.{IsHonest, value_on};
 ghost use Rattle.item_actions.specs.declared.outcomes.Outcome.TheVariants as outcomes;
 ghost use Rattle.resource_lock.specs.declared.marks.MarkId.TheVariants as ids;
 ghost use Rattle.coordination.specs.Shown.{claimed_shown};
 ghost use Rattle.file_access.specs.SinkView.{Rises};
 ghost use Rattle.item_work.specs.Requests.{request_for};
-ghost use Rattle.item_work.specs.Sends.{SendsFor};
+ghost use Rattle.item_work.specs.Sends.{IsNamedFor, SendsFor};
+ghost use Rattle.item_work.specs.Tallying.{TalliesFor};
 
 use crate::daemons::PoolLock;
 use crate::processes::work_in_daemon;
 use daemon_desk::Desk;
+use daemon_manager::Tally;
 use daemon_requirements::{Isolation, Work};
 use file_access::work_out;
 use item_actions::{ItemAction, Outcome, Text};
 use lease_service::Lease;
 use std::alloc::Global;
 use std::sync::Wait;
+use std::sync::ledger::Ledger;
 
 /// Runs an item: works its action out on its file, in the worker's own thread or in a daemon of the pool.
 ///
 /// The pass of the lease has claimed the item. While the item runs the lease borrows the pass, so the
-/// worker takes part in no transform. Where the files are known the outcome is the action's value on
-/// them, NotThere or TooLong; else Fault, where the desk failed and its count of faults rose, or
-/// NoMemory. For an item in the worker's own thread nothing is sent. For one in a process at most one
-/// request is sent, this unit's, to a daemon that covers what is asked; it is sent where the outcome is
-/// neither Fault nor NoMemory.
-pub fn run_item<R: Wait, D: Desk>(
+/// worker takes part in no transform. The file of an item in a process has the form of a file's name.
+/// Where the files are known the outcome is the action's value on them, NotThere or TooLong; else Fault,
+/// where the desk failed and its count of faults rose, or NoMemory.
+///
+/// For an item in the worker's own thread nothing is sent, and the worker's tally stays as it is. For one
+/// in a process at most one request is sent, this unit's, to a daemon that covers what is asked; it is sent
+/// where the outcome is neither Fault nor NoMemory. The tally rises by the daemon that was reserved, one at
+/// least for a request that was sent and one at most, and by the daemon that failed: none where the outcome
+/// is neither Fault nor NoMemory, and else one at most.
+pub fn run_item<R: Wait, D: Desk, U: Ledger, F: Ledger>(
     rt: &R,
     alloc: Global,
     lease: &Lease<'_>,
     desk: &mut D,
-    pool: &PoolLock<D::Link>,
+    pool: &PoolLock<D::Link, U, F>,
+    mine: &mut Tally<U, F>,
     unit: u32,
     work: &Work,
 ) -> Outcome
     requires claimed { Contains (claimed_shown lease.now.sight) (ids.Unit unit) }
-    requires form { is_file_name work.now.file ≡ true }
+    requires form { IsNamedFor work.now.isolation work.now.file }
     ensures files { D.files desk.new ≡ D.files desk.old }
     ensures kept { D.faults desk.old ≤ D.faults desk.new }
     ensures ran { result ≢ outcomes.Skipped }
@@ -44,23 +51,16 @@ pub fn run_item<R: Wait, D: Desk>(
     ensures honest { IfSome (D.files desk.old) (λ known. IsHonest result (value_on known work.now.action work.now.file)) }
     ensures sent { SendsFor work.now.isolation (record { count = D.sends desk.old; requests = D.sent desk.old })
         (record { count = D.sends desk.new; requests = D.sent desk.new }) (request_for unit work.now) result }
+    ensures counted { TalliesFor work.now.isolation mine.old mine.new (D.sends desk.old) (D.sends desk.new) result }
 {
     match &work.isolation {
         Isolation::InThread => work_in_thread(alloc, desk, &work.action, &work.file),
-        Isolation::Process(asked) => work_in_daemon(rt, alloc, desk, pool, unit, work, asked),
+        Isolation::Process(asked) => work_in_daemon(rt, alloc, desk, pool, mine, unit, work, asked),
     }
 }
 
-/// Works an action out on a file in the worker's own thread, which sends nothing.
-///
-/// Where the files are known the outcome is the action's value on them, NotThere or TooLong; else Fault, where the desk failed
-/// and its count of faults rose, or NoMemory.
-pub fn work_in_thread<D: Desk>(
-    alloc: Global,
-    desk: &mut D,
-    action: &ItemAction,
-    file: &Text,
-) -> Outcome
+// Works an action out on a file in the worker's own thread, which sends nothing.
+fn work_in_thread<D: Desk>(alloc: Global, desk: &mut D, action: &ItemAction, file: &Text) -> Outcome
     ensures files { D.files desk.new ≡ D.files desk.old }
     ensures kept { D.faults desk.old ≤ D.faults desk.new }
     ensures ran { result ≢ outcomes.Skipped }

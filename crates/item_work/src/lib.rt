@@ -6,5 +6,4 @@ mod items;
 mod processes;
 
 pub use daemons::PoolLock;
-pub use items::{run_item, work_in_thread};
-pub use processes::work_in_daemon;
+pub use items::run_item;

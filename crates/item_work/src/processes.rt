@@ -1,37 +1,38 @@
 //! An item that a daemon works out.
-ghost use Rattle.std.specs.Prelude.{◌≡◌, ◌≢◌, ◌≤◌, IfOk, IfSome, true};
+ghost use Rattle.std.specs.Prelude.{◌≡◌, ◌≢◌, ◌≤◌, ◌+◌, IfOk, IfSome, MatchBool, true};
 ghost use Rattle.std.specs.Result.{IsErrOf, is_ok};
 ghost use Rattle.item_actions.specs.Forms.{is_file_name};
 ghost use Rattle.item_actions.specs.Value.{IsHonest, value_on};
 ghost use Rattle.item_actions.specs.declared.outcomes.Outcome.TheVariants as outcomes;
 ghost use Rattle.daemon_requirements.specs.Covers.{Covers};
+ghost use Rattle.daemon_manager.specs.Counts.{and_failed};
 ghost use Rattle.daemon_desk.specs.Replies.{IsReplyTo};
 ghost use Rattle.file_access.specs.SinkView.{Rises};
 ghost use Rattle.item_work.specs.Requests.{Asks, Sends, request_for};
+ghost use Rattle.item_work.specs.Tallying.{TallyRises, one_if_err, one_if_unreal};
 
 use crate::daemons::{PoolLock, fail, release, reserve};
 use daemon_desk::Desk;
-use daemon_manager::Reserved;
+use daemon_manager::{Reserved, Tally};
 use daemon_protocol::{Reply, Request};
 use daemon_requirements::{Requirements, Work};
 use file_access::DeskFail;
 use item_actions::Outcome;
 use std::alloc::{AllocError, Global};
 use std::sync::Wait;
+use std::sync::ledger::Ledger;
 
 /// Lets a daemon of the pool work the item out, one that covers what is asked, or starts one.
 ///
-/// The item's file has the form of a file's name. Where the files are known the outcome is the action's value on them,
-/// NotThere or TooLong; else Fault, where the desk failed and its count of faults rose, or NoMemory. At most one request is
-/// sent, this unit's, over a link made for requirements that cover what is asked; it is sent where the outcome is neither
-/// Fault nor NoMemory. The pool's lock is held only for the pool's own calls, never while a daemon starts or works. A daemon
-/// that gave no reply is stopped, and never used again: its link is broken, and only settled ones are given back. No daemon is
-/// lost, since neither a reservation nor a link can be dropped.
-pub fn work_in_daemon<R: Wait, D: Desk>(
+/// What `run_item` says of an item in a process holds of it. The pool's lock is held only for the pool's own calls, never while
+/// a daemon starts or works. A daemon that gave no reply is stopped, and never used again: its link is broken, and only settled
+/// ones are given back. No daemon is lost, since neither a reservation nor a link can be dropped.
+pub(crate) fn work_in_daemon<R: Wait, D: Desk, U: Ledger, F: Ledger>(
     rt: &R,
     alloc: Global,
     desk: &mut D,
-    pool: &PoolLock<D::Link>,
+    pool: &PoolLock<D::Link, U, F>,
+    mine: &mut Tally<U, F>,
     unit: u32,
     work: &Work,
     asked: &Requirements,
@@ -44,11 +45,12 @@ pub fn work_in_daemon<R: Wait, D: Desk>(
     ensures honest { IfSome (D.files desk.old) (λ known. IsHonest result (value_on known work.now.action work.now.file)) }
     ensures sent { Sends asked.now (record { count = D.sends desk.old; requests = D.sent desk.old })
         (record { count = D.sends desk.new; requests = D.sent desk.new }) (request_for unit work.now) result }
+    ensures counted { TallyRises mine.old mine.new (D.sends desk.old) (D.sends desk.new) (one_if_unreal result) }
 {
     let Ok(request) = request_for(alloc, unit, work) else {
         return Outcome::NoMemory;
     };
-    match ask_daemon(rt, alloc, desk, pool, &request, asked) {
+    match ask_daemon(rt, alloc, desk, pool, mine, &request, asked) {
         Ok(reply) => reply.outcome,
         Err(DeskFail::Failed) => Outcome::Fault,
         Err(DeskFail::NoMemory) => Outcome::NoMemory,
@@ -67,11 +69,12 @@ fn request_for(alloc: Global, unit: u32, work: &Work) -> Result<Request, AllocEr
 }
 
 // Asks a daemon of the pool, or a new one. A daemon that gave no reply is never used again: it is stopped.
-fn ask_daemon<R: Wait, D: Desk>(
+fn ask_daemon<R: Wait, D: Desk, U: Ledger, F: Ledger>(
     rt: &R,
     alloc: Global,
     desk: &mut D,
-    pool: &PoolLock<D::Link>,
+    pool: &PoolLock<D::Link, U, F>,
+    mine: &mut Tally<U, F>,
     request: &Request,
     asked: &Requirements,
 ) -> Result<Reply, DeskFail>
@@ -82,19 +85,21 @@ fn ask_daemon<R: Wait, D: Desk>(
     ensures reply { IfOk result (λ reply. IsReplyTo (D.files desk.old) request.now reply) }
     ensures sent { Asks (record { count = D.sends desk.old; requests = D.sent desk.old })
         (record { count = D.sends desk.new; requests = D.sent desk.new }) asked.now request.now result }
+    ensures counted { TallyRises mine.old mine.new (D.sends desk.old) (D.sends desk.new) (one_if_err result) }
 {
-    let mut reserved = reserve(rt, alloc, desk, pool, request.unit, asked)?;
+    let mut reserved = reserve(rt, alloc, desk, pool, mine, request.unit, asked)?;
     let answer = ask(alloc, desk, reserved.link(), request, asked);
-    give_back(rt, desk, pool, reserved, answer.is_ok());
+    give_back(rt, desk, pool, mine, reserved, answer.is_ok());
     answer
 }
 
 // Gives a daemon back to the pool that answered, or one that failed, and stops the daemon that the pool gives for it. Whether
 // its link is settled tells which it is.
-fn give_back<R: Wait, D: Desk>(
+fn give_back<R: Wait, D: Desk, U: Ledger, F: Ledger>(
     rt: &R,
     desk: &mut D,
-    pool: &PoolLock<D::Link>,
+    pool: &PoolLock<D::Link, U, F>,
+    mine: &mut Tally<U, F>,
     reserved: Reserved<D::Link>,
     answered: bool,
 )
@@ -103,11 +108,12 @@ fn give_back<R: Wait, D: Desk>(
     ensures faults { D.faults desk.new ≡ D.faults desk.old }
     ensures sends { D.sends desk.new ≡ D.sends desk.old }
     ensures sent { D.sent desk.new ≡ D.sent desk.old }
+    ensures counted { MatchBool answered (mine.new ≡ mine.old) (mine.new ≡ and_failed mine.old) }
 {
     let spare = if answered {
         release(rt, pool, reserved)
     } else {
-        Some(fail(rt, pool, reserved))
+        Some(fail(rt, pool, mine, reserved))
     };
     if let Some(link) = spare {
         desk.stop(link);
@@ -133,6 +139,7 @@ fn ask<D: Desk>(
     ensures reply { IfOk result (λ reply. IsReplyTo (D.files desk.old) request.now reply) }
     ensures sent { Asks (record { count = D.sends desk.old; requests = D.sent desk.old })
         (record { count = D.sends desk.new; requests = D.sent desk.new }) asked.now request.now result }
+    ensures sends { D.sends desk.new ≤ D.sends desk.old + 1 }
 {
     desk.send(alloc, link, request)?;
     desk.receive(alloc, link)

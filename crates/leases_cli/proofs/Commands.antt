@@ -1,36 +1,35 @@
 -- What a call answers before a command is carried out, and what is known of its desks.
-use Rattle.std.proofs.Common.{◌≡◌, ◌≤◌, ℕ, zero, suc, inl, inr, List, [], ◌∷◌, length, get_or, drop, Option, None, Some, refl, sym, ◌∙◌, ap, subst, arith}
+use Rattle.std.proofs.Common.{◌≡◌, ◌≤◌, ℕ, zero, suc, inl, inr, List, [], ◌∷◌, length, drop, Option, None, Some, refl, sym, ◌∙◌, ap, subst, arith}
 use Rattle.std.proofs.KnownBytes.{Consumes-nil}
-use Rattle.item_actions.specs.Files.{Folder}
 use Rattle.lock_journal.specs.BookView.{BookView}
 use Rattle.file_access.proofs.lemmas.Printing.{wrote_nothing}
 use Rattle.daemon_manager.specs.declared.events.Event.{Event}
 use Rattle.daemon_desk.specs.declared.sent.SentRequest.{SentRequest}
 use Rattle.item_work.specs.Requests.{SentView}
-use Rattle.build_runner.specs.Run.{AreAlike}
 use Rattle.command_words.specs.Failing.{NoMemoryOr}
+use Rattle.command_words.specs.Reading.{IsBounded}
 use Rattle.command_words.specs.declared.commands.Command.{Command}
-use Rattle.command_words.specs.declared.commands.Command.TheVariants.{Run, Worker, Check, Make}
+use Rattle.command_words.specs.declared.commands.Command.TheVariants.{Run, Worker, Check, Again, Make}
 use Rattle.command_words.specs.declared.commands.WordsFail.{WordsFail}
 use Rattle.command_words.specs.declared.commands.WordsFail.TheVariants.{NoCommand}
 use Rattle.daemon_protocol.specs.StreamStart.{nothing}
 use Rattle.daemon_server.specs.Serving.{Outside, HasServed}
 use Rattle.daemon_server.specs.declared.serving.Served.TheVariants as ends
-use Rattle.leases_cli.specs.Around.{Around, at_first_desk}
+use Rattle.leases_cli.specs.Around.{Around, Call, at_first_desk, desks_used}
 use Rattle.leases_cli.specs.Answered.{Answered}
 use Rattle.leases_cli.specs.Told.{IsToldAs}
 use Rattle.leases_cli.specs.declared.status.Status.{Status}
 use Rattle.leases_cli.specs.declared.status.Status.TheVariants.{BadWords, NoMemory}
+use Rattle.leases_cli.specs.declared.top.TheConstants.{DESKS}
 
 -- what was written instead of a command is no want of memory
 pub no_command : (P : Type 0) (f : WordsFail) → f ≡ NoCommand → NoMemoryOr P f → P
 no_command P f is h = subst (NoMemoryOr P) is h
 
 -- words that are no command are refused
-pub bad_words_answered : (command : Option Command) (f : WordsFail) (old new : Around) (status : Status) (book : Option BookView) (events : List Event) → f ≡ NoCommand → NoMemoryOr (command ≡ None) f → book ≡ None → IsToldAs BadWords old.sink new.sink status
-    → Answered command old new status book events
-bad_words_answered command f old new status book events is none without known =
-    subst (λ (c : Option Command). Answered c old new status book events) (sym (no_command (command ≡ None) f is none)) (without, inr (BadWords, refl, known))
+pub bad_words_answered : (command : Option Command) (f : WordsFail) (c : Call) → f ≡ NoCommand → NoMemoryOr (command ≡ None) f → c.book ≡ None → IsToldAs BadWords c.before.sink c.after.sink c.status → Answered command c
+bad_words_answered command f c is none without known =
+    subst (λ (k : Option Command). Answered k c) (sym (no_command (command ≡ None) f is none)) (without, inr (BadWords, refl, known))
 
 served_nothing : (o : Outside) → HasServed o o ends.NoMemory
 served_nothing o = record {
@@ -44,20 +43,25 @@ served_nothing o = record {
     honest = tt;
     faults = λ lt. omega arith;
   };
+  nothing_behind = record { front = []; last = []; held_of = refl; unfinished = refl; lacked = omega arith };
   end = wrote_nothing o.sink;
 }
 
-at_no_memory : (command : Option Command) (o : Around) (events : List Event) → Answered command o o NoMemory None events
+-- a call that did nothing, for want of memory
+at_no_memory : (command : Option Command) (o : Around) (events : List Event) → Answered command (record { before = o; after = o; status = NoMemory; book = None; events = events })
 at_no_memory None o events = (refl, inl (refl, wrote_nothing o.sink))
-at_no_memory (Some (Run asked)) o events = inl (refl, wrote_nothing o.sink)
+at_no_memory (Some (Run asked)) o events = record { refused = inl (refl, wrote_nothing o.sink); sent = inl (λ i. refl) }
 at_no_memory (Some Worker) o events = (refl, (ends.NoMemory, served_nothing (at_first_desk o), refl))
 at_no_memory (Some (Check name)) o events = (refl, inl (record { source = refl; refused = inl (refl, wrote_nothing o.sink) }))
+at_no_memory (Some (Again name)) o events = (refl, inl (record { source = refl; refused = inl (refl, wrote_nothing o.sink) }))
 at_no_memory (Some (Make asked)) o events = (refl, inl (refl, wrote_nothing o.sink))
 
 -- nothing was done for want of memory
-pub no_memory_answered : (command : Option Command) (o : Around) (status : Status) (book : Option BookView) (events : List Event) → book ≡ None → status ≡ NoMemory → Answered command o o status book events
+pub no_memory_answered : (command : Option Command) (o : Around) (status : Status) (book : Option BookView) (events : List Event) → book ≡ None → status ≡ NoMemory
+    → Answered command (record { before = o; after = o; status = status; book = book; events = events })
 no_memory_answered command o status book events without is =
-    subst (λ (b : Option BookView). Answered command o o status b events) (sym without) (subst (λ (s : Status). Answered command o o s None events) (sym is) (at_no_memory command o events))
+    subst (λ (b : Option BookView). Answered command (record { before = o; after = o; status = status; book = b; events = events })) (sym without)
+    (subst (λ (s : Status). Answered command (record { before = o; after = o; status = s; book = None; events = events })) (sym is) (at_no_memory command o events))
 
 drop_behind : {D : Type 0} (n : ℕ) (desks : List D) → drop (suc n) desks ≡ drop n (drop 1 desks)
 drop_behind zero [] = refl
@@ -78,6 +82,10 @@ pub some_desk : {D : Type 0} (desks : List D) → 1 ≤ length desks → D
 some_desk [] some = absurd (omega (arith, some))
 some_desk (desk ∷ desks) some = desk
 
--- desks that know the same files as before are still alike
-pub still_alike : {D : Type 0} (files : D → Option Folder) (old new : List D) → length new ≡ length old → ((i : ℕ) (d : D) → files (get_or new i d) ≡ files (get_or old i d)) → AreAlike files old → AreAlike files new
-still_alike files old new places same alike = λ i j d low high. same i d ∙ (alike i j d (omega (arith, low, places)) (omega (arith, high, places)) ∙ sym (same j d))
+-- there are as many desks as any command may use
+pub few_used : (command : Command) → IsBounded command → desks_used (Some command) ≤ DESKS
+few_used (Run asked) bounds = bounds.few_threads
+few_used Worker bounds = omega arith
+few_used (Check name) bounds = omega arith
+few_used (Again name) bounds = omega arith
+few_used (Make asked) bounds = omega arith

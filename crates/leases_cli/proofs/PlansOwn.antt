@@ -1,5 +1,5 @@
 -- Two runs of one plan whose units gave their values have the same results.
-use Rattle.std.proofs.Common.{◌≡◌, ◌≢◌, ℕ, zero, suc, ◌+◌, ◌-◌, ◌<◌, Bool, List, [], ◌∷◌, length, Option, Some, refl, sym, ◌∙◌, ap, arith}
+use Rattle.std.proofs.Common.{◌≡◌, ◌≢◌, ℕ, zero, suc, ◌+◌, ◌-◌, ◌<◌, Bool, List, [], ◌∷◌, length, Some, refl, sym, ◌∙◌, ap, arith}
 use Rattle.std.specs.Prelude.{if◌then◌else◌, slice_index_or}
 use Rattle.std.specs.List.{AllByRecursion, list_all, range_with_len}
 use Rattle.item_actions.specs.Files.{Folder}
@@ -12,7 +12,6 @@ use Rattle.resource_lock.specs.Ranges.{actions_of, units_in, units_of}
 use Rattle.resource_lock.specs.declared.graphs.GraphAction.{GraphAction}
 use Rattle.lock_journal.specs.BookView.{BookView}
 use Rattle.lock_journal.specs.Closings.{closings, outcome_in}
-use Rattle.lock_transforms.specs.Entry.{Entry}
 use Rattle.lock_transforms.specs.Table.{has_passed}
 use Rattle.plan_reader.specs.Graph.{graph_of, tasks_from}
 use Rattle.plan_reader.specs.PlanView.{PlanTaskView, PlanView}
@@ -20,12 +19,13 @@ use Rattle.plan_reader.specs.Units.{plan_units, unit_value}
 use Rattle.history_laws.specs.Answers.{answer_by, answers}
 use Rattle.history_laws.specs.ByNumber.{action_with, first_with, has_unit, outcome_by}
 use Rattle.history_laws.specs.Outcomes.{action_passes, earlier_pass, is_skipped, mark_by, task_outcome, task_passes, unit_outcome}
+use Rattle.build_runner.specs.Desks.{DeskView, known_by}
 use Rattle.build_runner.specs.Run.{IsRunOf, depth}
 use Rattle.build_runner.specs.declared.options.RunOptions.{RunOptions}
 use Rattle.history_text.specs.Results.{results_text, summary_text, task_marks}
-use Rattle.leases_cli.specs.Answered.{all_pass, have_all_passed}
+use Rattle.leases_cli.specs.Answered.{all_pass}
 use Rattle.leases_cli.specs.SameResults.{HasNoTrouble, HaveSameResults}
-use Rattle.leases_cli.proofs.Reports.{ByNumber, UnitsByNumber, comes_to, same_pass, task_mark, tasks_in_all}
+use Rattle.leases_cli.proofs.Reports.{ByNumber, UnitsByNumber, comes_to_known, same_pass, task_mark, tasks_in_all}
 
 -- ---- what each unit gives
 
@@ -101,9 +101,9 @@ module _ (g h : GraphView) (same : SameTasks g h) (v w : ℕ → Outcome) (value
 
 -- ---- the law
 
-pub same_results : UnitsByNumber → ByNumber results_text → ByNumber summary_text → (plan : PlanView) (one other : RunOptions) (files : Folder) (before after before' after' : ℕ → ℕ) (b c : BookView)
-    → IsRunOf plan one (Some files) before after b → IsRunOf plan other (Some files) before' after' c → Fits b.graph → Fits c.graph → HasNoTrouble b.history → HasNoTrouble c.history → HaveSameResults plan b c
-same_results units results summary plan one other files before after before' after' b c run again fits fits' fine fine' =
+pub same_results : UnitsByNumber → ByNumber results_text → ByNumber summary_text → (plan : PlanView) (one other : RunOptions) (files : Folder) (before after before' after' : ℕ → DeskView) (b c : BookView)
+    → known_by one.workers before ≡ Some files → known_by other.workers before' ≡ Some files → IsRunOf plan one before after b → IsRunOf plan other before' after' c → Fits b.graph → Fits c.graph → HasNoTrouble b.history → HasNoTrouble c.history → HaveSameResults plan b c
+same_results units results summary plan one other files before after before' after' b c known known' run again fits fits' fine fine' =
     let v = answers (unit_value plan files) b.history in
     let w = answers (unit_value plan files) c.history in
     let values : (u : ℕ) → v u ≡ w u = λ u. own_answer (closings b.history u) (unit_value plan files u) (fine u) ∙ sym (own_answer (closings c.history u) (unit_value plan files u) (fine' u)) in
@@ -111,17 +111,17 @@ same_results units results summary plan one other files before after before' aft
     let few = ap (λ (o : GraphView). length o.tasks) run.graph ∙ tasks_in_all one.parallel 0 plan.tasks in
     let few' = ap (λ (o : GraphView). length o.tasks) again.graph ∙ tasks_in_all other.parallel 0 plan.tasks in
     let marks : (t : ℕ) → t < length plan.tasks → task_marks b.state t ≡ task_marks c.state t = λ t lt.
-    task_mark plan one (Some files) before after b run t (omega (arith, few, lt))
+    task_mark plan one before after b run (Some files) known t (omega (arith, few, lt))
     ∙ mark_same b.graph c.graph same v w values (depth plan) t
-    ∙ sym (task_mark plan other (Some files) before' after' c again t (omega (arith, few', lt))) in
+    ∙ sym (task_mark plan other before' after' c again (Some files) known' t (omega (arith, few', lt))) in
     let gave : (u : ℕ) → u < length (plan_units plan) → outcome_in b.history u ≡ outcome_in c.history u = λ u lt.
-    units b.graph b.history v (depth plan) u fits (comes_to plan (Some files) b run.results) (omega (arith, lt, ap (λ (o : GraphView). o.units) run.graph))
+    units b.graph b.history v (depth plan) u fits (comes_to_known plan one before after b run (Some files) known) (omega (arith, lt, ap (λ (o : GraphView). o.units) run.graph))
     ∙ by_number_same b.graph c.graph same v w values (depth plan) u
-    ∙ sym (units c.graph c.history w (depth plan) u fits' (comes_to plan (Some files) c again.results) (omega (arith, lt, ap (λ (o : GraphView). o.units) again.graph))) in
+    ∙ sym (units c.graph c.history w (depth plan) u fits' (comes_to_known plan other before' after' c again (Some files) known') (omega (arith, lt, ap (λ (o : GraphView). o.units) again.graph))) in
     record {
       results = results plan (task_marks b.state) (task_marks c.state) (outcome_in b.history) (outcome_in c.history) marks gave;
       summary = summary plan (task_marks b.state) (task_marks c.state) (outcome_in b.history) (outcome_in c.history) marks gave;
-      passed = same_pass plan one (Some files) before after b run
+      passed = same_pass plan one before after b run (Some files) known
           ∙ all_pass_same b.graph c.graph same v w values plan (few ∙ sym few')
-          ∙ sym (same_pass plan other (Some files) before' after' c again);
+          ∙ sym (same_pass plan other before' after' c again (Some files) known');
     }

@@ -1,5 +1,5 @@
 -- The report of a run by the book is that by the plan.
-use Rattle.std.proofs.Common.{◌≡◌, ◌≢◌, ◌⊎◌, inl, inr, ℕ, zero, suc, ◌+◌, ◌<◌, ◌≤◌, Bool, true, false, ◌&&◌, List, [], ◌∷◌, ◌++◌, length, Option, Some, None, refl, sym, ◌∙◌, ap, subst, arith}
+use Rattle.std.proofs.Common.{◌≡◌, ◌≢◌, ◌⊎◌, inl, inr, ℕ, zero, suc, ◌+◌, ◌<◌, Bool, true, false, ◌&&◌, List, [], ◌∷◌, ◌++◌, length, Option, Some, None, refl, sym, ◌∙◌, ap, subst, arith}
 use Rattle.std.specs.Prelude.{if◌then◌else◌}
 use Rattle.std.specs.List.{list_all, range_with_len}
 use Rattle.item_actions.specs.Files.{Folder}
@@ -21,19 +21,20 @@ use Rattle.history_laws.specs.ByNumber.{outcome_by}
 use Rattle.history_laws.specs.Outcomes.{task_outcome}
 use Rattle.history_laws.specs.Runs.{ComesTo}
 use Rattle.daemon_manager.specs.declared.events.Event.{Event}
+use Rattle.build_runner.specs.Desks.{DeskView, known_by}
 use Rattle.build_runner.specs.Run.{HasResults, IsRunOf, depth}
 use Rattle.build_runner.specs.declared.options.RunOptions.{RunOptions}
 use Rattle.command_words.specs.declared.commands.RunWords.{RunWords}
 use Rattle.history_text.specs.Results.{results_text, summary_text, task_marks}
 use Rattle.file_access.specs.SinkView.{SinkView, Wrote}
 use Rattle.file_access.proofs.lemmas.Printing.{wrote_nothing}
-use Rattle.leases_cli.specs.Around.{DesksView}
+use Rattle.leases_cli.specs.Around.{Call}
 use Rattle.leases_cli.specs.Causes.{IsFileCause, OrNoMemory}
-use Rattle.leases_cli.specs.Answered.{RunAnswered, IsNamedRun, all_pass, behind_results, have_all_passed, run_text, text_by_book, values_or_closings}
+use Rattle.leases_cli.specs.Answered.{EndedWith, IsNamedRun, RunAnswered, RunBrokenOff, RunEnded, SentNothing, all_pass, behind_results, have_all_passed, known_files, run_text, text_by_book, values_or_closings}
 use Rattle.leases_cli.specs.Reported.{IsReported}
 use Rattle.leases_cli.specs.Told.{IsToldAs, IsRefusedFor}
 use Rattle.leases_cli.specs.declared.status.Status.{Status}
-use Rattle.leases_cli.specs.declared.status.Status.TheVariants.{Passed, TaskFailed, BadWords, BadPlan, NoPlan, PlanFault, SinkFault, BadFrame, SourceFault, NotLawful, NoMemory}
+use Rattle.leases_cli.specs.declared.status.Status.TheVariants.{Passed, TaskFailed, BadWords, BadPlan, NoPlan, PlanFault, SinkFault, BadFrame, SourceFault, NotLawful, Differs, FileFault, NoMemory}
 
 -- what the laws say that are called
 abbrev pub UnitsByNumber : Type 0
@@ -60,47 +61,36 @@ pub comes_to : (plan : PlanView) (known : Option Folder) (b : BookView) → HasR
 comes_to plan (Some files) b results = results
 comes_to plan None b results = results (outcome_in b.history) (λ u o e. ap (last_or outcomes.Skipped) e)
 
-module _ (plan : PlanView) (options : RunOptions) (known : Option Folder) (before after : ℕ → ℕ) (b : BookView) (run : IsRunOf plan options known before after b) where
+module _ (plan : PlanView) (options : RunOptions) (before after : ℕ → DeskView) (b : BookView) (run : IsRunOf plan options before after b) where
   pub tasks_in_graph : length b.graph.tasks ≡ length plan.tasks
   tasks_in_graph = ap (λ (o : GraphView). length o.tasks) run.graph ∙ tasks_in_all options.parallel 0 plan.tasks
 
-  pub task_mark : (t : ℕ) → t < length b.graph.tasks → mark_of b.state (TaskOf t) ≡ task_outcome b.graph (values_or_closings plan known b.history) (depth plan) t
-  task_mark t lt = ap (λ (s : StateView). mark_of s (TaskOf t)) run.replays ∙ (comes_to plan known b run.results).tasks t lt
+  module _ (known : Option Folder) (is : known_by options.workers before ≡ known) where
+    pub comes_to_known : ComesTo b.graph b.history (values_or_closings plan known b.history) (depth plan)
+    comes_to_known = comes_to plan known b (subst (λ (o : Option Folder). HasResults plan o b) is run.results)
 
-  pub same_pass : have_all_passed b ≡ all_pass plan b.graph (values_or_closings plan known b.history)
-  same_pass =
-      same_on_range (λ t. has_passed (mark_of b.state (TaskOf t))) (λ t. has_passed (task_outcome b.graph (values_or_closings plan known b.history) (depth plan) t)) 0 (length b.graph.tasks)
-      (λ t lt. ap has_passed (task_mark t (omega arith)))
+    pub task_mark : (t : ℕ) → t < length b.graph.tasks → mark_of b.state (TaskOf t) ≡ task_outcome b.graph (values_or_closings plan known b.history) (depth plan) t
+    task_mark t lt = ap (λ (s : StateView). mark_of s (TaskOf t)) run.replays ∙ comes_to_known.tasks t lt
 
-  pub same_text : (asked : RunWords) (events : List Event) → UnitsByNumber → ByNumber results_text → ByNumber summary_text → Fits b.graph → text_by_book asked plan b events ≡ run_text asked plan known b events
-  same_text asked events units results summary fits =
-      let v = values_or_closings plan known b.history in
-      ap (λ text. text ++ behind_results asked b events)
-      (either_by_number asked.summary results summary plan (task_marks b.state) (task_outcome b.graph v (depth plan)) (outcome_in b.history) (outcome_by b.graph v (depth plan))
-      (λ t lt. task_mark t (omega (arith, tasks_in_graph)))
-      (λ u lt. units b.graph b.history v (depth plan) u fits (comes_to plan known b run.results) (omega (arith, ap (λ (o : GraphView). o.units) run.graph))))
+    pub same_pass : have_all_passed b ≡ all_pass plan b.graph (values_or_closings plan known b.history)
+    same_pass =
+        same_on_range (λ t. has_passed (mark_of b.state (TaskOf t))) (λ t. has_passed (task_outcome b.graph (values_or_closings plan known b.history) (depth plan) t)) 0 (length b.graph.tasks)
+        (λ t lt. ap has_passed (task_mark t (omega arith)))
 
--- a run within a call that began earlier
-pub earlier_start : (plan : PlanView) (options : RunOptions) (known known' : Option Folder) (start before after : ℕ → ℕ) (b : BookView) → known' ≡ known → ((i : ℕ) → start i ≤ before i) → IsRunOf plan options known' before after b → IsRunOf plan options known start after b
-earlier_start plan options known known' start before after b e le run = record {
-  graph = run.graph;
-  replays = run.replays;
-  lawful = run.lawful;
-  good = run.good;
-  always_good = run.always_good;
-  rest = run.rest;
-  ended = run.ended;
-  order = run.order;
-  results = subst (λ (o : Option Folder). HasResults plan o b) e run.results;
-  workers = run.workers;
-  faults = λ i few lt. let f = run.faults i few lt in let s = le i in omega (arith, f, s);
-}
+    pub same_text : (asked : RunWords) (events : List Event) → UnitsByNumber → ByNumber results_text → ByNumber summary_text → Fits b.graph → text_by_book asked plan b events ≡ run_text asked plan known b events
+    same_text asked events units results summary fits =
+        let v = values_or_closings plan known b.history in
+        ap (λ text. text ++ behind_results asked b events)
+        (either_by_number asked.summary results summary plan (task_marks b.state) (task_outcome b.graph v (depth plan)) (outcome_in b.history) (outcome_by b.graph v (depth plan))
+        (λ t lt. task_mark t (omega (arith, tasks_in_graph)))
+        (λ u lt. units b.graph b.history v (depth plan) u fits comes_to_known (omega (arith, ap (λ (o : GraphView). o.units) run.graph))))
 
 -- what was reported of a run is its answer
-pub reported_answers : (asked : RunWords) (before after : DesksView) (old new : SinkView) (plan : PlanView) (b : BookView) (events : List Event) (book : Option BookView) (status : Status) → book ≡ Some b → IsNamedRun asked before after plan b → IsReported (all_pass plan b.graph (values_or_closings plan before.files b.history)) old new (run_text asked plan before.files b events) status → RunAnswered asked before after old new status book events
-reported_answers asked before after old new plan b events book status e run reported = subst (λ (o : Option BookView). RunAnswered asked before after old new status o events) (sym e) (by_status status reported)
+pub reported_answers : (asked : RunWords) (c : Call) (plan : PlanView) (b : BookView) → c.book ≡ Some b → IsNamedRun asked c plan b
+    → IsReported (all_pass plan b.graph (values_or_closings plan (known_files asked c) b.history)) c.before.sink c.after.sink (run_text asked plan (known_files asked c) b c.events) c.status → RunAnswered asked c
+reported_answers asked c plan b e run reported = subst (EndedWith asked c) (sym e) (by_status c.status reported)
   where
-    by_status : (s : Status) → IsReported (all_pass plan b.graph (values_or_closings plan before.files b.history)) old new (run_text asked plan before.files b events) s → RunAnswered asked before after old new s (Some b) events
+    by_status : (s : Status) → IsReported (all_pass plan b.graph (values_or_closings plan (known_files asked c) b.history)) c.before.sink c.after.sink (run_text asked plan (known_files asked c) b c.events) s → RunEnded asked c b s
     by_status Passed r = (plan, run, r)
     by_status TaskFailed r = (plan, run, r)
     by_status SinkFault r = (plan, run, r)
@@ -111,6 +101,8 @@ reported_answers asked before after old new plan b events book status e run repo
     by_status (BadFrame place) r = absurd r
     by_status SourceFault r = absurd r
     by_status (NotLawful n) r = absurd r
+    by_status (Differs n) r = absurd r
+    by_status (FileFault u) r = absurd r
     by_status NoMemory r = absurd r
 
 no_memory_or : (P : Type 0) (refusal : Status) → OrNoMemory P refusal → (refusal ≡ NoMemory) ⊎ ((refusal ≢ NoMemory) × P)
@@ -125,6 +117,8 @@ no_memory_or P SinkFault cause = inr ((λ e. cc e), cause)
 no_memory_or P (BadFrame place) cause = inr ((λ e. cc e), cause)
 no_memory_or P SourceFault cause = inr ((λ e. cc e), cause)
 no_memory_or P (NotLawful n) cause = inr ((λ e. cc e), cause)
+no_memory_or P (Differs n) cause = inr ((λ e. cc e), cause)
+no_memory_or P (FileFault u) cause = inr ((λ e. cc e), cause)
 
 -- a refusal that was told but for want of memory has its cause
 pub refused_for : (IsCause : Status → Type 0) (old new : SinkView) (refusal status : Status) → (refusal ≡ NoMemory → (status ≡ NoMemory) × (new ≡ old)) → (refusal ≢ NoMemory → IsToldAs refusal old new status)
@@ -136,7 +130,18 @@ refused_for IsCause old new refusal status memory told cause =
     ]
 
 -- a refusal of the plan that was told is the answer
-pub refusal_answers : (asked : RunWords) (before after : DesksView) (old new : SinkView) (refusal : Status) (book : Option BookView) (events : List Event) (status : Status) → book ≡ None → (refusal ≡ NoMemory → (status ≡ NoMemory) × (new ≡ old)) → (refusal ≢ NoMemory → IsToldAs refusal old new status)
-    → OrNoMemory (IsFileCause before.files (before.faults 0) (after.faults 0) asked.plan refusal) refusal → RunAnswered asked before after old new status book events
-refusal_answers asked before after old new refusal book events status without memory told cause =
-    subst (λ (o : Option BookView). RunAnswered asked before after old new status o events) (sym without) (refused_for (IsFileCause before.files (before.faults 0) (after.faults 0) asked.plan) old new refusal status memory told cause)
+pub refusal_answers : (asked : RunWords) (c : Call) (refusal : Status) → c.book ≡ None → (refusal ≡ NoMemory → (c.status ≡ NoMemory) × (c.after.sink ≡ c.before.sink)) → (refusal ≢ NoMemory → IsToldAs refusal c.before.sink c.after.sink c.status)
+    → OrNoMemory (IsFileCause (c.before.desks 0).files (c.before.desks 0).faults (c.after.desks 0).faults asked.plan refusal) refusal → SentNothing c → RunAnswered asked c
+refusal_answers asked c refusal without memory told cause unsent =
+    subst (EndedWith asked c) (sym without) (record {
+      refused = refused_for (IsFileCause (c.before.desks 0).files (c.before.desks 0).faults (c.after.desks 0).faults asked.plan) c.before.sink c.after.sink refusal c.status memory told cause;
+      sent = inl unsent;
+    })
+
+-- a run that was broken off, with nothing printed
+pub broken_answers : (asked : RunWords) (c : Call) → c.book ≡ None → c.status ≡ NoMemory → c.after.sink ≡ c.before.sink → RunBrokenOff asked c → RunAnswered asked c
+broken_answers asked c without memory same broken =
+    subst (EndedWith asked c) (sym without) (record {
+      refused = inl (memory, subst (λ (s : SinkView). Wrote c.before.sink s []) (sym same) (wrote_nothing c.before.sink));
+      sent = inr broken;
+    })

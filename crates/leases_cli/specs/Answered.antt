@@ -1,5 +1,5 @@
 -- What a call answers, and why.
-use Rattle.std.specs.Prelude.{ℕ, ◌≡◌, ◌<◌, Bool, true, false, if◌then◌else◌, List, [], ◌++◌, length, Option, None, Some, Box}
+use Rattle.std.specs.Prelude.{ℕ, ◌≡◌, ◌+◌, ◌≤◌, ◌⊎◌, Bool, true, false, if◌then◌else◌, List, [], ◌++◌, length, sum_by, Option, None, Some, Box}
 use Rattle.std.specs.List.{list_all, range_with_len}
 use Rattle.std.specs.declared.alloc.Global.{Global}
 use Rattle.item_actions.specs.Files.{Folder}
@@ -12,43 +12,48 @@ use Rattle.lock_journal.specs.Closings.{outcome_in}
 use Rattle.lock_journal.specs.BookView.{BookView}
 use Rattle.lock_transforms.specs.Entry.{Entry}
 use Rattle.lock_transforms.specs.Table.{has_passed}
-use Rattle.file_access.specs.SinkView.{SinkView, Wrote, Broke}
+use Rattle.file_access.specs.SinkView.{Wrote, Broke}
 use Rattle.plan_reader.specs.PlanView.{PlanView}
-use Rattle.plan_reader.specs.Units.{plan_units, unit_value}
+use Rattle.plan_reader.specs.Units.{unit_value}
 use Rattle.history_laws.specs.Answers.{answers}
 use Rattle.history_laws.specs.ByNumber.{outcome_by}
-use Rattle.history_laws.specs.ClosedBy.{closed_by}
 use Rattle.history_laws.specs.Outcomes.{task_outcome}
+use Rattle.daemon_manager.specs.Counts.{reservations}
 use Rattle.daemon_manager.specs.Events.{IsLegal, NoneIdle}
 use Rattle.daemon_manager.specs.declared.events.Event.{Event}
-use Rattle.build_runner.specs.Run.{IsRunOf, depth}
-use Rattle.build_runner.specs.Sent.{AreSentFor}
+use Rattle.build_runner.specs.Desks.{DeskView, known_by}
+use Rattle.build_runner.specs.Run.{IsRunOf, WasBrokenOff, depth}
 use Rattle.build_runner.specs.declared.options.RunOptions.{RunOptions}
 use Rattle.history_text.specs.Events.{events_text}
 use Rattle.history_text.specs.Text.{history_text}
 use Rattle.history_text.specs.Results.{results_text, summary_text, task_marks}
 use Rattle.command_words.specs.declared.commands.Command.{Command}
-use Rattle.command_words.specs.declared.commands.Command.TheVariants.{Run, Worker, Check, Make}
+use Rattle.command_words.specs.declared.commands.Command.TheVariants.{Run, Worker, Check, Again, Make}
 use Rattle.command_words.specs.declared.commands.RunWords.{RunWords}
-use Rattle.leases_cli.specs.Around.{Around, DesksView, at_first_desk}
+use Rattle.leases_cli.specs.Around.{Around, Call, at_first_desk}
 use Rattle.leases_cli.specs.Causes.{IsFileOf, IsFileCause}
 use Rattle.leases_cli.specs.Told.{IsRefusedFor}
 use Rattle.leases_cli.specs.Worker.{HasWorked}
 use Rattle.leases_cli.specs.Check.{HasCheckedHistory}
+use Rattle.leases_cli.specs.Again.{HasDrivenHistory}
 use Rattle.leases_cli.specs.Make.{MakeAnswered}
 use Rattle.leases_cli.specs.declared.status.Status.{Status}
+use Rattle.leases_cli.specs.declared.top.Ended.{Ended}
 use Rattle.leases_cli.specs.declared.status.Status.TheVariants.{Passed, TaskFailed, BadWords, SinkFault}
 
 abbrev pub options_of : RunWords → RunOptions
 options_of run = record { workers = run.threads; max_leases = run.max_leases; parallel = run.parallel }
 
--- The book is that of a run of this plan, which stands under the name that is asked for, with the options asked for, while the
--- count of faults of each desk, and what it has sent, went from before to after, by its number.
-pub record IsNamedRun (asked : RunWords) (before after : DesksView) (plan : PlanView) (b : BookView) : Type 0 where
-  pub named : IsFileOf before.files asked.plan plan
-  pub run : IsRunOf plan (options_of asked) before.files before.faults after.faults b
-  -- each thread's desk sent what is sent for the units that the thread closed, in their order, and nothing else
-  pub requests : (i : ℕ) → i < asked.threads → AreSentFor (plan_units plan) (closed_by (record { 0 = i }) b.history) (before.sent i) (after.sent i)
+-- how many requests the first n desks have sent
+abbrev pub sent_by_first : ℕ → (ℕ → DeskView) → ℕ
+sent_by_first n desks = sum_by (λ i. (desks i).sent.count) (range_with_len 0 n)
+
+-- The book is that of a run of this plan, which stands under the name that is asked for, with the options asked for. At least as
+-- many daemons were reserved as its desks sent requests.
+pub record IsNamedRun (asked : RunWords) (c : Call) (plan : PlanView) (b : BookView) : Type 0 where
+  pub named : IsFileOf (c.before.desks 0).files asked.plan plan
+  pub run : IsRunOf plan (options_of asked) c.before.desks c.after.desks b
+  pub reserved : sent_by_first asked.threads c.after.desks ≤ sent_by_first asked.threads c.before.desks + reservations c.events
 
 -- What each unit gives, for what is printed: by its file, where the files are known, but for the units that met a fault or
 -- want of memory. Where they aren't known, what its closing entry says.
@@ -98,39 +103,67 @@ abbrev pub book_of : Option (Box BookView Global) → Option BookView
 book_of None = None
 book_of (Some b) = Some b.value
 
+-- a call with this answer
+abbrev pub call_of : Around → Around → Ended → Call
+call_of before after end = record { before = before; after = after; status = end.status; book = book_of end.book; events = end.events.items }
+
 -- the events of a run that ended are legal and leave no daemon idle; where none ended there are none
 abbrev pub AreEventsOf : Option BookView → List Event → Type 0
 AreEventsOf (Some b) events = IsLegal events × NoneIdle events
 AreEventsOf None events = events ≡ []
 
+-- the files that the threads' desks know, where each of them knows its files
+abbrev pub known_files : RunWords → Call → Option Folder
+known_files asked c = known_by asked.threads c.before.desks
+
 -- of the run of some plan this holds
-abbrev pub OfRun : RunWords → DesksView → DesksView → BookView → (PlanView → Type 0) → Type 0
-OfRun asked before after b P = (plan : PlanView) × IsNamedRun asked before after plan b × P plan
+abbrev pub OfRun : RunWords → Call → BookView → (PlanView → Type 0) → Type 0
+OfRun asked c b P = (plan : PlanView) × IsNamedRun asked c plan b × P plan
 
 -- whether all its tasks pass, and that its text was written
-abbrev pub RunWrote : Bool → RunWords → Option Folder → SinkView → SinkView → BookView → List Event → PlanView → Type 0
-RunWrote passed asked known old new b events plan = (all_pass plan b.graph (values_or_closings plan known b.history) ≡ passed)
-    × Wrote old new (run_text asked plan known b events)
+abbrev pub RunWrote : Bool → RunWords → Call → BookView → PlanView → Type 0
+RunWrote passed asked c b plan = (all_pass plan b.graph (values_or_closings plan (known_files asked c) b.history) ≡ passed)
+    × Wrote c.before.sink c.after.sink (run_text asked plan (known_files asked c) b c.events)
 
--- How a run ended, by what is known of the desks before and after, the sink before and after, and the events.
-abbrev pub RunEnded : RunWords → DesksView → DesksView → SinkView → SinkView → BookView → List Event → Status → Type 0
+-- How a run ended.
+abbrev pub RunEnded : RunWords → Call → BookView → Status → Type 0
 -- every task passed, and all of the text was written
-RunEnded asked before after old new b events Passed = OfRun asked before after b (RunWrote true asked before.files old new b events)
+RunEnded asked c b Passed = OfRun asked c b (RunWrote true asked c b)
 -- some task didn't, and all of the text was written
-RunEnded asked before after old new b events TaskFailed = OfRun asked before after b (RunWrote false asked before.files old new b events)
+RunEnded asked c b TaskFailed = OfRun asked c b (RunWrote false asked c b)
 -- the sink failed, and has the beginning of the text
-RunEnded asked before after old new b events SinkFault = OfRun asked before after b (λ plan. Broke old new (run_text asked plan before.files b events))
-RunEnded asked before after old new b events _ = ⊥
+RunEnded asked c b SinkFault = OfRun asked c b (λ plan. Broke c.before.sink c.after.sink (run_text asked plan (known_files asked c) b c.events))
+RunEnded asked c b _ = ⊥
 
--- What `run` answers: a run ended; or there was no memory, or no plan was read through the first desk, for a cause that was written.
-abbrev pub RunAnswered : RunWords → DesksView → DesksView → SinkView → SinkView → Status → Option BookView → List Event → Type 0
-RunAnswered asked before after old new status (Some b) events = RunEnded asked before after old new b events status
-RunAnswered asked before after old new status None events = IsRefusedFor (IsFileCause before.files (before.faults 0) (after.faults 0) asked.plan) old new status
+-- no desk sent anything
+abbrev pub SentNothing : Call → Type 0
+SentNothing c = (i : ℕ) → (c.after.desks i).sent ≡ (c.before.desks i).sent
 
--- What a call answers, by the command, if the words are one, and the outside before and after.
-abbrev pub Answered : Option Command → Around → Around → Status → Option BookView → List Event → Type 0
-Answered None old new status book events = (book ≡ None) × IsRefusedFor (λ refusal. refusal ≡ BadWords) old.sink new.sink status
-Answered (Some (Run asked)) old new status book events = RunAnswered asked old.desks new.desks old.sink new.sink status book events
-Answered (Some Worker) old new status book events = (book ≡ None) × HasWorked (at_first_desk old) (at_first_desk new) status
-Answered (Some (Check name)) old new status book events = (book ≡ None) × HasCheckedHistory name (at_first_desk old) (at_first_desk new) status
-Answered (Some (Make asked)) old new status book events = (book ≡ None) × MakeAnswered asked old.sink new.sink status
+-- the plan was read, and its run was broken off
+abbrev pub RunBrokenOff : RunWords → Call → Type 0
+RunBrokenOff asked c = (plan : PlanView) × IsFileOf (c.before.desks 0).files asked.plan plan
+    × WasBrokenOff plan (options_of asked) c.before.desks c.after.desks
+
+-- No run ended: there was no memory, or no plan was read through the first desk, for a cause that was written.
+pub record NoRunEnded (asked : RunWords) (c : Call) : Type 0 where
+  pub refused : IsRefusedFor (IsFileCause (c.before.desks 0).files (c.before.desks 0).faults (c.after.desks 0).faults asked.plan)
+      c.before.sink c.after.sink c.status
+  pub sent : SentNothing c ⊎ RunBrokenOff asked c
+
+-- a run ended with this book, or none ended
+abbrev pub EndedWith : RunWords → Call → Option BookView → Type 0
+EndedWith asked c (Some b) = RunEnded asked c b c.status
+EndedWith asked c None = NoRunEnded asked c
+
+-- What `run` answers.
+abbrev pub RunAnswered : RunWords → Call → Type 0
+RunAnswered asked c = EndedWith asked c c.book
+
+-- What a call answers, by the command, if the words are one.
+abbrev pub Answered : Option Command → Call → Type 0
+Answered None c = (c.book ≡ None) × IsRefusedFor (λ refusal. refusal ≡ BadWords) c.before.sink c.after.sink c.status
+Answered (Some (Run asked)) c = RunAnswered asked c
+Answered (Some Worker) c = (c.book ≡ None) × HasWorked (at_first_desk c.before) (at_first_desk c.after) c.status
+Answered (Some (Check name)) c = (c.book ≡ None) × HasCheckedHistory name (at_first_desk c.before) (at_first_desk c.after) c.status
+Answered (Some (Again name)) c = (c.book ≡ None) × HasDrivenHistory name (at_first_desk c.before) (at_first_desk c.after) c.status
+Answered (Some (Make asked)) c = (c.book ≡ None) × MakeAnswered asked c.before.sink c.after.sink c.status

@@ -1,38 +1,35 @@
 -- What a call has of the outside, and which of its desks it may use.
-use Rattle.std.specs.Prelude.{ℕ, Bool, true, false, List, get_or, Option, None, Some}
-use Rattle.item_actions.specs.Files.{Folder}
+use Rattle.std.specs.Prelude.{ℕ, Bool, true, false, List, Option, None, Some}
 use Rattle.file_access.specs.SinkView.{SinkView}
 use Rattle.file_access.specs.SourceView.{SourceView}
-use Rattle.daemon_desk.specs.declared.sent.SentRequest.{SentRequest}
-use Rattle.item_work.specs.Requests.{SentView}
-use Rattle.build_runner.specs.Sent.{sent_view}
+use Rattle.lock_journal.specs.BookView.{BookView}
+use Rattle.daemon_manager.specs.declared.events.Event.{Event}
+use Rattle.build_runner.specs.Desks.{DeskView}
 use Rattle.command_words.specs.declared.commands.Command.{Command}
-use Rattle.command_words.specs.declared.commands.Command.TheVariants.{Run, Worker, Check, Make}
+use Rattle.command_words.specs.declared.commands.Command.TheVariants.{Run, Worker, Check, Again, Make}
 use Rattle.daemon_server.specs.Serving.{Outside}
+use Rattle.leases_cli.specs.declared.status.Status.{Status}
 
--- what is known of the desks: the files that all know, and by its number each desk's count of faults and what it has sent
-pub record DesksView : Type 0 where
-  pub files : Option Folder
-  pub faults : ℕ → ℕ
-  pub sent : ℕ → SentView
-
--- the same of these desks, by what is known of a desk; d stands for each that isn't there
-abbrev pub desks_view : {D : Type 0} → (D → Option Folder) → (D → ℕ) → (D → ℕ) → (D → Option (List SentRequest)) → List D → D → DesksView
-desks_view files faults sends sent desks d = record {
-  files = files (get_or desks 0 d);
-  faults = λ i. faults (get_or desks i d);
-  sent = λ i. sent_view sends sent (get_or desks i d);
-}
-
--- what is known of the source, of the sink, and of the desks
+-- what is known of the source, of the sink, and of each desk by its number
 pub record Around : Type 0 where
   pub source : SourceView
   pub sink : SinkView
-  pub desks : DesksView
+  pub desks : ℕ → DeskView
+
+abbrev pub around : SourceView → SinkView → (ℕ → DeskView) → Around
+around source sink desks = record { source = source; sink = sink; desks = desks }
 
 -- what a worker has of it, at the first desk
 abbrev pub at_first_desk : Around → Outside
-at_first_desk o = record { source = o.source; sink = o.sink; files = o.desks.files; faults = o.desks.faults 0 }
+at_first_desk o = record { source = o.source; sink = o.sink; files = (o.desks 0).files; faults = (o.desks 0).faults }
+
+-- a call: what was around it before and after it, and what it answered
+pub record Call : Type 0 where
+  pub before : Around
+  pub after : Around
+  pub status : Status
+  pub book : Option BookView
+  pub events : List Event
 
 -- so many desks a command may use, the first ones: a run has one for each thread
 abbrev pub desks_used : Option Command → ℕ
@@ -40,6 +37,7 @@ desks_used None = 0
 desks_used (Some (Run asked)) = asked.threads
 desks_used (Some Worker) = 1
 desks_used (Some (Check name)) = 1
+desks_used (Some (Again name)) = 1
 desks_used (Some (Make asked)) = 0
 
 -- whether a command may take from the input
@@ -48,4 +46,5 @@ takes_input None = false
 takes_input (Some (Run asked)) = false
 takes_input (Some Worker) = true
 takes_input (Some (Check name)) = true
+takes_input (Some (Again name)) = true
 takes_input (Some (Make asked)) = false

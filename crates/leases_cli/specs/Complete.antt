@@ -9,21 +9,26 @@ use Rattle.lock_journal.specs.BookView.{BookView}
 use Rattle.plan_reader.specs.PlanView.{PlanView}
 use Rattle.history_laws.specs.ClosedBy.{faults_by}
 use Rattle.command_words.specs.declared.commands.Command.{Command}
-use Rattle.command_words.specs.declared.commands.Command.TheVariants.{Run, Worker, Check, Make}
+use Rattle.command_words.specs.declared.commands.Command.TheVariants.{Run, Worker, Check, Again, Make}
 use Rattle.file_access.specs.SourceView.{SourceView}
+use Rattle.recorded_run.specs.Driving.{DrivesInput}
+use Rattle.recorded_run.specs.declared.again.Again.{Again as Came}
+use Rattle.recorded_run.specs.declared.again.Again.TheVariants as again
 use Rattle.plan_reader.specs.Reading.{Reads}
 use Rattle.history_check.specs.Checking.{HasChecked}
 use Rattle.history_check.specs.declared.checks.Checked.{Checked}
 use Rattle.history_check.specs.declared.checks.Checked.TheVariants as checked
+use Rattle.build_runner.specs.Desks.{DeskView}
 use Rattle.daemon_server.specs.Answer.{Answer}
 use Rattle.daemon_server.specs.Serving.{Outside, HasServed}
 use Rattle.daemon_server.specs.declared.serving.Served.{Served}
 use Rattle.daemon_server.specs.declared.serving.Served.TheVariants as ends
-use Rattle.leases_cli.specs.Around.{Around, at_first_desk, desks_used}
-use Rattle.leases_cli.specs.Answered.{all_pass, values_or_closings}
+use Rattle.leases_cli.specs.Around.{Call, at_first_desk, desks_used}
+use Rattle.leases_cli.specs.Answered.{all_pass, known_files, values_or_closings}
+use Rattle.leases_cli.specs.Again.{AnyRead}
 use Rattle.leases_cli.specs.Worker.{status_of}
 use Rattle.leases_cli.specs.declared.status.Status.{Status}
-use Rattle.leases_cli.specs.declared.status.Status.TheVariants.{Passed, TaskFailed, NotLawful, NoMemory}
+use Rattle.leases_cli.specs.declared.status.Status.TheVariants.{Passed, TaskFailed, NotLawful, Differs, NoMemory}
 
 -- a count of faults didn't rise
 pub record MetNoFault (before after : ℕ) : Type 0 where
@@ -31,8 +36,8 @@ pub record MetNoFault (before after : ℕ) : Type 0 where
   pub below : before < 2 ^ 64 - 1
 
 -- no count of the first so many did
-abbrev pub MetNoFaults : ℕ → (ℕ → ℕ) → (ℕ → ℕ) → Type 0
-MetNoFaults n before after = (i : ℕ) → i < n → MetNoFault (before i) (after i)
+abbrev pub MetNoFaults : ℕ → (ℕ → DeskView) → (ℕ → DeskView) → Type 0
+MetNoFaults n before after = (i : ℕ) → i < n → MetNoFault (before i).faults (after i).faults
 
 -- the file of this name is this plan
 pub record HasPlan (name : List ℕ) (files : Folder) (plan : PlanView) : Type 0 where
@@ -86,6 +91,19 @@ status_found (checked.NotLawful n) = NotLawful n
 abbrev pub HasVerdict : PlanView → SourceView → SourceView → Status → Type 0
 HasVerdict plan old new status = ((a : Checked) × HasChecked plan old new (Ok a) × (status ≡ status_found a)) ⊎ (status ≡ NoMemory)
 
+-- ---- a recorded run
+
+-- the status of what it comes to where each file was read
+abbrev pub IsStatusAgain : Came → Status → Type 0
+IsStatusAgain (again.Same b) status = status ≡ Passed
+IsStatusAgain (again.NotLawful n) status = status ≡ NotLawful n
+IsStatusAgain (again.Differs n o) status = status ≡ Differs n
+IsStatusAgain (again.ReadFault u) status = ⊥
+
+-- the run of the input was driven again by this plan and these files, and the status is that of what it came to; or there was no memory
+abbrev pub HasComeAgain : PlanView → Folder → SourceView → SourceView → Status → Type 0
+HasComeAgain plan files old new status = ((a : Came) × DrivesInput plan old new (Some files) AnyRead a × IsStatusAgain a status) ⊎ (status ≡ NoMemory)
+
 -- ---- the call
 
 -- where the files are known, of these files
@@ -93,18 +111,19 @@ abbrev pub OfKnown : Option Folder → (Folder → Type 0) → Type 0
 OfKnown known P = (files : Folder) → known ≡ Some files → P files
 
 -- by the command
-abbrev pub Succeeds : Option Command → Around → Around → Status → Option BookView → Type 0
-Succeeds None old new status book = Unit {0}
-Succeeds (Some (Run asked)) old new status book = OfKnown old.desks.files (λ files. (plan : PlanView)
-    → HasPlan asked.plan files plan → HasSucceeded plan files status book)
-Succeeds (Some Worker) old new status book = OfKnown old.desks.files (λ files. MetNoFault old.source.faults new.source.faults
-    → HasWorkedWell files (at_first_desk old) (at_first_desk new) status)
-Succeeds (Some (Check name)) old new status book =
-    OfKnown old.desks.files (λ files. MetNoFault old.source.faults new.source.faults → (plan : PlanView) → HasPlan name files plan
-    → HasVerdict plan old.source new.source status)
-Succeeds (Some (Make asked)) old new status book = (status ≡ Passed) ⊎ (status ≡ NoMemory)
+abbrev pub Succeeds : Option Command → Call → Type 0
+Succeeds None c = Unit {0}
+Succeeds (Some (Run asked)) c = OfKnown (known_files asked c) (λ files. (plan : PlanView)
+    → HasPlan asked.plan files plan → HasSucceeded plan files c.status c.book)
+Succeeds (Some Worker) c = OfKnown (c.before.desks 0).files (λ files. MetNoFault c.before.source.faults c.after.source.faults
+    → HasWorkedWell files (at_first_desk c.before) (at_first_desk c.after) c.status)
+Succeeds (Some (Check name)) c = OfKnown (c.before.desks 0).files (λ files. MetNoFault c.before.source.faults c.after.source.faults
+    → (plan : PlanView) → HasPlan name files plan → HasVerdict plan c.before.source c.after.source c.status)
+Succeeds (Some (Again name)) c = OfKnown (c.before.desks 0).files (λ files. MetNoFault c.before.source.faults c.after.source.faults
+    → (plan : PlanView) → HasPlan name files plan → HasComeAgain plan files c.before.source c.after.source c.status)
+Succeeds (Some (Make asked)) c = (c.status ≡ Passed) ⊎ (c.status ≡ NoMemory)
 
 -- where neither the desks that the command may use nor the sink met a fault
-abbrev pub IsComplete : Option Command → Around → Around → Status → Option BookView → Type 0
-IsComplete command old new status book = MetNoFaults (desks_used command) old.desks.faults new.desks.faults
-    → MetNoFault old.sink.faults new.sink.faults → Succeeds command old new status book
+abbrev pub IsComplete : Option Command → Call → Type 0
+IsComplete command c = MetNoFaults (desks_used command) c.before.desks c.after.desks
+    → MetNoFault c.before.sink.faults c.after.sink.faults → Succeeds command c

@@ -5,6 +5,7 @@ pub mod Told
 pub mod Reported
 pub mod Worker
 pub mod Check
+pub mod Again
 pub mod Make
 pub mod Answered
 pub mod Complete

@@ -9,7 +9,7 @@ use Rattle.plan_table.specs.declared.refusals.PlanRefusal.{PlanRefusal}
 use Rattle.plan_table.specs.declared.refusals.PlanRefusal.TheVariants as refusal
 use Rattle.plan_table.specs.First.{place_of}
 use Rattle.leases_cli.specs.declared.status.Status.{Status}
-use Rattle.leases_cli.specs.declared.status.Status.TheVariants.{Passed, TaskFailed, BadWords, BadPlan, NoPlan, PlanFault, SinkFault, BadFrame, SourceFault, NotLawful, NoMemory}
+use Rattle.leases_cli.specs.declared.status.Status.TheVariants.{Passed, TaskFailed, BadWords, BadPlan, NoPlan, PlanFault, SinkFault, BadFrame, SourceFault, NotLawful, NoMemory, Differs, FileFault}
 
 abbrev pub number_of : Status → ℕ
 number_of Passed = 0
@@ -23,6 +23,8 @@ number_of (BadFrame place) = 7
 number_of SourceFault = 8
 number_of (NotLawful n) = 9
 number_of NoMemory = 10
+number_of (Differs n) = 11
+number_of (FileFault u) = 12
 
 -- ---- the refusal of a plan
 
@@ -73,6 +75,17 @@ lawful_line n = codes "lawful " ++ decimal n ++ codes "\n"
 abbrev pub not_lawful_line : ℕ → List ℕ
 not_lawful_line n = codes "not lawful at " ++ decimal n ++ codes "\n"
 
+-- ---- what is said of a recorded run that is driven again
+
+abbrev pub same_line : ℕ → List ℕ
+same_line n = codes "same " ++ decimal n ++ codes "\n"
+
+abbrev pub differs_line : ℕ → List ℕ
+differs_line n = codes "differs at " ++ decimal n ++ codes "\n"
+
+abbrev pub not_read_line : ℕ → List ℕ
+not_read_line u = codes "file not read " ++ decimal u ++ codes "\n"
+
 -- ---- a refusal's line; where a run or a worker ended, nothing is printed besides the texts and the replies
 abbrev pub line_of : Status → List ℕ
 line_of BadWords = codes "bad words\n"
@@ -81,4 +94,6 @@ line_of NoPlan = codes "no plan\n"
 line_of PlanFault = codes "plan not read\n"
 line_of SourceFault = codes "input not read\n"
 line_of (NotLawful n) = not_lawful_line n
+line_of (Differs n) = differs_line n
+line_of (FileFault u) = not_read_line u
 line_of _ = []

@@ -1,7 +1,6 @@
 -- Runs of one plan give the same results.
 use Rattle.std.specs.Prelude.{ℕ, ◌≡◌, ◌≢◌, List}
 use Rattle.std.specs.List.{AllByRecursion}
-use Rattle.item_actions.specs.declared.outcomes.Outcome.{Outcome}
 use Rattle.item_actions.specs.declared.outcomes.Outcome.TheVariants.{Fault, NoMemory}
 use Rattle.lock_journal.specs.BookView.{BookView}
 use Rattle.lock_journal.specs.Closings.{closings, outcome_in}

@@ -4,6 +4,7 @@ ghost use Rattle.item_actions.specs.Files.{Folder};
 ghost use Rattle.resource_lock.specs.Fits.{Fits};
 ghost use Rattle.lock_journal.specs.BookView.{BookView};
 ghost use Rattle.plan_reader.specs.PlanView.{PlanView};
+ghost use Rattle.build_runner.specs.Desks.{DeskView, known_by};
 ghost use Rattle.build_runner.specs.Run.{IsRunOf};
 ghost use Rattle.build_runner.specs.declared.options.RunOptions.{RunOptions};
 ghost use Rattle.leases_cli.specs.SameResults.{HasNoTrouble, HaveSameResults};
@@ -14,8 +15,9 @@ use history_text::results_go_by_number;
 /// The results of a plan are the plan's own: where the files are known and no unit met a fault or want of memory, two runs
 /// give the same results, whatever the numbers of threads, the most leases, and whether projects have locks of their own.
 pub fn results_are_the_plans_own()
-    ensures { (plan : PlanView) (one other : RunOptions) (files : Folder) (before after before' after' : ℕ → ℕ) (b c : BookView)
-        → IsRunOf plan one (Some files) before after b → IsRunOf plan other (Some files) before' after' c
+    ensures { (plan : PlanView) (one other : RunOptions) (files : Folder) (before after before' after' : ℕ → DeskView) (b c : BookView)
+        → known_by one.workers before ≡ Some files → known_by other.workers before' ≡ Some files
+        → IsRunOf plan one before after b → IsRunOf plan other before' after' c
         → Fits b.graph → Fits c.graph → HasNoTrouble b.history → HasNoTrouble c.history
         → HaveSameResults plan b c }
 {

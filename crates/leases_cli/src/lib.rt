@@ -1,7 +1,8 @@
 //! The program as one call: reads the words, and runs a plan and prints what the words ask for,
-//! serves as a worker, checks a printed history, or prints a large plan.
+//! serves as a worker, checks a printed history, drives a recorded run again, or prints a large plan.
 #![tactic(auto)]
 
+mod again;
 mod check;
 mod laws;
 mod make;
@@ -11,6 +12,7 @@ mod status;
 mod top;
 mod worker;
 
+pub use again::again_history;
 pub use check::check_history;
 pub use laws::results_are_the_plans_own;
 pub use make::make_plan;

@@ -1,5 +1,5 @@
 //! The lines of refusals. They take no memory.
-ghost use Rattle.leases_cli.specs.Lines.{bad_plan_line, excess_label, label_of, line_of, not_lawful_line, part_word, place_text};
+ghost use Rattle.leases_cli.specs.Lines.{bad_plan_line, differs_line, excess_label, label_of, line_of, not_lawful_line, not_read_line, part_word, place_text};
 ghost use Rattle.leases_cli.specs.Told.{IsToldAs};
 ghost use Rattle.leases_cli.specs.declared.status.Status.TheVariants as status;
 ghost use Rattle.std.specs.Prelude.{◌≡◌, ◌≢◌};
@@ -83,6 +83,22 @@ fn write_not_lawful<K: Sink>(number: u64, page: &mut Page, sink: &mut K)
     page.text(sink, b"\n");
 }
 
+fn write_differs<K: Sink>(number: u64, page: &mut Page, sink: &mut K)
+    ensures { Adds (K.seen sink.old) page.old (K.seen sink.new) page.new (differs_line number) }
+{
+    page.text(sink, b"differs at ");
+    page.number(sink, number);
+    page.text(sink, b"\n");
+}
+
+fn write_not_read<K: Sink>(unit: u32, page: &mut Page, sink: &mut K)
+    ensures { Adds (K.seen sink.old) page.old (K.seen sink.new) page.new (not_read_line unit) }
+{
+    page.text(sink, b"file not read ");
+    page.number(sink, u64::from(unit));
+    page.text(sink, b"\n");
+}
+
 /// Writes the line of a refusal. The other statuses have none.
 fn write_refusal<K: Sink>(refusal: &Status, page: &mut Page, sink: &mut K)
     ensures { Adds (K.seen sink.old) page.old (K.seen sink.new) page.new (line_of refusal.now) }
@@ -94,6 +110,8 @@ fn write_refusal<K: Sink>(refusal: &Status, page: &mut Page, sink: &mut K)
         Status::PlanFault => page.text(sink, b"plan not read\n"),
         Status::SourceFault => page.text(sink, b"input not read\n"),
         Status::NotLawful(number) => write_not_lawful(*number, page, sink),
+        Status::Differs(number) => write_differs(*number, page, sink),
+        Status::FileFault(unit) => write_not_read(*unit, page, sink),
         Status::Passed
         | Status::TaskFailed
         | Status::SinkFault

@@ -7,7 +7,8 @@ use plan_reader::PlanRefusal;
 #[derive(Clone, Copy)]
 pub enum Status {
     /// Every task passed; or a worker's requests were all answered, up to a Stop or to the end of the input between
-    /// two frames; or all entries of the checked history are lawful; or the whole plan was made.
+    /// two frames; or all entries of the checked history are lawful; or the recorded run would
+    /// give the same; or the whole plan was made.
     Passed,
     /// A task failed or was skipped.
     TaskFailed,
@@ -24,11 +25,15 @@ pub enum Status {
     /// A worker found neither a request nor a Stop at this place of its input, or its input gave 2^40 bytes. Each
     /// request before it was answered.
     BadFrame(u64),
-    /// The input of a worker or of a check failed. A worker has answered each request that had come whole.
+    /// The input of a worker, of a check or of a recorded run failed. A worker has answered each request that had come whole.
     SourceFault,
-    /// The entry of this number is the first of the checked history that isn't allowed after those before it, or
+    /// The entry of this number is the first of the history of the input that isn't allowed after those before it, or
     /// the text stops being a history at this number.
     NotLawful(u64),
+    /// The entry of this number is the first of the recorded run whose unit gives something else today.
+    Differs(u64),
+    /// The outside failed when the file of this unit of the recorded run was to be read.
+    FileFault(u32),
     /// There was no memory. Nothing was written, but by a worker its replies up to then.
     NoMemory,
 }
@@ -50,6 +55,8 @@ impl Status {
             Status::SourceFault => 8,
             Status::NotLawful(_) => 9,
             Status::NoMemory => 10,
+            Status::Differs(_) => 11,
+            Status::FileFault(_) => 12,
         }
     }
 }

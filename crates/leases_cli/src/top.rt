@@ -1,30 +1,34 @@
-ghost use Rattle.std.specs.Prelude.{◌≡◌, ◌≢◌, ◌≤◌, ℕ, true, false, [], List, Option, Some, None, IfOk, IfErr, length, drop, get_or, if◌then◌else◌};
+ghost use Rattle.std.specs.Prelude.{◌≡◌, ◌≢◌, ◌≤◌, ℕ, true, false, [], List, Option, Some, None, IfOk, IfErr, length, drop, get_or, min, if◌then◌else◌};
 ghost use Rattle.std.specs.List.{list_all, range_with_len};
 ghost use Rattle.resource_lock.specs.StateView.{mark_of};
 ghost use Rattle.resource_lock.specs.declared.marks.MarkId.TheVariants as ids;
 ghost use Rattle.lock_transforms.specs.Table.{has_passed};
 ghost use Rattle.file_access.specs.PageView.{Adds};
 ghost use Rattle.file_access.specs.SinkView.{Prints};
+ghost use Rattle.file_access.specs.SourceView.{SourceView};
 ghost use Rattle.plan_reader.specs.Units.{plan_units};
 ghost use Rattle.history_laws.specs.Marks.{HasEnded};
-ghost use Rattle.item_actions.specs.Files.{Folder};
 ghost use Rattle.daemon_manager.specs.Events.{IsLegal, NoneIdle};
-ghost use Rattle.build_runner.specs.Run.{AreAlike, IsRunOf};
+ghost use Rattle.build_runner.specs.Desks.{AreAlike, DeskView, desk_view, desks_view, known_by};
+ghost use Rattle.build_runner.specs.Run.{IsRunOf};
 ghost use Rattle.build_runner.specs.Sent.{sent_view};
 ghost use Rattle.command_words.specs.Reading.{IsBounded, command_of};
 ghost use Rattle.command_words.specs.Run.{HasBounds};
 ghost use Rattle.command_words.specs.declared.commands.Command.TheVariants as commands;
 ghost use Rattle.leases_cli.specs.declared.status.Status.TheVariants as status;
 ghost use Rattle.leases_cli.specs.declared.top.TheConstants.{DESKS};
-ghost use Rattle.leases_cli.specs.Around.{desks_used, desks_view, takes_input};
+ghost use Rattle.leases_cli.specs.Around.{around, desks_used, takes_input};
 ghost use Rattle.leases_cli.specs.Worker.{HasWorked};
-ghost use Rattle.leases_cli.specs.Answered.{Answered, AreEventsOf, RunAnswered, all_pass, book_of, events_asked, have_all_passed, history_asked, options_of, run_text, text_by_book, values_or_closings};
+ghost use Rattle.leases_cli.specs.Answered.{Answered, AreEventsOf, RunAnswered, all_pass, book_of, call_of, events_asked, have_all_passed};
+ghost use Rattle.leases_cli.specs.Answered.{history_asked, options_of, run_text, text_by_book, values_or_closings};
+ghost use Rattle.leases_cli.specs.Again.{HasDrivenHistory};
 ghost use Rattle.leases_cli.specs.Check.{HasCheckedHistory};
 ghost use Rattle.leases_cli.specs.Complete.{IsComplete};
 ghost use Rattle.leases_cli.specs.Reported.{IsReported};
 ghost use Rattle.leases_cli.specs.Told.{IsToldAs};
 ghost use Rattle.leases_cli.specs.Causes.{IsFileCause, IsFileOf, OrNoMemory};
 
+use crate::again::again_history;
 use crate::check::check_history;
 use crate::make::make_plan;
 use crate::plans::read;
@@ -139,6 +143,7 @@ fn report<O: Sink>(asked: &RunWords, plan: &Plan, end: RunEnd, out: &mut O) -> E
     ensures events { AreEventsOf (book_of result.book) result.events.items }
     ensures status { IsReported (have_all_passed end.book.value) (O.seen out.old) (O.seen out.new)
         (text_by_book asked.now plan.now end.book.value result.events.items) result.status }
+    ensures kept { result.events ≡ end.events }
 {
     let passed = all_passed(&end.book);
     let status = match print_run(asked, plan, &end, out) {
@@ -187,14 +192,16 @@ fn refuse_plan<O: Sink>(alloc: Global, refusal: Status, out: &mut O) -> Ended
 
 /// Prints a run of the plan, and says how it went by the plan.
 fn report_run<O: Sink>(asked: &RunWords, plan: &Plan, end: RunEnd, out: &mut O) -> Ended
-    requires run { (known : Option Folder) × (before : ℕ → ℕ) × (after : ℕ → ℕ) × IsRunOf plan.now (options_of asked.now) known before after end.book.value }
+    requires run { (before : ℕ → DeskView) × (after : ℕ → DeskView) × IsRunOf plan.now (options_of asked.now) before after end.book.value }
     requires legal { IsLegal end.events.items }
     requires none_idle { NoneIdle end.events.items }
     ensures book { result.book ≡ Some end.book }
     ensures events { AreEventsOf (book_of result.book) result.events.items }
-    ensures status { (known : Option Folder) (before after : ℕ → ℕ) → IsRunOf plan.now (options_of asked.now) known before after end.book.value
-        → IsReported (all_pass plan.now end.book.value.graph (values_or_closings plan.now known end.book.value.history))
-        (O.seen out.old) (O.seen out.new) (run_text asked.now plan.now known end.book.value result.events.items) result.status }
+    ensures status { (before after : ℕ → DeskView) → IsRunOf plan.now (options_of asked.now) before after end.book.value
+        → IsReported (all_pass plan.now end.book.value.graph (values_or_closings plan.now (known_by asked.now.threads before) end.book.value.history))
+        (O.seen out.old) (O.seen out.new)
+        (run_text asked.now plan.now (known_by asked.now.threads before) end.book.value result.events.items) result.status }
+    ensures kept { result.events ≡ end.events }
 {
     let _ = end.book.graph();
     outcomes_go_by_number();
@@ -214,7 +221,7 @@ fn run<R: Threads + Wait + Sync, D: Desk + Send + Drop, G: Gate + Sync, O: Sink>
 ) -> Ended
     requires bounds { HasBounds asked.now }
     requires desks { length desks.old.items ≡ DESKS }
-    requires alike { AreAlike D.files desks.old.items }
+    requires alike { (d : D) → AreAlike asked.now.threads (desks_view (desk_view D.files D.faults D.sends D.sent) desks.old.items d) }
     ensures places { length desks.new.items ≡ DESKS }
     ensures files { (i : ℕ) (d : D) → D.files (get_or desks.new.items i d) ≡ D.files (get_or desks.old.items i d) }
     ensures counts { (i : ℕ) (d : D) → D.faults (get_or desks.old.items i d) ≤ D.faults (get_or desks.new.items i d) }
@@ -223,9 +230,9 @@ fn run<R: Threads + Wait + Sync, D: Desk + Send + Drop, G: Gate + Sync, O: Sink>
     ensures unsent { result.book ≡ None → result.status ≢ status.NoMemory → (i : ℕ) (d : D)
         → sent_view D.sends D.sent (get_or desks.new.items i d) ≡ sent_view D.sends D.sent (get_or desks.old.items i d) }
     ensures events { AreEventsOf (book_of result.book) result.events.items }
-    ensures answer { (d : D) → RunAnswered asked.now (desks_view D.files D.faults D.sends D.sent desks.old.items d)
-        (desks_view D.files D.faults D.sends D.sent desks.new.items d) (O.seen out.old) (O.seen out.new) result.status
-        (book_of result.book) result.events.items }
+    ensures answer { (d : D) (source : SourceView) → RunAnswered asked.now (call_of
+        (around source (O.seen out.old) (desks_view (desk_view D.files D.faults D.sends D.sent) desks.old.items d))
+        (around source (O.seen out.new) (desks_view (desk_view D.files D.faults D.sends D.sent) desks.new.items d)) result) }
 {
     let plan = match read_first(alloc, &asked.plan, desks) {
         Ok(plan) => plan,
@@ -314,6 +321,43 @@ fn check<D: Desk, I: Source, O: Sink>(
     without_run(alloc, check_history(alloc, plan, &mut desks[0], input, out))
 }
 
+/// Drives a recorded run of the plan of this name again by the first desk.
+fn again<D: Desk, I: Source, O: Sink>(
+    alloc: Global,
+    plan: &Text,
+    desks: &mut Vec<D>,
+    input: &mut I,
+    out: &mut O,
+) -> Ended
+    requires { 1 ≤ length desks.old.items }
+    ensures places { length desks.new.items ≡ length desks.old.items }
+    ensures files { (i : ℕ) (d : D) → D.files (get_or desks.new.items i d) ≡ D.files (get_or desks.old.items i d) }
+    ensures counts { (i : ℕ) (d : D) → D.faults (get_or desks.old.items i d) ≤ D.faults (get_or desks.new.items i d) }
+    ensures sent { (i : ℕ) (d : D) → sent_view D.sends D.sent (get_or desks.new.items i d) ≡ sent_view D.sends D.sent (get_or desks.old.items i d) }
+    ensures rest { drop 1 desks.new.items ≡ drop 1 desks.old.items }
+    ensures input_count { (I.seen input.old).faults ≤ (I.seen input.new).faults }
+    ensures book { result.book ≡ None }
+    ensures events { AreEventsOf (book_of result.book) result.events.items }
+    ensures driven { (d : D) → HasDrivenHistory plan.now
+        record {
+          source = I.seen input.old;
+          sink = O.seen out.old;
+          files = D.files (get_or desks.old.items 0 d);
+          faults = D.faults
+              (get_or desks.old.items 0 d);
+        }
+        record {
+          source = I.seen input.new;
+          sink = O.seen out.new;
+          files = D.files (get_or desks.new.items 0 d);
+          faults = D.faults
+              (get_or desks.new.items 0 d);
+        }
+        result.status }
+{
+    without_run(alloc, again_history(alloc, plan, &mut desks[0], input, out))
+}
+
 /// Carries a command out.
 fn perform<R: Threads + Wait + Sync, D: Desk + Send + Drop, I: Source, G: Gate + Sync, O: Sink>(
     rt: &R,
@@ -326,7 +370,7 @@ fn perform<R: Threads + Wait + Sync, D: Desk + Send + Drop, I: Source, G: Gate +
 ) -> Ended
     requires bounded { IsBounded command.now }
     requires desks { length desks.old.items ≡ DESKS }
-    requires alike { AreAlike D.files desks.old.items }
+    requires alike { (d : D) → AreAlike (desks_used (Some command.now)) (desks_view (desk_view D.files D.faults D.sends D.sent) desks.old.items d) }
     ensures places { length desks.new.items ≡ DESKS }
     ensures files { (i : ℕ) (d : D) → D.files (get_or desks.new.items i d) ≡ D.files (get_or desks.old.items i d) }
     ensures counts { (i : ℕ) (d : D) → D.faults (get_or desks.old.items i d) ≤ D.faults (get_or desks.new.items i d) }
@@ -338,23 +382,23 @@ fn perform<R: Threads + Wait + Sync, D: Desk + Send + Drop, I: Source, G: Gate +
     ensures input { takes_input (Some command.now) ≡ false → I.seen input.new ≡ I.seen input.old }
     ensures input_count { (I.seen input.old).faults ≤ (I.seen input.new).faults }
     ensures events { AreEventsOf (book_of result.book) result.events.items }
-    ensures answer { (d : D) → Answered (Some command.now)
-        record { source = I.seen input.old; sink = O.seen out.old; desks = desks_view D.files D.faults D.sends D.sent desks.old.items d }
-        record { source = I.seen input.new; sink = O.seen out.new; desks = desks_view D.files D.faults D.sends D.sent desks.new.items d }
-        result.status (book_of result.book) result.events.items }
+    ensures answer { (d : D) → Answered (Some command.now) (call_of
+        (around (I.seen input.old) (O.seen out.old) (desks_view (desk_view D.files D.faults D.sends D.sent) desks.old.items d))
+        (around (I.seen input.new) (O.seen out.new) (desks_view (desk_view D.files D.faults D.sends D.sent) desks.new.items d)) result) }
 {
     match command {
         Command::Run(asked) => run(rt, alloc, asked, desks, gate, out),
         Command::Worker => work(alloc, desks, input, out),
         Command::Check(plan) => check(alloc, plan, desks, input, out),
+        Command::Again(plan) => again(alloc, plan, desks, input, out),
         Command::Make(asked) => without_run(alloc, make_plan(asked.seed, &asked.file, out)),
     }
 }
 
 /// Does what the words after the program's name ask for.
 ///
-/// They are read by `command_words::read_command`. There are `DESKS` desks, and where they know their files all know
-/// the same. For `run` the plan is read through the first desk, and run on as many threads as the words say: thread i
+/// They are read by `command_words::read_command`. There are `DESKS` desks, and of those that the command may use, those
+/// that know their files know the same. For `run` the plan is read through the first desk, and run on as many threads as the words say: thread i
 /// has the desk with number i, and each item passes the gate. An item in a process is worked out by a daemon of the
 /// pool that the threads share. A thread starts one by its own desk where no idle daemon covers what is asked, and at
 /// the end the idle ones are stopped through the first desk. Where a run ended, each thread's desk sent, from the
@@ -364,10 +408,12 @@ fn perform<R: Threads + Wait + Sync, D: Desk + Send + Drop, I: Source, G: Gate +
 /// requirements that cover those asked. For any other unit it is none. What the words ask for is written to `out`, with
 /// `--daemons` also what happened to the daemons, which the answer has too. For `worker` the requests that the input
 /// gives are answered on `out` by the files of the first desk. For `check` the plan is read through the first desk, and
-/// the history that the input gives is checked against it; what is found is written to `out`. No other command takes
-/// anything from the input. For `make` the plan is written to `out` that the number makes for the file; no desk is
-/// used. Where no run ended, no desk sent a request, but perhaps at NoMemory. The answer and its cause are those of the
-/// contract.
+/// the history that the input gives is checked against it; what is found is written to `out`. For `again` the same is
+/// done, and where the history is lawful each outcome is worked out anew by the files of the first desk. No other command
+/// takes anything from the input. For `make` the plan is written to `out` that the number makes for the file; no desk is
+/// used. Where no run ended, no desk sent a request; but where a run was broken off for want of memory, each thread's
+/// desk sent the requests of the units that the thread closed, and of at most one more. The answer and its cause are
+/// those of the contract.
 ///
 /// At SinkFault the beginning of the text or of the replies was written, and at NoMemory nothing, but by a
 /// worker its replies up to then.
@@ -381,7 +427,8 @@ pub fn leases<R: Threads + Wait + Sync, D: Desk + Send + Drop, I: Source, G: Gat
     out: &mut O,
 ) -> Ended
     requires desks { length desks.old.items ≡ DESKS }
-    requires alike { AreAlike D.files desks.old.items }
+    requires alike { (d : D) → AreAlike (min (desks_used (command_of words.now)) DESKS)
+        (desks_view (desk_view D.files D.faults D.sends D.sent) desks.old.items d) }
     ensures places { length desks.new.items ≡ DESKS }
     ensures files { (i : ℕ) (d : D) → D.files (get_or desks.new.items i d) ≡ D.files (get_or desks.old.items i d) }
     ensures counts { (i : ℕ) (d : D) → D.faults (get_or desks.old.items i d) ≤ D.faults (get_or desks.new.items i d) }
@@ -393,14 +440,12 @@ pub fn leases<R: Threads + Wait + Sync, D: Desk + Send + Drop, I: Source, G: Gat
     ensures input { takes_input (command_of words.now) ≡ false → I.seen input.new ≡ I.seen input.old }
     ensures input_count { (I.seen input.old).faults ≤ (I.seen input.new).faults }
     ensures events { AreEventsOf (book_of result.book) result.events.items }
-    ensures answer { (d : D) → Answered (command_of words.now)
-        record { source = I.seen input.old; sink = O.seen out.old; desks = desks_view D.files D.faults D.sends D.sent desks.old.items d }
-        record { source = I.seen input.new; sink = O.seen out.new; desks = desks_view D.files D.faults D.sends D.sent desks.new.items d }
-        result.status (book_of result.book) result.events.items }
-    ensures complete { (d : D) → IsComplete (command_of words.now)
-        record { source = I.seen input.old; sink = O.seen out.old; desks = desks_view D.files D.faults D.sends D.sent desks.old.items d }
-        record { source = I.seen input.new; sink = O.seen out.new; desks = desks_view D.files D.faults D.sends D.sent desks.new.items d }
-        result.status (book_of result.book) }
+    ensures answer { (d : D) → Answered (command_of words.now) (call_of
+        (around (I.seen input.old) (O.seen out.old) (desks_view (desk_view D.files D.faults D.sends D.sent) desks.old.items d))
+        (around (I.seen input.new) (O.seen out.new) (desks_view (desk_view D.files D.faults D.sends D.sent) desks.new.items d)) result) }
+    ensures complete { (d : D) → IsComplete (command_of words.now) (call_of
+        (around (I.seen input.old) (O.seen out.old) (desks_view (desk_view D.files D.faults D.sends D.sent) desks.old.items d))
+        (around (I.seen input.new) (O.seen out.new) (desks_view (desk_view D.files D.faults D.sends D.sent) desks.new.items d)) result) }
 {
     first_cycle_is_unique();
     match read_command(alloc, words) {

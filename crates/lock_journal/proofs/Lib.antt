@@ -1,3 +1,6 @@
 pub mod lemmas
-pub mod Stored
 pub mod Outcomes
+pub mod Stored
+pub mod Pushed
+pub mod Adding
+pub mod TakingBack

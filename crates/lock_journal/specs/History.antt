@@ -1,8 +1,7 @@
 -- What the fields of a `History` stand for, and what holds of them.
-use Rattle.std.specs.Prelude.{ℕ, ◌≡◌, ◌-◌, ◌<◌, ◌⊎◌, length, min, vec_capacity, vec_len, slice_index_or}
+use Rattle.std.specs.Prelude.{ℕ, ◌≡◌, ◌-◌, length, min, vec_capacity, vec_len, slice_index_or}
 use Rattle.lock_journal.specs.HistoryView.{HistoryView}
-use Rattle.lock_journal.specs.Closings.{outcome_in}
-use Rattle.lock_journal.specs.StoredEntry.{AreStored, closing_at, entries_from}
+use Rattle.lock_journal.specs.StoredEntry.{AreStored, KeepEarlier, entries_from, place_in}
 use Rattle.lock_journal.specs.declared.histories.History.TheInside.{Inside}
 use Rattle.lock_journal.specs.declared.histories.TheConstants.{NOWHERE}
 
@@ -14,12 +13,9 @@ history_view h = record {
   spare_changes = vec_capacity h.changes - vec_len h.changes;
 }
 
--- one of so many closings stands there, or it is the place of none
-abbrev pub IsPlaceOf : ℕ → ℕ → Type 0
-IsPlaceOf closings place = (place < closings) ⊎ (place ≡ NOWHERE)
-
--- Each entry's changes and closing are stored, and each unit's outcome is that of its closing entry.
+-- Each entry's changes and closing are stored. Of each unit it is kept where its last closing stands, and in each entry
+-- where that of the unit which it closes stood before.
 pub record IsSoundHistory (h : Inside) : Type 0 where
   pub stored : AreStored (length h.changes.items) (length h.closings.items) h.stored.items
-  pub placed : (u : ℕ) → IsPlaceOf (length h.closings.items) (slice_index_or h.closed_at.items u NOWHERE)
-  pub closed : (u : ℕ) → (closing_at h.closings.items (slice_index_or h.closed_at.items u NOWHERE)).outcome ≡ outcome_in (history_view h).entries u
+  pub closed : (u : ℕ) → slice_index_or h.closed_at.items u NOWHERE ≡ place_in h.closings.items h.stored.items u NOWHERE
+  pub earlier : (u : ℕ) → KeepEarlier h.closings.items h.stored.items u NOWHERE

@@ -27,6 +27,7 @@ use std::alloc::{AllocError, Global};
 use std::marker::Model;
 
 mod admitting;
+mod taking_back;
 
 /// A graph, the state, and the history that led to it. Of every book the history is lawful, and
 /// the state is what it leads to. An index of the state tells in a few steps what can be done next.

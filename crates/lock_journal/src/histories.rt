@@ -1,15 +1,17 @@
-ghost use Rattle.std.specs.Prelude.{◌≡◌, ◌<◌, ◌≤◌, ◌+◌, ◌⊎◌, ◌∷◌, ◌++◌, [], ℕ, length, IsTrue, Some, None, OnOk, OnErr, IfOk, All, slice_get, slice_index_or};
+ghost use Rattle.std.specs.Prelude.{◌≡◌, ◌<◌, ◌≤◌, ◌+◌, ◌-◌, ◌⊎◌, ◌∷◌, ◌++◌, [], ℕ, length, take, IsTrue, Some, None, OnOk, OnErr, IfOk, IfSome, All, slice_get, slice_index_or};
 ghost use Rattle.lock_journal.specs.Bounds.{IsFitKind, IsFitOutcome};
 ghost use Rattle.lock_transforms.specs.Entry.{entry};
 ghost use Rattle.lock_journal.specs.Shown.{entry_shown};
 ghost use Rattle.lock_journal.specs.Closings.{closing_of, outcome_in, ClosesWithin};
-ghost use Rattle.lock_journal.specs.StoredEntry.{closing_at, place_after};
+ghost use Rattle.lock_journal.specs.StoredEntry.{IsNumberOf, closing_at, kind_from, place_after, place_by};
 ghost use Rattle.lock_journal.specs.HistoryView.{SameHistory};
 ghost use Rattle.lock_journal.specs.LastChanges.{last_changes};
 ghost use Rattle.lock_journal.specs.declared.histories.TheConstants.{NOWHERE};
 
 use crate::shown_entries::Shown;
-use crate::stored_entries::{StoredEntry, changes_of, end_before, kind_of, store_kind};
+use crate::stored_entries::{
+    StoredEntry, changes_of, closings_until, end_before, kind_of, store_kind,
+};
 use item_actions::Outcome;
 use lock_transforms::{Closed, Kind};
 use resource_lock::{Change, WorkerId};
@@ -150,13 +152,14 @@ impl History {
         let start = self.changes.len();
         // There is room, so this takes no memory.
         let _ = self.changes.extend_from_slice(changes);
-        set_place(&mut self.closed_at, kind, self.closings.len());
-        let (kind, number) = store_kind(kind, &mut self.closings);
+        let (stored_kind, number) = store_kind(kind, &mut self.closings);
+        let earlier = set_place(&mut self.closed_at, kind, number);
         self.stored.push_reserved(StoredEntry {
             start,
             number,
+            earlier,
             worker,
-            kind,
+            kind: stored_kind,
             failed: false,
         });
     }
@@ -175,10 +178,29 @@ impl History {
         self.stored.push_reserved(StoredEntry {
             start: self.changes.len(),
             number,
+            earlier: NOWHERE,
             worker,
             kind,
             failed: true,
         });
+    }
+
+    /// Removes the last entry. Where it closed a unit, the unit's earlier closing, if it has one, is its
+    /// last again.
+    pub(crate) fn pop(&mut self)
+        requires some_entry { 0 < length self.old.entries }
+        requires closes { IfSome (slice_get self.old.entries (length self.old.entries - 1)) (λ e. ClosesWithin self.old.units e.kind) }
+        ensures entries { self.new.entries ≡ take (length self.old.entries - 1) self.old.entries }
+        ensures units { self.new.units ≡ self.old.units }
+        ensures spare_entries { self.old.spare_entries ≤ self.new.spare_entries }
+        ensures spare_changes { self.old.spare_changes ≤ self.new.spare_changes }
+    {
+        if let Some(last) = self.stored.pop() {
+            put_back(&mut self.closed_at, last, &self.closings);
+            self.closings
+                .truncate(closings_until(last, self.closings.len()));
+            self.changes.truncate(last.start);
+        }
     }
 }
 
@@ -192,15 +214,33 @@ fn outcome_at(closings: &[Closed], place: usize) -> Outcome
     }
 }
 
-/// Sets the place of the closing of the unit that a finished entry of the kind closes, if it closes one.
-fn set_place(all: &mut [usize], kind: &Kind, place: usize)
+/// Sets the place of the closing of the unit that a finished entry of the kind closes, if it closes one,
+/// and answers where it stood.
+fn set_place(all: &mut [usize], kind: &Kind, place: usize) -> usize
     requires { ClosesWithin (length all.old) kind.now }
     ensures len { length all.new ≡ length all.old }
     ensures places { (u : ℕ) → slice_index_or all.new u NOWHERE ≡ place_after (closing_of u kind.now) place (slice_index_or all.old u NOWHERE) }
+    ensures earlier { (u : ℕ) → place_after (closing_of u kind.now) result (slice_index_or all.new u NOWHERE) ≡ slice_index_or all.old u NOWHERE }
 {
     match *kind {
-        Kind::Close(closed) | Kind::Unblock(Some(closed)) => all[closed.unit as usize] = place,
-        _ => {}
+        Kind::Close(closed) | Kind::Unblock(Some(closed)) => {
+            let earlier = all[closed.unit as usize];
+            all[closed.unit as usize] = place;
+            earlier
+        }
+        _ => NOWHERE,
+    }
+}
+
+/// Sets where the closing stood before of the unit that a stored entry closed, if it closed one.
+fn put_back(all: &mut [usize], stored: StoredEntry, closings: &[Closed])
+    requires number { IsNumberOf (length closings.now) stored.kind stored.number }
+    requires closes { ClosesWithin (length all.old) (kind_from closings.now stored.kind stored.number) }
+    ensures len { length all.new ≡ length all.old }
+    ensures places { (u : ℕ) → slice_index_or all.new u NOWHERE ≡ place_by closings.now stored stored.earlier u (slice_index_or all.old u NOWHERE) }
+{
+    if !stored.failed {
+        set_place(all, &kind_of(stored, closings), stored.earlier);
     }
 }
 

@@ -1,7 +1,7 @@
 //! What is stored of an entry.
 ghost use Rattle.std.specs.Prelude.{◌≡◌, ◌≤◌, ◌<◌, ◌+◌, ◌∷◌, [], ◌++◌, length, slice_range, vec_capacity, vec_len, if◌then◌else◌};
 ghost use Rattle.lock_journal.specs.Closings.{closed_of};
-ghost use Rattle.lock_journal.specs.StoredEntry.{IsNumberOf, closing_at, end_before, kind_from};
+ghost use Rattle.lock_journal.specs.StoredEntry.{IsLastNumber, IsNumberOf, closing_at, closings_until, end_before, kind_from};
 
 use lock_transforms::{Closed, Kind};
 use resource_lock::{Change, WorkerId};
@@ -12,12 +12,14 @@ use resource_lock::{Change, WorkerId};
 pub struct StoredEntry {
     pub start: usize,
     pub number: usize,
+    /// Where the closing stood before of the unit that the entry closes, if it closes one.
+    pub earlier: usize,
     pub worker: WorkerId,
     pub kind: StoredKind,
     pub failed: bool,
 }
 
-const _: () = prove!(size_of::<StoredEntry>() == 24);
+const _: () = prove!(size_of::<StoredEntry>() == 32);
 
 /// What a stored entry is for. The entry's number is that of the task, the action or the unit. Of a
 /// kind with an outcome it is the place of the closing among those of all entries.
@@ -44,7 +46,8 @@ pub enum StoredKind {
 pub fn store_kind(kind: &Kind, closings: &mut Vec<Closed>) -> (StoredKind, usize)
     requires { vec_len closings.old < vec_capacity closings.old }
     ensures kind { kind_from closings.new.items result.0 result.1 ≡ kind.now }
-    ensures number { IsNumberOf (length closings.new.items) result.0 result.1 }
+    ensures number { IsLastNumber (length closings.new.items) result.0 result.1 }
+    ensures until { closings_until result.0 result.1 (length closings.new.items) ≡ length closings.old.items }
     ensures items { closings.new.items ≡ closings.old.items ++ closed_of kind.now }
     ensures len { vec_len closings.new ≤ vec_len closings.old + 1 }
     ensures capacity { vec_capacity closings.new ≡ vec_capacity closings.old }
@@ -73,7 +76,8 @@ pub fn store_kind(kind: &Kind, closings: &mut Vec<Closed>) -> (StoredKind, usize
 /// Puts a closing last, and answers its place.
 fn store_closing(closed: Closed, closings: &mut Vec<Closed>) -> usize
     requires { vec_len closings.old < vec_capacity closings.old }
-    ensures place { result < length closings.new.items }
+    ensures place { result ≡ length closings.old.items }
+    ensures last { result + 1 ≡ length closings.new.items }
     ensures closing { closing_at closings.new.items result ≡ closed }
     ensures items { closings.new.items ≡ closings.old.items ++ closed ∷ [] }
     ensures capacity { vec_capacity closings.new ≡ vec_capacity closings.old }
@@ -113,6 +117,17 @@ pub fn end_before(stored: &[StoredEntry], changes: usize) -> usize
     match stored.first() {
         Some(next) => next.start,
         None => changes,
+    }
+}
+
+/// How many closings stand before that of a stored entry, where its own is the last of so many, if it
+/// has one.
+pub fn closings_until(stored: StoredEntry, closings: usize) -> usize
+    ensures { result ≡ closings_until stored.kind stored.number closings }
+{
+    match stored.kind {
+        StoredKind::Close | StoredKind::UnblockAfterFetch => stored.number,
+        _ => closings,
     }
 }
 

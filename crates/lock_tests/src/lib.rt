@@ -1,10 +1,12 @@
-//! Tests of the crates from `resource_lock` up to `async_tracker`, and of `task_ordering`.
+//! Tests of the crates from `resource_lock` up to `async_tracker`.
 #![tactic(auto)]
 
 #[cfg(test)]
 mod async_tracker_tests;
 #[cfg(test)]
 mod blocking_section_tests;
+#[cfg(test)]
+mod book_tests;
 #[cfg(test)]
 mod coordination_tests;
 #[cfg(test)]
@@ -14,13 +16,13 @@ mod graphs;
 #[cfg(test)]
 mod lease_service_tests;
 #[cfg(test)]
+mod numbers;
+#[cfg(test)]
 mod ready_work_tests;
 #[cfg(test)]
 mod resource_lock_tests;
 pub mod rows;
 #[cfg(test)]
 mod services;
-#[cfg(test)]
-mod task_ordering_tests;
 #[cfg(test)]
 mod task_ranks_tests;

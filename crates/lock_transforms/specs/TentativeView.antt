@@ -54,6 +54,10 @@ pub record LeadsTo (before : StateView) (t : TentativeView) : Type 0 where
   pub possible : can_all before t.worker t.made ≡ true
   pub state : t.state ≡ make_all before t.worker t.made
 
+-- all but the state stays
+abbrev pub with_state : TentativeView → StateView → TentativeView
+with_state t s = record t { state = s }
+
 -- the state before, with no change made
 abbrev pub taken_back : StateView → TentativeView → TentativeView
 taken_back before t = record t { state = before; made = []; room = t.room + length t.made }

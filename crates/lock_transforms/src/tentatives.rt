@@ -8,7 +8,7 @@ ghost use Rattle.resource_lock.specs.Shape.{BelongsTo};
 ghost use Rattle.resource_lock.specs.StateView.{StateView, IsLockOf, holding_of, has_parked};
 ghost use Rattle.resource_lock.specs.Trying.{can_own, can_lease};
 ghost use Rattle.lock_transforms.specs.Allowed.{Allowed, IsKindOf};
-ghost use Rattle.lock_transforms.specs.TentativeView.{SameTentative, noted, settled, taken_back, with_lease, with_lock, without_lease, without_lock};
+ghost use Rattle.lock_transforms.specs.TentativeView.{SameTentative, noted, settled, taken_back, with_lease, with_lock, with_state, without_lease, without_lock};
 ghost use Rattle.lock_transforms.specs.Entry.{entry};
 ghost use Rattle.lock_transforms.specs.declared.kinds.admitting.TheConstants.{MAX_CHANGES};
 
@@ -237,6 +237,15 @@ impl Tentative {
         ensures { self.new ≡ settled self.old }
     {
         self.made.clear();
+    }
+
+    /// Takes back changes that a worker made earlier and that led to this state, where no others were
+    /// made since. It takes no memory.
+    pub fn take_back(&mut self, worker: WorkerId, changes: &[Change])
+        requires { (before : StateView) × CameFrom before self.old.state worker changes.now }
+        ensures { (before : StateView) → CameFrom before self.old.state worker changes.now → self.new ≡ with_state self.old before }
+    {
+        self.state.take_back(worker, changes);
     }
 
     /// Takes back the changes made, from the last to the first.

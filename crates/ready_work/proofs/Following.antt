@@ -20,7 +20,7 @@ use Rattle.resource_lock.proofs.lemmas.Runs.{all_named_along, same_shape-make_al
 use Rattle.resource_lock.proofs.lemmas.Undo.{same_mark_is}
 use Rattle.ready_work.specs.Choices.{CanSkip, IsFree, IsStartable, IsOpenUnit, IsQueued, IsUnended}
 use Rattle.ready_work.specs.Dependents.{AreDependents}
-use Rattle.ready_work.specs.ReadyWork.{Follows, IsIndexBut, Notes, TouchLock, TouchTask, TouchUnit, TouchesLock, TouchesTask, TouchesUnit}
+use Rattle.ready_work.specs.ReadyWork.{Follows, IsIndexBut, Lead, Notes, TouchLock, TouchTask, TouchUnit, TouchesLock, TouchesTask, TouchesUnit}
 use Rattle.ready_work.specs.Sets.{Looks, NoNumber}
 use Rattle.ready_work.specs.TaskSets.{LooksAt}
 use Rattle.ready_work.specs.declared.ready_works.ReadyWork.{ReadyWork}
@@ -214,25 +214,49 @@ or_same f (inr b) = inr (f b)
 
 -- ---- the index follows
 
--- the index of the state before is right after the changes, but for what they touch
-pub index_open : (g : GraphView) (before : StateView) (w : WorkerId) (changes : List Change) (s : StateView) (ready : ReadyWork) → Follows g before w changes s ready → IsIndexBut g s (TouchUnit changes) (TouchTask g changes) (TouchLock changes) ready
-index_open g before w changes s ready f = subst (λ (v : StateView). IsIndexBut g v (TouchUnit changes) (TouchTask g changes) (TouchLock changes) ready) (sym f.state) (record {
-  made = f.index.made;
-  queued = set_moved (IsQueued g before) (IsQueued g after) (TouchUnit changes) ready.queued (λ u. or_same (same_queued g before after u) (units_same before w changes u)) f.index.queued;
-  open_units = set_moved (IsOpenUnit g before) (IsOpenUnit g after) (TouchUnit changes) ready.open_units (λ u. or_same (same_open g before after u) (units_same before w changes u)) f.index.open_units;
-  tasks = record {
-    skippable = set_moved (CanSkip g before) (CanSkip g after) (TouchTask g changes) ready.tasks.skippable (λ t. or_same (same_skip g before after t) (same t)) f.index.tasks.skippable;
-    startable = set_moved (IsStartable g before) (IsStartable g after) (TouchTask g changes) ready.tasks.startable.tasks (λ t. or_same (same_startable g before after t) (same t)) f.index.tasks.startable;
-    unended = set_moved (IsUnended g before) (IsUnended g after) (TouchTask g changes) ready.tasks.unended (λ t. or_same (same_unended g before after t) (same t)) f.index.tasks.unended;
-  };
-  free = set_moved (IsFree g before) (IsFree g after) (TouchLock changes) ready.tasks.startable.free (λ l. or_same (same_free g before after l) (locks_same before w changes l)) f.index.free;
-})
-  where
-    after : StateView
-    after = make_all before w changes
+-- what the changes don't touch is the same in both states
+record Spare (g : GraphView) (changes : List Change) (r s : StateView) : Type 0 where
+  units : (u : ℕ) → TouchUnit changes u ⊎ (mark_of s (UnitOf u) ≡ mark_of r (UnitOf u))
+  tasks : (t : ℕ) → TouchTask g changes t ⊎ SameTask g r s t
+  locks : (l : ℕ) → TouchLock changes l ⊎ (owner_of s (record { 0 = l }) ≡ owner_of r (record { 0 = l }))
 
-    same : (t : ℕ) → TouchTask g changes t ⊎ SameTask g before (make_all before w changes) t
-    same t = tasks_same g before w changes t f.possible
+spared : (g : GraphView) (r s : StateView) (w : WorkerId) (changes : List Change) → Lead r s w changes → Spare g changes r s
+spared g r s w changes led = subst (Spare g changes r) (sym led.state) (record {
+  units = units_same r w changes;
+  tasks = λ t. tasks_same g r w changes t led.possible;
+  locks = locks_same r w changes;
+})
+
+same_back : (g : GraphView) (r s : StateView) (t : ℕ) → SameTask g r s t → SameTask g s r t
+same_back g r s t same = record { own = sym same.own; fallen = sym same.fallen; passed = sym same.passed }
+
+spared_back : (g : GraphView) (changes : List Change) (r s : StateView) → Spare g changes r s → Spare g changes s r
+spared_back g changes r s spare = record {
+  units = λ u. or_same sym (spare.units u);
+  tasks = λ t. or_same (same_back g r s t) (spare.tasks t);
+  locks = λ l. or_same sym (spare.locks l);
+}
+
+spared_where_led : (g : GraphView) (r s : StateView) (w : WorkerId) (changes : List Change) → Lead r s w changes ⊎ Lead s r w changes → Spare g changes r s
+spared_where_led g r s w changes (inl led) = spared g r s w changes led
+spared_where_led g r s w changes (inr back) = spared_back g changes s r (spared g s r w changes back)
+
+-- the index of the state before is right in this state, but for what the changes touch
+pub index_open : (g : GraphView) (before : StateView) (w : WorkerId) (changes : List Change) (s : StateView) (ready : ReadyWork) → Follows g before w changes s ready → IsIndexBut g s (TouchUnit changes) (TouchTask g changes) (TouchLock changes) ready
+index_open g before w changes s ready f = record {
+  made = f.index.made;
+  queued = set_moved (IsQueued g before) (IsQueued g s) (TouchUnit changes) ready.queued (λ u. or_same (same_queued g before s u) (spare.units u)) f.index.queued;
+  open_units = set_moved (IsOpenUnit g before) (IsOpenUnit g s) (TouchUnit changes) ready.open_units (λ u. or_same (same_open g before s u) (spare.units u)) f.index.open_units;
+  tasks = record {
+    skippable = set_moved (CanSkip g before) (CanSkip g s) (TouchTask g changes) ready.tasks.skippable (λ t. or_same (same_skip g before s t) (spare.tasks t)) f.index.tasks.skippable;
+    startable = set_moved (IsStartable g before) (IsStartable g s) (TouchTask g changes) ready.tasks.startable.tasks (λ t. or_same (same_startable g before s t) (spare.tasks t)) f.index.tasks.startable;
+    unended = set_moved (IsUnended g before) (IsUnended g s) (TouchTask g changes) ready.tasks.unended (λ t. or_same (same_unended g before s t) (spare.tasks t)) f.index.tasks.unended;
+  };
+  free = set_moved (IsFree g before) (IsFree g s) (TouchLock changes) ready.tasks.startable.free (λ l. or_same (same_free g before s l) (spare.locks l)) f.index.free;
+}
+  where
+    spare : Spare g changes before s
+    spare = spared_where_led g before s w changes f.led
 
 -- a lock was looked at, and nothing else
 looked_at_lock : (g : GraphView) (s : StateView) (c : Change) (lock : LockId) (old new : ReadyWork) → ((k : ℕ) → TouchesUnit c k → ⊥) → ((k : ℕ) → TouchesTask g c k → ⊥) → ((k : ℕ) → TouchesLock c k → k ≡ lock.0) → new ≡ record old { tasks = new.tasks } → Looks (IsFree g s) (λ l. l ≡ lock.0) old.tasks.startable.free new.tasks.startable.free → LooksAt g s NoNumber old.tasks new.tasks → Notes g s c old new
@@ -253,8 +277,12 @@ all_at s [] i d all lt = absurd (omega arith)
 all_at s (c ∷ cs) zero d all lt = all.0
 all_at s (c ∷ cs) (suc i) d all lt = all_at s cs i d all.1 (omega arith)
 
+named_where_led : (r s : StateView) (w : WorkerId) (changes : List Change) → Lead r s w changes ⊎ Lead s r w changes → AllByRecursion (NamesOnly s) changes
+named_where_led r s w changes (inl led) = subst (λ (v : StateView). AllByRecursion (NamesOnly v) changes) (sym led.state) (all_named_along r (make_all r w changes) changes (same_shape-make_all r w changes) led.named)
+named_where_led r s w changes (inr back) = back.named
+
 pub named_after : (g : GraphView) (before : StateView) (w : WorkerId) (changes : List Change) (s : StateView) (ready : ReadyWork) (i : ℕ) (d : Change) → Follows g before w changes s ready → i < length changes → NamesOnly s (get_or changes i d)
-named_after g before w changes s ready i d f lt = subst (λ (v : StateView). NamesOnly v (get_or changes i d)) (sym f.state) (all_at (make_all before w changes) changes i d (all_named_along before (make_all before w changes) changes (same_shape-make_all before w changes) f.named) lt)
+named_after g before w changes s ready i d f lt = all_at s changes i d (named_where_led before s w changes f.led) lt
 
 -- what one change touches was looked at
 next_looked : (g : GraphView) (s : StateView) (c : Change) (cs : List Change) (old new : ReadyWork) → Notes g s c old new → IsIndexBut g s (TouchUnit (c ∷ cs)) (TouchTask g (c ∷ cs)) (TouchLock (c ∷ cs)) old → IsIndexBut g s (TouchUnit cs) (TouchTask g cs) (TouchLock cs) new

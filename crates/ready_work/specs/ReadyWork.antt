@@ -76,10 +76,15 @@ pub record Notes (g : GraphView) (s : StateView) (c : Change) (old new : ReadyWo
   pub tasks : LooksAt g s (TouchesTask g c) old.tasks new.tasks
   pub free : Looks (IsFree g s) (TouchesLock c) old.tasks.startable.free new.tasks.startable.free
 
--- The index is that of the state before the changes, which the worker could make in turn, and which led to this state of the graph.
+-- The worker could make the changes in turn in the first state, and they led to the second.
+pub record Lead (from to : StateView) (w : WorkerId) (changes : List Change) : Type 0 where
+  pub named : AllByRecursion (NamesOnly from) changes
+  pub possible : can_all from w changes ≡ true
+  pub state : to ≡ make_all from w changes
+
+-- The index is that of the state before. The changes led from there to this state of the graph, or they led from this
+-- state to there and were taken back.
 pub record Follows (g : GraphView) (before : StateView) (w : WorkerId) (changes : List Change) (s : StateView) (ready : ReadyWork) : Type 0 where
   pub belongs : BelongsTo g s
-  pub named : AllByRecursion (NamesOnly before) changes
-  pub possible : can_all before w changes ≡ true
-  pub state : s ≡ make_all before w changes
+  pub led : Lead before s w changes ⊎ Lead s before w changes
   pub index : IsIndexOf g before ready

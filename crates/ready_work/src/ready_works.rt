@@ -53,8 +53,9 @@ impl ReadyWork {
         })
     }
 
-    /// Follows changes of a worker, from the state before them to this one after them. It takes no
-    /// memory, and looks only at what the changes touch.
+    /// Follows changes of a worker, from the state before them to this one after them, or, where they
+    /// were taken back, from the state after them to this one before them. It takes no memory, and
+    /// looks only at what the changes touch.
     pub fn follow(&mut self, graph: &Graph, state: &State, changes: &[Change])
         requires { (before : StateView) × (w : WorkerId) × Follows graph.now before w changes.now state.now self.old }
         ensures { IsIndexOf graph.now state.now self.new }
@@ -104,7 +105,7 @@ impl ReadyWork {
         self.tasks.unended.first().is_none()
     }
 
-    /// Looks at what a change touches, in the state that all changes lead to.
+    /// Looks at what a change touches, in the state after all changes, or after all were taken back.
     fn note(&mut self, graph: &Graph, state: &State, change: &Change)
         requires made { IsMadeFor graph.now self.old }
         requires belongs { BelongsTo graph.now state.now }

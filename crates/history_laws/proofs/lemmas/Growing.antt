@@ -22,21 +22,12 @@ use Rattle.lock_transforms.specs.declared.entries.Kind.{Kind}
 use Rattle.lock_transforms.specs.Allowed.{Allowed, Finishes, lawful_from, Lawful}
 use Rattle.lock_journal.specs.Closings.{closing_of, where_finished, closings, last_or, outcome_in}
 use Rattle.lock_transforms.specs.Entry.{Entry, changed, effect, replay_from, replay}
-use Rattle.lock_journal.proofs.lemmas.Replays.{lawful_from-push, replay_from-push}
+use Rattle.lock_journal.proofs.lemmas.Replays.{lawful_from-append, lawful_from-push, replay_from-append, replay_from-push}
 use Rattle.history_laws.specs.ClosedBy.{closed_at, closed_by, faults_by, faults_in}
 use Rattle.history_laws.specs.Marks.{IsEnded}
 use Rattle.history_laws.specs.Own.{NoneOf, SameFor}
 use Rattle.history_laws.proofs.Finished.{IsFinal, final_by}
 use Rattle.history_laws.proofs.lemmas.Others.{others_after}
-
-pub replay_from-append : (s : StateView) (h later : List Entry) → replay_from s (h ++ later) ≡ replay_from (replay_from s h) later
-replay_from-append s [] later = refl
-replay_from-append s (e ∷ h) later = replay_from-append (effect s e) h later
-
--- a front of a lawful history is lawful, and so is what follows, from where the front leads
-pub lawful_from-append : (g : GraphView) (s : StateView) (h later : List Entry) → lawful_from g s (h ++ later) → lawful_from g s h × lawful_from g (replay_from s h) later
-lawful_from-append g s [] later lawful = (tt, lawful)
-lawful_from-append g s (e ∷ h) later lawful = let rest = lawful_from-append g (effect s e) h later lawful.1 in ((lawful.0, rest.0), rest.1)
 
 pub lawful-front : (g : GraphView) (h later : List Entry) → Lawful g (h ++ later) → Lawful g h
 lawful-front g h later lawful = (lawful_from-append g (opening_of g) h later lawful).0

@@ -5,7 +5,7 @@ use Rattle.std.proofs.lemmas.Bool.{and_parts, eqb-true}
 use Rattle.resource_lock.proofs.lemmas.Begins.{good_opening}
 use Rattle.resource_lock.proofs.lemmas.Counted.{moves}
 use Rattle.resource_lock.proofs.lemmas.Lists.{get_or-set_cases}
-use Rattle.resource_lock.proofs.lemmas.Runs.{belongs_along, belongs_opening, kept_all, same_shape-make_all, worker_from}
+use Rattle.resource_lock.proofs.lemmas.Runs.{belongs_opening}
 use Rattle.resource_lock.specs.Good.{Good}
 use Rattle.resource_lock.specs.Shape.{BelongsTo}
 use Rattle.resource_lock.specs.Change.{can, can_all, make, make_all, names_only}
@@ -21,6 +21,7 @@ use Rattle.resource_lock.specs.declared.marks.MarkId.TheVariants.{Task as TaskOf
 use Rattle.lock_transforms.specs.declared.entries.Kind.{Kind}
 use Rattle.lock_transforms.specs.Allowed.{Finishes, lawful_from, Lawful}
 use Rattle.lock_transforms.specs.Entry.{Entry, changed, effect, replay_from, replay}
+use Rattle.lock_journal.proofs.lemmas.Replays.{entries_good}
 use Rattle.history_laws.specs.Own.{NamesWorkers}
 
 runner : (v w : WorkerId) (m : Mark) (n : ℕ) → v.0 < n → names_only m v ≡ true → m ≡ Running w → w.0 < n
@@ -114,17 +115,6 @@ pub named : (g : GraphView) (h : List Entry) → Lawful g h → NamesWorkers g.w
 named g h lawful = entries_name g h (opening_of g) lawful (none_named g)
 
 -- the state is a good one of the graph
-entry_good : (g : GraphView) (s : StateView) (v : WorkerId) (k : Kind) (o : Option (List Change)) → v.0 < g.workers → IfSome o (Finishes g s v k) → BelongsTo g s × Good s → BelongsTo g (changed s v o) × Good (changed s v o)
-entry_good g s v k None low f old = old
-entry_good g s v k (Some cs) low f old = (
-  belongs_along g s (make_all s v cs) (same_shape-make_all s v cs) old.0,
-  kept_all s v cs (worker_from g s v old.0 low) f.named old.1 f.possible,
-)
-
-entries_good : (g : GraphView) (h : List Entry) (s : StateView) → lawful_from g s h → BelongsTo g s × Good s → BelongsTo g (replay_from s h) × Good (replay_from s h)
-entries_good g [] s lawful old = old
-entries_good g (e ∷ h) s lawful old = entries_good g h (effect s e) lawful.1 (entry_good g s e.worker e.kind e.changes lawful.0.worker lawful.0.finished old)
-
 pub belongs : (g : GraphView) (h : List Entry) → Lawful g h → BelongsTo g (replay g h)
 belongs g h lawful = (entries_good g h (opening_of g) lawful (belongs_opening g, good_opening g)).0
 

@@ -24,7 +24,7 @@ use Rattle.lock_transforms.specs.declared.entries.Kind.{Kind}
 use Rattle.lock_transforms.specs.declared.entries.Kind.TheVariants.{Skip, Submit, Park, Resume, Claim, Close, Block, Unblock, End}
 use Rattle.history_laws.specs.Own.{NoneOf}
 use Rattle.history_laws.proofs.lemmas.Fitting.{RangesApart, apart_of}
-use Rattle.history_laws.proofs.lemmas.Growing.{lawful_from-append, replay_from-append}
+use Rattle.lock_journal.proofs.lemmas.Replays.{lawful_from-append, replay_from-append}
 use Rattle.history_laws.proofs.MarkConditions.{mark_condition}
 use Rattle.history_laws.proofs.Marks.{StaysOrMoves, stays_or_moves}
 use Rattle.history_laws.proofs.Moves.{MayMove, list_moves}

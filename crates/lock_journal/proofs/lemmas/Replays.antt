@@ -1,13 +1,21 @@
 -- A history with one more entry, what it leads to, and the book that has it.
-use Rattle.std.proofs.Common.{◌≡◌, ◌≤◌, List, [], ◌∷◌, ◌++◌, refl, sym, ◌∙◌, ap, subst}
+use Rattle.std.specs.Prelude.{IfSome}
+use Rattle.std.proofs.Common.{◌≡◌, ◌<◌, ◌≤◌, Option, None, Some, List, [], ◌∷◌, ◌++◌, refl, sym, ◌∙◌, ap, subst}
 use Rattle.std.specs.List.{All}
 use Rattle.std.proofs.lemmas.List.Elements.{All-push}
+use Rattle.resource_lock.proofs.lemmas.Runs.{belongs_along, kept_all, same_shape-make_all, worker_from}
+use Rattle.resource_lock.specs.Change.{make_all}
+use Rattle.resource_lock.specs.Good.{Good}
+use Rattle.resource_lock.specs.Shape.{BelongsTo}
+use Rattle.resource_lock.specs.declared.changes.Change.{Change}
+use Rattle.resource_lock.specs.declared.ids.WorkerId.{WorkerId}
 use Rattle.resource_lock.specs.StateView.{StateView}
 use Rattle.resource_lock.specs.GraphView.{GraphView}
 use Rattle.resource_lock.specs.Opening.{opening_of}
 use Rattle.ready_work.specs.ReadyWork.{IsIndexOf}
-use Rattle.lock_transforms.specs.Entry.{Entry, effect, replay_from, replay}
-use Rattle.lock_transforms.specs.Allowed.{Allowed, lawful_from, Lawful}
+use Rattle.lock_transforms.specs.Entry.{Entry, changed, effect, replay_from, replay}
+use Rattle.lock_transforms.specs.Allowed.{Allowed, Finishes, lawful_from, Lawful}
+use Rattle.lock_transforms.specs.declared.entries.Kind.{Kind}
 use Rattle.lock_journal.specs.Bounds.{IsFitKind}
 use Rattle.lock_journal.specs.Book.{IsSound}
 use Rattle.lock_journal.specs.declared.books.Book.TheInside.{Inside}
@@ -20,6 +28,27 @@ replay_from-push s (f ∷ h) e = replay_from-push (effect s f) h e
 pub lawful_from-push : (g : GraphView) (s : StateView) (h : List Entry) (e : Entry) → lawful_from g s h → Allowed g (replay_from s h) e → lawful_from g s (h ++ e ∷ [])
 lawful_from-push g s [] e law allowed = (allowed, tt)
 lawful_from-push g s (f ∷ h) e law allowed = (law.0, lawful_from-push g (effect s f) h e law.1 allowed)
+
+pub replay_from-append : (s : StateView) (h later : List Entry) → replay_from s (h ++ later) ≡ replay_from (replay_from s h) later
+replay_from-append s [] later = refl
+replay_from-append s (e ∷ h) later = replay_from-append (effect s e) h later
+
+-- a front of a lawful history is lawful, and so is what follows, from where the front leads
+pub lawful_from-append : (g : GraphView) (s : StateView) (h later : List Entry) → lawful_from g s (h ++ later) → lawful_from g s h × lawful_from g (replay_from s h) later
+lawful_from-append g s [] later lawful = (tt, lawful)
+lawful_from-append g s (e ∷ h) later lawful = let rest = lawful_from-append g (effect s e) h later lawful.1 in ((lawful.0, rest.0), rest.1)
+
+-- a lawful history leads from a good state of the graph to one
+entry_good : (g : GraphView) (s : StateView) (v : WorkerId) (k : Kind) (o : Option (List Change)) → v.0 < g.workers → IfSome o (Finishes g s v k) → BelongsTo g s × Good s → BelongsTo g (changed s v o) × Good (changed s v o)
+entry_good g s v k None low f old = old
+entry_good g s v k (Some cs) low f old = (
+  belongs_along g s (make_all s v cs) (same_shape-make_all s v cs) old.0,
+  kept_all s v cs (worker_from g s v old.0 low) f.named old.1 f.possible,
+)
+
+pub entries_good : (g : GraphView) (h : List Entry) (s : StateView) → lawful_from g s h → BelongsTo g s × Good s → BelongsTo g (replay_from s h) × Good (replay_from s h)
+entries_good g [] s lawful old = old
+entries_good g (e ∷ h) s lawful old = entries_good g h (effect s e) lawful.1 (entry_good g s e.worker e.kind e.changes lawful.0.worker lawful.0.finished old)
 
 -- b is a with one more entry, which was allowed, with its effect, and with the index of that
 pub record Extends (a b : Inside) (e : Entry) : Type 0 where

@@ -7,7 +7,7 @@ ghost use Rattle.resource_lock.specs.declared.marks.MarkId.TheVariants as ids;
 ghost use Rattle.resource_lock.specs.declared.marks.Mark.TheVariants as marks;
 
 use crate::entries::Kind;
-use crate::kinds::fixed::{FixedKind, Progress, run_fixed};
+use crate::kinds::fixed::{FixedKind, finish_or_retry};
 use crate::kinds::making::try_change;
 use crate::tentatives::Tentative;
 use crate::transforms::{Disposition, Transform};
@@ -51,10 +51,7 @@ impl Transform for Claim {
         if work.state().mark(MarkId::Unit(self.unit)) != Mark::Queued {
             return Disposition::Failed;
         }
-        match run_fixed(self, work) {
-            Progress::Made => Disposition::Finished,
-            Progress::NotEnabled | Progress::OutOfRange => Disposition::Retry,
-        }
+        finish_or_retry(self, work)
     }
 
     fn waits_for_news(&self) {}

@@ -4,7 +4,7 @@ ghost use Rattle.lock_transforms.specs.Table.{is_enabled};
 ghost use Rattle.lock_transforms.specs.declared.entries.Kind.TheVariants as kinds;
 
 use crate::entries::{Closed, Kind};
-use crate::kinds::fixed::{FixedKind, Progress, run_fixed};
+use crate::kinds::fixed::{FixedKind, finish_or_retry};
 use crate::kinds::making::try_change;
 use crate::kinds::marks::mark_from;
 use crate::tentatives::Tentative;
@@ -43,10 +43,7 @@ impl Transform for Close {
     }
 
     fn apply(&self, work: &mut Tentative) -> Disposition {
-        match run_fixed(self, work) {
-            Progress::Made => Disposition::Finished,
-            Progress::NotEnabled | Progress::OutOfRange => Disposition::Retry,
-        }
+        finish_or_retry(self, work)
     }
 
     fn waits_for_news(&self) {}

@@ -14,7 +14,7 @@ ghost use Rattle.resource_lock.specs.declared.marks.MarkId.TheVariants as ids;
 ghost use Rattle.resource_lock.specs.declared.marks.Mark.TheVariants as marks;
 
 use crate::entries::Kind;
-use crate::kinds::fixed::{FixedKind, Progress, run_fixed};
+use crate::kinds::fixed::{FixedKind, finish_or_retry};
 use crate::kinds::making::try_change;
 use crate::kinds::marks::units_passed;
 use crate::kinds::ranges::{Span, actions_of, earlier_actions, lock_of, units_of};
@@ -61,10 +61,7 @@ impl Transform for End {
     }
 
     fn apply(&self, work: &mut Tentative) -> Disposition {
-        match run_fixed(self, work) {
-            Progress::Made => Disposition::Finished,
-            Progress::NotEnabled | Progress::OutOfRange => Disposition::Retry,
-        }
+        finish_or_retry(self, work)
     }
 
     fn waits_for_news(&self) {}

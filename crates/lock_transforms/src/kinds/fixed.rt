@@ -2,7 +2,7 @@
 ghost use Rattle.std.specs.Prelude.{◌≡◌, ◌≢◌, ◌<◌, ◌≤◌, ◌↔◌, ℕ, IsTrue, [], false, true, length, Some};
 ghost use Rattle.resource_lock.specs.Fits.{Fits};
 ghost use Rattle.resource_lock.specs.Shape.{BelongsTo};
-ghost use Rattle.lock_transforms.specs.Allowed.{Allowed, IsFixedList, IsKindOf, IsListOf};
+ghost use Rattle.lock_transforms.specs.Allowed.{Allowed, IsDisabled, IsFixedList, IsKindOf, IsListOf};
 ghost use Rattle.lock_transforms.specs.TentativeView.{IsSoundTentative, Worked};
 ghost use Rattle.lock_transforms.specs.Entry.{entry};
 ghost use Rattle.lock_transforms.specs.Making.{Makes};
@@ -11,6 +11,7 @@ ghost use Rattle.lock_transforms.specs.declared.entries.Kind.{Kind};
 ghost use Rattle.lock_transforms.specs.declared.entries.Kind.TheVariants as kinds;
 
 use crate::tentatives::Tentative;
+use crate::transforms::Disposition;
 use resource_lock::{Graph, State, WorkerId};
 
 /// A kind of entry whose changes the graph, the state before and the worker fix.
@@ -84,4 +85,26 @@ pub(crate) fn run_fixed<K: FixedKind>(kind: &K, work: &mut Tentative) -> Progres
         return Progress::NotEnabled;
     }
     Progress::Made
+}
+
+/// Applies a kind that never fails: where its changes can't all be made, it asks to be run again.
+pub(crate) fn finish_or_retry<K: FixedKind>(kind: &K, work: &mut Tentative) -> Disposition
+    requires fresh { work.old.made ≡ [] }
+    requires room { K.most kind.now ≤ work.old.room }
+    ensures worked { Worked work.old work.new }
+    ensures few { length work.new.made ≤ K.most kind.now }
+    ensures allowed { result ≡ Disposition.Finished
+        → Allowed work.old.graph work.old.state (entry work.old.worker (K.kind_of kind.now) (Some work.new.made)) }
+    ensures list { result ≡ Disposition.Finished
+        → IsFixedList (K.kind_of kind.now) work.old.graph work.old.worker work.old.state work.new.made }
+    ensures enabled { result ≡ Disposition.Finished
+        → (is_enabled work.old.graph work.old.state work.old.worker (K.kind_of kind.now) ≡ true) × IsKindOf work.old.graph (K.kind_of kind.now) }
+    ensures never_fails { result ≢ Disposition.Failed }
+    ensures sound { result ≡ Disposition.Retry → IsKindOf work.old.graph (K.kind_of kind.now) → IsSoundTentative work.old }
+    ensures disabled { result ≡ Disposition.Retry → IsDisabled (K.kind_of kind.now) work.old.graph work.old.worker work.old.state }
+{
+    match run_fixed(kind, work) {
+        Progress::Made => Disposition::Finished,
+        Progress::NotEnabled | Progress::OutOfRange => Disposition::Retry,
+    }
 }

@@ -5,7 +5,7 @@ ghost use Rattle.lock_transforms.specs.Table.{condition};
 ghost use Rattle.lock_transforms.specs.declared.entries.Kind.TheVariants as kinds;
 
 use crate::entries::Kind;
-use crate::kinds::fixed::{FixedKind, Progress, run_fixed};
+use crate::kinds::fixed::{FixedKind, finish_or_retry};
 use crate::kinds::freeing::free_locks;
 use crate::tentatives::Tentative;
 use crate::transforms::{Disposition, Transform};
@@ -38,10 +38,7 @@ impl Transform for HandBack {
     }
 
     fn apply(&self, work: &mut Tentative) -> Disposition {
-        match run_fixed(self, work) {
-            Progress::Made => Disposition::Finished,
-            Progress::NotEnabled | Progress::OutOfRange => Disposition::Retry,
-        }
+        finish_or_retry(self, work)
     }
 
     fn waits_for_news(&self) {}

@@ -8,7 +8,7 @@ ghost use Rattle.lock_transforms.specs.declared.entries.Kind.TheVariants as kind
 ghost use Rattle.resource_lock.specs.declared.marks.MarkId.TheVariants as ids;
 
 use crate::entries::Kind;
-use crate::kinds::fixed::{FixedKind, Progress, run_fixed};
+use crate::kinds::fixed::{FixedKind, finish_or_retry};
 use crate::kinds::making::try_change;
 use crate::kinds::parking::unpark_lock;
 use crate::kinds::ranges::{Span, action_of, items_of, lock_of};
@@ -49,10 +49,7 @@ impl Transform for Resume {
     }
 
     fn apply(&self, work: &mut Tentative) -> Disposition {
-        match run_fixed(self, work) {
-            Progress::Made => Disposition::Finished,
-            Progress::NotEnabled | Progress::OutOfRange => Disposition::Retry,
-        }
+        finish_or_retry(self, work)
     }
 
     fn waits_for_news(&self) {}

@@ -6,7 +6,7 @@ ghost use Rattle.lock_transforms.specs.Table.{fetch_closed, is_enabled};
 ghost use Rattle.lock_transforms.specs.declared.entries.Kind.TheVariants as kinds;
 
 use crate::entries::Kind;
-use crate::kinds::fixed::{FixedKind, Progress, run_fixed};
+use crate::kinds::fixed::{FixedKind, finish_or_retry};
 use crate::kinds::making::{move_units, try_change};
 use crate::kinds::marks::{earlier_passed, works_on};
 use crate::kinds::ranges::{action_of, items_of};
@@ -46,10 +46,7 @@ impl Transform for Submit {
     }
 
     fn apply(&self, work: &mut Tentative) -> Disposition {
-        match run_fixed(self, work) {
-            Progress::Made => Disposition::Finished,
-            Progress::NotEnabled | Progress::OutOfRange => Disposition::Retry,
-        }
+        finish_or_retry(self, work)
     }
 
     fn waits_for_news(&self) {}

@@ -10,7 +10,7 @@ ghost use Rattle.resource_lock.specs.declared.marks.MarkId.TheVariants as ids;
 ghost use Rattle.resource_lock.specs.declared.marks.Mark.TheVariants as marks;
 
 use crate::entries::{Closed, Kind};
-use crate::kinds::fixed::{FixedKind, Progress, run_fixed};
+use crate::kinds::fixed::{FixedKind, finish_or_retry};
 use crate::kinds::making::try_change;
 use crate::kinds::marks::mark_from;
 use crate::kinds::parking::unpark_lock;
@@ -53,10 +53,7 @@ impl Transform for Unblock {
     }
 
     fn apply(&self, work: &mut Tentative) -> Disposition {
-        match run_fixed(self, work) {
-            Progress::Made => Disposition::Finished,
-            Progress::NotEnabled | Progress::OutOfRange => Disposition::Retry,
-        }
+        finish_or_retry(self, work)
     }
 
     fn waits_for_news(&self) {}

@@ -1,13 +1,13 @@
-use Rattle.std.proofs.Common.{◌≡◌, map}
+use Rattle.std.proofs.Common.{true}
 use Rattle.coordination.specs.Shown.{ShowsTheSame}
-use Rattle.build_runner.specs.Kept.{Keeps}
-use Rattle.build_runner.specs.Sent.{HasSent, sent_view}
-use Rattle.build_runner.specs.Units.{unit_view}
+use Rattle.item_work.specs.Tallying.{ReservesForEach}
+use Rattle.build_runner.specs.Desks.{desk_view}
+use Rattle.build_runner.specs.Steps.{Steps}
 use Rattle.build_runner.proofs.parked.help_until_over.Given as goal
 
 abbrev pub invariant-loop : goal.invariant-loop
 invariant-loop g l =
-    (goal.iterator-loop g).can_next l.iterator' × (goal.iterator-loop g).is_finite l.iterator' × (l.pass.service ≡ l.initial.pass.service) × (g.D.Files.files l.desk ≡ g.D.Files.files l.initial.desk)
-    × Keeps (g.D.Files.files l.initial.desk) (map unit_view l.site.units.now) (g.D.Files.faults l.initial.desk) (g.D.Files.faults l.desk) l.initial.pass.sight l.pass.sight
+    (goal.iterator-loop g).can_next l.iterator' × (goal.iterator-loop g).is_finite l.iterator'
+    × Steps l.site (desk_view g.D.Files.files g.D.Files.faults g.D.Desk.sends g.D.Desk.sent) l.initial.desk l.desk l.initial.pass l.pass true
     × ShowsTheSame l.initial.pass.sight l.pass.sight
-    × HasSent (map unit_view l.site.units.now) (sent_view g.D.Desk.sends g.D.Desk.sent l.initial.desk) (sent_view g.D.Desk.sends g.D.Desk.sent l.desk) l.initial.pass.sight l.pass.sight
+    × ReservesForEach (g.D.Desk.sends l.initial.desk) (g.D.Desk.sends l.desk) l.initial.mine l.mine

@@ -1,9 +1,9 @@
-use Rattle.std.proofs.Common.{◌≡◌, Err, None, ap, map, refl, subst, ◌∙◌}
+use Rattle.std.proofs.Common.{◌≡◌, Err, None, ap, subst, true, ◌∙◌}
+use Rattle.std.specs.Prelude.{is_ok}
 use Rattle.worker_choices.specs.NextSteps.{first_open}
 use Rattle.async_tracker.proofs.lemmas.Resumed.{none_open_found}
-use Rattle.build_runner.proofs.Keeping.{finished_closes, keeps_still, keeps_then, of_ok, some_or_none, stopped_closes}
-use Rattle.build_runner.specs.Units.{unit_view}
-use Rattle.build_runner.proofs.Sending.{sent_nothing, sent_then}
+use Rattle.build_runner.proofs.Keeping.{finished_closes, of_ok, some_or_none, stopped_closes}
+use Rattle.build_runner.proofs.Stepping.{step_failed, step_still, step_then}
 use Rattle.build_runner.proofs.parked.wait_for_items.Goals as goal
 
 pub unreachable-requires : goal.unreachable-requires
@@ -15,16 +15,13 @@ unreachable-requires g c =
     let still = (c.resume.ensures.still_waiting c.in-Err-StillWaiting.field-0-0 c.in-Err-StillWaiting.field-0-1 (c.in-Err-StillWaiting.is ∙ ap Err c.in-Err-StillWaiting.field-0-is)).1 in
     some_or_none (first_open still.book.graph still.book.state c.args.parked.action) c.in-Err-StillWaiting.field-0-1 still.answer (none_open_found seen still.book c.args.parked.action (of_ok c.help_until_over.result c.in_ok-failed.failed was waited.sound) still.found over)
 
-pub returns-in-Ok-clause-keeps : goal.returns-in-Ok-clause-keeps
-returns-in-Ok-clause-keeps g c =
-    keeps_then _ _ _ _ _ c.help_until_over.ensures.keeps (keeps_still _ _ (g.D.Files.faults c.help_until_over.new.desk) (finished_closes (of_ok c.resume.result c.in-Ok.field-0 c.in-Ok.is c.resume.ensures.entry)))
+pub returns-in-Ok-clause-step : goal.returns-in-Ok-clause-step
+returns-in-Ok-clause-step g c =
+    let waited = c.help_until_over.ensures.step in
+    step_then waited (ap is_ok c.in_ok-failed.was) (step_still c.help_until_over.new.desk true waited.at c.resume.ensures.service (finished_closes (of_ok c.resume.result c.in-Ok.field-0 c.in-Ok.is c.resume.ensures.entry)))
 
-pub returns-in-Err-Stopped-clause-keeps : goal.returns-in-Err-Stopped-clause-keeps
-returns-in-Err-Stopped-clause-keeps g c =
+pub returns-in-Err-Stopped-clause-step : goal.returns-in-Err-Stopped-clause-step
+returns-in-Err-Stopped-clause-step g c =
+    let waited = c.help_until_over.ensures.step in
     let stopped = (c.resume.ensures.stopped c.in-Err-Stopped.field-0-0 c.in-Err-Stopped.by (c.in-Err-Stopped.is ∙ ap Err c.in-Err-Stopped.field-0-is)).1 in
-    keeps_then _ _ _ _ _ c.help_until_over.ensures.keeps (keeps_still _ _ (g.D.Files.faults c.help_until_over.new.desk) (stopped_closes stopped))
-
-pub returns-in-Ok-clause-sent : goal.returns-in-Ok-clause-sent
-returns-in-Ok-clause-sent g c =
-    let units = map unit_view c.args.site.now.units.now in
-    sent_then units (of_ok c.help_until_over.result c.in_ok-failed.failed c.in_ok-failed.was c.help_until_over.ensures.sent) (sent_nothing units (finished_closes (of_ok c.resume.result c.in-Ok.field-0 c.in-Ok.is c.resume.ensures.entry)) refl)
+    step_failed (step_then waited (ap is_ok c.in_ok-failed.was) (step_still c.help_until_over.new.desk true waited.at c.resume.ensures.service (stopped_closes stopped)))

@@ -14,16 +14,18 @@ use Rattle.plan_reader.specs.Graph.{graph_of}
 use Rattle.plan_reader.specs.IsPlan.{dependencies}
 use Rattle.plan_reader.specs.Units.{plan_units}
 use Rattle.history_laws.specs.Marks.{HasEnded}
+use Rattle.build_runner.specs.Desks.{known_by}
 use Rattle.build_runner.specs.Run.{depth}
-use Rattle.build_runner.proofs.AtTheEnd.{all_are_honest, all_ended, all_faults, all_rest, closings_in, has_results}
+use Rattle.build_runner.proofs.AtTheEnd.{all_are_honest, all_ended, all_faults, all_requests, all_rest, all_there, has_results}
 use Rattle.build_runner.proofs.Ranks.{afters_count, in_range, no_cycle, ranks_of, task_count}
 use Rattle.build_runner.proofs.runs.close_service.Goals as goal
 
 pub returns-clause-run : goal.returns-clause-run
-returns-clause-run c = λ known before after come.
+returns-clause-run c = λ before after come.
     let plan = c.args.plan.now in
     let options = c.args.options.now in
     let n = options.workers in
+    let known = known_by n before in
     let ps = c.args.opened.value.passes.items in
     let out = c.into_inner-service.ensures in
     let b = c.finish-book.result.value in
@@ -55,8 +57,20 @@ returns-clause-run c = λ known before after come.
           lawful ended given);
       workers = entries;
       faults = all_faults known units before after ps n b are agrees entries come;
+      requests = all_requests known units before after ps n b are agrees entries come;
     }
 
-pub returns-clause-closings : goal.returns-clause-closings
-returns-clause-closings c = closings_in c.args.opened.value.passes.items c.args.options.now.workers c.finish-book.result.value c.requires.workers
-    (subst (λ (o : Opened). All (λ p. Agrees p.sight.worker p.sight.seen c.finish-book.result.value) o.passes.items) c.into_inner-service.ensures c.finish-book.ensures.agrees)
+pub returns-clause-broken_off : goal.returns-clause-broken_off
+returns-clause-broken_off c = λ before after there.
+    let options = c.args.options.now in
+    let out = c.into_inner-service.ensures in
+    let b = c.finish-book.result.value in
+    let agrees = subst (λ (o : Opened). All (λ p. Agrees p.sight.worker p.sight.seen c.finish-book.result.value) o.passes.items) out c.finish-book.ensures.agrees in
+    let lawful : Lawful b.graph b.history = subst (λ (k : BookView). Lawful k.graph k.history) c.deref-2.ensures c.state.ensures.lawful in
+    let graph : b.graph ≡ graph_of c.args.plan.now options.workers options.max_leases options.parallel =
+    c.finish-book.ensures.graph ∙ (ap (λ (o : Opened). o.service.book.graph) out ∙ c.requires.graph) in
+    record {
+      history = b.history;
+      lawful = subst (λ (g : GraphView). Lawful g b.history) graph lawful;
+      requests = all_there (plan_units c.args.plan.now) before after c.args.opened.value.passes.items options.workers b c.requires.workers agrees there;
+    }

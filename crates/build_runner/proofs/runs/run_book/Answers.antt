@@ -1,23 +1,26 @@
-use Rattle.std.proofs.Common.{◌≡◌, ◌++◌, List, drop, get_or, length, map, ap, sym, ◌∙◌, subst, arith}
-use Rattle.std.specs.List.{All}
+use Rattle.std.proofs.Common.{◌≡◌, ◌++◌, List, Vec, ℕ, ◌<◌, drop, get_or, length, map, take, ap, sym, ◌∙◌, subst, arith}
+use Rattle.std.specs.Prelude.{sum_by}
+use Rattle.std.specs.declared.alloc.Global.{Global}
 use Rattle.resource_lock.specs.GraphView.{GraphView}
-use Rattle.history_laws.specs.ClosedBy.{closed_by}
-use Rattle.item_work.specs.Requests.{SentView}
+use Rattle.coordination.specs.Passes.{PassView}
 use Rattle.coordination.specs.Sights.{workers_from}
 use Rattle.coordination.specs.declared.services.Opened.{Opened}
 use Rattle.plan_reader.specs.PlanView.{PlanView}
-use Rattle.plan_reader.specs.Units.{PlannedUnit, plan_units}
+use Rattle.plan_reader.specs.Units.{PlannedUnit}
+use Rattle.build_runner.specs.Desks.{DeskView, desk_view, desks_view, known_by}
 use Rattle.build_runner.specs.Prepared.{IsOpenedOn, IsPrepared}
-use Rattle.build_runner.specs.Sent.{AreSentFor, sent_view}
-use Rattle.build_runner.specs.Units.{HasFileName, unit_view}
-use Rattle.build_runner.specs.Worked.{HasComeToTheEnd}
+use Rattle.build_runner.specs.Run.{WasBrokenOff}
+use Rattle.build_runner.specs.Site.{SiteView}
+use Rattle.build_runner.specs.Units.{unit_view}
+use Rattle.build_runner.specs.Worked.{HasComeToTheEnd, WasThere}
 use Rattle.build_runner.specs.declared.options.RunOptions.{RunOptions}
 use Rattle.build_runner.specs.declared.prepared.Prepared.{Prepared}
 use Rattle.build_runner.specs.declared.units.UnitWork.{UnitWork}
-use Rattle.build_runner.proofs.Fetched.{fetches_of}
-use Rattle.build_runner.proofs.FileNames.{file_names}
-use Rattle.build_runner.proofs.Joined.{all_come, all_counts, all_files, left_numbers, left_service}
-use Rattle.build_runner.proofs.Requested.{all_requests}
+use Rattle.build_runner.proofs.Joined.{all_come, all_counts, all_files, all_were_there, left_numbers, left_service}
+use Rattle.build_runner.proofs.Keeping.{at_err}
+use Rattle.build_runner.proofs.PlannedUnits.{units_of_graph}
+use Rattle.build_runner.proofs.Tallied.{with_the_rest}
+use Rattle.build_runner.proofs.lemmas.Within.{nothing_done}
 use Rattle.build_runner.proofs.runs.run_book.Goals as goal
 
 -- as many passes as workers, with their numbers
@@ -36,16 +39,12 @@ run_team-ended-requires-clause-same g c κs within =
     let count = pass_count start begun opened in
     omega (arith, size, count, begun.passes.ok.0)
 
-pub run_team-ended-requires-clause-named : goal.run_team-ended-requires-clause-named
-run_team-ended-requires-clause-named g c κs within =
-    let named = file_names c.args.plan.now c.in_ok-graph.field-0.units.items c.tasks.ensures.plan c.in_ok-graph.ensures.units in
-    subst (λ (us : List UnitWork). All (λ u. HasFileName (unit_view u)) us) (sym c.deref.ensures.value) named
-
-pub run_team-ended-requires-clause-fetches : goal.run_team-ended-requires-clause-fetches
-run_team-ended-requires-clause-fetches g c κs within =
+pub invariant_of-site : goal.invariant_of-site
+invariant_of-site g c =
     let options = c.args.options.now in
     let start = c.in_ok-graph.ensures in
-    fetches_of c.args.plan.now options.workers options.max_leases options.parallel c.in_ok-graph.field-0.graph (map unit_view c.deref.result.now) start.graph (ap (λ (us : List UnitWork). map unit_view us) c.deref.ensures.value ∙ start.units)
+    units_of_graph c.args.plan.now options.workers options.max_leases options.parallel c.in_ok-graph.field-0.graph (map unit_view c.deref.result.now) c.tasks.ensures.plan c.tasks-2.ensures.fits start.graph
+    (ap (λ (us : List UnitWork). map unit_view us) c.deref.ensures.value ∙ start.units)
 
 pub close_service-book-requires-clause-graph : goal.close_service-book-requires-clause-graph
 close_service-book-requires-clause-graph g c =
@@ -57,146 +56,190 @@ close_service-book-requires-clause-service g c =
     let D : Type 0 = g.row.D.Denot in
     let n = c.args.options.now.workers in
     let old : List D = c.args.desks.now.items in
-    let mine : List D = c.split_off.new.self.items in
     let worked : List D = c.run_team-ended.new.desks.items in
     let start = c.in_ok-graph.ensures in
     let team = c.run_team-ended.ensures in
     let begun = c.deref_mut-parts.result.now in
     let opened = subst (IsOpenedOn c.in_ok-graph.field-0.graph) (sym c.deref_mut-parts.ensures.value) start.opened in
-    let units = c.deref.result.now in
+    let site : SiteView = record { service = begun.service; graph = c.in_ok-graph.field-0.graph; units = map unit_view c.deref.result.now } in
+    let view : D → DeskView = desk_view g.D.Files.files g.D.Files.faults g.D.Desk.sends g.D.Desk.sent in
     let size : c.split_off.new.self.len ≡ n = c.in_ok-rest.ensures.len in
-    left_service g.D.Files.files g.D.Files.faults (map unit_view units) n c.run_team-ended.result old mine worked begun.passes.items c.run_team-ended.new.passes.items
-    c.requires.enough c.in_ok-rest.ensures.items (pass_count start begun opened) (team.desks ∙ size) (team.passes ∙ size) (λ i p d low. team.worked i p d (omega (arith, size, low)))
-    begun.service c.in_ok-graph.field-0.graph opened.ready
+    let count = pass_count start begun opened in
+    left_service view site n c.run_team-ended.result old c.split_off.new.self.items worked begun.passes.items c.run_team-ended.new.passes.items
+    c.requires.enough c.in_ok-rest.ensures.items count (team.desks ∙ size) (team.passes ∙ size) (λ i p d low. team.worked i p d (omega (arith, size, low)))
 
 pub close_service-book-requires-clause-workers : goal.close_service-book-requires-clause-workers
 close_service-book-requires-clause-workers g c =
     let D : Type 0 = g.row.D.Denot in
     let n = c.args.options.now.workers in
     let old : List D = c.args.desks.now.items in
-    let mine : List D = c.split_off.new.self.items in
     let worked : List D = c.run_team-ended.new.desks.items in
     let start = c.in_ok-graph.ensures in
     let team = c.run_team-ended.ensures in
     let begun = c.deref_mut-parts.result.now in
     let opened = subst (IsOpenedOn c.in_ok-graph.field-0.graph) (sym c.deref_mut-parts.ensures.value) start.opened in
-    let units = c.deref.result.now in
+    let site : SiteView = record { service = begun.service; graph = c.in_ok-graph.field-0.graph; units = map unit_view c.deref.result.now } in
+    let view : D → DeskView = desk_view g.D.Files.files g.D.Files.faults g.D.Desk.sends g.D.Desk.sent in
     let size : c.split_off.new.self.len ≡ n = c.in_ok-rest.ensures.len in
-    left_numbers g.D.Files.files g.D.Files.faults (map unit_view units) n c.run_team-ended.result old mine worked begun.passes.items c.run_team-ended.new.passes.items
-    c.requires.enough c.in_ok-rest.ensures.items (pass_count start begun opened) (team.desks ∙ size) (team.passes ∙ size) (λ i p d low. team.worked i p d (omega (arith, size, low)))
-    (pass_numbers start begun opened)
+    let count = pass_count start begun opened in
+    left_numbers view site n c.run_team-ended.result old c.split_off.new.self.items worked begun.passes.items c.run_team-ended.new.passes.items
+    c.requires.enough c.in_ok-rest.ensures.items count (team.desks ∙ size) (team.passes ∙ size) (λ i p d low. team.worked i p d (omega (arith, size, low))) (pass_numbers start begun opened)
 
 pub returns-then-ended-clause-files : goal.returns-then-ended-clause-files
 returns-then-ended-clause-files g c =
     let D : Type 0 = g.row.D.Denot in
     let n = c.args.options.now.workers in
     let old : List D = c.args.desks.now.items in
-    let mine : List D = c.split_off.new.self.items in
     let worked : List D = c.run_team-ended.new.desks.items in
     let start = c.in_ok-graph.ensures in
     let team = c.run_team-ended.ensures in
     let begun = c.deref_mut-parts.result.now in
     let opened = subst (IsOpenedOn c.in_ok-graph.field-0.graph) (sym c.deref_mut-parts.ensures.value) start.opened in
-    let units = c.deref.result.now in
+    let site : SiteView = record { service = begun.service; graph = c.in_ok-graph.field-0.graph; units = map unit_view c.deref.result.now } in
+    let view : D → DeskView = desk_view g.D.Files.files g.D.Files.faults g.D.Desk.sends g.D.Desk.sent in
     let size : c.split_off.new.self.len ≡ n = c.in_ok-rest.ensures.len in
-    let back : c.put_behind.new.desks.items ≡ worked ++ drop n old = c.put_behind.ensures ∙ ap (λ (l : List D). worked ++ l) c.in_ok-rest.ensures.tail in
-    all_files g.D.Files.files g.D.Files.faults (map unit_view units) n c.run_team-ended.result old mine worked begun.passes.items c.run_team-ended.new.passes.items
-    c.requires.enough c.in_ok-rest.ensures.items (pass_count start begun opened) (team.desks ∙ size) (team.passes ∙ size) (λ i p d low. team.worked i p d (omega (arith, size, low)))
-    c.put_behind.new.desks.items back team.files
+    let count = pass_count start begun opened in
+    let new : List D = c.put_behind.new.desks.items in
+    let back : new ≡ worked ++ drop n old = c.put_behind.ensures ∙ ap (λ (l : List D). worked ++ l) c.in_ok-rest.ensures.tail in
+    all_files view site n c.run_team-ended.result old c.split_off.new.self.items worked begun.passes.items c.run_team-ended.new.passes.items
+    c.requires.enough c.in_ok-rest.ensures.items count (team.desks ∙ size) (team.passes ∙ size) (λ i p d low. team.worked i p d (omega (arith, size, low))) new back
 
 pub returns-then-ended-clause-counts : goal.returns-then-ended-clause-counts
 returns-then-ended-clause-counts g c =
     let D : Type 0 = g.row.D.Denot in
     let n = c.args.options.now.workers in
     let old : List D = c.args.desks.now.items in
-    let mine : List D = c.split_off.new.self.items in
     let worked : List D = c.run_team-ended.new.desks.items in
     let start = c.in_ok-graph.ensures in
     let team = c.run_team-ended.ensures in
     let begun = c.deref_mut-parts.result.now in
     let opened = subst (IsOpenedOn c.in_ok-graph.field-0.graph) (sym c.deref_mut-parts.ensures.value) start.opened in
-    let units = c.deref.result.now in
+    let site : SiteView = record { service = begun.service; graph = c.in_ok-graph.field-0.graph; units = map unit_view c.deref.result.now } in
+    let view : D → DeskView = desk_view g.D.Files.files g.D.Files.faults g.D.Desk.sends g.D.Desk.sent in
     let size : c.split_off.new.self.len ≡ n = c.in_ok-rest.ensures.len in
-    let back : c.put_behind.new.desks.items ≡ worked ++ drop n old = c.put_behind.ensures ∙ ap (λ (l : List D). worked ++ l) c.in_ok-rest.ensures.tail in
-    all_counts g.D.Files.files g.D.Files.faults (map unit_view units) n c.run_team-ended.result old mine worked begun.passes.items c.run_team-ended.new.passes.items
-    c.requires.enough c.in_ok-rest.ensures.items (pass_count start begun opened) (team.desks ∙ size) (team.passes ∙ size) (λ i p d low. team.worked i p d (omega (arith, size, low)))
-    c.put_behind.new.desks.items back
+    let count = pass_count start begun opened in
+    let new : List D = c.put_behind.new.desks.items in
+    let back : new ≡ worked ++ drop n old = c.put_behind.ensures ∙ ap (λ (l : List D). worked ++ l) c.in_ok-rest.ensures.tail in
+    all_counts view site n c.run_team-ended.result old c.split_off.new.self.items worked begun.passes.items c.run_team-ended.new.passes.items
+    c.requires.enough c.in_ok-rest.ensures.items count (team.desks ∙ size) (team.passes ∙ size) (λ i p d low. team.worked i p d (omega (arith, size, low))) new back
 
 pub returns-clause-files : goal.returns-clause-files
 returns-clause-files g c =
     let D : Type 0 = g.row.D.Denot in
     let n = c.args.options.now.workers in
     let old : List D = c.args.desks.now.items in
-    let mine : List D = c.split_off.new.self.items in
     let worked : List D = c.run_team-ended.new.desks.items in
     let start = c.in_ok-graph.ensures in
     let team = c.run_team-ended.ensures in
     let begun = c.deref_mut-parts.result.now in
     let opened = subst (IsOpenedOn c.in_ok-graph.field-0.graph) (sym c.deref_mut-parts.ensures.value) start.opened in
-    let units = c.deref.result.now in
+    let site : SiteView = record { service = begun.service; graph = c.in_ok-graph.field-0.graph; units = map unit_view c.deref.result.now } in
+    let view : D → DeskView = desk_view g.D.Files.files g.D.Files.faults g.D.Desk.sends g.D.Desk.sent in
     let size : c.split_off.new.self.len ≡ n = c.in_ok-rest.ensures.len in
-    let back : c.put_behind.new.desks.items ≡ worked ++ drop n old = c.put_behind.ensures ∙ ap (λ (l : List D). worked ++ l) c.in_ok-rest.ensures.tail in
-    all_files g.D.Files.files g.D.Files.faults (map unit_view units) n c.run_team-ended.result old mine worked begun.passes.items c.run_team-ended.new.passes.items
-    c.requires.enough c.in_ok-rest.ensures.items (pass_count start begun opened) (team.desks ∙ size) (team.passes ∙ size) (λ i p d low. team.worked i p d (omega (arith, size, low)))
-    c.put_behind.new.desks.items back team.files
+    let count = pass_count start begun opened in
+    let new : List D = c.put_behind.new.desks.items in
+    let back : new ≡ worked ++ drop n old = c.put_behind.ensures ∙ ap (λ (l : List D). worked ++ l) c.in_ok-rest.ensures.tail in
+    all_files view site n c.run_team-ended.result old c.split_off.new.self.items worked begun.passes.items c.run_team-ended.new.passes.items
+    c.requires.enough c.in_ok-rest.ensures.items count (team.desks ∙ size) (team.passes ∙ size) (λ i p d low. team.worked i p d (omega (arith, size, low))) new back
 
 pub returns-clause-counts : goal.returns-clause-counts
 returns-clause-counts g c =
     let D : Type 0 = g.row.D.Denot in
     let n = c.args.options.now.workers in
     let old : List D = c.args.desks.now.items in
-    let mine : List D = c.split_off.new.self.items in
     let worked : List D = c.run_team-ended.new.desks.items in
     let start = c.in_ok-graph.ensures in
     let team = c.run_team-ended.ensures in
     let begun = c.deref_mut-parts.result.now in
     let opened = subst (IsOpenedOn c.in_ok-graph.field-0.graph) (sym c.deref_mut-parts.ensures.value) start.opened in
-    let units = c.deref.result.now in
+    let site : SiteView = record { service = begun.service; graph = c.in_ok-graph.field-0.graph; units = map unit_view c.deref.result.now } in
+    let view : D → DeskView = desk_view g.D.Files.files g.D.Files.faults g.D.Desk.sends g.D.Desk.sent in
     let size : c.split_off.new.self.len ≡ n = c.in_ok-rest.ensures.len in
-    let back : c.put_behind.new.desks.items ≡ worked ++ drop n old = c.put_behind.ensures ∙ ap (λ (l : List D). worked ++ l) c.in_ok-rest.ensures.tail in
-    all_counts g.D.Files.files g.D.Files.faults (map unit_view units) n c.run_team-ended.result old mine worked begun.passes.items c.run_team-ended.new.passes.items
-    c.requires.enough c.in_ok-rest.ensures.items (pass_count start begun opened) (team.desks ∙ size) (team.passes ∙ size) (λ i p d low. team.worked i p d (omega (arith, size, low)))
-    c.put_behind.new.desks.items back
+    let count = pass_count start begun opened in
+    let new : List D = c.put_behind.new.desks.items in
+    let back : new ≡ worked ++ drop n old = c.put_behind.ensures ∙ ap (λ (l : List D). worked ++ l) c.in_ok-rest.ensures.tail in
+    all_counts view site n c.run_team-ended.result old c.split_off.new.self.items worked begun.passes.items c.run_team-ended.new.passes.items
+    c.requires.enough c.in_ok-rest.ensures.items count (team.desks ∙ size) (team.passes ∙ size) (λ i p d low. team.worked i p d (omega (arith, size, low))) new back
 
 pub returns-then-ended-clause-run : goal.returns-then-ended-clause-run
 returns-then-ended-clause-run g c =
     let D : Type 0 = g.row.D.Denot in
     let n = c.args.options.now.workers in
     let old : List D = c.args.desks.now.items in
-    let mine : List D = c.split_off.new.self.items in
     let worked : List D = c.run_team-ended.new.desks.items in
     let start = c.in_ok-graph.ensures in
     let team = c.run_team-ended.ensures in
     let begun = c.deref_mut-parts.result.now in
     let opened = subst (IsOpenedOn c.in_ok-graph.field-0.graph) (sym c.deref_mut-parts.ensures.value) start.opened in
-    let units = c.deref.result.now in
+    let site : SiteView = record { service = begun.service; graph = c.in_ok-graph.field-0.graph; units = map unit_view c.deref.result.now } in
+    let view : D → DeskView = desk_view g.D.Files.files g.D.Files.faults g.D.Desk.sends g.D.Desk.sent in
     let size : c.split_off.new.self.len ≡ n = c.in_ok-rest.ensures.len in
-    let back : c.put_behind.new.desks.items ≡ worked ++ drop n old = c.put_behind.ensures ∙ ap (λ (l : List D). worked ++ l) c.in_ok-rest.ensures.tail in
+    let count = pass_count start begun opened in
     let new : List D = c.put_behind.new.desks.items in
-    let left = c.run_team-ended.new.passes.items in
-    λ d. c.close_service-book.ensures.run (g.D.Files.files (get_or old 0 d)) (λ i. g.D.Files.faults (get_or old i d)) (λ i. g.D.Files.faults (get_or new i d)) (λ i p low.
-    subst (λ (us : List PlannedUnit). HasComeToTheEnd (g.D.Files.files (get_or old 0 d)) us (g.D.Files.faults (get_or old i d)) (g.D.Files.faults (get_or new i d)) (get_or left i p)) (ap (λ (us : List UnitWork). map unit_view us) c.deref.ensures.value ∙ start.units)
-    (all_come g.D.Files.files g.D.Files.faults (map unit_view units) n c.run_team-ended.result old mine worked begun.passes.items c.run_team-ended.new.passes.items
-    c.requires.enough c.in_ok-rest.ensures.items (pass_count start begun opened) (team.desks ∙ size) (team.passes ∙ size) (λ i p d low. team.worked i p d (omega (arith, size, low)))
-    new back c.requires.alike c.if-ended.true opened.untouched d i p low))
+    let back : new ≡ worked ++ drop n old = c.put_behind.ensures ∙ ap (λ (l : List D). worked ++ l) c.in_ok-rest.ensures.tail in
+    let units = ap (λ (us : List UnitWork). map unit_view us) c.deref.ensures.value ∙ start.units in
+    λ d. c.close_service-book.ensures.run (desks_view view old d) (desks_view view new d)
+    (subst (λ (us : List PlannedUnit). (i : ℕ) (p : PassView) → i < n
+    → HasComeToTheEnd (known_by n (desks_view view old d)) us (view (get_or old i d)) (view (get_or new i d)) (get_or c.run_team-ended.new.passes.items i p)) units
+    (all_come view site n c.run_team-ended.result old c.split_off.new.self.items worked begun.passes.items c.run_team-ended.new.passes.items
+    c.requires.enough c.in_ok-rest.ensures.items count (team.desks ∙ size) (team.passes ∙ size) (λ i p d low. team.worked i p d (omega (arith, size, low)))
+    new back opened.untouched d (c.requires.alike d) c.if-ended.true))
 
-pub returns-then-ended-clause-requests : goal.returns-then-ended-clause-requests
-returns-then-ended-clause-requests g c = λ i d low.
+pub returns-clause-broken_off : goal.returns-clause-broken_off
+returns-clause-broken_off g c =
+    let D : Type 0 = g.row.D.Denot in
+    let n = c.args.options.now.workers in
+    let old : List D = c.args.desks.now.items in
+    let worked : List D = c.run_team-ended.new.desks.items in
+    let start = c.in_ok-graph.ensures in
+    let team = c.run_team-ended.ensures in
+    let begun = c.deref_mut-parts.result.now in
+    let opened = subst (IsOpenedOn c.in_ok-graph.field-0.graph) (sym c.deref_mut-parts.ensures.value) start.opened in
+    let site : SiteView = record { service = begun.service; graph = c.in_ok-graph.field-0.graph; units = map unit_view c.deref.result.now } in
+    let view : D → DeskView = desk_view g.D.Files.files g.D.Files.faults g.D.Desk.sends g.D.Desk.sent in
+    let size : c.split_off.new.self.len ≡ n = c.in_ok-rest.ensures.len in
+    let count = pass_count start begun opened in
+    let new : List D = c.put_behind.new.desks.items in
+    let back : new ≡ worked ++ drop n old = c.put_behind.ensures ∙ ap (λ (l : List D). worked ++ l) c.in_ok-rest.ensures.tail in
+    let units = ap (λ (us : List UnitWork). map unit_view us) c.deref.ensures.value ∙ start.units in
+    λ d. c.close_service-book.ensures.broken_off (desks_view view old d) (desks_view view new d)
+    (subst (λ (us : List PlannedUnit). (i : ℕ) (p : PassView) → i < n
+    → WasThere us (view (get_or old i d)) (view (get_or new i d)) (get_or c.run_team-ended.new.passes.items i p)) units
+    (all_were_there view site n c.run_team-ended.result old c.split_off.new.self.items worked begun.passes.items c.run_team-ended.new.passes.items
+    c.requires.enough c.in_ok-rest.ensures.items count (team.desks ∙ size) (team.passes ∙ size) (λ i p d low. team.worked i p d (omega (arith, size, low)))
+    new back opened.untouched d))
+
+pub returns-in_err-graph-clause-broken_off : goal.returns-in_err-graph-clause-broken_off
+returns-in_err-graph-clause-broken_off g c = λ d. at_err _ (nothing_done c.args.plan.now c.args.options.now (desks_view (desk_view g.D.Files.files g.D.Files.faults g.D.Desk.sends g.D.Desk.sent) c.args.desks.now.items d))
+
+pub returns-in_err-room-clause-broken_off : goal.returns-in_err-room-clause-broken_off
+returns-in_err-room-clause-broken_off g c = λ d. at_err _ (nothing_done c.args.plan.now c.args.options.now (desks_view (desk_view g.D.Files.files g.D.Files.faults g.D.Desk.sends g.D.Desk.sent) c.args.desks.now.items d))
+
+pub returns-in_err-rest-clause-broken_off : goal.returns-in_err-rest-clause-broken_off
+returns-in_err-rest-clause-broken_off g c = λ d.
+    let D : Type 0 = g.row.D.Denot in
+    let view : D → DeskView = desk_view g.D.Files.files g.D.Files.faults g.D.Desk.sends g.D.Desk.sent in
+    let before = desks_view view c.args.desks.now.items d in
+    at_err _ (subst (λ (v : Vec D Global). WasBrokenOff c.args.plan.now c.args.options.now before (desks_view view v.items d)) (sym c.in_err-rest.ensures.err) (nothing_done c.args.plan.now c.args.options.now before))
+
+pub returns-then-ended-clause-reserved : goal.returns-then-ended-clause-reserved
+returns-then-ended-clause-reserved g c =
     let D : Type 0 = g.row.D.Denot in
     let n = c.args.options.now.workers in
     let old : List D = c.args.desks.now.items in
     let mine : List D = c.split_off.new.self.items in
     let worked : List D = c.run_team-ended.new.desks.items in
-    let start = c.in_ok-graph.ensures in
-    let team = c.run_team-ended.ensures in
-    let begun = c.deref_mut-parts.result.now in
-    let opened = subst (IsOpenedOn c.in_ok-graph.field-0.graph) (sym c.deref_mut-parts.ensures.value) start.opened in
-    let units = c.deref.result.now in
-    let size : c.split_off.new.self.len ≡ n = c.in_ok-rest.ensures.len in
     let back : c.put_behind.new.desks.items ≡ worked ++ drop n old = c.put_behind.ensures ∙ ap (λ (l : List D). worked ++ l) c.in_ok-rest.ensures.tail in
-    let new : List D = c.put_behind.new.desks.items in
-    let view : D → SentView = λ d. sent_view g.D.Desk.sends g.D.Desk.sent d in
-    let b = c.close_service-book.result.value in
-    subst (λ (us : List PlannedUnit). AreSentFor us (closed_by (record { 0 = i }) b.history) (view (get_or old i d)) (view (get_or new i d))) (ap (λ (us : List UnitWork). map unit_view us) c.deref.ensures.value ∙ start.units)
-    (all_requests view (map unit_view units) n old mine worked new begun.passes.items c.run_team-ended.new.passes.items b
-    c.in_ok-rest.ensures.items (pass_count start begun opened) (team.desks ∙ size) back opened.untouched c.close_service-book.ensures.closings (λ i p d low. team.sent i p d (omega (arith, size, low)) c.if-ended.true) i d low)
+    let firsts : sum_by g.D.Desk.sends mine ≡ sum_by g.D.Desk.sends (take n old) = ap (sum_by g.D.Desk.sends) c.in_ok-rest.ensures.items in
+    with_the_rest g.D.Desk.sends n old worked c.put_behind.new.desks.items back c.args.tallies.now.reserved c.run_team-ended.new.tallies.reserved (omega (arith, firsts, c.run_team-ended.ensures.reserved))
+
+pub returns-clause-reserved : goal.returns-clause-reserved
+returns-clause-reserved g c =
+    let D : Type 0 = g.row.D.Denot in
+    let n = c.args.options.now.workers in
+    let old : List D = c.args.desks.now.items in
+    let mine : List D = c.split_off.new.self.items in
+    let worked : List D = c.run_team-ended.new.desks.items in
+    let back : c.put_behind.new.desks.items ≡ worked ++ drop n old = c.put_behind.ensures ∙ ap (λ (l : List D). worked ++ l) c.in_ok-rest.ensures.tail in
+    let firsts : sum_by g.D.Desk.sends mine ≡ sum_by g.D.Desk.sends (take n old) = ap (sum_by g.D.Desk.sends) c.in_ok-rest.ensures.items in
+    with_the_rest g.D.Desk.sends n old worked c.put_behind.new.desks.items back c.args.tallies.now.reserved c.run_team-ended.new.tallies.reserved (omega (arith, firsts, c.run_team-ended.ensures.reserved))

@@ -1,4 +1,5 @@
-use Rattle.std.proofs.Common.{◌≡◌, ℕ, ap, map, subst, sym, ◌∙◌}
+use Rattle.std.proofs.Common.{◌≡◌, ℕ, ap, refl, subst, sym, true, ◌∙◌}
+use Rattle.std.specs.Prelude.{is_ok}
 use Rattle.resource_lock.specs.Fits.{Fits}
 use Rattle.resource_lock.specs.GraphView.{GraphView, action_of, task_of}
 use Rattle.resource_lock.specs.Ranges.{IsActionOf, lock_with}
@@ -8,8 +9,7 @@ use Rattle.async_tracker.specs.Shows.{ShowsParked, ShowsResumed}
 use Rattle.build_runner.specs.Points.{IsInTask, RunsTask}
 use Rattle.build_runner.proofs.Keeping.{if_ok, of_ok}
 use Rattle.build_runner.proofs.Points.{ok_is, own_task, resumed, with_lease}
-use Rattle.build_runner.specs.Units.{unit_view}
-use Rattle.build_runner.proofs.Sending.{sent_next}
+use Rattle.build_runner.proofs.Stepping.{step_err, step_still, step_then, step_weaker}
 use Rattle.build_runner.proofs.tasks.run_action.Goals as goal
 
 -- the worker after its fetch, parked, and after it resumed
@@ -21,7 +21,7 @@ came_back {old} {mid} {new} g t a b fits own graph is runs parked went_on =
 pub returns-then-not-failed-clause-in_task : goal.returns-then-not-failed-clause-in_task
 returns-then-not-failed-clause-in_task g c =
     let q = c.queue_items.ensures in
-    came_back c.args.site.now.graph.now c.args.task c.args.action c.in_ok-parked.parked.action q.fits c.requires.action (c.fetch_first.ensures.keeps.graph ∙ c.requires.graph)
+    came_back c.args.site.now.graph c.args.task c.args.action c.in_ok-parked.parked.action q.fits c.requires.action c.fetch_first.ensures.step.at.graph
     (if_ok (λ (p : ParkedView). p.action ≡ c.args.action) c.queue_items.result c.in_ok-parked.parked c.in_ok-parked.was q.action)
     (of_ok c.fetch_first.result c.in_ok-fetch_first.field-0 c.in_ok-fetch_first.was c.fetch_first.ensures.runs)
     (of_ok c.queue_items.result c.in_ok-parked.parked c.in_ok-parked.was q.shows)
@@ -33,18 +33,26 @@ returns-then-not-failed-clause-goes_on g c = λ is. with_lease (returns-then-not
 pub returns-else-not-failed-clause-in_task : goal.returns-else-not-failed-clause-in_task
 returns-else-not-failed-clause-in_task g c =
     let q = c.queue_items.ensures in
-    came_back c.args.site.now.graph.now c.args.task c.args.action c.in_ok-parked.parked.action q.fits c.requires.action (c.fetch_first.ensures.keeps.graph ∙ c.requires.graph)
+    came_back c.args.site.now.graph c.args.task c.args.action c.in_ok-parked.parked.action q.fits c.requires.action c.fetch_first.ensures.step.at.graph
     (if_ok (λ (p : ParkedView). p.action ≡ c.args.action) c.queue_items.result c.in_ok-parked.parked c.in_ok-parked.was q.action)
     (of_ok c.fetch_first.result c.in_ok-fetch_first.field-0 c.in_ok-fetch_first.was c.fetch_first.ensures.runs)
     (of_ok c.queue_items.result c.in_ok-parked.parked c.in_ok-parked.was q.shows)
     (of_ok c.wait_for_items.result c.in_ok-failed.failed c.in_ok-failed.was c.wait_for_items.ensures.shows)
 
-pub returns-then-not-failed-clause-sent : goal.returns-then-not-failed-clause-sent
-returns-then-not-failed-clause-sent g c =
-    sent_next (map unit_view c.args.site.now.units.now) (of_ok c.fetch_first.result c.in_ok-fetch_first.field-0 c.in_ok-fetch_first.was c.fetch_first.ensures.sent) c.queue_items.ensures.closed
-    (of_ok c.wait_for_items.result c.in_ok-failed.failed c.in_ok-failed.was c.wait_for_items.ensures.sent)
+pub returns-then-not-failed-clause-step : goal.returns-then-not-failed-clause-step
+returns-then-not-failed-clause-step g c =
+    let first = c.fetch_first.ensures.step in
+    let queued = step_still c.fetch_first.new.desk true first.at c.queue_items.ensures.service c.queue_items.ensures.closed in
+    step_then (step_then first (ap is_ok c.in_ok-fetch_first.was) queued) refl (step_weaker (λ _. ap is_ok c.in_ok-failed.was) c.wait_for_items.ensures.step)
 
-pub returns-else-not-failed-clause-sent : goal.returns-else-not-failed-clause-sent
-returns-else-not-failed-clause-sent g c =
-    sent_next (map unit_view c.args.site.now.units.now) (of_ok c.fetch_first.result c.in_ok-fetch_first.field-0 c.in_ok-fetch_first.was c.fetch_first.ensures.sent) c.queue_items.ensures.closed
-    (of_ok c.wait_for_items.result c.in_ok-failed.failed c.in_ok-failed.was c.wait_for_items.ensures.sent)
+pub returns-else-not-failed-clause-step : goal.returns-else-not-failed-clause-step
+returns-else-not-failed-clause-step g c =
+    let first = c.fetch_first.ensures.step in
+    let queued = step_still c.fetch_first.new.desk true first.at c.queue_items.ensures.service c.queue_items.ensures.closed in
+    step_then (step_then first (ap is_ok c.in_ok-fetch_first.was) queued) refl (step_weaker (λ _. ap is_ok c.in_ok-failed.was) c.wait_for_items.ensures.step)
+
+pub returns-in_err-failed-clause-step : goal.returns-in_err-failed-clause-step
+returns-in_err-failed-clause-step g c =
+    let first = c.fetch_first.ensures.step in
+    let queued = step_still c.fetch_first.new.desk true first.at c.queue_items.ensures.service c.queue_items.ensures.closed in
+    step_err c.from_residual-in_err-failed.result c.from_residual-in_err-failed.ensures.0 (step_then (step_then first (ap is_ok c.in_ok-fetch_first.was) queued) refl c.wait_for_items.ensures.step)

@@ -1,4 +1,5 @@
-use Rattle.std.proofs.Common.{◌≡◌, ◌++◌, ◌≤◌, ◌+◌, map, vec_len, vec_capacity}
+use Rattle.std.proofs.Common.{◌≡◌, ◌++◌, ◌≤◌, ◌+◌, length, map, vec_len, vec_capacity}
+use Rattle.std.specs.Prelude.{sum_by}
 use Rattle.std.specs.Vec.Iter.{into_iter_items, into_iter_len}
 use Rattle.build_runner.proofs.team.part.Given as goal
 
@@ -10,3 +11,5 @@ invariant-loop-worker g l =
     × (vec_len l.passes + into_iter_len l.worker-iterator ≤ vec_capacity l.passes)
     × (vec_len l.desks + into_iter_len l.worker-iterator ≤ vec_capacity l.desks)
     × (vec_capacity l.desks ≡ vec_capacity l.initial.desks)
+    × (l.tallies.parts ≡ l.initial.tallies.parts + length l.yielded)
+    × (l.tallies.reserved ≡ l.initial.tallies.reserved + sum_by (λ w. w.tally.reserved) l.yielded)

@@ -1,4 +1,5 @@
-use Rattle.std.proofs.Common.{◌≡◌, ◌++◌, ◌≤◌, ◌+◌, map, vec_len, vec_capacity}
+use Rattle.std.proofs.Common.{◌≡◌, ◌++◌, ◌≤◌, ◌+◌, ◌<◌, length, map, vec_len, vec_capacity}
+use Rattle.std.specs.Prelude.{sum_by}
 use Rattle.std.specs.Vec.Iter.{into_iter_items, into_iter_len}
 use Rattle.build_runner.proofs.team.seat.Given as goal
 
@@ -9,3 +10,6 @@ invariant-loop-pass g l =
     × (map (λ w. w.pass) l.team.items ≡ l.yielded)
     × (into_iter_len l.rest ≡ into_iter_len l.pass-iterator)
     × (vec_len l.team + into_iter_len l.pass-iterator ≤ vec_capacity l.team)
+    × (l.tallies.parts + length l.yielded ≡ l.initial.tallies.parts)
+    × (length l.yielded + into_iter_len l.pass-iterator < l.initial.tallies.parts)
+    × (sum_by (λ w. w.tally.reserved) l.team.items + l.tallies.reserved ≡ l.initial.tallies.reserved)

@@ -1,17 +1,19 @@
-use Rattle.std.proofs.Common.{List, ℕ, Bool, subst}
+use Rattle.std.proofs.Common.{List, ℕ, Bool, refl, subst}
 use Rattle.resource_lock.specs.Fits.{Fits}
 use Rattle.lock_journal.specs.BookView.{BookView}
+use Rattle.build_runner.specs.Desks.{known_by}
 use Rattle.leases_cli.specs.Answered.{have_all_passed, options_of, run_text}
 use Rattle.leases_cli.specs.Reported.{IsReported}
 use Rattle.leases_cli.proofs.Reports.{tasks_in_graph, same_pass, same_text}
 use Rattle.leases_cli.proofs.top.report_run.Goals as goal
 
 pub report-requires-clause-tasks : goal.report-requires-clause-tasks
-report-requires-clause-tasks g c = tasks_in_graph c.args.plan.now (options_of c.args.asked.now) c.requires.run.0 c.requires.run.1 c.requires.run.2 c.args.end.book.value c.requires.run.3
+report-requires-clause-tasks g c = tasks_in_graph c.args.plan.now (options_of c.args.asked.now) c.requires.run.0 c.requires.run.1 c.args.end.book.value c.requires.run.2
 
 pub returns-clause-status : goal.returns-clause-status
-returns-clause-status g c = λ known before after run.
+returns-clause-status g c = λ before after run.
     let asked = c.args.asked.now in
+    let known = known_by asked.threads before in
     let plan = c.args.plan.now in
     let b = c.args.end.book.value in
     let events = c.report.result.events.items in
@@ -19,7 +21,7 @@ returns-clause-status g c = λ known before after run.
     let new = g.O.Sink.seen c.report.new.out in
     let status = c.report.result.status in
     let laws = c.results_go_by_number.ensures in
-    subst (λ (passed : Bool). IsReported passed old new (run_text asked plan known b events) status) (same_pass plan (options_of asked) known before after b run)
+    subst (λ (passed : Bool). IsReported passed old new (run_text asked plan known b events) status) (same_pass plan (options_of asked) before after b run known refl)
     (subst (λ (text : List ℕ). IsReported (have_all_passed b) old new text status)
-    (same_text plan (options_of asked) known before after b run asked events c.outcomes_go_by_number.ensures laws.results laws.summary (subst (λ (k : BookView). Fits k.graph) c.deref.ensures c.graph.ensures.fits))
+    (same_text plan (options_of asked) before after b run known refl asked events c.outcomes_go_by_number.ensures laws.results laws.summary (subst (λ (k : BookView). Fits k.graph) c.deref.ensures c.graph.ensures.fits))
     c.report.ensures.status)

@@ -1,0 +1,8 @@
+use Rattle.std.proofs.Common.{refl}
+use Rattle.build_runner.proofs.Stepping.{closes_nothing, step_closed}
+use Rattle.build_runner.proofs.items.run_and_close.Goals as goal
+
+pub returns-clause-step : goal.returns-clause-step
+returns-clause-step g c =
+    let left = c.close_item.ensures in
+    step_closed (record { unit = c.args.unit; outcome = c.run_claimed-outcome.result }) c.close_item.result c.requires.at refl (closes_nothing c.args.pass.now.sight) c.run_claimed-outcome.ensures.ran left.service left.closed left.still

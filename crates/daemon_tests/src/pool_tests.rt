@@ -1,0 +1,172 @@
+//! Tests of the counts of a pool: two workers have items worked out at once, on one pool.
+ghost use Rattle.std.specs.Prelude.{◌≡◌, ◌+◌, ◌≤◌, IfOk};
+ghost use Rattle.daemon_manager.specs.Counts.{failures, reservations};
+ghost use Rattle.item_work.specs.Tallying.{TallyRises, one_if_unreal};
+ghost use Rattle.daemon_tests.specs.Asking.{CanRun};
+
+use crate::claimed_items::{Queued, claim, queue_items, run_claimed};
+use crate::item_tests::{stop_idle, work};
+use crate::memory_desks::desk;
+use coordination::Pass;
+use daemon_desk::{Desk, MemoryDesk};
+use daemon_manager::{CountedPool, Event, Pool, Tallies, Tally};
+use daemon_requirements::Work;
+use item_actions::Outcome;
+use item_work::PoolLock;
+use std::alloc::{AllocError, Global};
+use std::marker::Brand;
+use std::process::Abort;
+use std::sync::ledger::{Blank, Ledger};
+use std::sync::{Mutex, Wait};
+use std::thread::{Threads, join};
+
+/// What a worker gives back.
+#[derive(Drop)]
+struct Worked<D, U: Ledger, F: Ledger> {
+    desk: D,
+    mine: Tally<U, F>,
+    outcome: Outcome,
+}
+
+/// What two workers and their pool leave.
+#[derive(Drop)]
+struct Ended<D> {
+    desks: (D, D),
+    outcomes: (Outcome, Outcome),
+    events: Vec<Event>,
+}
+
+/// Runs the item, which the pass has claimed.
+fn work_as<R: Wait, D: Desk, U: Ledger, F: Ledger>(
+    rt: &R,
+    alloc: Global,
+    pass: Pass,
+    desk: D,
+    pool: &PoolLock<D::Link, U, F>,
+    mine: Tally<U, F>,
+    unit: u32,
+    work: &Work,
+) -> Worked<D, U, F>
+    requires { CanRun pass unit work.now }
+    ensures { TallyRises mine result.mine (D.sends desk) (D.sends result.desk) (one_if_unreal result.outcome) }
+{
+    let mut desk = desk;
+    let mut mine = mine;
+    let outcome = run_claimed(rt, alloc, &pass, &mut desk, pool, &mut mine, unit, work);
+    Worked {
+        desk,
+        mine,
+        outcome,
+    }
+}
+
+/// Stops the idle daemons, and gives all events, which have the tallies' counts.
+fn close<D: Desk, U: Ledger, F: Ledger>(
+    desk: &mut D,
+    pool: PoolLock<D::Link, U, F>,
+    all: Tallies<U, F>,
+) -> Vec<Event>
+    requires { (all.parts ≡ U.parts) × (all.parts ≡ F.parts) }
+    ensures sends { D.sends desk.new ≡ D.sends desk.old }
+    ensures reserved { reservations result.items ≡ all.reserved }
+    ensures failed { failures result.items ≤ all.failed }
+{
+    let mut pool = pool.into_inner();
+    stop_idle(desk, &mut pool);
+    pool.audit(all).into_events()
+}
+
+/// Has two workers run an item each, at once. At least as many daemons were reserved as requests were sent, and no more
+/// failed than there are outcomes that aren't real.
+fn work_at_once<
+    R: Threads + Wait + Sync,
+    D: Desk + Send + Drop,
+    U: Ledger + Send + Sync,
+    F: Ledger + Send + Sync,
+>(
+    rt: &R,
+    alloc: Global,
+    passes: (Pass, Pass),
+    first: D,
+    second: D,
+    work: &Work,
+    reserved: Blank,
+    failed: Blank,
+) -> Result<Ended<D>, AllocError>
+    requires left { CanRun passes.0 0 work.now }
+    requires right { CanRun passes.1 1 work.now }
+    requires reserved { (reserved.name ≡ U.name) × (reserved.parts ≡ U.parts) × (U.parts ≡ 3) }
+    requires failed { (failed.name ≡ F.name) × (failed.parts ≡ F.parts) × (F.parts ≡ 3) }
+    ensures reserved { IfOk result (λ end. D.sends end.desks.0 + D.sends end.desks.1 ≤ D.sends first + D.sends second + reservations end.events.items) }
+    ensures failed { IfOk result (λ end. failures end.events.items ≤ one_if_unreal end.outcomes.0 + one_if_unreal end.outcomes.1) }
+{
+    let pool = Pool::new(alloc)?;
+    let (pool, mut all) = CountedPool::<D::Link, U, F>::new(pool, reserved, failed);
+    let pool = Mutex::new(pool);
+    let shared = &pool;
+    let one = all.split_off();
+    let two = all.split_off();
+    let (left_pass, right_pass) = passes;
+    let (mut left, right) = join(
+        rt,
+        move || -> Worked<D, U, F>
+            requires { CanRun left_pass 0 work.now }
+            ensures { TallyRises one result.mine (D.sends first) (D.sends result.desk) (one_if_unreal result.outcome) }
+        { work_as(rt, alloc, left_pass, first, shared, one, 0, work) },
+        move || -> Worked<D, U, F>
+            requires { CanRun right_pass 1 work.now }
+            ensures { TallyRises two result.mine (D.sends second) (D.sends result.desk) (one_if_unreal result.outcome) }
+        { work_as(rt, alloc, right_pass, second, shared, two, 1, work) },
+    );
+    all.merge(left.mine);
+    all.merge(right.mine);
+    let events = close(&mut left.desk, pool, all);
+    Ok(Ended {
+        desks: (left.desk, right.desk),
+        outcomes: (left.outcome, right.outcome),
+        events,
+    })
+}
+
+fn count_reserved(events: &[Event]) -> usize {
+    events
+        .iter()
+        .filter(|event| matches!(event, Event::Reserved(..)))
+        .count()
+}
+
+/// Has two items run at once, and checks how many daemons were reserved.
+fn check_at_once<R: Threads + Wait + Sync + Abort>(
+    rt: &R,
+    alloc: Global,
+) -> Result<(), AllocError> {
+    let item = work(rt, alloc, 0, 512)?;
+    let Queued {
+        service,
+        first: mut left,
+        second: mut right,
+    } = queue_items(rt, alloc)?;
+    claim(rt, &service, &mut left, 0)?;
+    claim(rt, &service, &mut right, 1)?;
+    let first = desk(alloc, &[], None)?;
+    let second = desk(alloc, &[], None)?;
+    let reserved = Blank::new(3);
+    let failed = Blank::new(3);
+    let ended = work_at_once::<R, MemoryDesk, Brand, Brand>(
+        rt,
+        alloc,
+        (left, right),
+        Box::into_inner(first),
+        Box::into_inner(second),
+        &item,
+        reserved,
+        failed,
+    )?;
+    assert!(rt; count_reserved(&ended.events) == 2);
+    Ok(())
+}
+
+#[test]
+fn each_request_has_its_reservation(rt: HostRuntime) -> Result<(), AllocError> {
+    check_at_once(&rt, rt.alloc())
+}

@@ -1,0 +1,4 @@
+mod UnitLists
+mod Closings
+mod Drives
+mod Answering

@@ -1,0 +1,4 @@
+pub mod Units
+pub mod Truth
+pub mod Driving
+pub mod Steps

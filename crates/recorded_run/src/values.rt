@@ -1,0 +1,59 @@
+//! What a unit gives today.
+ghost use Rattle.std.specs.Prelude.{◌≡◌, ◌↔◌, IsTrue, IfOk, IfSome, Some};
+ghost use Rattle.item_actions.specs.Value.{IsHonest, value_on};
+ghost use Rattle.plan_reader.specs.Units.{value_in};
+ghost use Rattle.file_access.specs.ReadView.{IsFaultCounted};
+ghost use Rattle.recorded_run.specs.Units.{unit_view};
+
+use crate::units::UnitWork;
+use file_access::{DeskFail, Files, Read};
+use item_actions::{ItemAction, MAX_FILE_BYTES, Outcome, Text, act};
+use std::alloc::Global;
+
+/// What a unit gives by its file, which is read in this thread, also where the item ran in a process.
+pub(crate) fn unit_value<F: Files>(
+    alloc: Global,
+    work: UnitWork<'_>,
+    files: &mut F,
+) -> Result<Outcome, DeskFail>
+    ensures files { F.files files.new ≡ F.files files.old }
+    ensures keeps { F.keeps files.old files.new }
+    ensures counted { IsFaultCounted (F.faults files.old) (F.faults files.new) result }
+    ensures value { IfSome (F.files files.old) (λ known. IfOk result (λ o. o ≡ value_in known (Some (unit_view work.entry)))) }
+{
+    match work {
+        UnitWork::Fetch(file) => value_by(alloc, &ItemAction::Bytes, file, files),
+        UnitWork::Item(work) => value_by(alloc, &work.action, &work.file, files),
+    }
+}
+
+/// What an action gives on the file of this name.
+fn value_by<F: Files>(
+    alloc: Global,
+    action: &ItemAction,
+    name: &Text,
+    files: &mut F,
+) -> Result<Outcome, DeskFail>
+    ensures files { F.files files.new ≡ F.files files.old }
+    ensures keeps { F.keeps files.old files.new }
+    ensures counted { IsFaultCounted (F.faults files.old) (F.faults files.new) result }
+    ensures value { IfSome (F.files files.old) (λ known. IfOk result (λ o. o ≡ value_on known action.now name.now)) }
+{
+    match files.read(alloc, name, MAX_FILE_BYTES) {
+        Ok(Read::Bytes(bytes)) => {
+            let outcome = act(action, bytes.as_bytes());
+            files.give_back(bytes);
+            Ok(outcome)
+        }
+        Ok(Read::NotThere) => Ok(Outcome::NotThere),
+        Ok(Read::TooLong) => Ok(Outcome::TooLong),
+        Err(fail) => Err(fail),
+    }
+}
+
+/// Whether a recorded outcome is the value, or says that the outside failed or that there was no memory.
+pub(crate) fn is_honest(recorded: Outcome, value: Outcome) -> bool
+    ensures { IsTrue result ↔ IsHonest recorded value }
+{
+    recorded == value || recorded == Outcome::Fault || recorded == Outcome::NoMemory
+}

@@ -1,0 +1,4 @@
+pub mod Owning
+pub mod Prefixes
+pub mod OneJob
+pub mod ManyJobs

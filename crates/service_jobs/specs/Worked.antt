@@ -1,0 +1,55 @@
+-- What a worker did of its jobs.
+use Rattle.std.specs.Prelude.{ℕ, ◌≡◌, ◌≤◌, ◌<◌, ◌+◌, ◌-◌, ◌^◌, List, length, Option}
+use Rattle.std.specs.List.{AllByRecursion}
+use Rattle.item_actions.specs.Files.{Folder}
+use Rattle.lock_transforms.specs.Allowed.{IsFixedList}
+use Rattle.lock_transforms.specs.Entry.{Entry, prefix_state}
+use Rattle.lock_transforms.specs.declared.entries.Kind.TheVariants as kinds
+use Rattle.resource_lock.specs.GraphView.{GraphView}
+use Rattle.resource_lock.specs.declared.ids.WorkerId.{WorkerId}
+use Rattle.coordination.specs.Agrees.{IsSoundBook}
+use Rattle.coordination.specs.Calls.{HasFinished}
+use Rattle.coordination.specs.Holds.{HoldsNothing}
+use Rattle.coordination.specs.Lasts.{last_of}
+use Rattle.coordination.specs.declared.rule.Sight.{Sight}
+use Rattle.lease_service.specs.Shows.{ShowsGivenBack}
+use Rattle.shared_services.specs.Services.{lock_count}
+use Rattle.shared_services.specs.Shows.{HasTakenUses}
+use Rattle.service_jobs.specs.Done.{AreApart, IsHonestJob, IsRunIn, OwnsOneOfEach, faults_of}
+use Rattle.service_jobs.specs.OneByOne.{OneByOne}
+use Rattle.service_jobs.specs.declared.jobs.Job.{Job}
+use Rattle.service_jobs.specs.declared.jobs.JobDone.{JobDone}
+
+-- The worker took the uses and gave all back.
+pub record HasRunJob (maxima asked : List ℕ) (old new : Sight) (d : JobDone) : Type 0 where
+  pub meanwhile : Sight
+  pub took : HasTakenUses maxima asked old meanwhile
+  pub taken : d.taken ≡ last_of meanwhile.worker meanwhile.seen.history
+  pub gave : HasFinished kinds.HandBack (IsFixedList kinds.HandBack) meanwhile new
+  pub given : ShowsGivenBack meanwhile new
+  pub worker : d.worker ≡ new.worker
+
+-- in each state that the history has led to, the worker owned no two locks of one service
+abbrev pub AlwaysOneOfEach : List ℕ → GraphView → List Entry → WorkerId → Type 0
+AlwaysOneOfEach maxima g h w = (n : ℕ) → OwnsOneOfEach maxima (prefix_state g h n) w
+
+-- The worker has nothing, in a sound book on the locks of the services, and never owned two locks of one service.
+pub record CanRun (maxima : List ℕ) (s : Sight) : Type 0 where
+  pub locks : s.seen.graph.locks ≡ lock_count maxima
+  pub rests : HoldsNothing s
+  pub sound : IsSoundBook s.seen
+  pub always : AlwaysOneOfEach maxima s.seen.graph s.seen.history s.worker
+
+-- The worker has run these jobs, and has nothing.
+pub record HasRun (maxima : List ℕ) (known : Option Folder) (before after : ℕ) (old : Sight) (jobs : List Job) (new : Sight) (ran : List JobDone) : Type 0 where
+  pub worker : new.worker ≡ old.worker
+  pub graph : new.seen.graph ≡ old.seen.graph
+  pub rests : HoldsNothing new
+  pub sound : IsSoundBook new.seen
+  pub always : AlwaysOneOfEach maxima new.seen.graph new.seen.history new.worker
+  pub done : OneByOne (λ job d. IsRunIn maxima job.uses.items new.seen.history d.worker d.taken) jobs ran
+  pub honest : OneByOne (IsHonestJob known) jobs ran
+  pub own : AllByRecursion (λ d. (d.worker ≡ new.worker) × (d.taken ≤ length new.seen.history)) ran
+  pub apart : AreApart ran
+  pub count : before ≤ after
+  pub faults : after < 2 ^ 64 - 1 → faults_of new.worker ran + before ≤ after

@@ -1,0 +1,58 @@
+//! Jobs run one after another by one worker.
+ghost use Rattle.std.specs.Prelude.{◌≡◌, ◌≤◌, ◌∷◌, ◌++◌, [], All, OnOk};
+ghost use Rattle.shared_services.specs.Services.{AreServices};
+ghost use Rattle.service_jobs.specs.Worked.{CanRun, HasRun};
+
+use crate::jobs::{Job, JobDone, run_job};
+use coordination::{Coordination, Halt, Pass};
+use file_access::Files;
+use shared_services::ServiceTable;
+use std::alloc::Global;
+use std::sync::Wait;
+
+/// Runs jobs in their order with a pass, on the files of a desk, and notes what each gave. Other workers may run jobs of their own
+/// with the same service meanwhile.
+///
+/// Of each job one entry takes just its uses and a lease, and waits until all can be taken at once; the worker's next entry gives
+/// all back. What happens between the two entries the history doesn't say. Where the files are known a job's outcome is its value
+/// on them, or `Fault` or `NoMemory`; the desk counts its faults, until its count stands at its end.
+///
+/// After an error the worker may hold the uses of the job that it was at. It comes where there is no memory, or where the service
+/// was stopped while the worker waited.
+pub fn run_in_turn<R: Wait, F: Files>(
+    rt: &R,
+    alloc: Global,
+    service: &Coordination,
+    table: &ServiceTable,
+    pass: &mut Pass,
+    desk: &mut F,
+    jobs: &[Job],
+    done: &mut Vec<JobDone>,
+) -> Result<(), Halt>
+    requires service { pass.old.service ≡ service.now.service }
+    requires ready { CanRun table.now pass.old.sight }
+    requires services { All (λ job. AreServices table.now job.uses.items) jobs.now }
+    requires empty { done.old.items ≡ [] }
+    ensures service { pass.new.service ≡ pass.old.service }
+    ensures worker { pass.new.sight.worker ≡ pass.old.sight.worker }
+    ensures files { F.files desk.new ≡ F.files desk.old }
+    ensures kept { F.faults desk.old ≤ F.faults desk.new }
+    ensures ran { OnOk result (HasRun table.now (F.files desk.old) (F.faults desk.old) (F.faults desk.new)
+        pass.old.sight jobs.now pass.new.sight done.new.items) }
+{
+    for job in jobs {
+        let ran = run_job(rt, alloc, service, table, pass, desk, job)?;
+        note(done, ran)?;
+    }
+    Ok(())
+}
+
+/// Notes a job that was run.
+fn note(done: &mut Vec<JobDone>, ran: JobDone) -> Result<(), Halt>
+    ensures { OnOk result (done.new.items ≡ done.old.items ++ ran ∷ []) }
+{
+    match done.push(ran) {
+        Ok(()) => Ok(()),
+        Err(_) => Err(Halt::NoMemory),
+    }
+}

@@ -1,0 +1,4 @@
+pub mod lemmas
+pub mod Chosen
+pub mod Waiting
+pub mod TakenUses

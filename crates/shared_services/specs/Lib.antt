@@ -1,0 +1,4 @@
+pub mod Services
+pub mod ServiceTable
+pub mod Takings
+pub mod Shows

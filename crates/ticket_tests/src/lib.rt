@@ -1,5 +1,0 @@
-//! Tests of work_tickets.
-#![tactic(auto)]
-
-#[cfg(test)]
-mod work_tickets_tests;
