@@ -32,7 +32,7 @@ impl Question for FirstOpen {
         None
     }
 
-    fn ask(&self, _worker: WorkerId, book: &Book) -> Option<Option<u32>> {
+    fn ask(&self, _worker: WorkerId, book: &Book, _queued: bool) -> Option<Option<u32>> {
         Some(first_open(book, self.action))
     }
 }

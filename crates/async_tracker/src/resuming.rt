@@ -15,7 +15,7 @@ ghost use Rattle.worker_choices.specs.NextSteps.{first_open};
 
 use crate::open_items::FirstOpen;
 use crate::parked::Parked;
-use coordination::{Coordination, Halt, Pass};
+use coordination::{Coordination, Halt, Offers, Pass};
 use lock_transforms::kinds::Resume;
 use resource_lock::WorkerId;
 use std::sync::Wait;
@@ -37,9 +37,9 @@ pub enum Held {
 /// It answers `StillWaiting` exactly where an item hasn't ended. Else it waits while another worker
 /// owns the lock or no lease is free. After an error the pass shows what it showed, and the parked
 /// value comes back as it was.
-pub fn resume<R: Wait>(
+pub fn resume<R: Wait, O: Offers>(
     rt: &R,
-    service: &Coordination,
+    service: &Coordination<O>,
     pass: &mut Pass,
     parked: Parked,
 ) -> Result<(), Held>
@@ -69,9 +69,9 @@ pub fn resume<R: Wait>(
 }
 
 /// The first item of an action that hasn't ended.
-fn ask_first_open<R: Wait>(
+fn ask_first_open<R: Wait, O: Offers>(
     rt: &R,
-    service: &Coordination,
+    service: &Coordination<O>,
     pass: &mut Pass,
     action: u32,
 ) -> Option<u32>
@@ -87,9 +87,9 @@ fn ask_first_open<R: Wait>(
 }
 
 /// Makes the entry, once the pass has seen that all items have ended: so it is in every later state.
-fn go_on<R: Wait>(
+fn go_on<R: Wait, O: Offers>(
     rt: &R,
-    service: &Coordination,
+    service: &Coordination<O>,
     pass: &mut Pass,
     parked: &Parked,
 ) -> Result<(), Halt>

@@ -8,7 +8,7 @@ ghost use Rattle.coordination.specs.Holds.{HoldsNothing};
 ghost use Rattle.coordination.specs.Shown.{ShowsTheSame};
 ghost use Rattle.async_tracker.specs.Tasks.{CannotEnd, CannotSkip, CannotStart, MayEnd, ShowsEnded, ShowsStarted};
 
-use coordination::{Coordination, Halt, Pass};
+use coordination::{Coordination, Halt, Offers, Pass};
 use lock_transforms::kinds::{End, Skip, Start};
 use std::alloc::AllocError;
 use std::sync::Wait;
@@ -19,9 +19,9 @@ use std::sync::Wait;
 /// comes after hasn't passed, its lock is owned, or no lease is free. The call waits for the state
 /// lock alone, and fails for want of memory alone. After false and after an error the pass shows
 /// what it showed.
-pub fn start_task<R: Wait>(
+pub fn start_task<R: Wait, O: Offers>(
     rt: &R,
-    service: &Coordination,
+    service: &Coordination<O>,
     pass: &mut Pass,
     task: u32,
 ) -> Result<bool, AllocError>
@@ -48,9 +48,9 @@ pub fn start_task<R: Wait>(
 /// comes after failed or was skipped, or one of its marks isn't Waiting. The call waits for the state
 /// lock alone, and fails for want of memory alone. The pass shows what it showed, whatever the call
 /// answers.
-pub fn skip_task<R: Wait>(
+pub fn skip_task<R: Wait, O: Offers>(
     rt: &R,
-    service: &Coordination,
+    service: &Coordination<O>,
     pass: &mut Pass,
     task: u32,
 ) -> Result<bool, AllocError>
@@ -75,9 +75,9 @@ pub fn skip_task<R: Wait>(
 ///
 /// It waits only where an action of the task neither has passed nor never ran, or where one of the
 /// changes can't be made. After an error the pass shows what it showed.
-pub fn end_task<R: Wait>(
+pub fn end_task<R: Wait, O: Offers>(
     rt: &R,
-    service: &Coordination,
+    service: &Coordination<O>,
     pass: &mut Pass,
     task: u32,
 ) -> Result<(), Halt>

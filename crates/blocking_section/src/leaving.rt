@@ -8,7 +8,7 @@ ghost use Rattle.blocking_section.specs.BlockedView.{BlockedView};
 ghost use Rattle.blocking_section.specs.Sections.{CanNotTakeUp, FitsUnit, HasTakenUp, IsGivenBackBy, closed_with};
 
 use crate::blocked::Blocked;
-use coordination::{Coordination, Halt, Pass};
+use coordination::{Coordination, Halt, Offers, Pass};
 use item_actions::Outcome;
 use lock_transforms::Closed;
 use lock_transforms::kinds::Unblock;
@@ -30,9 +30,9 @@ pub enum StillBlocked {
 ///
 /// It waits while another worker owns one of the locks or no lease is free. After an error the pass
 /// shows what it showed, and what was given back comes back as it was.
-pub fn leave<R: Wait>(
+pub fn leave<R: Wait, O: Offers>(
     rt: &R,
-    service: &Coordination,
+    service: &Coordination<O>,
     pass: &mut Pass,
     blocked: Blocked,
     outcome: Option<Outcome>,

@@ -3,7 +3,6 @@ pub mod Keeping
 pub mod Points
 pub mod Sending
 pub mod Stepping
-pub mod Asked
 mod AtFirst
 mod AtTheEnd
 mod FileNames

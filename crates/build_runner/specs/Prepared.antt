@@ -12,7 +12,7 @@ use Rattle.build_runner.specs.declared.options.RunOptions.{RunOptions}
 use Rattle.build_runner.specs.declared.prepared.Prepared.{Prepared}
 
 -- The service is open over a book of the graph, with a pass for each worker in order, and none of them has anything.
-pub record IsOpenedOn (g : GraphView) (o : Opened) : Type 0 where
+pub record IsOpenedOn {O : Type 0} (g : GraphView) (o : Opened O) : Type 0 where
   pub graph : o.service.book.graph ≡ g
   pub passes : length o.passes.items ≡ g.workers
   pub ready : All (CanWork o.service g) o.passes.items

@@ -10,8 +10,9 @@ ghost use Rattle.item_work.specs.Tallying.{ReservesForEach};
 ghost use Rattle.build_runner.specs.Desks.{desk_view};
 ghost use Rattle.build_runner.specs.Steps.{Steps};
 
-use crate::choices::{Choice, WhatIsNext};
-use crate::items::help;
+use crate::choices::WhatIsNext;
+use crate::items::help_if_found;
+use crate::queue::Hand;
 use crate::site::Site;
 use crate::tasks::run_task;
 use async_tracker::skip_task;
@@ -20,9 +21,9 @@ use daemon_desk::Desk;
 use daemon_manager::Tally;
 use daemon_requirements::Linked;
 use file_access::Gate;
-use history_laws::only_items_are_queued;
 use std::sync::Wait;
 use std::sync::ledger::Ledger;
+use worker_choices::Choice;
 
 /// Skips a task, unless it can't be skipped any more.
 fn skip<R: Wait, G, L: Linked, U: Ledger, F: Ledger>(
@@ -56,7 +57,6 @@ fn choose<R: Wait, G, L: Linked, U: Ledger, F: Ledger>(
     ensures shows { OnOk result (ShowsTheSame pass.old.sight pass.new.sight) }
     ensures there { IfOk result (IsThere pass.new.sight) }
 {
-    only_items_are_queued();
     site.service.ask(rt, pass, &WhatIsNext)
 }
 
@@ -67,6 +67,7 @@ fn carry_out<R: Wait, D: Desk, G: Gate, U: Ledger, F: Ledger>(
     pass: &mut Pass,
     desk: &mut D,
     mine: &mut Tally<U, F>,
+    hand: &mut Hand,
     choice: Choice,
 ) -> Result<(), Halt>
     requires at { IsAt site.now pass.old }
@@ -77,14 +78,14 @@ fn carry_out<R: Wait, D: Desk, G: Gate, U: Ledger, F: Ledger>(
     ensures reserved { ReservesForEach (D.sends desk.old) (D.sends desk.new) mine.old mine.new }
 {
     match choice {
-        Choice::Claim(unit) => help(rt, site, pass, desk, mine, unit),
+        Choice::Pop => help_if_found(rt, site, pass, desk, mine, hand),
         Choice::Skip(task) => skip(rt, site, pass, task),
-        Choice::Start(task) => run_task(rt, site, pass, desk, mine, task),
+        Choice::Start(task) => run_task(rt, site, pass, desk, mine, hand, task),
         Choice::Finish => Ok(()),
     }
 }
 
-/// Works until all tasks have ended: claims items, skips tasks and runs tasks.
+/// Works until all tasks have ended: pops tickets and claims their items, skips tasks and runs tasks.
 ///
 /// The worker has nothing then. It fails for want of memory, and where the service was stopped.
 pub(crate) fn work_to_the_end<R: Wait, D: Desk, G: Gate, U: Ledger, F: Ledger>(
@@ -93,6 +94,7 @@ pub(crate) fn work_to_the_end<R: Wait, D: Desk, G: Gate, U: Ledger, F: Ledger>(
     pass: &mut Pass,
     desk: &mut D,
     mine: &mut Tally<U, F>,
+    hand: &mut Hand,
 ) -> Result<(), Halt>
     requires at { IsAt site.now pass.old }
     requires rests { HoldsNothing pass.old.sight }
@@ -105,7 +107,7 @@ pub(crate) fn work_to_the_end<R: Wait, D: Desk, G: Gate, U: Ledger, F: Ledger>(
         if let Choice::Finish = choice {
             return Ok(());
         }
-        carry_out(rt, site, pass, desk, mine, choice)?;
+        carry_out(rt, site, pass, desk, mine, hand, choice)?;
     }
     unreachable!()
 }

@@ -11,6 +11,7 @@ ghost use Rattle.item_work.specs.Tallying.{ReservesForEach};
 ghost use Rattle.build_runner.specs.Desks.{desk_view};
 ghost use Rattle.build_runner.specs.Steps.{HasRun, Steps};
 
+use crate::queue::Hand;
 use crate::site::Site;
 use async_tracker::{claim, close, closing_undoes_claiming};
 use coordination::{Halt, Pass};
@@ -113,7 +114,7 @@ fn run_and_close<R: Wait, D: Desk, G: Gate, U: Ledger, F: Ledger>(
 /// Claims an item, runs it and closes it, unless another worker was faster.
 ///
 /// The pass then shows what it showed. It fails for want of memory, and where the service was stopped.
-pub(crate) fn help<R: Wait, D: Desk, G: Gate, U: Ledger, F: Ledger>(
+fn help<R: Wait, D: Desk, G: Gate, U: Ledger, F: Ledger>(
     rt: &R,
     site: &Site<'_, G, D::Link, U, F>,
     pass: &mut Pass,
@@ -133,5 +134,29 @@ pub(crate) fn help<R: Wait, D: Desk, G: Gate, U: Ledger, F: Ledger>(
         run_and_close(rt, site, pass, desk, mine, unit)
     } else {
         Ok(())
+    }
+}
+
+/// Takes a ticket, or a unit of the worker's own, and claims, runs and closes that item. Where there is neither, and where the
+/// number is no item's, it does nothing.
+///
+/// The pass then shows what it showed. It fails for want of memory, and where the service was stopped.
+pub(crate) fn help_if_found<R: Wait, D: Desk, G: Gate, U: Ledger, F: Ledger>(
+    rt: &R,
+    site: &Site<'_, G, D::Link, U, F>,
+    pass: &mut Pass,
+    desk: &mut D,
+    mine: &mut Tally<U, F>,
+    hand: &mut Hand,
+) -> Result<(), Halt>
+    requires at { IsAt site.now pass.old }
+    requires helps { CanHelp pass.old.sight }
+    ensures step { Steps site.now (desk_view D.files D.faults D.sends D.sent) desk.old desk.new pass.old pass.new (is_ok result) }
+    ensures shows { OnOk result (ShowsTheSame pass.old.sight pass.new.sight) }
+    ensures reserved { ReservesForEach (D.sends desk.old) (D.sends desk.new) mine.old mine.new }
+{
+    match hand.next_unit(rt) {
+        Some(unit) if site.is_item(unit) => help(rt, site, pass, desk, mine, unit),
+        Some(_) | None => Ok(()),
     }
 }

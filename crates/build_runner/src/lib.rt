@@ -11,6 +11,7 @@ mod items;
 mod options;
 mod parked;
 mod prepared;
+mod queue;
 mod run_end;
 mod runs;
 mod site;

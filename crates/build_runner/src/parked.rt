@@ -1,5 +1,5 @@
 //! A parked worker: it runs items until those that it waits for have ended, and resumes.
-ghost use Rattle.std.specs.Prelude.{◌≡◌, ◌<◌, None, OnOk, Some, is_ok, length};
+ghost use Rattle.std.specs.Prelude.{◌≡◌, ◌<◌, Bool, None, OnOk, Some, is_ok, length};
 ghost use Rattle.resource_lock.specs.GraphView.{action_of};
 ghost use Rattle.resource_lock.specs.Ranges.{lock_with};
 ghost use Rattle.coordination.specs.Agrees.{IsSoundBook};
@@ -15,19 +15,19 @@ ghost use Rattle.build_runner.specs.Desks.{desk_view};
 ghost use Rattle.build_runner.specs.Steps.{Steps};
 
 use crate::failed_units::has_failed;
-use crate::items::help;
+use crate::items::help_if_found;
+use crate::queue::Hand;
 use crate::site::Site;
 use async_tracker::{Held, Parked, resume};
 use coordination::{Halt, Pass, Question};
 use daemon_desk::Desk;
 use daemon_manager::Tally;
 use file_access::Gate;
-use history_laws::only_items_are_queued;
 use lock_journal::Book;
 use resource_lock::WorkerId;
 use std::sync::Wait;
 use std::sync::ledger::Ledger;
-use worker_choices::{Awaited, can_go_on, item_to_claim};
+use worker_choices::{Awaited, next_of_parked};
 
 /// What a parked worker does next.
 #[derive(Clone, Copy)]
@@ -35,8 +35,8 @@ pub(crate) enum ParkedChoice {
     /// It resumes: the items that it waits for have ended, and what it takes again is free. It says
     /// whether a unit of the action has failed.
     Resume(bool),
-    /// It claims this item, the lowest that is queued.
-    Claim(u32),
+    /// It pops a ticket, or takes a unit of its own.
+    Pop,
 }
 
 /// Asks what a worker does next that is parked in this action. It waits where there is nothing to do
@@ -44,30 +44,37 @@ pub(crate) enum ParkedChoice {
 #[derive(Clone, Copy)]
 pub(crate) struct WhatIsNextParked {
     pub action: u32,
+    /// Whether the worker has units of its own.
+    pub own: bool,
 }
 
 impl Question for WhatIsNextParked {
     type Answer = ParkedChoice;
 
-    ghost answers = { λ q w book choice. q.action < length book.graph.actions → IsNextParked book.graph w book.state q.action choice };
+    ghost answers = { λ q w book choice. q.action < length book.graph.actions
+        → (queued : Bool) × IsNextParked book.graph w book.state queued q.action choice };
 
-    ghost waits_on = { λ q w book. q.action < length book.graph.actions → HasToWait book.graph w book.state q.action };
+    ghost waits_on = { λ q w book. q.action < length book.graph.actions → (queued : Bool) × HasToWait book.graph w book.state queued q.action };
 
-    ghost awaits = { λ q. Some (awaited.Items q.action) };
+    ghost awaits = { λ q. Some (awaited.Items q.action q.own) };
 
     fn awaited(&self) -> Option<Awaited> {
-        Some(Awaited::Items(self.action))
+        Some(Awaited::Items {
+            action: self.action,
+            own: self.own,
+        })
     }
 
-    fn ask(&self, worker: WorkerId, book: &Book) -> Option<ParkedChoice> {
+    fn ask(&self, worker: WorkerId, book: &Book, queued: bool) -> Option<ParkedChoice> {
         if self.action as usize >= book.graph().actions().len() {
             return None;
         }
-        if can_go_on(book, worker, self.action) {
-            return Some(ParkedChoice::Resume(has_failed(book, self.action)));
+        match next_of_parked(book, worker, queued || self.own, self.action)? {
+            worker_choices::ParkedChoice::Resume => {
+                Some(ParkedChoice::Resume(has_failed(book, self.action)))
+            }
+            worker_choices::ParkedChoice::Pop => Some(ParkedChoice::Pop),
         }
-        let unit = item_to_claim(book, worker)?;
-        Some(ParkedChoice::Claim(unit))
     }
 }
 
@@ -78,6 +85,7 @@ fn help_until_over<R: Wait, D: Desk, G: Gate, U: Ledger, F: Ledger>(
     pass: &mut Pass,
     desk: &mut D,
     mine: &mut Tally<U, F>,
+    hand: &mut Hand,
     action: u32,
 ) -> Result<bool, Halt>
     requires at { IsAt site.now pass.old }
@@ -89,11 +97,14 @@ fn help_until_over<R: Wait, D: Desk, G: Gate, U: Ledger, F: Ledger>(
     ensures over { OnOk result (first_open pass.new.sight.seen.graph pass.new.sight.seen.state action ≡ None) }
     ensures reserved { ReservesForEach (D.sends desk.old) (D.sends desk.new) mine.old mine.new }
 {
-    only_items_are_queued();
     for _ in rt.forever() {
-        match site.service.ask(rt, pass, &WhatIsNextParked { action })? {
+        let own = hand.has_own();
+        match site
+            .service
+            .ask(rt, pass, &WhatIsNextParked { action, own })?
+        {
             ParkedChoice::Resume(failed) => return Ok(failed),
-            ParkedChoice::Claim(unit) => help(rt, site, pass, desk, mine, unit)?,
+            ParkedChoice::Pop => help_if_found(rt, site, pass, desk, mine, hand)?,
         }
     }
     unreachable!()
@@ -107,6 +118,7 @@ pub(crate) fn wait_for_items<R: Wait, D: Desk, G: Gate, U: Ledger, F: Ledger>(
     pass: &mut Pass,
     desk: &mut D,
     mine: &mut Tally<U, F>,
+    hand: &mut Hand,
     parked: Parked,
 ) -> Result<bool, Halt>
     requires at { IsAt site.now pass.old }
@@ -118,7 +130,7 @@ pub(crate) fn wait_for_items<R: Wait, D: Desk, G: Gate, U: Ledger, F: Ledger>(
         (lock_with site.now.graph parked.action) parked.action pass.old.sight pass.new.sight) }
     ensures reserved { ReservesForEach (D.sends desk.old) (D.sends desk.new) mine.old mine.new }
 {
-    let failed = help_until_over(rt, site, pass, desk, mine, parked.action())?;
+    let failed = help_until_over(rt, site, pass, desk, mine, hand, parked.action())?;
     match resume(rt, site.service, pass, parked) {
         Ok(()) => Ok(failed),
         Err(Held::StillWaiting(_, _)) => unreachable!(),

@@ -8,6 +8,7 @@ ghost use Rattle.build_runner.specs.Prepared.{IsOpenedOn, IsPrepared};
 ghost use Rattle.build_runner.specs.Team.{CanWork};
 
 use crate::options::RunOptions;
+use crate::queue::{Hand, Queue, QueuePlace};
 use crate::team::Worker;
 use crate::units::{UnitWork, units_of};
 use coordination::{Coordination, Opened, Pass, openings_are_at_rest};
@@ -69,7 +70,11 @@ fn open_book(alloc: Global, graph: Graph) -> Result<Book, AllocError>
 }
 
 /// The service over a book of the graph, with a pass for each worker.
-fn open_service(alloc: Global, graph: Graph) -> Result<Opened, AllocError>
+fn open_service(
+    alloc: Global,
+    graph: Graph,
+    place: QueuePlace,
+) -> Result<Opened<QueuePlace>, AllocError>
     ensures graph { IfOk result (λ opened. opened.service.book.graph ≡ graph) }
     ensures passes { IfOk result (λ opened. length opened.passes.items ≡ graph.workers) }
     ensures ready { IfOk result (λ opened. All (CanWork opened.service graph) opened.passes.items) }
@@ -78,7 +83,7 @@ fn open_service(alloc: Global, graph: Graph) -> Result<Opened, AllocError>
 {
     openings_are_at_rest();
     let book = boxed(alloc, open_book(alloc, graph)?)?;
-    Coordination::open(alloc, book)
+    Coordination::open_with(alloc, book, place)
 }
 
 /// The graph of the plan, as the options have it.
@@ -93,7 +98,12 @@ fn graph_of(alloc: Global, plan: &Plan, options: &RunOptions) -> Result<Graph, A
 }
 
 /// The service over a book of the plan's graph, in a box.
-fn open_for(alloc: Global, plan: &Plan, options: &RunOptions) -> Result<Box<Opened>, AllocError>
+fn open_for(
+    alloc: Global,
+    plan: &Plan,
+    options: &RunOptions,
+    place: QueuePlace,
+) -> Result<Box<Opened<QueuePlace>>, AllocError>
     requires some_worker { 1 ≤ options.now.workers }
     requires few_workers { options.now.workers ≤ MAX_WORKERS }
     requires some_lease { 1 ≤ options.now.max_leases }
@@ -101,26 +111,60 @@ fn open_for(alloc: Global, plan: &Plan, options: &RunOptions) -> Result<Box<Open
     ensures { IfOk result (λ opened. IsOpenedOn (graph_of plan.now options.now.workers options.now.max_leases options.now.parallel) opened.value) }
 {
     let graph = graph_of(alloc, plan, options)?;
-    let opened = open_service(alloc, graph)?;
+    let opened = open_service(alloc, graph, place)?;
     boxed(alloc, opened)
+}
+
+/// How many items the graph has, up to the largest number.
+fn items_in(graph: &Graph) -> u32 {
+    let mut items = 0u32;
+    for action in graph.actions() {
+        items = items.saturating_add(action.items);
+    }
+    items
+}
+
+/// Tickets for the items of the plan, with a hand for each worker and a place for the state lock. It fails for want of memory.
+pub(crate) fn open_queue(
+    alloc: Global,
+    plan: &Plan,
+    options: &RunOptions,
+) -> Result<Queue, AllocError>
+    requires some_worker { 1 ≤ options.now.workers }
+    requires few_workers { options.now.workers ≤ MAX_WORKERS }
+    requires some_lease { 1 ≤ options.now.max_leases }
+    requires few_leases { options.now.max_leases ≤ MAX_LEASES }
+    ensures { IfOk result (λ queue. length queue.hands.items ≡ options.now.workers) }
+{
+    let graph = graph_of(alloc, plan, options)?;
+    Queue::new(alloc, options.workers, items_in(&graph))
 }
 
 /// Room for the workers, and for the passes and desks that they leave.
 #[derive(Drop)]
 pub(crate) struct Room<D, U: Ledger, F: Ledger> {
     pub team: Vec<Worker<D, U, F>>,
+    /// The workers' hands at the tickets.
+    pub hands: Vec<Hand>,
     pub passes: Vec<Pass>,
     pub desks: Vec<D>,
 }
 
 impl<D: Drop, U: Ledger, F: Ledger> Room<D, U, F> {
     /// Room for so many workers, and for all desks.
-    pub fn new(alloc: Global, workers: usize, desks: usize) -> Result<Room<D, U, F>, AllocError>
+    pub fn new(
+        alloc: Global,
+        workers: usize,
+        desks: usize,
+        hands: Vec<Hand>,
+    ) -> Result<Room<D, U, F>, AllocError>
+        ensures hands { IfOk result (λ room. room.hands.items ≡ hands.items) }
         ensures empty { IfOk result (λ room. (room.team.items ≡ []) × (room.passes.items ≡ []) × (room.desks.items ≡ [])) }
         ensures workers { IfOk result (λ room. (workers ≤ vec_capacity room.team) × (workers ≤ vec_capacity room.passes)) }
         ensures desks { IfOk result (λ room. desks ≤ vec_capacity room.desks) }
     {
         Ok(Room {
+            hands,
             team: Vec::with_capacity(alloc, workers)?,
             passes: Vec::with_capacity(alloc, workers)?,
             desks: Vec::with_capacity(alloc, desks)?,
@@ -136,7 +180,7 @@ pub(crate) struct Prepared<'a> {
     /// The units by their numbers.
     pub units: Vec<UnitWork<'a>>,
     /// The service, over a book of that graph, and a pass for each worker.
-    pub opened: Box<Opened>,
+    pub opened: Box<Opened<QueuePlace>>,
 }
 
 impl<'a> Prepared<'a> {
@@ -145,6 +189,7 @@ impl<'a> Prepared<'a> {
         alloc: Global,
         plan: &'a Plan,
         options: &RunOptions,
+        place: QueuePlace,
     ) -> Result<Prepared<'a>, AllocError>
         requires some_worker { 1 ≤ options.now.workers }
         requires few_workers { options.now.workers ≤ MAX_WORKERS }
@@ -152,7 +197,7 @@ impl<'a> Prepared<'a> {
         requires few_leases { options.now.max_leases ≤ MAX_LEASES }
         ensures { IfOk result (IsPrepared plan.now options.now) }
     {
-        let opened = open_for(alloc, plan, options)?;
+        let opened = open_for(alloc, plan, options, place)?;
         let units = units_of(alloc, plan)?;
         let graph = graph_of(alloc, plan, options)?;
         Ok(Prepared {

@@ -14,7 +14,8 @@ ghost use Rattle.build_runner.specs.Worked.{HasComeToTheEnd, HasWorked, WasThere
 
 use crate::daemons::close_pool;
 use crate::options::RunOptions;
-use crate::prepared::{Prepared, Room};
+use crate::prepared::{Prepared, Room, open_queue};
+use crate::queue::{Queue, QueuePlace};
 use crate::run_end::RunEnd;
 use crate::site::Site;
 use crate::team::{Worker, all_ended, part, seat, work};
@@ -38,7 +39,7 @@ use std::thread::Threads;
 use task_ranks::ranks_give_a_numbering;
 
 /// Takes the book out of the service for good.
-fn close_service(opened: Box<Opened>, plan: &Plan, options: &RunOptions) -> Box<Book>
+fn close_service(opened: Box<Opened<QueuePlace>>, plan: &Plan, options: &RunOptions) -> Box<Book>
     requires service { All (λ p. p.service ≡ opened.value.service.service) opened.value.passes.items }
     requires workers { map (λ p. p.sight.worker.0) opened.value.passes.items ≡ workers_from 0 options.now.workers }
     requires some { 1 ≤ options.now.workers }
@@ -84,6 +85,7 @@ fn run_team<
     room: Room<D, U, F>,
 ) -> bool
     requires same { vec_len passes.old ≡ vec_len desks.old }
+    requires hands { length room.hands.items ≡ vec_len desks.old }
     requires empty { (room.team.items ≡ []) × (room.passes.items ≡ []) × (room.desks.items ≡ []) }
     requires room { (vec_len desks.old ≤ vec_capacity room.team) × (vec_len desks.old ≤ vec_capacity room.passes)
         × (vec_len desks.old ≤ vec_capacity room.desks) }
@@ -100,12 +102,14 @@ fn run_team<
 {
     let Room {
         mut team,
+        hands,
         passes: left,
         desks: back,
     } = room;
     seat(
         mem::replace(passes, left),
         mem::replace(desks, back),
+        hands,
         tallies,
         &mut team,
     );
@@ -163,17 +167,18 @@ fn run_book<
     ensures parts { tallies.new.parts ≡ tallies.old.parts }
     ensures reserved { sum_by D.sends desks.new.items + tallies.old.reserved ≤ sum_by D.sends desks.old.items + tallies.new.reserved }
 {
+    let Queue { place, hands } = open_queue(alloc, plan, options)?;
     let Prepared {
         graph,
         units,
         mut opened,
-    } = Prepared::new(alloc, plan, options)?;
-    let room = Room::new(alloc, options.workers as usize, desks.len())?;
+    } = Prepared::new(alloc, plan, options, place)?;
+    let room = Room::new(alloc, options.workers as usize, desks.len(), hands)?;
     let rest = desks.split_off(options.workers as usize)?;
     // That the units' files have their form and that the graph fits, their types say.
     let _ = plan.tasks();
     let _ = graph.tasks();
-    let parts: &mut Opened = &mut opened;
+    let parts: &mut Opened<QueuePlace> = &mut opened;
     let site = Site {
         service: &parts.service,
         graph: &graph,

@@ -9,6 +9,7 @@ ghost use Rattle.plan_reader.specs.PlanView.{work_view};
 ghost use Rattle.plan_reader.specs.Units.{item_unit};
 ghost use Rattle.build_runner.specs.Units.{fetch_unit};
 
+use crate::queue::QueuePlace;
 use crate::units::UnitWork;
 use coordination::Coordination;
 use daemon_requirements::{Linked, Work};
@@ -24,7 +25,7 @@ use std::sync::ledger::Ledger;
 #[derive(Drop)]
 pub(crate) struct Site<'a, G, L: Linked, U: Ledger, F: Ledger> {
     /// The state lock.
-    pub service: &'a Coordination,
+    pub service: &'a Coordination<QueuePlace>,
     /// The graph of the plan.
     pub graph: &'a Graph,
     /// The units by their numbers.
@@ -82,6 +83,13 @@ impl<'a, G, L: Linked, U: Ledger, F: Ledger> Site<'a, G, L, U, F> {
             unreachable!()
         };
         file
+    }
+
+    /// Whether a number is an item's.
+    pub fn is_item(&self, unit: u32) -> bool
+        ensures { result ≡ true → IsItemHere self.now.graph unit }
+    {
+        unit < self.graph.units() && self.graph.is_item(unit)
     }
 
     /// An item, by its number.

@@ -14,6 +14,7 @@ ghost use Rattle.build_runner.specs.Steps.{Steps};
 
 use crate::fetching::fetch;
 use crate::parked::wait_for_items;
+use crate::queue::Hand;
 use crate::site::Site;
 use async_tracker::{Parked, end_task, park, start_task, submit};
 use coordination::{Halt, Pass};
@@ -50,11 +51,12 @@ fn fetch_first<R: Wait, D: Desk, G, U: Ledger, F: Ledger>(
     }
 }
 
-/// Queues the items of an action of the worker's task, and parks.
+/// Queues the items of an action of the worker's task, pushes their tickets, and parks.
 fn queue_items<R: Wait, G, L: Linked, U: Ledger, F: Ledger>(
     rt: &R,
     site: &Site<'_, G, L, U, F>,
     pass: &mut Pass,
+    hand: &mut Hand,
     task: u32,
     action: u32,
 ) -> Result<Parked, Halt>
@@ -72,8 +74,10 @@ fn queue_items<R: Wait, G, L: Linked, U: Ledger, F: Ledger>(
     ensures shows { OnOk result (ShowsParked (action_of site.now.graph action).retention
         (lock_with site.now.graph action) action pass.old.sight pass.new.sight) }
 {
-    let _ = site.action_of(task, action);
+    let found = site.action_of(task, action);
     submit(rt, site.service, pass, action)?;
+    let first = found.first_unit + u32::from(found.fetch);
+    hand.queue(rt, first..first + found.items);
     park(rt, site.service, pass, action)
 }
 
@@ -86,6 +90,7 @@ fn run_action<R: Wait, D: Desk, G: Gate, U: Ledger, F: Ledger>(
     pass: &mut Pass,
     desk: &mut D,
     mine: &mut Tally<U, F>,
+    hand: &mut Hand,
     task: u32,
     action: u32,
 ) -> Result<bool, Halt>
@@ -99,8 +104,8 @@ fn run_action<R: Wait, D: Desk, G: Gate, U: Ledger, F: Ledger>(
     ensures reserved { ReservesForEach (D.sends desk.old) (D.sends desk.new) mine.old mine.new }
 {
     fetch_first(rt, site, pass, desk, task, action)?;
-    let parked = queue_items(rt, site, pass, task, action)?;
-    let failed = wait_for_items(rt, site, pass, desk, mine, parked)?;
+    let parked = queue_items(rt, site, pass, hand, task, action)?;
+    let failed = wait_for_items(rt, site, pass, desk, mine, hand, parked)?;
     Ok(!failed && pass.has_lease())
 }
 
@@ -111,6 +116,7 @@ fn run_actions<R: Wait, D: Desk, G: Gate, U: Ledger, F: Ledger>(
     pass: &mut Pass,
     desk: &mut D,
     mine: &mut Tally<U, F>,
+    hand: &mut Hand,
     task: u32,
 ) -> Result<(), Halt>
     requires at { IsAt site.now pass.old }
@@ -122,7 +128,7 @@ fn run_actions<R: Wait, D: Desk, G: Gate, U: Ledger, F: Ledger>(
 {
     let Range { start, end } = site.actions_of(task);
     for action in start..end {
-        if !run_action(rt, site, pass, desk, mine, task, action)? {
+        if !run_action(rt, site, pass, desk, mine, hand, task, action)? {
             return Ok(());
         }
     }
@@ -155,6 +161,7 @@ pub(crate) fn run_task<R: Wait, D: Desk, G: Gate, U: Ledger, F: Ledger>(
     pass: &mut Pass,
     desk: &mut D,
     mine: &mut Tally<U, F>,
+    hand: &mut Hand,
     task: u32,
 ) -> Result<(), Halt>
     requires at { IsAt site.now pass.old }
@@ -167,7 +174,7 @@ pub(crate) fn run_task<R: Wait, D: Desk, G: Gate, U: Ledger, F: Ledger>(
     if !start(rt, site, pass, task)? {
         return Ok(());
     }
-    run_actions(rt, site, pass, desk, mine, task)?;
+    run_actions(rt, site, pass, desk, mine, hand, task)?;
     end(rt, site, pass, task)
 }
 

@@ -6,6 +6,7 @@ ghost use Rattle.build_runner.specs.Team.{CanWork};
 ghost use Rattle.build_runner.specs.Worked.{HasWorked};
 
 use crate::idle::work_to_the_end;
+use crate::queue::Hand;
 use crate::site::Site;
 use coordination::{Halt, Pass};
 use daemon_desk::Desk;
@@ -23,6 +24,7 @@ pub(crate) struct Worker<D, U: Ledger, F: Ledger> {
     pub desk: D,
     /// What it did with the daemons.
     pub tally: Tally<U, F>,
+    pub hand: Hand,
     /// Whether it saw that all tasks have ended.
     pub ended: bool,
 }
@@ -35,7 +37,15 @@ impl<D: Desk, U: Ledger, F: Ledger> Worker<D, U, F> {
         ensures worked { HasWorked site.now (desk_view D.files D.faults D.sends D.sent) self.old.desk self.new.desk self.old.pass self.new.pass self.new.ended }
         ensures reserved { ReservesForEach (D.sends self.old.desk) (D.sends self.new.desk) self.old.tally self.new.tally }
     {
-        match work_to_the_end(rt, site, &mut self.pass, &mut self.desk, &mut self.tally) {
+        self.pass.promise_to_come_again();
+        match work_to_the_end(
+            rt,
+            site,
+            &mut self.pass,
+            &mut self.desk,
+            &mut self.tally,
+            &mut self.hand,
+        ) {
             Ok(()) => self.ended = true,
             Err(Halt::NoMemory) => {
                 site.service.stop_all(rt, &mut self.pass);
@@ -46,14 +56,16 @@ impl<D: Desk, U: Ledger, F: Ledger> Worker<D, U, F> {
     }
 }
 
-/// Gives each worker its pass, its desk and a tally.
+/// Gives each worker its pass, its desk, its hand at the tickets and a tally.
 pub(crate) fn seat<D: Drop, U: Ledger, F: Ledger>(
     passes: Vec<Pass>,
     desks: Vec<D>,
+    hands: Vec<Hand>,
     tallies: &mut Tallies<U, F>,
     team: &mut Vec<Worker<D, U, F>>,
 )
     requires same { vec_len passes ≡ vec_len desks }
+    requires hands { length hands.items ≡ vec_len passes }
     requires empty { team.old.items ≡ [] }
     requires room { vec_len passes ≤ vec_capacity team.old }
     requires parts { vec_len passes < tallies.old.parts }
@@ -63,14 +75,19 @@ pub(crate) fn seat<D: Drop, U: Ledger, F: Ledger>(
     ensures reserved { sum_by (λ w. w.tally.reserved) team.new.items + tallies.new.reserved ≡ tallies.old.reserved }
 {
     let mut rest = desks.into_iter();
+    let mut rest_of_hands = hands.into_iter();
     for pass in passes {
         let Some(desk) = rest.next() else {
+            unreachable!()
+        };
+        let Some(hand) = rest_of_hands.next() else {
             unreachable!()
         };
         team.push_reserved(Worker {
             pass,
             desk,
             tally: tallies.split_off(),
+            hand,
             ended: false,
         });
     }

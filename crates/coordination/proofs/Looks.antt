@@ -14,8 +14,6 @@ use Rattle.coordination.specs.declared.attempts.Reply.TheVariants as replies
 use Rattle.coordination.specs.declared.halts.Halt.{Halt}
 use Rattle.coordination.specs.declared.halts.Halt.TheVariants.{NoMemory, Stopped}
 use Rattle.coordination.specs.declared.rule.Sight.{Sight}
-use Rattle.coordination.specs.declared.sleepers.Sleepers.{Sleepers}
-use Rattle.coordination.specs.declared.sleepers.Wakes.{Wakes}
 use Rattle.coordination.specs.Agrees.{Agrees, Finds, IsSoundBook}
 use Rattle.coordination.specs.Attempts.{Asked, Attempted, Cause, Making}
 use Rattle.coordination.specs.Calls.{AskedInVain, HasFailed, HasFinished, HasLooked, IsAnswered, WasStopped}
@@ -98,33 +96,33 @@ module _ {A : Type 0} (answers : WorkerId → BookView → A → Type 0) (waits 
 finds_on : (s : Sight) (seen book : BookView) → Agrees s.worker s.seen seen → Finds s.worker seen book → Finds s.worker s.seen book
 finds_on s seen book agrees f = record { agrees = agrees_then s.worker s.seen seen book agrees f.agrees; sound = f.sound; known = f.known }
 
-module _ (kind : Kind) (makes : Making) (fails retries : Cause) (sleepers : Sleepers) (s : Sight) where
-  tried_after : (seen : BookView) (s' : Sight) (r : Tried) → Agrees s.worker s.seen seen → HasTried kind makes fails retries sleepers (seeing s seen) s' r → HasTried kind makes fails retries sleepers s s' r
-  tried_after seen s' (tried.Entered true wakes) agrees (f, w) =
-      (record { before = f.before; after = f.after; changes = f.changes; found = finds_on s seen f.before agrees f.found; graph = f.graph; finished = f.finished; left = f.left; sight = f.sight }, w)
-  tried_after seen s' (tried.Entered false wakes) agrees (f, w) =
-      (record { before = f.before; after = f.after; found = finds_on s seen f.before agrees f.found; graph = f.graph; failed = f.failed; left = f.left; sight = f.sight }, w)
+module _ (kind : Kind) (makes : Making) (fails retries : Cause) (s : Sight) where
+  tried_after : (seen : BookView) (s' : Sight) (r : Tried) → Agrees s.worker s.seen seen → HasTried kind makes fails retries (seeing s seen) s' r → HasTried kind makes fails retries s s' r
+  tried_after seen s' (tried.Entered true) agrees f =
+      record { before = f.before; after = f.after; changes = f.changes; found = finds_on s seen f.before agrees f.found; graph = f.graph; finished = f.finished; left = f.left; sight = f.sight }
+  tried_after seen s' (tried.Entered false) agrees f =
+      record { before = f.before; after = f.after; found = finds_on s seen f.before agrees f.found; graph = f.graph; failed = f.failed; left = f.left; sight = f.sight }
   tried_after seen s' (tried.Halted NoMemory) agrees h = record { book = h.book; found = finds_on s seen h.book agrees h.found; sight = h.sight }
   tried_after seen s' (tried.Halted (Stopped by)) agrees h = record { book = h.book; found = finds_on s seen h.book agrees h.found; cause = h.cause; stopper = h.stopper; sight = h.sight }
   tried_after seen s' tried.Again agrees h = record { agrees = agrees_then s.worker s.seen seen s'.seen agrees h.agrees; sight = h.sight }
 
   -- a try after the worker has only looked, at a result that is known by an equation
-  pub tried_on : (s' s'' : Sight) (r r' : Tried) → r ≡ r' → OnlyLooked s s' → HasTried kind makes fails retries sleepers s' s'' r → HasTried kind makes fails retries sleepers s s'' r'
+  pub tried_on : (s' s'' : Sight) (r r' : Tried) → r ≡ r' → OnlyLooked s s' → HasTried kind makes fails retries s' s'' r → HasTried kind makes fails retries s s'' r'
   tried_on s' s'' r r' is look h =
-      subst (HasTried kind makes fails retries sleepers s s'') is (tried_after s'.seen s'' r look.agrees (subst (λ (k : Sight). HasTried kind makes fails retries sleepers k s'' r) look.sight h))
+      subst (HasTried kind makes fails retries s s'') is (tried_after s'.seen s'' r look.agrees (subst (λ (k : Sight). HasTried kind makes fails retries k s'' r) look.sight h))
 
-  module _ (s' s'' : Sight) (r : Tried) (look : OnlyLooked s s') (h : HasTried kind makes fails retries sleepers s' s'' r) where
-    here : (r' : Tried) → r ≡ r' → HasTried kind makes fails retries sleepers s s'' r'
+  module _ (s' s'' : Sight) (r : Tried) (look : OnlyLooked s s') (h : HasTried kind makes fails retries s' s'' r) where
+    here : (r' : Tried) → r ≡ r' → HasTried kind makes fails retries s s'' r'
     here r' is = tried_on s' s'' r r' is look h
 
     -- what the call says by its answer
-    pub entered : {A : Type 0} (b : Bool) (wakes : Wakes) → r ≡ tried.Entered b wakes → ◌≡◌ {A = Result Bool A} (Ok b) (Ok true) → HasFinished kind makes s s''
-    entered true wakes is ok = (here (tried.Entered true wakes) is).0
-    entered false wakes is ok = absurd (cc)
+    pub entered : {A : Type 0} (b : Bool) → r ≡ tried.Entered b → ◌≡◌ {A = Result Bool A} (Ok b) (Ok true) → HasFinished kind makes s s''
+    entered true is ok = here (tried.Entered true) is
+    entered false is ok = absurd (cc)
 
-    pub entered_failed : {A : Type 0} (b : Bool) (wakes : Wakes) → r ≡ tried.Entered b wakes → ◌≡◌ {A = Result Bool A} (Ok b) (Ok false) → HasFailed kind fails s s''
-    entered_failed true wakes is ok = absurd (cc)
-    entered_failed false wakes is ok = (here (tried.Entered false wakes) is).0
+    pub entered_failed : {A : Type 0} (b : Bool) → r ≡ tried.Entered b → ◌≡◌ {A = Result Bool A} (Ok b) (Ok false) → HasFailed kind fails s s''
+    entered_failed true is ok = absurd (cc)
+    entered_failed false is ok = here (tried.Entered false) is
 
     pub halted : {A : Type 0} (halt : Halt) → r ≡ tried.Halted halt → ◌≡◌ {A = Result A Halt} (Err halt) (Err NoMemory) → HasLooked s s''
     halted NoMemory is err = here (tried.Halted NoMemory) is

@@ -16,7 +16,7 @@ use Rattle.coordination.specs.declared.sleepers.Wakes.{Wakes}
 use Rattle.coordination.specs.Agrees.{Finds, IsSoundBook}
 use Rattle.coordination.specs.Parts.{HasListRoom, IsPartOf, marks_of}
 use Rattle.coordination.specs.Sights.{seeing}
-use Rattle.coordination.specs.Wakes.{AreWakesOf}
+use Rattle.coordination.specs.Endings.{EndsHold, has_entered, stance_after}
 
 -- where a transform may fail, or ask to be run again
 abbrev pub Cause : Type 1
@@ -33,14 +33,14 @@ Ran kind makes fails retries w old new (Ok Failed) = FailsIn fails old new w kin
 Ran kind makes fails retries w old new (Ok Retry) = IsToRetry retries old new w
 Ran kind makes fails retries w old new (Err e) = SameBook old new
 
--- The transform was run on the old book and left the new one, the worker's part followed, and these are woken.
+-- The transform was run on the old book and left the new one, the worker's part followed, and the hold ended.
 pub record HasRun {E : Type 0} (kind : Kind) (makes : Making) (fails retries : Cause) (w : WorkerId) (old new : BookView)
-    (part : Part) (sleepers : Sleepers) (result : Result Disposition E × Wakes) : Type 0 where
+    (part : Part) (sleepers sleepers' : Sleepers) (result : Result Disposition E × Wakes) : Type 0 where
   pub graph : new.graph ≡ old.graph
   pub ran : Ran kind makes fails retries w old new result.0
   pub kept : IsPartOf new w part
   pub room : HasListRoom new.graph.locks (marks_of new.graph) part
-  pub wakes : AreWakesOf new sleepers result.1
+  pub ends : EndsHold new w (stance_after sleepers.promised kind result.0) (has_entered result.0) sleepers sleepers' result.1
 
 -- The transform found a sound book that agrees with the worker's sight, and left a sound one, which the worker saw.
 pub record Attempted {E : Type 0} (kind : Kind) (makes : Making) (fails retries : Cause) (s s' : Sight) (r : Result Disposition E) : Type 0 where

@@ -10,6 +10,6 @@ pub mod Rising
 pub mod Parts
 pub mod Passes
 pub mod Together
-pub mod Wakes
+pub mod Endings
 pub mod Tries
 pub mod Closings

@@ -9,25 +9,23 @@ use Rattle.coordination.specs.declared.attempts.Reply.{Reply}
 use Rattle.coordination.specs.declared.attempts.Reply.TheVariants as replies
 use Rattle.coordination.specs.declared.halts.Halt.TheVariants.{NoMemory, Stopped}
 use Rattle.coordination.specs.declared.rule.Sight.{Sight}
-use Rattle.coordination.specs.declared.sleepers.Sleepers.{Sleepers}
 use Rattle.coordination.specs.Agrees.{Agrees}
 use Rattle.coordination.specs.Attempts.{Cause, Making}
 use Rattle.coordination.specs.Calls.{AskedInVain, HasFailed, HasFinished, HasLooked, IsAnswered, WasStopped}
 use Rattle.coordination.specs.Sights.{seeing}
-use Rattle.coordination.specs.Wakes.{AreWakesOf}
 
 -- The worker has only looked: what it sees agrees with what it saw.
 pub record OnlyLooked (old new : Sight) : Type 0 where
   pub agrees : Agrees old.worker old.seen new.seen
   pub sight : new ≡ seeing old new.seen
 
--- what a try of a transform leaves of a pass, and whom its entry wakes
-abbrev pub HasTried : Kind → Making → Cause → Cause → Sleepers → Sight → Sight → Tried → Type 0
-HasTried kind makes fails retries sleepers old new (tried.Entered true wakes) = HasFinished kind makes old new × AreWakesOf new.seen sleepers wakes
-HasTried kind makes fails retries sleepers old new (tried.Entered false wakes) = HasFailed kind fails old new × AreWakesOf new.seen sleepers wakes
-HasTried kind makes fails retries sleepers old new (tried.Halted NoMemory) = HasLooked old new
-HasTried kind makes fails retries sleepers old new (tried.Halted (Stopped by)) = WasStopped retries by old new
-HasTried kind makes fails retries sleepers old new tried.Again = OnlyLooked old new
+-- what a try of a transform leaves of a pass
+abbrev pub HasTried : Kind → Making → Cause → Cause → Sight → Sight → Tried → Type 0
+HasTried kind makes fails retries old new (tried.Entered true) = HasFinished kind makes old new
+HasTried kind makes fails retries old new (tried.Entered false) = HasFailed kind fails old new
+HasTried kind makes fails retries old new (tried.Halted NoMemory) = HasLooked old new
+HasTried kind makes fails retries old new (tried.Halted (Stopped by)) = WasStopped retries by old new
+HasTried kind makes fails retries old new tried.Again = OnlyLooked old new
 
 -- what asking a question leaves of a pass
 abbrev pub IsReplied : {A : Type 0} → (WorkerId → BookView → A → Type 0) → (WorkerId → BookView → Type 0) → Sight → Sight → Reply A → Type 0

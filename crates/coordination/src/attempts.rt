@@ -1,9 +1,9 @@
 //! One try under the lock. Nothing here waits.
-ghost use Rattle.std.specs.Prelude.{◌≡◌, ◌<◌, IfNone, IfSome};
+ghost use Rattle.std.specs.Prelude.{◌≡◌, ◌<◌, IfNone, IfSome, false};
 ghost use Rattle.coordination.specs.Attempts.{Asked, Attempted};
+ghost use Rattle.coordination.specs.Endings.{EndsHold, LeavesHold, has_entered, stance_after, stance_asking};
 ghost use Rattle.coordination.specs.Sights.{hearing};
 ghost use Rattle.coordination.specs.Tries.{HasTried, IsReplied};
-ghost use Rattle.coordination.specs.Wakes.{AreWakesOf};
 
 use crate::halts::Halt;
 use crate::passes::Pass;
@@ -16,8 +16,8 @@ use std::alloc::AllocError;
 
 /// What came of a try.
 pub enum Tried {
-    /// The transform made an entry, a failed one where this is false, which wakes these.
-    Entered(bool, Wakes),
+    /// The transform made an entry, a failed one where this is false.
+    Entered(bool),
     /// The transform came to nothing.
     Halted(Halt),
     /// The transform is to be tried again.
@@ -35,63 +35,72 @@ pub enum Reply<A> {
 }
 
 impl Slot {
-    // Runs the transform once, and hears who has stopped the service where the transform asks to be
-    // run again.
+    // Runs the transform once, ends the hold, and hears who has stopped the service where the transform asks
+    // to be run again.
     #[inline]
     pub fn try_transform<T: Transform>(
         &self,
         pass: &mut Pass,
         transform: &T,
-        sleepers: &Sleepers,
-    ) -> Tried
+        sleepers: &mut Sleepers,
+    ) -> (Tried, Wakes)
         requires { pass.old.service ≡ self.now.table.shared.table_id }
         ensures same { pass.new.service ≡ pass.old.service }
         ensures tried { HasTried (T.kind_of transform.now) (T.makes transform.now) (T.fails_on transform.now)
-            (T.retries_on transform.now) sleepers.now pass.old.sight pass.new.sight result }
+            (T.retries_on transform.now) pass.old.sight pass.new.sight result.0 }
+        ensures ends { LeavesHold pass.new.sight.seen pass.new.sight.worker sleepers.old sleepers.new result.1 }
     {
         match self.attempt(pass, transform, sleepers) {
-            Some((Ok(Disposition::Finished), wakes)) => Tried::Entered(true, wakes),
-            Some((Ok(Disposition::Failed), wakes)) => Tried::Entered(false, wakes),
-            Some((Err(_), _)) => Tried::Halted(Halt::NoMemory),
-            Some((Ok(Disposition::Retry), _)) => match self.hear(pass) {
-                Some(by) => Tried::Halted(Halt::Stopped(by)),
-                None => Tried::Again,
+            Some((Ok(Disposition::Finished), wakes)) => (Tried::Entered(true), wakes),
+            Some((Ok(Disposition::Failed), wakes)) => (Tried::Entered(false), wakes),
+            Some((Err(_), wakes)) => (Tried::Halted(Halt::NoMemory), wakes),
+            Some((Ok(Disposition::Retry), wakes)) => match self.hear(pass) {
+                Some(by) => (Tried::Halted(Halt::Stopped(by)), wakes),
+                None => (Tried::Again, wakes),
             },
-            None => Tried::Again,
+            None => (Tried::Again, Wakes::NOBODY),
         }
     }
 
-    // Asks the question once, and hears who has stopped the service where it has no answer.
+    // Asks the question once, ends the hold, and hears who has stopped the service where it has no answer.
     #[inline]
-    pub fn try_question<Q: Question>(&self, pass: &mut Pass, question: &Q) -> Reply<Q::Answer>
+    pub fn try_question<Q: Question>(
+        &self,
+        pass: &mut Pass,
+        question: &Q,
+        sleepers: &mut Sleepers,
+    ) -> (Reply<Q::Answer>, Wakes)
         requires { pass.old.service ≡ self.now.table.shared.table_id }
         ensures same { pass.new.service ≡ pass.old.service }
-        ensures replied { IsReplied (Q.answers question.now) (Q.waits_on question.now) pass.old.sight pass.new.sight result }
+        ensures replied { IsReplied (Q.answers question.now) (Q.waits_on question.now) pass.old.sight pass.new.sight result.0 }
+        ensures ends { LeavesHold pass.new.sight.seen pass.new.sight.worker sleepers.old sleepers.new result.1 }
     {
-        match self.attempt_ask(pass, question) {
-            Some(Some(answer)) => Reply::Answered(answer),
-            Some(None) => match self.hear(pass) {
-                Some(by) => Reply::Stopped(by),
-                None => Reply::Again,
+        let Some((answer, wakes)) = self.attempt_ask(pass, question, sleepers) else {
+            return (Reply::Again, Wakes::NOBODY);
+        };
+        match answer {
+            Some(answer) => (Reply::Answered(answer), wakes),
+            None => match self.hear(pass) {
+                Some(by) => (Reply::Stopped(by), wakes),
+                None => (Reply::Again, wakes),
             },
-            None => Reply::Again,
         }
     }
 
-    // Runs the transform once, unless the book is out, and says whom of the sleepers the last entry
-    // wakes.
+    // Runs the transform once, unless the book is out, and ends the hold.
     fn attempt<T: Transform>(
         &self,
         pass: &mut Pass,
         transform: &T,
-        sleepers: &Sleepers,
+        sleepers: &mut Sleepers,
     ) -> Option<(Result<Disposition, AllocError>, Wakes)>
         requires { pass.old.service ≡ self.now.table.shared.table_id }
         ensures same { pass.new.service ≡ pass.old.service }
-        ensures none { IfNone result (pass.new.sight ≡ pass.old.sight) }
+        ensures none { IfNone result ((pass.new.sight ≡ pass.old.sight) × (sleepers.new ≡ sleepers.old)) }
         ensures some { IfSome result (λ r. Attempted (T.kind_of transform.now) (T.makes transform.now) (T.fails_on transform.now)
             (T.retries_on transform.now) pass.old.sight pass.new.sight r.0) }
-        ensures wakes { IfSome result (λ r. AreWakesOf pass.new.sight.seen sleepers.now r.1) }
+        ensures ends { IfSome result (λ r. EndsHold pass.new.sight.seen pass.new.sight.worker
+            (stance_after sleepers.old.promised (T.kind_of transform.now) r.0) (has_entered r.0) sleepers.old sleepers.new r.1) }
     {
         if !self.try_take(&mut pass.seat) {
             return None;
@@ -107,19 +116,26 @@ impl Slot {
         Some((ran, wakes))
     }
 
-    // Asks the question once, unless the book is out.
-    fn attempt_ask<Q: Question>(&self, pass: &mut Pass, question: &Q) -> Option<Option<Q::Answer>>
+    // Asks the question once, unless the book is out, and ends the hold.
+    fn attempt_ask<Q: Question>(
+        &self,
+        pass: &mut Pass,
+        question: &Q,
+        sleepers: &mut Sleepers,
+    ) -> Option<(Option<Q::Answer>, Wakes)>
         requires { pass.old.service ≡ self.now.table.shared.table_id }
         ensures same { pass.new.service ≡ pass.old.service }
-        ensures none { IfNone result (pass.new.sight ≡ pass.old.sight) }
-        ensures some { IfSome result (Asked (Q.answers question.now) (Q.waits_on question.now) pass.old.sight pass.new.sight) }
+        ensures none { IfNone result ((pass.new.sight ≡ pass.old.sight) × (sleepers.new ≡ sleepers.old)) }
+        ensures some { IfSome result (λ r. Asked (Q.answers question.now) (Q.waits_on question.now) pass.old.sight pass.new.sight r.0) }
+        ensures ends { IfSome result (λ r. EndsHold pass.new.sight.seen pass.new.sight.worker
+            (stance_asking sleepers.old.promised (Q.awaits question.now) r.0) false sleepers.old sleepers.new r.1) }
     {
         if !self.try_take(&mut pass.seat) {
             return None;
         }
-        let answer = self.ask_book(&mut pass.seat, pass.worker, question);
+        let (answer, wakes) = self.ask_book(&mut pass.seat, pass.worker, question, sleepers);
         self.put_back(&mut pass.seat);
-        Some(answer)
+        Some((answer, wakes))
     }
 
     // Has the pass hear who has stopped the service.

@@ -6,6 +6,7 @@ mod boxed_books;
 mod halts;
 mod lasts;
 mod laws;
+mod offers;
 mod openings;
 mod parts;
 mod passes;
@@ -16,12 +17,13 @@ mod seats;
 mod services;
 mod sleepers;
 mod slots;
-mod waiters;
+mod stances;
 
 pub use halts::Halt;
 pub use laws::{
     openings_are_at_rest, sound_books_have_good_states, used_passes_have_their_numbers,
 };
+pub use offers::Offers;
 pub use passes::Pass;
 pub use questions::Question;
 pub use rule::Sight;

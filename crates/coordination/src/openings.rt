@@ -49,7 +49,7 @@ impl Stock {
     }
 
     // The service over the slot, and its passes, whose seats are cut off this one.
-    pub fn open(self, slot: Slot, seat: Seat<BoxedBook, SeatView>) -> Opened
+    pub fn open<O>(self, slot: Slot, seat: Seat<BoxedBook, SeatView>, offers: O) -> Opened<O>
         requires id { seat.table_id ≡ slot.table.shared.table_id }
         requires view { seat.me ≡ (starting slot.table.shared.key.book.value, []) }
         requires few { slot.table.shared.key.book.value.graph.workers < 2 ^ 32 }
@@ -68,7 +68,7 @@ impl Stock {
             waiting,
         } = self;
         let passes = slot.seated(seat, parts, passes);
-        let service = service_of(slot, waiting);
+        let service = service_of(slot, waiting, offers);
         Opened { service, passes }
     }
 }

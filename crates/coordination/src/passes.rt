@@ -16,6 +16,8 @@ pub struct Pass {
     pub(crate) part: Part,
     pub(crate) stopped: bool,
     pub(crate) stopped_by: Option<WorkerId>,
+    // Whether the worker has promised to come again at once.
+    pub(crate) promised: bool,
     pub(crate) seat: Seat<BoxedBook, SeatView>,
 }
 
@@ -33,6 +35,17 @@ impl Model for Pass {
 }
 
 impl Pass {
+    /// Promises that the worker comes to the state lock again at once after each call but a claim and the entry of a blocking
+    /// section: it neither works nor waits before. While it comes, nobody else is woken for work.
+    ///
+    /// Without the promise each call leaves a worker away, and the others don't count on it. Who breaks the promise keeps
+    /// others asleep that could go on, until all tasks have ended.
+    pub fn promise_to_come_again(&mut self)
+        ensures { self.new ≡ self.old }
+    {
+        self.promised = true;
+    }
+
     /// The worker.
     pub fn worker(&self) -> WorkerId
         ensures { result ≡ self.now.sight.worker }

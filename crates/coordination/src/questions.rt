@@ -27,10 +27,13 @@ pub trait Question {
     fn awaited(&self) -> Option<Awaited>
         ensures { result ≡ awaits self.now };
 
-    /// The answer, or None where it is to be asked again once what it waits for has come.
-    fn ask(&self, worker: WorkerId, book: &Book) -> Option<Self::Answer>
+    /// The answer, or None where it is to be asked again once what it waits for has come. Work outside the book is queued,
+    /// as it waits beside it, or isn't (`Offers`).
+    fn ask(&self, worker: WorkerId, book: &Book, queued: bool) -> Option<Self::Answer>
         requires { worker.0 < book.now.graph.workers }
         ensures answers { IfSome result (λ answer. answers self.now worker book.now answer) }
         ensures waits { IfNone result (waits_on self.now worker book.now) }
-        ensures awaits { IfNone result (IfSome (awaits self.now) (Waits book.now.graph worker book.now.state)) };
+        // An answer is given where what it waits for has come, and nowhere else.
+        ensures awaits { IfNone result (IfSome (awaits self.now) (Waits book.now.graph worker book.now.state queued)) }
+        ensures comes { IfSome result (λ _. IfSome (awaits self.now) (λ a. Waits book.now.graph worker book.now.state queued a → ⊥)) };
 }

@@ -75,6 +75,7 @@ impl Slot {
                 part,
                 stopped: false,
                 stopped_by: None,
+                promised: false,
                 seat: own,
             });
         }

@@ -9,6 +9,7 @@ ghost use Rattle.coordination.specs.Together.{ComeTo};
 
 use crate::attempts::{Reply, Tried};
 use crate::halts::Halt;
+use crate::offers::Offers;
 use crate::openings::{Stock, Waiting};
 use crate::passes::Pass;
 use crate::questions::Question;
@@ -20,24 +21,40 @@ use resource_lock::WorkerId;
 use std::alloc::{AllocError, Global};
 use std::marker::Model;
 use std::sync::{Condvar, Mutex, MutexGuard, Wait};
-use worker_choices::{Awaited, Woken};
+use worker_choices::{Awaited, Stance, Woken};
 
-/// One book that several workers change, one at a time.
+/// What the state lock guards.
+#[derive(Drop)]
+struct Guarded<O> {
+    sleepers: Sleepers,
+    offers: O,
+}
+
+impl<O: Offers> Guarded<O> {
+    // Begins a hold of a worker that has promised to come again at once, or hasn't.
+    #[inline]
+    fn begin_hold(&mut self, promised: bool) {
+        self.sleepers.queued = self.offers.are_there();
+        self.sleepers.promised = promised;
+    }
+}
+
+/// One book that several workers change, one at a time, with work that waits outside the book or none.
 ///
 /// Whoever looks at the book, or changes it, has the state lock, and so has who falls asleep.
 #[derive(Drop)]
-pub struct Coordination {
+pub struct Coordination<O = ()> {
     slot: Slot,
-    state_lock: Mutex<Sleepers>,
+    state_lock: Mutex<Guarded<O>>,
     // Questions wait for this that wait for any entry.
     entered: Condvar,
-    // A worker waits for its own, by worker, which comes once what its question waits for may be there.
+    // A worker waits for its own, by worker, which comes once what its question waits for has come.
     own: Vec<Condvar>,
     // Transforms wait for this, which comes with each entry that can let another worker go on.
     freed: Condvar,
 }
 
-impl Model for Coordination {
+impl<O> Model for Coordination<O> {
     ghost use Rattle.coordination.specs.Passes.{CoordinationView};
 
     ghost Value = { CoordinationView };
@@ -47,17 +64,34 @@ impl Model for Coordination {
 
 /// A service that was opened, with a pass for each worker in order.
 #[derive(Drop)]
-pub struct Opened {
+pub struct Opened<O = ()> {
     /// The service.
-    pub service: Coordination,
+    pub service: Coordination<O>,
     /// The passes.
     pub passes: Vec<Pass>,
 }
 
 impl Coordination {
-    /// A service that keeps the book, in which nobody has anything, with a pass for each worker of
-    /// its graph. Each has seen this book. It fails for want of memory alone.
+    /// A service without work outside the book: `open_with` of nothing.
     pub fn open(alloc: Global, book: Box<Book>) -> Result<Opened, AllocError>
+        requires { IsAtRest book.value.state }
+        ensures book { IfOk result (λ opened. opened.service.book ≡ book.value) }
+        ensures passes { IfOk result (λ opened. map (λ p. p.sight) opened.passes.items ≡ sights_from 0 book.value.graph.workers book.value) }
+        ensures len { IfOk result (λ opened. length opened.passes.items ≡ book.value.graph.workers) }
+        ensures workers { IfOk result (λ opened. map (λ p. p.sight.worker.0) opened.passes.items ≡ workers_from 0 book.value.graph.workers) }
+        ensures service { IfOk result (λ opened. All (λ p. p.service ≡ opened.service.service) opened.passes.items) }
+        ensures seen { IfOk result (λ opened. All (λ p. p.sight.seen ≡ book.value) opened.passes.items) }
+        ensures rest { IfOk result (λ opened. All (λ p. HoldsNothing p.sight) opened.passes.items) }
+    {
+        Coordination::open_with(alloc, book, ())
+    }
+}
+
+impl<O: Offers> Coordination<O> {
+    /// A service that keeps the book, in which nobody has anything, with a pass for each worker of
+    /// its graph. Each has seen this book. Beside the book work waits that the offers tell of. It fails
+    /// for want of memory alone.
+    pub fn open_with(alloc: Global, book: Box<Book>, offers: O) -> Result<Opened<O>, AllocError>
         requires { IsAtRest book.value.state }
         ensures book { IfOk result (λ opened. opened.service.book ≡ book.value) }
         ensures passes { IfOk result (λ opened. map (λ p. p.sight) opened.passes.items ≡ sights_from 0 book.value.graph.workers book.value) }
@@ -69,7 +103,7 @@ impl Coordination {
     {
         let stock = Stock::of(alloc, &book)?;
         let (slot, seat) = Slot::new(alloc, book)?;
-        Ok(stock.open(slot, seat))
+        Ok(stock.open(slot, seat, offers))
     }
 
     /// Gets the state lock and runs the transform.
@@ -94,13 +128,23 @@ impl Coordination {
     {
         let mut guard = self.state_lock.lock(rt);
         for _ in rt.forever() {
-            match self.slot.try_transform(pass, transform, &guard) {
-                Tried::Entered(finished, wakes) => {
-                    self.wake_after_entry(guard, wakes);
+            guard.begin_hold(pass.promised);
+            let (tried, wakes) = self
+                .slot
+                .try_transform(pass, transform, &mut guard.sleepers);
+            match tried {
+                Tried::Entered(finished) => {
+                    self.let_go(guard, wakes);
                     return Ok(finished);
                 }
-                Tried::Halted(halt) => return Err(halt),
-                Tried::Again => guard = self.sleep_until_freed(rt, guard),
+                Tried::Halted(halt) => {
+                    self.let_go(guard, wakes);
+                    return Err(halt);
+                }
+                Tried::Again => {
+                    self.notify(wakes);
+                    guard = self.sleep_until_freed(rt, guard);
+                }
             }
         }
         unreachable!()
@@ -127,10 +171,21 @@ impl Coordination {
         let worker = pass.worker;
         let mut guard = self.state_lock.lock(rt);
         for _ in rt.forever() {
-            match self.slot.try_question(pass, question) {
-                Reply::Answered(answer) => return Ok(answer),
-                Reply::Stopped(by) => return Err(Halt::Stopped(by)),
-                Reply::Again => guard = self.sleep(rt, guard, worker, question.awaited()),
+            guard.begin_hold(pass.promised);
+            let (reply, wakes) = self.slot.try_question(pass, question, &mut guard.sleepers);
+            match reply {
+                Reply::Answered(answer) => {
+                    self.let_go(guard, wakes);
+                    return Ok(answer);
+                }
+                Reply::Stopped(by) => {
+                    self.let_go(guard, wakes);
+                    return Err(Halt::Stopped(by));
+                }
+                Reply::Again => {
+                    self.notify(wakes);
+                    guard = self.sleep(rt, guard, worker, question.awaited());
+                }
             }
         }
         unreachable!()
@@ -150,48 +205,52 @@ impl Coordination {
     fn sleep_until_freed<'a, R: Wait>(
         &'a self,
         rt: &R,
-        mut guard: MutexGuard<'a, Sleepers>,
-    ) -> MutexGuard<'a, Sleepers> {
-        guard.transforms = true;
+        mut guard: MutexGuard<'a, Guarded<O>>,
+    ) -> MutexGuard<'a, Guarded<O>> {
+        guard.sleepers.transforms = true;
         self.freed.wait(rt, guard)
     }
 
-    // Falls asleep until what the worker waits for may have come, with the state lock free meanwhile.
+    // Falls asleep until what the worker waits for may have come, with the state lock free meanwhile. Who was
+    // woken looks.
     fn sleep<'a, R: Wait>(
         &'a self,
         rt: &R,
-        mut guard: MutexGuard<'a, Sleepers>,
+        mut guard: MutexGuard<'a, Guarded<O>>,
         worker: WorkerId,
         awaited: Option<Awaited>,
-    ) -> MutexGuard<'a, Sleepers> {
+    ) -> MutexGuard<'a, Guarded<O>> {
         match (awaited, self.own.get(worker.0 as usize)) {
             (Some(_), Some(own)) => {
-                guard.waiters.note(worker, awaited);
                 let mut guard = own.wait(rt, guard);
-                guard.waiters.note(worker, None);
+                guard.sleepers.stances.note(worker, Stance::Looks);
                 guard
             }
             (None, _) | (_, None) => {
-                guard.questions = true;
+                guard.sleepers.questions = true;
                 self.entered.wait(rt, guard)
             }
         }
     }
 
-    // Lets the state lock go after an entry, and wakes whom it wakes. Where that is nobody, it touches no
-    // Condvar.
+    // Lets the state lock go, and wakes these. Where that is nobody, it touches no Condvar.
     #[inline]
-    fn wake_after_entry(&self, guard: MutexGuard<'_, Sleepers>, wakes: Wakes) {
+    fn let_go(&self, guard: MutexGuard<'_, Guarded<O>>, wakes: Wakes) {
+        drop(guard);
+        self.notify(wakes);
+    }
+
+    // Wakes these.
+    #[inline]
+    fn notify(&self, wakes: Wakes) {
         if wakes.wake_any() {
-            self.wake(guard, wakes);
+            self.wake(wakes);
         }
     }
 
-    // Lets the state lock go, and wakes these. It stands apart, so that an entry that wakes nobody passes it by.
+    // Wakes these. It stands apart, so that who wakes nobody passes it by.
     #[inline(never)]
-    fn wake(&self, mut guard: MutexGuard<'_, Sleepers>, wakes: Wakes) {
-        guard.note_awake(wakes);
-        drop(guard);
+    fn wake(&self, wakes: Wakes) {
         if wakes.questions {
             self.entered.notify_all();
         }
@@ -226,12 +285,13 @@ impl Coordination {
         ensures worker { pass.new.sight.worker ≡ pass.old.sight.worker }
         ensures stopped { HasStopped pass.old.sight pass.new.sight }
     {
-        let guard = self.state_lock.lock(rt);
+        let mut guard = self.state_lock.lock(rt);
         match self.slot.mark(&mut pass.seat, pass.worker) {
             None => pass.stopped = true,
             Some(by) => pass.stopped_by = Some(by),
         }
-        self.wake_after_entry(guard, Wakes::ALL);
+        guard.sleepers.note_all_awake();
+        self.let_go(guard, Wakes::ALL);
     }
 
     /// Takes the book out for good. Every pass agrees with it, and together their entries and closings
@@ -262,14 +322,14 @@ impl Coordination {
 }
 
 // The service over a slot.
-pub(crate) fn service_of(slot: Slot, waiting: Waiting) -> Coordination
+pub(crate) fn service_of<O>(slot: Slot, waiting: Waiting, offers: O) -> Coordination<O>
     ensures service { result.service ≡ slot.table.shared.table_id }
     ensures book { result.book ≡ slot.table.shared.key.book.value }
 {
     let Waiting { sleepers, own } = waiting;
     Coordination {
         slot,
-        state_lock: Mutex::new(sleepers),
+        state_lock: Mutex::new(Guarded { sleepers, offers }),
         entered: Condvar::new(),
         own,
         freed: Condvar::new(),

@@ -1,24 +1,31 @@
-//! Who sleeps, and whom an entry wakes.
-ghost use Rattle.std.specs.Prelude.{◌≡◌, ◌&&◌, IfOk, None, false, not, replicate};
-ghost use Rattle.coordination.specs.Wakes.{AreWakesOf, awaited_after};
+//! Who sleeps, and whom the end of a hold of the state lock wakes.
+ghost use Rattle.std.specs.Prelude.{◌≡◌, IfOk, false, replicate};
+ghost use Rattle.worker_choices.specs.declared.stances.Stance.TheVariants as stance;
+ghost use Rattle.coordination.specs.Endings.{EndsHold, goes_to_work, has_entered, looks_if, stance_after, stance_asking};
 
-use crate::waiters::Waiters;
+use crate::stances::Stances;
 use lock_journal::Book;
+use lock_transforms::{Disposition, Kind};
+use resource_lock::WorkerId;
 use std::alloc::{AllocError, Global};
-use worker_choices::{Woken, last_lets_go_on};
+use worker_choices::{Awaited, Stance, Woken, last_lets_go_on};
 
-/// Who may be asleep.
+/// Who may be asleep, who looks, and what they all wait for beside the book.
 #[derive(Drop)]
 pub struct Sleepers {
-    /// Whether a transform is.
+    /// Whether a transform sleeps.
     pub transforms: bool,
-    /// Whether a question is that waits for any entry.
+    /// Whether a question sleeps that waits for any entry.
     pub questions: bool,
-    /// The workers else, each with what it waits for.
-    pub waiters: Waiters,
+    /// What each worker does.
+    pub stances: Stances,
+    /// Whether a ticket was queued when the hold began.
+    pub queued: bool,
+    /// Whether the worker of the hold has promised to come again at once.
+    pub promised: bool,
 }
 
-/// Whom an entry wakes of those that sleep.
+/// Whom the end of a hold wakes of those that sleep.
 #[derive(Clone, Copy)]
 pub struct Wakes {
     /// The transforms, or none of them.
@@ -36,6 +43,12 @@ impl Wakes {
         workers: Woken::All,
     };
 
+    pub const NOBODY: Wakes = Wakes {
+        transforms: false,
+        questions: false,
+        workers: Woken::Nobody,
+    };
+
     // Whether it wakes anybody.
     #[inline]
     pub fn wake_any(self) -> bool {
@@ -44,43 +57,104 @@ impl Wakes {
 }
 
 impl Sleepers {
-    // Nobody of so many workers.
+    // Nobody of so many workers, each of whom is away.
     pub fn nobody(alloc: Global, workers: u32) -> Result<Sleepers, AllocError>
         ensures transforms { IfOk result (λ sleepers. sleepers.transforms ≡ false) }
         ensures questions { IfOk result (λ sleepers. sleepers.questions ≡ false) }
-        ensures workers { IfOk result (λ sleepers. sleepers.waiters ≡ replicate workers None) }
+        ensures workers { IfOk result (λ sleepers. sleepers.stances ≡ replicate workers stance.Away) }
     {
         Ok(Sleepers {
             transforms: false,
             questions: false,
-            waiters: Waiters::awake(alloc, workers)?,
+            stances: Stances::away(alloc, workers)?,
+            queued: false,
+            promised: false,
         })
     }
 
-    // Notes that these are awake.
-    pub fn note_awake(&mut self, wakes: Wakes)
-        ensures transforms { self.new.transforms ≡ (self.old.transforms && not wakes.transforms) }
-        ensures questions { self.new.questions ≡ (self.old.questions && not wakes.questions) }
-        ensures workers { self.new.waiters ≡ awaited_after wakes.workers self.old.waiters }
+    // Ends a hold: its worker takes this stance, and who is woken looks. Where the hold made an entry, that
+    // wakes questions and transforms too.
+    #[inline]
+    pub fn end_hold(
+        &mut self,
+        book: &Book,
+        worker: WorkerId,
+        stance: Stance,
+        entered: bool,
+    ) -> Wakes
+        ensures { EndsHold book.now worker stance entered self.old self.new result }
     {
-        self.transforms = self.transforms && !wakes.transforms;
-        self.questions = self.questions && !wakes.questions;
-        match wakes.workers {
-            Woken::Nobody => {}
-            Woken::One(worker) => self.waiters.note(worker, None),
-            Woken::All => self.waiters.note_all_awake(),
+        let workers = self.stances.settle(book, self.queued, worker, stance);
+        let transforms = entered && self.transforms && last_lets_go_on(book);
+        let questions = entered && self.questions;
+        self.transforms = self.transforms && !transforms;
+        self.questions = self.questions && !questions;
+        Wakes {
+            transforms,
+            questions,
+            workers,
         }
+    }
+
+    // Notes that all that sleep are woken.
+    pub fn note_all_awake(&mut self) {
+        self.transforms = false;
+        self.questions = false;
+        self.stances.note_woken(Woken::All);
+    }
+
+    // Ends the hold in which a transform of this kind was run.
+    #[inline]
+    pub fn end_transform(
+        &mut self,
+        book: &Book,
+        worker: WorkerId,
+        kind: Kind,
+        ran: &Result<Disposition, AllocError>,
+    ) -> Wakes
+        ensures { EndsHold book.now worker (stance_after self.old.promised kind ran.now) (has_entered ran.now) self.old self.new result }
+    {
+        let again = match ran {
+            Ok(Disposition::Finished) => self.promised && !goes_to_work(kind),
+            Ok(Disposition::Failed) => self.promised,
+            Ok(Disposition::Retry) | Err(_) => false,
+        };
+        let entered = matches!(ran, Ok(Disposition::Finished | Disposition::Failed));
+        self.end_hold(book, worker, looks_if(again), entered)
+    }
+
+    // Ends the hold in which a question was asked.
+    #[inline]
+    pub fn end_question<A>(
+        &mut self,
+        book: &Book,
+        worker: WorkerId,
+        awaited: Option<Awaited>,
+        answer: &Option<A>,
+    ) -> Wakes
+        ensures { EndsHold book.now worker (stance_asking self.old.promised awaited answer.now) false self.old self.new result }
+    {
+        let stance = match (answer.is_some(), awaited) {
+            (true, _) => looks_if(self.promised),
+            (false, Some(awaited)) => Stance::Sleeps(awaited),
+            (false, None) => Stance::Away,
+        };
+        self.end_hold(book, worker, stance, false)
     }
 }
 
-// Whom the book's last entry wakes. Nobody is looked for where nobody sleeps.
+// The stance of a worker that comes again at once, or doesn't.
 #[inline]
-pub fn wakes_of(book: &Book, sleepers: &Sleepers) -> Wakes
-    ensures { AreWakesOf book.now sleepers.now result }
+fn looks_if(again: bool) -> Stance
+    ensures { result ≡ looks_if again }
 {
-    Wakes {
-        transforms: sleepers.transforms && last_lets_go_on(book),
-        questions: sleepers.questions,
-        workers: sleepers.waiters.whom_to_wake(book),
-    }
+    if again { Stance::Looks } else { Stance::Away }
+}
+
+// Whether a worker goes to work after an entry of this kind.
+#[inline]
+fn goes_to_work(kind: Kind) -> bool
+    ensures { result ≡ goes_to_work kind }
+{
+    matches!(kind, Kind::Claim(_) | Kind::Block(_))
 }

@@ -1,6 +1,7 @@
 //! The steps on the table.
 ghost use Rattle.std.specs.Prelude.{◌≡◌, ◌≢◌, ◌<◌, ◌+◌, ◌-◌, ◌^◌, [], ◌∷◌, length, true, false, IfNone, IfSome};
 ghost use Rattle.coordination.specs.Attempts.{Answers, HasRun};
+ghost use Rattle.coordination.specs.Endings.{EndsHold, stance_asking};
 ghost use Rattle.coordination.specs.Parts.{IsPartHere};
 ghost use Rattle.coordination.specs.Rule.{AddsOwn, Hears, Taken, carried_book};
 ghost use Rattle.coordination.specs.Sights.{holding, one, seeing, sight_of, stopping};
@@ -9,7 +10,7 @@ use crate::boxed_books::BoxedBook;
 use crate::parts::Part;
 use crate::questions::Question;
 use crate::rule::{Hear, OpenedWith, Order, PutBack, SeatView, Stop, Take};
-use crate::sleepers::{Sleepers, Wakes, wakes_of};
+use crate::sleepers::{Sleepers, Wakes};
 use atomic_table::{Seat, Table};
 use lock_journal::Book;
 use lock_transforms::{Disposition, Transform};
@@ -36,15 +37,15 @@ impl Slot {
         self.table.shared.swap::<Take>(seat, 0, 1) == 0
     }
 
-    // Runs the transform on the book that the seat holds, has the worker's part follow it, and says
-    // whom of the sleepers the last entry wakes.
+    // Runs the transform on the book that the seat holds, has the worker's part follow it, and ends the
+    // hold.
     pub fn run<T: Transform>(
         &self,
         seat: &mut Seat<BoxedBook, SeatView>,
         worker: WorkerId,
         part: &mut Part,
         transform: &T,
-        sleepers: &Sleepers,
+        sleepers: &mut Sleepers,
     ) -> (Result<Disposition, AllocError>, Wakes)
         requires id { seat.old.table_id ≡ self.now.table.shared.table_id }
         requires held { seat.old.me.1 ≡ (0, carried_book seat.old.me.1) ∷ [] }
@@ -53,27 +54,30 @@ impl Slot {
         ensures held { seat.new.me.1 ≡ (0, carried_book seat.new.me.1) ∷ [] }
         ensures run { HasRun (T.kind_of transform.now) (T.makes transform.now) (T.fails_on transform.now)
             (T.retries_on transform.now) worker (carried_book seat.old.me.1)
-            (carried_book seat.new.me.1) part.new sleepers.now result }
+            (carried_book seat.new.me.1) part.new sleepers.old sleepers.new result }
     {
         let boxed = seat.slot_mut(&self.table.shared, 0);
         run_on(&mut boxed.inner, worker, part, transform, sleepers)
     }
 
-    // Asks the question of the book that the seat holds.
+    // Asks the question of the book that the seat holds, and ends the hold.
     pub fn ask_book<Q: Question>(
         &self,
         seat: &mut Seat<BoxedBook, SeatView>,
         worker: WorkerId,
         question: &Q,
-    ) -> Option<Q::Answer>
+        sleepers: &mut Sleepers,
+    ) -> (Option<Q::Answer>, Wakes)
         requires id { seat.old.table_id ≡ self.now.table.shared.table_id }
         requires held { seat.old.me.1 ≡ (0, carried_book seat.old.me.1) ∷ [] }
         requires known { worker.0 < (carried_book seat.old.me.1).graph.workers }
         ensures same { (seat.new.table_id ≡ seat.old.table_id) × (seat.new.id ≡ seat.old.id) × (seat.new.me ≡ seat.old.me) }
-        ensures answer { Answers (Q.answers question.now) (Q.waits_on question.now) worker (carried_book seat.old.me.1) result }
+        ensures answer { Answers (Q.answers question.now) (Q.waits_on question.now) worker (carried_book seat.old.me.1) result.0 }
+        ensures ends { EndsHold (carried_book seat.old.me.1) worker (stance_asking sleepers.old.promised (Q.awaits question.now) result.0)
+            false sleepers.old sleepers.new result.1 }
     {
         let boxed = seat.slot_mut(&self.table.shared, 0);
-        question.ask(worker, &boxed.inner)
+        ask_of(&boxed.inner, worker, question, sleepers)
     }
 
     // Puts the book back.
@@ -124,21 +128,38 @@ impl Slot {
     }
 }
 
-// Runs the transform on the book, has the worker's part follow it, and says whom of the sleepers the
-// last entry wakes.
+// Runs the transform on the book, has the worker's part follow it, and ends the hold.
 #[inline]
 fn run_on<T: Transform>(
     book: &mut Book,
     worker: WorkerId,
     part: &mut Part,
     transform: &T,
-    sleepers: &Sleepers,
+    sleepers: &mut Sleepers,
 ) -> (Result<Disposition, AllocError>, Wakes)
     requires { IsPartHere worker book.old part.old }
     ensures { HasRun (T.kind_of transform.now) (T.makes transform.now) (T.fails_on transform.now)
-        (T.retries_on transform.now) worker book.old book.new part.new sleepers.now result }
+        (T.retries_on transform.now) worker book.old book.new part.new sleepers.old sleepers.new result }
 {
     let ran = book.run(worker, transform);
     part.follow(worker, book, &ran);
-    (ran, wakes_of(book, sleepers))
+    let wakes = sleepers.end_transform(book, worker, transform.kind(), &ran);
+    (ran, wakes)
+}
+
+// Asks the question of the book, and ends the hold.
+fn ask_of<Q: Question>(
+    book: &Book,
+    worker: WorkerId,
+    question: &Q,
+    sleepers: &mut Sleepers,
+) -> (Option<Q::Answer>, Wakes)
+    requires { worker.0 < book.now.graph.workers }
+    ensures answer { Answers (Q.answers question.now) (Q.waits_on question.now) worker book.now result.0 }
+    ensures ends { EndsHold book.now worker (stance_asking sleepers.old.promised (Q.awaits question.now) result.0)
+        false sleepers.old sleepers.new result.1 }
+{
+    let answer = question.ask(worker, book, sleepers.queued);
+    let wakes = sleepers.end_question(book, worker, question.awaited(), &answer);
+    (answer, wakes)
 }

@@ -8,7 +8,7 @@ ghost use Rattle.coordination.specs.Shown.{ShowsTheSame, blocked_shown, claimed_
 ghost use Rattle.lease_service.specs.Shows.{MayTake, ShowsGivenBack, ShowsTaken};
 ghost use Rattle.lease_service.specs.declared.holders.Tried.TheVariants.{Got, Busy};
 
-use coordination::{Coordination, Halt, Pass};
+use coordination::{Coordination, Halt, Offers, Pass};
 use lock_transforms::kinds::{Acquire, HandBack, Shortage};
 use resource_lock::LockId;
 use std::alloc::AllocError;
@@ -26,7 +26,11 @@ pub enum Tried {
 /// Takes a lease, where the worker has none, and waits until it can.
 ///
 /// Otherwise as `take_locks` with no locks.
-pub fn run_as_worker<R: Wait>(rt: &R, service: &Coordination, pass: &mut Pass) -> Result<(), Halt>
+pub fn run_as_worker<R: Wait, O: Offers>(
+    rt: &R,
+    service: &Coordination<O>,
+    pass: &mut Pass,
+) -> Result<(), Halt>
     requires service { pass.old.service ≡ service.now.service }
     requires may { MayTake pass.old.sight [] }
     ensures service { pass.new.service ≡ pass.old.service }
@@ -46,9 +50,9 @@ pub fn run_as_worker<R: Wait>(rt: &R, service: &Coordination, pass: &mut Pass) -
 /// `Stopped` comes only where it had to wait: where another worker owned one of the locks, or the
 /// worker had no lease and as many as may be were out. After it, and after `NoMemory`, the worker has
 /// what it had.
-pub fn take_locks<R: Wait>(
+pub fn take_locks<R: Wait, O: Offers>(
     rt: &R,
-    service: &Coordination,
+    service: &Coordination<O>,
     pass: &mut Pass,
     locks: &[LockId],
 ) -> Result<(), Halt>
@@ -78,9 +82,9 @@ pub fn take_locks<R: Wait>(
 /// as may be are out. After `Busy` the worker has what it had.
 ///
 /// It waits for the state lock alone, and fails for want of memory alone.
-pub fn try_take_locks<R: Wait>(
+pub fn try_take_locks<R: Wait, O: Offers>(
     rt: &R,
-    service: &Coordination,
+    service: &Coordination<O>,
     pass: &mut Pass,
     locks: &[LockId],
 ) -> Result<Tried, AllocError>
@@ -109,7 +113,11 @@ pub fn try_take_locks<R: Wait>(
 ///
 /// It waits for the state lock alone, and fails for want of memory alone. The worker then has what
 /// it had.
-pub fn hand_back<R: Wait>(rt: &R, service: &Coordination, pass: &mut Pass) -> Result<(), AllocError>
+pub fn hand_back<R: Wait, O: Offers>(
+    rt: &R,
+    service: &Coordination<O>,
+    pass: &mut Pass,
+) -> Result<(), AllocError>
     requires service { pass.old.service ≡ service.now.service }
     requires claimed { claimed_shown pass.old.sight ≡ [] }
     requires not_blocked { blocked_shown pass.old.sight ≡ false }

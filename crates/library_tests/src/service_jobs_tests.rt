@@ -119,7 +119,7 @@ impl Question for HasEntries<'_> {
         None
     }
 
-    fn ask(&self, _worker: WorkerId, book: &Book) -> Option<bool> {
+    fn ask(&self, _worker: WorkerId, book: &Book, _queued: bool) -> Option<bool> {
         Some(has_entries(book, self.rows))
     }
 }

@@ -51,7 +51,7 @@ impl Question for HasEntries<'_> {
         None
     }
 
-    fn ask(&self, _worker: WorkerId, book: &Book) -> Option<bool> {
+    fn ask(&self, _worker: WorkerId, book: &Book, _queued: bool) -> Option<bool> {
         Some(self.rows.iter().all(|row| has_entry(book, row)))
     }
 }
@@ -89,7 +89,7 @@ impl Question for EntriesFrom {
         None
     }
 
-    fn ask(&self, _worker: WorkerId, book: &Book) -> Option<u64> {
+    fn ask(&self, _worker: WorkerId, book: &Book, _queued: bool) -> Option<u64> {
         let entries = book.len();
         (self.least <= entries).then_some(entries)
     }

@@ -92,6 +92,17 @@ impl Tickets {
         take_first(rt, &self.queue, &mut seat.pass)
     }
 
+    /// Whether no ticket is queued. It doesn't wait.
+    ///
+    /// True means that none was queued at a moment of the call.
+    pub fn is_empty(&self, seat: &mut TicketSeat) -> bool
+        requires { seat.old.queue ≡ self.now.queue }
+        ensures same { seat.new ≡ seat.old }
+        ensures empty { result ≡ true → WasEmpty seat.old.sight }
+    {
+        finds_none(&self.queue, &mut seat.pass)
+    }
+
     /// Ends the queue, with all its seats in any order. Tickets that are queued are let go.
     ///
     /// There is one line that every seat has seen a beginning of. Each place of it was pushed by one seat, once, and each
@@ -154,4 +165,15 @@ fn take_first<R: Wait>(rt: &R, queue: &RuledQueue, pass: &mut Pass<u32, PassView
     ensures same { IfNone result (view pass.new ≡ view pass.old) }
 {
     queue.pop_as::<Pop, R>(rt, pass)
+}
+
+// Whether no ticket is queued.
+fn finds_none(queue: &RuledQueue, pass: &mut Pass<u32, PassView>) -> bool
+    requires queue { IsPassOf queue.now pass.old }
+    requires lone { view pass.old ≡ one (sight_of (view pass.old)) }
+    ensures queue { IsSamePass pass.old pass.new }
+    ensures same { view pass.new ≡ view pass.old }
+    ensures empty { result ≡ true → Held 0 (finds (view pass.old)) }
+{
+    queue.is_empty_as::<Pop>(pass)
 }

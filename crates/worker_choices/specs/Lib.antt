@@ -1,2 +1,4 @@
+pub mod Stances
 pub mod NextSteps
+pub mod Choices
 pub mod GoingOn

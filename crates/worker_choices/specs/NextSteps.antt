@@ -1,5 +1,5 @@
 -- What a worker can do next, and where it has to wait.
-use Rattle.std.specs.Prelude.{ℕ, ◌≡◌, ◌<◌, Bool, true, not, ◌&&◌, List, Option, None, Some, All, find, is_none, length, slice_get}
+use Rattle.std.specs.Prelude.{ℕ, ◌≡◌, ◌<◌, Bool, true, false, not, ◌&&◌, ◌||◌, List, Option, None, Some, All, find, is_none, length, slice_get}
 use Rattle.resource_lock.specs.GraphView.{GraphView, action_of}
 use Rattle.resource_lock.specs.Ranges.{items_of, lock_with}
 use Rattle.resource_lock.specs.StateView.{StateView, mark_of, owner_of}
@@ -9,26 +9,27 @@ use Rattle.resource_lock.specs.declared.graphs.Retention.TheVariants.{Retain, Re
 use Rattle.resource_lock.specs.declared.ids.LockId.{LockId}
 use Rattle.resource_lock.specs.declared.ids.WorkerId.{WorkerId}
 use Rattle.resource_lock.specs.declared.marks.MarkId.TheVariants.{Unit as UnitOf}
-use Rattle.ready_work.specs.Choices.{CanSkip, CanStart, IsQueued}
+use Rattle.ready_work.specs.Choices.{CanSkip, CanStart}
 use Rattle.ready_work.specs.Lowest.{IsNone}
 use Rattle.lock_transforms.specs.Table.{has_ended}
 use Rattle.history_laws.specs.Marks.{IsEnded}
 use Rattle.worker_choices.specs.declared.awaited.Awaited.{Awaited}
 use Rattle.worker_choices.specs.declared.awaited.Awaited.TheVariants.{Work, Items}
+use Rattle.worker_choices.specs.declared.stances.Stance.{Stance}
+use Rattle.worker_choices.specs.declared.stances.Stance.TheVariants.{Sleeps}
 
--- with a lease at hand the unit could be claimed
-pub record CanClaim (g : GraphView) (w : WorkerId) (s : StateView) (u : ℕ) : Type 0 where
-  pub lease : can_lease s w ≡ true
-  pub queued : IsQueued g s u
+-- a ticket is queued, and a lease is free for its unit
+abbrev pub can_pop : WorkerId → StateView → Bool → Bool
+can_pop w s queued = queued && can_lease s w
 
 -- with a lease at hand the task could be started
 pub record CanBegin (g : GraphView) (w : WorkerId) (s : StateView) (t : ℕ) : Type 0 where
   pub lease : can_lease s w ≡ true
   pub start : CanStart g s t
 
--- an idle worker can neither claim an item nor skip or start a task, nor have all tasks ended
-pub record HasNothingToDo (g : GraphView) (w : WorkerId) (s : StateView) : Type 0 where
-  pub claim : IsNone (CanClaim g w s)
+-- an idle worker can neither pop a ticket nor skip or start a task, nor have all tasks ended
+pub record HasNothingToDo (g : GraphView) (w : WorkerId) (s : StateView) (queued : Bool) : Type 0 where
+  pub pop : can_pop w s queued ≡ false
   pub skip : IsNone (CanSkip g s)
   pub start : IsNone (CanBegin g w s)
   pub goes_on : All IsEnded s.tasks → ⊥
@@ -48,16 +49,16 @@ pub record CanGoOn (g : GraphView) (w : WorkerId) (s : StateView) (a : ℕ) : Ty
   pub over : first_open g s a ≡ None
   pub free : can_take_again (action_of g a).retention (lock_with g a) w s ≡ true
 
--- a worker that is parked in the action can neither resume nor claim an item
-pub record HasToWait (g : GraphView) (w : WorkerId) (s : StateView) (a : ℕ) : Type 0 where
+-- a worker that is parked in the action can neither resume nor pop a ticket
+pub record HasToWait (g : GraphView) (w : WorkerId) (s : StateView) (queued : Bool) (a : ℕ) : Type 0 where
   pub waits : CanGoOn g w s a → ⊥
-  pub claim : IsNone (CanClaim g w s)
+  pub pop : can_pop w s queued ≡ false
 
--- What a worker waits for isn't there.
-abbrev pub Waits : GraphView → WorkerId → StateView → Awaited → Type 0
-Waits g w s Work = HasNothingToDo g w s
-Waits g w s (Items a) = a < length g.actions → HasToWait g w s a
+-- What a worker waits for isn't there, where a ticket is queued or none. Units of its own are tickets to it.
+abbrev pub Waits : GraphView → WorkerId → StateView → Bool → Awaited → Type 0
+Waits g w s queued Work = HasNothingToDo g w s queued
+Waits g w s queued (Items a own) = a < length g.actions → HasToWait g w s (queued || own) a
 
 -- each worker below a number that sleeps until what it waits for comes still waits for it
-abbrev pub StillWait : GraphView → StateView → List (Option Awaited) → ℕ → Type 0
-StillWait g s awaited k = (w : ℕ) (a : Awaited) → w < k → slice_get awaited w ≡ Some (Some a) → Waits g (record { 0 = w }) s a
+abbrev pub StillWait : GraphView → StateView → Bool → List Stance → ℕ → Type 0
+StillWait g s queued stances k = (w : ℕ) (a : Awaited) → w < k → slice_get stances w ≡ Some (Sleeps a) → Waits g (record { 0 = w }) s queued a

@@ -2,14 +2,17 @@
 
 /// What ends a worker's wait for the answer of its question.
 ///
-/// Each entry wakes one of those for whom what they wait for has come. So who is woken makes an entry
-/// next, or asks again.
+/// A ticket counts where a lease is free for the worker that waits.
 #[derive(Clone, Copy)]
 pub enum Awaited {
-    /// An item to claim or a task to start, with a lease for it, a task to skip, or the end of all
-    /// tasks. The last wakes all.
+    /// A ticket to pop or a task to start, with a lease for it, a task to skip, or the end of all tasks.
     Work,
-    /// An item to claim, with a lease for it, or the end of the items of this action, with all free
-    /// that its retention takes again.
-    Items(u32),
+    /// A ticket to pop, with a lease for it, or the end of the items of an action, with all free that
+    /// its retention takes again.
+    Items {
+        /// The action.
+        action: u32,
+        /// Whether the worker has units of its own, which it takes as it takes a ticket.
+        own: bool,
+    },
 }

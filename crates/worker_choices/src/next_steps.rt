@@ -6,7 +6,7 @@ ghost use Rattle.resource_lock.specs.StateView.{owner_of};
 ghost use Rattle.resource_lock.specs.Trying.{can_lease};
 ghost use Rattle.ready_work.specs.Lowest.{IsLowest, IsNone};
 ghost use Rattle.history_laws.specs.Marks.{IsEnded};
-ghost use Rattle.worker_choices.specs.NextSteps.{CanBegin, CanClaim, CanGoOn, can_take_again, first_open};
+ghost use Rattle.worker_choices.specs.NextSteps.{CanBegin, CanGoOn, can_pop, can_take_again, first_open};
 
 use crate::open_items::first_open;
 use lock_journal::Book;
@@ -22,17 +22,12 @@ pub fn lease_is_free(book: &Book, worker: WorkerId) -> bool
     state.has_lease(worker) || state.leases_out() < book.graph().max_leases()
 }
 
-/// The lowest queued item, where there is a lease for it.
-pub fn item_to_claim(book: &Book, worker: WorkerId) -> Option<u32>
+/// Whether a ticket can be popped, where one is queued or none: there has to be a lease for its unit.
+pub fn can_pop(book: &Book, worker: WorkerId, queued: bool) -> bool
     requires { worker.0 < book.now.graph.workers }
-    ensures some { IfSome result (IsLowest (CanClaim book.now.graph worker book.now.state)) }
-    ensures none { IfNone result (IsNone (CanClaim book.now.graph worker book.now.state)) }
+    ensures { result ≡ can_pop worker book.now.state queued }
 {
-    if lease_is_free(book, worker) {
-        book.lowest_queued()
-    } else {
-        None
-    }
+    queued && lease_is_free(book, worker)
 }
 
 /// The lowest task that can be started, where there is a lease for it.

@@ -1,13 +1,15 @@
-//! Whom of the workers that wait an entry wakes.
-ghost use Rattle.std.specs.Prelude.{◌≡◌, ◌<◌, Some, All, slice_get, true, false};
+//! Whom of the workers that sleep the end of a hold of the state lock wakes.
+ghost use Rattle.std.specs.Prelude.{◌≡◌, ◌<◌, Some, All, false, slice_get, true};
 ghost use Rattle.resource_lock.specs.declared.ids.WorkerId.{WorkerId};
 ghost use Rattle.history_laws.specs.Marks.{IsEnded};
 ghost use Rattle.worker_choices.specs.NextSteps.{StillWait, Waits};
 ghost use Rattle.worker_choices.specs.declared.awaited.Awaited.{Awaited};
+ghost use Rattle.worker_choices.specs.declared.stances.Stance.TheVariants as stance;
 ghost use Rattle.worker_choices.specs.declared.woken.Woken.TheVariants as woken;
 
-use crate::awaited::Awaited;
-use crate::next_steps::{all_ended, can_go_on, item_to_claim, task_to_start};
+use crate::choices::has_come;
+use crate::next_steps::all_ended;
+use crate::stances::Stance;
 use lock_journal::Book;
 use resource_lock::WorkerId;
 
@@ -22,47 +24,37 @@ pub enum Woken {
     All,
 }
 
-/// Whom the book's last entry wakes, where a worker's place in `awaited` says what it waits for, or
-/// None where it doesn't sleep.
+/// Whom of the workers to wake, by their stances, where nobody looks and a ticket is queued or none.
 ///
 /// All are woken where all tasks have ended. Else it is the first worker for which what it waits for
-/// has come; the entry that this worker makes next wakes the next.
-pub fn whom_to_wake(book: &Book, awaited: &[Option<Awaited>]) -> Woken
-    ensures nobody { result ≡ woken.Nobody → StillWait book.now.graph book.now.state awaited.now book.now.graph.workers }
-    ensures one { (w : WorkerId) → result ≡ woken.One w → (a : Awaited) × (slice_get awaited.now w.0 ≡ Some (Some a))
-        × (Waits book.now.graph w book.now.state a → ⊥) }
+/// has come; it looks then, and who looks last wakes the next.
+pub fn whom_to_wake(book: &Book, queued: bool, stances: &[Stance]) -> Woken
+    ensures nobody { result ≡ woken.Nobody → StillWait book.now.graph book.now.state queued stances.now book.now.graph.workers }
+    ensures one { (w : WorkerId) → result ≡ woken.One w → (a : Awaited) × (slice_get stances.now w.0 ≡ Some (stance.Sleeps a))
+        × (Waits book.now.graph w book.now.state queued a → ⊥) }
     ensures all { result ≡ woken.All → All IsEnded book.now.state.tasks }
 {
     if all_ended(book) {
         return Woken::All;
     }
     for worker in 0..book.graph().workers() {
-        if let Some(Some(awaited)) = awaited.get(worker as usize) {
-            let worker = WorkerId(worker);
-            if has_come(book, worker, *awaited) {
-                return Woken::One(worker);
-            }
+        if sleeps_in_vain(book, queued, stances, WorkerId(worker)) {
+            return Woken::One(WorkerId(worker));
         }
     }
     Woken::Nobody
 }
 
-// Whether what a worker waits for has come.
-fn has_come(book: &Book, worker: WorkerId, awaited: Awaited) -> bool
+// Whether a worker sleeps though what it waits for has come.
+fn sleeps_in_vain(book: &Book, queued: bool, stances: &[Stance], worker: WorkerId) -> bool
     requires { worker.0 < book.now.graph.workers }
-    ensures waits { result ≡ false → Waits book.now.graph worker book.now.state awaited }
-    ensures comes { result ≡ true → Waits book.now.graph worker book.now.state awaited → ⊥ }
+    ensures no { result ≡ false → (a : Awaited) → slice_get stances.now worker.0 ≡ Some (stance.Sleeps a)
+        → Waits book.now.graph worker book.now.state queued a }
+    ensures yes { result ≡ true → (a : Awaited) × (slice_get stances.now worker.0 ≡ Some (stance.Sleeps a))
+        × (Waits book.now.graph worker book.now.state queued a → ⊥) }
 {
-    match awaited {
-        Awaited::Work => {
-            item_to_claim(book, worker).is_some()
-                || book.lowest_to_skip().is_some()
-                || task_to_start(book, worker).is_some()
-                || all_ended(book)
-        }
-        Awaited::Items(action) => {
-            (action as usize) < book.graph().actions().len()
-                && (item_to_claim(book, worker).is_some() || can_go_on(book, worker, action))
-        }
+    match stances.get(worker.0 as usize) {
+        Some(Stance::Sleeps(awaited)) => has_come(book, worker, queued, *awaited),
+        Some(Stance::Away | Stance::Looks) | None => false,
     }
 }

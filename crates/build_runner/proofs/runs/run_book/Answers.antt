@@ -5,6 +5,7 @@ use Rattle.resource_lock.specs.GraphView.{GraphView}
 use Rattle.coordination.specs.Passes.{PassView}
 use Rattle.coordination.specs.Sights.{workers_from}
 use Rattle.coordination.specs.declared.services.Opened.{Opened}
+use Rattle.build_runner.specs.declared.queue.QueuePlace.{QueuePlace}
 use Rattle.plan_reader.specs.PlanView.{PlanView}
 use Rattle.plan_reader.specs.Units.{PlannedUnit}
 use Rattle.build_runner.specs.Desks.{DeskView, desk_view, desks_view, known_by}
@@ -24,10 +25,10 @@ use Rattle.build_runner.proofs.lemmas.Within.{nothing_done}
 use Rattle.build_runner.proofs.runs.run_book.Goals as goal
 
 -- as many passes as workers, with their numbers
-pass_count : {plan : PlanView} {options : RunOptions} {p : Prepared} → IsPrepared plan options p → (o : Opened) → IsOpenedOn p.graph o → length o.passes.items ≡ options.workers
+pass_count : {plan : PlanView} {options : RunOptions} {p : Prepared} → IsPrepared plan options p → (o : Opened QueuePlace) → IsOpenedOn p.graph o → length o.passes.items ≡ options.workers
 pass_count start o opened = opened.passes ∙ ap (λ (g : GraphView). g.workers) start.graph
 
-pass_numbers : {plan : PlanView} {options : RunOptions} {p : Prepared} → IsPrepared plan options p → (o : Opened) → IsOpenedOn p.graph o → map (λ pass. pass.sight.worker.0) o.passes.items ≡ workers_from 0 options.workers
+pass_numbers : {plan : PlanView} {options : RunOptions} {p : Prepared} → IsPrepared plan options p → (o : Opened QueuePlace) → IsOpenedOn p.graph o → map (λ pass. pass.sight.worker.0) o.passes.items ≡ workers_from 0 options.workers
 pass_numbers start o opened = opened.workers ∙ ap (λ (g : GraphView). workers_from 0 g.workers) start.graph
 
 pub run_team-ended-requires-clause-same : goal.run_team-ended-requires-clause-same
@@ -49,7 +50,7 @@ invariant_of-site g c =
 pub close_service-book-requires-clause-graph : goal.close_service-book-requires-clause-graph
 close_service-book-requires-clause-graph g c =
     let start = c.in_ok-graph.ensures in
-    ap (λ (o : Opened). o.service.book.graph) c.deref_mut-parts.ensures.value ∙ (start.opened.graph ∙ start.graph)
+    ap (λ (o : Opened QueuePlace). o.service.book.graph) c.deref_mut-parts.ensures.value ∙ (start.opened.graph ∙ start.graph)
 
 pub close_service-book-requires-clause-service : goal.close_service-book-requires-clause-service
 close_service-book-requires-clause-service g c =
@@ -208,6 +209,13 @@ returns-clause-broken_off g c =
     (all_were_there view site n c.run_team-ended.result old c.split_off.new.self.items worked begun.passes.items c.run_team-ended.new.passes.items
     c.requires.enough c.in_ok-rest.ensures.items count (team.desks ∙ size) (team.passes ∙ size) (λ i p d low. team.worked i p d (omega (arith, size, low)))
     new back opened.untouched d))
+
+pub run_team-ended-requires-clause-ready : goal.run_team-ended-requires-clause-ready
+run_team-ended-requires-clause-ready g c κs within =
+    (subst (IsOpenedOn c.in_ok-graph.field-0.graph) (sym c.deref_mut-parts.ensures.value) c.in_ok-graph.ensures.opened).ready
+
+pub returns-in_err-place-clause-broken_off : goal.returns-in_err-place-clause-broken_off
+returns-in_err-place-clause-broken_off g c = λ d. at_err _ (nothing_done c.args.plan.now c.args.options.now (desks_view (desk_view g.D.Files.files g.D.Files.faults g.D.Desk.sends g.D.Desk.sent) c.args.desks.now.items d))
 
 pub returns-in_err-graph-clause-broken_off : goal.returns-in_err-graph-clause-broken_off
 returns-in_err-graph-clause-broken_off g c = λ d. at_err _ (nothing_done c.args.plan.now c.args.options.now (desks_view (desk_view g.D.Files.files g.D.Files.faults g.D.Desk.sends g.D.Desk.sent) c.args.desks.now.items d))

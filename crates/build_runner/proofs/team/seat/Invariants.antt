@@ -9,6 +9,7 @@ invariant-loop-pass g l =
     × (l.fn.desks.items ≡ map (λ w. w.desk) l.team.items ++ into_iter_items l.rest)
     × (map (λ w. w.pass) l.team.items ≡ l.yielded)
     × (into_iter_len l.rest ≡ into_iter_len l.pass-iterator)
+    × (into_iter_len l.rest_of_hands ≡ into_iter_len l.pass-iterator)
     × (vec_len l.team + into_iter_len l.pass-iterator ≤ vec_capacity l.team)
     × (l.tallies.parts + length l.yielded ≡ l.initial.tallies.parts)
     × (length l.yielded + into_iter_len l.pass-iterator < l.initial.tallies.parts)

@@ -4,10 +4,10 @@ use Rattle.coordination.specs.Passes.{PassView}
 use Rattle.coordination.specs.Sights.{sights_from}
 use Rattle.coordination.proofs.Closing.{length_first, workers_first}
 use Rattle.coordination.proofs.FirstSights.{all_rest, all_saw}
-use Rattle.coordination.proofs.services.Coordination.open.Goals as goal
+use Rattle.coordination.proofs.services.Coordination.open_with.Goals as goal
 
 pub returns : goal.returns
-returns c =
+returns g c =
     let book = c.args.book.value in
     let ps : List PassView = c.open.result.passes.items in
     let e = c.open.ensures in

@@ -1,0 +1,82 @@
+-- What the end of a hold of the state lock leaves: who sleeps, who looks and who is woken.
+use Rattle.std.specs.Prelude.{◌≡◌, ◌<◌, ◌⊎◌, ◌&&◌, not, ℕ, Bool, true, false, List, Option, None, Some, Result, Ok, Err, All, length, replicate, set, slice_get}
+use Rattle.resource_lock.specs.declared.ids.WorkerId.{WorkerId}
+use Rattle.lock_journal.specs.BookView.{BookView}
+use Rattle.lock_transforms.specs.declared.entries.Kind.{Kind}
+use Rattle.lock_transforms.specs.declared.entries.Kind.TheVariants.{Block, Claim}
+use Rattle.lock_transforms.specs.declared.transforms.Disposition.{Disposition}
+use Rattle.lock_transforms.specs.declared.transforms.Disposition.TheVariants.{Finished, Failed, Retry}
+use Rattle.history_laws.specs.Marks.{IsEnded}
+use Rattle.worker_choices.specs.NextSteps.{StillWait, Waits}
+use Rattle.worker_choices.specs.GoingOn.{last_lets_go_on}
+use Rattle.worker_choices.specs.Stances.{looking}
+use Rattle.worker_choices.specs.declared.awaited.Awaited.{Awaited}
+use Rattle.worker_choices.specs.declared.stances.Stance.{Stance}
+use Rattle.worker_choices.specs.declared.stances.Stance.TheVariants.{Away, Looks, Sleeps}
+use Rattle.worker_choices.specs.declared.woken.Woken.{Woken}
+use Rattle.worker_choices.specs.declared.woken.Woken.TheVariants as woken
+use Rattle.coordination.specs.declared.sleepers.Sleepers.{Sleepers}
+use Rattle.coordination.specs.declared.sleepers.Wakes.{Wakes}
+
+-- The stance of a worker that has promised to come again, or hasn't.
+abbrev pub looks_if : Bool → Stance
+looks_if true = Looks
+looks_if false = Away
+
+-- after an entry of this kind its worker goes to work
+abbrev pub goes_to_work : Kind → Bool
+goes_to_work (Claim u) = true
+goes_to_work (Block u) = true
+goes_to_work k = false
+
+-- The stance that a transform leaves its worker in. One that asks to be run again waits in it.
+abbrev pub stance_after : {E : Type 0} → Bool → Kind → Result Disposition E → Stance
+stance_after promised kind (Ok Finished) = looks_if (promised && not (goes_to_work kind))
+stance_after promised kind (Ok Failed) = looks_if promised
+stance_after promised kind (Ok Retry) = Away
+stance_after promised kind (Err e) = Away
+
+-- whether a transform left an entry, a failed one too
+abbrev pub has_entered : {E : Type 0} → Result Disposition E → Bool
+has_entered (Ok Finished) = true
+has_entered (Ok Failed) = true
+has_entered (Ok Retry) = false
+has_entered (Err e) = false
+
+-- The stance that a question leaves its worker in: it carries the answer out, or sleeps until what it waits for comes.
+abbrev pub stance_asking : {A : Type 0} → Bool → Option Awaited → Option A → Stance
+stance_asking promised awaits (Some a) = looks_if promised
+stance_asking promised (Some awaited) None = Sleeps awaited
+stance_asking promised None None = Away
+
+-- Nobody is woken only where somebody looks or each sleeper still waits, a worker only where nobody looks and what it waits for has
+-- come, and all only where all tasks have ended.
+pub record IsWokenBy (book : BookView) (queued : Bool) (stances : List Stance) (who : Woken) : Type 0 where
+  pub nobody : who ≡ woken.Nobody → (0 < looking stances) ⊎ StillWait book.graph book.state queued stances book.graph.workers
+  pub one : (w : WorkerId) → who ≡ woken.One w
+      → (looking stances ≡ 0) × (a : Awaited) × (slice_get stances w.0 ≡ Some (Sleeps a)) × (Waits book.graph w book.state queued a → ⊥)
+  pub all : who ≡ woken.All → All IsEnded book.state.tasks
+
+-- Who was woken looks. Where all were, nobody sleeps, and nobody is counted on.
+abbrev pub stances_after : Woken → List Stance → List Stance
+stances_after woken.Nobody stances = stances
+stances_after (woken.One w) stances = set stances w.0 Looks
+stances_after woken.All stances = replicate (length stances) Away
+
+-- Somebody looks, or each worker that sleeps still waits for what it waits for.
+abbrev pub AreQuiet : BookView → Bool → List Stance → Type 0
+AreQuiet book queued stances = (0 < looking stances) ⊎ StillWait book.graph book.state queued stances book.graph.workers
+
+-- A hold ended: its worker took this stance, and where nobody looked then one sleeper was woken for which what it waits for had
+-- come. Where the hold made an entry, that wakes all questions that wait for any, and all transforms where it can let one go on.
+pub record EndsHold (book : BookView) (w : WorkerId) (stance : Stance) (entered : Bool) (old new : Sleepers) (wakes : Wakes) : Type 0 where
+  pub queued : new.queued ≡ old.queued
+  pub questions : wakes.questions ≡ (entered && old.questions)
+  pub transforms : wakes.transforms ≡ (entered && (old.transforms && last_lets_go_on book.history))
+  pub workers : IsWokenBy book old.queued (set old.stances w.0 stance) wakes.workers
+  pub stances : new.stances ≡ stances_after wakes.workers (set old.stances w.0 stance)
+  pub quiet : AreQuiet book new.queued new.stances
+
+-- A try under the state lock ended its hold on the book that its worker then saw, or it found the book out.
+abbrev pub LeavesHold : BookView → WorkerId → Sleepers → Sleepers → Wakes → Type 0
+LeavesHold book w old new wakes = ((stance : Stance) × (entered : Bool) × EndsHold book w stance entered old new wakes) ⊎ (new ≡ old)
