@@ -8,7 +8,8 @@ or, where nothing was refused, with no such unit. Nothing is proved here, and no
 
     bench/starved.py [FIRST LAST STEP]
 
-The numbers say which allocations fail: of the program's about 540, the first 200 make the desks.
+The numbers say which allocations fail. The program's first ones make the desks, and then come those of the run. A place behind the run's last
+allocation is answered by "nothing was refused", so the answers tell whether the numbers reach over the whole run.
 """
 
 import dataclasses

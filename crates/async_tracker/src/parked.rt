@@ -1,3 +1,4 @@
+//! Workers that wait for the items of an action.
 ghost use Rattle.std.specs.Prelude.{◌≡◌};
 
 use resource_lock::WorkerId;

@@ -68,7 +68,7 @@ pub fn resume<R: Wait, O: Offers>(
     }
 }
 
-/// The first item of an action that hasn't ended.
+// The first item of an action that hasn't ended.
 fn ask_first_open<R: Wait, O: Offers>(
     rt: &R,
     service: &Coordination<O>,
@@ -86,7 +86,7 @@ fn ask_first_open<R: Wait, O: Offers>(
     }
 }
 
-/// Makes the entry, once the pass has seen that all items have ended: so it is in every later state.
+// Makes the entry, once the pass has seen that all items have ended: so it is in every later state.
 fn go_on<R: Wait, O: Offers>(
     rt: &R,
     service: &Coordination<O>,

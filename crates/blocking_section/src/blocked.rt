@@ -1,3 +1,4 @@
+//! What a worker gave back to wait, until it takes it again.
 ghost use Rattle.std.specs.Prelude.{◌≡◌};
 
 use coordination::Pass;

@@ -1,3 +1,4 @@
+//! The way out of a blocking section.
 ghost use Rattle.std.specs.Prelude.{◌≡◌, [], Err, OnOk};
 ghost use Rattle.resource_lock.specs.declared.ids.WorkerId.{WorkerId};
 ghost use Rattle.lock_transforms.specs.Allowed.{IsFixedList};
@@ -60,7 +61,7 @@ pub fn leave<R: Wait, O: Offers>(
     }
 }
 
-/// The unit with its outcome, where both are given.
+// The unit with its outcome, where both are given.
 fn closed_with(unit: Option<u32>, outcome: Option<Outcome>) -> Option<Closed>
     ensures { result ≡ closed_with unit outcome }
 {

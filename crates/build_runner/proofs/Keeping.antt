@@ -15,6 +15,7 @@ use Rattle.lock_transforms.specs.Entry.{Entry, entry}
 use Rattle.lock_transforms.specs.declared.entries.Closed.{Closed}
 use Rattle.lock_transforms.specs.declared.entries.Kind.{Kind}
 use Rattle.file_access.specs.SinkView.{Rises}
+use Rattle.file_access.proofs.lemmas.Lists.{all_append}
 use Rattle.plan_reader.specs.Units.{PlannedUnit}
 use Rattle.history_laws.specs.Answers.{IsHonestWorker}
 use Rattle.lock_journal.specs.Closings.{closed_of}
@@ -27,10 +28,6 @@ use Rattle.coordination.specs.declared.halts.Halt.{Halt}
 use Rattle.coordination.specs.declared.rule.Sight.{Sight}
 use Rattle.build_runner.specs.Kept.{HasClosed, Keeps}
 use Rattle.build_runner.specs.Units.{given}
-
-pub all_append : {X : Type 0} (P : X → Type 0) (xs ys : List X) → AllByRecursion P xs → AllByRecursion P ys → AllByRecursion P (xs ++ ys)
-all_append P [] ys a b = b
-all_append P (x ∷ xs) ys a b = (a.0, all_append P xs ys a.1 b)
 
 -- the pass has seen a book that it found, or heard of a stop besides
 seen_closes : {old new : Sight} (book : BookView) → Finds old.worker old.seen book → new.worker ≡ old.worker → new.seen ≡ book → HasClosed [] old new

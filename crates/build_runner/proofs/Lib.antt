@@ -5,12 +5,14 @@ pub mod Sending
 pub mod Stepping
 mod AtFirst
 mod AtTheEnd
+mod Failing
 mod FileNames
+mod HandSteps
 mod Joined
 mod Places
+mod PlannedItems
 mod PlannedUnits
 mod Ranks
 mod Seated
 mod SiteUnits
 mod Tallied
-mod UnitLists

@@ -10,10 +10,10 @@ use Rattle.resource_lock.specs.declared.graphs.GraphAction.{GraphAction}
 use Rattle.plan_reader.specs.Graph.{actions_from, all_actions_from, graph_of, units_in_all}
 use Rattle.plan_reader.specs.IsPlan.{IsPlan}
 use Rattle.plan_reader.specs.PlanView.{PlanActionView, PlanTaskView, PlanView, WorkView}
-use Rattle.plan_reader.specs.Units.{PlannedUnit, action_units, fetch_units, item_unit, plan_units, task_units}
-use Rattle.build_runner.specs.Units.{AreUnitsOf, IsFetched, IsPlannedItem, fetch_unit}
+use Rattle.plan_reader.specs.Units.{PlannedUnit, action_units, fetch_unit, fetch_units, item_unit, plan_units, task_units}
+use Rattle.build_runner.specs.Units.{AreUnitsOf, IsFetched, IsPlannedItem}
 use Rattle.build_runner.proofs.FileNames.{of_plan}
-use Rattle.build_runner.proofs.Keeping.{all_append}
+use Rattle.file_access.proofs.lemmas.Lists.{all_append}
 
 -- an action's first unit is its fetch, where it has one, and its items stand behind
 record IsPlaced (units : List PlannedUnit) (a : GraphAction) : Type 0 where

@@ -7,7 +7,6 @@ use Rattle.lock_transforms.specs.declared.entries.Closed.{Closed}
 use Rattle.daemon_requirements.specs.declared.work.Isolation.{Isolation}
 use Rattle.daemon_requirements.specs.declared.work.Isolation.TheVariants.{InThread, Process}
 use Rattle.daemon_requirements.specs.declared.work.Work.{Work}
-use Rattle.daemon_desk.specs.declared.sent.SentRequest.{SentRequest}
 use Rattle.item_work.specs.Requests.{SentView, request_for}
 use Rattle.item_work.specs.Sends.{SendsFor}
 use Rattle.plan_reader.specs.PlanView.{process_of, work_view}
@@ -76,6 +75,3 @@ sent_then last units {a} {b} {c} {r} {s} {t} k l = record {
   closes = closes_then k.closes l.closes;
   sent = joined_by last units k.closed l.closed a b c k.sent l.sent;
 }
-
-pub same_view : {a b : ℕ} {x y : Option (List SentRequest)} → a ≡ b → x ≡ y → ◌≡◌ {A = SentView} (record { count = a; requests = x }) (record { count = b; requests = y })
-same_view is are = cc

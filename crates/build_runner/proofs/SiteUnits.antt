@@ -5,9 +5,9 @@ use Rattle.std.specs.List.{All}
 use Rattle.std.proofs.lemmas.List.{get_or-map, length-map}
 use Rattle.std.proofs.lemmas.Option.{get_or_from_slice_get, slice_get_within}
 use Rattle.plan_reader.specs.PlanView.{WorkView}
-use Rattle.plan_reader.specs.Units.{PlannedUnit, item_unit}
-use Rattle.build_runner.specs.Units.{HasFileName, fetch_unit, unit_view}
-use Rattle.build_runner.specs.declared.units.UnitWork.{UnitWork}
+use Rattle.plan_reader.specs.Units.{PlannedUnit, fetch_unit, item_unit, unit_view}
+use Rattle.build_runner.specs.Units.{HasFileName}
+use Rattle.plan_reader.specs.declared.units.UnitWork.{UnitWork}
 use Rattle.build_runner.proofs.Keeping.{some_or_none}
 
 module _ (us : List UnitWork) (u : ℕ) (planned : PlannedUnit) (is : slice_get (map unit_view us) u ≡ Some planned) where

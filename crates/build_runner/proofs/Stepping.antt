@@ -6,6 +6,7 @@ use Rattle.std.proofs.lemmas.List.{append-nil}
 use Rattle.item_actions.specs.Files.{Folder}
 use Rattle.item_actions.specs.Value.{IsHonest}
 use Rattle.item_actions.specs.declared.outcomes.Outcome.{Outcome}
+use Rattle.file_access.proofs.lemmas.Counting.{fault_rises, outcome_kept}
 use Rattle.history_laws.specs.ClosedBy.{closed_by}
 use Rattle.lock_transforms.specs.declared.entries.Closed.{Closed}
 use Rattle.plan_reader.specs.Units.{PlannedUnit, value_in}
@@ -76,14 +77,14 @@ step_closed {view = view} {s} {a} {b} {old} {mid} {new} d (Ok x) at first opened
     let closes = closes_then opened closed in record {
       at = at_next at (last ∙ first) closes;
       files = run.files;
-      keeps = keeps_closed (view a).files s.units (view a).faults (view b).faults d closes run.count run.fault run.honest;
+      keeps = keeps_closed (view a).files s.units (view a).faults (view b).faults d closes (outcome_kept d.outcome (view a).faults (view b).faults run.counted) (fault_rises d.outcome (view a).faults (view b).faults run.counted) run.honest;
       sent = sent_one s.units d closes run.sent;
     }
 step_closed {view = view} {s} {a} {b} {old} {mid} {new} d (Err e) at first opened run last closed still =
     let closes = closes_then opened still in record {
       at = at_next at (last ∙ first) closes;
       files = run.files;
-      keeps = keeps_risen (view a).files s.units (view a).faults (view b).faults closes run.count;
+      keeps = keeps_risen (view a).files s.units (view a).faults (view b).faults closes (outcome_kept d.outcome (view a).faults (view b).faults run.counted);
       sent = sent_more s.units d closes run.sent;
     }
 

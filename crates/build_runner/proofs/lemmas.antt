@@ -1,3 +1,4 @@
 pub mod FirstDesk
 pub mod KnownFiles
+pub mod SentViews
 pub mod Within

@@ -3,11 +3,13 @@ pub mod Choices
 pub mod Parked
 pub mod Site
 pub mod Kept
+pub mod Failing
 pub mod Sent
 pub mod Desks
 pub mod Steps
 pub mod Points
 pub mod Worked
 pub mod Team
+pub mod Hands
 pub mod Prepared
 pub mod Run

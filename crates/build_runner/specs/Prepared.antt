@@ -5,9 +5,8 @@ use Rattle.coordination.specs.Sights.{workers_from}
 use Rattle.coordination.specs.declared.services.Opened.{Opened}
 use Rattle.plan_reader.specs.Graph.{graph_of}
 use Rattle.plan_reader.specs.PlanView.{PlanView}
-use Rattle.plan_reader.specs.Units.{plan_units}
+use Rattle.plan_reader.specs.Units.{plan_units, unit_view}
 use Rattle.build_runner.specs.Team.{CanWork}
-use Rattle.build_runner.specs.Units.{unit_view}
 use Rattle.build_runner.specs.declared.options.RunOptions.{RunOptions}
 use Rattle.build_runner.specs.declared.prepared.Prepared.{Prepared}
 

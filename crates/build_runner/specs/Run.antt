@@ -46,7 +46,8 @@ pub record IsRunOf (plan : PlanView) (options : RunOptions) (before after : ℕ 
   pub results : HasResults plan (known_by options.workers before) b
   -- each entry is one of the workers', and the units that a worker closed with Fault number at most the rise of its desk's count, where that isn't at its end
   pub workers : All (λ e. e.worker.0 < options.workers) b.history
-  pub faults : (i : ℕ) → i < options.workers → (after i).faults < 2 ^ 64 - 1 → faults_by (record { 0 = i }) b.history + (before i).faults ≤ (after i).faults
+  pub faults : (i : ℕ) → i < options.workers → (after i).faults < 2 ^ 64 - 1
+      → faults_by (record { 0 = i }) b.history + (before i).faults ≤ (after i).faults
   -- each worker's desk sent what is sent for the units that the worker closed, in their order, and nothing else
   pub requests : (i : ℕ) → i < options.workers → AreSentFor (plan_units plan) (closed_by (record { 0 = i }) b.history) (before i).sent (after i).sent
 

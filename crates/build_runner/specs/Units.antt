@@ -1,5 +1,5 @@
 -- The units of a plan by their numbers, and what each gives.
-use Rattle.std.specs.Prelude.{ℕ, ◌≡◌, true, List, None, Some, length, slice_get}
+use Rattle.std.specs.Prelude.{ℕ, ◌≡◌, true, List, Some, length, slice_get}
 use Rattle.std.specs.List.{All}
 use Rattle.item_actions.specs.Files.{Folder}
 use Rattle.item_actions.specs.Forms.{is_file_name}
@@ -7,19 +7,8 @@ use Rattle.item_actions.specs.declared.outcomes.Outcome.{Outcome}
 use Rattle.resource_lock.specs.Fits.{Fits}
 use Rattle.resource_lock.specs.GraphView.{GraphView}
 use Rattle.resource_lock.specs.Ranges.{IsFetchOf, is_item}
-use Rattle.plan_reader.specs.PlanView.{WorkView, work_view}
-use Rattle.plan_reader.specs.Units.{PlannedUnit, item_unit, value_in}
-use Rattle.build_runner.specs.declared.units.UnitWork.{UnitWork}
-use Rattle.build_runner.specs.declared.units.UnitWork.TheVariants.{Fetch, Item}
-
--- a file that is fetched, as the plan has it
-abbrev pub fetch_unit : List ℕ → PlannedUnit
-fetch_unit file = record { action = None; file = file; process = None }
-
--- a unit as the plan has it
-abbrev pub unit_view : UnitWork → PlannedUnit
-unit_view (Fetch file) = fetch_unit file.now
-unit_view (Item work) = item_unit (work_view work.now)
+use Rattle.plan_reader.specs.PlanView.{WorkView}
+use Rattle.plan_reader.specs.Units.{PlannedUnit, fetch_unit, item_unit, value_in}
 
 -- what a unit gives on these files, by its number
 abbrev pub given : List PlannedUnit → Folder → ℕ → Outcome

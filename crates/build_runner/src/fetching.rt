@@ -21,7 +21,7 @@ use lock_transforms::Closed;
 use std::sync::Wait;
 use std::sync::ledger::Ledger;
 
-/// Reads the file of a fetch, by the fetch's number, and gives the number of its bytes. This sends nothing.
+// Reads the file of a fetch, by the fetch's number, and gives the number of its bytes. This sends nothing.
 fn read_fetch<D: Desk, G, L: Linked, U: Ledger, F: Ledger>(
     site: &Site<'_, G, L, U, F>,
     desk: &mut D,
@@ -34,7 +34,7 @@ fn read_fetch<D: Desk, G, L: Linked, U: Ledger, F: Ledger>(
     work_out(site.alloc, &ItemAction::Bytes, site.fetch(unit), desk)
 }
 
-/// Gives back the lease and the lock round the reading of a fetch of the worker's task.
+// Gives back the lease and the lock round the reading of a fetch of the worker's task.
 fn enter_for<R: Wait, G, L: Linked, U: Ledger, F: Ledger>(
     rt: &R,
     site: &Site<'_, G, L, U, F>,
@@ -56,7 +56,7 @@ fn enter_for<R: Wait, G, L: Linked, U: Ledger, F: Ledger>(
     enter(rt, site.service, pass, Some(unit))
 }
 
-/// Takes the lease and the lock again, and closes the fetch with what it gave.
+// Takes the lease and the lock again, and closes the fetch with what it gave.
 fn leave_with<R: Wait, G, L: Linked, U: Ledger, F: Ledger>(
     rt: &R,
     site: &Site<'_, G, L, U, F>,

@@ -2,6 +2,7 @@
 ghost use Rattle.std.specs.Prelude.{◌≡◌, ◌<◌, [], IfOk, OnOk, is_ok, length};
 ghost use Rattle.coordination.specs.Holds.{HoldsNothing};
 ghost use Rattle.coordination.specs.Shown.{ShowsTheSame};
+ghost use Rattle.build_runner.specs.Failing.{FailsForEach};
 ghost use Rattle.build_runner.specs.Choices.{IsThere};
 ghost use Rattle.build_runner.specs.Kept.{HasClosed};
 ghost use Rattle.build_runner.specs.Points.{HasFinishedWork};
@@ -11,8 +12,8 @@ ghost use Rattle.build_runner.specs.Desks.{desk_view};
 ghost use Rattle.build_runner.specs.Steps.{Steps};
 
 use crate::choices::WhatIsNext;
+use crate::hands::Hand;
 use crate::items::help_if_found;
-use crate::queue::Hand;
 use crate::site::Site;
 use crate::tasks::run_task;
 use async_tracker::skip_task;
@@ -25,7 +26,7 @@ use std::sync::Wait;
 use std::sync::ledger::Ledger;
 use worker_choices::Choice;
 
-/// Skips a task, unless it can't be skipped any more.
+// Skips a task, unless it can't be skipped any more.
 fn skip<R: Wait, G, L: Linked, U: Ledger, F: Ledger>(
     rt: &R,
     site: &Site<'_, G, L, U, F>,
@@ -45,7 +46,7 @@ fn skip<R: Wait, G, L: Linked, U: Ledger, F: Ledger>(
     }
 }
 
-/// Asks what is next.
+// Asks what is next.
 fn choose<R: Wait, G, L: Linked, U: Ledger, F: Ledger>(
     rt: &R,
     site: &Site<'_, G, L, U, F>,
@@ -60,7 +61,7 @@ fn choose<R: Wait, G, L: Linked, U: Ledger, F: Ledger>(
     site.service.ask(rt, pass, &WhatIsNext)
 }
 
-/// Does what an idle worker chose. Where it finishes there is nothing to do.
+// Does what an idle worker chose. Where it finishes there is nothing to do.
 fn carry_out<R: Wait, D: Desk, G: Gate, U: Ledger, F: Ledger>(
     rt: &R,
     site: &Site<'_, G, D::Link, U, F>,
@@ -76,6 +77,7 @@ fn carry_out<R: Wait, D: Desk, G: Gate, U: Ledger, F: Ledger>(
     ensures step { Steps site.now (desk_view D.files D.faults D.sends D.sent) desk.old desk.new pass.old pass.new (is_ok result) }
     ensures rests { OnOk result (HoldsNothing pass.new.sight) }
     ensures reserved { ReservesForEach (D.sends desk.old) (D.sends desk.new) mine.old mine.new }
+    ensures failed { OnOk result (FailsForEach pass.old.sight pass.new.sight mine.old mine.new) }
 {
     match choice {
         Choice::Pop => help_if_found(rt, site, pass, desk, mine, hand),
@@ -101,6 +103,7 @@ pub(crate) fn work_to_the_end<R: Wait, D: Desk, G: Gate, U: Ledger, F: Ledger>(
     ensures step { Steps site.now (desk_view D.files D.faults D.sends D.sent) desk.old desk.new pass.old pass.new (is_ok result) }
     ensures finished { OnOk result (HasFinishedWork pass.new.sight) }
     ensures reserved { ReservesForEach (D.sends desk.old) (D.sends desk.new) mine.old mine.new }
+    ensures failed { OnOk result (FailsForEach pass.old.sight pass.new.sight mine.old mine.new) }
 {
     for _ in rt.forever() {
         let choice = choose(rt, site, pass)?;

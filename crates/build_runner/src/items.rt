@@ -1,17 +1,18 @@
 //! An item that a worker claims, runs and closes.
-ghost use Rattle.std.specs.Prelude.{◌≡◌, ◌≢◌, ◌∷◌, [], Contains, Ok, OnErr, OnOk, is_ok, true};
+ghost use Rattle.std.specs.Prelude.{◌≡◌, ◌≢◌, ◌≤◌, ◌+◌, ◌∷◌, [], Contains, Ok, OnErr, OnOk, is_ok, true};
 ghost use Rattle.item_actions.specs.declared.outcomes.Outcome.TheVariants as outcomes;
 ghost use Rattle.resource_lock.specs.declared.marks.MarkId.TheVariants as ids;
 ghost use Rattle.coordination.specs.Shown.{ShowsTheSame, claimed_shown, lease_shown};
 ghost use Rattle.async_tracker.specs.Shows.{IsItemHere, ShowsClaimed, ShowsClosed};
+ghost use Rattle.build_runner.specs.Failing.{FailsForEach};
 ghost use Rattle.build_runner.specs.Kept.{HasClosed};
 ghost use Rattle.build_runner.specs.Points.{CanHelp};
 ghost use Rattle.build_runner.specs.Site.{IsAt};
-ghost use Rattle.item_work.specs.Tallying.{ReservesForEach};
+ghost use Rattle.item_work.specs.Tallying.{ReservesForEach, one_if_unreal};
 ghost use Rattle.build_runner.specs.Desks.{desk_view};
 ghost use Rattle.build_runner.specs.Steps.{HasRun, Steps};
 
-use crate::queue::Hand;
+use crate::hands::Hand;
 use crate::site::Site;
 use async_tracker::{claim, close, closing_undoes_claiming};
 use coordination::{Halt, Pass};
@@ -26,7 +27,7 @@ use lock_transforms::Closed;
 use std::sync::Wait;
 use std::sync::ledger::Ledger;
 
-/// Runs an item that the worker has claimed, and says what it gives.
+// Runs an item that the worker has claimed, and says what it gives.
 fn run_claimed<R: Wait, D: Desk, G: Gate, U: Ledger, F: Ledger>(
     rt: &R,
     site: &Site<'_, G, D::Link, U, F>,
@@ -40,6 +41,7 @@ fn run_claimed<R: Wait, D: Desk, G: Gate, U: Ledger, F: Ledger>(
     requires lease { lease_shown pass.now.sight ≡ true }
     ensures ran { HasRun site.now.units (desk_view D.files D.faults D.sends D.sent) desk.old desk.new (record { unit = unit; outcome = result }) }
     ensures reserved { ReservesForEach (D.sends desk.old) (D.sends desk.new) mine.old mine.new }
+    ensures failed { mine.new.failed ≤ mine.old.failed + one_if_unreal result }
 {
     let Some(lease) = current_lease(pass) else {
         unreachable!()
@@ -49,7 +51,7 @@ fn run_claimed<R: Wait, D: Desk, G: Gate, U: Ledger, F: Ledger>(
     run_item(rt, site.alloc, &lease, desk, site.pool, mine, unit, work)
 }
 
-/// Claims an item. False says that it isn't queued any more.
+// Claims an item. False says that it isn't queued any more.
 fn claim_item<R: Wait, G, L: Linked, U: Ledger, F: Ledger>(
     rt: &R,
     site: &Site<'_, G, L, U, F>,
@@ -67,7 +69,7 @@ fn claim_item<R: Wait, G, L: Linked, U: Ledger, F: Ledger>(
     claim(rt, site.service, pass, unit)
 }
 
-/// Closes an item that the worker has claimed.
+// Closes an item that the worker has claimed.
 fn close_item<R: Wait, G, L: Linked, U: Ledger, F: Ledger>(
     rt: &R,
     site: &Site<'_, G, L, U, F>,
@@ -90,7 +92,7 @@ fn close_item<R: Wait, G, L: Linked, U: Ledger, F: Ledger>(
     }
 }
 
-/// Runs an item that the worker has claimed, and closes it with what it gives.
+// Runs an item that the worker has claimed, and closes it with what it gives.
 fn run_and_close<R: Wait, D: Desk, G: Gate, U: Ledger, F: Ledger>(
     rt: &R,
     site: &Site<'_, G, D::Link, U, F>,
@@ -106,14 +108,15 @@ fn run_and_close<R: Wait, D: Desk, G: Gate, U: Ledger, F: Ledger>(
     ensures step { Steps site.now (desk_view D.files D.faults D.sends D.sent) desk.old desk.new pass.old pass.new (is_ok result) }
     ensures shows { OnOk result (ShowsClosed unit pass.old.sight pass.new.sight) }
     ensures reserved { ReservesForEach (D.sends desk.old) (D.sends desk.new) mine.old mine.new }
+    ensures failed { OnOk result (FailsForEach pass.old.sight pass.new.sight mine.old mine.new) }
 {
     let outcome = run_claimed(rt, site, pass, desk, mine, unit);
     close_item(rt, site, pass, Closed { unit, outcome })
 }
 
-/// Claims an item, runs it and closes it, unless another worker was faster.
-///
-/// The pass then shows what it showed. It fails for want of memory, and where the service was stopped.
+// Claims an item, runs it and closes it, unless another worker was faster.
+//
+// The pass then shows what it showed. It fails for want of memory, and where the service was stopped.
 fn help<R: Wait, D: Desk, G: Gate, U: Ledger, F: Ledger>(
     rt: &R,
     site: &Site<'_, G, D::Link, U, F>,
@@ -128,6 +131,7 @@ fn help<R: Wait, D: Desk, G: Gate, U: Ledger, F: Ledger>(
     ensures step { Steps site.now (desk_view D.files D.faults D.sends D.sent) desk.old desk.new pass.old pass.new (is_ok result) }
     ensures shows { OnOk result (ShowsTheSame pass.old.sight pass.new.sight) }
     ensures reserved { ReservesForEach (D.sends desk.old) (D.sends desk.new) mine.old mine.new }
+    ensures failed { OnOk result (FailsForEach pass.old.sight pass.new.sight mine.old mine.new) }
 {
     closing_undoes_claiming();
     if claim_item(rt, site, pass, unit)? {
@@ -154,6 +158,7 @@ pub(crate) fn help_if_found<R: Wait, D: Desk, G: Gate, U: Ledger, F: Ledger>(
     ensures step { Steps site.now (desk_view D.files D.faults D.sends D.sent) desk.old desk.new pass.old pass.new (is_ok result) }
     ensures shows { OnOk result (ShowsTheSame pass.old.sight pass.new.sight) }
     ensures reserved { ReservesForEach (D.sends desk.old) (D.sends desk.new) mine.old mine.new }
+    ensures failed { OnOk result (FailsForEach pass.old.sight pass.new.sight mine.old mine.new) }
 {
     match hand.next_unit(rt) {
         Some(unit) if site.is_item(unit) => help(rt, site, pass, desk, mine, unit),

@@ -6,6 +6,7 @@ mod choices;
 mod daemons;
 mod failed_units;
 mod fetching;
+mod hands;
 mod idle;
 mod items;
 mod options;
@@ -17,7 +18,6 @@ mod runs;
 mod site;
 mod tasks;
 mod team;
-mod units;
 
 pub use options::RunOptions;
 pub use run_end::RunEnd;

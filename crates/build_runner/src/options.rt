@@ -1,3 +1,4 @@
+//! The options of a run.
 /// How a plan is run.
 #[derive(Clone, Copy)]
 pub struct RunOptions {

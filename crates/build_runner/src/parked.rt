@@ -7,6 +7,7 @@ ghost use Rattle.coordination.specs.Shown.{ShowsTheSame};
 ghost use Rattle.async_tracker.specs.Shows.{IsParkedBy, ShowsResumed};
 ghost use Rattle.worker_choices.specs.NextSteps.{HasToWait, first_open};
 ghost use Rattle.worker_choices.specs.declared.awaited.Awaited.TheVariants as awaited;
+ghost use Rattle.build_runner.specs.Failing.{FailsForEach};
 ghost use Rattle.build_runner.specs.Parked.{IsNextParked};
 ghost use Rattle.build_runner.specs.Points.{CanHelp};
 ghost use Rattle.build_runner.specs.Site.{IsAt};
@@ -15,8 +16,8 @@ ghost use Rattle.build_runner.specs.Desks.{desk_view};
 ghost use Rattle.build_runner.specs.Steps.{Steps};
 
 use crate::failed_units::has_failed;
+use crate::hands::Hand;
 use crate::items::help_if_found;
-use crate::queue::Hand;
 use crate::site::Site;
 use async_tracker::{Held, Parked, resume};
 use coordination::{Halt, Pass, Question};
@@ -78,7 +79,7 @@ impl Question for WhatIsNextParked {
     }
 }
 
-/// Runs items until those of the action have ended. It says whether a unit of the action has failed.
+// Runs items until those of the action have ended. It says whether a unit of the action has failed.
 fn help_until_over<R: Wait, D: Desk, G: Gate, U: Ledger, F: Ledger>(
     rt: &R,
     site: &Site<'_, G, D::Link, U, F>,
@@ -96,6 +97,7 @@ fn help_until_over<R: Wait, D: Desk, G: Gate, U: Ledger, F: Ledger>(
     ensures sound { OnOk result (IsSoundBook pass.new.sight.seen) }
     ensures over { OnOk result (first_open pass.new.sight.seen.graph pass.new.sight.seen.state action ≡ None) }
     ensures reserved { ReservesForEach (D.sends desk.old) (D.sends desk.new) mine.old mine.new }
+    ensures failed { OnOk result (FailsForEach pass.old.sight pass.new.sight mine.old mine.new) }
 {
     for _ in rt.forever() {
         let own = hand.has_own();
@@ -129,6 +131,7 @@ pub(crate) fn wait_for_items<R: Wait, D: Desk, G: Gate, U: Ledger, F: Ledger>(
     ensures shows { OnOk result (ShowsResumed (action_of site.now.graph parked.action).retention
         (lock_with site.now.graph parked.action) parked.action pass.old.sight pass.new.sight) }
     ensures reserved { ReservesForEach (D.sends desk.old) (D.sends desk.new) mine.old mine.new }
+    ensures failed { OnOk result (FailsForEach pass.old.sight pass.new.sight mine.old mine.new) }
 {
     let failed = help_until_over(rt, site, pass, desk, mine, hand, parked.action())?;
     match resume(rt, site.service, pass, parked) {

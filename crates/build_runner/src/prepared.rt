@@ -7,14 +7,14 @@ ghost use Rattle.plan_reader.specs.Graph.{graph_of};
 ghost use Rattle.build_runner.specs.Prepared.{IsOpenedOn, IsPrepared};
 ghost use Rattle.build_runner.specs.Team.{CanWork};
 
+use crate::hands::Hand;
 use crate::options::RunOptions;
-use crate::queue::{Hand, Queue, QueuePlace};
+use crate::queue::{Queue, QueuePlace};
 use crate::team::Worker;
-use crate::units::{UnitWork, units_of};
 use coordination::{Coordination, Opened, Pass, openings_are_at_rest};
 use lock_journal::Book;
 use lock_transforms::kinds::MAX_CHANGES;
-use plan_reader::Plan;
+use plan_reader::{Plan, UnitWork, units_of};
 use resource_lock::Graph;
 use std::alloc::{AllocError, Global};
 use std::sync::ledger::Ledger;
@@ -40,7 +40,7 @@ const CHANGES_AN_ACTION: u64 = 1 + 4 + 4;
 /// blocks the worker, with its lock and the lease given back, and unblocks it.
 const CHANGES_A_UNIT: u64 = 5 + 5;
 
-/// The value in a box.
+// The value in a box.
 fn boxed<T: Drop>(alloc: Global, value: T) -> Result<Box<T>, AllocError>
     ensures { IfOk result (λ b. b.value ≡ value) }
 {
@@ -50,9 +50,9 @@ fn boxed<T: Drop>(alloc: Global, value: T) -> Result<Box<T>, AllocError>
     }
 }
 
-/// A book of the graph without an entry, and with room for those of a whole run.
-///
-/// It fails where there is no memory for that room.
+// A book of the graph without an entry, and with room for those of a whole run.
+//
+// It fails where there is no memory for that room.
 fn open_book(alloc: Global, graph: Graph) -> Result<Book, AllocError>
     ensures graph { IfOk result (λ book. book.graph ≡ graph) }
     ensures state { IfOk result (λ book. book.state ≡ opening_of graph) }
@@ -69,7 +69,7 @@ fn open_book(alloc: Global, graph: Graph) -> Result<Book, AllocError>
     Book::opening(alloc, graph, entries, changes)
 }
 
-/// The service over a book of the graph, with a pass for each worker.
+// The service over a book of the graph, with a pass for each worker.
 fn open_service(
     alloc: Global,
     graph: Graph,
@@ -86,7 +86,7 @@ fn open_service(
     Coordination::open_with(alloc, book, place)
 }
 
-/// The graph of the plan, as the options have it.
+// The graph of the plan, as the options have it.
 fn graph_of(alloc: Global, plan: &Plan, options: &RunOptions) -> Result<Graph, AllocError>
     requires some_worker { 1 ≤ options.now.workers }
     requires few_workers { options.now.workers ≤ MAX_WORKERS }
@@ -97,7 +97,7 @@ fn graph_of(alloc: Global, plan: &Plan, options: &RunOptions) -> Result<Graph, A
     plan.graph(alloc, options.workers, options.max_leases, options.parallel)
 }
 
-/// The service over a book of the plan's graph, in a box.
+// The service over a book of the plan's graph, in a box.
 fn open_for(
     alloc: Global,
     plan: &Plan,
@@ -115,7 +115,7 @@ fn open_for(
     boxed(alloc, opened)
 }
 
-/// How many items the graph has, up to the largest number.
+// How many items the graph has, up to the largest number.
 fn items_in(graph: &Graph) -> u32 {
     let mut items = 0u32;
     for action in graph.actions() {

@@ -1,17 +1,18 @@
 //! The tickets of a run, as its workers and its state lock reach them.
-ghost use Rattle.std.specs.Prelude.{◌≡◌, ◌-◌, ◌^◌, ◌<◌, ◌≤◌, [], All, IfOk, length, vec_capacity, vec_len};
+ghost use Rattle.std.specs.Prelude.{◌≡◌, ◌-◌, ◌^◌, ◌<◌, ◌≤◌, [], All, IfNone, IfOk, IfSome, false, length, true, vec_capacity, vec_len};
 ghost use Rattle.std.specs.Arc.{arc_value};
+ghost use Rattle.work_tickets.specs.Calls.{HasPopped, HasPushed, WasEmpty, WasFull};
 
+use crate::hands::Hand;
 use coordination::Offers;
 use std::alloc::{AllocError, Global};
-use std::ops::Range;
 use std::sync::{Arc, Wait};
 use work_tickets::{TicketSeat, Tickets, TicketsOpened};
 
 /// The most tickets that there is room for. What doesn't fit stays with its worker.
 const MOST_TICKETS: u32 = 256;
 
-/// Room for so many tickets, where a plan has so many items: at least one.
+// Room for so many tickets, where a plan has so many items: at least one.
 fn capacity_for(items: u32) -> u32
     ensures { 0 < result }
 {
@@ -27,7 +28,7 @@ pub(crate) struct QueuePlace {
 }
 
 impl QueuePlace {
-    /// The place of this seat.
+    // The place of this seat.
     fn new(tickets: Arc<Tickets>, seat: TicketSeat) -> QueuePlace
         requires { seat.queue ≡ (arc_value tickets).queue }
     {
@@ -35,12 +36,21 @@ impl QueuePlace {
     }
 
     /// Pushes a unit, unless there is no room.
-    fn push<R: Wait>(&mut self, rt: &R, unit: u32) -> bool {
+    pub fn push<R: Wait>(&mut self, rt: &R, unit: u32) -> bool
+        ensures room { (arc_value self.new.tickets).capacity ≡ (arc_value self.old.tickets).capacity }
+        ensures pushed { result ≡ true → HasPushed (arc_value self.old.tickets).capacity unit self.old.seat.sight self.new.seat.sight }
+        ensures full { result ≡ false → WasFull (arc_value self.old.tickets).capacity self.old.seat.sight }
+        ensures same { result ≡ false → self.new.seat.sight ≡ self.old.seat.sight }
+    {
         self.tickets.push(rt, &mut self.seat, unit)
     }
 
     /// Pops a unit, if there is one.
-    fn pop<R: Wait>(&mut self, rt: &R) -> Option<u32> {
+    pub fn pop<R: Wait>(&mut self, rt: &R) -> Option<u32>
+        ensures popped { IfSome result (λ unit. HasPopped unit self.old.seat.sight self.new.seat.sight) }
+        ensures empty { IfNone result (WasEmpty self.old.seat.sight) }
+        ensures same { IfNone result (self.new.seat.sight ≡ self.old.seat.sight) }
+    {
         self.tickets.pop(rt, &mut self.seat)
     }
 }
@@ -48,51 +58,6 @@ impl QueuePlace {
 impl Offers for QueuePlace {
     fn are_there(&mut self) -> bool {
         !self.tickets.is_empty(&mut self.seat)
-    }
-}
-
-/// What a worker has at the tickets: its place, and units of its own that didn't fit.
-#[derive(Drop)]
-pub(crate) struct Hand {
-    place: QueuePlace,
-    // They are of the action that the worker is parked in, in their order.
-    own: Range<u32>,
-}
-
-impl Hand {
-    /// A hand without units of its own.
-    pub fn new(place: QueuePlace) -> Hand {
-        Hand { place, own: 0..0 }
-    }
-
-    /// Whether there are units of its own.
-    pub fn has_own(&self) -> bool {
-        self.own.start < self.own.end
-    }
-
-    /// Queues these units in their order. From the first that doesn't fit on they are its own.
-    pub fn queue<R: Wait>(&mut self, rt: &R, units: Range<u32>) {
-        self.own = units;
-        self.push_own(rt);
-    }
-
-    /// Pops a ticket; where there is none, takes the first unit of its own. Before, it pushes its own as long as they fit.
-    pub fn next_unit<R: Wait>(&mut self, rt: &R) -> Option<u32> {
-        self.push_own(rt);
-        match self.place.pop(rt) {
-            Some(unit) => Some(unit),
-            None => self.own.next(),
-        }
-    }
-
-    // Pushes its own units in their order, as long as they fit.
-    fn push_own<R: Wait>(&mut self, rt: &R) {
-        for unit in self.own.start..self.own.end {
-            if !self.place.push(rt, unit) {
-                return;
-            }
-            self.own.start = unit + 1;
-        }
     }
 }
 

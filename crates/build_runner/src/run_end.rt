@@ -1,3 +1,4 @@
+//! The end of a run.
 use daemon_manager::Event;
 use lock_journal::Book;
 

@@ -1,13 +1,16 @@
 //! A whole run of a plan.
-ghost use Rattle.std.specs.Prelude.{◌≡◌, ◌+◌, ◌++◌, ◌<◌, ◌≤◌, ℕ, [], All, IfOk, OnErr, drop, get_or, length, map, sum_by, vec_capacity, vec_len};
+ghost use Rattle.std.specs.Prelude.{◌≡◌, ◌+◌, ◌++◌, ◌<◌, ◌≤◌, ℕ, [], All, IfOk, OnErr, drop, get_or, length, map, sum_by};
+ghost use Rattle.std.specs.Prelude.{true, vec_capacity, vec_len};
 ghost use Rattle.resource_lock.specs.declared.limits.TheConstants.{MAX_LEASES, MAX_WORKERS};
-ghost use Rattle.daemon_manager.specs.Counts.{reservations};
+ghost use Rattle.daemon_manager.specs.Counts.{failures, reservations};
 ghost use Rattle.daemon_manager.specs.Events.{NoneIdle, IsLegal};
+ghost use Rattle.history_laws.specs.ClosedBy.{closed_by};
 ghost use Rattle.coordination.specs.Passes.{PassView};
 ghost use Rattle.coordination.specs.Sights.{workers_from};
 ghost use Rattle.plan_reader.specs.Graph.{graph_of};
 ghost use Rattle.plan_reader.specs.Units.{plan_units};
 ghost use Rattle.build_runner.specs.Desks.{AreAlike, DeskView, desk_view, desks_view, known_by};
+ghost use Rattle.build_runner.specs.Failing.{unreal_of, unreal_seen};
 ghost use Rattle.build_runner.specs.Run.{IsRunOf, WasBrokenOff};
 ghost use Rattle.build_runner.specs.Team.{CanWork};
 ghost use Rattle.build_runner.specs.Worked.{HasComeToTheEnd, HasWorked, WasThere};
@@ -38,7 +41,7 @@ use std::sync::{Mutex, Wait};
 use std::thread::Threads;
 use task_ranks::ranks_give_a_numbering;
 
-/// Takes the book out of the service for good.
+// Takes the book out of the service for good.
 fn close_service(opened: Box<Opened<QueuePlace>>, plan: &Plan, options: &RunOptions) -> Box<Book>
     requires service { All (λ p. p.service ≡ opened.value.service.service) opened.value.passes.items }
     requires workers { map (λ p. p.sight.worker.0) opened.value.passes.items ≡ workers_from 0 options.now.workers }
@@ -52,6 +55,9 @@ fn close_service(opened: Box<Opened<QueuePlace>>, plan: &Plan, options: &RunOpti
         → ((i : ℕ) (p : PassView) → i < options.now.workers
         → WasThere (plan_units plan.now) (before i) (after i) (get_or opened.value.passes.items i p))
         → WasBrokenOff plan.now options.now before after }
+    ensures closings { (i : ℕ) (p : PassView) → i < options.now.workers
+        → closed_by (record { 0 = i }) result.value.history
+        ≡ closed_by (get_or opened.value.passes.items i p).sight.worker (get_or opened.value.passes.items i p).sight.seen.history }
 {
     // Where each task has a rank, they can be numbered so that each stands behind those that it
     // comes after. What is said of the whole run follows from these laws of every lawful history.
@@ -68,8 +74,8 @@ fn close_service(opened: Box<Opened<QueuePlace>>, plan: &Plan, options: &RunOpti
     book
 }
 
-/// Has each worker work with its pass, its desk and a tally, and says whether each came to the end. The passes and the desks
-/// then lie in their places again.
+// Has each worker work with its pass, its desk and a tally, and says whether each came to the end. The passes and the desks
+// then lie in their places again.
 fn run_team<
     R: Threads + Wait + Sync,
     D: Desk + Send + Drop,
@@ -99,6 +105,7 @@ fn run_team<
         (get_or passes.old.items i p) (get_or passes.new.items i p) result }
     ensures parts { tallies.new.parts ≡ tallies.old.parts }
     ensures reserved { sum_by D.sends desks.new.items + tallies.old.reserved ≤ sum_by D.sends desks.old.items + tallies.new.reserved }
+    ensures failed { result ≡ true → tallies.new.failed + sum_by unreal_seen passes.old.items ≤ tallies.old.failed + sum_by unreal_seen passes.new.items }
 {
     let Room {
         mut team,
@@ -119,7 +126,7 @@ fn run_team<
     ended
 }
 
-/// Puts the other desks behind those that worked, where there is room for them.
+// Puts the other desks behind those that worked, where there is room for them.
 fn put_behind<D: Drop>(desks: &mut Vec<D>, mut rest: Vec<D>)
     requires { vec_len desks.old + vec_len rest ≤ vec_capacity desks.old }
     ensures { desks.new.items ≡ desks.old.items ++ rest.items }
@@ -128,9 +135,9 @@ fn put_behind<D: Drop>(desks: &mut Vec<D>, mut rest: Vec<D>)
     let _ = desks.append(&mut rest);
 }
 
-/// Runs a plan, and leaves the daemons that are idle then in the pool.
-///
-/// Of its book, its desks and its error holds what `run_plan` says.
+// Runs a plan, and leaves the daemons that are idle then in the pool.
+//
+// Of its book, its desks and its error holds what `run_plan` says.
 fn run_book<
     R: Threads + Wait + Sync,
     D: Desk + Send + Drop,
@@ -166,6 +173,7 @@ fn run_book<
         (desks_view (desk_view D.files D.faults D.sends D.sent) desks.new.items d)) }
     ensures parts { tallies.new.parts ≡ tallies.old.parts }
     ensures reserved { sum_by D.sends desks.new.items + tallies.old.reserved ≤ sum_by D.sends desks.old.items + tallies.new.reserved }
+    ensures failed { IfOk result (λ book. tallies.new.failed ≤ tallies.old.failed + unreal_of options.now.workers book.value.history) }
 {
     let Queue { place, hands } = open_queue(alloc, plan, options)?;
     let Prepared {
@@ -193,9 +201,9 @@ fn run_book<
     if ended { Ok(book) } else { Err(AllocError) }
 }
 
-/// Runs a plan, and counts what happens to the daemons in these ledgers, which have a part for each worker and one more.
-///
-/// Of what it gives holds what `run_plan` says.
+// Runs a plan, and counts what happens to the daemons in these ledgers, which have a part for each worker and one more.
+//
+// Of what it gives holds what `run_plan` says.
 fn run_counted<
     R: Threads + Wait + Sync,
     D: Desk + Send + Drop,
@@ -233,6 +241,7 @@ fn run_counted<
     ensures legal { IfOk result (λ end. IsLegal end.events.items) }
     ensures none_idle { IfOk result (λ end. NoneIdle end.events.items) }
     ensures reserved { IfOk result (λ end. sum_by D.sends desks.new.items ≤ sum_by D.sends desks.old.items + reservations end.events.items) }
+    ensures failed { IfOk result (λ end. failures end.events.items ≤ unreal_of options.now.workers end.book.value.history) }
 {
     let pool = Pool::new(alloc)?;
     let (pool, mut tallies) = CountedPool::<D::Link, U, F>::new(pool, reserved, failed);
@@ -262,7 +271,8 @@ fn run_counted<
 ///
 /// Beside the book it gives all that happened to daemons. Those that are idle when the workers have
 /// ended are stopped through the first desk, also after an error, so none is idle then. At least as many
-/// daemons were reserved as requests were sent: each request had its reservation.
+/// daemons were reserved as requests were sent: each request had its reservation. No more daemons failed
+/// than its workers closed units with `Fault` or `NoMemory`.
 ///
 /// It fails for want of memory alone, of the run or of any of its entries. The desks have then read some
 /// of the files, and what had run is lost. Each desk sent the requests of the units that its worker closed,
@@ -294,6 +304,7 @@ pub fn run_plan<R: Threads + Wait + Sync, D: Desk + Send + Drop, G: Gate + Sync>
     ensures legal { IfOk result (λ end. IsLegal end.events.items) }
     ensures none_idle { IfOk result (λ end. NoneIdle end.events.items) }
     ensures reserved { IfOk result (λ end. sum_by D.sends desks.new.items ≤ sum_by D.sends desks.old.items + reservations end.events.items) }
+    ensures failed { IfOk result (λ end. failures end.events.items ≤ unreal_of options.now.workers end.book.value.history) }
 {
     let parts = u64::from(options.workers) + 1;
     let reserved = Blank::new(parts);

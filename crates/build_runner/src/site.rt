@@ -6,15 +6,14 @@ ghost use Rattle.resource_lock.specs.GraphView.{action_of, task_of};
 ghost use Rattle.resource_lock.specs.Ranges.{IsActionOf, IsFetchOf};
 ghost use Rattle.async_tracker.specs.Shows.{IsItemHere};
 ghost use Rattle.plan_reader.specs.PlanView.{work_view};
-ghost use Rattle.plan_reader.specs.Units.{item_unit};
-ghost use Rattle.build_runner.specs.Units.{fetch_unit};
+ghost use Rattle.plan_reader.specs.Units.{fetch_unit, item_unit};
 
 use crate::queue::QueuePlace;
-use crate::units::UnitWork;
 use coordination::Coordination;
 use daemon_requirements::{Linked, Work};
 use item_actions::Text;
 use item_work::PoolLock;
+use plan_reader::UnitWork;
 use resource_lock::{Graph, GraphAction};
 use std::alloc::Global;
 use std::marker::Model;
@@ -44,7 +43,8 @@ impl<'a, G, L: Linked, U: Ledger, F: Ledger> Model for Site<'a, G, L, U, F> {
 
     ghost Value = { SiteView };
 
-    ghost use Rattle.build_runner.specs.Units.{AreUnitsOf, unit_view};
+    ghost use Rattle.plan_reader.specs.Units.{unit_view};
+    ghost use Rattle.build_runner.specs.Units.{AreUnitsOf};
 
     ghost view = { λ s. record { service = s.service.now; graph = s.graph.now; units = map unit_view s.units.now } };
 
@@ -89,7 +89,8 @@ impl<'a, G, L: Linked, U: Ledger, F: Ledger> Site<'a, G, L, U, F> {
     pub fn is_item(&self, unit: u32) -> bool
         ensures { result ≡ true → IsItemHere self.now.graph unit }
     {
-        unit < self.graph.units() && self.graph.is_item(unit)
+        // By the units alone: the graph would have to find the unit's action first.
+        matches!(self.units.get(unit as usize), Some(UnitWork::Item(_)))
     }
 
     /// An item, by its number.

@@ -5,6 +5,7 @@ ghost use Rattle.resource_lock.specs.GraphView.{action_of};
 ghost use Rattle.resource_lock.specs.Ranges.{IsActionOf, lock_with};
 ghost use Rattle.async_tracker.specs.Shows.{IsParkedBy, ShowsParked};
 ghost use Rattle.coordination.specs.Holds.{HoldsNothing};
+ghost use Rattle.build_runner.specs.Failing.{FailsForEach};
 ghost use Rattle.build_runner.specs.Kept.{HasClosed};
 ghost use Rattle.build_runner.specs.Points.{CanHelp, IsInTask, RunsTask};
 ghost use Rattle.build_runner.specs.Site.{IsAt};
@@ -13,8 +14,8 @@ ghost use Rattle.build_runner.specs.Desks.{desk_view};
 ghost use Rattle.build_runner.specs.Steps.{Steps};
 
 use crate::fetching::fetch;
+use crate::hands::Hand;
 use crate::parked::wait_for_items;
-use crate::queue::Hand;
 use crate::site::Site;
 use async_tracker::{Parked, end_task, park, start_task, submit};
 use coordination::{Halt, Pass};
@@ -26,7 +27,7 @@ use std::ops::Range;
 use std::sync::Wait;
 use std::sync::ledger::Ledger;
 
-/// Reads the file that an action fetches, if it has a fetch.
+// Reads the file that an action fetches, if it has a fetch.
 fn fetch_first<R: Wait, D: Desk, G, U: Ledger, F: Ledger>(
     rt: &R,
     site: &Site<'_, G, D::Link, U, F>,
@@ -51,7 +52,7 @@ fn fetch_first<R: Wait, D: Desk, G, U: Ledger, F: Ledger>(
     }
 }
 
-/// Queues the items of an action of the worker's task, pushes their tickets, and parks.
+// Queues the items of an action of the worker's task, pushes their tickets, and parks.
 fn queue_items<R: Wait, G, L: Linked, U: Ledger, F: Ledger>(
     rt: &R,
     site: &Site<'_, G, L, U, F>,
@@ -81,9 +82,9 @@ fn queue_items<R: Wait, G, L: Linked, U: Ledger, F: Ledger>(
     park(rt, site.service, pass, action)
 }
 
-/// Runs an action of the worker's task: its fetch, if it has one, and its items, which other workers
-/// run too. It says whether the worker goes on with the next action: no unit of this one failed, and
-/// the worker has its lease again.
+// Runs an action of the worker's task: its fetch, if it has one, and its items, which other workers
+// run too. It says whether the worker goes on with the next action: no unit of this one failed, and
+// the worker has its lease again.
 fn run_action<R: Wait, D: Desk, G: Gate, U: Ledger, F: Ledger>(
     rt: &R,
     site: &Site<'_, G, D::Link, U, F>,
@@ -102,6 +103,7 @@ fn run_action<R: Wait, D: Desk, G: Gate, U: Ledger, F: Ledger>(
     ensures goes_on { result ≡ Ok true → RunsTask task pass.new.sight }
     ensures in_task { OnOk result (IsInTask task pass.new.sight) }
     ensures reserved { ReservesForEach (D.sends desk.old) (D.sends desk.new) mine.old mine.new }
+    ensures failed { OnOk result (FailsForEach pass.old.sight pass.new.sight mine.old mine.new) }
 {
     fetch_first(rt, site, pass, desk, task, action)?;
     let parked = queue_items(rt, site, pass, hand, task, action)?;
@@ -109,7 +111,7 @@ fn run_action<R: Wait, D: Desk, G: Gate, U: Ledger, F: Ledger>(
     Ok(!failed && pass.has_lease())
 }
 
-/// Runs the actions of the worker's task, up to the first with a unit that failed.
+// Runs the actions of the worker's task, up to the first with a unit that failed.
 fn run_actions<R: Wait, D: Desk, G: Gate, U: Ledger, F: Ledger>(
     rt: &R,
     site: &Site<'_, G, D::Link, U, F>,
@@ -125,6 +127,7 @@ fn run_actions<R: Wait, D: Desk, G: Gate, U: Ledger, F: Ledger>(
     ensures step { Steps site.now (desk_view D.files D.faults D.sends D.sent) desk.old desk.new pass.old pass.new (is_ok result) }
     ensures in_task { OnOk result (IsInTask task pass.new.sight) }
     ensures reserved { ReservesForEach (D.sends desk.old) (D.sends desk.new) mine.old mine.new }
+    ensures failed { OnOk result (FailsForEach pass.old.sight pass.new.sight mine.old mine.new) }
 {
     let Range { start, end } = site.actions_of(task);
     for action in start..end {
@@ -135,7 +138,7 @@ fn run_actions<R: Wait, D: Desk, G: Gate, U: Ledger, F: Ledger>(
     Ok(())
 }
 
-/// Ends the worker's task, which gives back what the worker has.
+// Ends the worker's task, which gives back what the worker has.
 fn end<R: Wait, G, L: Linked, U: Ledger, F: Ledger>(
     rt: &R,
     site: &Site<'_, G, L, U, F>,
@@ -170,6 +173,7 @@ pub(crate) fn run_task<R: Wait, D: Desk, G: Gate, U: Ledger, F: Ledger>(
     ensures step { Steps site.now (desk_view D.files D.faults D.sends D.sent) desk.old desk.new pass.old pass.new (is_ok result) }
     ensures rests { OnOk result (HoldsNothing pass.new.sight) }
     ensures reserved { ReservesForEach (D.sends desk.old) (D.sends desk.new) mine.old mine.new }
+    ensures failed { OnOk result (FailsForEach pass.old.sight pass.new.sight mine.old mine.new) }
 {
     if !start(rt, site, pass, task)? {
         return Ok(());
@@ -178,7 +182,7 @@ pub(crate) fn run_task<R: Wait, D: Desk, G: Gate, U: Ledger, F: Ledger>(
     end(rt, site, pass, task)
 }
 
-/// Starts a task. False says that it can't be started any more.
+// Starts a task. False says that it can't be started any more.
 fn start<R: Wait, G, L: Linked, U: Ledger, F: Ledger>(
     rt: &R,
     site: &Site<'_, G, L, U, F>,

@@ -2,11 +2,12 @@
 ghost use Rattle.std.specs.Prelude.{◌≡◌, ◌<◌, ◌≤◌, ◌+◌, ℕ, [], All, get_or, length, map, sum_by, true, vec_capacity, vec_len};
 ghost use Rattle.item_work.specs.Tallying.{ReservesForEach};
 ghost use Rattle.build_runner.specs.Desks.{desk_view};
+ghost use Rattle.build_runner.specs.Failing.{FailsForEach};
 ghost use Rattle.build_runner.specs.Team.{CanWork};
 ghost use Rattle.build_runner.specs.Worked.{HasWorked};
 
+use crate::hands::Hand;
 use crate::idle::work_to_the_end;
-use crate::queue::Hand;
 use crate::site::Site;
 use coordination::{Halt, Pass};
 use daemon_desk::Desk;
@@ -30,12 +31,13 @@ pub(crate) struct Worker<D, U: Ledger, F: Ledger> {
 }
 
 impl<D: Desk, U: Ledger, F: Ledger> Worker<D, U, F> {
-    /// Works until all tasks have ended. Where it finds no memory it stops the service, so that no
-    /// other worker waits for it.
+    // Works until all tasks have ended. Where it finds no memory it stops the service, so that no
+    // other worker waits for it.
     fn work<R: Wait, G: Gate>(&mut self, rt: &R, site: &Site<'_, G, D::Link, U, F>)
         requires { CanWork site.now.service site.now.graph self.old.pass }
         ensures worked { HasWorked site.now (desk_view D.files D.faults D.sends D.sent) self.old.desk self.new.desk self.old.pass self.new.pass self.new.ended }
         ensures reserved { ReservesForEach (D.sends self.old.desk) (D.sends self.new.desk) self.old.tally self.new.tally }
+        ensures failed { self.new.ended ≡ true → FailsForEach self.old.pass.sight self.new.pass.sight self.old.tally self.new.tally }
     {
         self.pass.promise_to_come_again();
         match work_to_the_end(
@@ -73,6 +75,7 @@ pub(crate) fn seat<D: Drop, U: Ledger, F: Ledger>(
     ensures desks { map (λ w. w.desk) team.new.items ≡ desks.items }
     ensures parts { tallies.new.parts + vec_len passes ≡ tallies.old.parts }
     ensures reserved { sum_by (λ w. w.tally.reserved) team.new.items + tallies.new.reserved ≡ tallies.old.reserved }
+    ensures failed { sum_by (λ w. w.tally.failed) team.new.items + tallies.new.failed ≡ tallies.old.failed }
 {
     let mut rest = desks.into_iter();
     let mut rest_of_hands = hands.into_iter();
@@ -109,6 +112,9 @@ pub(crate) fn work<
     ensures reserved { (i : ℕ) (d : Worker D U F) → i < length team.old
         → ReservesForEach (D.sends (get_or team.old i d).desk) (D.sends (get_or team.new i d).desk) (get_or team.old i d).tally
         (get_or team.new i d).tally }
+    ensures failed { (i : ℕ) (d : Worker D U F) → i < length team.old
+        → (get_or team.new i d).ended ≡ true → FailsForEach (get_or team.old i d).pass.sight (get_or team.new i d).pass.sight
+        (get_or team.old i d).tally (get_or team.new i d).tally }
 {
     let threads = team.len().max(1);
     thread::for_each_mut(
@@ -120,6 +126,7 @@ pub(crate) fn work<
             ensures worked { HasWorked site.entry.now (desk_view D.files D.faults D.sends D.sent) worker.old.desk worker.new.desk worker.old.pass
                 worker.new.pass worker.new.ended }
             ensures reserved { ReservesForEach (D.sends worker.old.desk) (D.sends worker.new.desk) worker.old.tally worker.new.tally }
+            ensures failed { worker.new.ended ≡ true → FailsForEach worker.old.pass.sight worker.new.pass.sight worker.old.tally worker.new.tally }
         { worker.work(rt, site) },
     );
 }
@@ -145,6 +152,7 @@ pub(crate) fn part<D: Drop, U: Ledger, F: Ledger>(
     ensures capacity { vec_capacity desks.new ≡ vec_capacity desks.old }
     ensures parts { tallies.new.parts ≡ tallies.old.parts + vec_len team }
     ensures reserved { tallies.new.reserved ≡ tallies.old.reserved + sum_by (λ w. w.tally.reserved) team.items }
+    ensures failed { tallies.new.failed ≡ tallies.old.failed + sum_by (λ w. w.tally.failed) team.items }
 {
     for worker in team {
         passes.push_reserved(worker.pass);

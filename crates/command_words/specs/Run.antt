@@ -1,5 +1,6 @@
 -- What the words behind `run` ask for.
-use Rattle.std.specs.Prelude.{codes, ℕ, ◌≤◌, Bool, not, ◌&&◌, ◌==◌, if◌then◌else◌, nat_le, List, length, Option, Some, None, option_map, option_and_then}
+use Rattle.std.specs.Prelude.{codes, ℕ, ◌≤◌, Bool, not, ◌&&◌, ◌==◌, if◌then◌else◌, nat_le, List, length, Option, Some, None}
+use Rattle.std.specs.Prelude.{option_map, option_and_then}
 use Rattle.std.specs.List.{list_any}
 use Rattle.clap.specs.Walk.{Row, Text, first_of}
 use Rattle.command_words.specs.Matching.{asked_of, given, is_on}

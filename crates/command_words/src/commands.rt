@@ -1,3 +1,4 @@
+//! The commands of the program, and why words give none.
 ghost use Rattle.std.specs.Prelude.{◌≡◌};
 
 use item_actions::Text;

@@ -13,7 +13,7 @@ use clap::ArgMatches;
 use item_actions::{Text, is_file_name};
 use std::alloc::Global;
 
-/// What the words of `make` ask for, by the parser's matches.
+// What the words of `make` ask for, by the parser's matches.
 fn make_words(alloc: Global, matches: &ArgMatches<'_>) -> Result<MakeWords, WordsFail>
     ensures ok { IfOk result (λ make. make_of_rows (rows_of (found_of matches.now)) ≡ Some make) }
     ensures err { IfErr result (NoMemoryOr (make_of_rows (rows_of (found_of matches.now)) ≡ None)) }

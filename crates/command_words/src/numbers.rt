@@ -25,7 +25,7 @@ fn is_numeral(text: &str, max_digits: usize) -> bool
     1 <= text.len() && text.len() <= max_digits && are_digits(text.as_bytes())
 }
 
-/// The number below 2^64 that a text writes with digits, at least one and not too many.
+// The number below 2^64 that a text writes with digits, at least one and not too many.
 fn value_of(text: &str, max_digits: usize) -> Option<u64>
     ensures { result ≡ value_of max_digits text.now }
 {

@@ -21,7 +21,7 @@ const MAX_PLAN_NAME_BYTES: usize = 255;
 /// The most leases that may be out, where the words don't say it.
 const DEFAULT_MAX_LEASES: u32 = 2;
 
-/// The number that an option gives, or the default where the option isn't there.
+// The number that an option gives, or the default where the option isn't there.
 fn count_at(matches: &ArgMatches<'_>, id: &str, default: u32) -> Option<u32>
     requires some { 1 ≤ default }
     requires few { default ≤ MAX_COUNT }
@@ -48,7 +48,7 @@ pub(crate) fn is_plan_name(text: &str) -> bool
     1 <= text.len() && text.len() <= MAX_PLAN_NAME_BYTES && !has_zero(text.as_bytes())
 }
 
-/// What the words of `run` ask for, by the parser's matches.
+// What the words of `run` ask for, by the parser's matches.
 fn run_words(alloc: Global, matches: &ArgMatches<'_>) -> Result<RunWords, WordsFail>
     ensures ok { IfOk result (λ run. run_of_rows (rows_of (found_of matches.now)) ≡ Some run) }
     ensures bounds { IfOk result HasBounds }

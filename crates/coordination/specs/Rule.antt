@@ -1,6 +1,7 @@
 -- The rule of the table. Word 0 is 1 while a pass holds the book, and slot 0 has it while none does. Word 1 is 1 more
 -- than the worker that stopped the service, or 0.
-use Rattle.std.specs.Prelude.{◌≡◌, ◌≢◌, ℕ, suc, ◌-◌, ◌<◌, ◌≤◌, ◌^◌, true, List, [], ◌∷◌, ◌++◌, Option, Some, None, length, slice_index}
+use Rattle.std.specs.Prelude.{◌≡◌, ◌≢◌, ℕ, suc, ◌-◌, ◌<◌, ◌≤◌, ◌^◌, true, List, [], ◌∷◌, ◌++◌, Option, Some}
+use Rattle.std.specs.Prelude.{None, length, slice_index}
 use Rattle.std.specs.List.{All}
 use mathlib.Core.Option.{some, none}
 use mathlib.Core.Option as maybe

@@ -1,6 +1,7 @@
-//! One try under the lock. Nothing here waits.
+//! One try under the lock, and the stop mark. Nothing here waits.
 ghost use Rattle.std.specs.Prelude.{◌≡◌, ◌<◌, IfNone, IfSome, false};
 ghost use Rattle.coordination.specs.Attempts.{Asked, Attempted};
+ghost use Rattle.coordination.specs.Calls.{HasStopped};
 ghost use Rattle.coordination.specs.Endings.{EndsHold, LeavesHold, has_entered, stance_after, stance_asking};
 ghost use Rattle.coordination.specs.Sights.{hearing};
 ghost use Rattle.coordination.specs.Tries.{HasTried, IsReplied};
@@ -38,7 +39,7 @@ impl Slot {
     // Runs the transform once, ends the hold, and hears who has stopped the service where the transform asks
     // to be run again.
     #[inline]
-    pub fn try_transform<T: Transform>(
+    pub(crate) fn try_transform<T: Transform>(
         &self,
         pass: &mut Pass,
         transform: &T,
@@ -64,7 +65,7 @@ impl Slot {
 
     // Asks the question once, ends the hold, and hears who has stopped the service where it has no answer.
     #[inline]
-    pub fn try_question<Q: Question>(
+    pub(crate) fn try_question<Q: Question>(
         &self,
         pass: &mut Pass,
         question: &Q,
@@ -87,8 +88,9 @@ impl Slot {
         }
     }
 
-    // Runs the transform once, unless the book is out, and ends the hold.
-    fn attempt<T: Transform>(
+    /// Runs the transform once, and tells whom its entry wakes of those that sleep. None says that another pass has the
+    /// book at this moment: then nothing has changed, and the call can be made again at once.
+    pub fn attempt<T: Transform>(
         &self,
         pass: &mut Pass,
         transform: &T,
@@ -116,8 +118,8 @@ impl Slot {
         Some((ran, wakes))
     }
 
-    // Asks the question once, unless the book is out, and ends the hold.
-    fn attempt_ask<Q: Question>(
+    /// Asks the question once, and tells whom that wakes. None says that another pass has the book at this moment.
+    pub fn attempt_ask<Q: Question>(
         &self,
         pass: &mut Pass,
         question: &Q,
@@ -138,8 +140,8 @@ impl Slot {
         Some((answer, wakes))
     }
 
-    // Has the pass hear who has stopped the service.
-    fn hear(&self, pass: &mut Pass) -> Option<WorkerId>
+    /// Has the pass hear who has stopped the service. None says that nobody has.
+    pub fn hear(&self, pass: &mut Pass) -> Option<WorkerId>
         requires { pass.old.service ≡ self.now.table.shared.table_id }
         ensures same { pass.new.service ≡ pass.old.service }
         ensures none { IfNone result (pass.new.sight ≡ pass.old.sight) }
@@ -149,5 +151,17 @@ impl Slot {
         let by = self.marked(&mut pass.seat)?;
         pass.stopped_by = Some(by);
         Some(by)
+    }
+
+    /// Stops the service with this pass. Where it was stopped before, the pass shows by whom.
+    pub fn stop(&self, pass: &mut Pass)
+        requires { pass.old.service ≡ self.now.table.shared.table_id }
+        ensures same { pass.new.service ≡ pass.old.service }
+        ensures stopped { HasStopped pass.old.sight pass.new.sight }
+    {
+        match self.mark(&mut pass.seat, pass.worker) {
+            None => pass.stopped = true,
+            Some(by) => pass.stopped_by = Some(by),
+        }
     }
 }

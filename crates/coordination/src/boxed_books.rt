@@ -1,3 +1,4 @@
+//! A book in a box, which the state lock hands from worker to worker by its address.
 ghost use Rattle.std.specs.Prelude.{◌≡◌};
 
 use lock_journal::Book;

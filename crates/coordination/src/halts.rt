@@ -1,3 +1,4 @@
+//! Why a call under the state lock came to nothing.
 use resource_lock::WorkerId;
 
 /// Why a call under the state lock came to nothing.

@@ -28,3 +28,5 @@ pub use passes::Pass;
 pub use questions::Question;
 pub use rule::Sight;
 pub use services::{Coordination, Opened};
+pub use sleepers::{Sleepers, Wakes};
+pub use slots::Slot;

@@ -1,3 +1,4 @@
+//! Work that waits outside the book.
 /// Work that waits outside the book, such as tickets in a queue.
 ///
 /// It is read under the state lock. What it tells has to be exact where no worker looks: so only workers that look may

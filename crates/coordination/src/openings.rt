@@ -2,7 +2,7 @@
 ghost use Rattle.std.specs.Prelude.{◌≡◌, ◌<◌, ◌≤◌, ◌^◌, [], All, IfOk, length, map, vec_capacity};
 ghost use Rattle.resource_lock.specs.AtRest.{IsAtRest};
 ghost use Rattle.coordination.specs.Parts.{ArePartsFrom};
-ghost use Rattle.coordination.specs.Sights.{sights_from, starting};
+ghost use Rattle.coordination.specs.Sights.{sights_from, starting, workers_from};
 
 use crate::boxed_books::BoxedBook;
 use crate::lasts::last_number;
@@ -70,6 +70,25 @@ impl Stock {
         let passes = slot.seated(seat, parts, passes);
         let service = service_of(slot, waiting, offers);
         Opened { service, passes }
+    }
+}
+
+impl Slot {
+    /// A service without its state lock over the book, in which nobody has anything, with a pass for each worker of its
+    /// graph in order. Each has seen this book. It fails for want of memory alone.
+    pub fn opening(alloc: Global, book: Box<Book>) -> Result<(Slot, Vec<Pass>), AllocError>
+        requires { IsAtRest book.value.state }
+        ensures book { IfOk result (λ opened. opened.0.table.shared.key.book.value ≡ book.value) }
+        ensures passes { IfOk result (λ opened. map (λ p. p.sight) opened.1.items ≡ sights_from 0 book.value.graph.workers book.value) }
+        ensures workers { IfOk result (λ opened. map (λ p. p.sight.worker.0) opened.1.items ≡ workers_from 0 book.value.graph.workers) }
+        ensures service { IfOk result (λ opened. All (λ p. p.service ≡ opened.0.table.shared.table_id) opened.1.items) }
+        ensures seen { IfOk result (λ opened. All (λ p. p.sight.seen ≡ book.value) opened.1.items) }
+    {
+        let parts = parts_of(alloc, &book)?;
+        let passes = Vec::with_capacity(alloc, parts.len())?;
+        let (slot, seat) = Slot::new(alloc, book)?;
+        let passes = slot.seated(seat, parts, passes);
+        Ok((slot, passes))
     }
 }
 

@@ -1,3 +1,4 @@
+//! A worker's pass: what it has, and what it has seen of the book.
 ghost use Rattle.std.specs.Prelude.{◌≡◌};
 ghost use Rattle.coordination.specs.Lasts.{last_of};
 ghost use Rattle.coordination.specs.Shown.{blocked_shown, claimed_shown, lease_shown, locks_shown, parked_shown};

@@ -1,3 +1,4 @@
+//! The rule that the table of a slot keeps, over all interleavings.
 ghost use Rattle.coordination.specs.Sights.{nobody, starting};
 ghost use Rattle.coordination.specs.Rule.{Orderly, taken, put_back, stopped_at, heard, first_sight, other_sights, both_sights};
 

@@ -32,7 +32,7 @@ impl OpenedWith {
 
 impl Slot {
     // A slot with the book in it, and a seat with all workers of its graph.
-    pub fn new(
+    pub(crate) fn new(
         alloc: Global,
         book: Box<Book>,
     ) -> Result<(Slot, Seat<BoxedBook, SeatView>), AllocError>
@@ -50,7 +50,7 @@ impl Slot {
     }
 
     // A pass for each worker, with these parts. There is room for them.
-    pub fn seated(
+    pub(crate) fn seated(
         &self,
         mut seat: Seat<BoxedBook, SeatView>,
         parts: Vec<Part>,
@@ -97,7 +97,7 @@ impl Slot {
         seat
     }
 
-    // Joins the seats of all passes, and takes the book out of its slot.
+    /// Takes the book out for good: with the passes of all workers, in order. It leaves what `Coordination::finish` does.
     pub fn close(self, passes: Vec<Pass>) -> Box<Book>
         requires service { All (λ p. p.service ≡ self.table.shared.table_id) passes.items }
         requires all { map (λ p. p.sight.worker.0) passes.items ≡ workers_from 0 self.table.shared.key.book.value.graph.workers }

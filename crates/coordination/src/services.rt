@@ -1,3 +1,4 @@
+//! The service: one book for several workers, under the state lock.
 ghost use Rattle.std.specs.Prelude.{◌≡◌, ◌≢◌, ◌<◌, [], All, Any, IfOk, Ok, Err, Some, ℕ, length, map, slice_index, true, false};
 ghost use Rattle.resource_lock.specs.declared.ids.WorkerId.{WorkerId};
 ghost use Rattle.coordination.specs.Agrees.{Agrees};
@@ -31,10 +32,19 @@ struct Guarded<O> {
 }
 
 impl<O: Offers> Guarded<O> {
-    // Begins a hold of a worker that has promised to come again at once, or hasn't.
+    // Begins the hold of a question, of a worker that has promised to come again at once, or hasn't.
     #[inline]
-    fn begin_hold(&mut self, promised: bool) {
+    fn begin_question(&mut self, promised: bool) {
         self.sleepers.queued = self.offers.are_there();
+        self.sleepers.promised = promised;
+    }
+
+    // Begins the hold of a transform. What is offered is read for those that sleep, so it isn't where nobody does.
+    #[inline]
+    fn begin_transform(&mut self, promised: bool) {
+        if self.sleepers.stances.some_sleep() {
+            self.sleepers.queued = self.offers.are_there();
+        }
         self.sleepers.promised = promised;
     }
 }
@@ -128,7 +138,7 @@ impl<O: Offers> Coordination<O> {
     {
         let mut guard = self.state_lock.lock(rt);
         for _ in rt.forever() {
-            guard.begin_hold(pass.promised);
+            guard.begin_transform(pass.promised);
             let (tried, wakes) = self
                 .slot
                 .try_transform(pass, transform, &mut guard.sleepers);
@@ -171,7 +181,7 @@ impl<O: Offers> Coordination<O> {
         let worker = pass.worker;
         let mut guard = self.state_lock.lock(rt);
         for _ in rt.forever() {
-            guard.begin_hold(pass.promised);
+            guard.begin_question(pass.promised);
             let (reply, wakes) = self.slot.try_question(pass, question, &mut guard.sleepers);
             match reply {
                 Reply::Answered(answer) => {
@@ -286,10 +296,7 @@ impl<O: Offers> Coordination<O> {
         ensures stopped { HasStopped pass.old.sight pass.new.sight }
     {
         let mut guard = self.state_lock.lock(rt);
-        match self.slot.mark(&mut pass.seat, pass.worker) {
-            None => pass.stopped = true,
-            Some(by) => pass.stopped_by = Some(by),
-        }
+        self.slot.stop(pass);
         guard.sleepers.note_all_awake();
         self.let_go(guard, Wakes::ALL);
     }

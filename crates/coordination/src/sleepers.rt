@@ -16,13 +16,13 @@ pub struct Sleepers {
     /// Whether a transform sleeps.
     pub transforms: bool,
     /// Whether a question sleeps that waits for any entry.
-    pub questions: bool,
+    pub(crate) questions: bool,
     /// What each worker does.
-    pub stances: Stances,
-    /// Whether a ticket was queued when the hold began.
-    pub queued: bool,
+    pub(crate) stances: Stances,
+    /// Whether a ticket was queued when the hold began. Where nobody sleeps, a transform's hold leaves it as it was.
+    pub(crate) queued: bool,
     /// Whether the worker of the hold has promised to come again at once.
-    pub promised: bool,
+    pub(crate) promised: bool,
 }
 
 /// Whom the end of a hold wakes of those that sleep.
@@ -37,19 +37,19 @@ pub struct Wakes {
 }
 
 impl Wakes {
-    pub const ALL: Wakes = Wakes {
+    pub(crate) const ALL: Wakes = Wakes {
         transforms: true,
         questions: true,
         workers: Woken::All,
     };
 
-    pub const NOBODY: Wakes = Wakes {
+    pub(crate) const NOBODY: Wakes = Wakes {
         transforms: false,
         questions: false,
         workers: Woken::Nobody,
     };
 
-    // Whether it wakes anybody.
+    /// Whether it wakes anybody.
     #[inline]
     pub fn wake_any(self) -> bool {
         self.transforms || self.questions || !matches!(self.workers, Woken::Nobody)
@@ -57,7 +57,7 @@ impl Wakes {
 }
 
 impl Sleepers {
-    // Nobody of so many workers, each of whom is away.
+    /// Nobody of so many workers, each of whom is away. It fails for want of memory alone.
     pub fn nobody(alloc: Global, workers: u32) -> Result<Sleepers, AllocError>
         ensures transforms { IfOk result (λ sleepers. sleepers.transforms ≡ false) }
         ensures questions { IfOk result (λ sleepers. sleepers.questions ≡ false) }
@@ -75,7 +75,7 @@ impl Sleepers {
     // Ends a hold: its worker takes this stance, and who is woken looks. Where the hold made an entry, that
     // wakes questions and transforms too.
     #[inline]
-    pub fn end_hold(
+    pub(crate) fn end_hold(
         &mut self,
         book: &Book,
         worker: WorkerId,
@@ -97,7 +97,7 @@ impl Sleepers {
     }
 
     // Notes that all that sleep are woken.
-    pub fn note_all_awake(&mut self) {
+    pub(crate) fn note_all_awake(&mut self) {
         self.transforms = false;
         self.questions = false;
         self.stances.note_woken(Woken::All);
@@ -105,7 +105,7 @@ impl Sleepers {
 
     // Ends the hold in which a transform of this kind was run.
     #[inline]
-    pub fn end_transform(
+    pub(crate) fn end_transform(
         &mut self,
         book: &Book,
         worker: WorkerId,
@@ -125,7 +125,7 @@ impl Sleepers {
 
     // Ends the hold in which a question was asked.
     #[inline]
-    pub fn end_question<A>(
+    pub(crate) fn end_question<A>(
         &mut self,
         book: &Book,
         worker: WorkerId,

@@ -17,17 +17,20 @@ use lock_transforms::{Disposition, Transform};
 use resource_lock::WorkerId;
 use std::alloc::{AllocError, Global};
 
-/// The book in its slot, with a word that says whether it is out and a word that says who has
-/// stopped the service.
+/// A service without its state lock: the book in its slot, with a word that says whether it is out and a word that says who
+/// has stopped the service.
+///
+/// Its calls never wait, and those of several passes may run at once. Who finds the book out gets no answer, and asks again.
+/// Who sleeps and who is woken is the caller's affair.
 #[derive(Drop)]
 pub struct Slot {
-    pub table: Table<BoxedBook, SeatView, OpenedWith, Order, Global>,
+    pub(crate) table: Table<BoxedBook, SeatView, OpenedWith, Order, Global>,
     pub ghost sized: { (table.shared.table_id.words ≡ 2) × (table.shared.table_id.slots ≡ 1) },
 }
 
 impl Slot {
     // Takes the book out, unless it is out.
-    pub fn try_take(&self, seat: &mut Seat<BoxedBook, SeatView>) -> bool
+    pub(crate) fn try_take(&self, seat: &mut Seat<BoxedBook, SeatView>) -> bool
         requires id { seat.old.table_id ≡ self.now.table.shared.table_id }
         requires lone { seat.old.me ≡ (one (sight_of seat.old.me.0), []) }
         ensures same { (seat.new.table_id ≡ seat.old.table_id) × (seat.new.id ≡ seat.old.id) }
@@ -39,7 +42,7 @@ impl Slot {
 
     // Runs the transform on the book that the seat holds, has the worker's part follow it, and ends the
     // hold.
-    pub fn run<T: Transform>(
+    pub(crate) fn run<T: Transform>(
         &self,
         seat: &mut Seat<BoxedBook, SeatView>,
         worker: WorkerId,
@@ -61,7 +64,7 @@ impl Slot {
     }
 
     // Asks the question of the book that the seat holds, and ends the hold.
-    pub fn ask_book<Q: Question>(
+    pub(crate) fn ask_book<Q: Question>(
         &self,
         seat: &mut Seat<BoxedBook, SeatView>,
         worker: WorkerId,
@@ -81,7 +84,7 @@ impl Slot {
     }
 
     // Puts the book back.
-    pub fn put_back(&self, seat: &mut Seat<BoxedBook, SeatView>)
+    pub(crate) fn put_back(&self, seat: &mut Seat<BoxedBook, SeatView>)
         requires id { seat.old.table_id ≡ self.now.table.shared.table_id }
         requires held { seat.old.me ≡ (holding (sight_of seat.old.me.0), (0, carried_book seat.old.me.1) ∷ []) }
         requires own { AddsOwn (sight_of seat.old.me.0) (carried_book seat.old.me.1) }
@@ -92,7 +95,11 @@ impl Slot {
     }
 
     // Stops the service, or says who has stopped it before.
-    pub fn mark(&self, seat: &mut Seat<BoxedBook, SeatView>, worker: WorkerId) -> Option<WorkerId>
+    pub(crate) fn mark(
+        &self,
+        seat: &mut Seat<BoxedBook, SeatView>,
+        worker: WorkerId,
+    ) -> Option<WorkerId>
         requires id { seat.old.table_id ≡ self.now.table.shared.table_id }
         requires lone { seat.old.me ≡ (one (sight_of seat.old.me.0), []) }
         requires worker { worker ≡ (sight_of seat.old.me.0).worker }
@@ -112,7 +119,7 @@ impl Slot {
     }
 
     // Who has stopped the service.
-    pub fn marked(&self, seat: &mut Seat<BoxedBook, SeatView>) -> Option<WorkerId>
+    pub(crate) fn marked(&self, seat: &mut Seat<BoxedBook, SeatView>) -> Option<WorkerId>
         requires id { seat.old.table_id ≡ self.now.table.shared.table_id }
         requires lone { seat.old.me ≡ (one (sight_of seat.old.me.0), []) }
         ensures same { (seat.new.table_id ≡ seat.old.table_id) × (seat.new.id ≡ seat.old.id) }

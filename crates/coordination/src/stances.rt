@@ -1,6 +1,6 @@
 //! The stances of the workers, with those counted that look and those that sleep.
-ghost use Rattle.std.specs.Prelude.{◌≡◌, IfOk, length, replicate, set};
-ghost use Rattle.worker_choices.specs.Stances.{looking};
+ghost use Rattle.std.specs.Prelude.{◌≡◌, IfOk, false, length, replicate, set};
+ghost use Rattle.worker_choices.specs.Stances.{asleep, looking};
 ghost use Rattle.worker_choices.specs.declared.stances.Stance.TheVariants as stance;
 ghost use Rattle.coordination.specs.Endings.{AreQuiet, IsWokenBy, stances_after};
 
@@ -55,6 +55,14 @@ impl Stances {
             self.sleepers = self.sleepers - usize::from(before.sleeps())
                 + usize::from(stance.sleeps());
         }
+    }
+
+    // Whether some worker sleeps.
+    #[inline]
+    pub fn some_sleep(&self) -> bool
+        ensures { result ≡ false → asleep self.now ≡ 0 }
+    {
+        self.sleepers > 0
     }
 
     // Ends a hold, where a ticket is queued or none: its worker takes this stance, and who is woken looks.

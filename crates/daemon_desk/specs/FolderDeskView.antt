@@ -4,10 +4,11 @@ use Rattle.file_access.specs.Calls.{next}
 use Rattle.file_access.specs.declared.files.DeskFail.{DeskFail}
 use Rattle.file_access.specs.declared.files.DeskFail.TheVariants.{Failed}
 
--- the program that `self` means, the count of faults, and the count of the requests sent
+-- the program that `self` means, and the counts of the faults, of the reads and of the requests sent
 pub record FolderDeskView : Type 0 where
   pub program : List ℕ
   pub faults : ℕ
+  pub reads : ℕ
   pub sends : ℕ
 
 -- the desk after this answer of a call: a fault is counted

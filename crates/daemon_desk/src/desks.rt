@@ -1,3 +1,4 @@
+//! What a desk is.
 ghost use Rattle.std.specs.Prelude.{◌≡◌, ◌≤◌, ℕ, Bool, List, Option, None, Some, IfOk, IfSome, IsSome, OnOk, OnErr, false, true};
 ghost use Rattle.std.specs.Result.{IsErrOf};
 ghost use Rattle.item_actions.specs.Forms.{is_file_name};
@@ -17,9 +18,9 @@ use std::alloc::Global;
 
 /// The files of a build and its daemons, which are started, asked and stopped.
 ///
-/// The count of faults rises by one in a call that answers Failed, and in no other. A fault of a link is counted by the desk that used the
-/// link, so a link may be used through any desk of its type. A link on which a call failed is broken for good, since half a
-/// request or half a reply may be left in it.
+/// The count of faults rises by one in a call that answers Failed, and in no other. None of the calls here is a read of a file: what
+/// a daemon reads, it reads by itself. A fault of a link is counted by the desk that used the link, so a link may be used through any
+/// desk of its type. A link on which a call failed is broken for good, since half a request or half a reply may be left in it.
 pub trait Desk: Files {
     /// The way to a daemon that was started. It can't be dropped: `stop` alone ends it, also one that is broken.
     type Link: Linked + Send;
@@ -39,6 +40,7 @@ pub trait Desk: Files {
     /// Starts a daemon with these requirements. NoMemory comes before it is started.
     fn start(&mut self, alloc: Global, asked: &Requirements) -> Result<Self::Link, DeskFail>
         ensures files { Self.files self.new ≡ Self.files self.old }
+        ensures reads { Self.reads self.new ≡ Self.reads self.old }
         ensures counted { IsFaultCounted (Self.faults self.old) (Self.faults self.new) result }
         ensures kept { Self.faults self.old ≤ Self.faults self.new }
         ensures failed { IsErrOf result DeskFail.Failed → Rises (Self.faults self.old) (Self.faults self.new) }
@@ -58,6 +60,7 @@ pub trait Desk: Files {
     ) -> Result<(), DeskFail>
         requires { is_file_name request.now.file ≡ true }
         ensures files { Self.files self.new ≡ Self.files self.old }
+        ensures reads { Self.reads self.new ≡ Self.reads self.old }
         ensures counted { IsFaultCounted (Self.faults self.old) (Self.faults self.new) result }
         ensures kept { Self.faults self.old ≤ Self.faults self.new }
         ensures failed { IsErrOf result DeskFail.Failed → Rises (Self.faults self.old) (Self.faults self.new) }
@@ -76,6 +79,7 @@ pub trait Desk: Files {
     fn receive(&mut self, alloc: Global, link: &mut Self::Link) -> Result<Reply, DeskFail>
         requires { IsSome (waiting link.old) }
         ensures files { Self.files self.new ≡ Self.files self.old }
+        ensures reads { Self.reads self.new ≡ Self.reads self.old }
         ensures counted { IsFaultCounted (Self.faults self.old) (Self.faults self.new) result }
         ensures kept { Self.faults self.old ≤ Self.faults self.new }
         ensures failed { IsErrOf result DeskFail.Failed → Rises (Self.faults self.old) (Self.faults self.new) }
@@ -87,9 +91,20 @@ pub trait Desk: Files {
         ensures sends { sends self.new ≡ sends self.old }
         ensures sent { sent self.new ≡ sent self.old };
 
-    /// Stops the daemon and waits for its end. What goes wrong is counted nowhere.
+    /// Tells a daemon that nothing more is asked of it, and doesn't wait: the link is then for `stop` alone, which waits for its end.
+    /// So several daemons can end side by side. What goes wrong is counted nowhere.
+    fn tell_to_stop(&mut self, link: &mut Self::Link)
+        ensures files { Self.files self.new ≡ Self.files self.old }
+        ensures reads { Self.reads self.new ≡ Self.reads self.old }
+        ensures faults { Self.faults self.new ≡ Self.faults self.old }
+        ensures made { Self.Link.requirements link.new ≡ Self.Link.requirements link.old }
+        ensures sends { sends self.new ≡ sends self.old }
+        ensures sent { sent self.new ≡ sent self.old };
+
+    /// Stops the daemon, unless it was told to, and waits for its end. What goes wrong is counted nowhere.
     fn stop(&mut self, link: Self::Link)
         ensures files { Self.files self.new ≡ Self.files self.old }
+        ensures reads { Self.reads self.new ≡ Self.reads self.old }
         ensures faults { Self.faults self.new ≡ Self.faults self.old }
         ensures sends { sends self.new ≡ sends self.old }
         ensures sent { sent self.new ≡ sent self.old };

@@ -1,3 +1,4 @@
+//! The desk of a real folder, with child processes.
 ghost use Rattle.std.specs.Prelude.{◌≡◌};
 ghost use Rattle.daemon_desk.specs.FolderDeskView.{after_answer};
 
@@ -13,7 +14,7 @@ use std::process::{Processes, SystemProcess};
 use std::rt;
 
 /// A desk that reads the files of the current folder, and whose daemons are child processes in it. It tells neither the
-/// files nor the requests sent.
+/// files nor which requests it sent.
 #[derive(Drop)]
 pub struct FolderDesk<R: Drop> {
     rt: R,
@@ -21,6 +22,7 @@ pub struct FolderDesk<R: Drop> {
     // What the next file is read into. It holds the last one's memory, where that was given back.
     spare: FileBytes,
     faults: u64,
+    reads: u64,
     sends: u64,
 }
 
@@ -29,19 +31,20 @@ impl<R: Drop> Model for FolderDesk<R> {
 
     ghost Value = { FolderDeskView };
 
-    ghost view = { λ d. record { program = d.program; faults = d.faults; sends = d.sends } };
+    ghost view = { λ d. record { program = d.program; faults = d.faults; reads = d.reads; sends = d.sends } };
 }
 
 impl<R: Drop> FolderDesk<R> {
     /// A desk by this runtime. The executable `self` of requirements means `program`.
     pub fn new(rt: R, alloc: Global, program: Text) -> FolderDesk<R>
-        ensures { result ≡ record { program = program; faults = 0; sends = 0 } }
+        ensures { result ≡ record { program = program; faults = 0; reads = 0; sends = 0 } }
     {
         FolderDesk {
             rt,
             program,
             spare: FileBytes::new(alloc),
             faults: 0,
+            reads: 0,
             sends: 0,
         }
     }
@@ -66,16 +69,19 @@ impl<R: Drop> FolderDesk<R> {
 }
 
 impl<R: rt::Files + Drop> Files for FolderDesk<R> {
-    ghost use Rattle.std.specs.Prelude.{◌≡◌, None};
+    ghost use Rattle.std.specs.Prelude.{◌≡◌, None, Some};
 
     ghost files = { λ _. None };
 
     ghost faults = { λ d. d.faults };
 
+    ghost reads = { λ d. Some d.reads };
+
     ghost keeps = { λ old new. new.sends ≡ old.sends };
 
     fn read(&mut self, alloc: Global, name: &Text, limit: u64) -> Result<Read, DeskFail> {
         let read = read_file(&self.rt, alloc, name, limit, &mut self.spare);
+        self.reads = self.reads.saturating_add(1);
         self.counted(read)
     }
 
@@ -119,6 +125,10 @@ impl<R: rt::Files + Processes<Started = SystemProcess> + Drop> Desk for FolderDe
     fn receive(&mut self, alloc: Global, link: &mut FolderLink) -> Result<Reply, DeskFail> {
         let reply = link.receive(alloc);
         self.counted(reply)
+    }
+
+    fn tell_to_stop(&mut self, link: &mut FolderLink) {
+        link.tell_to_stop();
     }
 
     fn stop(&mut self, link: FolderLink) {

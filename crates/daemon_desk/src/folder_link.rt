@@ -1,3 +1,4 @@
+//! Links to child processes.
 ghost use Rattle.std.specs.Prelude.{◌≡◌, ◌≢◌, None, Some, IfOk, IfSome, OnOk, OnErr, true};
 ghost use Rattle.item_actions.specs.Forms.{is_file_name};
 ghost use Rattle.item_actions.specs.declared.outcomes.Outcome.TheVariants as outcomes;
@@ -21,12 +22,13 @@ use std::process::{Child, ChildStdin, ChildStdout, Command, Processes, SystemPro
 pub struct FolderLink {
     made_for: Requirements,
     waiting: Option<Request>,
-    // Whether a call failed. Contracts alone ask for it.
+    // Whether a call failed.
     broken: bool,
     // The bytes of the reply at hand, kept for their memory.
     held: Vec<u8>,
     child: Child<SystemProcess>,
-    pipes: Pipes,
+    // They are closed once the child was told to stop.
+    pipes: Option<Pipes>,
 }
 
 // What a child is written to, and read from.
@@ -74,7 +76,7 @@ impl FolderLink {
                 broken: false,
                 held: Vec::new(alloc),
                 child,
-                pipes,
+                pipes: Some(pipes),
             }),
             None => {
                 let _ = child.wait();
@@ -102,8 +104,11 @@ impl FolderLink {
         ensures ok { OnOk result (self.new ≡ record self.old { waiting = Some request.now }) }
         ensures err { OnErr result (self.new ≡ self.old) }
     {
+        let Some(pipes) = &mut self.pipes else {
+            return Err(DeskFail::Failed);
+        };
         let frame = Frame::Request(request.copy(alloc)?);
-        self.pipes.put(alloc, &frame)?;
+        pipes.put(alloc, &frame)?;
         self.waiting = request_in(frame);
         Ok(())
     }
@@ -126,23 +131,36 @@ impl FolderLink {
         ensures reply { IfOk result (λ reply. IfSome self.old.waiting (λ request. IsReplyTo None request reply)) }
         ensures left { self.new ≡ record self.old { waiting = None } }
     {
-        let Some(request) = self.waiting.take() else {
-            return Err(DeskFail::Failed);
-        };
-        self.pipes.reply(alloc, request.unit, &mut self.held)
+        match (self.waiting.take(), &mut self.pipes) {
+            (Some(request), Some(pipes)) => pipes.reply(alloc, request.unit, &mut self.held),
+            _ => Err(DeskFail::Failed),
+        }
     }
 
-    /// Tells the child to stop, closes its pipes, which ends one that doesn't listen, and waits for its end.
-    pub(crate) fn stop(self) {
+    /// Lets a child that has nothing to answer come to its end: it is told to stop, and its pipes are closed, which ends one that
+    /// doesn't listen. A child that failed, or that still has to answer, is killed: it may be busy for long, and nobody wants what
+    /// it would say.
+    pub(crate) fn tell_to_stop(&mut self)
+        ensures { self.new ≡ self.old }
+    {
+        if self.broken || self.waiting.is_some() {
+            let _ = self.child.kill();
+        } else if let Some(pipes) = self.pipes.take() {
+            pipes.close();
+        }
+    }
+
+    /// Tells the child to stop, unless it was told, and waits for its end.
+    pub(crate) fn stop(mut self) {
+        self.tell_to_stop();
         let FolderLink {
             made_for: _,
             waiting: _,
             broken: _,
             held: _,
             mut child,
-            pipes,
+            pipes: _,
         } = self;
-        pipes.close();
         let _ = child.wait();
     }
 }

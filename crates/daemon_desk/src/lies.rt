@@ -1,3 +1,4 @@
+//! Answers that are put in the place of a daemon's.
 /// Bytes that a desk in memory takes for the answer of a daemon, in place of the daemon's own.
 #[derive(Drop)]
 pub struct Lie {

@@ -1,3 +1,4 @@
+//! A desk in memory.
 ghost use Rattle.std.specs.Prelude.{◌≡◌, ◌↔◌, [], None, Some, IfOk, IfSome, IsTrue, IsSome, OnErr, OnOk, true, false};
 ghost use Rattle.std.specs.Result.{IsErrOf};
 ghost use Rattle.item_actions.specs.Forms.{is_file_name};
@@ -23,7 +24,8 @@ use std::marker::Model;
 
 /// A desk whose files are in memory, and whose daemons serve over memory on the same files.
 ///
-/// Its calls are numbered from 0, all five kinds of them together. A desk with a lie doesn't tell its files.
+/// Its calls are numbered from 0, all five kinds of them together; it doesn't tell how many of them were reads. A desk with a lie
+/// doesn't tell its files.
 #[derive(Drop)]
 pub struct MemoryDesk {
     files: FileMap,
@@ -159,13 +161,15 @@ fn is_fault<T>(answer: &Result<T, DeskFail>) -> bool
 }
 
 impl Files for MemoryDesk {
-    ghost use Rattle.std.specs.Prelude.{◌≡◌};
+    ghost use Rattle.std.specs.Prelude.{◌≡◌, None};
     ghost use Rattle.file_access.specs.Calls.{next_fails};
     ghost use Rattle.daemon_desk.specs.MemoryDeskView.{called, known_files};
 
     ghost files = { known_files };
 
     ghost faults = { λ d. d.log.faults };
+
+    ghost reads = { λ _. None };
 
     ghost keeps = { λ old new. new ≡ called (next_fails old.log) old };
 
@@ -240,6 +244,11 @@ impl Desk for MemoryDesk {
         self.calls.add(is_fault(&reply));
         reply
     }
+
+    fn tell_to_stop(&mut self, _link: &mut MemoryLink)
+        ensures desk { self.new ≡ self.old }
+        ensures link { _link.new ≡ _link.old }
+    {}
 
     fn stop(&mut self, link: MemoryLink)
         ensures { self.new ≡ called false self.old }

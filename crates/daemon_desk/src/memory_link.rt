@@ -1,3 +1,4 @@
+//! Links to daemons in memory.
 ghost use Rattle.std.specs.Prelude.{◌≡◌, None, Some, IfSome, true};
 ghost use Rattle.item_actions.specs.Forms.{is_file_name};
 ghost use Rattle.daemon_desk.specs.LinkView.{new_link};

@@ -1,3 +1,4 @@
+//! The requests that a desk sent.
 ghost use Rattle.std.specs.Prelude.{◌≡◌, IfOk};
 ghost use Rattle.daemon_desk.specs.Sent.{sent_over};
 

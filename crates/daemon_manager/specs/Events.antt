@@ -1,5 +1,6 @@
 -- What a list of events says of the daemons that it names.
-use Rattle.std.specs.Prelude.{◌≡◌, ◌⊎◌, ◌<◌, ◌==◌, ℕ, ⊤, Bool, List, [], ◌∷◌, ◌++◌, length, Contains, Option, Some, None, IsSomeAnd, slice_get, fold, if◌then◌else◌}
+use Rattle.std.specs.Prelude.{◌≡◌, ◌⊎◌, ◌<◌, ◌==◌, ℕ, ⊤, Bool, List, [], ◌∷◌, ◌++◌, length, Contains, Option, Some}
+use Rattle.std.specs.Prelude.{None, IsSomeAnd, slice_get, fold, if◌then◌else◌}
 use Rattle.std.specs.List.{filter_map, list_any}
 use Rattle.daemon_requirements.specs.RequirementsView.{RequirementsView}
 use Rattle.daemon_manager.specs.declared.events.Event.{Event}

@@ -1,5 +1,6 @@
 -- Idle daemons in the order of their release, whose numbers a slab keeps.
-use Rattle.std.specs.Prelude.{◌≡◌, ◌≢◌, ◌+◌, ◌≤◌, ℕ, List, length, map, AllPairs, All, Option, IsSomeAnd, MatchOption, drop, slice_get, unwrap_or}
+use Rattle.std.specs.Prelude.{◌≡◌, ◌≢◌, ◌+◌, ◌≤◌, ℕ, List, length, map, AllPairs, All, Option, IsSomeAnd, MatchOption, drop}
+use Rattle.std.specs.Prelude.{slice_get, unwrap_or}
 use Rattle.slab.specs.Slab.{Slab, get, slab_len, ContainsKey}
 use Rattle.daemon_requirements.specs.RequirementsView.{RequirementsView}
 use Rattle.daemon_requirements.specs.Covers.{Covers}

@@ -1,3 +1,4 @@
+//! What happens to daemons.
 ghost use Rattle.std.specs.Prelude.{◌≡◌};
 ghost use Rattle.daemon_manager.specs.Events.{daemon_of, state_after};
 

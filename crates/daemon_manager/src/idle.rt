@@ -1,5 +1,6 @@
 //! The idle daemons in the order of their release. Their numbers are kept in a slab.
-ghost use Rattle.std.specs.Prelude.{◌≡◌, ◌+◌, ◌<◌, ◌≤◌, ◌++◌, ◌∷◌, [], All, IfOk, IsSomeAnd, MatchOption, Some, drop, length, remove, slice_get};
+ghost use Rattle.std.specs.Prelude.{◌≡◌, ◌+◌, ◌<◌, ◌≤◌, ◌++◌, ◌∷◌, [], All, IfOk, IsSomeAnd, MatchOption, Some, drop};
+ghost use Rattle.std.specs.Prelude.{length, remove, slice_get};
 ghost use Rattle.daemon_requirements.specs.Covers.{Covers};
 ghost use Rattle.daemon_manager.specs.IdleOrder.{IsLastCovering};
 

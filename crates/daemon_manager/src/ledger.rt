@@ -1,5 +1,6 @@
 //! All events, and what each daemon does.
-ghost use Rattle.std.specs.Prelude.{◌≡◌, ◌↔◌, ◌+◌, ◌<◌, ◌≤◌, ◌^◌, ◌++◌, ◌∷◌, [], IfOk, IsSomeAnd, IsTrue, None, OnOk, OnErr, Some, length, vec_capacity, vec_len};
+ghost use Rattle.std.specs.Prelude.{◌≡◌, ◌↔◌, ◌+◌, ◌<◌, ◌≤◌, ◌^◌, ◌++◌, ◌∷◌, [], IfOk, IsSomeAnd, IsTrue};
+ghost use Rattle.std.specs.Prelude.{None, OnOk, OnErr, Some, length, vec_capacity, vec_len};
 ghost use Rattle.daemon_manager.specs.Events.{daemon_of, pool, started_with};
 ghost use Rattle.daemon_manager.specs.LedgerView.{Notes, NotesStart, OnlyMoreRoom, one_if_busy};
 ghost use Rattle.daemon_manager.specs.declared.events.DaemonState.TheVariants.{Busy};
@@ -165,7 +166,7 @@ fn is_busy(state: DaemonState) -> bool
     matches!(state, DaemonState::Busy)
 }
 
-/// Whether the event is the start of a daemon with these requirements.
+// Whether the event is the start of a daemon with these requirements.
 fn is_start_with(event: &Event, requirements: &Requirements) -> bool
     ensures { IsTrue result ↔ (started_with event.now ≡ Some requirements.now) }
 {

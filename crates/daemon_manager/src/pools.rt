@@ -173,7 +173,7 @@ impl<L: Linked> Pool<L> {
     }
 }
 
-/// How many more events the daemons may need: two of each busy one, and one of each idle one.
+// How many more events the daemons may need: two of each busy one, and one of each idle one.
 fn needed(ledger: &Ledger, idle_count: usize) -> usize
     requires { HasRoom ledger.now idle_count }
     ensures value { result ≡ ledger.now.busy + ledger.now.busy + idle_count }

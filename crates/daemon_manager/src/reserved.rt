@@ -1,3 +1,4 @@
+//! Daemons that are reserved.
 ghost use Rattle.std.specs.Prelude.{◌≡◌};
 ghost use Rattle.std.specs.Borrow.{sem};
 ghost use Rattle.daemon_manager.specs.Lending.{lends_link};

@@ -1,7 +1,7 @@
 -- What the parts of a body are read as.
 use Rattle.std.proofs.Common.{◌≡◌, ◌≢◌, ℕ, ◌+◌, ◌*◌, ◌-◌, ◌<◌, ◌≤◌, List, [], ◌∷◌, Bool, true, false, ◌&&◌, eqb, Option, None, Some, if◌then◌else◌, length, get_or, take, drop, refl, sym, ap, ◌∙◌, arith}
 use Rattle.std.specs.Int.{w16, w32, from_be_bytes}
-use Rattle.std.proofs.lemmas.Bool.{lt-ltb, eq-eqb, ne_eqb, cond-true, cond-false}
+use Rattle.std.proofs.lemmas.Bool.{le-ltb, lt-ltb, eq-eqb, ne_eqb, cond-true, cond-false}
 use Rattle.item_actions.specs.Forms.{is_file_name}
 use Rattle.item_actions.specs.declared.actions.ItemAction.{ItemAction}
 use Rattle.item_actions.specs.declared.outcomes.Outcome.{Outcome}
@@ -9,7 +9,6 @@ use Rattle.daemon_protocol.specs.Bodies.{action_at, request_after, request_with,
 use Rattle.daemon_protocol.specs.declared.frames.Frame.{Frame}
 use Rattle.daemon_protocol.specs.declared.frames.Frame.TheVariants.{Request}
 use Rattle.daemon_protocol.proofs.Starting.{rest}
-use Rattle.daemon_protocol.proofs.Spelled.{not_less}
 
 -- too few bytes for a unit
 pub short_request : (body : List ℕ) → length body < 4 → None ≡ request_of body
@@ -24,7 +23,7 @@ pub long_request : (unit : ℕ) (action : Option (ItemAction × ℕ)) (body : Li
 long_request unit action body enough is at =
     (λ i. request_after (is i) (take (length body - 4) (drop 4 body)) (at i))
     ∙ (λ i. request_after (from_be_bytes w32 (take 4 body)) (rest body 4 i) (action_at (rest body 4 i)))
-    ∙ sym (cond-false _ _ _ (not_less (length body) 4 enough))
+    ∙ sym (cond-false _ _ _ (le-ltb (length body) 4 enough))
 
 pub some_action : (unit : ℕ) (action : ItemAction) (len : ℕ) (after : List ℕ)
     → request_with unit action (take (length after - len) (drop len after)) ≡ request_after unit after (Some (action, len))
@@ -36,7 +35,7 @@ pub long_reply : (unit : ℕ) (outcome : Option Outcome) (body : List ℕ) → 4
 long_reply unit outcome body enough is at =
     (λ i. reply_with (is i) (at i))
     ∙ ap (λ after. reply_with (from_be_bytes w32 (take 4 body)) (outcome_of after)) (rest body 4)
-    ∙ sym (cond-false _ _ _ (not_less (length body) 4 enough))
+    ∙ sym (cond-false _ _ _ (le-ltb (length body) 4 enough))
 
 -- the two bytes of a file's length
 two_bytes : (len : ℕ) (bytes : List ℕ) → 2 ≤ length bytes → len ≡ get_or bytes 0 0 * 256 + get_or bytes 1 0 → len ≡ from_be_bytes w16 (take 2 bytes)
@@ -65,7 +64,7 @@ other_length unit action len bytes enough is other =
     let name = drop 2 bytes in
     let read : len ≡ from_be_bytes w16 (take 2 bytes) = two_bytes len bytes enough is in
     let differ : eqb (from_be_bytes w16 (take 2 bytes)) (length name) ≡ false = ne_eqb _ _ (λ same. other (read ∙ same ∙ ap length (sym (rest bytes 2)))) in
-    sym (cond-false _ _ _ (not_less (length bytes) 2 enough) ∙ cond-false _ _ _ (ap (λ same. same && is_file_name name) differ))
+    sym (cond-false _ _ _ (le-ltb (length bytes) 2 enough) ∙ cond-false _ _ _ (ap (λ same. same && is_file_name name) differ))
 
 -- the length is the name's
 pub own_length : (unit : ℕ) (action : ItemAction) (len : ℕ) (bytes : List ℕ) (file : Option (List ℕ)) → 2 ≤ length bytes → len ≡ get_or bytes 0 0 * 256 + get_or bytes 1 0
@@ -81,4 +80,4 @@ own_length unit action len bytes file enough is same of =
     ∙ ap (λ file. framed unit action (if is_file_name file then Some file else None)) (rest bytes 2)
     ∙ framed-cond unit action (is_file_name name) name
     ∙ ap (λ same. if same && is_file_name name then Some request else None) (sym equal)
-    ∙ sym (cond-false _ _ _ (not_less (length bytes) 2 enough))
+    ∙ sym (cond-false _ _ _ (le-ltb (length bytes) 2 enough))

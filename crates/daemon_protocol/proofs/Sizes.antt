@@ -1,7 +1,7 @@
 -- How long the frame is whose first bytes are known.
 use Rattle.std.proofs.Common.{◌≡◌, ℕ, suc, ◌+◌, ◌<◌, ◌≤◌, inl, inr, List, [], ◌∷◌, ◌++◌, true, false, Option, None, Some, cond, ltb, eqb, ◌||◌, length, take, drop, sym, ap, ◌∙◌, arith}
 use Rattle.std.specs.Int.{w32, from_be_bytes}
-use Rattle.std.proofs.lemmas.Bool.{cases_Bool}
+use Rattle.std.proofs.lemmas.Bool.{cases_Bool, ltb-false}
 use Rattle.std.proofs.lemmas.Bool.Decides.{nat_tests}
 use Rattle.std.proofs.lemmas.List.{take-append-le, drop-append-le, length-drop}
 use Rattle.daemon_protocol.specs.declared.frames.Frame.{Frame}
@@ -9,7 +9,7 @@ use Rattle.daemon_protocol.specs.declared.starts.StreamStart.TheVariants.{Unfini
 use Rattle.daemon_protocol.specs.declared.starts.Flaw.TheVariants.{Length, Tag}
 use Rattle.daemon_protocol.specs.Bodies.{frame_of}
 use Rattle.daemon_protocol.specs.StreamStart.{look, look_length, look_body, look_field}
-use Rattle.daemon_protocol.proofs.lemmas.Settled.{enough, fits_body}
+use Rattle.daemon_protocol.proofs.lemmas.Settled.{fits_body}
 
 -- the length of the body, by the bytes behind the tag
 abbrev pub body_len : List ℕ → ℕ
@@ -23,7 +23,7 @@ sized_length tag m after f h =
     let X = look_body tag (body_len after) (drop 4 after) in
     elim (cases_Bool (ltb (length after) 4)) [
       | inl p ↦ let e : Unfinished ≡ Whole f m = sym (ap (λ b. cond b Unfinished X) p) ∙ h in cc
-      | inr p ↦ (enough (length after) 4 p, (fits_body tag _ m (drop 4 after) f (sym (ap (λ b. cond b Unfinished X) p) ∙ h)).0)
+      | inr p ↦ (ltb-false (length after) 4 p, (fits_body tag _ m (drop 4 after) f (sym (ap (λ b. cond b Unfinished X) p) ∙ h)).0)
     ]
 
 -- a whole frame has a head, which says how long it is
@@ -51,7 +51,7 @@ unfinished_body tag n body h =
     elim (cases_Bool (ltb 65536 n)) [
       | inl p ↦ let e : Refused Length ≡ Unfinished = sym (ap (λ b. cond b (Refused Length) A) p) ∙ h in cc
       | inr p ↦
-          let short : n ≤ 65536 = enough 65536 n p in
+          let short : n ≤ 65536 = ltb-false 65536 n p in
           let e : A ≡ Unfinished = sym (ap (λ b. cond b (Refused Length) A) p) ∙ h in
           elim (cases_Bool (ltb (length body) n)) [
             | inl q ↦ (less (length body) n q, short)

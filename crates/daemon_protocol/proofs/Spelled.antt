@@ -2,8 +2,7 @@
 use Rattle.std.proofs.Common.{◌≡◌, ◌≢◌, ℕ, suc, ◌+◌, ◌<◌, ◌≤◌, ◌^◌, List, [], ◌∷◌, ◌++◌, true, false, Some, ltb, leb, eqb, ◌&&◌, ◌||◌, length, refl, ap, ◌∙◌, arith, length-append}
 use Rattle.std.specs.Int.{w16, w32, to_be_bytes, from_be_bytes}
 use Rattle.std.proofs.Math.Seq.{take-append_seam, drop-append_seam}
-use Rattle.std.proofs.lemmas.Bool.{and_from, le-leb, eq-eqb, cond-true, cond-false}
-use Rattle.std.proofs.lemmas.Bool.Decides.{nat_tests}
+use Rattle.std.proofs.lemmas.Bool.{and_from, le-leb, le-ltb, eq-eqb, cond-true, cond-false}
 use Rattle.std.proofs.lemmas.Nat.{from_be_bytes-to_be_bytes_2, from_be_bytes-to_be_bytes_4, from_be_bytes-to_be_bytes_8}
 use Rattle.item_actions.specs.Forms.{is_file_name}
 use Rattle.item_actions.specs.declared.actions.ItemAction.{ItemAction}
@@ -17,9 +16,6 @@ use Rattle.daemon_protocol.specs.declared.frames.Frame.{Frame}
 use Rattle.daemon_protocol.specs.declared.frames.Frame.TheVariants.{Request, Reply, Stop}
 use Rattle.daemon_protocol.specs.declared.starts.StreamStart.TheVariants.{Whole}
 use Rattle.daemon_protocol.proofs.Names.{short}
-
-pub not_less : (a n : ℕ) → n ≤ a → ltb a n ≡ false
-not_less a n le = grind (arith, nat_tests)
 
 count_read : (needle rest : List ℕ) → 1 ≤ length needle → length needle ≤ 64 → count_at (length needle ∷ (needle ++ rest)) ≡ Some (actions.Count needle, length needle + 2)
 count_read needle rest some few =
@@ -42,7 +38,7 @@ file_read : (unit : ℕ) (a : ItemAction) (file : List ℕ) → is_file_name fil
 file_read unit a file is =
     let few = short file is in
     let len : from_be_bytes w16 (to_be_bytes w16 (length file)) ≡ length file = from_be_bytes-to_be_bytes_2 (length file) (omega arith) in
-    cond-false _ _ _ (not_less (length (to_be_bytes w16 (length file) ++ file)) 2 (omega arith))
+    cond-false _ _ _ (le-ltb (length (to_be_bytes w16 (length file) ++ file)) 2 (omega arith))
     ∙ cond-true _ _ _ (and_from (eqb (from_be_bytes w16 (to_be_bytes w16 (length file))) (length file)) (is_file_name file) (eq-eqb _ _ len) is)
 
 request_read : (unit : ℕ) (a : ItemAction) (file : List ℕ) → unit < 2 ^ 32 → ActionFits a → is_file_name file ≡ true
@@ -50,7 +46,7 @@ request_read : (unit : ℕ) (a : ItemAction) (file : List ℕ) → unit < 2 ^ 32
 request_read unit a file below fits is =
     let rest = to_be_bytes w16 (length file) ++ file in
     let bytes = action_bytes a ++ rest in
-    cond-false _ _ _ (not_less (length (to_be_bytes w32 unit ++ bytes)) 4 (omega arith))
+    cond-false _ _ _ (le-ltb (length (to_be_bytes w32 unit ++ bytes)) 4 (omega arith))
     ∙ (λ i. request_after (from_be_bytes-to_be_bytes_4 unit below i) bytes (action_read a rest fits i))
     ∙ ap (request_with unit a) (drop-append_seam (action_bytes a) rest)
     ∙ file_read unit a file is
@@ -66,7 +62,7 @@ outcome_read outcomes.Skipped fits other = absurd (other refl)
 
 reply_read : (unit : ℕ) (o : Outcome) → unit < 2 ^ 32 → OutcomeFits o → o ≢ outcomes.Skipped → reply_of (to_be_bytes w32 unit ++ outcome_bytes o) ≡ Some (Reply record { unit = unit; outcome = o })
 reply_read unit o below fits other =
-    cond-false _ _ _ (not_less (length (to_be_bytes w32 unit ++ outcome_bytes o)) 4 (omega arith))
+    cond-false _ _ _ (le-ltb (length (to_be_bytes w32 unit ++ outcome_bytes o)) 4 (omega arith))
     ∙ (λ i. reply_with (from_be_bytes-to_be_bytes_4 unit below i) (outcome_read o fits other i))
 
 look_read : (tag : ℕ) (b after : List ℕ) (f : Frame) → (eqb tag 1 || eqb tag 2 || eqb tag 3) ≡ true → length b ≤ 65536 → frame_of tag b ≡ Some f
@@ -76,10 +72,10 @@ look_read tag b after f known few is =
     let bytes = b ++ after in
     let len : from_be_bytes w32 (to_be_bytes w32 n) ≡ n = from_be_bytes-to_be_bytes_4 n (omega arith) in
     cond-true _ _ _ known
-    ∙ cond-false _ _ _ (not_less (length (to_be_bytes w32 n ++ bytes)) 4 (omega arith))
+    ∙ cond-false _ _ _ (le-ltb (length (to_be_bytes w32 n ++ bytes)) 4 (omega arith))
     ∙ ap (λ m. look_body tag m bytes) len
-    ∙ cond-false _ _ _ (not_less 65536 n few)
-    ∙ cond-false _ _ _ (not_less (length bytes) n (omega (arith, length-append b after)))
+    ∙ cond-false _ _ _ (le-ltb 65536 n few)
+    ∙ cond-false _ _ _ (le-ltb (length bytes) n (omega (arith, length-append b after)))
     ∙ ap (λ xs. look_field n (frame_of tag xs)) (take-append_seam b after)
     ∙ ap (look_field n) is
 

@@ -2,7 +2,7 @@
 use Rattle.std.proofs.Common.{◌≡◌, ◌≢◌, ℕ, suc, ◌+◌, ◌<◌, ◌≤◌, List, [], ◌∷◌, ◌++◌, true, false, Option, None, Some, IfSome, cond, ltb, leb, eqb, ◌&&◌, ◌||◌, length, take, drop, get_or, refl, sym, ap, ◌∙◌, arith, subst, ⊎_elim, length-drop, length-take, length-take-le, take-append-drop}
 use Rattle.std.specs.Int.{w16, w32, w64, to_be_bytes, from_be_bytes}
 use Rattle.std.proofs.Math.Seq.{take-add}
-use Rattle.std.proofs.lemmas.Bool.{and_parts, leb-true, eqb-true, cond_both, cases_lt}
+use Rattle.std.proofs.lemmas.Bool.{and_parts, leb-true, eqb-true, cond_both, cases_lt, ltb-false}
 use Rattle.std.proofs.lemmas.Bool.Decides.{nat_tests}
 use Rattle.std.proofs.lemmas.List.{get_or-drop, get_or-take, get_or_past, nil_from_length}
 use Rattle.std.proofs.lemmas.Nat.{be_bytes_2, be_bytes_4, be_bytes_8}
@@ -17,9 +17,6 @@ use Rattle.daemon_protocol.specs.StreamStart.{look, look_length, look_body, look
 use Rattle.daemon_protocol.specs.declared.frames.Frame.{Frame}
 use Rattle.daemon_protocol.specs.declared.starts.StreamStart.{StreamStart}
 use Rattle.daemon_protocol.specs.declared.starts.StreamStart.TheVariants.{Unfinished, Whole, Refused}
-
-enough : (a n : ℕ) → ltb a n ≡ false → n ≤ a
-enough a n other = grind (arith, nat_tests)
 
 abbrev AreBytes : List ℕ → Type 0
 AreBytes bytes = (i : ℕ) → get_or bytes i 0 < 256
@@ -78,14 +75,14 @@ file_is unit a before bytes are whole =
     let parts = and_parts _ _ both in
     let len : length (drop 2 bytes) ≡ from_be_bytes w16 (take 2 bytes) = sym (eqb-true _ _ parts.0) in
     let two : to_be_bytes w16 (length (drop 2 bytes)) ++ drop 2 bytes ≡ bytes =
-    ap (λ xs. xs ++ drop 2 bytes) (be_bytes_2 (take 2 bytes) (length (drop 2 bytes)) (length-take-le 2 bytes (enough _ _ some)) (bytes_before 2 bytes are) len) ∙ take-append-drop 2 bytes in
+    ap (λ xs. xs ++ drop 2 bytes) (be_bytes_2 (take 2 bytes) (length (drop 2 bytes)) (length-take-le 2 bytes (ltb-false _ _ some)) (bytes_before 2 bytes are) len) ∙ take-append-drop 2 bytes in
     (refl, ap (λ xs. to_be_bytes w32 unit ++ (action_bytes a ++ xs)) two ∙ whole, parts.1))
     (λ _. tt))
 
 request_is : (bytes : List ℕ) → AreBytes bytes → IfSome (request_of bytes) (HasBody 1 bytes)
 request_is bytes are =
     cond_both (ltb (length bytes) 4) _ _ (λ o. IfSome o (HasBody 1 bytes)) (λ _. tt)
-    (λ some. after (action_at (drop 4 bytes)) (four bytes are (enough _ _ some)) (action_is (drop 4 bytes)))
+    (λ some. after (action_at (drop 4 bytes)) (four bytes are (ltb-false _ _ some)) (action_is (drop 4 bytes)))
   where
     unit : ℕ
     unit = from_be_bytes w32 (take 4 bytes)
@@ -124,7 +121,7 @@ outcome_is (b ∷ after) are =
 reply_is : (bytes : List ℕ) → AreBytes bytes → IfSome (reply_of bytes) (HasBody 2 bytes)
 reply_is bytes are =
     cond_both (ltb (length bytes) 4) _ _ (λ o. IfSome o (HasBody 2 bytes)) (λ _. tt)
-    (λ some. after (outcome_of (drop 4 bytes)) (four bytes are (enough _ _ some)) (outcome_is (drop 4 bytes) (bytes_after 4 bytes are)))
+    (λ some. after (outcome_of (drop 4 bytes)) (four bytes are (ltb-false _ _ some)) (outcome_is (drop 4 bytes) (bytes_after 4 bytes are)))
   where
     unit : ℕ
     unit = from_be_bytes w32 (take 4 bytes)
@@ -153,7 +150,7 @@ body_stands : (t n : ℕ) (bytes : List ℕ) → AreBytes bytes → (eqb t 1 || 
 body_stands t n bytes are known is some =
     let P = StandsFor (t ∷ bytes) in
     cond_both (ltb 65536 n) _ _ P (λ _. tt) (λ _.
-    cond_both (ltb (length (drop 4 bytes)) n) _ _ P (λ _. tt) (λ whole. field (enough _ _ whole) (frame_of t (take n (drop 4 bytes))) (frame_is t (take n (drop 4 bytes)) (bytes_before n (drop 4 bytes) (bytes_after 4 bytes are)) known)))
+    cond_both (ltb (length (drop 4 bytes)) n) _ _ P (λ _. tt) (λ whole. field (ltb-false _ _ whole) (frame_of t (take n (drop 4 bytes))) (frame_is t (take n (drop 4 bytes)) (bytes_before n (drop 4 bytes) (bytes_after 4 bytes are)) known)))
   where
     field : n ≤ length (drop 4 bytes) → (o : Option Frame) → IfSome o (HasBody t (take n (drop 4 bytes))) → StandsFor (t ∷ bytes) (look_field n o)
     field within None has = tt
@@ -166,7 +163,7 @@ body_stands t n bytes are known is some =
 
 length_stands : (t : ℕ) (bytes : List ℕ) → AreBytes bytes → (eqb t 1 || eqb t 2 || eqb t 3) ≡ true → StandsFor (t ∷ bytes) (look_length t bytes)
 length_stands t bytes are known =
-    cond_both (ltb (length bytes) 4) _ _ (StandsFor (t ∷ bytes)) (λ _. tt) (λ some. body_stands t (from_be_bytes w32 (take 4 bytes)) bytes are known refl (enough _ _ some))
+    cond_both (ltb (length bytes) 4) _ _ (StandsFor (t ∷ bytes)) (λ _. tt) (λ some. body_stands t (from_be_bytes w32 (take 4 bytes)) bytes are known refl (ltb-false _ _ some))
 
 stands : (bytes : List ℕ) → AreBytes bytes → StandsFor bytes (look bytes)
 stands [] are = tt

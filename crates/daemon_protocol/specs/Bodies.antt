@@ -1,18 +1,21 @@
 -- The frames by their bodies. Numbers stand with their highest byte first.
-use Rattle.std.specs.Prelude.{ℕ, ◌+◌, List, [], ◌∷◌, Option, None, Some, length, take, drop, ◌==◌, ◌&&◌, nat_le, nat_lt, if◌then◌else◌}
+use Rattle.std.specs.Prelude.{ℕ, ◌+◌, List, [], ◌∷◌, Option, None, Some, length, take, drop, ◌==◌, ◌&&◌, nat_le, nat_lt}
+use Rattle.std.specs.Prelude.{if◌then◌else◌}
 use Rattle.std.specs.Int.{w16, w32, w64, from_be_bytes}
 use Rattle.item_actions.specs.Forms.{is_file_name}
 use Rattle.item_actions.specs.declared.actions.ItemAction.{ItemAction}
 use Rattle.item_actions.specs.declared.actions.ItemAction.TheVariants as actions
 use Rattle.item_actions.specs.declared.outcomes.Outcome.{Outcome}
 use Rattle.item_actions.specs.declared.outcomes.Outcome.TheVariants as outcomes
+use Rattle.item_actions.specs.declared.limits.TheConstants.{MAX_NEEDLE_BYTES}
+use Rattle.daemon_protocol.specs.declared.limits.TheConstants.{DIGEST_BYTES, REPLY_TAG, REQUEST_TAG}
 use Rattle.daemon_protocol.specs.declared.frames.Frame.{Frame}
 use Rattle.daemon_protocol.specs.declared.frames.Frame.TheVariants.{Request, Reply, Stop}
 
 -- the needle's length, and the needle
 abbrev pub count_at : List ℕ → Option (ItemAction × ℕ)
 count_at [] = None
-count_at (n ∷ after) = if nat_le 1 n && nat_le n 64 && nat_le n (length after) then Some (actions.Count (take n after), n + 2) else None
+count_at (n ∷ after) = if nat_le 1 n && nat_le n MAX_NEEDLE_BYTES && nat_le n (length after) then Some (actions.Count (take n after), n + 2) else None
 
 -- the action at the start of the bytes, and how many bytes it takes up
 abbrev pub action_at : List ℕ → Option (ItemAction × ℕ)
@@ -52,7 +55,7 @@ abbrev pub outcome_of : List ℕ → Option Outcome
 outcome_of [] = None
 outcome_of (b ∷ after) =
     if b == 1 then (if length after == 8 then Some (outcomes.Number (from_be_bytes w64 after)) else None)
-    else (if b == 2 then (if length after == 32 then Some (outcomes.Digest after) else None)
+    else (if b == 2 then (if length after == DIGEST_BYTES then Some (outcomes.Digest after) else None)
     else (if length after == 0 then cause_of b else None))
 
 abbrev pub reply_with : ℕ → Option Outcome → Option Frame
@@ -68,4 +71,4 @@ stop_of body = if length body == 0 then Some Stop else None
 
 -- the frame of this tag whose body this is
 abbrev pub frame_of : ℕ → List ℕ → Option Frame
-frame_of tag body = if tag == 1 then request_of body else (if tag == 2 then reply_of body else stop_of body)
+frame_of tag body = if tag == REQUEST_TAG then request_of body else (if tag == REPLY_TAG then reply_of body else stop_of body)

@@ -6,6 +6,8 @@ use Rattle.item_actions.specs.declared.actions.ItemAction.{ItemAction}
 use Rattle.item_actions.specs.declared.actions.ItemAction.TheVariants as actions
 use Rattle.item_actions.specs.declared.outcomes.Outcome.{Outcome}
 use Rattle.item_actions.specs.declared.outcomes.Outcome.TheVariants as outcomes
+use Rattle.item_actions.specs.declared.limits.TheConstants.{MAX_NEEDLE_BYTES}
+use Rattle.daemon_protocol.specs.declared.limits.TheConstants.{DIGEST_BYTES, REPLY_TAG, REQUEST_TAG, STOP_TAG}
 use Rattle.daemon_protocol.specs.declared.frames.Frame.{Frame}
 use Rattle.daemon_protocol.specs.declared.frames.Frame.TheVariants.{Request, Reply, Stop}
 
@@ -33,9 +35,9 @@ body (Reply r) = to_be_bytes w32 r.unit ++ outcome_bytes r.outcome
 body Stop = []
 
 abbrev pub tag : Frame → ℕ
-tag (Request r) = 1
-tag (Reply r) = 2
-tag Stop = 3
+tag (Request r) = REQUEST_TAG
+tag (Reply r) = REPLY_TAG
+tag Stop = STOP_TAG
 
 abbrev pub spelling : Frame → List ℕ
 spelling f = tag f ∷ (to_be_bytes w32 (length (body f)) ++ body f)
@@ -48,12 +50,12 @@ IsValid Stop = Unit {0}
 
 -- what the types of the fields hold
 abbrev pub ActionFits : ItemAction → Type 0
-ActionFits (actions.Count needle) = (1 ≤ length needle) × (length needle ≤ 64)
+ActionFits (actions.Count needle) = (1 ≤ length needle) × (length needle ≤ MAX_NEEDLE_BYTES)
 ActionFits _ = Unit {0}
 
 abbrev pub OutcomeFits : Outcome → Type 0
 OutcomeFits (outcomes.Number n) = n < 2 ^ 64
-OutcomeFits (outcomes.Digest digest) = length digest ≡ 32
+OutcomeFits (outcomes.Digest digest) = length digest ≡ DIGEST_BYTES
 OutcomeFits _ = Unit {0}
 
 abbrev pub FrameFits : Frame → Type 0

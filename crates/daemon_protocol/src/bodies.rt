@@ -5,6 +5,7 @@ ghost use Rattle.item_actions.specs.declared.outcomes.Outcome.TheVariants.{Numbe
 ghost use Rattle.daemon_protocol.specs.Bodies.{frame_of, request_of, request_with, action_at, count_at, reply_of, outcome_of, cause_of, stop_of};
 
 use crate::frames::{Frame, Reply, Request};
+use crate::limits::{DIGEST_BYTES, REPLY_TAG, REQUEST_TAG};
 use item_actions::{ItemAction, Needle, Outcome, Text, is_file_name};
 use std::alloc::{AllocError, Global};
 use std::str;
@@ -14,8 +15,8 @@ pub(crate) fn frame_of(alloc: Global, tag: u8, body: &[u8]) -> Result<Option<Fra
     ensures { IfOk result (λ f. f ≡ frame_of tag body.now) }
 {
     match tag {
-        1 => request_of(alloc, body),
-        2 => Ok(reply_of(body)),
+        REQUEST_TAG => request_of(alloc, body),
+        REPLY_TAG => Ok(reply_of(body)),
         _ => Ok(stop_of(body)),
     }
 }
@@ -143,12 +144,12 @@ fn outcome_of_number(bytes: &[u8]) -> Option<Outcome>
 }
 
 fn outcome_of_digest(bytes: &[u8]) -> Option<Outcome>
-    ensures { result ≡ (if length bytes.now == 32 then Some (Digest bytes.now) else None) }
+    ensures { result ≡ (if length bytes.now == DIGEST_BYTES then Some (Digest bytes.now) else None) }
 {
-    if bytes.len() != 32 {
+    if bytes.len() != DIGEST_BYTES {
         return None;
     }
-    let mut digest = [0; 32];
+    let mut digest = [0; DIGEST_BYTES];
     digest.copy_from_slice(bytes);
     Some(Outcome::Digest(digest))
 }

@@ -1,3 +1,4 @@
+//! Frames of a stream that comes in pieces.
 ghost use Rattle.std.specs.Prelude.{◌≡◌, ◌+◌, ◌<◌, ◌≤◌, ◌^◌, ◌++◌, ℕ, List, [], length, drop, IfOk, OnErr, IsSome};
 ghost use Rattle.daemon_protocol.specs.declared.frames.Frame.{Frame};
 ghost use Rattle.daemon_protocol.specs.StreamStart.{look, Cuts};

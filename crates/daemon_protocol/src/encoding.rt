@@ -3,8 +3,11 @@ ghost use Rattle.daemon_protocol.specs.declared.frames.Frame.TheVariants as fram
 ghost use Rattle.daemon_protocol.specs.Spelling.{action_bytes, outcome_bytes, body, tag, spelling, IsValid, ActionFits, OutcomeFits, FrameFits};
 
 use crate::frames::{Frame, Reply, Request};
-use crate::limits::HEAD_BYTES;
-use item_actions::{ItemAction, Outcome};
+use crate::limits::{
+    HEAD_BYTES, MAX_ACTION_BYTES, MAX_OUTCOME_BYTES, MAX_SENT_BODY_BYTES, REPLY_TAG, REQUEST_TAG,
+    STOP_TAG,
+};
+use item_actions::{ItemAction, MAX_NEEDLE_BYTES, Outcome};
 use std::alloc::{AllocError, Global};
 
 /// The bytes of a frame, whose fields then fit them. A request's file has the form of a file's name, and a reply's outcome isn't Skipped.
@@ -23,7 +26,7 @@ pub fn encode(alloc: Global, frame: &Frame) -> Result<Vec<u8>, AllocError>
 fn push_frame(bytes: &mut Vec<u8>, frame: &Frame, len: usize) -> Result<(), AllocError>
     requires valid { IsValid frame.now }
     requires len { len ≡ length (body frame.now) }
-    requires few { len ≤ 327 }
+    requires few { len ≤ MAX_SENT_BODY_BYTES }
     ensures bytes { OnOk result (bytes.new.items ≡ bytes.old.items ++ spelling frame.now) }
     ensures fits { OnOk result (FrameFits frame.now) }
 {
@@ -43,16 +46,16 @@ fn tag_of(frame: &Frame) -> u8
     ensures { result ≡ tag frame.now }
 {
     match frame {
-        Frame::Request(_) => 1,
-        Frame::Reply(_) => 2,
-        Frame::Stop => 3,
+        Frame::Request(_) => REQUEST_TAG,
+        Frame::Reply(_) => REPLY_TAG,
+        Frame::Stop => STOP_TAG,
     }
 }
 
 fn body_len(frame: &Frame) -> usize
     requires { IsValid frame.now }
     ensures len { result ≡ length (body frame.now) }
-    ensures few { result ≤ 327 }
+    ensures few { result ≤ MAX_SENT_BODY_BYTES }
 {
     match frame {
         Frame::Request(request) => 6 + action_len(&request.action) + request.file.bytes().len(),
@@ -63,7 +66,7 @@ fn body_len(frame: &Frame) -> usize
 
 fn action_len(action: &ItemAction) -> usize
     ensures len { result ≡ length (action_bytes action.now) }
-    ensures few { result ≤ 66 }
+    ensures few { result ≤ MAX_ACTION_BYTES }
 {
     match action {
         ItemAction::Count(needle) => 2 + needle.bytes().len(),
@@ -73,11 +76,11 @@ fn action_len(action: &ItemAction) -> usize
 
 fn outcome_len(outcome: Outcome) -> usize
     ensures len { result ≡ length (outcome_bytes outcome) }
-    ensures few { result ≤ 33 }
+    ensures few { result ≤ MAX_OUTCOME_BYTES }
 {
     match outcome {
         Outcome::Number(_) => 9,
-        Outcome::Digest(_) => 33,
+        Outcome::Digest(_) => MAX_OUTCOME_BYTES,
         Outcome::Skipped => 0,
         _ => 1,
     }
@@ -130,7 +133,7 @@ fn push_action(bytes: &mut Vec<u8>, action: &ItemAction) -> Result<(), AllocErro
 }
 
 fn push_count(bytes: &mut Vec<u8>, needle: &[u8]) -> Result<(), AllocError>
-    requires { length needle.now ≤ 64 }
+    requires { length needle.now ≤ MAX_NEEDLE_BYTES }
     ensures { OnOk result (bytes.new.items ≡ bytes.old.items ++ 5 ∷ length needle.now ∷ needle.now) }
 {
     push_tagged(bytes, 5, &[needle.len() as u8])?;

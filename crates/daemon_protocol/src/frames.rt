@@ -1,3 +1,4 @@
+//! Frames, and why bytes are none.
 ghost use Rattle.std.specs.Prelude.{◌≡◌, IfOk};
 
 use item_actions::{ItemAction, Outcome, Text};

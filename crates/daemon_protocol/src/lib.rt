@@ -13,5 +13,7 @@ pub use decoders::{Decoder, Fed};
 pub use encoding::encode;
 pub use frames::{Frame, FrameRefusal, Reply, Request};
 pub use laws::{read_frames_are_spelled, spelled_frames_are_read, streams_have_one_reading};
-pub use limits::{HEAD_BYTES, MAX_BODY_BYTES, MAX_FRAME_BYTES};
+pub use limits::{
+    DIGEST_BYTES, HEAD_BYTES, MAX_BODY_BYTES, MAX_FRAME_BYTES, REPLY_TAG, REQUEST_TAG, STOP_TAG,
+};
 pub use starts::{Flaw, StreamStart, lacking, look};

@@ -1,3 +1,26 @@
+use item_actions::{MAX_FILE_NAME_BYTES, MAX_NEEDLE_BYTES};
+
+/// The first byte of a request's frame.
+pub const REQUEST_TAG: u8 = 1;
+
+/// The first byte of a reply's frame.
+pub const REPLY_TAG: u8 = 2;
+
+/// The first byte of the frame that says that no more work comes.
+pub const STOP_TAG: u8 = 3;
+
+/// How many bytes a digest has.
+pub const DIGEST_BYTES: usize = 32;
+
+/// The most bytes of an action: its number, and a needle's length and bytes.
+pub(crate) const MAX_ACTION_BYTES: usize = 2 + MAX_NEEDLE_BYTES;
+
+/// The most bytes of an outcome: its number and a digest.
+pub(crate) const MAX_OUTCOME_BYTES: usize = 1 + DIGEST_BYTES;
+
+/// The most bytes of a body that is sent: a request's unit, its action, and its file's length and name.
+pub(crate) const MAX_SENT_BODY_BYTES: usize = 4 + MAX_ACTION_BYTES + 2 + MAX_FILE_NAME_BYTES;
+
 /// How many bytes come before a frame's body: its tag, and the body's length.
 pub const HEAD_BYTES: usize = 5;
 

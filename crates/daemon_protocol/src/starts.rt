@@ -1,3 +1,4 @@
+//! What stands at the start of bytes.
 ghost use Rattle.std.specs.Prelude.{◌≡◌, ◌<◌, ◌≤◌, ◌+◌, ◌^◌, ◌++◌, ℕ, List, length, IfOk};
 ghost use Rattle.daemon_protocol.specs.StreamStart.{look, lacking, look_tag, look_length, look_body, look_field, start_of, FitsBehind};
 ghost use Rattle.daemon_protocol.specs.declared.frames.Frame.{Frame};
@@ -6,7 +7,7 @@ ghost use Rattle.daemon_protocol.specs.declared.starts.StreamStart.TheVariants.{
 
 use crate::bodies::{frame_of, number_of};
 use crate::frames::Frame;
-use crate::limits::{HEAD_BYTES, MAX_BODY_BYTES};
+use crate::limits::{HEAD_BYTES, MAX_BODY_BYTES, REPLY_TAG, REQUEST_TAG, STOP_TAG};
 use std::alloc::{AllocError, Global};
 
 /// What is wrong with bytes that begin no frame.
@@ -72,7 +73,7 @@ fn head_of_tag(tag: u8, bytes: &[u8]) -> Head<'_>
     ensures start { start_of result ≡ look_tag tag bytes.now }
     ensures fits { FitsBehind 4 result (length bytes.now) }
 {
-    if tag == 1 || tag == 2 || tag == 3 {
+    if tag == REQUEST_TAG || tag == REPLY_TAG || tag == STOP_TAG {
         head_of_length(tag, bytes)
     } else {
         Head::Refused(Flaw::Tag)

@@ -1,3 +1,4 @@
+//! The fields of requirements, before they are tested.
 use item_actions::Text;
 
 /// A system property or an environment variable.

@@ -1,3 +1,4 @@
+//! What a link to a daemon tells.
 ghost use Rattle.std.specs.Prelude.{◌≡◌, Bool};
 ghost use Rattle.daemon_requirements.specs.RequirementsView.{RequirementsView};
 

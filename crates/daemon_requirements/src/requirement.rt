@@ -1,3 +1,4 @@
+//! Requirements, and why fields are none.
 ghost use Rattle.std.specs.Prelude.{◌≡◌, ◌↔◌, IsTrue, IfOk, IfErr, MatchOption};
 ghost use Rattle.std.specs.Result.{OkIff};
 ghost use Rattle.daemon_requirements.specs.RequirementsView.{requirements_view, IsRequirements};
@@ -114,7 +115,7 @@ impl Requirements {
     }
 }
 
-/// Why the fields are no requirements; None where they are.
+// Why the fields are no requirements; None where they are.
 fn refusal_of(fields: &RequirementFields) -> Option<RequirementRefusal>
     ensures { MatchOption result
         (IsRequirements (requirements_view fields.now))

@@ -1,3 +1,4 @@
+//! Items: an action on a file, in a thread or in a process.
 use crate::requirement::Requirements;
 use item_actions::{ItemAction, Text};
 

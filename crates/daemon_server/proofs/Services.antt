@@ -1,7 +1,6 @@
 -- What serving did goes on over the next request, and over its end.
 use Rattle.std.proofs.Common.{◌≡◌, ℕ, ◌+◌, ◌-◌, ◌^◌, ◌<◌, ◌≤◌, inl, inr, List, [], ◌∷◌, ◌++◌, Option, Result, Ok, Err, true, false, cond, length, map, refl, sym, ap, subst, ◌∙◌, arith, length-append}
 use Rattle.std.specs.Prelude.{◌==◌}
-use Rattle.std.specs.List.{AllByRecursion}
 use Rattle.std.specs.Result.{IsErrAnd}
 use Rattle.std.proofs.KnownBytes.{Consumes-trans}
 use Rattle.std.proofs.lemmas.Grind.{flat_map-append}
@@ -19,6 +18,8 @@ use Rattle.daemon_protocol.specs.declared.starts.StreamStart.TheVariants.{Unfini
 use Rattle.daemon_protocol.proofs.lemmas.Settled.{cuts_longer, cuts_piece}
 use Rattle.file_access.specs.SinkView.{SinkView, Rises, Wrote, Broke}
 use Rattle.file_access.specs.SourceView.{SourceView}
+use Rattle.file_access.proofs.lemmas.Counting.{fault_rises}
+use Rattle.file_access.proofs.lemmas.Lists.{all_append}
 use Rattle.file_access.proofs.lemmas.Printing.{wrote_nothing, wrote_then, broke_then}
 use Rattle.daemon_server.specs.Answer.{Answer, asked, reply, replies, IsHonestAnswer, IsWorkedOut}
 use Rattle.item_actions.specs.Value.{is_fault}
@@ -66,10 +67,6 @@ one_request : (held : List ℕ) (a : Answer) (n : ℕ) → look held ≡ Whole (
 one_request held a n whole is =
     first held (asked a) n [] [] whole (subst (λ rest. Cuts rest [] []) (sym (drop_all n held (omega (arith, is)))) (nothing []))
 
-all_append : {X : Type 0} (P : X → Type 0) (xs ys : List X) → AllByRecursion P xs → AllByRecursion P ys → AllByRecursion P (xs ++ ys)
-all_append P [] ys a b = b
-all_append P (x ∷ xs) ys a b = (a.0, all_append P xs ys a.1 b)
-
 -- a fault is counted, as far as the count goes
 counted : (o : Outcome) (before after : ℕ) → (o ≡ outcomes.Fault → Rises before after) → before ≤ after → after < 2 ^ 64 - 1 → cond (is_fault o) 1 0 + before ≤ after
 counted outcomes.Fault before after rises le lt = let r = rises refl in omega arith
@@ -91,7 +88,7 @@ answered_more {old} {mid} {new} room n held a s takes faults whole is worked = r
   honest = all_append (IsHonestAnswer old.files) s.answers (a ∷ []) s.answered.honest (subst (λ (o : Option Folder). IsHonestAnswer o a) s.files worked.honest, tt);
   faults = λ lt.
       let before = s.answered.faults (omega arith) in
-      let more = counted a.outcome mid.faults new.faults worked.fault faults lt in
+      let more = counted a.outcome mid.faults new.faults (fault_rises a.outcome mid.faults new.faults worked.counted) faults lt in
       omega (arith, before, more, sum_by-append (λ (x : Answer). cond (is_fault x.outcome) 1 0) s.answers (a ∷ []));
 }
 

@@ -3,12 +3,12 @@ use Rattle.std.specs.Prelude.{ℕ, ◌≡◌, ◌≢◌, List, Option, IfSome, f
 use Rattle.item_actions.specs.Files.{Folder}
 use Rattle.item_actions.specs.Value.{IsHonest, value_on}
 use Rattle.item_actions.specs.declared.outcomes.Outcome.{Outcome}
-use Rattle.item_actions.specs.declared.outcomes.Outcome.TheVariants.{Fault, Skipped}
+use Rattle.item_actions.specs.declared.outcomes.Outcome.TheVariants.{Skipped}
 use Rattle.daemon_protocol.specs.declared.frames.Request.{Request}
 use Rattle.daemon_protocol.specs.declared.frames.Frame.{Frame}
 use Rattle.daemon_protocol.specs.declared.frames.Frame.TheVariants as frames
 use Rattle.daemon_protocol.specs.Spelling.{spelling, OutcomeFits}
-use Rattle.file_access.specs.SinkView.{Rises}
+use Rattle.file_access.specs.ReadView.{IsOutcomeCounted}
 
 -- a request, and the outcome in its reply
 pub record Answer : Type 0 where
@@ -35,4 +35,4 @@ pub record IsHonestAnswer (known : Option Folder) (a : Answer) : Type 0 where
 -- A request was worked out while the count of the files' faults went from before to after.
 pub record IsWorkedOut (known : Option Folder) (before after : ℕ) (a : Answer) : Type 0 where
   pub honest : IsHonestAnswer known a
-  pub fault : a.outcome ≡ Fault → Rises before after
+  pub counted : IsOutcomeCounted before after a.outcome

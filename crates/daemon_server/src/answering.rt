@@ -8,6 +8,7 @@ use file_access::{Files, Sink, put_all, work_out};
 use std::alloc::Global;
 
 /// Answers a request with a reply on the sink.
+#[tactic(auto, using(file_access::proofs::lemmas::Counting::outcome_kept))]
 pub(crate) fn answer<K: Sink, F: Files>(
     alloc: Global,
     request: &Request,

@@ -1,3 +1,4 @@
+//! Serving requests, from a source on a sink.
 ghost use Rattle.std.specs.Prelude.{◌≡◌, ◌<◌, ◌≤◌, ◌+◌, ◌-◌, IfOk};
 ghost use Rattle.daemon_server.specs.Serving.{Outside, IsRequestOf, IsServing, ServesOn, HasServed};
 

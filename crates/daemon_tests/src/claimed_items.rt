@@ -27,7 +27,7 @@ const WORKERS: u32 = 3;
 
 const ITEMS: u32 = 10;
 
-/// A task with one action of ten items.
+// A task with one action of ten items.
 fn graph(rt: &impl Abort, alloc: Global) -> Result<Graph, AllocError> {
     let task = GraphTask {
         lock: LockId(0),
@@ -64,7 +64,7 @@ fn open(rt: &impl Abort, alloc: Global) -> Result<Box<Opened>, AllocError>
     Ok(Box::new(alloc, Coordination::open(alloc, book)?)?)
 }
 
-/// Makes an entry of the transform, which finishes. Want of memory ends the test.
+// Makes an entry of the transform, which finishes. Want of memory ends the test.
 fn enter<R: Wait + Abort, T: Transform>(
     rt: &R,
     service: &Coordination,
@@ -90,7 +90,7 @@ pub(crate) struct Queued {
     pub(crate) second: Pass,
 }
 
-/// The last of the service's passes.
+// The last of the service's passes.
 fn last_pass(service: &Coordination, passes: &mut Vec<Pass>) -> Result<Pass, AllocError>
     requires { All (λ p. p.service ≡ service.now.service) passes.old.items }
     ensures others { All (λ p. p.service ≡ service.now.service) passes.new.items }
@@ -121,7 +121,7 @@ pub(crate) fn queue_items<R: Wait + Abort>(rt: &R, alloc: Global) -> Result<Queu
     })
 }
 
-/// Whether the pass runs this unit and nothing else.
+// Whether the pass runs this unit and nothing else.
 fn runs_only(pass: &Pass, unit: u32) -> bool
     ensures { result ≡ true → Contains (claimed_shown pass.now.sight) (ids.Unit unit) }
 {

@@ -14,7 +14,7 @@ use item_actions::{ItemAction, Text, is_file_name};
 use std::alloc::{AllocError, Global};
 use std::process::Abort;
 
-/// The request of a unit for an action on a.txt.
+// The request of a unit for an action on a.txt.
 fn request(
     rt: &impl Abort,
     alloc: Global,
@@ -28,7 +28,7 @@ fn request(
     Ok(Request { unit, action, file })
 }
 
-/// Sends a request over the link, and receives its reply.
+// Sends a request over the link, and receives its reply.
 fn ask<D: Desk>(
     alloc: Global,
     desk: &mut D,
@@ -47,7 +47,7 @@ fn ask<D: Desk>(
     }
 }
 
-/// Asks for the unit's action on a.txt over the link.
+// Asks for the unit's action on a.txt over the link.
 fn ask_unit<D: Desk>(
     rt: &impl Abort,
     alloc: Global,
@@ -61,7 +61,7 @@ fn ask_unit<D: Desk>(
     ask(alloc, desk, link, &request, line)
 }
 
-/// Asks for the lines and then for the bytes of a.txt over the link.
+// Asks for the lines and then for the bytes of a.txt over the link.
 fn ask_both<D: Desk>(
     rt: &impl Abort,
     alloc: Global,
@@ -73,13 +73,13 @@ fn ask_both<D: Desk>(
     ask_unit(rt, alloc, desk, link, 1, ItemAction::Bytes, line)
 }
 
-/// Starts a daemon for what is asked.
+// Starts a daemon for what is asked.
 fn start<D: Desk>(alloc: Global, desk: &mut D, asked: &Asked) -> Result<D::Link, DeskFail> {
     let asked = requirements(alloc, asked)?;
     desk.start(alloc, &asked)
 }
 
-/// Starts a daemon, asks it for the lines and then for the bytes of a.txt, and stops it.
+// Starts a daemon, asks it for the lines and then for the bytes of a.txt, and stops it.
 fn ask_twice<D: Desk>(
     rt: &impl Abort,
     alloc: Global,

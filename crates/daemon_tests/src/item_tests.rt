@@ -43,7 +43,7 @@ pub(crate) fn work(
     })
 }
 
-/// Has a worker claim a unit's item, run it in a daemon with this heap at least, and close it.
+// Has a worker claim a unit's item, run it in a daemon with this heap at least, and close it.
 fn add_worked<R: Wait + Abort, D: Desk, U: Ledger, F: Ledger>(
     rt: &R,
     alloc: Global,
@@ -66,7 +66,7 @@ fn add_worked<R: Wait + Abort, D: Desk, U: Ledger, F: Ledger>(
     add_outcome(outcome, line)
 }
 
-/// Has a worker run items, units 0 and so on, which ask for these heaps.
+// Has a worker run items, units 0 and so on, which ask for these heaps.
 fn add_each<R: Wait + Abort, D: Desk, U: Ledger, F: Ledger>(
     rt: &R,
     alloc: Global,
@@ -90,7 +90,7 @@ fn add_each<R: Wait + Abort, D: Desk, U: Ledger, F: Ledger>(
     Ok(())
 }
 
-/// Queues items, and has a worker run them.
+// Queues items, and has a worker run them.
 fn add_items<R: Wait + Abort, D: Desk, U: Ledger, F: Ledger>(
     rt: &R,
     alloc: Global,
@@ -123,7 +123,7 @@ pub(crate) fn stop_idle<D: Desk, U: Ledger, F: Ledger>(
     }
 }
 
-/// Stops the idle daemons, and gives all events.
+// Stops the idle daemons, and gives all events.
 fn close<D: Desk, U: Ledger, F: Ledger>(
     desk: &mut D,
     pool: PoolLock<D::Link, U, F>,
@@ -134,7 +134,7 @@ fn close<D: Desk, U: Ledger, F: Ledger>(
     pool.audit(all).into_events()
 }
 
-/// The outcomes of these items on a new pool, and all events. The counts are in these ledgers.
+// The outcomes of these items on a new pool, and all events. The counts are in these ledgers.
 fn add_counted<R: Wait + Abort, D: Desk, U: Ledger, F: Ledger>(
     rt: &R,
     alloc: Global,
@@ -158,7 +158,7 @@ fn add_counted<R: Wait + Abort, D: Desk, U: Ledger, F: Ledger>(
     add_events(&events, line)
 }
 
-/// The outcomes of these items on a new pool, and all events.
+// The outcomes of these items on a new pool, and all events.
 fn add_run<R: Wait + Abort, D: Desk>(
     rt: &R,
     alloc: Global,
@@ -179,7 +179,7 @@ type Row = (
     &'static str,
 );
 
-/// That this comes of a desk and items, with how many calls of the desk failed.
+// That this comes of a desk and items, with how many calls of the desk failed.
 fn check_run<R: Wait + Abort>(rt: &R, alloc: Global, row: &Row) -> Result<(), AllocError> {
     let (failing, lie, heaps, expected) = *row;
     let mut desk = desk(alloc, failing, lie)?;

@@ -25,7 +25,7 @@ fn start(
     }
 }
 
-/// Reserves an idle daemon with this heap at least for the unit, or starts one.
+// Reserves an idle daemon with this heap at least for the unit, or starts one.
 fn take(
     alloc: Global,
     pool: &mut Pool<Link>,
@@ -41,14 +41,14 @@ fn take(
     }
 }
 
-/// Has a daemon with this heap at least work for the unit.
+// Has a daemon with this heap at least work for the unit.
 fn work(alloc: Global, pool: &mut Pool<Link>, unit: u32, heap_mb: u32) -> Result<(), AllocError> {
     let reserved = take(alloc, pool, unit, heap_mb)?;
     let _ = pool.release(reserved);
     Ok(())
 }
 
-/// Stops the idle daemons.
+// Stops the idle daemons.
 fn stop_idle<L: Linked + Drop>(pool: &mut Pool<L>)
     ensures { pool.new.idle ≡ [] }
 {
@@ -57,7 +57,7 @@ fn stop_idle<L: Linked + Drop>(pool: &mut Pool<L>)
     }
 }
 
-/// Stops the idle daemons, and gives the events.
+// Stops the idle daemons, and gives the events.
 fn close<L: Linked + Drop>(mut pool: Pool<L>) -> Vec<Event> {
     stop_idle(&mut pool);
     pool.into_events()
@@ -72,7 +72,7 @@ fn work_twice(
     work(alloc, pool, 1, last)
 }
 
-/// What happens to the daemons of two units that ask for these heaps.
+// What happens to the daemons of two units that ask for these heaps.
 fn add_two(alloc: Global, heaps: [u32; 2], line: &mut String) -> Result<(), AllocError> {
     let mut pool = Pool::new(alloc)?;
     let worked = work_twice(alloc, &mut pool, heaps);
@@ -105,12 +105,12 @@ fn a_daemon_is_used_again_where_it_covers(rt: HostRuntime) -> Result<(), AllocEr
     check_two(&rt, rt.alloc(), [1024, 512], SMALLER_LAST)
 }
 
-/// Whether a reserved daemon tells its number, its unit and its link.
+// Whether a reserved daemon tells its number, its unit and its link.
 fn is_first(reserved: &mut Reserved<Link>) -> bool {
     reserved.daemon() == 0 && reserved.unit() == 7 && heap_of(reserved.link()) == 512
 }
 
-/// Whether the daemon that failed last isn't idle.
+// Whether the daemon that failed last isn't idle.
 fn has_failed<L: Linked>(pool: &Pool<L>) -> bool {
     match pool.events().last() {
         Some(event) => pool.idle() == 0 && matches!(event.state(), DaemonState::Failed),
@@ -118,7 +118,7 @@ fn has_failed<L: Linked>(pool: &Pool<L>) -> bool {
     }
 }
 
-/// Whether a daemon is reserved for unit 7, and its link comes back as it fails, and the pool has noted that.
+// Whether a daemon is reserved for unit 7, and its link comes back as it fails, and the pool has noted that.
 fn fails(alloc: Global, pool: &mut Pool<Link>) -> Result<bool, AllocError> {
     let mut reserved = take(alloc, pool, 7, 512)?;
     let is_first = is_first(&mut reserved);

@@ -36,7 +36,7 @@ struct Ended<D> {
     events: Vec<Event>,
 }
 
-/// Runs the item, which the pass has claimed.
+// Runs the item, which the pass has claimed.
 fn work_as<R: Wait, D: Desk, U: Ledger, F: Ledger>(
     rt: &R,
     alloc: Global,
@@ -60,7 +60,7 @@ fn work_as<R: Wait, D: Desk, U: Ledger, F: Ledger>(
     }
 }
 
-/// Stops the idle daemons, and gives all events, which have the tallies' counts.
+// Stops the idle daemons, and gives all events, which have the tallies' counts.
 fn close<D: Desk, U: Ledger, F: Ledger>(
     desk: &mut D,
     pool: PoolLock<D::Link, U, F>,
@@ -76,8 +76,8 @@ fn close<D: Desk, U: Ledger, F: Ledger>(
     pool.audit(all).into_events()
 }
 
-/// Has two workers run an item each, at once. At least as many daemons were reserved as requests were sent, and no more
-/// failed than there are outcomes that aren't real.
+// Has two workers run an item each, at once. At least as many daemons were reserved as requests were sent, and no more
+// failed than there are outcomes that aren't real.
 fn work_at_once<
     R: Threads + Wait + Sync,
     D: Desk + Send + Drop,
@@ -135,7 +135,7 @@ fn count_reserved(events: &[Event]) -> usize {
         .count()
 }
 
-/// Has two items run at once, and checks how many daemons were reserved.
+// Has two items run at once, and checks how many daemons were reserved.
 fn check_at_once<R: Threads + Wait + Sync + Abort>(
     rt: &R,
     alloc: Global,

@@ -19,7 +19,7 @@ const STREAM: &[u8] =
 
 const STOP: &[u8] = b"\x03\0\0\0\0";
 
-/// Whether a frame can be encoded.
+// Whether a frame can be encoded.
 fn is_valid(frame: &Frame) -> bool
     ensures { IsTrue result → IsValid frame.now }
 {
@@ -30,7 +30,7 @@ fn is_valid(frame: &Frame) -> bool
     }
 }
 
-/// Puts the bytes of frames behind others.
+// Puts the bytes of frames behind others.
 fn spell(
     rt: &impl Abort,
     alloc: Global,
@@ -47,7 +47,7 @@ fn spell(
 /// What a decoder told of a stream: how many frames it gave, why no more come, how many bytes it holds, and its place.
 type Told = (usize, Option<FrameRefusal>, u64, u64);
 
-/// Feeds a decoder, and puts the bytes of its frames behind others.
+// Feeds a decoder, and puts the bytes of its frames behind others.
 fn feed(
     rt: &impl Abort,
     alloc: Global,
@@ -66,7 +66,7 @@ fn feed(
     ))
 }
 
-/// Feeds a new decoder with a stream in pieces of `size` bytes. What it tells last counts the frames of all pieces.
+// Feeds a new decoder with a stream in pieces of `size` bytes. What it tells last counts the frames of all pieces.
 fn read(
     rt: &impl Abort,
     alloc: Global,
@@ -83,7 +83,7 @@ fn read(
     Ok(told)
 }
 
-/// That a stream in pieces of `size` bytes is read so, and its frames have these bytes.
+// That a stream in pieces of `size` bytes is read so, and its frames have these bytes.
 fn check_reading(
     rt: &impl Abort,
     alloc: Global,
@@ -143,14 +143,14 @@ fn a_refusal_after_frames(rt: HostRuntime) -> Result<(), AllocError> {
     Ok(())
 }
 
-/// That a stream which comes byte by byte isn't refused, gives no frames and is held.
+// That a stream which comes byte by byte isn't refused, gives no frames and is held.
 fn check_held(rt: &impl Abort, alloc: Global, stream: &[u8]) -> Result<(), AllocError> {
     let told = (0, None, stream.len() as u64, 0);
     check_reading(rt, alloc, stream, 1, told, b"")
 }
 
-/// That a stream behind which a Stop stands is refused with its last byte and not before, gives no frames, and that the Stop
-/// is refused so too: byte by byte, and with the stream in one piece.
+// That a stream behind which a Stop stands is refused with its last byte and not before, gives no frames, and that the Stop
+// is refused so too: byte by byte, and with the stream in one piece.
 fn check_refused(
     rt: &impl Abort,
     alloc: Global,

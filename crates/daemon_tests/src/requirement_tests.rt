@@ -4,7 +4,7 @@ use daemon_requirements::{Linked, PairList, RequirementRefusal, Requirements};
 use std::alloc::{AllocError, Global};
 use std::process::Abort;
 
-/// Whether a daemon for the first covers what the second asks for.
+// Whether a daemon for the first covers what the second asks for.
 fn covers(alloc: Global, daemon: &Asked, asked: &Asked) -> Result<bool, AllocError> {
     let daemon = requirements(alloc, daemon)?;
     let asked = requirements(alloc, asked)?;
@@ -91,7 +91,7 @@ fn daemons_cover_what_the_rules_say(rt: HostRuntime) -> Result<(), AllocError> {
     Ok(())
 }
 
-/// How fields are refused, if they are.
+// How fields are refused, if they are.
 fn refusal(alloc: Global, asked: &Asked) -> Result<Option<RequirementRefusal>, AllocError> {
     match Requirements::of(fields(alloc, asked)?) {
         Ok(_) => Ok(None),
@@ -156,7 +156,7 @@ static ONE_OF_EACH: Asked = Asked {
     ..PLAIN
 };
 
-/// Whether a copy of what is asked covers it, is covered by it and has its heap.
+// Whether a copy of what is asked covers it, is covered by it and has its heap.
 fn copies(alloc: Global, asked: &Asked) -> Result<bool, AllocError> {
     let requirements = requirements(alloc, asked)?;
     let copy = requirements.copy(alloc)?;

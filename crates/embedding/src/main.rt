@@ -16,7 +16,7 @@ const WORKERS: u32 = 2;
 
 const MAX_LEASES: u32 = 1;
 
-/// Has the workers work, and prints what came of it.
+// Has the workers work, and prints what came of it.
 fn run<R: Threads + Wait + Sync>(rt: &HostRuntime, threads: &R) -> Result<()> {
     let opened = open(rt.alloc(), WORKERS, MAX_LEASES)?;
     let Opened {

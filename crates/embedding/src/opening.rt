@@ -9,8 +9,8 @@ use lock_journal::Book;
 use resource_lock::Graph;
 use std::alloc::Global;
 
-/// A book without entries, for so many workers with a lock for each, and so many leases. A plan's tasks and actions aren't
-/// needed where the workers' own code says who works on what.
+// A book without entries, for so many workers with a lock for each, and so many leases. A plan's tasks and actions aren't
+// needed where the workers' own code says who works on what.
 fn book_of(alloc: Global, workers: u32, max_leases: u32) -> Result<Box<Book>>
     ensures locks { IfOk result (λ book. book.value.graph.locks ≡ workers) }
     ensures state { IfOk result (λ book. book.value.state ≡ opening_of book.value.graph) }

@@ -11,7 +11,7 @@ use std::sync::Wait;
 use std::thread;
 use std::thread::Threads;
 
-/// Waits for something without a lease and without a lock: other workers work meanwhile.
+// Waits for something without a lease and without a lock: other workers work meanwhile.
 fn step_aside<R: Wait>(rt: &R, service: &Coordination, pass: &mut Pass) -> Result<(), Halt>
     requires service { pass.old.service ≡ service.now.service }
     requires lease { lease_shown pass.old.sight ≡ true }
@@ -33,8 +33,8 @@ fn step_aside<R: Wait>(rt: &R, service: &Coordination, pass: &mut Pass) -> Resul
     }
 }
 
-/// Works in the project with this lock: waits for the lock and a lease, takes both at once, steps aside once, and gives
-/// both back at once.
+// Works in the project with this lock: waits for the lock and a lease, takes both at once, steps aside once, and gives
+// both back at once.
 fn work_in<R: Wait>(
     rt: &R,
     service: &Coordination,
@@ -59,8 +59,8 @@ fn work_in<R: Wait>(
     }
 }
 
-/// Works in the worker's own project, whose lock has the worker's number. Whoever finds no memory stops the others, so that
-/// none waits for it.
+// Works in the worker's own project, whose lock has the worker's number. Whoever finds no memory stops the others, so that
+// none waits for it.
 fn work<R: Wait>(rt: &R, service: &Coordination, pass: &mut Pass, locks: u32)
     requires service { pass.old.service ≡ service.now.service }
     requires locks { pass.old.sight.seen.graph.locks ≡ locks }

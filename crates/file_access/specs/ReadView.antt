@@ -1,6 +1,8 @@
--- What a read of a file by its name answers.
-use Rattle.std.specs.Prelude.{◌≡◌, ℕ, ◌≤◌, nat_lt, List, length, Option, Some, None, Result, Ok, Err, if◌then◌else◌}
+-- What a read of a file by its name answers, and what is counted of it.
+use Rattle.std.specs.Prelude.{◌≡◌, ℕ, ◌≤◌, nat_lt, List, length, Option, Some, None, Result, Ok, Err, if◌then◌else◌, option_map}
 use Rattle.item_actions.specs.Files.{Folder, file_of}
+use Rattle.item_actions.specs.declared.outcomes.Outcome.{Outcome}
+use Rattle.item_actions.specs.declared.outcomes.Outcome.TheVariants as outcomes
 use Rattle.file_access.specs.declared.files.Read.{Read}
 use Rattle.file_access.specs.declared.files.Read.TheVariants as read
 use Rattle.file_access.specs.declared.files.DeskFail.{DeskFail}
@@ -37,3 +39,12 @@ ReadsFrom _ name limit _ = Unit
 abbrev pub IsFaultCounted : {A : Type 0} → ℕ → ℕ → Result A DeskFail → Type 0
 IsFaultCounted old new (Err fail.Failed) = new ≡ next old
 IsFaultCounted old new _ = new ≡ old
+
+-- what was worked out came with one fault where it is Fault, and else with none
+abbrev pub IsOutcomeCounted : ℕ → ℕ → Outcome → Type 0
+IsOutcomeCounted old new outcomes.Fault = new ≡ next old
+IsOutcomeCounted old new _ = new ≡ old
+
+-- one read more was made, where it is known how many were
+abbrev pub and_read : Option ℕ → Option ℕ
+and_read known = option_map next known

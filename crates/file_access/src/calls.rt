@@ -1,3 +1,4 @@
+//! The calls on an object in memory, some of which fail.
 ghost use Rattle.std.specs.Prelude.{◌≡◌};
 ghost use Rattle.file_access.specs.Calls.{no_calls, next_fails, after_call};
 

@@ -1,3 +1,4 @@
+//! Files by their names.
 ghost use Rattle.std.specs.Prelude.{◌≡◌, Some, IfOk, option_map};
 ghost use Rattle.item_actions.specs.Files.{file_of};
 ghost use Rattle.file_access.specs.Folders.{folder_of};
@@ -63,13 +64,15 @@ impl FileMap {
     }
 }
 
-/// Its reads never fail for another cause than want of memory.
+/// Its reads never fail for another cause than want of memory. They aren't counted.
 impl Files for FileMap {
-    ghost use Rattle.std.specs.Prelude.{◌≡◌, Some};
+    ghost use Rattle.std.specs.Prelude.{◌≡◌, None, Some};
 
     ghost files = { λ m. Some m };
 
     ghost faults = { λ _. 0 };
+
+    ghost reads = { λ _. None };
 
     ghost keeps = { λ old new. new ≡ old };
 

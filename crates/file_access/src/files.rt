@@ -1,8 +1,9 @@
+//! Files that are read whole.
 ghost use Rattle.std.specs.Prelude.{◌≡◌, ℕ, ◌≤◌, Option, IfOk};
 ghost use Rattle.std.specs.Result.{IsErrOf};
 ghost use Rattle.item_actions.specs.Files.{Folder};
 ghost use Rattle.file_access.specs.SinkView.{Rises};
-ghost use Rattle.file_access.specs.ReadView.{IsFaultCounted, IsWithin, ReadsFrom, read_view};
+ghost use Rattle.file_access.specs.ReadView.{IsFaultCounted, IsWithin, ReadsFrom, and_read, read_view};
 
 use crate::file_bytes::FileBytes;
 use item_actions::Text;
@@ -61,6 +62,9 @@ pub trait Files {
     /// How often the outside failed; it stands still at 2^64 - 1.
     ghost faults: { Self → ℕ };
 
+    /// How many reads were made, where it is known; it stands still at 2^64 - 1.
+    ghost reads: { Self → Option ℕ };
+
     /// What a read leaves as it is, besides the files.
     ghost keeps: { Self → Self → Type 0 };
 
@@ -68,6 +72,7 @@ pub trait Files {
     fn read(&mut self, alloc: Global, name: &Text, limit: u64) -> Result<Read, DeskFail>
         ensures files { files self.new ≡ files self.old }
         ensures keeps { keeps self.old self.new }
+        ensures read { reads self.new ≡ and_read (reads self.old) }
         ensures counted { IsFaultCounted (faults self.old) (faults self.new) result }
         ensures kept { faults self.old ≤ faults self.new }
         ensures failed { IsErrOf result DeskFail.Failed → Rises (faults self.old) (faults self.new) }

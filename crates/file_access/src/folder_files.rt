@@ -1,3 +1,4 @@
+//! The files of a real folder.
 ghost use Rattle.std.specs.Prelude.{◌≡◌, Some, IfOk, IfSome};
 ghost use Rattle.file_access.specs.ReadView.{IsWithin, reading, read_view};
 
@@ -11,7 +12,7 @@ use std::io::ErrorKind;
 use std::marker::Model;
 use std::{io, mem, rt};
 
-/// The files of the current folder. It doesn't tell them.
+/// The files of the current folder. It tells neither them nor how many reads it made.
 #[derive(Drop)]
 pub struct FolderFiles<R: Drop> {
     rt: R,
@@ -54,6 +55,8 @@ impl<R: rt::Files + Drop> Files for FolderFiles<R> {
     ghost files = { λ _. None };
 
     ghost faults = { λ d. d };
+
+    ghost reads = { λ _. None };
 
     ghost keeps = { λ _ _. Unit };
 

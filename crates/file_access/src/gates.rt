@@ -1,3 +1,4 @@
+//! What an item passes before it runs.
 use std::sync::atomic::{AtomicBool, Ordering};
 use std::thread;
 
@@ -47,7 +48,7 @@ impl MeetingGate {
             && !self.missed.load(Ordering::SeqCst)
     }
 
-    /// Enters, and holds the caller until the other has entered or the turns are spent.
+    // Enters, and holds the caller until the other has entered or the turns are spent.
     fn meet(&self, own: &AtomicBool, other: &AtomicBool) {
         own.store(true, Ordering::SeqCst);
         for _ in 0..self.turns {

@@ -1,3 +1,4 @@
+//! Files in memory.
 ghost use Rattle.std.specs.Prelude.{◌≡◌, ◌↔◌, Some, IfOk, IsTrue};
 ghost use Rattle.std.specs.Result.{IsErrOf};
 ghost use Rattle.file_access.specs.Calls.{no_calls, next_fails};
@@ -52,6 +53,8 @@ impl Files for MemoryFiles {
     ghost files = { λ d. Some d.files };
 
     ghost faults = { λ d. d.log.faults };
+
+    ghost reads = { λ d. Some d.log.made };
 
     ghost keeps = { λ old new. new ≡ after_read old };
 

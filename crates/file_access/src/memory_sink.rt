@@ -1,3 +1,4 @@
+//! A sink in memory.
 ghost use Rattle.std.specs.Prelude.{◌≡◌, ◌↔◌, [], IfOk, IsErr, IsTrue};
 ghost use Rattle.file_access.specs.Calls.{no_calls};
 ghost use Rattle.file_access.specs.Memory.{fitting, put_fails, after_put};

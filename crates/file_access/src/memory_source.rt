@@ -1,3 +1,4 @@
+//! A source in memory.
 ghost use Rattle.std.specs.Prelude.{◌≡◌, ◌↔◌, Some, IfOk, IsErr, IsTrue, length, min, take};
 ghost use Rattle.std.specs.Io.KnownBytes.{ReadConsumes};
 ghost use Rattle.file_access.specs.Calls.{no_calls, next_fails};

@@ -1,3 +1,4 @@
+//! Text that is gathered before it goes to a sink.
 ghost use Rattle.std.specs.Prelude.{◌≡◌, ◌⊎◌, ℕ, ◌+◌, ◌≤◌, List, [], ◌++◌, length, decimal};
 ghost use Rattle.file_access.specs.SinkView.{SinkView, Prints};
 ghost use Rattle.file_access.specs.PageView.{blank, Adds, Printed};

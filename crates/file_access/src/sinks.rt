@@ -1,3 +1,4 @@
+//! What takes bytes.
 ghost use Rattle.std.specs.Prelude.{◌≤◌, ◌<◌, length, IfOk, OnErr};
 ghost use Rattle.std.specs.Io.KnownBytes.{WriteAppends};
 ghost use Rattle.file_access.specs.Calls.{IsCounted};

@@ -1,3 +1,4 @@
+//! What gives bytes.
 ghost use Rattle.std.specs.Prelude.{◌≤◌, OnErr};
 ghost use Rattle.std.specs.Io.{ReadsAtMost};
 ghost use Rattle.std.specs.Io.KnownBytes.{ReadConsumes};

@@ -1,3 +1,4 @@
+//! A sink over a writer.
 ghost use Rattle.std.specs.Prelude.{◌≡◌};
 
 use crate::retries::Retries;

@@ -1,3 +1,4 @@
+//! A source over a reader.
 ghost use Rattle.std.specs.Prelude.{◌≡◌};
 
 use crate::retries::Retries;

@@ -1,22 +1,22 @@
-ghost use Rattle.std.specs.Prelude.{◌≡◌, ◌≢◌, ◌≤◌, IfSome};
+ghost use Rattle.std.specs.Prelude.{◌≡◌, ◌≢◌, IfSome};
 ghost use Rattle.item_actions.specs.Value.{IsHonest, value_on};
 ghost use Rattle.item_actions.specs.declared.outcomes.Outcome.TheVariants as outcomes;
-ghost use Rattle.file_access.specs.SinkView.{Rises};
+ghost use Rattle.file_access.specs.ReadView.{IsOutcomeCounted, and_read};
 
 use crate::files::{DeskFail, Files, Read};
 use item_actions::{ItemAction, MAX_FILE_BYTES, Outcome, Text, act};
 use std::alloc::Global;
 
-/// The outcome of an action on the file of this name.
+/// The outcome of an action on the file of this name, which is read once.
 ///
 /// Where the files are known it is the action's value on that file, NotThere or TooLong; else Fault, where the files
-/// failed and their count of faults rose, or NoMemory.
+/// failed, or NoMemory. Their count of faults rises by one at Fault, and at no other outcome.
 pub fn work_out<F: Files>(alloc: Global, action: &ItemAction, name: &Text, files: &mut F) -> Outcome
     ensures files { F.files files.new ≡ F.files files.old }
     ensures keeps { F.keeps files.old files.new }
-    ensures kept { F.faults files.old ≤ F.faults files.new }
+    ensures read { F.reads files.new ≡ and_read (F.reads files.old) }
     ensures ran { result ≢ outcomes.Skipped }
-    ensures fault { result ≡ outcomes.Fault → Rises (F.faults files.old) (F.faults files.new) }
+    ensures counted { IsOutcomeCounted (F.faults files.old) (F.faults files.new) result }
     ensures honest { IfSome (F.files files.old) (λ known. IsHonest result (value_on known action.now name.now)) }
 {
     match files.read(alloc, name, MAX_FILE_BYTES) {

@@ -15,12 +15,12 @@ pub fn sink(alloc: Global, room: u64, failing: &[u64]) -> Result<Box<MemorySink>
     Ok(Box::new(alloc, MemorySink::new(alloc, room, failing)?)?)
 }
 
-/// Whether the sink took these bytes with so many faults.
+// Whether the sink took these bytes with so many faults.
 fn took(sink: &MemorySink, bytes: &[u8], faults: u64) -> bool {
     sink.taken() == bytes && sink.count() == faults
 }
 
-/// Whether a sink of ten bytes takes the first ten of an alphabet.
+// Whether a sink of ten bytes takes the first ten of an alphabet.
 fn takes_ten(sink: &mut MemorySink) -> bool {
     let whole = put_all(sink, b"abcd").is_ok();
     let cut = put_all(sink, b"efghijklmnopqrstuvwxyz").is_err();
@@ -34,7 +34,7 @@ fn sink_of_ten_bytes_takes_the_first_ten(rt: HostRuntime) -> Result<(), Fail> {
     Ok(())
 }
 
-/// Whether the second call fails alone.
+// Whether the second call fails alone.
 fn fails_second(sink: &mut MemorySink) -> bool {
     let first = put_all(sink, b"abc").is_ok();
     let second = put_all(sink, b"def").is_ok();
@@ -49,13 +49,13 @@ fn second_call_of_a_sink_fails(rt: HostRuntime) -> Result<(), Fail> {
     Ok(())
 }
 
-/// Whether a take gives so many bytes, or fails where there is none, after which the buffer is this
-/// one.
+// Whether a take gives so many bytes, or fails where there is none, after which the buffer is this
+// one.
 fn takes(source: &mut MemorySource, buffer: &mut [u8], count: Option<usize>, left: &[u8]) -> bool {
     source.take(buffer).ok() == count && *buffer == *left
 }
 
-/// Whether of a source of seven bytes the second call fails alone.
+// Whether of a source of seven bytes the second call fails alone.
 fn gives_seven(source: &mut MemorySource) -> bool {
     let mut buffer = [0u8; 4];
     let first = takes(source, &mut buffer, Some(4), b"abcd");
@@ -74,7 +74,7 @@ fn second_call_of_a_source_fails(rt: HostRuntime) -> Result<(), Fail> {
     Ok(())
 }
 
-/// Whether a page ends in a failure that tells more than a sink of 5,000 bytes takes.
+// Whether a page ends in a failure that tells more than a sink of 5,000 bytes takes.
 fn tells_too_much(sink: &mut MemorySink) -> bool {
     let mut page = Page::new();
     for number in 0..2000u64 {
@@ -91,7 +91,7 @@ fn page_tells_more_than_a_sink_takes(rt: HostRuntime) -> Result<(), Fail> {
     Ok(())
 }
 
-/// Whether a number of more than 64 bits is told.
+// Whether a number of more than 64 bits is told.
 fn tells_a_wide_number(sink: &mut MemorySink) -> bool {
     let mut page = Page::new();
     page.number128(sink, 18446744073709551616);
@@ -105,7 +105,7 @@ fn page_prints_wide_numbers(rt: HostRuntime) -> Result<(), Fail> {
     Ok(())
 }
 
-/// A file of the name a, whose reads of these numbers fail.
+// A file of the name a, whose reads of these numbers fail.
 fn files(alloc: Global, bytes: &[u8], failing: &[u64]) -> Result<Box<MemoryFiles>, AllocError> {
     let failing = failing.to_vec(alloc)?;
     let files = one_file(alloc, bytes)?;
@@ -128,7 +128,7 @@ pub enum Answer<'a> {
     Failed,
 }
 
-/// Whether a read answers this.
+// Whether a read answers this.
 fn is_answer(read: &Result<Read, DeskFail>, answer: Answer<'_>) -> bool {
     match (read, answer) {
         (Ok(Read::Bytes(bytes)), Answer::Bytes(expected)) => bytes.as_bytes() == expected,
@@ -170,7 +170,7 @@ pub fn all_read<F: Files>(
     Ok(true)
 }
 
-/// Whether the first three reads answer, and the fourth fails and is counted.
+// Whether the first three reads answer, and the fourth fails and is counted.
 fn fails_fourth(alloc: Global, desk: &mut MemoryFiles) -> Result<bool, AllocError> {
     let answered = all_read(alloc, desk, &READS)? && desk.count() == 0;
     let failed = reads(alloc, desk, &("a", 3, Answer::Failed))?;
@@ -192,7 +192,7 @@ static LINES: [(&str, Outcome); 4] = [
     ("a", Outcome::Number(2)),
 ];
 
-/// Whether the lines of the file give this.
+// Whether the lines of the file give this.
 fn gives(
     alloc: Global,
     desk: &mut MemoryFiles,
@@ -254,7 +254,7 @@ impl io::Read for Interrupted {
     }
 }
 
-/// Whether a source gives two bytes after so many interruptions, and how many of its calls failed.
+// Whether a source gives two bytes after so many interruptions, and how many of its calls failed.
 fn takes_after(interruptions: u32) -> (bool, u64) {
     let mut buffer = [0u8; 2];
     let mut source = StdSource::new(Interrupted {
@@ -270,7 +270,7 @@ fn interrupted_reads_are_made_again_a_thousand_times(rt: HostRuntime) {
     assert!(rt; takes_after(1001) == (false, 1));
 }
 
-/// Whether a sink takes a piece after so many interruptions, and how many of its calls failed.
+// Whether a sink takes a piece after so many interruptions, and how many of its calls failed.
 fn puts_after(interruptions: u32) -> (bool, u64) {
     let mut sink = StdSink::new(Interrupted {
         left: interruptions,

@@ -7,13 +7,13 @@ use std::fs::File;
 use std::test::Fail;
 use std::{fs, io, rt};
 
-/// Whether a sink over a new file takes the bytes.
+// Whether a sink over a new file takes the bytes.
 fn writes<R: rt::Files>(rt: &R, name: &str, bytes: &[u8]) -> io::Result<bool> {
     let mut sink = StdSink::new(File::create(rt, name)?);
     Ok(put_all(&mut sink, bytes).is_ok() && sink.count() == 0)
 }
 
-/// So many bytes, which aren't all the same.
+// So many bytes, which aren't all the same.
 fn varied(alloc: Global, len: u64) -> Result<Vec<u8>, AllocError> {
     let mut bytes = Vec::new(alloc);
     for place in 0..len {
@@ -36,14 +36,14 @@ static FAILED: [ReadRow<'static>; 2] = [
 
 const WRITTEN_FILE: &str = "file_access_written.txt";
 
-/// Whether a file of 10,000 bytes that a sink wrote is read whole.
+// Whether a file of 10,000 bytes that a sink wrote is read whole.
 fn is_written<R: rt::Files, F: Files>(rt: &R, alloc: Global, desk: &mut F) -> io::Result<bool> {
     let content = [b'x'; 10000];
     let whole = (WRITTEN_FILE, 10000, Answer::Bytes(&content));
     Ok(writes(rt, WRITTEN_FILE, &content)? && reads(alloc, desk, &whole)?)
 }
 
-/// Whether reads of what isn't a file of so few bytes are told, of which two are faults.
+// Whether reads of what isn't a file of so few bytes are told, of which two are faults.
 fn tells_faults<R: rt::Files + Drop>(
     alloc: Global,
     desk: &mut FolderFiles<R>,
@@ -74,7 +74,7 @@ static LENGTHS: [(u64, u64); 6] = [
 
 const LENGTHS_FILE: &str = "file_access_lengths.txt";
 
-/// Whether a file that has these bytes is read whole by their number, and is too long for one below.
+// Whether a file that has these bytes is read whole by their number, and is too long for one below.
 fn are_read<R: rt::Files, F: Files>(
     rt: &R,
     alloc: Global,
@@ -88,7 +88,7 @@ fn are_read<R: rt::Files, F: Files>(
     Ok(written && reads(alloc, desk, &whole)? && reads(alloc, desk, &too_long)?)
 }
 
-/// Whether files of all these lengths are read, and an empty one.
+// Whether files of all these lengths are read, and an empty one.
 fn lengths_are_read<R: rt::Files, F: Files>(
     rt: &R,
     alloc: Global,
@@ -113,8 +113,8 @@ fn files_of_lengths_about_the_first_room_are_read(rt: HostRuntime) -> Result<(),
 
 const GIVEN_BACK_FILE: &str = "file_access_given_back.txt";
 
-/// Whether a file that has these bytes is read whole, and then gives its bytes back. It is too long
-/// for half of them, where there are any.
+// Whether a file that has these bytes is read whole, and then gives its bytes back. It is too long
+// for half of them, where there are any.
 fn are_given_back<R: rt::Files, F: Files>(
     rt: &R,
     alloc: Global,

@@ -2,7 +2,7 @@
 use file_access::{Gate, MeetingGate, OpenGate};
 use std::thread::{Threads, join};
 
-/// Has two workers enter, each in a thread of its own.
+// Has two workers enter, each in a thread of its own.
 fn enter_both<R: Threads, G: Gate + Sync>(rt: &R, gate: &G) {
     join(rt, || gate.enter(0, 0), || gate.enter(1, 1));
 }

@@ -34,7 +34,7 @@ static HISTORIES: [(&[u8], Checked); 4] = [
     ),
 ];
 
-/// What is answered of a history of one worker.
+// What is answered of a history of one worker.
 fn answer(alloc: Global, plan: &Plan, lines: &[u8]) -> Result<Checked, Fail> {
     let mut text = Vec::from_slice(alloc, b"history 1\nworkers 1 max 1 parallel no\n")?;
     text.extend_from_slice(lines)?;

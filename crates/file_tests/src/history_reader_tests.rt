@@ -6,7 +6,7 @@ use resource_lock::{Change, LockId, Mark, MarkId, WorkerId};
 use std::alloc::Global;
 use std::test::Fail;
 
-/// Where a text stops, or None where it is read.
+// Where a text stops, or None where it is read.
 fn stop_of(alloc: Global, text: &[u8]) -> Result<Option<u64>, Fail> {
     match read_history(alloc, text) {
         Ok(_) => Ok(None),

@@ -24,7 +24,7 @@ static PLAN: &[u8] = b"[[project]]\nname = \"p\"\n\n\
     [[task.action]]\nwait = \"retain\"\nfetch = \"a.txt\"\n\n\
     [[task.action.item]]\ndo = \"lines\"\nfile = \"b.txt\"\n";
 
-/// A book of the plan's graph, for 32 workers and 4 leases.
+// A book of the plan's graph, for 32 workers and 4 leases.
 fn open(alloc: Global, plan: &Plan) -> Result<Box<Book>, AllocError>
     ensures { IfOk result (λ book. book.value.graph ≡ graph_of plan.now 32 4 true) }
 {
@@ -32,7 +32,7 @@ fn open(alloc: Global, plan: &Plan) -> Result<Box<Book>, AllocError>
     Ok(Box::new(alloc, Book::opening(alloc, graph, 0, 0)?)?)
 }
 
-/// Whether the worker's transform finishes.
+// Whether the worker's transform finishes.
 fn finishes<T: Transform>(book: &mut Book, worker: u32, transform: &T) -> bool
     ensures { book.new.graph ≡ book.old.graph }
 {
@@ -43,7 +43,7 @@ fn finishes<T: Transform>(book: &mut Book, worker: u32, transform: &T) -> bool
         )
 }
 
-/// Has worker 1 take the lock twice, worker 31 fail to, and worker 1 step aside without a unit.
+// Has worker 1 take the lock twice, worker 31 fail to, and worker 1 step aside without a unit.
 fn steps_aside(book: &mut Book) -> bool
     ensures { book.new.graph ≡ book.old.graph }
 {
@@ -58,7 +58,7 @@ fn steps_aside(book: &mut Book) -> bool
     taken && failed && blocked && unblocked && finishes(book, 1, &HandBack)
 }
 
-/// Has worker 1 run the task's fetch, for which there is no memory.
+// Has worker 1 run the task's fetch, for which there is no memory.
 fn fetches(book: &mut Book) -> bool
     ensures { book.new.graph ≡ book.old.graph }
 {
@@ -74,7 +74,7 @@ fn fetches(book: &mut Book) -> bool
         && finishes(book, 1, &unblock)
 }
 
-/// Has worker 1 run the task's item, whose file is too long, and end the task.
+// Has worker 1 run the task's item, whose file is too long, and end the task.
 fn ends(book: &mut Book) -> bool
     ensures { book.new.graph ≡ book.old.graph }
 {
@@ -90,7 +90,7 @@ fn ends(book: &mut Book) -> bool
         && finishes(book, 1, &End { task: 0 })
 }
 
-/// Writes results and history of a run that has ended.
+// Writes results and history of a run that has ended.
 fn write(plan: &Plan, book: &Book, sink: &mut MemorySink) -> bool
     requires { book.now.graph ≡ graph_of plan.now 32 4 true }
 {
@@ -130,7 +130,7 @@ static TEXT: &[u8] = b"task t failed\n\
     15 w1 end 0 | task 0 running failed, unlock 0, give\n\
     end 15\n";
 
-/// Whether a run of the plan that ends is printed as this text.
+// Whether a run of the plan that ends is printed as this text.
 fn is_printed(alloc: Global, plan: &Plan, text: &[u8]) -> Result<bool, AllocError> {
     let mut book = open(alloc, plan)?;
     if !steps_aside(&mut book) || !fetches(&mut book) || !ends(&mut book) {
@@ -139,7 +139,7 @@ fn is_printed(alloc: Global, plan: &Plan, text: &[u8]) -> Result<bool, AllocErro
     prints(alloc, plan, &book, text)
 }
 
-/// Whether the book is printed as this text.
+// Whether the book is printed as this text.
 fn prints(alloc: Global, plan: &Plan, book: &Book, text: &[u8]) -> Result<bool, AllocError>
     requires { book.now.graph ≡ graph_of plan.now 32 4 true }
 {

@@ -9,12 +9,12 @@ use item_actions::{
 use std::alloc::{AllocError, Global};
 use std::test::Fail;
 
-/// Whether the action counts so many in the bytes.
+// Whether the action counts so many in the bytes.
 fn gives(action: &ItemAction, bytes: &[u8], number: u64) -> bool {
     matches!(act(action, bytes), Outcome::Number(found) if found == number)
 }
 
-/// Whether the needle is found so often.
+// Whether the needle is found so often.
 fn finds(needle: &[u8], bytes: &[u8], count: u64) -> bool {
     match Needle::of(needle) {
         Some(needle) => gives(&ItemAction::Count(needle), bytes, count),
@@ -121,7 +121,7 @@ fn laws_on_a_few_bytes(rt: HostRuntime) {
     assert!(rt; have_longest_pieces() && are_found(&BANANAS));
 }
 
-/// Whether each action gives what it has to where one byte of a hundred is a line end.
+// Whether each action gives what it has to where one byte of a hundred is a line end.
 fn agree_at(place: usize) -> bool
     requires { place < 100 }
 {
@@ -169,7 +169,7 @@ static DIGESTS: [(&[u8], [u32; 8]); 3] = [
     ),
 ];
 
-/// Whether these are the words of the bytes' digest.
+// Whether these are the words of the bytes' digest.
 fn has_digest(bytes: &[u8], words: [u32; 8]) -> bool {
     let mut expected = [0; 32];
     for (place, word) in words.iter().enumerate() {
@@ -185,7 +185,7 @@ fn digests_of_the_standard(rt: HostRuntime) {
     }
 }
 
-/// Whether the bytes are kept as a needle.
+// Whether the bytes are kept as a needle.
 fn is_kept(bytes: &[u8]) -> bool {
     Needle::of(bytes).is_some_and(|needle| needle.bytes() == bytes)
 }
@@ -243,7 +243,7 @@ static NO_NAMES: [&[u8]; 22] = [
     b"\xc3\xa9",
 ];
 
-/// Whether all of these are names of files, or none is.
+// Whether all of these are names of files, or none is.
 fn are_names(names: &[&[u8]], expected: bool) -> bool {
     for name in names {
         if is_file_name(name) != expected {
@@ -263,7 +263,7 @@ static ACTION_WORDS: [&str; 6] = ["lines", "words", "bytes", "longest", "count",
 
 static NO_ACTION_WORDS: [&str; 5] = ["", "line", "liness", "Lines", "fetch"];
 
-/// Whether the word is that of an action.
+// Whether the word is that of an action.
 fn is_action_word(word: &str) -> bool {
     ActionKind::of_word(word).is_some_and(|kind| kind.word() == word)
 }
@@ -303,7 +303,7 @@ static OUTCOME_WORDS: [&str; 7] = [
     "skipped",
 ];
 
-/// Whether the word is that of an outcome.
+// Whether the word is that of an outcome.
 fn is_outcome_word(word: &str) -> bool {
     OutcomeKind::of_word(word).is_some_and(|kind| kind.word() == word)
 }
@@ -325,7 +325,7 @@ fn words_of_outcomes(rt: HostRuntime) {
     assert!(rt; Outcome::Number(3).passes() && !Outcome::Fault.passes());
 }
 
-/// Whether a text is made of the bytes, is told as the bytes and as a `str`, and is copied.
+// Whether a text is made of the bytes, is told as the bytes and as a `str`, and is copied.
 fn is_text(alloc: Global, bytes: &[u8], as_str: &str) -> Result<bool, TextRefusal> {
     let text = Text::of(alloc, bytes)?;
     Ok(text.bytes() == bytes && text.as_str() == as_str && is_copied(alloc, &text)?)

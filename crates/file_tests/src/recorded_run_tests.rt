@@ -50,7 +50,7 @@ fn verdict_of(again: &Again) -> Verdict {
     }
 }
 
-/// A file of the name a.txt. The read of this number fails.
+// A file of the name a.txt. The read of this number fails.
 fn files(alloc: Global, bytes: &[u8], failing: u64) -> Result<MemoryFiles, Fail> {
     let name = Text::from_str(alloc, "a.txt")?;
     let bytes = bytes.to_vec(alloc)?;
@@ -60,7 +60,7 @@ fn files(alloc: Global, bytes: &[u8], failing: u64) -> Result<MemoryFiles, Fail>
     Ok(MemoryFiles::new(alloc, FileMap::new(entries), failing)?)
 }
 
-/// What the run comes to with this file.
+// What the run comes to with this file.
 fn drive(alloc: Global, bytes: &[u8], failing: u64) -> Result<Verdict, Fail> {
     let plan = read_plan(alloc, PLAN)?;
     let history = read_history(alloc, HISTORY)?;

@@ -24,7 +24,7 @@ impl fmt::Display for Counted {
     }
 }
 
-/// Whether each byte is a line's end or can be seen.
+// Whether each byte is a line's end or can be seen.
 fn is_text(bytes: &[u8]) -> bool {
     bytes
         .iter()
@@ -39,14 +39,14 @@ pub(crate) fn text_of(bytes: &[u8]) -> Option<&str> {
     }
 }
 
-/// Prints the digest of what was written.
+// Prints the digest of what was written.
 fn print_digest(rt: &HostRuntime, bytes: &[u8]) -> Result<()> {
     let digest = hex::encode(rt.alloc(), Sha256::digest(bytes))?;
     println!(rt; ", {} bytes, digest {digest}", bytes.len())?;
     Ok(())
 }
 
-/// Prints what was written: as it stands where it is a text, and else in hexadecimal digits.
+// Prints what was written: as it stands where it is a text, and else in hexadecimal digits.
 fn print_output(rt: &HostRuntime, bytes: &[u8]) -> Result<()> {
     println!(rt; ", {} bytes", bytes.len())?;
     match text_of(bytes) {
@@ -57,7 +57,7 @@ fn print_output(rt: &HostRuntime, bytes: &[u8]) -> Result<()> {
     Ok(())
 }
 
-/// Whether a call's history is found lawful, as words.
+// Whether a call's history is found lawful, as words.
 fn lawful_words(lawful: Option<bool>) -> &'static str {
     match lawful {
         Some(true) => ", lawful",
@@ -66,7 +66,7 @@ fn lawful_words(lawful: Option<bool>) -> &'static str {
     }
 }
 
-/// Prints how a call ended: its status, with the place of a bad frame, and how many entries of its book finished.
+// Prints how a call ended: its status, with the place of a bad frame, and how many entries of its book finished.
 fn print_end(rt: &HostRuntime, answer: &Answer, lawful: Option<bool>) -> Result<()> {
     let place = Counted(" at ", answer.place, "");
     let finished = Counted(", ", answer.run.map(|run| run.finished), " entries");
@@ -78,7 +78,7 @@ fn print_end(rt: &HostRuntime, answer: &Answer, lawful: Option<bool>) -> Result<
     Ok(())
 }
 
-/// Prints how many calls of the outside failed, and whether two items met.
+// Prints how many calls of the outside failed, and whether two items met.
 fn print_faults(rt: &HostRuntime, faults: u64, met: bool) -> Result<()> {
     let faults = Counted(", ", (faults > 0).then_some(faults), " faults");
     let met = if met { ", two items met" } else { "" };
@@ -86,7 +86,7 @@ fn print_faults(rt: &HostRuntime, faults: u64, met: bool) -> Result<()> {
     Ok(())
 }
 
-/// Prints the numbers that the case asks for.
+// Prints the numbers that the case asks for.
 fn print_asked(rt: &HostRuntime, case: &Case, answer: &Answer) -> Result<()> {
     let left = Counted(", ", case.has("left").then_some(answer.left), " bytes left");
     let sent = Counted(", ", case.has("sent").then_some(answer.sent), " requests");
@@ -108,7 +108,7 @@ fn print_graph(rt: &HostRuntime, run: &Run) -> Result<()> {
     Ok(())
 }
 
-/// Whether as many units met a fault as calls of the desks failed, and at least so many, as words.
+// Whether as many units met a fault as calls of the desks failed, and at least so many, as words.
 fn fault_words(answer: &Answer, least: u64) -> &'static str {
     match answer.run {
         Some(run) if run.faults == answer.desk_faults && run.faults >= least => {
@@ -118,12 +118,12 @@ fn fault_words(answer: &Answer, least: u64) -> &'static str {
     }
 }
 
-/// Whether one of the files has this name.
+// Whether one of the files has this name.
 fn names_file(files: &[FileEntry], name: &Text) -> bool {
     files.iter().any(|file| file.name.as_str() == name.as_str())
 }
 
-/// The plan of a run whose history was printed, if there was one that ended.
+// The plan of a run whose history was printed, if there was one that ended.
 fn plan_of<'a>(case: &'a Case, answer: &Answer) -> Option<&'a Text> {
     if answer.run.is_none()
         || answer.status > 1
@@ -134,7 +134,7 @@ fn plan_of<'a>(case: &'a Case, answer: &Answer) -> Option<&'a Text> {
     case.words.iter().find(|word| names_file(&case.files, word))
 }
 
-/// Whether the program itself finds a printed history lawful, with as many entries as the run's book has.
+// Whether the program itself finds a printed history lawful, with as many entries as the run's book has.
 fn is_found_lawful<T: Threads + Wait + Sync>(
     threads: &T,
     alloc: Global,
@@ -147,8 +147,8 @@ fn is_found_lawful<T: Threads + Wait + Sync>(
     Ok(out.inner.taken() == lawful.as_bytes())
 }
 
-/// Whether the program itself finds what a run of the case printed lawful. None says that no history was asked for, or
-/// that the run didn't end.
+// Whether the program itself finds what a run of the case printed lawful. None says that no history was asked for, or
+// that the run didn't end.
 fn lawfulness<T: Threads + Wait + Sync>(
     threads: &T,
     alloc: Global,
@@ -163,8 +163,8 @@ fn lawfulness<T: Threads + Wait + Sync>(
     Ok(Some(is_found_lawful(threads, alloc, &check, &run)?))
 }
 
-/// Prints how a call ended, whether the history that it printed is found lawful, how many calls of the outside failed,
-/// whether two items met, and what was written.
+// Prints how a call ended, whether the history that it printed is found lawful, how many calls of the outside failed,
+// whether two items met, and what was written.
 fn print_answer(
     rt: &HostRuntime,
     case: &Case,

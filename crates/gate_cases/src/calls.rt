@@ -17,7 +17,7 @@ use std::alloc::{AllocError, Global};
 use std::sync::Wait;
 use std::thread::Threads;
 
-/// An equal file.
+// An equal file.
 fn copy_of(alloc: Global, file: &FileEntry) -> Result<FileEntry, AllocError>
     ensures name { IfOk result (λ copy. copy.name ≡ file.now.name) }
     ensures bytes { IfOk result (λ copy. copy.bytes.items ≡ file.now.bytes.items) }
@@ -38,13 +38,13 @@ pub(crate) fn copies_of(alloc: Global, files: &[FileEntry]) -> Result<Vec<FileEn
     Ok(copies)
 }
 
-/// The numbers of the calls of a desk that fail.
+// The numbers of the calls of a desk that fail.
 fn failing_calls(alloc: Global, case: &Case, desk: usize) -> Result<Vec<u64>> {
     let calls = format!(in alloc; "desk {desk} ")?;
     case.failing(alloc, calls.as_str())
 }
 
-/// The desk of this number.
+// The desk of this number.
 fn desk_of(alloc: Global, case: &Case, number: usize) -> Result<MemoryDesk>
     ensures { IfOk result (λ desk. known_files desk ≡ Some (folder_of case.now.files.items)) }
 {
@@ -53,7 +53,7 @@ fn desk_of(alloc: Global, case: &Case, number: usize) -> Result<MemoryDesk>
     Ok(MemoryDesk::new(alloc, FileMap::new(files), failing, Vec::new(alloc)))
 }
 
-/// A desk for each thread that a run may have.
+// A desk for each thread that a run may have.
 fn desks_of(alloc: Global, case: &Case) -> Result<Vec<MemoryDesk>>
     ensures count { IfOk result (λ desks. length desks.items ≡ DESKS) }
     ensures files { IfOk result (λ desks. All (λ desk. known_files desk ≡ Some (folder_of case.now.files.items)) desks.items) }
@@ -65,7 +65,7 @@ fn desks_of(alloc: Global, case: &Case) -> Result<Vec<MemoryDesk>>
     Ok(desks)
 }
 
-/// The bytes of the input of the call of this number.
+// The bytes of the input of the call of this number.
 fn input_of(alloc: Global, case: &Case, number: usize) -> Result<Vec<u8>, AllocError> {
     match case.each {
         Some(each) => each.input(alloc, &case.input, number),
@@ -73,7 +73,7 @@ fn input_of(alloc: Global, case: &Case, number: usize) -> Result<Vec<u8>, AllocE
     }
 }
 
-/// The numbers of the calls of the input that fail.
+// The numbers of the calls of the input that fail.
 fn failing_takes(alloc: Global, case: &Case, number: usize) -> Result<Vec<u64>> {
     match case.each {
         Some(Each::Take) => Ok(Vec::from_slice(alloc, &[number as u64])?),
@@ -81,7 +81,7 @@ fn failing_takes(alloc: Global, case: &Case, number: usize) -> Result<Vec<u64>> 
     }
 }
 
-/// The numbers of the calls of the output that fail.
+// The numbers of the calls of the output that fail.
 fn failing_puts(alloc: Global, case: &Case, number: usize) -> Result<Vec<u64>> {
     match case.each {
         Some(Each::Put) => Ok(Vec::from_slice(alloc, &[number as u64])?),
@@ -180,7 +180,7 @@ fn run_in(ended: &Ended) -> Option<Run> {
     }
 }
 
-/// The place of a bad frame.
+// The place of a bad frame.
 fn place_in(status: &Status) -> Option<u64> {
     match status {
         Status::BadFrame(place) => Some(*place),
@@ -188,7 +188,7 @@ fn place_in(status: &Status) -> Option<u64> {
     }
 }
 
-/// How many calls of the desks failed.
+// How many calls of the desks failed.
 fn desk_faults(desks: &[MemoryDesk]) -> u64 {
     let mut faults = 0u64;
     for desk in desks {
@@ -197,7 +197,7 @@ fn desk_faults(desks: &[MemoryDesk]) -> u64 {
     faults
 }
 
-/// How many requests the desks sent.
+// How many requests the desks sent.
 fn requests(desks: &[MemoryDesk]) -> u64 {
     let mut sent = 0u64;
     for desk in desks {
@@ -206,13 +206,13 @@ fn requests(desks: &[MemoryDesk]) -> u64 {
     sent
 }
 
-/// How many bytes are left, up to 64.
+// How many bytes are left, up to 64.
 fn bytes_left(input: &mut MemorySource) -> u64 {
     let mut buffer = [0u8; 64];
     input.take(&mut buffer).unwrap_or(0) as u64
 }
 
-/// What is told of a call that ended.
+// What is told of a call that ended.
 fn answer_of(
     ended: &Ended,
     desks: &[MemoryDesk],

@@ -39,7 +39,7 @@ pub(crate) struct Case<'a> {
 }
 
 impl<'a> Case<'a> {
-    /// A call without words, files and input, with these sections.
+    // A call without words, files and input, with these sections.
     fn new(
         alloc: Global,
         sections: &'a [Section<'a>],
@@ -121,7 +121,7 @@ fn limits_of(sections: &[Section]) -> Result<Limits> {
     })
 }
 
-/// Adds what a section says of words, files or input.
+// Adds what a section says of words, files or input.
 fn add_section(alloc: Global, case: &mut Case, section: &Section) -> Result<()> {
     match section.kind {
         "words" => add_words(alloc, &mut case.words, section.rest, ' '),
@@ -141,14 +141,14 @@ fn add_words(alloc: Global, words: &mut Vec<Text>, text: &str, between: char) ->
     Ok(())
 }
 
-/// Adds lines, the last one with its end.
+// Adds lines, the last one with its end.
 fn add_lines(bytes: &mut Vec<u8>, lines: &str) -> Result<(), AllocError> {
     bytes.extend_from_slice(lines.as_bytes())?;
     bytes.push(b'\n')?;
     Ok(())
 }
 
-/// Lines as bytes, the last one with its end.
+// Lines as bytes, the last one with its end.
 fn bytes_of(alloc: Global, lines: Option<&str>) -> Result<Vec<u8>, AllocError> {
     let mut bytes = Vec::new(alloc);
     if let Some(lines) = lines {
@@ -164,7 +164,7 @@ fn add_file(alloc: Global, files: &mut Vec<FileEntry>, section: &Section) -> Res
     Ok(())
 }
 
-/// Adds bytes to the last file.
+// Adds bytes to the last file.
 fn add_to_last(alloc: Global, files: &mut Vec<FileEntry>, section: &Section) -> Result<()> {
     let Some(file) = files.last_mut() else {
         return Err(anyhow!("no file for further bytes"));
@@ -176,7 +176,7 @@ fn add_to_last(alloc: Global, files: &mut Vec<FileEntry>, section: &Section) -> 
     }
 }
 
-/// Adds the bytes that hexadecimal digits give; spaces between them don't count.
+// Adds the bytes that hexadecimal digits give; spaces between them don't count.
 fn add_digits(alloc: Global, bytes: &mut Vec<u8>, digits: &str) -> Result<()> {
     let digits = digits.replace(alloc, ' ', "")?;
     let digits = hex::decode(alloc, digits)?;
@@ -184,7 +184,7 @@ fn add_digits(alloc: Global, bytes: &mut Vec<u8>, digits: &str) -> Result<()> {
     Ok(())
 }
 
-/// Adds a text so many times.
+// Adds a text so many times.
 fn fill(bytes: &mut Vec<u8>, rest: &str) -> Result<()> {
     let (times, text) = rest.split_once(' ').unwrap_or((rest, ""));
     for _ in 0..number_of(times)? {
@@ -193,7 +193,7 @@ fn fill(bytes: &mut Vec<u8>, rest: &str) -> Result<()> {
     Ok(())
 }
 
-/// Adds the lines of a section with a number for `{n}`.
+// Adds the lines of a section with a number for `{n}`.
 fn add_numbered(alloc: Global, bytes: &mut Vec<u8>, lines: &str, number: u64) -> Result<()> {
     let number = format!(in alloc; "{number}")?;
     let lines = lines.replace(alloc, "{n}", number.as_str())?;
@@ -201,7 +201,7 @@ fn add_numbered(alloc: Global, bytes: &mut Vec<u8>, lines: &str, number: u64) ->
     Ok(())
 }
 
-/// Adds the lines of a section so many times.
+// Adds the lines of a section so many times.
 fn add_times(alloc: Global, bytes: &mut Vec<u8>, section: &Section) -> Result<()> {
     let lines = section.lines.unwrap_or("");
     for turn in 0..number_of(section.rest)? {

@@ -88,7 +88,7 @@ impl Each {
     }
 }
 
-/// The input with another byte at this place: of its bits some are kept, and then some turned over.
+// The input with another byte at this place: of its bits some are kept, and then some turned over.
 fn with_byte(
     alloc: Global,
     input: &[u8],

@@ -40,20 +40,20 @@ pub(crate) fn line_change(name: &str) -> Option<LineChange> {
     None
 }
 
-/// Adds a line, between other bytes.
+// Adds a line, between other bytes.
 fn add(text: &mut Vec<u8>, before: &[u8], line: &[u8], behind: &[u8]) -> Result<(), AllocError> {
     text.extend_from_slice(before)?;
     text.extend_from_slice(line)?;
     text.extend_from_slice(behind)
 }
 
-/// Adds two lines.
+// Adds two lines.
 fn add_two(text: &mut Vec<u8>, first: &[u8], second: &[u8]) -> Result<(), AllocError> {
     add(text, b"", first, b"\n")?;
     add(text, b"", second, b"\n")
 }
 
-/// Adds what is written in place of the changed line.
+// Adds what is written in place of the changed line.
 fn add_changed(text: &mut Vec<u8>, change: LineChange, line: &[u8]) -> Result<(), AllocError> {
     match change {
         LineChange::LeftOut | LineChange::BehindTheNext => Ok(()),
@@ -62,7 +62,7 @@ fn add_changed(text: &mut Vec<u8>, change: LineChange, line: &[u8]) -> Result<()
     }
 }
 
-/// Adds what is written in place of the line behind the changed one, which is the last one before it.
+// Adds what is written in place of the line behind the changed one, which is the last one before it.
 fn add_next(
     text: &mut Vec<u8>,
     change: LineChange,

@@ -23,7 +23,7 @@ use std::sync::Wait;
 use std::thread::Threads;
 use std::{env, fs};
 
-/// Makes the calls of a case, and prints what they answered.
+// Makes the calls of a case, and prints what they answered.
 fn run_case<T: Threads + Wait + Sync>(rt: &HostRuntime, threads: &T, case: &Case) -> Result<()> {
     match case.each {
         Some(each) => run_each(rt, threads, case, each),
@@ -31,7 +31,7 @@ fn run_case<T: Threads + Wait + Sync>(rt: &HostRuntime, threads: &T, case: &Case
     }
 }
 
-/// Makes the calls of a case that has a part of a case file, besides the part that all cases have.
+// Makes the calls of a case that has a part of a case file, besides the part that all cases have.
 fn run_part<T: Threads + Wait + Sync>(
     rt: &HostRuntime,
     threads: &T,
@@ -44,7 +44,7 @@ fn run_part<T: Threads + Wait + Sync>(
     run_case(rt, threads, &case)
 }
 
-/// Makes the calls of a case file, in order.
+// Makes the calls of a case file, in order.
 fn run_text<T: Threads + Wait + Sync>(rt: &HostRuntime, threads: &T, text: &str) -> Result<()> {
     let mut parts = text.split("\n=== ");
     let shared = parts.next().unwrap_or("");
@@ -54,7 +54,7 @@ fn run_text<T: Threads + Wait + Sync>(rt: &HostRuntime, threads: &T, text: &str)
     Ok(())
 }
 
-/// Makes the calls of the case file of this name.
+// Makes the calls of the case file of this name.
 fn run_file<T: Threads + Wait + Sync>(rt: &HostRuntime, threads: &T, name: &str) -> Result<()> {
     let text = fs::read_to_string(rt, name)?;
     run_text(rt, threads, text.as_str())

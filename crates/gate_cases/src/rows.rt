@@ -17,7 +17,7 @@ struct Row {
 }
 
 impl Row {
-    /// Adds what is told of the next call.
+    // Adds what is told of the next call.
     fn add(&mut self, rt: &HostRuntime, told: String) -> Result<()> {
         if self.told.as_str() != told.as_str() {
             self.print(rt)?;
@@ -28,7 +28,7 @@ impl Row {
         Ok(())
     }
 
-    /// Prints the calls that weren't printed yet.
+    // Prints the calls that weren't printed yet.
     fn print(&self, rt: &HostRuntime) -> Result<()> {
         let Row { first, next, told } = self;
         if first < next {
@@ -38,7 +38,7 @@ impl Row {
     }
 }
 
-/// What was written, where it is a text, and else the status and what was written.
+// What was written, where it is a text, and else the status and what was written.
 fn told(alloc: Global, status: u8, bytes: &[u8]) -> Result<String> {
     match text_of(bytes) {
         Some(text) if !text.is_empty() => Ok(text.trim_end_matches('\n').to_string(alloc)?),
@@ -51,7 +51,7 @@ fn status_and_digits(alloc: Global, status: u8, bytes: &[u8]) -> Result<String> 
     Ok(format!(in alloc; "status {status}, {} bytes [{digits}]", bytes.len())?)
 }
 
-/// Makes the call of this number, and adds what is told of it. It answers whether nothing failed.
+// Makes the call of this number, and adds what is told of it. It answers whether nothing failed.
 fn add_call<T: Threads + Wait + Sync>(
     rt: &HostRuntime,
     threads: &T,

@@ -16,7 +16,7 @@ pub(crate) struct Section<'a> {
     pub(crate) lines: Option<&'a str>,
 }
 
-/// The section of these lines. Empty lines at its end don't count.
+// The section of these lines. Empty lines at its end don't count.
 fn section_of(text: &str) -> Result<Section<'_>> {
     let text = text.trim_end_matches('\n');
     let (head, lines) = match text.split_once('\n') {
@@ -30,7 +30,7 @@ fn section_of(text: &str) -> Result<Section<'_>> {
     Ok(Section { kind, rest, lines })
 }
 
-/// Adds the sections of a part of a case file. What stands before the first is passed over.
+// Adds the sections of a part of a case file. What stands before the first is passed over.
 fn add_sections<'a>(sections: &mut Vec<Section<'a>>, part: &'a str) -> Result<()> {
     for section in part.split("\n--- ").skip(1) {
         sections.push(section_of(section)?)?;

@@ -1,5 +1,6 @@
 -- The plan that is made from a number: 40 projects and 400 tasks, each after an earlier one, with two actions of four items.
-use Rattle.std.specs.Prelude.{ℕ, ◌+◌, ◌*◌, ◌-◌, ◌%◌, ◌==◌, List, [], ◌∷◌, ◌++◌, codes, decimal, slice_index_or, if◌then◌else◌}
+use Rattle.std.specs.Prelude.{ℕ, ◌+◌, ◌*◌, ◌-◌, ◌%◌, ◌==◌, List, [], ◌∷◌, ◌++◌, codes, decimal, slice_index_or}
+use Rattle.std.specs.Prelude.{if◌then◌else◌}
 use Rattle.std.specs.List.{flat_map, range_with_len}
 use Rattle.item_actions.specs.Words.{action_word}
 use Rattle.item_actions.specs.declared.action_kinds.ActionKind.{ActionKind}

@@ -10,7 +10,7 @@ use resource_lock::Retention;
 
 const ITEMS: u32 = 4;
 
-/// What an item does, by a number drawn.
+// What an item does, by a number drawn.
 fn kind_drawn(number: u64) -> ActionKind
     ensures { result ≡ kind_drawn number }
 {
@@ -23,7 +23,7 @@ fn kind_drawn(number: u64) -> ActionKind
     }
 }
 
-/// How a task's first action waits, by a number drawn.
+// How a task's first action waits, by a number drawn.
 fn first_wait(number: u64) -> Retention
     ensures { result ≡ first_wait number }
 {
@@ -33,7 +33,7 @@ fn first_wait(number: u64) -> Retention
     }
 }
 
-/// How a task's second action waits, by a number drawn.
+// How a task's second action waits, by a number drawn.
 fn second_wait(number: u64) -> Retention
     ensures { result ≡ second_wait number }
 {

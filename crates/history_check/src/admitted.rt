@@ -1,3 +1,4 @@
+//! What admitting a history comes to.
 ghost use Rattle.std.specs.Prelude.{◌≡◌};
 ghost use Rattle.history_check.specs.Admitting.{checked_of};
 

@@ -1,3 +1,4 @@
+//! The check of a history that comes line by line.
 ghost use Rattle.std.specs.Prelude.{◌≡◌, ◌-◌, ◌^◌, ◌<◌, option_map};
 ghost use Rattle.plan_reader.specs.PlanView.{PlanView};
 ghost use Rattle.history_reader.specs.HistoryView.{HistoryView, changes_of};

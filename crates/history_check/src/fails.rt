@@ -1,3 +1,4 @@
+//! Why an input was not checked.
 use file_access::Failed;
 use std::alloc::{AllocError, AllocFailed};
 use thiserror::Error;

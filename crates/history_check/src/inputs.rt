@@ -2,7 +2,8 @@ ghost use Rattle.std.specs.Prelude.{◌≡◌, [], length};
 ghost use Rattle.history_text.specs.Text.{end_text};
 ghost use Rattle.plan_reader.specs.PlanView.{PlanView};
 ghost use Rattle.file_access.specs.SourceView.{SourceView};
-ghost use Rattle.history_check.specs.Checking.{HasChecked, HasEnded, HasBytesLeft, GoesOn, FindsHead, FindsRoom, IsUnderway, Shortens, TakesHead, HasTaken, OpensWithin};
+ghost use Rattle.history_check.specs.Checking.{HasChecked, HasEnded, HasBytesLeft, GoesOn, FindsHead, FindsRoom, IsUnderway, Shortens, TakesHead, HasTaken};
+ghost use Rattle.history_check.specs.Checking.{OpensWithin};
 ghost use Rattle.history_check.specs.Admitting.{HasAdmitted};
 ghost use Rattle.history_reader.specs.Lines.{first_line};
 

@@ -30,8 +30,9 @@ pub fn the_first_bytes_may_be_taken()
 pub fn whole_and_line_by_line_agree()
     ensures lines { (p : PlanView) (h : HistoryView) (c : CheckView) (whole by_line : Checked) → IsAnswerTo p h whole → IsCheckOf p h c
         → IsVerdict c.graph h.entries by_line → whole ≡ by_line }
-    ensures input { (p : PlanView) (h : HistoryView) (bytes more : List ℕ) (old new : SourceView) (whole by_line : Checked) → IsAnswerTo p h whole
-        → Names bytes h → length bytes ≤ MAX_INPUT_BYTES → old.left ≡ Some (bytes ++ more) → HasChecked p old new (Ok by_line) → whole ≡ by_line }
+    ensures input { (p : PlanView) (h : HistoryView) (bytes more : List ℕ) (old new : SourceView) (whole by_line : Checked)
+        → IsAnswerTo p h whole → Names bytes h → length bytes ≤ MAX_INPUT_BYTES → old.left ≡ Some (bytes ++ more)
+        → HasChecked p old new (Ok by_line) → whole ≡ by_line }
 {}
 
 /// Where a line of a history is wrong, fewer than `MAX_PIECE` bytes are taken behind it.

@@ -30,7 +30,8 @@ ghost use Rattle.history_laws.specs.Outcomes.{AreRanks, mark_by, task_outcome, t
 ghost use Rattle.history_laws.specs.Own.{NamesWorkers, NoneOf, SameFor, claimed};
 ghost use Rattle.history_laws.specs.OwnChanges.{after_all, claimed_after, locks_after};
 ghost use Rattle.history_laws.specs.Runs.{GivesClosedOutcomes, ComesTo, IsOrderly};
-ghost use Rattle.history_laws.specs.WorkedRows.{IsWorkedRun, first_run, locks_by_turns, no_tasks, one_task, run_that_fails, run_that_fetches, run_that_reacquires, run_that_releases, start_too_early, two_tasks};
+ghost use Rattle.history_laws.specs.WorkedRows.{IsWorkedRun, first_run, locks_by_turns, no_tasks, one_task, run_that_fails, run_that_fetches};
+ghost use Rattle.history_laws.specs.WorkedRows.{run_that_reacquires, run_that_releases, start_too_early, two_tasks};
 ghost use Rattle.std.specs.List.{All, AllByRecursion, list_all, range_with_len};
 ghost use Rattle.std.specs.Prelude.{List, [], length, map, false, true, ◌+◌, ◌++◌, ◌<◌, ◌≡◌, ◌≢◌, ◌∷◌, ℕ};
 

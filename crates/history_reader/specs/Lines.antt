@@ -1,5 +1,6 @@
 -- Lines: where one ends, and what each of a history's says.
-use Rattle.std.specs.Prelude.{ℕ, ◌≡◌, ◌≢◌, ◌+◌, List, [], ◌∷◌, ◌++◌, length, codes, decimal, Bool, true, not, ◌⊎◌, nat_eq, Result, Ok, Err}
+use Rattle.std.specs.Prelude.{ℕ, ◌≡◌, ◌≢◌, ◌+◌, List, [], ◌∷◌, ◌++◌, length, codes, decimal, Bool, true, not, ◌⊎◌}
+use Rattle.std.specs.Prelude.{nat_eq, Result, Ok, Err}
 use Rattle.std.specs.List.{list_all}
 use Rattle.lock_transforms.specs.Entry.{Entry}
 use Rattle.history_text.specs.Text.{parallel_text, entry_text, end_text}

@@ -11,4 +11,5 @@ pub use Rattle.resource_lock.specs.declared.changes.Change.{Change}
 pub use Rattle.resource_lock.specs.declared.changes.Change.TheVariants.{Lock, Unlock, Take, Give, Move, Park, Unpark, Enter, Leave}
 pub use Rattle.lock_transforms.specs.declared.entries.Closed.{Closed}
 pub use Rattle.lock_transforms.specs.declared.entries.Kind.{Kind}
-pub use Rattle.lock_transforms.specs.declared.entries.Kind.TheVariants.{Start, Skip, Submit, Park as ParkFor, Resume, Claim, Close, Block, Unblock, End, Acquire, HandBack}
+pub use Rattle.lock_transforms.specs.declared.entries.Kind.TheVariants.{Start, Skip, Submit, Park as ParkFor, Resume, Claim, Close, Block, Unblock, End}
+pub use Rattle.lock_transforms.specs.declared.entries.Kind.TheVariants.{Acquire, HandBack}

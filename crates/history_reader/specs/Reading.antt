@@ -1,6 +1,9 @@
 -- Reading the parts of a line: each reader gives a value and the text after it, or nothing.
-use Rattle.std.specs.Prelude.{ℕ, ◌+◌, ◌-◌, ◌*◌, ◌^◌, List, [], ◌∷◌, ◌++◌, length, codes, decimal, Option, Some, None, Result, Ok, Err, ◌≡◌, zero, suc, Bool, true, false, if◌then◌else◌, nat_eq, nat_lt, nat_le, ◌&&◌}
-use Rattle.history_reader.specs.Plain.{LockId, WorkerId, MarkId, TaskOf, ActionOf, UnitOf, Mark, Waiting, Queued, Running, Passed, Failed, Skipped, Change, Lock, Unlock, Take, Give, Move, Park, Unpark, Enter, Leave, Outcome, Number, Digest, NotThere, TooLong, Fault, NoMemory, Closed, Kind, Start, Skip, Submit, ParkFor, Resume, Claim, Close, Block, Unblock, End, Acquire, HandBack}
+use Rattle.std.specs.Prelude.{ℕ, ◌+◌, ◌-◌, ◌*◌, ◌^◌, List, [], ◌∷◌, ◌++◌, length, codes, decimal, Option, Some, None, Result, Ok}
+use Rattle.std.specs.Prelude.{Err, ◌≡◌, zero, suc, Bool, true, false, if◌then◌else◌, nat_eq, nat_lt, nat_le, ◌&&◌}
+use Rattle.history_reader.specs.Plain.{LockId, WorkerId, MarkId, TaskOf, ActionOf, UnitOf, Mark, Waiting, Queued, Running, Passed, Failed, Skipped, Change}
+use Rattle.history_reader.specs.Plain.{Lock, Unlock, Take, Give, Move, Park, Unpark, Enter, Leave, Outcome, Number, Digest, NotThere, TooLong, Fault, NoMemory}
+use Rattle.history_reader.specs.Plain.{Closed, Kind, Start, Skip, Submit, ParkFor, Resume, Claim, Close, Block, Unblock, End, Acquire, HandBack}
 use Rattle.lock_transforms.specs.Entry.{Entry}
 use Rattle.history_reader.specs.declared.heads.Settings.{Settings}
 use Rattle.history_reader.specs.declared.fails.ReadFail.{ReadFail}

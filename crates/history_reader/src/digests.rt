@@ -2,7 +2,7 @@ ghost use Rattle.std.specs.Prelude.{◌≡◌, ◌<◌, IfSome};
 ghost use Rattle.std.specs.Option.{option_map};
 ghost use Rattle.history_reader.specs.Reading.{digit_value, byte_at, bytes_at};
 
-/// The number that a lower-case hexadecimal digit stands for.
+// The number that a lower-case hexadecimal digit stands for.
 fn digit_value(digit: u8) -> Option<u8>
     ensures value { result ≡ digit_value digit }
     ensures few { IfSome result (λ v. v < 16) }

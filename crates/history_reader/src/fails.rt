@@ -1,3 +1,4 @@
+//! Why a text was not read as a history.
 use std::alloc::{AllocError, AllocFailed};
 use thiserror::Error;
 

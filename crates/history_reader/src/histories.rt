@@ -1,3 +1,4 @@
+//! Histories that were read.
 ghost use Rattle.std.specs.Prelude.{◌≡◌, IfSome, IfNone};
 ghost use Rattle.history_reader.specs.HistoryView.{history_view};
 ghost use Rattle.history_reader.specs.Lines.{next_number, Opens, OpensNone, TakesLine};

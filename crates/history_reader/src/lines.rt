@@ -1,3 +1,4 @@
+//! What the lines of a history say.
 ghost use Rattle.std.specs.Prelude.{◌<◌, ◌-◌, ◌^◌};
 ghost use Rattle.history_reader.specs.LineValues.{IsLineOf, IsLineInto};
 

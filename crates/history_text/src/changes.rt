@@ -17,7 +17,7 @@ pub(crate) fn write_numbered<K: Sink>(word: &[u8], number: u32, page: &mut Page,
 
 /// Writes a space and a mark.
 #[inline(always)]
-pub(crate) fn write_mark<K: Sink>(mark: Mark, page: &mut Page, sink: &mut K)
+pub fn write_mark<K: Sink>(mark: Mark, page: &mut Page, sink: &mut K)
     ensures { Adds (K.seen sink.old) page.old (K.seen sink.new) page.new (codes " " ++ mark_text mark) }
 {
     match mark {
@@ -90,7 +90,7 @@ fn write_changes<K: Sink>(changes: &[Change], page: &mut Page, sink: &mut K)
 }
 
 /// Writes the changes that an entry made, or that it failed.
-pub(crate) fn write_effect<K: Sink>(failed: bool, changes: &[Change], page: &mut Page, sink: &mut K)
+pub fn write_effect<K: Sink>(failed: bool, changes: &[Change], page: &mut Page, sink: &mut K)
     ensures { Adds (K.seen sink.old) page.old (K.seen sink.new) page.new (effect_text (if failed then None else Some changes.now)) }
 {
     if failed {

@@ -1,3 +1,4 @@
+//! Counts of tasks and units by how they ended.
 ghost use Rattle.std.specs.Prelude.{◌≡◌, ◌+◌, ◌<◌, ◌^◌, if◌then◌else◌};
 ghost use Rattle.item_actions.specs.Value.{passes};
 ghost use Rattle.lock_transforms.specs.Table.{has_passed};

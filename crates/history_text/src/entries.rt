@@ -18,7 +18,7 @@ fn write_closed<K: Sink>(word: &[u8], closed: &Closed, page: &mut Page, sink: &m
 }
 
 /// Writes a space and what an entry is for.
-fn write_kind<K: Sink>(kind: &Kind, page: &mut Page, sink: &mut K)
+pub fn write_kind<K: Sink>(kind: &Kind, page: &mut Page, sink: &mut K)
     ensures { Adds (K.seen sink.old) page.old (K.seen sink.new) page.new (codes " " ++ kind_text kind.now) }
 {
     match kind {
@@ -39,8 +39,8 @@ fn write_kind<K: Sink>(kind: &Kind, page: &mut Page, sink: &mut K)
     }
 }
 
-/// Writes the line of an entry.
-pub(crate) fn write_entry<K: Sink>(number: u64, entry: &Shown<'_>, page: &mut Page, sink: &mut K)
+/// Writes the line of an entry, which is numbered from 1.
+pub fn write_entry<K: Sink>(number: u64, entry: &Shown<'_>, page: &mut Page, sink: &mut K)
     ensures { Adds (K.seen sink.old) page.old (K.seen sink.new) page.new (entry_text number (entry_shown entry.now)) }
 {
     page.number(sink, number);

@@ -6,7 +6,7 @@ ghost use Rattle.history_text.specs.Events.{event_text, events_text};
 use daemon_manager::Event;
 use file_access::{Page, Sink};
 
-/// Writes a word, a number and another word.
+// Writes a word, a number and another word.
 fn write_between<K: Sink>(word: &[u8], number: u64, behind: &[u8], page: &mut Page, sink: &mut K)
     ensures { Adds (K.seen sink.old) page.old (K.seen sink.new) page.new (word.now ++ decimal number ++ behind.now) }
 {
@@ -15,7 +15,7 @@ fn write_between<K: Sink>(word: &[u8], number: u64, behind: &[u8], page: &mut Pa
     page.text(sink, behind);
 }
 
-/// Writes the line of an event.
+// Writes the line of an event.
 fn write_event<K: Sink>(event: &Event, page: &mut Page, sink: &mut K)
     ensures { Adds (K.seen sink.old) page.old (K.seen sink.new) page.new (event_text event.now) }
 {

@@ -34,7 +34,8 @@ pub(crate) fn write_head_lines<K: Sink>(
     page.text(sink, b"\n");
 }
 
-fn write_head<K: Sink>(book: &Book, parallel: bool, page: &mut Page, sink: &mut K)
+/// Writes the two lines before a book's entries.
+pub fn write_head<K: Sink>(book: &Book, parallel: bool, page: &mut Page, sink: &mut K)
     ensures { Adds (K.seen sink.old) page.old (K.seen sink.new) page.new
         (head_text book.now.graph.workers book.now.graph.max_leases parallel) }
 {
@@ -42,7 +43,8 @@ fn write_head<K: Sink>(book: &Book, parallel: bool, page: &mut Page, sink: &mut 
     write_head_lines(graph.workers(), graph.max_leases(), parallel, page, sink);
 }
 
-fn write_end<K: Sink>(book: &Book, page: &mut Page, sink: &mut K)
+/// Writes the line behind a book's entries.
+pub fn write_end<K: Sink>(book: &Book, page: &mut Page, sink: &mut K)
     ensures { Adds (K.seen sink.old) page.old (K.seen sink.new) page.new (end_text (length book.now.history)) }
 {
     page.text(sink, b"end ");

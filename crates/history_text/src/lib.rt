@@ -15,7 +15,10 @@ mod results;
 mod summaries;
 mod units;
 
+pub use changes::{write_effect, write_mark};
+pub use entries::{write_entry, write_kind};
 pub use events::write_events;
-pub use histories::write_history;
+pub use histories::{write_end, write_head, write_history};
 pub use laws::results_go_by_number;
+pub use outcomes::write_outcome;
 pub use results::write_results;

@@ -9,7 +9,7 @@ use file_access::{Page, Sink};
 use item_actions::Outcome;
 
 /// Writes an outcome as the history text spells it: its word, and a value where it has one.
-pub(crate) fn write_outcome<K: Sink>(outcome: &Outcome, page: &mut Page, sink: &mut K)
+pub fn write_outcome<K: Sink>(outcome: &Outcome, page: &mut Page, sink: &mut K)
     ensures { Adds (K.seen sink.old) page.old (K.seen sink.new) page.new (outcome_text outcome.now) }
 {
     page.text(sink, outcome.kind().word().as_bytes());
@@ -54,7 +54,7 @@ fn write_digest<K: Sink>(digest: &[u8; 32], page: &mut Page, sink: &mut K)
     }
 }
 
-/// The lower-case hexadecimal digit of a number below 16.
+// The lower-case hexadecimal digit of a number below 16.
 fn hex_digit(digit: u8) -> u8
     requires { digit < 16 }
     ensures { result ≡ digit_glyph false digit }

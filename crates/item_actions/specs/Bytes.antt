@@ -1,5 +1,6 @@
 -- Words, lines and needles in a list of bytes.
-use Rattle.std.specs.Prelude.{◌≢◌, ℕ, zero, suc, ◌+◌, ◌-◌, ◌<◌, Bool, true, ◌||◌, ◌&&◌, not, ◌==◌, nat_le, List, [], ◌∷◌, length, max, slice_index, count_by}
+use Rattle.std.specs.Prelude.{◌≢◌, ℕ, zero, suc, ◌+◌, ◌-◌, ◌<◌, Bool, true, ◌||◌, ◌&&◌, not, ◌==◌, nat_le, List, []}
+use Rattle.std.specs.Prelude.{◌∷◌, length, max, slice_index, count_by}
 use Rattle.std.specs.List.{range_with_len, prefix_len}
 use Rattle.memchr.specs.Find.{matches}
 

@@ -1,3 +1,4 @@
+//! The kinds of actions.
 ghost use Rattle.std.specs.Prelude.{◌≡◌};
 ghost use Rattle.item_actions.specs.Words.{kind_of_action, action_word, action_kind_of};
 

@@ -1,3 +1,4 @@
+//! The actions, and what each gives.
 ghost use Rattle.std.specs.Prelude.{◌≡◌};
 ghost use Rattle.item_actions.specs.Value.{act_on};
 

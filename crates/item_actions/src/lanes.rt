@@ -1,5 +1,6 @@
 //! Steps on vectors of 32 bytes.
-ghost use Rattle.std.specs.Prelude.{◌≡◌, ◌+◌, ◌-◌, ◌≤◌, ◌==◌, nat_le, nat_eq, bit_or, bit_and, bit_xor, length, slice_index, count_by, if◌then◌else◌};
+ghost use Rattle.std.specs.Prelude.{◌≡◌, ◌+◌, ◌-◌, ◌≤◌, ◌==◌, nat_le, nat_eq, bit_or, bit_and, bit_xor, length, slice_index};
+ghost use Rattle.std.specs.Prelude.{count_by, if◌then◌else◌};
 ghost use Rattle.memchr.specs.Lanes.{HasLanes};
 ghost use Rattle.item_actions.specs.Bytes.{is_space};
 

@@ -1,3 +1,4 @@
+//! The bytes whose places in a file the action `count` counts.
 ghost use Rattle.std.specs.Prelude.{◌≡◌, ◌<◌, ◌≤◌, ◌⊎◌, length, MatchOption};
 
 use crate::limits::MAX_NEEDLE_BYTES;

@@ -1,3 +1,4 @@
+//! The kinds of outcomes.
 ghost use Rattle.std.specs.Prelude.{◌≡◌};
 ghost use Rattle.item_actions.specs.Words.{kind_of_outcome, outcome_word, outcome_phrase, outcome_kind_of};
 

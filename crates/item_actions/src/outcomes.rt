@@ -1,3 +1,4 @@
+//! What became of a unit.
 ghost use Rattle.std.specs.Prelude.{◌≡◌};
 ghost use Rattle.item_actions.specs.Value.{passes};
 

@@ -1,3 +1,4 @@
+//! Texts, and why bytes are none.
 ghost use Rattle.std.specs.Prelude.{◌≡◌, ◌↔◌, IfOk, OnOk, IsUtf8};
 ghost use Rattle.std.specs.Result.{IsErrOf};
 

@@ -1,1 +1,2 @@
+mod Countings
 mod Coverings

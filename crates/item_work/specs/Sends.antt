@@ -1,10 +1,11 @@
--- What is sent for an item, by where it runs.
-use Rattle.std.specs.Prelude.{◌≡◌, ℕ, List, true}
+-- What is sent and read for an item, by where it runs.
+use Rattle.std.specs.Prelude.{◌≡◌, ℕ, List, Option, true}
 use Rattle.item_actions.specs.Forms.{is_file_name}
 use Rattle.item_actions.specs.declared.outcomes.Outcome.{Outcome}
 use Rattle.daemon_requirements.specs.declared.work.Isolation.{Isolation}
 use Rattle.daemon_requirements.specs.declared.work.Isolation.TheVariants.{InThread, Process}
 use Rattle.daemon_protocol.specs.declared.frames.Request.{Request}
+use Rattle.file_access.specs.ReadView.{and_read}
 use Rattle.item_work.specs.Requests.{SentView, Sends}
 
 -- the file of an item in a process has the form of a file's name
@@ -12,7 +13,12 @@ abbrev pub IsNamedFor : Isolation → List ℕ → Type 0
 IsNamedFor InThread file = Unit {0}
 IsNamedFor (Process asked) file = is_file_name file ≡ true
 
--- nothing for an item in the worker's own thread, and for one in a process what is sent to a daemon
+-- the file of an item in the worker's own thread is read once, and no file here for one in a process
+abbrev pub ReadsFileFor : Isolation → Option ℕ → Option ℕ → Type 0
+ReadsFileFor InThread old new = new ≡ and_read old
+ReadsFileFor (Process asked) old new = new ≡ old
+
+-- nothing is sent for an item in the worker's own thread, and for one in a process what is sent to a daemon
 abbrev pub SendsFor : Isolation → SentView → SentView → Request → Outcome → Type 0
 SendsFor InThread old new request outcome = new ≡ old
 SendsFor (Process asked) old new request outcome = Sends asked old new request outcome

@@ -1,9 +1,8 @@
 //! The calls of the pool behind its lock, which is held for one call at a time: a daemon starts and works without it.
-ghost use Rattle.std.specs.Prelude.{◌≡◌, ◌≤◌, IfErr, IfOk, IfSome, MatchResult, false, true};
-ghost use Rattle.std.specs.Result.{IsErrOf};
+ghost use Rattle.std.specs.Prelude.{◌≡◌, IfErr, IfOk, IfSome, MatchResult, false, true};
 ghost use Rattle.daemon_requirements.specs.Covers.{Covers};
 ghost use Rattle.daemon_manager.specs.Counts.{after_search, and_failed, and_reserved};
-ghost use Rattle.file_access.specs.SinkView.{Rises};
+ghost use Rattle.file_access.specs.ReadView.{IsFaultCounted};
 
 use daemon_desk::Desk;
 use daemon_manager::{CountedPool, Reserved, Tally};
@@ -31,8 +30,8 @@ pub(crate) fn reserve<R: Wait, D: Desk, U: Ledger, F: Ledger>(
     ensures covers { IfOk result (λ reserved. Covers (D.Link.requirements reserved.link) asked.now) }
     ensures settled { IfOk result (λ reserved. D.Link.settled reserved.link ≡ true) }
     ensures files { D.files desk.new ≡ D.files desk.old }
-    ensures kept { D.faults desk.old ≤ D.faults desk.new }
-    ensures failed { IsErrOf result DeskFail.Failed → Rises (D.faults desk.old) (D.faults desk.new) }
+    ensures reads { D.reads desk.new ≡ D.reads desk.old }
+    ensures faults { IsFaultCounted (D.faults desk.old) (D.faults desk.new) result }
     ensures sends { D.sends desk.new ≡ D.sends desk.old }
     ensures sent { D.sent desk.new ≡ D.sent desk.old }
     ensures counted { MatchResult result (λ _. mine.new ≡ and_reserved mine.old) (λ _. mine.new ≡ mine.old) }
@@ -43,7 +42,7 @@ pub(crate) fn reserve<R: Wait, D: Desk, U: Ledger, F: Ledger>(
     }
 }
 
-/// Starts a daemon, reserved for the unit.
+// Starts a daemon, reserved for the unit.
 fn start<R: Wait, D: Desk, U: Ledger, F: Ledger>(
     rt: &R,
     alloc: Global,
@@ -56,8 +55,8 @@ fn start<R: Wait, D: Desk, U: Ledger, F: Ledger>(
     ensures made { IfOk result (λ reserved. D.Link.requirements reserved.link ≡ asked.now) }
     ensures settled { IfOk result (λ reserved. D.Link.settled reserved.link ≡ true) }
     ensures files { D.files desk.new ≡ D.files desk.old }
-    ensures kept { D.faults desk.old ≤ D.faults desk.new }
-    ensures failed { IsErrOf result DeskFail.Failed → Rises (D.faults desk.old) (D.faults desk.new) }
+    ensures reads { D.reads desk.new ≡ D.reads desk.old }
+    ensures faults { IsFaultCounted (D.faults desk.old) (D.faults desk.new) result }
     ensures sends { D.sends desk.new ≡ D.sends desk.old }
     ensures sent { D.sent desk.new ≡ D.sent desk.old }
     ensures counted { MatchResult result (λ _. mine.new ≡ and_reserved mine.old) (λ _. mine.new ≡ mine.old) }
@@ -67,7 +66,7 @@ fn start<R: Wait, D: Desk, U: Ledger, F: Ledger>(
     adopt_or_stop(rt, desk, pool, mine, link, requirements, unit)
 }
 
-/// Takes a daemon in that was started with these requirements. Where there is no memory to keep it, it is stopped.
+// Takes a daemon in that was started with these requirements. Where there is no memory to keep it, it is stopped.
 fn adopt_or_stop<R: Wait, D: Desk, U: Ledger, F: Ledger>(
     rt: &R,
     desk: &mut D,
@@ -81,6 +80,7 @@ fn adopt_or_stop<R: Wait, D: Desk, U: Ledger, F: Ledger>(
     ensures adopted { IfOk result (λ reserved. reserved.link ≡ link) }
     ensures stopped { IfErr result (λ fail. fail ≡ DeskFail.NoMemory) }
     ensures files { D.files desk.new ≡ D.files desk.old }
+    ensures reads { D.reads desk.new ≡ D.reads desk.old }
     ensures faults { D.faults desk.new ≡ D.faults desk.old }
     ensures sends { D.sends desk.new ≡ D.sends desk.old }
     ensures sent { D.sent desk.new ≡ D.sent desk.old }
@@ -95,7 +95,7 @@ fn adopt_or_stop<R: Wait, D: Desk, U: Ledger, F: Ledger>(
     }
 }
 
-/// Reserves the last released idle daemon that covers what is asked, if one does.
+// Reserves the last released idle daemon that covers what is asked, if one does.
 fn reserve_idle<R: Wait, L: Linked, U: Ledger, F: Ledger>(
     rt: &R,
     pool: &PoolLock<L, U, F>,
@@ -110,7 +110,7 @@ fn reserve_idle<R: Wait, L: Linked, U: Ledger, F: Ledger>(
     pool.lock(rt).reserve_idle(mine, unit, asked)
 }
 
-/// Takes a daemon in that was started with these requirements. Where there is no memory its link comes back.
+// Takes a daemon in that was started with these requirements. Where there is no memory its link comes back.
 fn adopt<R: Wait, L: Linked, U: Ledger, F: Ledger>(
     rt: &R,
     pool: &PoolLock<L, U, F>,

@@ -1,11 +1,11 @@
-ghost use Rattle.std.specs.Prelude.{◌≡◌, ◌≢◌, ◌≤◌, Contains, IfSome};
+ghost use Rattle.std.specs.Prelude.{◌≡◌, ◌≢◌, Contains, IfSome};
 ghost use Rattle.item_actions.specs.Value.{IsHonest, value_on};
 ghost use Rattle.item_actions.specs.declared.outcomes.Outcome.TheVariants as outcomes;
 ghost use Rattle.resource_lock.specs.declared.marks.MarkId.TheVariants as ids;
 ghost use Rattle.coordination.specs.Shown.{claimed_shown};
-ghost use Rattle.file_access.specs.SinkView.{Rises};
+ghost use Rattle.file_access.specs.ReadView.{IsOutcomeCounted, and_read};
 ghost use Rattle.item_work.specs.Requests.{request_for};
-ghost use Rattle.item_work.specs.Sends.{IsNamedFor, SendsFor};
+ghost use Rattle.item_work.specs.Sends.{IsNamedFor, ReadsFileFor, SendsFor};
 ghost use Rattle.item_work.specs.Tallying.{TalliesFor};
 
 use crate::daemons::PoolLock;
@@ -25,11 +25,12 @@ use std::sync::ledger::Ledger;
 /// The pass of the lease has claimed the item. While the item runs the lease borrows the pass, so the
 /// worker takes part in no transform. The file of an item in a process has the form of a file's name.
 /// Where the files are known the outcome is the action's value on them, NotThere or TooLong; else Fault,
-/// where the desk failed and its count of faults rose, or NoMemory.
+/// where the desk failed, or NoMemory. The desk's count of faults rises by one at Fault, and at no other
+/// outcome.
 ///
-/// For an item in the worker's own thread nothing is sent, and the worker's tally stays as it is. For one
-/// in a process at most one request is sent, this unit's, to a daemon that covers what is asked; it is sent
-/// where the outcome is neither Fault nor NoMemory. The tally rises by the daemon that was reserved, one at
+/// For an item in the worker's own thread its file is read once, nothing is sent, and the worker's tally
+/// stays as it is. For one in a process no file is read here. At most one request is sent, this unit's, to a
+/// daemon that covers what is asked; it is sent where the outcome is neither Fault nor NoMemory. The tally rises by the daemon that was reserved, one at
 /// least for a request that was sent and one at most, and by the daemon that failed: none where the outcome
 /// is neither Fault nor NoMemory, and else one at most.
 pub fn run_item<R: Wait, D: Desk, U: Ledger, F: Ledger>(
@@ -45,9 +46,9 @@ pub fn run_item<R: Wait, D: Desk, U: Ledger, F: Ledger>(
     requires claimed { Contains (claimed_shown lease.now.sight) (ids.Unit unit) }
     requires form { IsNamedFor work.now.isolation work.now.file }
     ensures files { D.files desk.new ≡ D.files desk.old }
-    ensures kept { D.faults desk.old ≤ D.faults desk.new }
+    ensures reads { ReadsFileFor work.now.isolation (D.reads desk.old) (D.reads desk.new) }
     ensures ran { result ≢ outcomes.Skipped }
-    ensures fault { result ≡ outcomes.Fault → Rises (D.faults desk.old) (D.faults desk.new) }
+    ensures faults { IsOutcomeCounted (D.faults desk.old) (D.faults desk.new) result }
     ensures honest { IfSome (D.files desk.old) (λ known. IsHonest result (value_on known work.now.action work.now.file)) }
     ensures sent { SendsFor work.now.isolation (record { count = D.sends desk.old; requests = D.sent desk.old })
         (record { count = D.sends desk.new; requests = D.sent desk.new }) (request_for unit work.now) result }
@@ -62,9 +63,9 @@ pub fn run_item<R: Wait, D: Desk, U: Ledger, F: Ledger>(
 // Works an action out on a file in the worker's own thread, which sends nothing.
 fn work_in_thread<D: Desk>(alloc: Global, desk: &mut D, action: &ItemAction, file: &Text) -> Outcome
     ensures files { D.files desk.new ≡ D.files desk.old }
-    ensures kept { D.faults desk.old ≤ D.faults desk.new }
+    ensures read { D.reads desk.new ≡ and_read (D.reads desk.old) }
     ensures ran { result ≢ outcomes.Skipped }
-    ensures fault { result ≡ outcomes.Fault → Rises (D.faults desk.old) (D.faults desk.new) }
+    ensures faults { IsOutcomeCounted (D.faults desk.old) (D.faults desk.new) result }
     ensures honest { IfSome (D.files desk.old) (λ known. IsHonest result (value_on known action.now file.now)) }
     ensures sends { D.sends desk.new ≡ D.sends desk.old }
     ensures sent { D.sent desk.new ≡ D.sent desk.old }

@@ -1,13 +1,13 @@
 //! An item that a daemon works out.
 ghost use Rattle.std.specs.Prelude.{◌≡◌, ◌≢◌, ◌≤◌, ◌+◌, IfOk, IfSome, MatchBool, true};
-ghost use Rattle.std.specs.Result.{IsErrOf, is_ok};
+ghost use Rattle.std.specs.Result.{is_ok};
 ghost use Rattle.item_actions.specs.Forms.{is_file_name};
 ghost use Rattle.item_actions.specs.Value.{IsHonest, value_on};
 ghost use Rattle.item_actions.specs.declared.outcomes.Outcome.TheVariants as outcomes;
 ghost use Rattle.daemon_requirements.specs.Covers.{Covers};
 ghost use Rattle.daemon_manager.specs.Counts.{and_failed};
 ghost use Rattle.daemon_desk.specs.Replies.{IsReplyTo};
-ghost use Rattle.file_access.specs.SinkView.{Rises};
+ghost use Rattle.file_access.specs.ReadView.{IsFaultCounted, IsOutcomeCounted};
 ghost use Rattle.item_work.specs.Requests.{Asks, Sends, request_for};
 ghost use Rattle.item_work.specs.Tallying.{TallyRises, one_if_err, one_if_unreal};
 
@@ -39,9 +39,9 @@ pub(crate) fn work_in_daemon<R: Wait, D: Desk, U: Ledger, F: Ledger>(
 ) -> Outcome
     requires form { is_file_name work.now.file ≡ true }
     ensures files { D.files desk.new ≡ D.files desk.old }
-    ensures kept { D.faults desk.old ≤ D.faults desk.new }
+    ensures reads { D.reads desk.new ≡ D.reads desk.old }
     ensures ran { result ≢ outcomes.Skipped }
-    ensures fault { result ≡ outcomes.Fault → Rises (D.faults desk.old) (D.faults desk.new) }
+    ensures faults { IsOutcomeCounted (D.faults desk.old) (D.faults desk.new) result }
     ensures honest { IfSome (D.files desk.old) (λ known. IsHonest result (value_on known work.now.action work.now.file)) }
     ensures sent { Sends asked.now (record { count = D.sends desk.old; requests = D.sent desk.old })
         (record { count = D.sends desk.new; requests = D.sent desk.new }) (request_for unit work.now) result }
@@ -80,8 +80,8 @@ fn ask_daemon<R: Wait, D: Desk, U: Ledger, F: Ledger>(
 ) -> Result<Reply, DeskFail>
     requires { is_file_name request.now.file ≡ true }
     ensures files { D.files desk.new ≡ D.files desk.old }
-    ensures kept { D.faults desk.old ≤ D.faults desk.new }
-    ensures failed { IsErrOf result DeskFail.Failed → Rises (D.faults desk.old) (D.faults desk.new) }
+    ensures reads { D.reads desk.new ≡ D.reads desk.old }
+    ensures faults { IsFaultCounted (D.faults desk.old) (D.faults desk.new) result }
     ensures reply { IfOk result (λ reply. IsReplyTo (D.files desk.old) request.now reply) }
     ensures sent { Asks (record { count = D.sends desk.old; requests = D.sent desk.old })
         (record { count = D.sends desk.new; requests = D.sent desk.new }) asked.now request.now result }
@@ -105,6 +105,7 @@ fn give_back<R: Wait, D: Desk, U: Ledger, F: Ledger>(
 )
     requires { D.Link.settled reserved.link ≡ answered }
     ensures files { D.files desk.new ≡ D.files desk.old }
+    ensures reads { D.reads desk.new ≡ D.reads desk.old }
     ensures faults { D.faults desk.new ≡ D.faults desk.old }
     ensures sends { D.sends desk.new ≡ D.sends desk.old }
     ensures sent { D.sent desk.new ≡ D.sent desk.old }
@@ -134,8 +135,8 @@ fn ask<D: Desk>(
     requires settled { D.Link.settled link.old ≡ true }
     ensures settled { D.Link.settled link.new ≡ is_ok result }
     ensures files { D.files desk.new ≡ D.files desk.old }
-    ensures kept { D.faults desk.old ≤ D.faults desk.new }
-    ensures failed { IsErrOf result DeskFail.Failed → Rises (D.faults desk.old) (D.faults desk.new) }
+    ensures reads { D.reads desk.new ≡ D.reads desk.old }
+    ensures faults { IsFaultCounted (D.faults desk.old) (D.faults desk.new) result }
     ensures reply { IfOk result (λ reply. IsReplyTo (D.files desk.old) request.now reply) }
     ensures sent { Asks (record { count = D.sends desk.old; requests = D.sent desk.old })
         (record { count = D.sends desk.new; requests = D.sent desk.new }) asked.now request.now result }

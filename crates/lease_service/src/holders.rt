@@ -1,3 +1,4 @@
+//! Taking leases and locks, and handing them back.
 ghost use Rattle.std.specs.Prelude.{◌≡◌, ◌≢◌, ◌⊎◌, [], Err, Ok, OnErr, OnOk, true, false};
 ghost use Rattle.resource_lock.specs.declared.ids.WorkerId.{WorkerId};
 ghost use Rattle.lock_transforms.specs.Allowed.{IsFixedList};

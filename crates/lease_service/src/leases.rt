@@ -1,3 +1,4 @@
+//! The lease of a pass.
 ghost use Rattle.std.specs.Prelude.{◌≡◌, ◌↔◌, IfSome, IsSome, true};
 ghost use Rattle.coordination.specs.Shown.{lease_shown};
 

@@ -36,53 +36,45 @@ impl<T: Drop> From<AllocFailed<T>> for Hindrance {
     }
 }
 
-/// How the program was called.
-#[derive(Drop)]
-struct Call {
-    /// The name that it was called by, which starts it again as a worker. It is empty where there was none.
-    program: Text,
-    /// The words after it.
-    words: Vec<Text>,
-}
+/// The system's own link to the running program, by which it is started again as a worker. It leads there also where the program's
+/// file was moved or replaced, and by whatever name the program was called.
+const RUNNING_PROGRAM: &str = "/proc/self/exe";
 
-/// Reads how the program was called.
-fn read_call(rt: &HostRuntime, alloc: Global) -> Result<Call, Hindrance> {
+// Reads the words that the program was called with, behind its own name.
+fn read_words(rt: &HostRuntime, alloc: Global) -> Result<Vec<Text>, Hindrance> {
     let mut args = match env::args(rt) {
         Ok(args) => args,
         Err(error) if error.kind() == ErrorKind::OutOfMemory => return Err(Hindrance::Memory),
         Err(_) => return Err(Hindrance::Words),
     };
-    let program = match args.next() {
-        Some(arg) => Text::from_str(alloc, arg.as_str())?,
-        None => Text::from_str(alloc, "")?,
-    };
+    let _ = args.next();
     let mut words = Vec::new(alloc);
     for arg in args {
         words.push(Text::from_str(alloc, arg.as_str())?)?;
     }
-    Ok(Call { program, words })
+    Ok(words)
 }
 
-/// The desks of the current folder. Daemons that are asked for as `self` are this program.
+// The desks of the current folder. Daemons that are asked for as `self` are this program.
 fn desks<'a>(
     rt: &'a HostRuntime,
     alloc: Global,
-    program: &Text,
 ) -> Result<Vec<FolderDesk<&'a HostRuntime>>, Hindrance>
     ensures { IfOk result (λ desks. length desks.items ≡ DESKS) }
 {
     let mut desks = Vec::with_capacity(alloc, DESKS)?;
     for _ in 0..DESKS {
-        desks.push(FolderDesk::new(rt, alloc, program.copy(alloc)?))?;
+        let program = Text::from_str(alloc, RUNNING_PROGRAM)?;
+        desks.push(FolderDesk::new(rt, alloc, program))?;
     }
     Ok(desks)
 }
 
-/// Does what the words ask for.
+// Does what the words ask for.
 fn run<T: Threads + Wait + Sync>(rt: &HostRuntime, threads: &T) -> Result<Status, Hindrance> {
     let alloc = rt.alloc();
-    let Call { program, words } = read_call(rt, alloc)?;
-    let mut desks = desks(rt, alloc, &program)?;
+    let words = read_words(rt, alloc)?;
+    let mut desks = desks(rt, alloc)?;
     let mut input = StdSource::new(rt.stdin());
     let mut out = StdSink::new(io::writer(rt));
     let ended = leases(

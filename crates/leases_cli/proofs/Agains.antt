@@ -16,7 +16,7 @@ use Rattle.recorded_run.specs.Driving.{DrivesInput, HasDriven, IsAgain, IsAgainC
 use Rattle.recorded_run.specs.declared.again.Again.{Again}
 use Rattle.recorded_run.specs.declared.again.Again.TheVariants as again
 use Rattle.leases_cli.specs.Again.{AnyRead, HasOnlyRead}
-use Rattle.leases_cli.proofs.Commands.{same_view}
+use Rattle.build_runner.proofs.lemmas.SentViews.{same_view}
 
 -- ---- its files were read; here it isn't told which
 

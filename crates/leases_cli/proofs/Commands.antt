@@ -1,11 +1,9 @@
 -- What a call answers before a command is carried out, and what is known of its desks.
-use Rattle.std.proofs.Common.{◌≡◌, ◌≤◌, ℕ, zero, suc, inl, inr, List, [], ◌∷◌, length, drop, Option, None, Some, refl, sym, ◌∙◌, ap, subst, arith}
+use Rattle.std.proofs.Common.{◌≡◌, ◌≤◌, inl, inr, List, [], ◌∷◌, length, Option, None, Some, refl, sym, subst, arith}
 use Rattle.std.proofs.KnownBytes.{Consumes-nil}
 use Rattle.lock_journal.specs.BookView.{BookView}
 use Rattle.file_access.proofs.lemmas.Printing.{wrote_nothing}
 use Rattle.daemon_manager.specs.declared.events.Event.{Event}
-use Rattle.daemon_desk.specs.declared.sent.SentRequest.{SentRequest}
-use Rattle.item_work.specs.Requests.{SentView}
 use Rattle.command_words.specs.Failing.{NoMemoryOr}
 use Rattle.command_words.specs.Reading.{IsBounded}
 use Rattle.command_words.specs.declared.commands.Command.{Command}
@@ -62,20 +60,6 @@ pub no_memory_answered : (command : Option Command) (o : Around) (status : Statu
 no_memory_answered command o status book events without is =
     subst (λ (b : Option BookView). Answered command (record { before = o; after = o; status = status; book = b; events = events })) (sym without)
     (subst (λ (s : Status). Answered command (record { before = o; after = o; status = s; book = None; events = events })) (sym is) (at_no_memory command o events))
-
-drop_behind : {D : Type 0} (n : ℕ) (desks : List D) → drop (suc n) desks ≡ drop n (drop 1 desks)
-drop_behind zero [] = refl
-drop_behind (suc n) [] = refl
-drop_behind n (desk ∷ desks) = refl
-
--- what stands behind the first n is as before, where it is behind the first
-pub drop_more : {D : Type 0} (n : ℕ) (old new : List D) → 1 ≤ n → drop 1 new ≡ drop 1 old → drop n new ≡ drop n old
-drop_more zero old new some rest = absurd (omega (arith, some))
-drop_more (suc n) old new some rest = drop_behind n new ∙ (ap (drop n) rest ∙ sym (drop_behind n old))
-
--- so many requests were sent as before, and the same
-pub same_view : {a b : ℕ} {x y : Option (List SentRequest)} → a ≡ b → x ≡ y → ◌≡◌ {A = SentView} (record { count = a; requests = x }) (record { count = b; requests = y })
-same_view is are = cc
 
 -- one of the desks
 pub some_desk : {D : Type 0} (desks : List D) → 1 ≤ length desks → D

@@ -1,5 +1,6 @@
 -- What a call answers, and why.
-use Rattle.std.specs.Prelude.{ℕ, ◌≡◌, ◌+◌, ◌≤◌, ◌⊎◌, Bool, true, false, if◌then◌else◌, List, [], ◌++◌, length, sum_by, Option, None, Some, Box}
+use Rattle.std.specs.Prelude.{ℕ, ◌≡◌, ◌+◌, ◌≤◌, ◌⊎◌, Bool, true, false, if◌then◌else◌, List, [], ◌++◌, length}
+use Rattle.std.specs.Prelude.{sum_by, Option, None, Some, Box}
 use Rattle.std.specs.List.{list_all, range_with_len}
 use Rattle.std.specs.declared.alloc.Global.{Global}
 use Rattle.item_actions.specs.Files.{Folder}
@@ -18,10 +19,11 @@ use Rattle.plan_reader.specs.Units.{unit_value}
 use Rattle.history_laws.specs.Answers.{answers}
 use Rattle.history_laws.specs.ByNumber.{outcome_by}
 use Rattle.history_laws.specs.Outcomes.{task_outcome}
-use Rattle.daemon_manager.specs.Counts.{reservations}
+use Rattle.daemon_manager.specs.Counts.{failures, reservations}
 use Rattle.daemon_manager.specs.Events.{IsLegal, NoneIdle}
 use Rattle.daemon_manager.specs.declared.events.Event.{Event}
 use Rattle.build_runner.specs.Desks.{DeskView, known_by}
+use Rattle.build_runner.specs.Failing.{unreal_of}
 use Rattle.build_runner.specs.Run.{IsRunOf, WasBrokenOff, depth}
 use Rattle.build_runner.specs.declared.options.RunOptions.{RunOptions}
 use Rattle.history_text.specs.Events.{events_text}
@@ -49,11 +51,12 @@ abbrev pub sent_by_first : ℕ → (ℕ → DeskView) → ℕ
 sent_by_first n desks = sum_by (λ i. (desks i).sent.count) (range_with_len 0 n)
 
 -- The book is that of a run of this plan, which stands under the name that is asked for, with the options asked for. At least as
--- many daemons were reserved as its desks sent requests.
+-- many daemons were reserved as its desks sent requests, and no more failed than its workers closed units as a fault or without memory.
 pub record IsNamedRun (asked : RunWords) (c : Call) (plan : PlanView) (b : BookView) : Type 0 where
   pub named : IsFileOf (c.before.desks 0).files asked.plan plan
   pub run : IsRunOf plan (options_of asked) c.before.desks c.after.desks b
   pub reserved : sent_by_first asked.threads c.after.desks ≤ sent_by_first asked.threads c.before.desks + reservations c.events
+  pub failed : failures c.events ≤ unreal_of asked.threads b.history
 
 -- What each unit gives, for what is printed: by its file, where the files are known, but for the units that met a fault or
 -- want of memory. Where they aren't known, what its closing entry says.

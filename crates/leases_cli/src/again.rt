@@ -15,7 +15,7 @@ use item_actions::Text;
 use recorded_run::{Again, drive_input};
 use std::alloc::Global;
 
-/// Prints that a run of so many entries would give the same. It takes no memory.
+// Prints that a run of so many entries would give the same. It takes no memory.
 fn print_same<O: Sink>(entries: u64, out: &mut O) -> Result<(), Failed>
     ensures { Prints (O.seen out.old) (O.seen out.new) (same_line entries) result }
 {
@@ -26,7 +26,7 @@ fn print_same<O: Sink>(entries: u64, out: &mut O) -> Result<(), Failed>
     page.end(out)
 }
 
-/// Prints that, and says how that ended.
+// Prints that, and says how that ended.
 fn told_same<O: Sink>(entries: u64, out: &mut O) -> Status
     ensures { IsLineOf status.Passed (same_line entries) (O.seen out.old) (O.seen out.new) result }
 {
@@ -36,7 +36,7 @@ fn told_same<O: Sink>(entries: u64, out: &mut O) -> Status
     }
 }
 
-/// Prints what the run came to, and says how that ended.
+// Prints what the run came to, and says how that ended.
 fn told_again<O: Sink>(found: &Result<Again, CheckFail>, out: &mut O) -> Status
     ensures { IsAgainTold found.now (O.seen out.old) (O.seen out.new) result }
 {

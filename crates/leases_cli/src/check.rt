@@ -14,7 +14,7 @@ use history_check::{CheckFail, Checked, check_input};
 use item_actions::Text;
 use std::alloc::Global;
 
-/// Prints that so many entries are lawful. It takes no memory.
+// Prints that so many entries are lawful. It takes no memory.
 fn print_lawful<O: Sink>(entries: u64, out: &mut O) -> Result<(), Failed>
     ensures { Prints (O.seen out.old) (O.seen out.new) (lawful_line entries) result }
 {
@@ -25,7 +25,7 @@ fn print_lawful<O: Sink>(entries: u64, out: &mut O) -> Result<(), Failed>
     page.end(out)
 }
 
-/// Prints that so many entries are lawful, and says how that ended.
+// Prints that so many entries are lawful, and says how that ended.
 fn told_lawful<O: Sink>(entries: u64, out: &mut O) -> Status
     ensures { IsLineOf status.Passed (lawful_line entries) (O.seen out.old) (O.seen out.new) result }
 {
@@ -35,7 +35,7 @@ fn told_lawful<O: Sink>(entries: u64, out: &mut O) -> Status
     }
 }
 
-/// Prints what was found, and says how that ended.
+// Prints what was found, and says how that ended.
 fn told_found<O: Sink>(found: Result<Checked, CheckFail>, out: &mut O) -> Status
     ensures { IsFoundTold found (O.seen out.old) (O.seen out.new) result }
 {

@@ -24,7 +24,7 @@ fn excess_label(which: Which) -> &'static [u8]
     }
 }
 
-/// The number and the name of a refusal.
+// The number and the name of a refusal.
 fn label_of(refusal: PlanRefusal) -> &'static [u8]
     ensures { result.now ≡ label_of refusal }
 {
@@ -99,7 +99,7 @@ fn write_not_read<K: Sink>(unit: u32, page: &mut Page, sink: &mut K)
     page.text(sink, b"\n");
 }
 
-/// Writes the line of a refusal. The other statuses have none.
+// Writes the line of a refusal. The other statuses have none.
 fn write_refusal<K: Sink>(refusal: &Status, page: &mut Page, sink: &mut K)
     ensures { Adds (K.seen sink.old) page.old (K.seen sink.new) page.new (line_of refusal.now) }
 {
@@ -120,7 +120,7 @@ fn write_refusal<K: Sink>(refusal: &Status, page: &mut Page, sink: &mut K)
     }
 }
 
-/// Prints the line of a refusal.
+// Prints the line of a refusal.
 fn print_refusal<K: Sink>(refusal: &Status, sink: &mut K) -> Result<(), Failed>
     ensures { Prints (K.seen sink.old) (K.seen sink.new) (line_of refusal.now) result }
 {

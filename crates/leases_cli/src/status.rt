@@ -1,3 +1,4 @@
+//! The statuses that the program ends with.
 ghost use Rattle.std.specs.Prelude.{◌≡◌};
 ghost use Rattle.leases_cli.specs.Lines.{number_of};
 

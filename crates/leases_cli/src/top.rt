@@ -1,4 +1,6 @@
-ghost use Rattle.std.specs.Prelude.{◌≡◌, ◌≢◌, ◌≤◌, ℕ, true, false, [], List, Option, Some, None, IfOk, IfErr, length, drop, get_or, min, if◌then◌else◌};
+//! The program's call.
+ghost use Rattle.std.specs.Prelude.{◌≡◌, ◌≢◌, ◌≤◌, ℕ, true, false, [], List, Option, Some, None, IfOk, IfErr, length, drop};
+ghost use Rattle.std.specs.Prelude.{get_or, min, if◌then◌else◌};
 ghost use Rattle.std.specs.List.{list_all, range_with_len};
 ghost use Rattle.resource_lock.specs.StateView.{mark_of};
 ghost use Rattle.resource_lock.specs.declared.marks.MarkId.TheVariants as ids;
@@ -64,7 +66,7 @@ pub struct Ended {
     pub events: Vec<Event>,
 }
 
-/// The plan of this name by the first desk, or the refusal. No request is sent.
+// The plan of this name by the first desk, or the refusal. No request is sent.
 fn read_first<D: Desk>(alloc: Global, name: &Text, desks: &mut Vec<D>) -> Result<Plan, Status>
     requires { 1 ≤ length desks.old.items }
     ensures places { length desks.new.items ≡ length desks.old.items }
@@ -80,7 +82,7 @@ fn read_first<D: Desk>(alloc: Global, name: &Text, desks: &mut Vec<D>) -> Result
     read(alloc, name, &mut desks[0])
 }
 
-/// Writes the history of a run, where the words ask for it.
+// Writes the history of a run, where the words ask for it.
 fn write_history_asked<O: Sink>(asked: &RunWords, book: &Book, page: &mut Page, out: &mut O)
     ensures { Adds (O.seen out.old) page.old (O.seen out.new) page.new (history_asked asked.now book.now) }
 {
@@ -89,7 +91,7 @@ fn write_history_asked<O: Sink>(asked: &RunWords, book: &Book, page: &mut Page, 
     }
 }
 
-/// Writes what happened to the daemons of a run, where the words ask for it.
+// Writes what happened to the daemons of a run, where the words ask for it.
 fn write_events_asked<O: Sink>(asked: &RunWords, events: &[Event], page: &mut Page, out: &mut O)
     ensures { Adds (O.seen out.old) page.old (O.seen out.new) page.new (events_asked asked.now events.now) }
 {
@@ -98,7 +100,7 @@ fn write_events_asked<O: Sink>(asked: &RunWords, events: &[Event], page: &mut Pa
     }
 }
 
-/// Prints what the words ask for of a run.
+// Prints what the words ask for of a run.
 fn print_run<O: Sink>(
     asked: &RunWords,
     plan: &Plan,
@@ -117,7 +119,7 @@ fn print_run<O: Sink>(
     page.end(out)
 }
 
-/// Whether each of the first so many tasks has passed.
+// Whether each of the first so many tasks has passed.
 fn have_passed(state: &State, tasks: u32) -> bool
     requires { tasks ≤ length state.now.tasks }
     ensures { result ≡ list_all (λ t. has_passed (mark_of state.now (ids.Task t))) (range_with_len 0 tasks) }
@@ -125,14 +127,14 @@ fn have_passed(state: &State, tasks: u32) -> bool
     (0..tasks).all(|task| state.mark(MarkId::Task(task)) == Mark::Passed)
 }
 
-/// Whether every task has passed.
+// Whether every task has passed.
 fn all_passed(book: &Book) -> bool
     ensures { result ≡ have_all_passed book.now }
 {
     have_passed(book.state(), book.graph().tasks().len() as u32)
 }
 
-/// Prints a run, and says how it went.
+// Prints a run, and says how it went.
 fn report<O: Sink>(asked: &RunWords, plan: &Plan, end: RunEnd, out: &mut O) -> Ended
     requires tasks { length end.book.value.graph.tasks ≡ length plan.now.tasks }
     requires units { end.book.value.graph.units ≡ length (plan_units plan.now) }
@@ -158,7 +160,7 @@ fn report<O: Sink>(asked: &RunWords, plan: &Plan, end: RunEnd, out: &mut O) -> E
     }
 }
 
-/// The end of a call in which no run ended.
+// The end of a call in which no run ended.
 fn without_run(alloc: Global, status: Status) -> Ended
     ensures book { result.book ≡ None }
     ensures events { AreEventsOf (book_of result.book) result.events.items }
@@ -171,7 +173,7 @@ fn without_run(alloc: Global, status: Status) -> Ended
     }
 }
 
-/// Writes the line of a refusal.
+// Writes the line of a refusal.
 fn refuse<O: Sink>(alloc: Global, refusal: Status, out: &mut O) -> Ended
     ensures book { result.book ≡ None }
     ensures events { AreEventsOf (book_of result.book) result.events.items }
@@ -180,7 +182,7 @@ fn refuse<O: Sink>(alloc: Global, refusal: Status, out: &mut O) -> Ended
     without_run(alloc, told(refusal, out))
 }
 
-/// Writes the line of a refusal, but where there was no memory.
+// Writes the line of a refusal, but where there was no memory.
 fn refuse_plan<O: Sink>(alloc: Global, refusal: Status, out: &mut O) -> Ended
     ensures book { result.book ≡ None }
     ensures events { AreEventsOf (book_of result.book) result.events.items }
@@ -190,7 +192,7 @@ fn refuse_plan<O: Sink>(alloc: Global, refusal: Status, out: &mut O) -> Ended
     without_run(alloc, told_but_no_memory(refusal, out))
 }
 
-/// Prints a run of the plan, and says how it went by the plan.
+// Prints a run of the plan, and says how it went by the plan.
 fn report_run<O: Sink>(asked: &RunWords, plan: &Plan, end: RunEnd, out: &mut O) -> Ended
     requires run { (before : ℕ → DeskView) × (after : ℕ → DeskView) × IsRunOf plan.now (options_of asked.now) before after end.book.value }
     requires legal { IsLegal end.events.items }
@@ -209,8 +211,8 @@ fn report_run<O: Sink>(asked: &RunWords, plan: &Plan, end: RunEnd, out: &mut O) 
     report(asked, plan, end, out)
 }
 
-/// Reads a plan through the first desk, runs it on as many threads as the words say, each with a desk
-/// of its own, and prints.
+// Reads a plan through the first desk, runs it on as many threads as the words say, each with a desk
+// of its own, and prints.
 fn run<R: Threads + Wait + Sync, D: Desk + Send + Drop, G: Gate + Sync, O: Sink>(
     rt: &R,
     alloc: Global,
@@ -249,7 +251,7 @@ fn run<R: Threads + Wait + Sync, D: Desk + Send + Drop, G: Gate + Sync, O: Sink>
     }
 }
 
-/// Answers requests by the first desk.
+// Answers requests by the first desk.
 fn work<F: Files, I: Source, O: Sink>(
     alloc: Global,
     desks: &mut Vec<F>,
@@ -284,7 +286,7 @@ fn work<F: Files, I: Source, O: Sink>(
     without_run(alloc, serve_worker(alloc, &mut desks[0], input, out))
 }
 
-/// Checks a history against the plan of this name by the first desk.
+// Checks a history against the plan of this name by the first desk.
 fn check<D: Desk, I: Source, O: Sink>(
     alloc: Global,
     plan: &Text,
@@ -321,7 +323,7 @@ fn check<D: Desk, I: Source, O: Sink>(
     without_run(alloc, check_history(alloc, plan, &mut desks[0], input, out))
 }
 
-/// Drives a recorded run of the plan of this name again by the first desk.
+// Drives a recorded run of the plan of this name again by the first desk.
 fn again<D: Desk, I: Source, O: Sink>(
     alloc: Global,
     plan: &Text,
@@ -358,7 +360,7 @@ fn again<D: Desk, I: Source, O: Sink>(
     without_run(alloc, again_history(alloc, plan, &mut desks[0], input, out))
 }
 
-/// Carries a command out.
+// Carries a command out.
 fn perform<R: Threads + Wait + Sync, D: Desk + Send + Drop, I: Source, G: Gate + Sync, O: Sink>(
     rt: &R,
     alloc: Global,

@@ -90,7 +90,7 @@ fn a_seat_alone_sees_all(rt: HostRuntime) -> Result<(), Fail> {
 const WORKERS: u32 = 8;
 
 /// How many tickets each worker pushes.
-const EACH: u32 = 300;
+const EACH: u32 = 100_000;
 
 /// A worker with its seat, the number of its first unit, and the units that it has popped.
 #[derive(Drop)]
@@ -232,12 +232,17 @@ fn seats_of(
     Ok(seats)
 }
 
+/// That none of so many units came. Its contract says nothing, so that no proof writes out so long a list.
+fn none_yet(alloc: Global, units: u32) -> Result<Vec<bool>, AllocError> {
+    vec![in alloc; false; units as usize]
+}
+
 #[test]
 fn each_ticket_of_eight_seats_comes_once(rt: HostRuntime) -> Result<(), Fail> {
     let TicketsOpened { tickets, seats } = Tickets::open(rt.alloc(), 16, WORKERS)?;
     let mut workers = workers_of(rt.alloc(), &tickets, seats)?;
     work_in_threads(&rt, &tickets, &mut workers);
-    let mut came = vec![in rt.alloc(); false; (WORKERS * EACH) as usize]?;
+    let mut came = none_yet(rt.alloc(), WORKERS * EACH)?;
     for worker in &workers {
         assert!(rt;
             popped_in_order(&worker.popped, &mut came),

@@ -1,10 +1,12 @@
-ghost use Rattle.std.specs.Prelude.{◌≡◌, ◌↔◌, ◌<◌, ◌≤◌, ◌+◌, ◌⊎◌, true, [], List, length, IsTrue, Some, OnOk, OnErr, IfNone, IfOk, IfSome, All, slice_get};
+//! The book: a state, and the history of the transforms that made it.
+ghost use Rattle.std.specs.Prelude.{◌≡◌, ◌↔◌, ◌<◌, ◌≤◌, ◌+◌, ◌⊎◌, true, [], List, length, IsTrue, Some, OnOk, OnErr};
+ghost use Rattle.std.specs.Prelude.{IfNone, IfOk, IfSome, All, slice_get};
 ghost use Rattle.resource_lock.specs.Fits.{Fits};
 ghost use Rattle.resource_lock.specs.Good.{Good};
 ghost use Rattle.resource_lock.specs.Marks.{has_ended};
 ghost use Rattle.resource_lock.specs.Opening.{opening_of};
 ghost use Rattle.resource_lock.specs.Shape.{BelongsTo};
-ghost use Rattle.ready_work.specs.Choices.{CanSkip, CanStart, IsOpenUnit, IsQueued};
+ghost use Rattle.ready_work.specs.Choices.{CanSkip, CanStart, IsOpenUnit};
 ghost use Rattle.ready_work.specs.Lowest.{IsFrom, IsLowest, IsNone};
 ghost use Rattle.lock_journal.specs.BookView.{begun};
 ghost use Rattle.lock_transforms.specs.Entry.{replay};
@@ -72,7 +74,7 @@ impl Book {
         Book::begin(alloc, tentative, history)
     }
 
-    /// A book of a state that a run begins in, and of no entries.
+    // A book of a state that a run begins in, and of no entries.
     fn begin(alloc: Global, tentative: Tentative, history: History) -> Result<Book, AllocError>
         requires state { tentative.state ≡ opening_of tentative.graph }
         requires made { tentative.made ≡ [] }
@@ -145,14 +147,6 @@ impl Book {
             Mark::Skipped => Some(Outcome::Skipped),
             Mark::Waiting | Mark::Queued | Mark::Running(_) => None,
         }
-    }
-
-    /// The lowest unit that is queued.
-    pub fn lowest_queued(&self) -> Option<u32>
-        ensures some { IfSome result (IsLowest (IsQueued self.now.graph self.now.state)) }
-        ensures none { IfNone result (IsNone (IsQueued self.now.graph self.now.state)) }
-    {
-        self.ready.first_queued()
     }
 
     /// The lowest unit from a number on that hasn't ended.

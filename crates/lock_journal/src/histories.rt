@@ -1,4 +1,5 @@
-ghost use Rattle.std.specs.Prelude.{◌≡◌, ◌<◌, ◌≤◌, ◌+◌, ◌-◌, ◌⊎◌, ◌∷◌, ◌++◌, [], ℕ, length, take, IsTrue, Some, None, OnOk, OnErr, IfOk, IfSome, All, slice_get, slice_index_or};
+ghost use Rattle.std.specs.Prelude.{◌≡◌, ◌<◌, ◌≤◌, ◌+◌, ◌-◌, ◌⊎◌, ◌∷◌, ◌++◌, [], ℕ, length, take, IsTrue};
+ghost use Rattle.std.specs.Prelude.{Some, None, OnOk, OnErr, IfOk, IfSome, All, slice_get, slice_index_or};
 ghost use Rattle.lock_journal.specs.Bounds.{IsFitKind, IsFitOutcome};
 ghost use Rattle.lock_transforms.specs.Entry.{entry};
 ghost use Rattle.lock_journal.specs.Shown.{entry_shown};
@@ -204,7 +205,7 @@ impl History {
     }
 }
 
-/// The outcome of the closing at a place, or Skipped where there is none.
+// The outcome of the closing at a place, or Skipped where there is none.
 fn outcome_at(closings: &[Closed], place: usize) -> Outcome
     ensures { result ≡ (closing_at closings.now place).outcome }
 {
@@ -214,8 +215,8 @@ fn outcome_at(closings: &[Closed], place: usize) -> Outcome
     }
 }
 
-/// Sets the place of the closing of the unit that a finished entry of the kind closes, if it closes one,
-/// and answers where it stood.
+// Sets the place of the closing of the unit that a finished entry of the kind closes, if it closes one,
+// and answers where it stood.
 fn set_place(all: &mut [usize], kind: &Kind, place: usize) -> usize
     requires { ClosesWithin (length all.old) kind.now }
     ensures len { length all.new ≡ length all.old }
@@ -232,7 +233,7 @@ fn set_place(all: &mut [usize], kind: &Kind, place: usize) -> usize
     }
 }
 
-/// Sets where the closing stood before of the unit that a stored entry closed, if it closed one.
+// Sets where the closing stood before of the unit that a stored entry closed, if it closed one.
 fn put_back(all: &mut [usize], stored: StoredEntry, closings: &[Closed])
     requires number { IsNumberOf (length closings.now) stored.kind stored.number }
     requires closes { ClosesWithin (length all.old) (kind_from closings.now stored.kind stored.number) }
@@ -244,7 +245,7 @@ fn put_back(all: &mut [usize], stored: StoredEntry, closings: &[Closed])
     }
 }
 
-/// Does nothing. Its contract is what the type of a kind holds.
+// Does nothing. Its contract is what the type of a kind holds.
 fn note_bounds(kind: &Kind)
     ensures { IsFitKind kind.now }
 {
@@ -254,7 +255,7 @@ fn note_bounds(kind: &Kind)
     }
 }
 
-/// Does nothing. Its contract is what the type of an outcome holds.
+// Does nothing. Its contract is what the type of an outcome holds.
 fn note_outcome_bounds(outcome: Outcome)
     ensures { IsFitOutcome outcome }
 {
@@ -267,7 +268,7 @@ fn note_outcome_bounds(outcome: Outcome)
     }
 }
 
-/// Does nothing. Its contract is what the type of bytes holds.
+// Does nothing. Its contract is what the type of bytes holds.
 fn note_byte_bounds(bytes: &[u8])
     ensures { All (λ b. b < 256) bytes.now }
 {}

@@ -1,3 +1,4 @@
+//! Entries as a book shows them.
 use lock_transforms::Kind;
 use resource_lock::{Change, WorkerId};
 

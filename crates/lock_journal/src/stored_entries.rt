@@ -1,5 +1,6 @@
 //! What is stored of an entry.
-ghost use Rattle.std.specs.Prelude.{◌≡◌, ◌≤◌, ◌<◌, ◌+◌, ◌∷◌, [], ◌++◌, length, slice_range, vec_capacity, vec_len, if◌then◌else◌};
+ghost use Rattle.std.specs.Prelude.{◌≡◌, ◌≤◌, ◌<◌, ◌+◌, ◌∷◌, [], ◌++◌, length, slice_range, vec_capacity, vec_len};
+ghost use Rattle.std.specs.Prelude.{if◌then◌else◌};
 ghost use Rattle.lock_journal.specs.Closings.{closed_of};
 ghost use Rattle.lock_journal.specs.StoredEntry.{IsLastNumber, IsNumberOf, closing_at, closings_until, end_before, kind_from};
 
@@ -73,7 +74,7 @@ pub fn store_kind(kind: &Kind, closings: &mut Vec<Closed>) -> (StoredKind, usize
     }
 }
 
-/// Puts a closing last, and answers its place.
+// Puts a closing last, and answers its place.
 fn store_closing(closed: Closed, closings: &mut Vec<Closed>) -> usize
     requires { vec_len closings.old < vec_capacity closings.old }
     ensures place { result ≡ length closings.old.items }

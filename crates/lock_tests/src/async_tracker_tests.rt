@@ -1,5 +1,5 @@
 //! A task with two items, worked by the calls: each call's conditions follow from the clauses of those
-//! before. Then a worker that waits while another has the lock and the lease.
+//! before.
 ghost use Rattle.std.specs.Prelude.{◌≡◌, ◌≢◌, ◌<◌, [], ◌∷◌, All, IfOk, IfSome, Ok, OnOk, length, true};
 ghost use Rattle.resource_lock.specs.declared.marks.MarkId.TheVariants as ids;
 ghost use Rattle.item_actions.specs.declared.outcomes.Outcome.TheVariants as outcomes;
@@ -9,22 +9,20 @@ ghost use Rattle.lock_tests.specs.TwoItems.{CanEnd, CanHelp, HasTwoItems};
 
 use crate::entries::{EntryRow, are_entries};
 use crate::rows::{Limits, TaskRow};
-use crate::services::{open, yield_a_while};
+use crate::services::open;
 use async_tracker::{
     Held, Parked, claim, close, closing_undoes_claiming, end_task, park, resume, start_task, submit,
 };
 use coordination::{Coordination, Halt, Opened, Pass};
 use item_actions::Outcome;
-use lock_transforms::kinds::{Acquire, HandBack, Shortage};
 use lock_transforms::{Closed, Kind};
 use resource_lock::{Change, GraphAction, LockId, Mark, MarkId, Retention, WorkerId};
 use std::alloc::{AllocError, Global};
 use std::process::Abort;
 use std::sync::Wait;
 use std::test::Fail;
-use std::thread::{Threads, join};
 
-/// Starts the task. False says that it can't be started.
+// Starts the task. False says that it can't be started.
 fn start<R: Wait>(rt: &R, service: &Coordination, pass: &mut Pass) -> Result<bool, Halt>
     requires service { pass.old.service ≡ service.now.service }
     requires graph { HasTwoItems pass.old.sight.seen.graph }
@@ -39,7 +37,7 @@ fn start<R: Wait>(rt: &R, service: &Coordination, pass: &mut Pass) -> Result<boo
 }
 
 /// Starts the task, and waits for its items. None says that it can't be started.
-fn wait_for_items<R: Wait>(
+pub(crate) fn wait_for_items<R: Wait>(
     rt: &R,
     service: &Coordination,
     pass: &mut Pass,
@@ -58,7 +56,7 @@ fn wait_for_items<R: Wait>(
 }
 
 /// Claims an item and closes it. False says that it isn't Queued.
-fn run_item<R: Wait>(
+pub(crate) fn run_item<R: Wait>(
     rt: &R,
     service: &Coordination,
     pass: &mut Pass,
@@ -83,7 +81,7 @@ fn run_item<R: Wait>(
 }
 
 /// Runs both items. False says that one isn't Queued.
-fn run_both<R: Wait>(
+pub(crate) fn run_both<R: Wait>(
     rt: &R,
     service: &Coordination,
     pass: &mut Pass,
@@ -100,7 +98,7 @@ fn run_both<R: Wait>(
 }
 
 /// Goes on once the items have ended. False says that one hasn't.
-fn go_on<R: Wait>(
+pub(crate) fn go_on<R: Wait>(
     rt: &R,
     service: &Coordination,
     pass: &mut Pass,
@@ -119,7 +117,7 @@ fn go_on<R: Wait>(
     }
 }
 
-/// Works the whole task. False says that a call answered otherwise than one expects.
+// Works the whole task. False says that a call answered otherwise than one expects.
 fn run_task<R: Wait>(rt: &R, service: &Coordination, pass: &mut Pass) -> Result<bool, Halt>
     requires service { pass.old.service ≡ service.now.service }
     requires graph { HasTwoItems pass.old.sight.seen.graph }
@@ -138,7 +136,7 @@ fn run_task<R: Wait>(rt: &R, service: &Coordination, pass: &mut Pass) -> Result<
 }
 
 /// A service with two workers, one lock and one lease, and the task with two items.
-fn open_task(
+pub(crate) fn open_task(
     rt: &impl Abort,
     alloc: Global,
     retention: Retention,
@@ -300,8 +298,8 @@ static RELEASES: [EntryRow<'static>; 3] = [
     },
 ];
 
-/// Whether the task is worked by the entries that it has to make, of which these tell what becomes of
-/// its lock.
+// Whether the task is worked by the entries that it has to make, of which these tell what becomes of
+// its lock.
 fn makes<R: Wait>(rt: &R, service: &Coordination, pass: &mut Pass, rows: &[EntryRow<'_>]) -> bool
     requires service { pass.old.service ≡ service.now.service }
     requires graph { HasTwoItems pass.old.sight.seen.graph }
@@ -327,8 +325,8 @@ fn each_retention_makes_its_entries(rt: HostRuntime) -> Result<(), Fail> {
     Ok(())
 }
 
-/// Resumes too early, claims an item twice, and then goes on. False says that a call answered
-/// otherwise than one expects.
+// Resumes too early, claims an item twice, and then goes on. False says that a call answered
+// otherwise than one expects.
 fn try_too_early<R: Wait>(rt: &R, service: &Coordination, pass: &mut Pass) -> Result<bool, Halt>
     requires service { pass.old.service ≡ service.now.service }
     requires graph { HasTwoItems pass.old.sight.seen.graph }
@@ -352,152 +350,5 @@ fn an_open_item_holds_the_worker(rt: HostRuntime) -> Result<(), Fail> {
     let mut opened = open_task(&rt, rt.alloc(), Retention::Retain)?;
     let Opened { service, passes } = &mut *opened;
     assert!(rt; matches!(try_too_early(&rt, service, &mut passes[0]), Ok(true)));
-    Ok(())
-}
-
-/// Takes the lock and the lease.
-fn take_both<R: Wait>(rt: &R, service: &Coordination, pass: &mut Pass) -> Result<bool, Halt>
-    requires service { pass.old.service ≡ service.now.service }
-    ensures service { pass.new.service ≡ pass.old.service }
-{
-    let acquire = Acquire {
-        locks: &[LOCK],
-        shortage: Shortage::Waits,
-    };
-    service.with_state_lock(rt, pass, &acquire)
-}
-
-/// Gives the lock and the lease back after a while, or stops the service.
-fn let_go<R: Wait>(rt: &R, service: &Coordination, pass: &mut Pass, stops: bool) -> bool
-    requires service { pass.old.service ≡ service.now.service }
-{
-    yield_a_while();
-    if stops {
-        service.stop_all(rt, pass);
-        return true;
-    }
-    matches!(service.with_state_lock(rt, pass, &HandBack), Ok(true))
-}
-
-/// What a worker waits for while another has the lock and the lease.
-#[derive(Clone, Copy)]
-enum Wanted {
-    /// A lease, to claim the first item.
-    Lease,
-    /// The lock and a lease, to go on after both items.
-    LockAndLease,
-}
-
-/// Starts the task, and runs its items where the worker is to go on after them. None says that a
-/// call answered otherwise than one expects.
-fn prepare<R: Wait>(
-    rt: &R,
-    service: &Coordination,
-    pass: &mut Pass,
-    wanted: Wanted,
-) -> Result<Option<Parked>, Halt>
-    requires service { pass.old.service ≡ service.now.service }
-    requires graph { HasTwoItems pass.old.sight.seen.graph }
-    requires rests { HoldsNothing pass.old.sight }
-    ensures service { pass.new.service ≡ pass.old.service }
-    ensures helps { IfOk result (λ parked. IfSome parked (CanHelp pass.new.sight)) }
-{
-    let Some(parked) = wait_for_items(rt, service, pass)? else {
-        return Ok(None);
-    };
-    match wanted {
-        Wanted::Lease => Ok(Some(parked)),
-        Wanted::LockAndLease => {
-            let ran = run_both(rt, service, pass, &parked)?;
-            Ok(ran.then_some(parked))
-        }
-    }
-}
-
-/// Waits for what is wanted.
-fn get<R: Wait>(
-    rt: &R,
-    service: &Coordination,
-    pass: &mut Pass,
-    parked: Parked,
-    wanted: Wanted,
-) -> Result<bool, Halt>
-    requires service { pass.old.service ≡ service.now.service }
-    requires helps { CanHelp pass.old.sight parked }
-    ensures service { pass.new.service ≡ pass.old.service }
-{
-    match wanted {
-        Wanted::Lease => run_item(rt, service, pass, &parked, 0, 3),
-        Wanted::LockAndLease => go_on(rt, service, pass, parked),
-    }
-}
-
-/// Waits while another worker has the lock and the lease, and lets them go after a while or stops the
-/// service.
-fn get_beside<R: Threads + Wait + Sync>(
-    rt: &R,
-    service: &Coordination,
-    first: &mut Pass,
-    second: &mut Pass,
-    wanted: Wanted,
-    stops: bool,
-) -> Result<bool, Halt>
-    requires first { first.old.service ≡ service.now.service }
-    requires second { second.old.service ≡ service.now.service }
-    requires graph { HasTwoItems first.old.sight.seen.graph }
-    requires rests { HoldsNothing first.old.sight }
-{
-    let Some(parked) = prepare(rt, service, first, wanted)? else {
-        return Ok(false);
-    };
-    if !take_both(rt, service, second)? {
-        return Ok(false);
-    }
-    let (got, lets_go) = join(
-        rt,
-        || get(rt, service, first, parked, wanted),
-        || let_go(rt, service, second, stops),
-    );
-    Ok(got? && lets_go)
-}
-
-/// Whether the wait ends by what the other worker does.
-fn ends<R: Threads + Wait + Sync>(
-    rt: &R,
-    service: &Coordination,
-    passes: &mut [Pass],
-    wanted: Wanted,
-    stops: bool,
-) -> bool
-    requires service { All (λ p. p.service ≡ service.now.service) passes.old }
-    requires graph { All (λ p. HasTwoItems p.sight.seen.graph) passes.old }
-    requires rests { All (λ p. HoldsNothing p.sight) passes.old }
-    requires two { length passes.old ≡ 2 }
-{
-    let (first, second) = passes.split_at_mut(1);
-    match get_beside(rt, service, &mut first[0], &mut second[0], wanted, stops) {
-        Ok(got) => got && !stops,
-        Err(Halt::Stopped(by)) => stops && by == WorkerId(1),
-        Err(Halt::NoMemory) => false,
-    }
-}
-
-#[test]
-fn a_claim_waits_for_a_lease(rt: HostRuntime) -> Result<(), Fail> {
-    for stops in [false, true] {
-        let mut opened = open_task(&rt, rt.alloc(), Retention::Release)?;
-        let Opened { service, passes } = &mut *opened;
-        assert!(rt; ends(&rt, service, passes, Wanted::Lease, stops));
-    }
-    Ok(())
-}
-
-#[test]
-fn a_resume_waits_for_the_lock_and_a_lease(rt: HostRuntime) -> Result<(), Fail> {
-    for stops in [false, true] {
-        let mut opened = open_task(&rt, rt.alloc(), Retention::ReleaseAndReacquire)?;
-        let Opened { service, passes } = &mut *opened;
-        assert!(rt; ends(&rt, service, passes, Wanted::LockAndLease, stops));
-    }
     Ok(())
 }

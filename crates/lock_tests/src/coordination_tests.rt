@@ -1,6 +1,7 @@
 //! One book under the state lock: what a caller can prove, and workers in threads of their own. Each
 //! test ends after a number of turns.
-ghost use Rattle.std.specs.Prelude.{◌≡◌, ◌≢◌, ◌<◌, ℕ, [], ◌∷◌, ◌++◌, All, IfOk, List, None, Ok, Some, length, map, slice_index_or, true, false};
+ghost use Rattle.std.specs.Prelude.{◌≡◌, ◌≢◌, ◌<◌, ℕ, [], ◌∷◌, ◌++◌, All, IfOk, List, None, Ok, Some, length, map};
+ghost use Rattle.std.specs.Prelude.{slice_index_or, true, false};
 ghost use Rattle.resource_lock.specs.Good.{Good};
 ghost use Rattle.resource_lock.specs.StateView.{holding_of, owner_of};
 ghost use Rattle.resource_lock.specs.declared.ids.WorkerId.{WorkerId};
@@ -102,7 +103,7 @@ impl Transform for TryStart {
     fn waits_for_news(&self) {}
 }
 
-/// Tries to start a task. False says that another worker had the lock.
+// Tries to start a task. False says that another worker had the lock.
 fn try_start<R: Wait>(
     rt: &R,
     service: &Coordination,
@@ -124,7 +125,7 @@ fn try_start<R: Wait>(
     service.with_state_lock(rt, pass, attempt)
 }
 
-/// Whether a worker takes the free lock 0 by a try.
+// Whether a worker takes the free lock 0 by a try.
 fn takes_by_a_try<R: Wait>(rt: &R, service: &Coordination, pass: &mut Pass) -> bool
     requires { pass.old.service ≡ service.now.service }
 {
@@ -156,7 +157,7 @@ fn a_free_lock_is_taken_by_a_try(rt: HostRuntime) -> Result<(), Fail> {
     Ok(())
 }
 
-/// A task without actions.
+// A task without actions.
 fn task(lock: u32, after: Option<u32>) -> TaskRow {
     TaskRow {
         lock,
@@ -209,7 +210,7 @@ enum Play {
     StopOthers,
 }
 
-/// Takes a turn, and tells whether it went as it has to.
+// Takes a turn, and tells whether it went as it has to.
 fn take_turn<R: Wait>(
     rt: &R,
     service: &Coordination,
@@ -233,7 +234,7 @@ fn take_turn<R: Wait>(
     }
 }
 
-/// Whether the worker runs the task of a number, and has a lease meanwhile.
+// Whether the worker runs the task of a number, and has a lease meanwhile.
 fn runs_task<R: Wait>(rt: &R, service: &Coordination, pass: &mut Pass, task: u32) -> bool
     requires { pass.old.service ≡ service.now.service }
     ensures service { pass.new.service ≡ pass.old.service }
@@ -247,7 +248,7 @@ fn runs_task<R: Wait>(rt: &R, service: &Coordination, pass: &mut Pass, task: u32
     started && ended && !pass.has_lease()
 }
 
-/// Whether the worker finds so many entries, and makes a failed one.
+// Whether the worker finds so many entries, and makes a failed one.
 fn fails<R: Wait>(rt: &R, service: &Coordination, pass: &mut Pass, entries: u64) -> bool
     requires { pass.old.service ≡ service.now.service }
     ensures service { pass.new.service ≡ pass.old.service }
@@ -259,7 +260,7 @@ fn fails<R: Wait>(rt: &R, service: &Coordination, pass: &mut Pass, entries: u64)
     found && failed && pass.last().checked_sub(1) == Some(entries)
 }
 
-/// Has worker 0 stop the service after a while. Else tells whether the wait is ended by that.
+// Has worker 0 stop the service after a while. Else tells whether the wait is ended by that.
 fn stops_or_is_stopped<R: Wait>(rt: &R, service: &Coordination, pass: &mut Pass) -> bool
     requires { pass.old.service ≡ service.now.service }
     ensures service { pass.new.service ≡ pass.old.service }
@@ -282,7 +283,7 @@ fn stops_or_is_stopped<R: Wait>(rt: &R, service: &Coordination, pass: &mut Pass)
     matches!(halt, Some(Halt::Stopped(WorkerId(0)))) && pass.stopped_by() == Some(WorkerId(0))
 }
 
-/// Takes so many turns with the pass.
+// Takes so many turns with the pass.
 fn take_turns<R: Wait + Abort>(
     rt: &R,
     service: &Coordination,
@@ -299,7 +300,7 @@ fn take_turns<R: Wait + Abort>(
     }
 }
 
-/// Takes so many turns with each pass, in a thread of its own.
+// Takes so many turns with each pass, in a thread of its own.
 fn take_turns_in_threads<R: Threads + Wait + Abort + Sync>(
     rt: &R,
     service: &Coordination,
@@ -335,7 +336,7 @@ struct Scene {
     entries: u64,
 }
 
-/// The tasks of a scene, which share 4 locks in turn.
+// The tasks of a scene, which share 4 locks in turn.
 fn rows_of(alloc: Global, scene: &Scene) -> Result<Vec<TaskRow>, AllocError> {
     let mut rows = Vec::new(alloc);
     for number in 0..scene.tasks {
@@ -358,7 +359,7 @@ fn open_scene(rt: &impl Abort, alloc: Global, scene: &Scene) -> Result<Box<Opene
     open(rt, alloc, &limits, &rows, &[])
 }
 
-/// Plays a scene in threads, and gives the book.
+// Plays a scene in threads, and gives the book.
 fn play_out<R: Threads + Wait + Abort + Sync>(rt: &R, opened: Opened, scene: &Scene) -> Box<Book>
     requires workers { map (λ p. p.sight.worker.0) opened.passes.items ≡ workers_from 0 opened.service.book.graph.workers }
     requires service { All (λ p. p.service ≡ opened.service.service) opened.passes.items }
@@ -372,7 +373,7 @@ fn play_out<R: Threads + Wait + Abort + Sync>(rt: &R, opened: Opened, scene: &Sc
     service.finish(passes)
 }
 
-/// Whether all tasks of the book have passed, and nobody has anything.
+// Whether all tasks of the book have passed, and nobody has anything.
 fn is_at_rest(book: &Book) -> bool {
     let state = book.state();
     for task in 0..book.graph().tasks().len() as u32 {
@@ -388,7 +389,7 @@ fn is_at_rest(book: &Book) -> bool {
     state.leases_out() == 0
 }
 
-/// Whether a scene comes to its entries, and to a book at rest where there are any.
+// Whether a scene comes to its entries, and to a book at rest where there are any.
 fn comes_to_its_end<R: Threads + Wait + Abort + Sync>(
     rt: &R,
     alloc: Global,

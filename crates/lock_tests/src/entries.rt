@@ -19,7 +19,7 @@ pub struct EntryRow<'a> {
     pub changes: Option<&'a [Change]>,
 }
 
-/// Whether the history has this entry.
+// Whether the history has this entry.
 fn has_entry(book: &Book, row: &EntryRow<'_>) -> bool {
     if row.place >= book.len() {
         return false;

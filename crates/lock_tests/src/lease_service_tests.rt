@@ -28,8 +28,8 @@ const SECOND: LockId = LockId(1);
 
 const THIRD: LockId = LockId(2);
 
-/// Takes two locks, hands them back, and tries for another: each call's conditions follow from the
-/// clauses of those before.
+// Takes two locks, hands them back, and tries for another: each call's conditions follow from the
+// clauses of those before.
 fn take_and_hand_back<R: Wait + Abort>(
     rt: &R,
     service: &Coordination,
@@ -85,7 +85,7 @@ enum Call {
     RunAsWorker,
 }
 
-/// Whether the worker runs nothing, has parked nothing and isn't blocked.
+// Whether the worker runs nothing, has parked nothing and isn't blocked.
 fn is_free(pass: &Pass) -> bool
     ensures claimed { result ≡ true → claimed_shown pass.now.sight ≡ [] }
     ensures parked { result ≡ true → parked_shown pass.now.sight ≡ [] }
@@ -94,7 +94,7 @@ fn is_free(pass: &Pass) -> bool
     pass.claimed().is_empty() && pass.parked().is_empty() && !pass.blocked()
 }
 
-/// Makes the call with a pass of three locks, and tells whether the worker got what it asked for.
+// Makes the call with a pass of three locks, and tells whether the worker got what it asked for.
 fn gets<R: Wait + Abort>(rt: &R, service: &Coordination, pass: &mut Pass, call: Call) -> bool
     requires service { pass.old.service ≡ service.now.service }
     requires three { pass.old.sight.seen.graph.locks ≡ 3 }
@@ -148,7 +148,7 @@ static FREE: [Turn; 5] = [
     (1, Call::Try(Asked::First), true, 1, true),
 ];
 
-/// Whether a turn goes as it has to.
+// Whether a turn goes as it has to.
 fn goes<R: Wait + Abort>(rt: &R, service: &Coordination, pass: &mut Pass, turn: &Turn) -> bool
     requires service { pass.old.service ≡ service.now.service }
     requires three { pass.old.sight.seen.graph.locks ≡ 3 }
@@ -161,7 +161,7 @@ fn goes<R: Wait + Abort>(rt: &R, service: &Coordination, pass: &mut Pass, turn: 
         && current_lease(pass).is_some() == has_lease
 }
 
-/// Whether all turns go as they have to, and the history then has these entries.
+// Whether all turns go as they have to, and the history then has these entries.
 fn all_go<R: Wait + Abort>(
     rt: &R,
     service: &Coordination,
@@ -198,7 +198,7 @@ fn a_busy_lock_is_free_once_handed_back(rt: HostRuntime) -> Result<(), Fail> {
     Ok(())
 }
 
-/// The locks of projects a and b.
+// The locks of projects a and b.
 fn two_projects(alloc: Global, parallel: bool) -> Result<ProjectLocks, AllocError> {
     let names = [Text::from_str(alloc, "a")?, Text::from_str(alloc, "b")?];
     ProjectLocks::new(alloc, &names, parallel)
@@ -214,7 +214,7 @@ static PROJECTS: [(&str, bool, Option<LockId>); 6] = [
     ("c", true, None),
 ];
 
-/// Whether the project has this lock.
+// Whether the project has this lock.
 fn has_lock(
     alloc: Global,
     name: &str,
@@ -234,8 +234,8 @@ fn projects_have_locks_of_their_own_in_parallel(rt: HostRuntime) -> Result<(), F
     Ok(())
 }
 
-/// Worker 0 has lock 0 and hands it back after a while, or stops the service, and worker 1 waits for
-/// the lock. Tells whether that ends the wait.
+// Worker 0 has lock 0 and hands it back after a while, or stops the service, and worker 1 waits for
+// the lock. Tells whether that ends the wait.
 fn wait_for_lock<R: Wait + Abort>(
     rt: &R,
     service: &Coordination,
@@ -259,7 +259,7 @@ fn wait_for_lock<R: Wait + Abort>(
     gets(rt, service, pass, Call::HandBack)
 }
 
-/// Worker 0 takes lock 0.
+// Worker 0 takes lock 0.
 fn take_first<R: Wait + Abort>(rt: &R, service: &Coordination, passes: &mut [Pass])
     requires service { All (λ p. p.service ≡ service.now.service) passes.old }
     requires three { All (λ p. p.sight.seen.graph.locks ≡ 3) passes.old }
@@ -270,7 +270,7 @@ fn take_first<R: Wait + Abort>(rt: &R, service: &Coordination, passes: &mut [Pas
     assert!(rt; gets(rt, service, &mut passes[0], Call::Take(Asked::First)));
 }
 
-/// Worker 0 takes lock 0, for which worker 1 then waits in a thread of its own.
+// Worker 0 takes lock 0, for which worker 1 then waits in a thread of its own.
 fn wait_in_threads<R: Threads + Wait + Abort + Sync>(
     rt: &R,
     service: &Coordination,

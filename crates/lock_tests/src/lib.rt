@@ -26,3 +26,5 @@ pub mod rows;
 mod services;
 #[cfg(test)]
 mod task_ranks_tests;
+#[cfg(test)]
+mod waiting_tests;

@@ -21,7 +21,7 @@ const LIMITS: Limits = Limits {
     max_leases: 1,
 };
 
-/// A task with one action, that of its number.
+// A task with one action, that of its number.
 fn task(number: u32, after: Option<u32>) -> TaskRow {
     TaskRow {
         lock: 0,
@@ -31,7 +31,7 @@ fn task(number: u32, after: Option<u32>) -> TaskRow {
     }
 }
 
-/// An action of a task, with two items.
+// An action of a task, with two items.
 fn action(task: u32, first_unit: u32) -> GraphAction {
     GraphAction {
         task,
@@ -42,7 +42,7 @@ fn action(task: u32, first_unit: u32) -> GraphAction {
     }
 }
 
-/// Whether the graph has what is named.
+// Whether the graph has what is named.
 fn has_mark(graph: &Graph, id: MarkId) -> bool
     ensures { (s : StateView) → BelongsTo graph.now s → result ≡ true → IsMarkOf s id }
 {
@@ -53,7 +53,7 @@ fn has_mark(graph: &Graph, id: MarkId) -> bool
     }
 }
 
-/// Moves a mark where it can be moved, and has the index follow.
+// Moves a mark where it can be moved, and has the index follow.
 fn move_mark(graph: &Graph, state: &mut State, ready: &mut ReadyWork, id: MarkId, to: Mark) -> bool
     requires belongs { BelongsTo graph.now state.old }
     requires index { IsIndexOf graph.now state.old ready.old }
@@ -72,52 +72,36 @@ fn move_mark(graph: &Graph, state: &mut State, ready: &mut ReadyWork, id: MarkId
     true
 }
 
-/// A mark that is moved, and then the lowest unit that is queued, and the lowest task to skip and
-/// to start.
-type Step = (MarkId, Mark, Option<u32>, Option<u32>, Option<u32>);
+/// A mark that is moved, and then the lowest task to skip and to start.
+type Step = (MarkId, Mark, Option<u32>, Option<u32>);
 
-static STEPS: [Step; 11] = [
-    (MarkId::Unit(3), Mark::Queued, Some(3), None, Some(0)),
-    (MarkId::Unit(1), Mark::Queued, Some(1), None, Some(0)),
-    (
-        MarkId::Unit(1),
-        Mark::Running(FIRST),
-        Some(3),
-        None,
-        Some(0),
-    ),
-    (MarkId::Unit(3), Mark::Running(FIRST), None, None, Some(0)),
-    (MarkId::Task(0), Mark::Running(FIRST), None, None, Some(2)),
-    (MarkId::Task(0), Mark::Passed, None, None, Some(1)),
-    (MarkId::Task(0), Mark::Failed, None, Some(1), Some(2)),
-    (MarkId::Task(0), Mark::Waiting, None, None, Some(0)),
-    (MarkId::Task(0), Mark::Skipped, None, Some(1), Some(2)),
-    (MarkId::Task(1), Mark::Skipped, None, None, Some(2)),
-    (MarkId::Task(2), Mark::Passed, None, None, None),
+static STEPS: [Step; 9] = [
+    (MarkId::Unit(3), Mark::Queued, None, Some(0)),
+    (MarkId::Unit(3), Mark::Running(FIRST), None, Some(0)),
+    (MarkId::Task(0), Mark::Running(FIRST), None, Some(2)),
+    (MarkId::Task(0), Mark::Passed, None, Some(1)),
+    (MarkId::Task(0), Mark::Failed, Some(1), Some(2)),
+    (MarkId::Task(0), Mark::Waiting, None, Some(0)),
+    (MarkId::Task(0), Mark::Skipped, Some(1), Some(2)),
+    (MarkId::Task(1), Mark::Skipped, None, Some(2)),
+    (MarkId::Task(2), Mark::Passed, None, None),
 ];
 
-/// Whether the index tells these as the lowest.
-fn tells(
-    ready: &ReadyWork,
-    queued: Option<u32>,
-    to_skip: Option<u32>,
-    to_start: Option<u32>,
-) -> bool {
-    ready.first_queued() == queued
-        && ready.first_to_skip() == to_skip
-        && ready.first_to_start() == to_start
+// Whether the index tells these as the lowest.
+fn tells(ready: &ReadyWork, to_skip: Option<u32>, to_start: Option<u32>) -> bool {
+    ready.first_to_skip() == to_skip && ready.first_to_start() == to_start
 }
 
-/// Takes the steps one after another, after the last of which all tasks have ended.
+// Takes the steps one after another, after the last of which all tasks have ended.
 fn follows_all_steps(graph: &Graph, state: &mut State, ready: &mut ReadyWork) -> bool
     requires belongs { BelongsTo graph.now state.old }
     requires index { IsIndexOf graph.now state.old ready.old }
 {
-    for (id, to, queued, to_skip, to_start) in STEPS {
+    for (id, to, to_skip, to_start) in STEPS {
         if ready.all_ended() || !move_mark(graph, state, ready, id, to) {
             return false;
         }
-        if !tells(ready, queued, to_skip, to_start) {
+        if !tells(ready, to_skip, to_start) {
             return false;
         }
     }

@@ -61,7 +61,7 @@ static ACTIONS: [GraphAction; 3] = [
     },
 ];
 
-/// Whether the graph has what it was made of.
+// Whether the graph has what it was made of.
 fn has_its_parts(graph: &Graph) -> bool {
     (graph.locks(), graph.workers(), graph.max_leases()) == (2, 3, 2)
         && (graph.tasks().len(), graph.actions().len(), graph.units()) == (2, 3, 6)
@@ -77,7 +77,7 @@ static UNITS: [(u32, u32, bool); 6] = [
     (5, 2, true),
 ];
 
-/// Whether the graph knows the action of each unit.
+// Whether the graph knows the action of each unit.
 fn knows_its_units(graph: &Graph) -> bool {
     for (unit, action, item) in UNITS {
         if unit >= graph.units() {
@@ -97,7 +97,7 @@ fn a_graph_knows_its_parts_and_the_action_of_each_unit(rt: HostRuntime) -> Resul
     Ok(())
 }
 
-/// Whether these parts fit.
+// Whether these parts fit.
 fn fits(
     alloc: Global,
     limits: &Limits,
@@ -138,8 +138,8 @@ fn some_limits_fit(alloc: Global) -> Result<bool, AllocError> {
     Ok(false)
 }
 
-/// Actions that don't fit: with no item, with a gap in the units, with the task of another, with
-/// no such task, and with one too few.
+// Actions that don't fit: with no item, with a gap in the units, with the task of another, with
+// no such task, and with one too few.
 fn unfit_actions() -> [[GraphAction; 3]; 4] {
     let [a, b, c] = ACTIONS;
     [
@@ -191,7 +191,7 @@ fn fits_refuses_each_fault(rt: HostRuntime) -> Result<(), Fail> {
     Ok(())
 }
 
-/// The state of the graph as it opens.
+// The state of the graph as it opens.
 fn opening(rt: &impl Abort, alloc: Global) -> Result<Box<State>, AllocError>
     ensures sizes { IfOk result (λ state. HasSizes state.value) }
     ensures empty { IfOk result (λ state. state.value.holdings ≡ replicate 3 empty_holding) }
@@ -200,7 +200,7 @@ fn opening(rt: &impl Abort, alloc: Global) -> Result<Box<State>, AllocError>
     Ok(Box::new(alloc, State::opening(alloc, &graph)?)?)
 }
 
-/// Whether a lock is its owner's alone.
+// Whether a lock is its owner's alone.
 fn is_owned_alone(state: &mut State) -> bool
     requires sizes { HasSizes state.old }
     requires empty { state.old.holdings ≡ replicate 3 empty_holding }
@@ -213,7 +213,7 @@ fn is_owned_alone(state: &mut State) -> bool
     first && again && !others && state.owner(lock) == Some(owner)
 }
 
-/// Whether a state tells of a worker whether it runs something.
+// Whether a state tells of a worker whether it runs something.
 fn tells_who_runs(state: &mut State) -> bool
     requires { HasSizes state.old }
     ensures sizes { HasSizes state.new }
@@ -231,7 +231,7 @@ fn tells_who_runs(state: &mut State) -> bool
     state.mark(task) == Mark::Running(worker) && runs && !has_more && are_idle == (false, true)
 }
 
-/// Whether no more leases are out than may be.
+// Whether no more leases are out than may be.
 fn are_leases_limited(state: &mut State) -> bool
     requires sizes { HasSizes state.old }
     requires empty { state.old.holdings ≡ replicate 3 empty_holding }
@@ -247,7 +247,7 @@ fn are_leases_limited(state: &mut State) -> bool
     two && !more && again && out == 2 && next && !state.has_lease(first)
 }
 
-/// Makes a change where it can be made.
+// Makes a change where it can be made.
 fn try_make(state: &mut State, worker: WorkerId, change: Change) -> bool
     requires worker { IsWorkerOf state.old worker }
     requires change { NamesOnly state.old change }
@@ -261,7 +261,7 @@ fn try_make(state: &mut State, worker: WorkerId, change: Change) -> bool
     true
 }
 
-/// Whether changes can be taken back.
+// Whether changes can be taken back.
 fn are_taken_back(state: &mut State) -> bool
     requires { HasSizes state.old }
 {
@@ -295,7 +295,7 @@ fn a_state_follows_its_workers(rt: HostRuntime) -> Result<(), Fail> {
     Ok(())
 }
 
-/// Whether the word is that of this retention, and of none where there is none.
+// Whether the word is that of this retention, and of none where there is none.
 fn is_word_of(word: &str, expected: Option<Retention>) -> bool {
     Retention::of_word(word) == expected
 }

@@ -14,7 +14,7 @@ use std::alloc::{AllocError, Global};
 use std::process::Abort;
 use std::thread;
 
-/// A book of the graph of these rows, without entries.
+// A book of the graph of these rows, without entries.
 fn book_of(
     rt: &impl Abort,
     alloc: Global,

@@ -49,7 +49,7 @@ fn lists(alloc: Global, rows: &[&[u32]]) -> Result<Vec<Vec<u32>>, AllocError> {
     Ok(lists)
 }
 
-/// Whether this is the first task without a rank.
+// Whether this is the first task without a rank.
 fn is_first(alloc: Global, rows: &[&[u32]], expected: Option<usize>) -> Result<bool, AllocError> {
     let lists = lists(alloc, rows)?;
     Ok(are_in_range(&lists) && first_cycle(alloc, &lists)? == expected)

@@ -1,5 +1,6 @@
 -- The kinds of entry: where each can stand, and the changes that it makes.
-use Rattle.std.specs.Prelude.{ℕ, ◌+◌, ◌==◌, nat_le, Bool, false, not, ◌&&◌, ◌||◌, List, [], ◌∷◌, ◌++◌, map, reverse, length, Option, None, Some, if◌then◌else◌}
+use Rattle.std.specs.Prelude.{ℕ, ◌+◌, ◌==◌, nat_le, Bool, false, not, ◌&&◌, ◌||◌, List, [], ◌∷◌, ◌++◌, map, reverse}
+use Rattle.std.specs.Prelude.{length, Option, None, Some, if◌then◌else◌}
 use Rattle.std.specs.List.{list_any, list_all, range_with_len}
 use Rattle.resource_lock.specs.StateView.{StateView, holding_of, is_owner, mark_of, runs_unit, is_parked, runs_any, owns_any, is_idle}
 use Rattle.resource_lock.specs.Change.{same_mark, can_all}

@@ -1,3 +1,4 @@
+//! What an entry of a history is for.
 use item_actions::Outcome;
 
 /// What an entry is for. Tasks, actions and units go by their numbers in the graph, from 0.

@@ -1,3 +1,4 @@
+//! A state under change by one worker.
 ghost use Rattle.std.specs.Prelude.{◌≡◌, ◌<◌, ◌≤◌, ◌≢◌, ◌+◌, ◌⊎◌, [], IsTrue, length, true, false, Some, OnOk, OnErr, IfOk};
 ghost use Rattle.resource_lock.specs.Change.{can, make_all, NamesOnly};
 ghost use Rattle.resource_lock.specs.Fits.{Fits};
@@ -8,7 +9,8 @@ ghost use Rattle.resource_lock.specs.Shape.{BelongsTo};
 ghost use Rattle.resource_lock.specs.StateView.{StateView, IsLockOf, holding_of, has_parked};
 ghost use Rattle.resource_lock.specs.Trying.{can_own, can_lease};
 ghost use Rattle.lock_transforms.specs.Allowed.{Allowed, IsKindOf};
-ghost use Rattle.lock_transforms.specs.TentativeView.{SameTentative, noted, settled, taken_back, with_lease, with_lock, with_state, without_lease, without_lock};
+ghost use Rattle.lock_transforms.specs.TentativeView.{SameTentative, noted, settled, taken_back, with_lease, with_lock, with_state, without_lease};
+ghost use Rattle.lock_transforms.specs.TentativeView.{without_lock};
 ghost use Rattle.lock_transforms.specs.Entry.{entry};
 ghost use Rattle.lock_transforms.specs.declared.kinds.admitting.TheConstants.{MAX_CHANGES};
 
@@ -248,7 +250,7 @@ impl Tentative {
         self.state.take_back(worker, changes);
     }
 
-    /// Takes back the changes made, from the last to the first.
+    // Takes back the changes made, from the last to the first.
     fn undo(&mut self)
         requires { (before : StateView) × CameFrom before self.old.state self.old.worker self.old.made }
         ensures { (before : StateView) → CameFrom before self.old.state self.old.worker self.old.made

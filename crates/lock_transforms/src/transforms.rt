@@ -1,3 +1,4 @@
+//! What a transform is, and how it ends.
 ghost use Rattle.std.specs.Prelude.{◌≡◌, ◌≢◌, ◌≤◌, ◌⊎◌, ℕ, List, [], length, Some};
 ghost use Rattle.resource_lock.specs.StateView.{StateView};
 ghost use Rattle.resource_lock.specs.GraphView.{GraphView};

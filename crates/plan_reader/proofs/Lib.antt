@@ -20,3 +20,4 @@ pub mod OneAnswer
 pub mod Near
 pub mod Marks
 pub mod TakenTasks
+pub mod UnitLists

@@ -1,5 +1,6 @@
 -- When each refusal of a text holds.
-use Rattle.std.specs.Prelude.{ℕ, ◌≡◌, ◌<◌, Bool, true, false, not, nat_lt, List, [], map, length, slice_index_or, Option, Some, None, MatchOption, Ok, Err}
+use Rattle.std.specs.Prelude.{ℕ, ◌≡◌, ◌<◌, Bool, true, false, not, nat_lt, List, [], map, length, slice_index_or, Option, Some, None, MatchOption}
+use Rattle.std.specs.Prelude.{Ok, Err}
 use Rattle.toml.specs.Data.{Data}
 use Rattle.item_actions.specs.Value.{max_file_bytes}
 use Rattle.task_ranks.specs.Rank.{Ranked}

@@ -1,5 +1,6 @@
 -- Names that stand in an order, and their numbers.
-use Rattle.std.specs.Prelude.{ℕ, ◌≡◌, zero, suc, Bool, if◌then◌else◌, ◌+◌, List, [], map, take, length, slice_index_or, Option, None, Some, unwrap_or, position}
+use Rattle.std.specs.Prelude.{ℕ, ◌≡◌, zero, suc, Bool, if◌then◌else◌, ◌+◌, List, [], map, take, length, slice_index_or, Option, None, Some}
+use Rattle.std.specs.Prelude.{unwrap_or, position}
 use Rattle.std.specs.Borrow.{Bor}
 use Rattle.std.specs.List.{list_any}
 use Rattle.std.specs.Str.{bytes_eq}

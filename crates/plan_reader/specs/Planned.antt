@@ -14,7 +14,9 @@ use Rattle.resource_lock.specs.Words.{retention_of}
 use Rattle.daemon_requirements.specs.declared.fields.Pair.{Pair}
 use Rattle.daemon_requirements.specs.RequirementsView.{RequirementsView}
 use Rattle.plan_table.specs.Forms.{Text, is_needle}
-use Rattle.plan_table.specs.Keys.{tasks_of, requirements_of, name_of, project_of, actions_of, wait_of, fetch_of, items_of, do_of, file_of, needle_of, isolation_of, requirements_name_of, executable_of, heap_of, args_of, properties_of, variables_of, debug_of, assertions_of, encoding_of}
+use Rattle.plan_table.specs.Keys.{tasks_of, requirements_of, name_of, project_of, actions_of, wait_of, fetch_of, items_of, do_of, file_of, needle_of}
+use Rattle.plan_table.specs.Keys.{isolation_of, requirements_name_of, executable_of, heap_of, args_of, properties_of, variables_of, debug_of, assertions_of}
+use Rattle.plan_table.specs.Keys.{encoding_of}
 use Rattle.plan_reader.specs.PlanView.{WorkView, PlanActionView, PlanTaskView, PlanView}
 use Rattle.plan_reader.specs.NameNumbers.{number_of}
 use Rattle.plan_reader.specs.Names.{NameLists, names_in, dependency_numbers}

@@ -1,5 +1,6 @@
 -- The tests of a plan that look at more than one key, row by row.
-use Rattle.std.specs.Prelude.{ℕ, ℤ, pos, negsuc, codes, Bool, false, not, if◌then◌else◌, ◌&&◌, ◌+◌, ◌-◌, nat_lt, nat_le, List, take, length, Option, None, Some, is_some}
+use Rattle.std.specs.Prelude.{ℕ, ℤ, pos, negsuc, codes, Bool, false, not, if◌then◌else◌, ◌&&◌, ◌+◌, ◌-◌, nat_lt, nat_le, List, take}
+use Rattle.std.specs.Prelude.{length, Option, None, Some, is_some}
 use Rattle.std.specs.List.{list_any, sum_by}
 use Rattle.std.specs.Option.{option_map_or}
 use Rattle.std.specs.Str.{bytes_eq}
@@ -9,7 +10,8 @@ use Rattle.plan_table.specs.declared.refusals.Part.TheVariants as part
 use Rattle.plan_table.specs.declared.refusals.Which.{Which}
 use Rattle.plan_table.specs.declared.refusals.Which.TheVariants.{Projects, Tasks, Units, Requirements, Actions, After, Lists}
 use Rattle.plan_table.specs.Forms.{Text}
-use Rattle.plan_table.specs.Keys.{projects_of, tasks_of, requirements_of, project_of, after_of, actions_of, wait_of, fetch_of, items_of, isolation_of, requirements_name_of, heap_of, args_of, properties_of, variables_of}
+use Rattle.plan_table.specs.Keys.{projects_of, tasks_of, requirements_of, project_of, after_of, actions_of, wait_of, fetch_of, items_of, isolation_of}
+use Rattle.plan_table.specs.Keys.{requirements_name_of, heap_of, args_of, properties_of, variables_of}
 use Rattle.resource_lock.specs.declared.limits.TheConstants.{MAX_TASKS, MAX_UNITS, MAX_ACTIONS_PER_TASK, MAX_AFTER}
 use Rattle.plan_reader.specs.declared.limits.TheConstants.{MAX_PROJECTS, MAX_REQUIREMENTS, MAX_LISTED}
 use Rattle.plan_reader.specs.declared.rows.Row.{Row}

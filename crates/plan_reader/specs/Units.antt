@@ -7,7 +7,9 @@ use Rattle.item_actions.specs.declared.actions.ItemAction.{ItemAction}
 use Rattle.item_actions.specs.declared.outcomes.Outcome.{Outcome}
 use Rattle.item_actions.specs.declared.outcomes.Outcome.TheVariants.{Number, Skipped}
 use Rattle.daemon_requirements.specs.RequirementsView.{RequirementsView}
-use Rattle.plan_reader.specs.PlanView.{WorkView, PlanActionView, PlanTaskView, PlanView}
+use Rattle.plan_reader.specs.PlanView.{WorkView, PlanActionView, PlanTaskView, PlanView, work_view}
+use Rattle.plan_reader.specs.declared.units.UnitWork.{UnitWork}
+use Rattle.plan_reader.specs.declared.units.UnitWork.TheVariants.{Fetch, Item}
 
 -- a unit: a file, and an action on it, or none where the file is fetched; one that runs in a process has the
 -- requirements that its daemon must cover
@@ -16,12 +18,21 @@ pub record PlannedUnit : Type 0 where
   pub file : List ℕ
   pub process : Option RequirementsView
 
+-- a file that is fetched
+abbrev pub fetch_unit : List ℕ → PlannedUnit
+fetch_unit file = record { action = None; file = file; process = None }
+
 abbrev pub fetch_units : Option (List ℕ) → List PlannedUnit
 fetch_units None = []
-fetch_units (Some file) = record { action = None; file = file; process = None } ∷ []
+fetch_units (Some file) = fetch_unit file ∷ []
 
 abbrev pub item_unit : WorkView → PlannedUnit
 item_unit w = record { action = Some w.action; file = w.file; process = w.process }
+
+-- a unit as the code has it
+abbrev pub unit_view : UnitWork → PlannedUnit
+unit_view (Fetch file) = fetch_unit file.now
+unit_view (Item work) = item_unit (work_view work.now)
 
 -- an action's: the fetch before the items
 abbrev pub action_units : PlanActionView → List PlannedUnit

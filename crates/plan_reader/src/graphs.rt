@@ -34,7 +34,7 @@ impl Plan {
         Ok(Graph::new(locks, workers, max_leases, tasks, actions))
     }
 
-    /// How many locks there are.
+    // How many locks there are.
     fn locks(&self, parallel: bool) -> u32
         ensures { result ≡ project_lock_count parallel (length self.now.projects) }
     {
@@ -42,7 +42,7 @@ impl Plan {
     }
 }
 
-/// The tasks of the graph.
+// The tasks of the graph.
 fn graph_tasks(
     alloc: Global,
     tasks: &[PlanTask],
@@ -67,7 +67,7 @@ fn graph_tasks(
     Ok(made)
 }
 
-/// Pushes the actions of a task, and answers the number behind their last unit.
+// Pushes the actions of a task, and answers the number behind their last unit.
 fn push_actions(
     made: &mut Vec<GraphAction>,
     task: u32,
@@ -94,7 +94,7 @@ fn push_actions(
     Ok(next)
 }
 
-/// The actions of the graph.
+// The actions of the graph.
 fn graph_actions(alloc: Global, tasks: &[PlanTask]) -> Result<Vec<GraphAction>, AllocError>
     requires few_tasks { length tasks.now ≤ MAX_TASKS }
     requires few_units { length (flat_map task_units (map plan_task_view tasks.now)) ≤ MAX_UNITS }

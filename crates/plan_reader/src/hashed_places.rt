@@ -22,12 +22,12 @@ fn hash_of(name: &str) -> u64 {
     hasher.finish()
 }
 
-/// The slot of a name among so many.
+// The slot of a name among so many.
 fn slot_of(name: &str, slots: usize) -> usize {
     hash_of(name) as usize & slots.saturating_sub(1)
 }
 
-/// How many slots there are for so many names.
+// How many slots there are for so many names.
 fn slots_for(names: usize) -> usize {
     let wanted = names.saturating_mul(SLOTS_A_NAME).min(MOST_SLOTS);
     wanted.checked_next_power_of_two().unwrap_or(MOST_SLOTS)

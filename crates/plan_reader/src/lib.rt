@@ -14,6 +14,7 @@ mod profiles;
 mod read;
 mod rows;
 mod search;
+mod units;
 
 pub use laws::{
     a_row_that_refuses_nothing_holds_nowhere, a_text_has_one_answer,
@@ -22,3 +23,4 @@ pub use laws::{
 pub use plan_table::{Part, Place, PlanFail, PlanRefusal, Which};
 pub use plans::{Plan, PlanAction, PlanTask};
 pub use read::read_plan;
+pub use units::{UnitWork, units_of};

@@ -8,7 +8,8 @@ ghost use Rattle.plan_table.specs.Values.{text_of};
 ghost use Rattle.plan_table.specs.Keys.{projects_of, tasks_of, requirements_of, actions_of, items_of, after_of, args_of};
 ghost use Rattle.resource_lock.specs.declared.limits.TheConstants.{MAX_UNITS};
 ghost use Rattle.plan_reader.specs.Rooms.{IsLeft};
-ghost use Rattle.plan_reader.specs.Rows.{unit_count, task_unit_count, plan_unit_count, excess_of_plan, excess_of_task, has_few_lists, excess_of_requirements, excess};
+ghost use Rattle.plan_reader.specs.Rows.{unit_count, task_unit_count, plan_unit_count, excess_of_plan, excess_of_task, has_few_lists, excess_of_requirements};
+ghost use Rattle.plan_reader.specs.Rows.{excess};
 
 use plan_table::{
     Part, Which, actions_of, after_of, args_of, fetch_of, items_of, projects_of, properties_of,
@@ -42,7 +43,7 @@ fn unit_count(action: &Value) -> usize
     items_of(action).len() + usize::from(fetch_of(action).is_some())
 }
 
-/// What is left of the room after the units of the actions, if it holds them.
+// What is left of the room after the units of the actions, if it holds them.
 fn room_after_actions(mut room: usize, actions: &[Value]) -> Option<usize>
     ensures { IsLeft room (sum_by (λ v. unit_count (view v)) actions.now) result }
 {
@@ -58,7 +59,7 @@ fn room_after_task(room: usize, task: &Value) -> Option<usize>
     room_after_actions(room, actions_of(task))
 }
 
-/// What is left of the room after the units of the tasks, if it holds them.
+// What is left of the room after the units of the tasks, if it holds them.
 fn room_after_tasks(mut room: usize, tasks: &[Value]) -> Option<usize>
     ensures { IsLeft room (sum_by (λ v. task_unit_count (view v)) tasks.now) result }
 {

@@ -29,7 +29,7 @@ impl<'a> Model for NameTable<'a> {
     ghost invariant = { λ a. AreNumbered (texts a.names.items) a.numbers × (first_repeat (texts a.names.items) ≡ None) };
 }
 
-/// The number of each name, or the first place whose name stood before.
+// The number of each name, or the first place whose name stood before.
 fn numbers_of<'a>(
     alloc: Global,
     names: &[&'a str],
@@ -98,14 +98,14 @@ impl<'a> NameTable<'a> {
         self.names.len()
     }
 
-    /// The number of a name by the order of its bytes, if it is one of these.
+    // The number of a name by the order of its bytes, if it is one of these.
     fn place_by_order(&self, name: &str) -> Option<usize>
         ensures { result ≡ position (bytes_eq name.now) self.now }
     {
         self.numbers.get(name).copied()
     }
 
-    /// Whether the name stands at this place.
+    // Whether the name stands at this place.
     fn stands_at(&self, place: usize, name: &str) -> bool
         ensures { IsTrue result → position (bytes_eq name.now) self.now ≡ Some place }
     {
@@ -131,7 +131,7 @@ impl<'a> NameTable<'a> {
         self.place_of(name).is_some()
     }
 
-    /// The number of a name, if it is one of these. It is looked for at the guess first.
+    // The number of a name, if it is one of these. It is looked for at the guess first.
     fn place_near(&self, guess: usize, name: &str) -> Option<usize>
         ensures { result ≡ position (bytes_eq name.now) self.now }
     {

@@ -1,5 +1,6 @@
 //! The names of a plan, and their numbers.
-ghost use Rattle.std.specs.Prelude.{◌≡◌, ◌==◌, ◌<◌, ◌≤◌, ℕ, slice_index, true, map, None, Some, IfOk, IfErr, MatchResult, option_map, length, position};
+ghost use Rattle.std.specs.Prelude.{◌≡◌, ◌==◌, ◌<◌, ◌≤◌, ℕ, slice_index, true, map, None, Some, IfOk, IfErr, MatchResult, option_map};
+ghost use Rattle.std.specs.Prelude.{length, position};
 ghost use Rattle.std.specs.Str.{bytes_eq};
 ghost use Rattle.toml.specs.View.{view};
 ghost use Rattle.plan_table.specs.Document.{is_numbered};
@@ -62,7 +63,7 @@ pub(crate) fn numbered_names<'a>(
     }
 }
 
-/// Puts a number behind the others if it isn't among them. Those that are there have the mark.
+// Puts a number behind the others if it isn't among them. Those that are there have the mark.
 #[tactic(auto, using(crate::proofs::Marks::marked_anew, crate::proofs::Marks::added, crate::proofs::Marks::kept))]
 fn add_number(
     numbers: &mut Vec<u32>,
@@ -97,12 +98,12 @@ impl LikelyNext {
         is_likely: false,
     };
 
-    /// The number that is guessed. None that is unlikely is a name's.
+    // The number that is guessed. None that is unlikely is a name's.
     fn number(self) -> u32 {
         if self.is_likely { self.next } else { u32::MAX }
     }
 
-    /// Behind a name of this number.
+    // Behind a name of this number.
     fn behind(self, number: u32) -> LikelyNext {
         LikelyNext {
             next: number.saturating_add(1),
@@ -111,7 +112,7 @@ impl LikelyNext {
     }
 }
 
-/// The numbers of the tasks of these names, each once, or None where one of them is no task's.
+// The numbers of the tasks of these names, each once, or None where one of them is no task's.
 fn numbers_of(
     alloc: Global,
     names: &NameTable,

@@ -2,7 +2,7 @@
 ghost use Rattle.std.specs.Prelude.{◌≡◌, map, None, IfOk};
 ghost use Rattle.std.specs.List.{zip};
 ghost use Rattle.toml.specs.View.{view};
-ghost use Rattle.plan_table.specs.Keys.{actions_of, items_of, name_of};
+ghost use Rattle.plan_table.specs.Keys.{actions_of, do_of, items_of, name_of, needle_of};
 ghost use Rattle.plan_reader.specs.PlanView.{process_of as shown_process, work_view, plan_action_view, plan_task_view};
 ghost use Rattle.plan_reader.specs.NameNumbers.{first_repeat};
 ghost use Rattle.plan_reader.specs.Planned.{needle_action, action_of_kind, action_named, default_requirements, process_of, work_of, retention_named, action_of};
@@ -22,7 +22,7 @@ use resource_lock::Retention;
 use std::alloc::{AllocError, Global};
 use toml::Value;
 
-/// What counts a needle. A document whose needle is out of form is refused before.
+// What counts a needle. A document whose needle is out of form is refused before.
 fn needle_action(needle: &str) -> ItemAction
     ensures { result ≡ needle_action needle.now }
 {
@@ -32,25 +32,26 @@ fn needle_action(needle: &str) -> ItemAction
     }
 }
 
-fn action_of_kind(kind: ActionKind, needle: &str) -> ItemAction
-    ensures { result ≡ action_of_kind kind needle.now }
+// The action of an item of this kind. Only where it counts, its needle is looked up.
+fn action_of_kind(kind: ActionKind, item: &Value) -> ItemAction
+    ensures { result ≡ action_of_kind kind (needle_of (view item.now)) }
 {
     match kind {
         ActionKind::Lines => ItemAction::Lines,
         ActionKind::Words => ItemAction::Words,
         ActionKind::Bytes => ItemAction::Bytes,
         ActionKind::Longest => ItemAction::Longest,
-        ActionKind::Count => needle_action(needle),
+        ActionKind::Count => needle_action(needle_of(item)),
         ActionKind::Sha256 => ItemAction::Sha256,
     }
 }
 
-/// The action of a word. A document with a word of no action is refused before.
-fn action_named(word: &str, needle: &str) -> ItemAction
-    ensures { result ≡ action_named word.now needle.now }
+// The action of an item. A document with a word of no action is refused before.
+fn item_action(item: &Value) -> ItemAction
+    ensures { result ≡ action_named (do_of (view item.now)) (needle_of (view item.now)) }
 {
-    match ActionKind::of_word(word) {
-        Some(kind) => action_of_kind(kind, needle),
+    match ActionKind::of_word(do_of(item)) {
+        Some(kind) => action_of_kind(kind, item),
         None => ItemAction::Bytes,
     }
 }
@@ -73,7 +74,7 @@ fn work_of(alloc: Global, known: &Known, mut item: Value) -> Result<Work, AllocE
 {
     Ok(Work {
         isolation: isolation_in(alloc, known, &item)?,
-        action: action_named(do_of(&item), needle_of(&item)),
+        action: item_action(&item),
         file: take_file(alloc, &mut item),
     })
 }
@@ -100,7 +101,7 @@ fn items_of_action(
     works_of(alloc, known, take_items(alloc, action))
 }
 
-/// The retention of a word. A document with a word of no retention is refused before.
+// The retention of a word. A document with a word of no retention is refused before.
 fn retention_named(word: &str) -> Retention
     ensures { result ≡ retention_named word.now }
 {
@@ -146,7 +147,7 @@ fn actions_of_task(
     plan_actions_of(alloc, known, take_actions(alloc, task))
 }
 
-/// The task of a table, which comes after these.
+// The task of a table, which comes after these.
 fn task_of(
     alloc: Global,
     known: &Known,
@@ -164,7 +165,7 @@ fn task_of(
     })
 }
 
-/// The tasks of these tables, each after those of its row.
+// The tasks of these tables, each after those of its row.
 fn known_tasks(
     alloc: Global,
     known: &Known,
@@ -183,7 +184,7 @@ fn known_tasks(
     Ok(tasks)
 }
 
-/// The same in a plan of these names and requirements.
+// The same in a plan of these names and requirements.
 fn tasks_by_names<'a>(
     alloc: Global,
     projects: &NameTable<'a>,
@@ -206,7 +207,7 @@ fn tasks_by_names<'a>(
     known_tasks(alloc, &known, tables, dependencies)
 }
 
-/// The same in a plan of these projects' names, of which each stands once, and requirements.
+// The same in a plan of these projects' names, of which each stands once, and requirements.
 fn tasks_by_projects<'a>(
     alloc: Global,
     projects: &NameTable<'a>,

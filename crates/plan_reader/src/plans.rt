@@ -1,3 +1,4 @@
+//! A plan that was read: its projects, and its tasks with their actions and items.
 ghost use Rattle.std.specs.Prelude.{◌≡◌, map};
 ghost use Rattle.plan_reader.specs.PlanView.{plan_task_view, plan_view};
 ghost use Rattle.plan_reader.specs.IsPlan.{IsPlan};

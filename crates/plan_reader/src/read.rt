@@ -35,7 +35,7 @@ fn check(row: Row, names: &Names, document: &Value) -> Result<(), PlanFail>
     }
 }
 
-/// The numbers of the tasks that each task comes after, where each of the names is a task's.
+// The numbers of the tasks that each task comes after, where each of the names is a task's.
 fn known_dependencies(
     alloc: Global,
     names: &Names,
@@ -56,7 +56,7 @@ fn known_dependencies(
     }
 }
 
-/// The same, where no row before Cycle refuses anything.
+// The same, where no row before Cycle refuses anything.
 fn check_before(alloc: Global, names: &Names, document: &Value) -> Result<Vec<Vec<u32>>, PlanFail>
     requires names { name_lists names.now ≡ names_in (view document.now) }
     requires numbered { is_numbered (view document.now) ≡ true }
@@ -80,7 +80,7 @@ fn check_behind(names: &Names, document: &Value) -> Result<(), PlanFail>
     check(Row::BadRequirements, names, document)
 }
 
-/// Each task has a rank, by the numbers of the tasks that it comes after.
+// Each task has a rank, by the numbers of the tasks that it comes after.
 fn check_ranks(alloc: Global, dependencies: &[Vec<u32>]) -> Result<(), PlanFail>
     requires in_range { InRange (lists_of dependencies.now) }
     requires numbered { length dependencies.now ≤ 4294967295 }
@@ -107,7 +107,7 @@ fn check_table(document: &Value) -> Result<(), PlanFail>
     }
 }
 
-/// No task without a rank is refused, and nothing behind that.
+// No task without a rank is refused, and nothing behind that.
 fn check_ranked(
     alloc: Global,
     names: &Names,
@@ -125,7 +125,7 @@ fn check_ranked(
     check_behind(names, document)
 }
 
-/// The numbers of the tasks that each task comes after, in a document whose names are these, where nothing is refused.
+// The numbers of the tasks that each task comes after, in a document whose names are these, where nothing is refused.
 fn check_named(alloc: Global, names: &Names, document: &Value) -> Result<Vec<Vec<u32>>, PlanFail>
     requires names { name_lists names.now ≡ names_in (view document.now) }
     requires numbered { is_numbered (view document.now) ≡ true }
@@ -140,7 +140,7 @@ fn check_named(alloc: Global, names: &Names, document: &Value) -> Result<Vec<Vec
     Ok(dependencies)
 }
 
-/// The same behind the names of the projects and the tasks, each of which stands once.
+// The same behind the names of the projects and the tasks, each of which stands once.
 fn check_requirement_names<'a>(
     alloc: Global,
     projects: &NameTable<'a>,
@@ -166,7 +166,7 @@ fn check_requirement_names<'a>(
     check_named(alloc, &names, document)
 }
 
-/// The same behind the names of the projects, each of which stands once.
+// The same behind the names of the projects, each of which stands once.
 fn check_task_names<'a>(
     alloc: Global,
     projects: &NameTable<'a>,
@@ -184,8 +184,8 @@ fn check_task_names<'a>(
     check_requirement_names(alloc, projects, &tasks, document)
 }
 
-/// The same, or the first refusal behind those of the text. The names are borrowed from the document for as long as
-/// this takes.
+// The same, or the first refusal behind those of the text. The names are borrowed from the document for as long as
+// this takes.
 fn check_tables(alloc: Global, document: &Value) -> Result<Vec<Vec<u32>>, PlanFail>
     requires { is_numbered (view document.now) ≡ true }
     ensures dependencies { IfOk result (λ rows. lists_of rows.items ≡ dependencies_of (view document.now)) }
@@ -197,7 +197,7 @@ fn check_tables(alloc: Global, document: &Value) -> Result<Vec<Vec<u32>>, PlanFa
     check_task_names(alloc, &projects, document)
 }
 
-/// The plan of a document that nothing refuses. Its texts are moved out of the document.
+// The plan of a document that nothing refuses. Its texts are moved out of the document.
 fn plan_of(
     alloc: Global,
     dependencies: Vec<Vec<u32>>,
@@ -223,7 +223,7 @@ fn plan_of(
     Ok(Plan::new(projects, tasks, requirements))
 }
 
-/// The plan of a document, or the first refusal behind those of its text.
+// The plan of a document, or the first refusal behind those of its text.
 fn read_tables(alloc: Global, mut document: Value) -> Result<Plan, PlanFail>
     requires { is_numbered (view document) ≡ true }
     ensures { Gives (AnswersBy (refusal_before (view document)) (view document)) result }

@@ -6,7 +6,8 @@ ghost use Rattle.plan_table.specs.Keys.{actions_of, items_of};
 ghost use Rattle.plan_table.specs.Values.{text_of};
 ghost use Rattle.plan_reader.specs.NameNumbers.{has_name};
 ghost use Rattle.plan_reader.specs.Names.{name_lists};
-ghost use Rattle.plan_reader.specs.Rows.{lacks_project, lacks_task, releases, releases_early, has_item, item_fails, asks_unknown, is_class_loader, is_heap, holds};
+ghost use Rattle.plan_reader.specs.Rows.{lacks_project, lacks_task, releases, releases_early, has_item, item_fails, asks_unknown, is_class_loader, is_heap};
+ghost use Rattle.plan_reader.specs.Rows.{holds};
 
 use crate::limits::excess;
 use crate::name_table::NameTable;
@@ -58,7 +59,7 @@ fn any_releases(actions: &[Value]) -> bool
     actions.iter().any(releases)
 }
 
-/// Whether an action that isn't the last releases the project lock.
+// Whether an action that isn't the last releases the project lock.
 fn releases_early(actions: &[Value]) -> bool
     ensures { result ≡ releases_early (map view actions.now) }
 {
@@ -71,7 +72,7 @@ fn task_releases_early(task: &Value) -> bool
     releases_early(actions_of(task))
 }
 
-/// Whether an item asks for requirements that aren't there.
+// Whether an item asks for requirements that aren't there.
 fn asks_unknown(names: &NameTable, item: &Value) -> bool
     ensures { result ≡ asks_unknown names.now (view item.now) }
 {

@@ -27,7 +27,7 @@ impl PlaceTest for RowTest<'_, '_, '_> {
     }
 }
 
-/// The table at a place, and the document where there is none.
+// The table at a place, and the document where there is none.
 fn table_at<'a>(document: &'a Value, place: Place) -> &'a Value
     ensures { view result.now ≡ table_at (view document.entry.now) place }
 {

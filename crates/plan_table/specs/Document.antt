@@ -1,5 +1,6 @@
 -- The document that a text is, or why it is none.
-use Rattle.std.specs.Prelude.{ℕ, ◌≡◌, if◌then◌else◌, Bool, ◌&&◌, nat_lt, nat_le, List, length, Option, Some, None, option_map, Result, Ok, Err}
+use Rattle.std.specs.Prelude.{ℕ, ◌≡◌, if◌then◌else◌, Bool, ◌&&◌, nat_lt, nat_le, List, length, Option, Some, None, option_map, Result, Ok}
+use Rattle.std.specs.Prelude.{Err}
 use Rattle.std.specs.Str.{is_utf8}
 use Rattle.toml.specs.Data.{Data, table}
 use Rattle.toml.specs.Parse.{parse_document}

@@ -40,7 +40,7 @@ fn is_name_byte(byte: u8) -> bool
     NAME_BYTES[byte as usize]
 }
 
-/// Looks at each byte, since nearly always all of them are of names, and a loop with one way out is faster.
+// Looks at each byte, since nearly always all of them are of names, and a loop with one way out is faster.
 fn are_name_bytes(bytes: &[u8]) -> bool
     ensures { result ≡ list_all is_name_byte bytes.now }
 {

@@ -3,7 +3,8 @@ ghost use Rattle.std.specs.Prelude.{string_bytes, ◌≡◌, [], map, option_map
 ghost use Rattle.std.specs.Option.{option_map_or};
 ghost use Rattle.toml.specs.View.{view};
 ghost use Rattle.plan_table.specs.Values.{text_of};
-ghost use Rattle.plan_table.specs.Keys.{projects_of, tasks_of, requirements_of, name_of, project_of, after_of, actions_of, wait_of, fetch_of, items_of, do_of, needle_of, isolation_of, requirements_name_of, heap_of, args_of, properties_of, variables_of, debug_of, assertions_of};
+ghost use Rattle.plan_table.specs.Keys.{projects_of, tasks_of, requirements_of, name_of, project_of, after_of, actions_of, wait_of, fetch_of, items_of, do_of};
+ghost use Rattle.plan_table.specs.Keys.{needle_of, isolation_of, requirements_name_of, heap_of, args_of, properties_of, variables_of, debug_of, assertions_of};
 
 use crate::values::{
     boolean_or, integer_or, list_at, optional_text_at, table_of, text_at, text_or,

@@ -1,15 +1,16 @@
 //! One look at a table, in place of a search by each of its tests.
-ghost use Rattle.std.specs.Prelude.{◌≡◌, ◌&&◌, All, Some, map, string_bytes};
-ghost use Rattle.std.specs.BTreeMap.{get};
-ghost use Rattle.std.specs.List.{list_all, list_any};
+ghost use Rattle.std.specs.Prelude.{◌≡◌, ◌||◌, All, Some, count_by, map, option_copied, string_bytes};
+ghost use Rattle.std.specs.BTreeMap.{IsOrdered, get};
+ghost use Rattle.std.specs.List.{find};
 ghost use Rattle.std.specs.Str.{bytes_eq};
 ghost use Rattle.std.specs.String.{string_cmp};
 ghost use Rattle.toml.specs.View.{view};
-ghost use Rattle.plan_table.specs.Look.{any_holds, is_found};
-ghost use Rattle.plan_table.specs.Rules.{rule_of, fits};
+ghost use Rattle.plan_table.specs.Look.{any_holds, is_found, required_keys};
+ghost use Rattle.plan_table.specs.Rules.{rule_of};
+ghost use Rattle.plan_table.specs.Tables.{has_idle_key, lacks_more};
 
 use crate::rules::{KeyRule, TableKind, fits, rules_of};
-use crate::tables::{TableTest, has_idle_key, holds, missing};
+use crate::tables::{TableTest, has_idle_key, holds, lacks_more};
 use toml::{Table, Value};
 
 /// What is looked for in a table.
@@ -20,37 +21,61 @@ pub(crate) enum Sought {
     One(TableTest),
 }
 
-/// Whether a rule lets the value stand under the key.
-fn is_allowed(rules: &[KeyRule], key: &str, value: &Value) -> bool
-    ensures { result ≡ list_any (λ r. bytes_eq r.key.now key.now && fits r.form (view value.now)) rules.now }
+fn rule_for<'r>(rules: &'r [KeyRule], key: &str) -> Option<&'r KeyRule>
+    ensures { option_copied result ≡ find (λ r. bytes_eq r.key.now key.now) rules.entry.now }
 {
-    rules
-        .iter()
-        .any(|rule| rule.key == key && fits(rule.form, value))
+    rules.iter().find(|rule| rule.key == key)
 }
 
-fn are_allowed(rules: &[KeyRule], table: &Table) -> bool
-    ensures allowed { result ≡ list_all (λ e. list_any (λ r. bytes_eq r.key.now (string_bytes e.0) && fits r.form (view e.1)) rules.now) table.now.entries }
-    ensures found { All (λ e. get string_cmp table.now e.0 ≡ Some e.1) table.now.entries }
+// How many of the table's keys have to be there. None where one of them may not, or not with its value.
+fn required_keys(rules: &[KeyRule], entries: &Table) -> Option<usize>
+    ensures keys { result ≡ required_keys (map rule_of rules.now) (map (λ e. (string_bytes e.0, view e.1)) entries.now.entries) }
+    ensures found { All (λ e. get string_cmp entries.now e.0 ≡ Some e.1) entries.now.entries }
+    ensures ordered { IsOrdered string_cmp entries.now }
 {
-    table
-        .iter()
-        .all(|(key, value)| is_allowed(rules, key.as_str(), value))
+    let mut required = 0;
+    for (key, value) in entries.iter() {
+        let rule = rule_for(rules, key.as_str())?;
+        if !fits(rule.form, value) {
+            return None;
+        }
+        required += usize::from(rule.is_required);
+    }
+    Some(required)
 }
 
-/// Whether any of the tests holds of the table, or of another value that stands where it should. Each entry is looked
-/// at once.
+fn required_count(rules: &[KeyRule]) -> usize
+    ensures { result ≡ count_by (λ r. r.is_required) rules.now }
+{
+    rules.iter().filter(|rule| rule.is_required).count()
+}
+
+// Whether a key is missing beside the others, or means nothing beside them.
+fn clashes(kind: TableKind, table: &Value) -> bool
+    ensures { result ≡ (lacks_more kind (view table.now) || has_idle_key kind (view table.now)) }
+{
+    lacks_more(kind, table) || has_idle_key(kind, table)
+}
+
+// Whether any of the tests holds of the table, or of another value that stands where it should. Each entry is looked
+// at once: no key that has to be there lacks where as many of those that are there have to.
 fn any_holds(kind: TableKind, table: &Value) -> bool
     ensures { result ≡ any_holds kind (view table.now) }
 {
-    match table {
-        Value::Table(entries) => {
-            !are_allowed(rules_of(kind), entries)
-                || missing(kind, table)
-                || has_idle_key(kind, table)
-        }
-        _ => true,
+    let Value::Table(entries) = table else {
+        return true;
+    };
+    let rules = rules_of(kind);
+    let Some(required) = required_keys(rules, entries) else {
+        return true;
+    };
+    if required < required_count(rules) {
+        return true;
     }
+    if required < entries.len() {
+        return clashes(kind, table);
+    }
+    lacks_more(kind, table)
 }
 
 /// Whether the table, or another value that stands where it should, has what is looked for.

@@ -1,3 +1,4 @@
+//! Why a text is no plan, and where.
 ghost use Rattle.std.specs.Prelude.{◌≡◌};
 ghost use Rattle.plan_table.specs.declared.refusals.PlanFail.TheVariants.{NoMemory};
 

@@ -84,7 +84,7 @@ fn refusal_of(test: TableTest, place: Place) -> PlanRefusal
     }
 }
 
-/// Whether one look at each table finds nothing to refuse.
+// Whether one look at each table finds nothing to refuse.
 #[tactic(auto, using(crate::proofs::lemmas::LookLaws::nothing_refused))]
 fn refuses_nothing(document: &Value) -> bool
     requires { is_numbered (view document.now) ≡ true }

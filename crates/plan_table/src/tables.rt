@@ -6,7 +6,8 @@ ghost use Rattle.std.specs.Str.{bytes_eq};
 ghost use Rattle.toml.specs.View.{view};
 ghost use Rattle.plan_table.specs.Keys.{items_of};
 ghost use Rattle.plan_table.specs.Rules.{rule_of, rules};
-ghost use Rattle.plan_table.specs.Tables.{has_rule, has_other_key, counts, asks_for_process, has_idle_key, unknown_key, fails, wrong_type, lacks_more, missing, bad_name, holds};
+ghost use Rattle.plan_table.specs.Tables.{has_rule, has_other_key, counts, asks_for_process, has_idle_key, unknown_key, fails, wrong_type, lacks_more, missing};
+ghost use Rattle.plan_table.specs.Tables.{bad_name, holds};
 
 use crate::keys::{do_of, isolation_of, items_of};
 use crate::rules::{KeyRule, TableKind, has_form, has_type, rules_of};
@@ -109,7 +110,7 @@ fn any_fails(test: RuleTest, table: &Value, rules: &[KeyRule]) -> bool
     rules.iter().any(|rule| fails(test, table, rule))
 }
 
-/// Whether the test holds of a rule for tables of this sort.
+// Whether the test holds of a rule for tables of this sort.
 fn any_fails_of(test: RuleTest, kind: TableKind, table: &Value) -> bool
     ensures { result ≡ list_any (fails test (view table.now)) (rules kind) }
 {
@@ -129,7 +130,8 @@ fn has_no_items(action: &Value) -> bool
     items_of(action).is_empty()
 }
 
-fn lacks_more(kind: TableKind, table: &Value) -> bool
+/// Whether a key isn't there that should be beside the others.
+pub(crate) fn lacks_more(kind: TableKind, table: &Value) -> bool
     ensures { result ≡ lacks_more kind (view table.now) }
 {
     match kind {
@@ -139,8 +141,7 @@ fn lacks_more(kind: TableKind, table: &Value) -> bool
     }
 }
 
-/// Whether a key isn't there that should be.
-pub(crate) fn missing(kind: TableKind, table: &Value) -> bool
+fn missing(kind: TableKind, table: &Value) -> bool
     ensures { result ≡ missing kind (view table.now) }
 {
     any_fails_of(RuleTest::Lacking, kind, table) || lacks_more(kind, table)

@@ -4,7 +4,8 @@ ghost use Rattle.std.specs.Prelude.{◌≡◌, codes, map, string_bytes, option_
 ghost use Rattle.toml.specs.Data.{get};
 ghost use Rattle.toml.specs.View.{view};
 ghost use Rattle.plan_table.specs.Values.{text_of, text_or, list_at, text_at, pairs_at, optional_text_at};
-ghost use Rattle.plan_table.specs.Keys.{projects_of, tasks_of, requirements_of, name_of, actions_of, fetch_of, items_of, file_of, executable_of, args_of, properties_of, variables_of, encoding_of};
+ghost use Rattle.plan_table.specs.Keys.{projects_of, tasks_of, requirements_of, name_of, actions_of, fetch_of, items_of, file_of, executable_of, args_of};
+ghost use Rattle.plan_table.specs.Keys.{properties_of, variables_of, encoding_of};
 ghost use Rattle.plan_table.specs.Taking.{KeepsOthers};
 
 use item_actions::Text;
@@ -12,7 +13,7 @@ use std::alloc::{AllocError, Global};
 use std::mem;
 use toml::{Table, Value};
 
-/// Takes what stands under a key of a table, and leaves an empty value there: to remove a key costs more.
+// Takes what stands under a key of a table, and leaves an empty value there: to remove a key costs more.
 fn take_member(members: &mut Table, key: &str) -> Option<Value>
     ensures value { option_map view result ≡ get key.now (view (Value.Table members.old)) }
     ensures others { KeepsOthers key.now (view (Value.Table members.old)) (view (Value.Table members.new)) }
@@ -23,7 +24,7 @@ fn take_member(members: &mut Table, key: &str) -> Option<Value>
     }
 }
 
-/// Takes what stands under a key of the table. Another value has no keys.
+// Takes what stands under a key of the table. Another value has no keys.
 fn take(table: &mut Value, key: &str) -> Option<Value>
     ensures value { option_map view result ≡ get key.now (view table.old) }
     ensures others { KeepsOthers key.now (view table.old) (view table.new) }
@@ -69,7 +70,7 @@ fn take_text_or(
     }
 }
 
-/// Takes the members of a table, and none of another value.
+// Takes the members of a table, and none of another value.
 #[tactic(auto, using(crate::proofs::lemmas::Lists::pairs_of_table))]
 fn take_members(alloc: Global, table: &mut Value, key: &str) -> Table
     ensures members { map (λ e. (string_bytes e.0, text_of (view e.1))) result.entries ≡ pairs_at key.now (view table.old) }
@@ -81,7 +82,7 @@ fn take_members(alloc: Global, table: &mut Value, key: &str) -> Table
     }
 }
 
-/// Takes the members of an array, and none of another value.
+// Takes the members of an array, and none of another value.
 #[tactic(auto, using(crate::proofs::lemmas::Lists::elements_of_array))]
 fn take_list(alloc: Global, table: &mut Value, key: &str) -> Vec<Value>
     ensures list { map view result.items ≡ list_at key.now (view table.old) }

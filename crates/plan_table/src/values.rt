@@ -4,7 +4,8 @@ ghost use Rattle.std.specs.Prelude.{string_bytes, ◌≡◌, [], map, Some, opti
 ghost use Rattle.std.specs.List.{list_all};
 ghost use Rattle.std.specs.Option.{option_map_or};
 ghost use Rattle.toml.specs.View.{view};
-ghost use Rattle.plan_table.specs.Values.{elements, text_of, text_or, integer_or, boolean_or, optional_text_at, table_pairs, list_at, text_at, is_text, is_array_of_texts, is_table_of_texts, is_word};
+ghost use Rattle.plan_table.specs.Values.{elements, text_of, text_or, integer_or, boolean_or, optional_text_at, table_pairs, list_at, text_at, is_text};
+ghost use Rattle.plan_table.specs.Values.{is_array_of_texts, is_table_of_texts, is_word};
 
 use toml::{Table, Value};
 
@@ -18,7 +19,7 @@ pub fn text_of<'a>(value: &'a Value) -> &'a str
     }
 }
 
-/// The members of an array, and none of another value.
+// The members of an array, and none of another value.
 #[tactic(auto, using(crate::proofs::lemmas::Lists::elements_of_array))]
 fn elements<'a>(value: Option<&'a Value>) -> &'a [Value]
     ensures { map view result.now ≡ elements (option_map (λ v. view v.now) value.entry) }

@@ -107,7 +107,7 @@ fn absent_keys_have_their_defaults(rt: HostRuntime) -> Result<(), Fail> {
     Ok(())
 }
 
-/// Takes the executable and the encoding of requirements, and says whether they are these.
+// Takes the executable and the encoding of requirements, and says whether they are these.
 fn has_texts(
     alloc: Global,
     requirements: &mut Value,
@@ -119,7 +119,7 @@ fn has_texts(
     Ok(has_executable && has_encoding)
 }
 
-/// Takes the lists of the large requirements, and says whether they have so many members as are written.
+// Takes the lists of the large requirements, and says whether they have so many members as are written.
 fn has_lists(alloc: Global, large: &mut Value) -> bool {
     take_args(alloc, large).len() == 2
         && take_properties(alloc, large).len() == 2

@@ -18,7 +18,7 @@ use Rattle.resource_lock.specs.declared.marks.MarkId.TheVariants.{Task as TaskOf
 use Rattle.resource_lock.proofs.lemmas.Lists.{get_or-set_cases}
 use Rattle.resource_lock.proofs.lemmas.Runs.{all_named_along, same_shape-make_all}
 use Rattle.resource_lock.proofs.lemmas.Undo.{same_mark_is}
-use Rattle.ready_work.specs.Choices.{CanSkip, IsFree, IsStartable, IsOpenUnit, IsQueued, IsUnended}
+use Rattle.ready_work.specs.Choices.{CanSkip, IsFree, IsStartable, IsOpenUnit, IsUnended}
 use Rattle.ready_work.specs.Dependents.{AreDependents}
 use Rattle.ready_work.specs.ReadyWork.{Follows, IsIndexBut, Lead, Notes, TouchLock, TouchTask, TouchUnit, TouchesLock, TouchesTask, TouchesUnit}
 use Rattle.ready_work.specs.Sets.{Looks, NoNumber}
@@ -181,9 +181,6 @@ locks_same s w (c ∷ cs) k = at (lock_same s w c k) (locks_same (make s w c) w 
 
 -- ---- what holds of the same units, tasks and locks in both states
 
-same_queued : (g : GraphView) (r s : StateView) (u : ℕ) → mark_of s (UnitOf u) ≡ mark_of r (UnitOf u) → IsQueued g r u ↔ IsQueued g s u
-same_queued g r s u same = (λ q. record { within = q.within; queued = same ∙ q.queued }, λ q. record { within = q.within; queued = sym same ∙ q.queued })
-
 same_open : (g : GraphView) (r s : StateView) (u : ℕ) → mark_of s (UnitOf u) ≡ mark_of r (UnitOf u) → IsOpenUnit g r u ↔ IsOpenUnit g s u
 same_open g r s u same = (λ o. record { within = o.within; unended = ap has_ended same ∙ o.unended }, λ o. record { within = o.within; unended = ap has_ended (sym same) ∙ o.unended })
 
@@ -245,7 +242,6 @@ spared_where_led g r s w changes (inr back) = spared_back g changes s r (spared 
 pub index_open : (g : GraphView) (before : StateView) (w : WorkerId) (changes : List Change) (s : StateView) (ready : ReadyWork) → Follows g before w changes s ready → IsIndexBut g s (TouchUnit changes) (TouchTask g changes) (TouchLock changes) ready
 index_open g before w changes s ready f = record {
   made = f.index.made;
-  queued = set_moved (IsQueued g before) (IsQueued g s) (TouchUnit changes) ready.queued (λ u. or_same (same_queued g before s u) (spare.units u)) f.index.queued;
   open_units = set_moved (IsOpenUnit g before) (IsOpenUnit g s) (TouchUnit changes) ready.open_units (λ u. or_same (same_open g before s u) (spare.units u)) f.index.open_units;
   tasks = record {
     skippable = set_moved (CanSkip g before) (CanSkip g s) (TouchTask g changes) ready.tasks.skippable (λ t. or_same (same_skip g before s t) (spare.tasks t)) f.index.tasks.skippable;
@@ -262,7 +258,6 @@ index_open g before w changes s ready f = record {
 looked_at_lock : (g : GraphView) (s : StateView) (c : Change) (lock : LockId) (old new : ReadyWork) → ((k : ℕ) → TouchesUnit c k → ⊥) → ((k : ℕ) → TouchesTask g c k → ⊥) → ((k : ℕ) → TouchesLock c k → k ≡ lock.0) → new ≡ record old { tasks = new.tasks } → Looks (IsFree g s) (λ l. l ≡ lock.0) old.tasks.startable.free new.tasks.startable.free → LooksAt g s NoNumber old.tasks new.tasks → Notes g s c old new
 looked_at_lock g s c lock old new no_unit no_task own same free tasks = record {
   dependents = ap (λ (r : ReadyWork). r.dependents) same;
-  queued = subst (Looks (IsQueued g s) (TouchesUnit c) old.queued) (sym (ap (λ (r : ReadyWork). r.queued) same)) (looks_nowhere (IsQueued g s) (TouchesUnit c) old.queued no_unit);
   open_units = subst (Looks (IsOpenUnit g s) (TouchesUnit c) old.open_units) (sym (ap (λ (r : ReadyWork). r.open_units) same)) (looks_nowhere (IsOpenUnit g s) (TouchesUnit c) old.open_units no_unit);
   tasks = looks_at_fewer g s NoNumber (TouchesTask g c) old.tasks new.tasks no_task tasks;
   free = looks_fewer (IsFree g s) (λ l. l ≡ lock.0) (TouchesLock c) old.tasks.startable.free new.tasks.startable.free own free;
@@ -290,13 +285,11 @@ next_looked g s c cs old new notes is = record {
   made = record {
     fits = is.made.fits;
     dependents = subst (λ all. AreDependents g all.items) (sym notes.dependents) is.made.dependents;
-    units = let a = is.made.units in let b = notes.queued.room in omega arith;
-    open_units = let a = is.made.open_units in let b = notes.open_units.room in omega arith;
+    units = let a = is.made.units in let b = notes.open_units.room in omega arith;
     tasks = room_after (length g.tasks) g s (TouchesTask g c) old.tasks new.tasks notes.tasks is.made.tasks;
     locks = let a = is.made.locks in let b = notes.free.room in omega arith;
     task_locks = notes.tasks.locks ∙ is.made.task_locks;
   };
-  queued = set_looked (IsQueued g s) (TouchUnit (c ∷ cs)) (TouchesUnit c) (TouchUnit cs) old.queued new.queued (λ u touched. touched) notes.queued is.queued;
   open_units = set_looked (IsOpenUnit g s) (TouchUnit (c ∷ cs)) (TouchesUnit c) (TouchUnit cs) old.open_units new.open_units (λ u touched. touched) notes.open_units is.open_units;
   tasks = sets_looked g s (TouchTask g (c ∷ cs)) (TouchesTask g c) (TouchTask g cs) old.tasks new.tasks (λ t touched. touched) notes.tasks is.tasks;
   free = set_looked (IsFree g s) (TouchLock (c ∷ cs)) (TouchesLock c) (TouchLock cs) old.tasks.startable.free new.tasks.startable.free (λ l touched. touched) notes.free is.free;

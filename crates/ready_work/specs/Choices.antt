@@ -1,16 +1,11 @@
--- Which unit is queued, which task can be skipped or started, and which unit or task hasn't ended.
+-- Which task can be skipped or started, and which unit or task hasn't ended.
 use Rattle.std.specs.Prelude.{ℕ, ◌≡◌, ◌<◌, true, false, None, length}
 use Rattle.std.specs.List.{list_any, list_all}
 use Rattle.resource_lock.specs.GraphView.{GraphView, task_of}
 use Rattle.resource_lock.specs.StateView.{StateView, mark_of, owner_of}
-use Rattle.resource_lock.specs.declared.marks.Mark.TheVariants.{Waiting, Queued}
+use Rattle.resource_lock.specs.declared.marks.Mark.TheVariants.{Waiting}
 use Rattle.resource_lock.specs.declared.marks.MarkId.TheVariants.{Task as TaskOf, Unit as UnitOf}
 use Rattle.resource_lock.specs.Marks.{has_passed, has_fallen, has_ended}
-
--- the unit is Queued
-pub record IsQueued (g : GraphView) (s : StateView) (u : ℕ) : Type 0 where
-  pub within : u < g.units
-  pub queued : mark_of s (UnitOf u) ≡ Queued
 
 -- the unit hasn't ended
 pub record IsOpenUnit (g : GraphView) (s : StateView) (u : ℕ) : Type 0 where

@@ -11,7 +11,7 @@ use Rattle.resource_lock.specs.declared.changes.Change.{Change}
 use Rattle.resource_lock.specs.declared.changes.Change.TheVariants.{Lock, Move, Unlock}
 use Rattle.resource_lock.specs.declared.ids.WorkerId.{WorkerId}
 use Rattle.resource_lock.specs.declared.marks.MarkId.TheVariants.{Task as TaskOf, Unit as UnitOf}
-use Rattle.ready_work.specs.Choices.{IsFree, IsOpenUnit, IsQueued}
+use Rattle.ready_work.specs.Choices.{IsFree, IsOpenUnit}
 use Rattle.ready_work.specs.Dependents.{AreDependents}
 use Rattle.ready_work.specs.NumberSetView.{room_of}
 use Rattle.ready_work.specs.Sets.{IsSetOf, Looks, NoNumber}
@@ -22,8 +22,7 @@ use Rattle.ready_work.specs.declared.ready_works.ReadyWork.{ReadyWork}
 pub record IsMadeFor (g : GraphView) (ready : ReadyWork) : Type 0 where
   pub fits : Fits g
   pub dependents : AreDependents g ready.dependents.items
-  pub units : g.units ≤ room_of ready.queued
-  pub open_units : g.units ≤ room_of ready.open_units
+  pub units : g.units ≤ room_of ready.open_units
   pub tasks : HasTaskRoom (length g.tasks) ready.tasks
   pub locks : g.locks ≤ room_of ready.tasks.startable.free
   pub task_locks : ready.tasks.startable.locks ≡ map (λ t. t.lock.0) g.tasks
@@ -31,7 +30,6 @@ pub record IsMadeFor (g : GraphView) (ready : ReadyWork) : Type 0 where
 -- The index is that of the graph and the state, but for units, tasks and locks that are left open.
 pub record IsIndexBut (g : GraphView) (s : StateView) (OpenUnits OpenTasks OpenLocks : ℕ → Type 0) (ready : ReadyWork) : Type 0 where
   pub made : IsMadeFor g ready
-  pub queued : IsSetOf (IsQueued g s) OpenUnits ready.queued
   pub open_units : IsSetOf (IsOpenUnit g s) OpenUnits ready.open_units
   pub tasks : AreTaskSets g s OpenTasks ready.tasks
   pub free : IsSetOf (IsFree g s) OpenLocks ready.tasks.startable.free
@@ -71,7 +69,6 @@ TouchLock (c ∷ cs) k = TouchesLock c k ⊎ TouchLock cs k
 -- what a change touches was looked at
 pub record Notes (g : GraphView) (s : StateView) (c : Change) (old new : ReadyWork) : Type 0 where
   pub dependents : new.dependents ≡ old.dependents
-  pub queued : Looks (IsQueued g s) (TouchesUnit c) old.queued new.queued
   pub open_units : Looks (IsOpenUnit g s) (TouchesUnit c) old.open_units new.open_units
   pub tasks : LooksAt g s (TouchesTask g c) old.tasks new.tasks
   pub free : Looks (IsFree g s) (TouchesLock c) old.tasks.startable.free new.tasks.startable.free

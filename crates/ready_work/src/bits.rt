@@ -1,6 +1,7 @@
 //! Bits in words.
 ghost use Rattle.std.specs.Int.{bit_at};
-ghost use Rattle.std.specs.Prelude.{◌≡◌, ◌≢◌, ◌==◌, ◌||◌, ◌<◌, ◌≤◌, ◌+◌, ◌-◌, ◌*◌, ◌/◌, ◌^◌, ℕ, IfNone, IfOk, IfSome, length, slice_index_or};
+ghost use Rattle.std.specs.Prelude.{◌≡◌, ◌≢◌, ◌==◌, ◌||◌, ◌<◌, ◌≤◌, ◌+◌, ◌-◌, ◌*◌, ◌/◌, ◌^◌, ℕ};
+ghost use Rattle.std.specs.Prelude.{IfNone, IfOk, IfSome, length, slice_index_or};
 ghost use Rattle.ready_work.specs.Lowest.{IsFrom, IsLowest, IsNone};
 ghost use Rattle.ready_work.specs.WordBits.{bit_in, HasBit, IsInWord};
 
@@ -99,7 +100,7 @@ impl Bits {
     }
 }
 
-/// The word with the bits below a place cleared.
+// The word with the bits below a place cleared.
 fn bits_from(word: u64, place: usize) -> u64
     requires { place < 64 }
     ensures below { (i : ℕ) → i < place → bit_at result i ≡ 0 }
@@ -108,7 +109,7 @@ fn bits_from(word: u64, place: usize) -> u64
     word & (u64::MAX << place)
 }
 
-/// The word with one bit turned round.
+// The word with one bit turned round.
 fn with_bit_flipped(word: u64, place: usize) -> u64
     requires { place < 64 }
     ensures flipped { bit_at result place ≡ 1 - bit_at word place }

@@ -4,19 +4,10 @@ ghost use Rattle.resource_lock.specs.GraphView.{task_of};
 ghost use Rattle.resource_lock.specs.Marks.{has_ended};
 ghost use Rattle.resource_lock.specs.Shape.{BelongsTo};
 ghost use Rattle.resource_lock.specs.StateView.{mark_of, owner_of};
-ghost use Rattle.resource_lock.specs.declared.marks.Mark.TheVariants as marks;
 ghost use Rattle.resource_lock.specs.declared.marks.MarkId.TheVariants as ids;
 ghost use Rattle.ready_work.specs.Choices.{CanSkip, IsStartable};
 
 use resource_lock::{Graph, LockId, Mark, MarkId, State};
-
-/// Whether a unit is queued.
-pub(crate) fn is_queued(state: &State, unit: u32) -> bool
-    requires { unit < length state.now.units }
-    ensures { IsTrue result ↔ (mark_of state.now (ids.Unit unit) ≡ marks.Queued) }
-{
-    state.mark(MarkId::Unit(unit)) == Mark::Queued
-}
 
 /// Whether a unit hasn't ended.
 pub(crate) fn is_open(state: &State, unit: u32) -> bool
@@ -52,7 +43,7 @@ pub(crate) fn is_free(state: &State, lock: u32) -> bool
     state.owner(LockId(lock)).is_none()
 }
 
-/// The tasks that a task comes after.
+// The tasks that a task comes after.
 fn after_of(graph: &Graph, task: u32) -> &[u32]
     requires { task < length graph.now.tasks }
     ensures value { result.now ≡ (task_of graph.now task).after }

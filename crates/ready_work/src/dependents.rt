@@ -8,7 +8,7 @@ use resource_lock::Graph;
 use std::alloc::{AllocError, Global};
 use task_ranks::dependents_of;
 
-/// For each task, the tasks that it comes after.
+// For each task, the tasks that it comes after.
 fn dependencies_of(alloc: Global, graph: &Graph) -> Result<Vec<Vec<u32>>, AllocError>
     ensures fits { Fits graph.now }
     ensures rows { IfOk result (λ rows. lists_of rows.items ≡ map (λ t. t.after) graph.now.tasks) }

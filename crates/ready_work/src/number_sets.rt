@@ -52,7 +52,7 @@ impl NumberSet {
         }
     }
 
-    /// Makes a number a member where it is none, and none where it is one.
+    // Makes a number a member where it is none, and none where it is one.
     fn flip(&mut self, number: u32)
         requires { number < room_of self.old }
         ensures room { room_of self.new ≡ room_of self.old }
@@ -61,16 +61,6 @@ impl NumberSet {
     {
         if self.members.flip(number as usize) {
             self.filled.flip(number as usize / 64);
-        }
-    }
-
-    /// Whether a number is a member.
-    pub fn contains(&self, number: u32) -> bool
-        ensures { result ≡ has self.now number }
-    {
-        match self.members.next_in_word(number as usize) {
-            Some(next) => next == number as usize,
-            None => false,
         }
     }
 
@@ -99,8 +89,8 @@ impl NumberSet {
         Some(number as u32)
     }
 
-    /// The lowest member that isn't below a number: in the number's own word, or else in the next
-    /// word that isn't 0.
+    // The lowest member that isn't below a number: in the number's own word, or else in the next
+    // word that isn't 0.
     fn next_member(&self, from: usize) -> Option<usize>
         requires { from < 2 ^ 32 }
         ensures few { IfSome result (λ k. k < 2 ^ 32) }

@@ -8,14 +8,14 @@ ghost use Rattle.resource_lock.specs.StateView.{StateView, IsLockOf};
 ghost use Rattle.resource_lock.specs.declared.ids.WorkerId.{WorkerId};
 ghost use Rattle.resource_lock.specs.declared.changes.Change.TheVariants.{Move};
 ghost use Rattle.resource_lock.specs.declared.marks.MarkId.TheVariants as ids;
-ghost use Rattle.ready_work.specs.Choices.{CanSkip, CanStart, IsFree, IsOpenUnit, IsQueued};
+ghost use Rattle.ready_work.specs.Choices.{CanSkip, CanStart, IsFree, IsOpenUnit};
 ghost use Rattle.ready_work.specs.Lowest.{IsFrom, IsLowest, IsNone};
 ghost use Rattle.ready_work.specs.NumberSetView.{room_of};
 ghost use Rattle.ready_work.specs.ReadyWork.{Follows, IsIndexOf, IsMadeFor, Notes, TouchesTask};
 ghost use Rattle.ready_work.specs.Sets.{IsSetOf, Looks, NoNumber, SameNumbers};
 ghost use Rattle.ready_work.specs.TaskSets.{LooksAt};
 
-use crate::choices::{is_free, is_open, is_queued};
+use crate::choices::{is_free, is_open};
 use crate::dependents::all_dependents;
 use crate::number_sets::NumberSet;
 use crate::task_sets::TaskSets;
@@ -23,12 +23,11 @@ use resource_lock::{Change, Graph, LockId, Mark, MarkId, State};
 use std::alloc::{AllocError, Global};
 use task_ranks::dependents_at;
 
-/// The units that are queued, the tasks that can be skipped or started, and the units and tasks
-/// that haven't ended, of a graph and its state. It takes memory only when it is made.
+/// The tasks that can be skipped or started, and the units and tasks that haven't ended, of a graph
+/// and its state. It takes memory only when it is made.
 #[derive(Drop)]
 pub struct ReadyWork {
     tasks: TaskSets,
-    queued: NumberSet,
     /// The units that haven't ended.
     open_units: NumberSet,
     /// For each task, the tasks that come after it.
@@ -42,12 +41,10 @@ impl ReadyWork {
         ensures { IfOk result (IsIndexOf graph.now state.now) }
     {
         let dependents = all_dependents(alloc, graph)?;
-        let queued = queued_units(alloc, graph, state)?;
         let open_units = open_units(alloc, graph, state)?;
         let tasks = TaskSets::of(alloc, graph, state)?;
         Ok(ReadyWork {
             tasks,
-            queued,
             open_units,
             dependents,
         })
@@ -63,14 +60,6 @@ impl ReadyWork {
         for change in changes {
             self.note(graph, state, change);
         }
-    }
-
-    /// The lowest unit that is queued.
-    pub fn first_queued(&self) -> Option<u32>
-        ensures some { (g : GraphView) (s : StateView) → IsIndexOf g s self.now → IfSome result (IsLowest (IsQueued g s)) }
-        ensures none { (g : GraphView) (s : StateView) → IsIndexOf g s self.now → IfNone result (IsNone (IsQueued g s)) }
-    {
-        self.queued.first()
     }
 
     /// The lowest unit from a number on that hasn't ended.
@@ -105,7 +94,7 @@ impl ReadyWork {
         self.tasks.unended.first().is_none()
     }
 
-    /// Looks at what a change touches, in the state after all changes, or after all were taken back.
+    // Looks at what a change touches, in the state after all changes, or after all were taken back.
     fn note(&mut self, graph: &Graph, state: &State, change: &Change)
         requires made { IsMadeFor graph.now self.old }
         requires belongs { BelongsTo graph.now state.now }
@@ -114,9 +103,7 @@ impl ReadyWork {
     {
         match *change {
             Change::Move(MarkId::Unit(unit), _, _) => {
-                let is_queued = is_queued(state, unit);
                 let is_open = is_open(state, unit);
-                self.queued.put(unit, is_queued);
                 self.open_units.put(unit, is_open);
             }
             Change::Move(MarkId::Task(task), from, to) => self.note_task(
@@ -127,7 +114,7 @@ impl ReadyWork {
         }
     }
 
-    /// Looks at a lock that was taken or given back.
+    // Looks at a lock that was taken or given back.
     fn note_lock(&mut self, state: &State, lock: LockId)
         requires within { IsLockOf state.now lock }
         requires room { lock.0 < room_of self.old.tasks.startable.free }
@@ -141,8 +128,8 @@ impl ReadyWork {
             .put_lock(lock.0, is_free(state, lock.0));
     }
 
-    /// Looks at a task whose mark has moved, and at its dependents where it came to its end or
-    /// left it.
+    // Looks at a task whose mark has moved, and at its dependents where it came to its end or
+    // left it.
     fn note_task(&mut self, graph: &Graph, state: &State, task: u32, from: Mark, to: Mark)
         requires made { IsMadeFor graph.now self.old }
         requires belongs { BelongsTo graph.now state.now }
@@ -159,20 +146,7 @@ impl ReadyWork {
     }
 }
 
-/// The units that are queued.
-fn queued_units(alloc: Global, graph: &Graph, state: &State) -> Result<NumberSet, AllocError>
-    requires { BelongsTo graph.now state.now }
-    ensures set { IfOk result (IsSetOf (IsQueued graph.now state.now) NoNumber) }
-    ensures room { IfOk result (λ set. graph.now.units ≤ room_of set) }
-{
-    let mut queued = NumberSet::new(alloc, graph.units())?;
-    for unit in 0..graph.units() {
-        queued.put(unit, is_queued(state, unit));
-    }
-    Ok(queued)
-}
-
-/// The units that haven't ended.
+// The units that haven't ended.
 fn open_units(alloc: Global, graph: &Graph, state: &State) -> Result<NumberSet, AllocError>
     requires { BelongsTo graph.now state.now }
     ensures set { IfOk result (IsSetOf (IsOpenUnit graph.now state.now) NoNumber) }

@@ -100,7 +100,7 @@ impl StartableTasks {
         }
     }
 
-    /// Whether a task is a member.
+    // Whether a task is a member.
     fn contains(&self, task: u32) -> bool
         requires { task < room_of self.now.tasks }
         ensures { result ≡ has self.now.tasks task }
@@ -108,8 +108,8 @@ impl StartableTasks {
         self.places.has(self.order.place(task))
     }
 
-    /// Makes a task a member, or none. Its lock isn't free meanwhile, so no task of the lock is a
-    /// head.
+    // Makes a task a member, or none. Its lock isn't free meanwhile, so no task of the lock is a
+    // head.
     #[inline(never)]
     fn change(&mut self, task: u32, is_startable: bool)
         requires { task < room_of self.old.tasks }
@@ -125,7 +125,7 @@ impl StartableTasks {
         self.put_lock(lock, true);
     }
 
-    /// Makes a task whose lock isn't free a member, or none. The heads stay.
+    // Makes a task whose lock isn't free a member, or none. The heads stay.
     fn put_closed(&mut self, task: u32, is_startable: bool)
         requires within { task < room_of self.old.tasks }
         requires closed { has self.old.free (lock_at self.old.locks task) ≡ false }
@@ -146,7 +146,7 @@ impl StartableTasks {
         self.heads.first()
     }
 
-    /// The lowest task that has a lock.
+    // The lowest task that has a lock.
     fn lowest_with(&self, lock: u32) -> Option<u32>
         requires { lock < room_of self.now.free }
         ensures some { IfSome result (IsLowest (IsWith self.now.locks self.now.tasks lock)) }

@@ -33,7 +33,7 @@ impl TaskSets {
         Ok(sets)
     }
 
-    /// No task and no free lock.
+    // No task and no free lock.
     fn empty(alloc: Global, graph: &Graph) -> Result<TaskSets, AllocError>
         ensures empty { IfOk result AreEmpty }
         ensures room { IfOk result (HasTaskRoom (length graph.now.tasks)) }
@@ -51,7 +51,7 @@ impl TaskSets {
         })
     }
 
-    /// Looks at each task and at each lock for the first time.
+    // Looks at each task and at each lock for the first time.
     fn fill(&mut self, graph: &Graph, state: &State)
         requires belongs { BelongsTo graph.now state.now }
         requires empty { AreEmpty self.old }

@@ -1,4 +1,3 @@
-mod UnitLists
 mod Closings
 mod Drives
 mod Answering

@@ -1,4 +1,3 @@
-pub mod Units
 pub mod Truth
 pub mod Driving
 pub mod Steps

@@ -1,3 +1,4 @@
+//! What a recorded run comes to when it is driven again.
 ghost use Rattle.std.specs.Prelude.{◌≡◌};
 ghost use Rattle.history_text.specs.Fitting.{HeadFits};
 ghost use Rattle.history_reader.specs.HistoryView.{history_view};

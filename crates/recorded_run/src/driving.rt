@@ -2,19 +2,17 @@
 ghost use Rattle.std.specs.Prelude.{◌≡◌, ◌∷◌, [], ◌<◌, length, map};
 ghost use Rattle.lock_journal.specs.Shown.{entry_shown};
 ghost use Rattle.lock_transforms.specs.declared.entries.Closed.{Closed as Closing};
-ghost use Rattle.plan_reader.specs.Units.{plan_units};
+ghost use Rattle.plan_reader.specs.Units.{plan_units, unit_view};
 ghost use Rattle.recorded_run.specs.Driving.{AreDriven, IsStopCounted, ReadsFor};
 ghost use Rattle.recorded_run.specs.Truth.{closing_at};
 ghost use Rattle.recorded_run.specs.Steps.{HasDrivenEntry, IsDrivenAt, closed_list};
-ghost use Rattle.recorded_run.specs.Units.{unit_view};
 
 use crate::stops::Stop;
-use crate::units::{UnitWork, units_of};
 use crate::values::{is_honest, unit_value};
 use file_access::{DeskFail, Files};
 use lock_journal::{Book, Shown};
 use lock_transforms::{Closed, Kind};
-use plan_reader::Plan;
+use plan_reader::{Plan, UnitWork, units_of};
 use std::alloc::Global;
 
 /// Drives the entries of a book of the plan again, in order, up to the first whose outcome isn't true or whose file

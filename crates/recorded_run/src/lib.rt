@@ -4,7 +4,6 @@
 mod again;
 mod driving;
 mod stops;
-mod units;
 mod values;
 
 pub use again::{Again, drive_again, drive_input};

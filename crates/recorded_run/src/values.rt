@@ -1,13 +1,12 @@
 //! What a unit gives today.
 ghost use Rattle.std.specs.Prelude.{◌≡◌, ◌↔◌, IsTrue, IfOk, IfSome, Some};
 ghost use Rattle.item_actions.specs.Value.{IsHonest, value_on};
-ghost use Rattle.plan_reader.specs.Units.{value_in};
+ghost use Rattle.plan_reader.specs.Units.{unit_view, value_in};
 ghost use Rattle.file_access.specs.ReadView.{IsFaultCounted};
-ghost use Rattle.recorded_run.specs.Units.{unit_view};
 
-use crate::units::UnitWork;
 use file_access::{DeskFail, Files, Read};
 use item_actions::{ItemAction, MAX_FILE_BYTES, Outcome, Text, act};
+use plan_reader::UnitWork;
 use std::alloc::Global;
 
 /// What a unit gives by its file, which is read in this thread, also where the item ran in a process.
@@ -27,7 +26,7 @@ pub(crate) fn unit_value<F: Files>(
     }
 }
 
-/// What an action gives on the file of this name.
+// What an action gives on the file of this name.
 fn value_by<F: Files>(
     alloc: Global,
     action: &ItemAction,

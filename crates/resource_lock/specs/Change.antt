@@ -1,5 +1,6 @@
 -- The table of changes: where each can be made, what it changes, and what undoes it.
-use Rattle.std.specs.Prelude.{◌-◌, ◌==◌, nat_lt, Bool, true, false, not, ◌&&◌, List, [], ◌∷◌, ◌++◌, length, take, Option, None, Some, is_none, slice_get, slice_set}
+use Rattle.std.specs.Prelude.{◌-◌, ◌==◌, nat_lt, Bool, true, false, not, ◌&&◌, List, [], ◌∷◌, ◌++◌, length, take, Option, None}
+use Rattle.std.specs.Prelude.{Some, is_none, slice_get, slice_set}
 use Rattle.resource_lock.specs.StateView.{StateView, Holding, holding_of, owner_of, owns, leases_out, mark_of, has_parked, IsLockOf, IsMarkOf}
 use Rattle.resource_lock.specs.declared.ids.LockId.{LockId}
 use Rattle.resource_lock.specs.declared.ids.WorkerId.{WorkerId}

@@ -1,5 +1,6 @@
 -- The state of a graph, as contracts see it, and words to read it by.
-use Rattle.std.specs.Prelude.{ℕ, ◌<◌, length, ◌==◌, Bool, true, false, not, ◌&&◌, ◌||◌, List, [], ◌∷◌, Option, None, Some, count_by, slice_index_or}
+use Rattle.std.specs.Prelude.{ℕ, ◌<◌, length, ◌==◌, Bool, true, false, not, ◌&&◌, ◌||◌, List, [], ◌∷◌, Option, None, Some}
+use Rattle.std.specs.Prelude.{count_by, slice_index_or}
 use Rattle.std.specs.List.{list_any}
 use Rattle.resource_lock.specs.declared.ids.LockId.{LockId}
 use Rattle.resource_lock.specs.declared.ids.WorkerId.{WorkerId}

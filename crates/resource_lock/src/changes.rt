@@ -1,3 +1,4 @@
+//! The changes of a state.
 use crate::ids::LockId;
 use crate::marks::{Mark, MarkId};
 

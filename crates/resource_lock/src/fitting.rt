@@ -35,7 +35,7 @@ impl Graph {
     }
 }
 
-/// Whether the counts are within the limits.
+// Whether the counts are within the limits.
 fn numbers_fit(locks: u32, workers: u32, max_leases: u32, tasks: usize) -> bool
     ensures { IsTrue result ↔ ((1 ≤ workers) × (workers ≤ MAX_WORKERS) × (1 ≤ max_leases) × (max_leases ≤ MAX_LEASES)
         × (locks ≤ MAX_LOCKS) × (tasks ≤ MAX_TASKS)) }
@@ -46,7 +46,7 @@ fn numbers_fit(locks: u32, workers: u32, max_leases: u32, tasks: usize) -> bool
         && tasks <= MAX_TASKS
 }
 
-/// Whether each task's lock and the tasks that it comes after are in range, and within the limits.
+// Whether each task's lock and the tasks that it comes after are in range, and within the limits.
 fn tasks_fit(locks: u32, tasks: &[GraphTask]) -> bool
     ensures { IsTrue result ↔ All (λ t. IsFitTask locks (length tasks.now) (graph_view t)) tasks.now }
 {
@@ -62,7 +62,7 @@ fn task_fits(locks: u32, tasks: usize, task: &GraphTask) -> bool
         && task.after.iter().all(|&before| (before as usize) < tasks)
 }
 
-/// Whether the tasks' actions and the actions' units are ranges, and within the limits.
+// Whether the tasks' actions and the actions' units are ranges, and within the limits.
 fn ranges_fit(tasks: &[GraphTask], actions: &[GraphAction]) -> bool
     ensures { IsTrue result ↔ ((Follow (λ t. t.first_action) (λ t. t.actions) 0 tasks.now (length actions.now))
         × ((a : ℕ) → a < length actions.now → IsFitAction (map graph_view tasks.now) a (slice_index_or actions.now a no_action))
@@ -75,7 +75,7 @@ fn ranges_fit(tasks: &[GraphTask], actions: &[GraphAction]) -> bool
         && unit_count(actions) <= MAX_UNITS
 }
 
-/// Whether the tasks' actions are ranges one behind the other, up to this number.
+// Whether the tasks' actions are ranges one behind the other, up to this number.
 fn actions_follow(tasks: &[GraphTask], stop: usize) -> bool
     ensures { IsTrue result ↔ Follow (λ t. t.first_action) (λ t. t.actions) 0 tasks.now stop }
 {
@@ -89,7 +89,7 @@ fn actions_follow(tasks: &[GraphTask], stop: usize) -> bool
     next == stop as u64
 }
 
-/// Whether each action has an item, and is in the range of its task.
+// Whether each action has an item, and is in the range of its task.
 fn actions_fit(tasks: &[GraphTask], actions: &[GraphAction]) -> bool
     ensures { IsTrue result ↔ ((a : ℕ) → a < length actions.now → IsFitAction (map graph_view tasks.now) a (slice_index_or actions.now a no_action)) }
 {
@@ -108,7 +108,7 @@ fn action_fits(tasks: &[GraphTask], number: u64, action: &GraphAction) -> bool
     action.items > 0 && task.is_some_and(|task| has_action(task, number))
 }
 
-/// Whether an action is in a task's range.
+// Whether an action is in a task's range.
 fn has_action(task: &GraphTask, action: u64) -> bool
     ensures { IsTrue result ↔ IsIn task.now.first_action task.now.actions action }
 {
@@ -116,7 +116,7 @@ fn has_action(task: &GraphTask, action: u64) -> bool
     (first..first + u64::from(task.actions)).contains(&action)
 }
 
-/// Whether the actions' units are ranges one behind the other.
+// Whether the actions' units are ranges one behind the other.
 fn units_follow(actions: &[GraphAction]) -> bool
     ensures { IsTrue result ↔ Follow (λ a. a.first_unit) units_in 0 actions.now (sum_by units_in actions.now) }
 {

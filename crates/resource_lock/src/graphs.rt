@@ -1,3 +1,4 @@
+//! Graphs: what a state belongs to.
 ghost use Rattle.std.specs.Prelude.{◌≡◌, map};
 ghost use Rattle.resource_lock.specs.GraphView.{graph_view};
 ghost use Rattle.resource_lock.specs.Fits.{Fits};

@@ -1,3 +1,4 @@
+//! Locks and workers by their numbers.
 /// A project lock, by its number from 0.
 #[derive(Clone, Copy, PartialEq, Eq)]
 pub struct LockId(pub u32);

@@ -1,3 +1,4 @@
+//! How far tasks, actions and units have come.
 use crate::ids::WorkerId;
 
 /// What has a mark: a task, an action or a unit, by its number from 0.

@@ -1,3 +1,4 @@
+//! The state: who owns which lock, who has a lease, and how far the work has come.
 use crate::ids::WorkerId;
 use held::Held;
 use mark_lists::MarkLists;

@@ -2,3 +2,10 @@ pub mod Owning
 pub mod Prefixes
 pub mod OneJob
 pub mod ManyJobs
+pub mod NoTasks
+pub mod Seated
+pub mod Places
+pub mod Back
+pub mod Sharing
+pub mod Joining
+pub mod WholeRun

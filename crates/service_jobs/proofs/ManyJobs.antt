@@ -74,6 +74,7 @@ none_run maxima known n old can = record {
   honest = tt;
   own = tt;
   apart = tt;
+  entries = omega arith;
   count = omega arith;
   faults = λ low. omega arith;
 }
@@ -137,6 +138,7 @@ one_job_more maxima known known' before mid after {old} {meanwhile} {new} jobs j
       own = both_of (λ (e : JobDone). (e.worker ≡ new.worker) × (e.taken ≤ length new.seen.history)) ran (d ∷ [])
           (each_of (λ (e : JobDone). (e.worker ≡ meanwhile.worker) × (e.taken ≤ length meanwhile.seen.history)) (λ (e : JobDone). (e.worker ≡ new.worker) × (e.taken ≤ length new.seen.history)) (λ e o. (o.0 ∙ sym more.worker, upto e o.1)) ran r.own) ((more.own, more.within), tt);
       apart = apart_both ran (d ∷ []) r.apart (tt, tt) (each_of (λ (e : JobDone). (e.worker ≡ meanwhile.worker) × (e.taken ≤ length meanwhile.seen.history)) (λ (e : JobDone). AllByRecursion (λ (o : JobDone). e.taken ≢ o.taken) (d ∷ [])) (λ e o. (before_it e o.1, tt)) ran r.own);
+      entries = omega (arith, r.entries, more.two, length-append ran (d ∷ []));
       count = omega (arith, r.count, kept);
       faults = λ low_after. counted (eqb d.worker.0 new.worker.0) (is_fault d.outcome) (faults_of new.worker ran) (faults_of new.worker (ran ++ d ∷ [])) before mid after (faults_more new.worker ran d)
           (λ f. fault (fault_is d.outcome f)) kept low_after (subst (λ (w : WorkerId). faults_of w ran + before ≤ mid) (sym more.worker) (r.faults (omega (arith, low_after, kept))));

@@ -1,6 +1,7 @@
 -- What a worker's history shows once it has run one more job.
-use Rattle.std.proofs.Common.{◌≡◌, ◌<◌, ◌≤◌, ◌+◌, ℕ, true, cond, List, [], ◌∷◌, ◌++◌, length, map, Some, sym, ap, ◌∙◌, subst, arith}
+use Rattle.std.proofs.Common.{◌≡◌, ◌<◌, ◌≤◌, ◌+◌, ℕ, Bool, true, cond, eqb, List, [], ◌∷◌, ◌++◌, length, map, Some, eq-eqb, refl, sym, ap, ◌∙◌, subst, arith}
 use Rattle.std.proofs.lemmas.List.{append_assoc, length-append}
+use Rattle.std.proofs.lemmas.List.Sums.{sum_by-append}
 use Rattle.resource_lock.specs.GraphView.{GraphView}
 use Rattle.resource_lock.specs.StateView.{Holding, StateView, holding_of}
 use Rattle.resource_lock.specs.declared.changes.Change.TheVariants.{Give, Unlock}
@@ -17,7 +18,7 @@ use Rattle.coordination.specs.Agrees.{IsSoundBook}
 use Rattle.coordination.specs.Attempts.{Making}
 use Rattle.coordination.specs.Calls.{HasFinished}
 use Rattle.coordination.specs.Holds.{HoldsNothing}
-use Rattle.coordination.specs.Lasts.{last_of}
+use Rattle.coordination.specs.Lasts.{entry_count_of, last_of}
 use Rattle.coordination.specs.declared.rule.Sight.{Sight}
 use Rattle.coordination.proofs.lemmas.Growing.{last_of-own}
 use Rattle.shared_services.specs.Services.{AreOneOfEach, AreServices}
@@ -27,6 +28,10 @@ use Rattle.service_jobs.specs.Worked.{AlwaysOneOfEach, HasRunJob}
 use Rattle.service_jobs.specs.declared.jobs.JobDone.{JobDone}
 use Rattle.service_jobs.proofs.Owning.{owns_none_of, owns_one}
 use Rattle.service_jobs.proofs.Prefixes.{always_others, always_push}
+
+-- an entry of the worker's is one
+lone : (w : WorkerId) (e : Entry) → e.worker.0 ≡ w.0 → entry_count_of w (e ∷ []) ≡ 1
+lone w e is = rw (eq-eqb e.worker.0 w.0 is) (omega arith)
 
 module _ {kind : Kind} {makes : Making} {old new : Sight} (f : HasFinished kind makes old new) where
   saw : new.seen ≡ f.after
@@ -43,6 +48,15 @@ module _ {kind : Kind} {makes : Making} {old new : Sight} (f : HasFinished kind 
 
   is_sound : IsSoundBook new.seen
   is_sound = subst IsSoundBook (sym saw) f.left
+
+  one_entry : entry_count_of new.worker new.seen.history ≡ entry_count_of old.worker old.seen.history + 1
+  one_entry =
+      let long : new.seen.history ≡ f.before.history ++ entry old.worker kind (Some f.changes) ∷ [] = ap (λ (b : BookView). b.history) saw ∙ f.finished.history in
+      let sum : entry_count_of old.worker (f.before.history ++ entry old.worker kind (Some f.changes) ∷ []) ≡ entry_count_of old.worker f.before.history + entry_count_of old.worker (entry old.worker kind (Some f.changes) ∷ []) =
+      sum_by-append (λ (x : Entry). cond (eqb x.worker.0 old.worker.0) 1 0) f.before.history (entry old.worker kind (Some f.changes) ∷ []) in
+      let all : entry_count_of old.worker new.seen.history ≡ entry_count_of old.worker (f.before.history ++ entry old.worker kind (Some f.changes) ∷ []) = ap (λ (h : List Entry). entry_count_of old.worker h) long in
+      let own : entry_count_of old.worker (entry old.worker kind (Some f.changes) ∷ []) ≡ 1 = lone old.worker (entry old.worker kind (Some f.changes)) refl in
+      subst (λ (v : WorkerId). entry_count_of v new.seen.history ≡ entry_count_of old.worker old.seen.history + 1) (sym same_worker) (omega (arith, all, sum, own, f.found.agrees.count))
 
   still_always : (maxima : List ℕ) → OwnsOneOfEach maxima new.seen.state old.worker → AlwaysOneOfEach maxima old.seen.graph old.seen.history old.worker → AlwaysOneOfEach maxima new.seen.graph new.seen.history old.worker
   still_always maxima owns always =
@@ -69,6 +83,7 @@ pub record IsOneMore (maxima asked : List ℕ) (old new : Sight) (d : JobDone) :
   pub later : length old.seen.history < d.taken
   pub within : d.taken ≤ length new.seen.history
   pub own : d.worker ≡ new.worker
+  pub two : entry_count_of new.worker new.seen.history ≡ entry_count_of old.worker old.seen.history + 2
 
 cut : (a b c : List Entry) (e f : Entry) → ((((a ++ b) ++ e ∷ []) ++ c) ++ f ∷ []) ≡ (a ++ b) ++ (e ∷ (c ++ (f ∷ [])))
 cut a b c e f = append_assoc ((a ++ b) ++ e ∷ []) c (f ∷ []) ∙ append_assoc (a ++ b) (e ∷ []) (c ++ f ∷ [])
@@ -135,4 +150,5 @@ one_more maxima asked {old} {new} {d} are rests job =
       later = omega (arith, place, length-append old.seen.history f.found.agrees.between);
       within = longer (old.seen.history ++ f.found.agrees.between) _ (k.found.agrees.between ++ (entry d.worker HandBack (Some (given_back job.took.entry.finished.made.locks)) ∷ [])) new.seen.history d.taken entries place;
       own = job.worker;
+      two = let first = one_entry f in let second = one_entry k in omega (arith, first, second);
     }

@@ -1,5 +1,5 @@
 -- What a worker did of its jobs.
-use Rattle.std.specs.Prelude.{ℕ, ◌≡◌, ◌≤◌, ◌<◌, ◌+◌, ◌-◌, ◌^◌, List, length, Option}
+use Rattle.std.specs.Prelude.{ℕ, ◌≡◌, ◌≤◌, ◌<◌, ◌+◌, ◌-◌, ◌*◌, ◌^◌, List, length, Option}
 use Rattle.std.specs.List.{AllByRecursion}
 use Rattle.item_actions.specs.Files.{Folder}
 use Rattle.lock_transforms.specs.Allowed.{IsFixedList}
@@ -10,7 +10,7 @@ use Rattle.resource_lock.specs.declared.ids.WorkerId.{WorkerId}
 use Rattle.coordination.specs.Agrees.{IsSoundBook}
 use Rattle.coordination.specs.Calls.{HasFinished}
 use Rattle.coordination.specs.Holds.{HoldsNothing}
-use Rattle.coordination.specs.Lasts.{last_of}
+use Rattle.coordination.specs.Lasts.{entry_count_of, last_of}
 use Rattle.coordination.specs.declared.rule.Sight.{Sight}
 use Rattle.lease_service.specs.Shows.{ShowsGivenBack}
 use Rattle.shared_services.specs.Services.{lock_count}
@@ -51,5 +51,7 @@ pub record HasRun (maxima : List ℕ) (known : Option Folder) (before after : �
   pub honest : OneByOne (IsHonestJob known) jobs ran
   pub own : AllByRecursion (λ d. (d.worker ≡ new.worker) × (d.taken ≤ length new.seen.history)) ran
   pub apart : AreApart ran
+  -- and it has made no other entries
+  pub entries : entry_count_of new.worker new.seen.history ≡ entry_count_of old.worker old.seen.history + 2 * length ran
   pub count : before ≤ after
   pub faults : after < 2 ^ 64 - 1 → faults_of new.worker ran + before ≤ after

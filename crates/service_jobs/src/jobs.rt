@@ -1,7 +1,6 @@
 //! A job, taken with its uses, worked out and given back.
 ghost use Rattle.std.specs.Prelude.{◌≡◌, ◌≤◌, IfOk, IfSome};
-ghost use Rattle.item_actions.specs.declared.outcomes.Outcome.TheVariants as outcomes;
-ghost use Rattle.file_access.specs.SinkView.{Rises};
+ghost use Rattle.file_access.specs.ReadView.{IsOutcomeCounted};
 ghost use Rattle.shared_services.specs.Shows.{MayTakeUses};
 ghost use Rattle.service_jobs.specs.Done.{IsHonestJob};
 ghost use Rattle.service_jobs.specs.Worked.{HasRunJob};
@@ -14,6 +13,9 @@ use resource_lock::WorkerId;
 use shared_services::{ServiceTable, take_uses};
 use std::alloc::Global;
 use std::sync::Wait;
+
+/// How many jobs a run has at most.
+pub const MAX_JOBS: usize = 8192;
 
 /// An action that is to be worked out on a file, while a use of each of these services is held.
 #[derive(Drop)]
@@ -38,6 +40,7 @@ pub struct JobDone {
 }
 
 /// Takes a job's uses and a lease, works it out, and gives all back.
+#[tactic(auto, using(file_access::proofs::lemmas::Counting::outcome_kept))]
 pub(crate) fn run_job<R: Wait, F: Files>(
     rt: &R,
     alloc: Global,
@@ -54,7 +57,7 @@ pub(crate) fn run_job<R: Wait, F: Files>(
     ensures files { F.files desk.new ≡ F.files desk.old }
     ensures kept { F.faults desk.old ≤ F.faults desk.new }
     ensures ran { IfOk result (HasRunJob table.now job.now.uses.items pass.old.sight pass.new.sight) }
-    ensures fault { IfOk result (λ done. done.outcome ≡ outcomes.Fault → Rises (F.faults desk.old) (F.faults desk.new)) }
+    ensures counted { IfOk result (λ done. IsOutcomeCounted (F.faults desk.old) (F.faults desk.new) done.outcome) }
     ensures honest { IfOk result (IsHonestJob (F.files desk.old) job.now) }
 {
     take_uses(rt, service, table, pass, &job.uses)?;

@@ -47,7 +47,7 @@ pub fn run_in_turn<R: Wait, F: Files>(
     Ok(())
 }
 
-/// Notes a job that was run.
+// Notes a job that was run.
 fn note(done: &mut Vec<JobDone>, ran: JobDone) -> Result<(), Halt>
     ensures { OnOk result (done.new.items ≡ done.old.items ++ ran ∷ []) }
 {

@@ -16,7 +16,7 @@ const WORKERS: u32 = 8;
 
 const CONNECTIONS: u32 = 3;
 
-/// Has the workers send their queries, and prints what came of it.
+// Has the workers send their queries, and prints what came of it.
 fn run<R: Threads + Wait + Sync>(rt: &HostRuntime, threads: &R) -> Result<()> {
     let table = connections(rt.alloc(), CONNECTIONS)?;
     let opened = open(rt.alloc(), &table, WORKERS)?;

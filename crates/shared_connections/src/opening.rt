@@ -21,7 +21,7 @@ pub(crate) fn connections(alloc: Global, count: u32) -> Result<ServiceTable> {
     Ok(ServiceTable::new(maxima))
 }
 
-/// A book without entries, for so many workers on the locks of the services.
+// A book without entries, for so many workers on the locks of the services.
 fn book_of(alloc: Global, table: &ServiceTable, workers: u32) -> Result<Box<Book>>
     ensures locks { IfOk result (λ book. book.value.graph.locks ≡ lock_count table.now) }
     ensures state { IfOk result (λ book. book.value.state ≡ opening_of book.value.graph) }

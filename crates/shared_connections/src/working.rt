@@ -14,7 +14,7 @@ use std::thread::Threads;
 /// The number of the database in the table.
 const DATABASE: u32 = 0;
 
-/// Sends a query: waits for a connection and a lease, takes both at once, and gives both back at once.
+// Sends a query: waits for a connection and a lease, takes both at once, and gives both back at once.
 fn query<R: Wait>(
     rt: &R,
     service: &Coordination,
@@ -35,7 +35,7 @@ fn query<R: Wait>(
     }
 }
 
-/// Sends a worker's query. Whoever finds no memory stops the others, so that none waits for it.
+// Sends a worker's query. Whoever finds no memory stops the others, so that none waits for it.
 fn work<R: Wait>(rt: &R, service: &Coordination, table: &ServiceTable, pass: &mut Pass)
     requires service { pass.old.service ≡ service.now.service }
     requires locks { pass.old.sight.seen.graph.locks ≡ lock_count table.now }

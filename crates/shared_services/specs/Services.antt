@@ -1,5 +1,6 @@
 -- Services, each with so many locks, and their users.
-use Rattle.std.specs.Prelude.{ℕ, ◌≡◌, ◌≢◌, ◌<◌, ◌≤◌, ◌+◌, List, [], ◌∷◌, length, take, sum, slice_index_or, slice_range, Option, None, Some, Bool, false, not, if◌then◌else◌}
+use Rattle.std.specs.Prelude.{ℕ, ◌≡◌, ◌≢◌, ◌<◌, ◌≤◌, ◌+◌, List, [], ◌∷◌, length, take, sum, slice_index_or, slice_range}
+use Rattle.std.specs.Prelude.{Option, None, Some, Bool, false, not, if◌then◌else◌}
 use Rattle.std.specs.List.{All, list_any}
 use Rattle.resource_lock.specs.Ranges.{IsIn}
 use Rattle.resource_lock.specs.StateView.{StateView, is_owner, owner_of}

@@ -1,8 +1,10 @@
 //! Services and their locks.
-ghost use Rattle.std.specs.Prelude.{◌≡◌, ◌<◌, ◌≤◌, ◌+◌, ◌-◌, ◌↔◌, ◌^◌, All, Any, IfNone, IfSome, IsTrue, length, slice_index_or, slice_range, sum, take, true, false};
+ghost use Rattle.std.specs.Prelude.{◌≡◌, ◌<◌, ◌≤◌, ◌+◌, ◌-◌, ◌↔◌, ◌^◌, All, Any, IfNone, IfSome, IsTrue, length};
+ghost use Rattle.std.specs.Prelude.{slice_index_or, slice_range, sum, take, true, false};
 ghost use Rattle.std.specs.List.{list_any};
 ghost use Rattle.resource_lock.specs.StateView.{is_owner, owner_of};
-ghost use Rattle.shared_services.specs.Services.{AreLowestFree, AreServices, FitMaxima, IsFull, IsLockOfService, IsLowestFree, first_lock, is_last_of, lock_count, maximum_of, uses};
+ghost use Rattle.shared_services.specs.Services.{AreLowestFree, AreServices, FitMaxima, IsFull, IsLockOfService, IsLowestFree, first_lock, is_last_of};
+ghost use Rattle.shared_services.specs.Services.{lock_count, maximum_of, uses};
 
 use resource_lock::{LockId, State, WorkerId};
 use std::marker::Model;
@@ -107,7 +109,7 @@ impl ServiceTable {
         count
     }
 
-    /// The maximum of the service.
+    // The maximum of the service.
     fn maximum(&self, service: u32) -> u32
         requires { service < length self.now }
         ensures maximum { result ≡ maximum_of self.now service }
@@ -116,7 +118,7 @@ impl ServiceTable {
         self.maxima[service as usize]
     }
 
-    /// The number of the service's first lock.
+    // The number of the service's first lock.
     fn first_lock(&self, service: u32) -> u32
         requires { service < length self.now }
         ensures first { result ≡ first_lock self.now service }
@@ -126,7 +128,7 @@ impl ServiceTable {
         total(&self.maxima[..service as usize])
     }
 
-    /// The service's lowest lock without owner. None exactly where each has one. It looks at 32 locks at most.
+    // The service's lowest lock without owner. None exactly where each has one. It looks at 32 locks at most.
     fn lowest_free(&self, state: &State, service: u32) -> Option<LockId>
         requires service { service < length self.now }
         requires locks { length state.now.owners ≡ lock_count self.now }
@@ -160,7 +162,7 @@ impl ServiceTable {
     }
 }
 
-/// Whether the number at this place is greater than the one before it, if there is one.
+// Whether the number at this place is greater than the one before it, if there is one.
 fn rises_at(asked: &[u32], place: usize) -> bool
     requires { place < length asked.now }
     ensures { IsTrue result ↔ (0 < place → slice_index_or asked.now (place - 1) 0 < slice_index_or asked.now place 0) }
@@ -175,7 +177,7 @@ fn total(maxima: &[u32]) -> u32
     maxima.iter().sum()
 }
 
-/// Whether each maximum is 1 to 32.
+// Whether each maximum is 1 to 32.
 fn are_used(maxima: &[u32]) -> bool
     ensures { IsTrue result ↔ All (λ m. (1 ≤ m) × (m ≤ MAX_USES)) maxima.now }
 {
@@ -184,7 +186,7 @@ fn are_used(maxima: &[u32]) -> bool
         .all(|maximum| 1 <= *maximum && *maximum <= MAX_USES)
 }
 
-/// Whether a worker owns this lock, and none of those from the next one up to the end.
+// Whether a worker owns this lock, and none of those from the next one up to the end.
 fn is_last_use(state: &State, lock: u32, end: u32) -> bool
     requires low { lock < end }
     requires within { end ≤ length state.now.owners }
@@ -196,7 +198,7 @@ fn is_last_use(state: &State, lock: u32, end: u32) -> bool
     }
 }
 
-/// Whether the worker owns one of the locks from the first up to the end.
+// Whether the worker owns one of the locks from the first up to the end.
 fn owns_one_of(state: &State, worker: WorkerId, first: u32, end: u32) -> bool
     requires first { first ≤ end }
     requires within { end ≤ length state.now.owners }
@@ -209,7 +211,7 @@ fn owns_one_of(state: &State, worker: WorkerId, first: u32, end: u32) -> bool
     found
 }
 
-/// Whether the worker owns the lock.
+// Whether the worker owns the lock.
 fn owns(state: &State, worker: WorkerId, lock: u32) -> bool
     requires { lock < length state.now.owners }
     ensures { result ≡ is_owner (owner_of state.now (record { 0 = lock })) worker }

@@ -74,7 +74,7 @@ impl Transform for TakeUses<'_> {
     }
 }
 
-/// Whether the worker has no lease, isn't blocked, has parked nothing and runs nothing.
+// Whether the worker has no lease, isn't blocked, has parked nothing and runs nothing.
 fn has_nothing(work: &Tentative) -> bool
     ensures { result ≡ has_nothing work.now.state work.now.worker }
 {

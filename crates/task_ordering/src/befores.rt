@@ -7,7 +7,7 @@ ghost use Rattle.task_ordering.specs.Refusals.{AllNameTasks};
 use crate::tasks::{OrderTask, after_of, finalizers_of, must_after_of};
 use std::alloc::{AllocError, Global};
 
-/// Whether both are to run.
+// Whether both are to run.
 fn are_both(to_run: &[bool], first: usize, second: usize) -> bool
     requires first { first < length to_run.now }
     requires second { second < length to_run.now }
@@ -24,7 +24,7 @@ fn push_before(befores: &mut Vec<Vec<u32>>, first: u32, second: usize) -> Result
     Ok(())
 }
 
-/// Notes that `first` stands before `second`, where both are to run.
+// Notes that `first` stands before `second`, where both are to run.
 fn add_pair(
     befores: &mut Vec<Vec<u32>>,
     to_run: &[bool],
@@ -43,7 +43,7 @@ fn add_pair(
     push_before(befores, first, second)
 }
 
-/// Notes that each of these stands before a task, where both are to run.
+// Notes that each of these stands before a task, where both are to run.
 fn add_all_before(
     befores: &mut Vec<Vec<u32>>,
     to_run: &[bool],
@@ -62,7 +62,7 @@ fn add_all_before(
     Ok(())
 }
 
-/// Notes that a task stands before each of these, where both are to run.
+// Notes that a task stands before each of these, where both are to run.
 fn add_before_all(
     befores: &mut Vec<Vec<u32>>,
     to_run: &[bool],

@@ -20,7 +20,7 @@ pub enum Kept {
     Broken(u64),
 }
 
-/// The task that an entry starts.
+// The task that an entry starts.
 fn started_by(shown: Shown<'_>) -> Option<u32>
     ensures { result ≡ started_by (entry_shown shown.entry) }
 {
@@ -30,7 +30,7 @@ fn started_by(shown: Shown<'_>) -> Option<u32>
     }
 }
 
-/// The task that an entry ends or skips.
+// The task that an entry ends or skips.
 fn ended_by(shown: Shown<'_>) -> Option<u32>
     ensures { result ≡ ended_by (entry_shown shown.entry) }
 {

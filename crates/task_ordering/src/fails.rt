@@ -1,3 +1,4 @@
+//! Why there is no order.
 use std::alloc::AllocError;
 use thiserror::Error;
 

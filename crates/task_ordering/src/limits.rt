@@ -30,7 +30,7 @@ fn are_below(numbers: &[u32], count: usize) -> bool
     numbers.iter().all(|number| (*number as usize) < count)
 }
 
-/// Whether each number in the lists of a task is that of a task.
+// Whether each number in the lists of a task is that of a task.
 fn names_tasks(tasks: &[OrderTask], task: usize) -> bool
     requires { task < length tasks.now }
     ensures { IsTrue result ↔ NamesTasks tasks.now task }
@@ -40,7 +40,7 @@ fn names_tasks(tasks: &[OrderTask], task: usize) -> bool
         && are_below(finalizers_of(tasks, task), tasks.len())
 }
 
-/// The first task whose lists have a number that is that of no task.
+// The first task whose lists have a number that is that of no task.
 fn first_stray(tasks: &[OrderTask]) -> Option<usize>
     ensures none { IfNone result (AllNameTasks tasks.now) }
     ensures some { IfSome result (IsFirstStray tasks.now) }

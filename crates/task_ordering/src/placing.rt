@@ -20,7 +20,7 @@ pub(crate) struct Placing {
     pub(crate) order: Vec<u32>,
 }
 
-/// The first place from `from` on whose task isn't placed.
+// The first place from `from` on whose task isn't placed.
 fn first_open(befores: &[u32], placed: &[bool], from: usize) -> usize
     requires low { from ≤ length befores.now }
     requires range { All (λ t. t < length placed.now) befores.now }
@@ -47,7 +47,7 @@ pub(crate) fn befores_at(befores: &[Vec<u32>], task: usize) -> &[u32]
 impl Placing {
     ghost use Rattle.task_ordering.specs.Placing.{AreSettled, AreSettledOrListed, IsSoundPlacing, LooksAt, Places};
 
-    /// Nothing is placed, and nothing was looked at.
+    // Nothing is placed, and nothing was looked at.
     fn new(alloc: Global, count: u32) -> Result<Placing, AllocError>
         ensures marks { IfOk result (λ s. length s.placed.items ≡ count) }
         ensures places { IfOk result (λ s. length s.next.items ≡ count) }
@@ -65,7 +65,7 @@ impl Placing {
         })
     }
 
-    /// Goes on with the befores of a task, to the first that isn't placed. Where there is none, the task is ready.
+    // Goes on with the befores of a task, to the first that isn't placed. Where there is none, the task is ready.
     fn look_at(&mut self, befores: &[Vec<u32>], to_run: &[bool], task: usize)
         requires few { length befores.now < 2 ^ 32 }
         requires are { AreBefores to_run.now (lists_of befores.now) }
@@ -85,7 +85,7 @@ impl Placing {
         }
     }
 
-    /// Looks at each task to run.
+    // Looks at each task to run.
     fn look_at_all(&mut self, befores: &[Vec<u32>], to_run: &[bool])
         requires few { length befores.now < 2 ^ 32 }
         requires are { AreBefores to_run.now (lists_of befores.now) }
@@ -100,7 +100,7 @@ impl Placing {
         }
     }
 
-    /// Looks at those that a task that was just placed stands before.
+    // Looks at those that a task that was just placed stands before.
     fn look_at_listed(&mut self, befores: &[Vec<u32>], to_run: &[bool], list: &[usize])
         requires few { length befores.now < 2 ^ 32 }
         requires are { AreBefores to_run.now (lists_of befores.now) }
@@ -116,7 +116,7 @@ impl Placing {
         }
     }
 
-    /// Places a task, which is no longer ready then.
+    // Places a task, which is no longer ready then.
     fn place(&mut self, task: u32) -> Result<(), AllocError>
         requires mark { task < length self.old.placed.items }
         requires room { task < room_of self.old.ready }

@@ -18,7 +18,7 @@ pub(crate) struct Reach {
 impl Reach {
     ghost use Rattle.task_ordering.specs.Reach.{Reaches};
 
-    /// Marks a task, and puts it on the stack where it had no mark.
+    // Marks a task, and puts it on the stack where it had no mark.
     fn reach(&mut self, task: u32) -> Result<(), AllocError>
         requires { task < length self.old.marks.items }
         ensures { OnOk result (Reaches self.old self.new (task ∷ [])) }
@@ -30,7 +30,7 @@ impl Reach {
         Ok(())
     }
 
-    /// Marks tasks, and puts those that had no mark on the stack.
+    // Marks tasks, and puts those that had no mark on the stack.
     fn reach_all(&mut self, tasks: &[u32]) -> Result<(), AllocError>
         requires { All (λ t. t < length self.old.marks.items) tasks.now }
         ensures { OnOk result (Reaches self.old self.new tasks.now) }

@@ -1,5 +1,6 @@
 -- What the search for ranks keeps.
-use Rattle.std.specs.Prelude.{◌≡◌, ◌≢◌, ◌⊎◌, ◌<◌, ◌≤◌, ◌+◌, ℕ, Bool, true, false, not, List, length, slice_index_or, Contains, count_by}
+use Rattle.std.specs.Prelude.{◌≡◌, ◌≢◌, ◌⊎◌, ◌<◌, ◌≤◌, ◌+◌, ℕ, Bool, true, false, not, List, length, slice_index_or}
+use Rattle.std.specs.Prelude.{Contains, count_by}
 use Rattle.task_ranks.specs.declared.rank_search.Search.{Search}
 use Rattle.task_ranks.specs.Rank.{Dependencies, after, Ranked}
 

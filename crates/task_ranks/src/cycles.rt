@@ -6,7 +6,7 @@ use crate::dependents::{dependents_at, dependents_of};
 use crate::rank_search::Search;
 use std::alloc::{AllocError, Global};
 
-/// The marks of exactly the tasks that have a rank.
+// The marks of exactly the tasks that have a rank.
 fn ranked_marks(alloc: Global, rows: &[Vec<u32>]) -> Result<Vec<bool>, AllocError>
     requires { InRange (lists_of rows.now) }
     ensures { IfOk result (λ marks. MarksRanked (lists_of rows.now) marks.items) }

@@ -27,7 +27,7 @@ fn push_at(dependents: &mut Vec<Vec<usize>>, at: usize, task: usize) -> Result<(
     Ok(())
 }
 
-/// Notes a task among the dependents of each of its names.
+// Notes a task among the dependents of each of its names.
 fn add_dependent(
     dependents: &mut Vec<Vec<usize>>,
     names: &[u32],

@@ -14,7 +14,7 @@ pub(crate) struct Search {
     pub(crate) stack: Vec<usize>,
 }
 
-/// The first place from `from` on whose task has no mark.
+// The first place from `from` on whose task has no mark.
 fn first_open(names: &[u32], ranked: &[bool], from: usize) -> usize
     requires low { from ≤ length names.now }
     requires range { (k : ℕ) → k < length names.now → slice_index names.now k < length ranked.now }
@@ -92,7 +92,7 @@ impl Search {
         Ok(())
     }
 
-    /// Goes on with the names of a task: to the first that has no mark, or gives the task its mark.
+    // Goes on with the names of a task: to the first that has no mark, or gives the task its mark.
     fn look_at(&mut self, rows: &[Vec<u32>], task: usize) -> Result<(), AllocError>
         requires range { InRange (lists_of rows.now) }
         requires task { task < length rows.now }

@@ -1,3 +1,4 @@
+//! Seats at a queue of tickets.
 use crate::rule::PassView;
 use crossbeam_queue::Pass;
 use std::marker::Model;

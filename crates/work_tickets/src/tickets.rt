@@ -1,3 +1,4 @@
+//! A queue of tickets.
 ghost use Rattle.std.specs.Prelude.{◌≡◌, ◌<◌, ◌∷◌, All, IfNone, IfOk, IfSome, length, map, true, false};
 ghost use Rattle.std.specs.Vec.Iter.{into_iter_items};
 ghost use Rattle.crossbeam_queue.specs.Fifo.{Held};

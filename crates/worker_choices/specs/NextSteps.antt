@@ -1,5 +1,6 @@
 -- What a worker can do next, and where it has to wait.
-use Rattle.std.specs.Prelude.{ℕ, ◌≡◌, ◌<◌, Bool, true, false, not, ◌&&◌, ◌||◌, List, Option, None, Some, All, find, is_none, length, slice_get}
+use Rattle.std.specs.Prelude.{ℕ, ◌≡◌, ◌<◌, Bool, true, false, not, ◌&&◌, ◌||◌, List, Option, None, Some, All, find, is_none}
+use Rattle.std.specs.Prelude.{length, slice_get}
 use Rattle.resource_lock.specs.GraphView.{GraphView, action_of}
 use Rattle.resource_lock.specs.Ranges.{items_of, lock_with}
 use Rattle.resource_lock.specs.StateView.{StateView, mark_of, owner_of}

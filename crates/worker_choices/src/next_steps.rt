@@ -60,7 +60,7 @@ pub fn can_go_on(book: &Book, worker: WorkerId, action: u32) -> bool
     is_over(book, action) && can_take_again(book, worker, action)
 }
 
-/// Whether all items of an action have ended.
+// Whether all items of an action have ended.
 fn is_over(book: &Book, action: u32) -> bool
     requires { action < length book.now.graph.actions }
     ensures { IsTrue result ↔ (first_open book.now.graph book.now.state action ≡ None) }
@@ -68,7 +68,7 @@ fn is_over(book: &Book, action: u32) -> bool
     first_open(book, action).is_none()
 }
 
-/// Whether what the action's retention takes again is free.
+// Whether what the action's retention takes again is free.
 fn can_take_again(book: &Book, worker: WorkerId, action: u32) -> bool
     requires worker { worker.0 < book.now.graph.workers }
     requires action { action < length book.now.graph.actions }
@@ -84,7 +84,7 @@ fn can_take_again(book: &Book, worker: WorkerId, action: u32) -> bool
     }
 }
 
-/// Whether nobody owns the lock of a task.
+// Whether nobody owns the lock of a task.
 fn lock_is_free(book: &Book, task: u32) -> bool
     requires { task < length book.now.graph.tasks }
     ensures { result ≡ is_none (owner_of book.now.state (task_of book.now.graph task).lock) }

@@ -1,8 +1,7 @@
 -- What stands at the start of a stream stays so, however the stream goes on.
 use Rattle.std.proofs.Common.{◌≡◌, ℕ, suc, ◌+◌, ◌<◌, ◌≤◌, ◌⊎◌, inl, inr, List, [], ◌∷◌, ◌++◌, true, false, Option, None, Some, cond, ltb, eqb, ◌||◌, length, take, drop, refl, sym, ap, ◌∙◌, arith, subst, length-append}
 use Rattle.std.specs.Int.{w32, from_be_bytes}
-use Rattle.std.proofs.lemmas.Bool.{cases_Bool}
-use Rattle.std.proofs.lemmas.Bool.Decides.{nat_tests}
+use Rattle.std.proofs.lemmas.Bool.{cases_Bool, le-ltb, ltb-false}
 use Rattle.std.proofs.lemmas.List.{take-append-le, drop-append-le, length-drop}
 use Rattle.daemon_protocol.specs.declared.frames.Frame.{Frame}
 use Rattle.daemon_protocol.specs.declared.starts.StreamStart.TheVariants.{Unfinished, Whole, Refused}
@@ -10,14 +9,8 @@ use Rattle.daemon_protocol.specs.declared.starts.Flaw.TheVariants.{Length, Tag}
 use Rattle.daemon_protocol.specs.Bodies.{frame_of}
 use Rattle.daemon_protocol.specs.StreamStart.{look, look_length, look_body, look_field, Cuts, nothing, first}
 
-pub enough : (a n : ℕ) → ltb a n ≡ false → n ≤ a
-enough a n p = grind (arith, nat_tests)
-
-not_less : (a n : ℕ) → n ≤ a → ltb a n ≡ false
-not_less a n h = grind (arith, nat_tests)
-
 longer : (xs t : List ℕ) (n : ℕ) → ltb (length xs) n ≡ false → ltb (length (xs ++ t)) n ≡ false
-longer xs t n p = let le = enough (length xs) n p in not_less _ n (omega (arith, length-append xs t))
+longer xs t n p = let le = ltb-false (length xs) n p in le-ltb _ n (omega (arith, length-append xs t))
 
 body_settles : (tag n : ℕ) (body t : List ℕ) → (look_body tag n body ≡ Unfinished) ⊎ (look_body tag n (body ++ t) ≡ look_body tag n body)
 body_settles tag n body t =
@@ -28,7 +21,7 @@ body_settles tag n body t =
     let inner : (A ≡ Unfinished) ⊎ (B ≡ A) = elim (cases_Bool (ltb (length body) n)) [
       | inl p ↦ inl (ap (λ b. cond b Unfinished X) p)
       | inr p ↦ inr (ap (λ b. cond b Unfinished Y) (longer body t n p)
-          ∙ ap (λ l. look_field n (frame_of tag l)) (take-append-le n body t (enough _ n p))
+          ∙ ap (λ l. look_field n (frame_of tag l)) (take-append-le n body t (ltb-false _ n p))
           ∙ sym (ap (λ b. cond b Unfinished X) p))
     ] in
     elim (ltb 65536 n) as (λ b. (cond b (Refused Length) A ≡ Unfinished) ⊎ (cond b (Refused Length) B ≡ cond b (Refused Length) A)) [ true ↦ inr refl | false ↦ inner ]
@@ -41,7 +34,7 @@ length_settles tag after t =
     elim (cases_Bool (ltb (length after) 4)) [
       | inl p ↦ inl (ap (λ b. cond b Unfinished X) p)
       | inr p ↦
-          let le = enough (length after) 4 p in
+          let le = ltb-false (length after) 4 p in
           let e : Y ≡ look_body tag n (drop 4 after ++ t) = (λ i. look_body tag (from_be_bytes w32 (take-append-le 4 after t le i)) (drop-append-le 4 after t le i)) in
           elim (body_settles tag n (drop 4 after) t) [
             | inl m ↦ inl (ap (λ b. cond b Unfinished X) p ∙ m)
@@ -67,7 +60,7 @@ fits_body tag n m body f =
     let A = cond (ltb (length body) n) Unfinished X in
     let inner : A ≡ Whole f m → (m ≡ 5 + n) × (n ≤ length body) = λ h. elim (cases_Bool (ltb (length body) n)) [
       | inl p ↦ let e : Unfinished ≡ Whole f m = sym (ap (λ b. cond b Unfinished X) p) ∙ h in cc
-      | inr p ↦ (fits_field n m _ f (sym (ap (λ b. cond b Unfinished X) p) ∙ h), enough _ n p)
+      | inr p ↦ (fits_field n m _ f (sym (ap (λ b. cond b Unfinished X) p) ∙ h), ltb-false _ n p)
     ] in
     elim (ltb 65536 n) as (λ b. cond b (Refused Length) A ≡ Whole f m → (m ≡ 5 + n) × (n ≤ length body)) [ true ↦ λ h. cc | false ↦ inner ]
 
@@ -77,7 +70,7 @@ fits_length tag m after f h =
     elim (cases_Bool (ltb (length after) 4)) [
       | inl p ↦ let e : Unfinished ≡ Whole f m = sym (ap (λ b. cond b Unfinished X) p) ∙ h in cc
       | inr p ↦
-          let le = enough (length after) 4 p in
+          let le = ltb-false (length after) 4 p in
           let b = fits_body tag _ m (drop 4 after) f (sym (ap (λ b. cond b Unfinished X) p) ∙ h) in
           let l = length-drop 4 after in
           (omega (arith, b.0), omega (arith, b.0, b.1, l))

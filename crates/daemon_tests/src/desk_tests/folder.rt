@@ -44,7 +44,7 @@ fn remove_files(rt: &HostRuntime) -> io::Result<()> {
     fs::remove_file(rt, "daemon_desk_came")
 }
 
-/// What a desk whose own program is `program` gets of a child for what is asked, and how many of its calls failed.
+// What a desk whose own program is `program` gets of a child for what is asked, and how many of its calls failed.
 fn add_child<R: rt::Files + Processes<Started = SystemProcess> + Abort>(
     rt: &R,
     alloc: Global,
@@ -58,8 +58,8 @@ fn add_child<R: rt::Files + Processes<Started = SystemProcess> + Abort>(
     write!(line, "{} failed", desk.count())
 }
 
-/// That this comes of a child. Whether a request can still be sent to a child that ended isn't known, so both steps have one
-/// name here.
+// That this comes of a child. Whether a request can still be sent to a child that ended isn't known, so both steps have one
+// name here.
 fn check_child<R: rt::Files + Processes<Started = SystemProcess> + Abort>(
     rt: &R,
     alloc: Global,
@@ -74,7 +74,7 @@ fn check_child<R: rt::Files + Processes<Started = SystemProcess> + Abort>(
     Ok(())
 }
 
-/// Whether each frame came once to the child that ended last.
+// Whether each frame came once to the child that ended last.
 fn has_come(rt: &HostRuntime) -> io::Result<bool> {
     let came = fs::read(rt, "daemon_desk_came")?;
     Ok(came.as_slice() == CAME)
@@ -130,7 +130,7 @@ fn a_missing_program_and_a_child_that_ends_are_faults(rt: HostRuntime) -> Result
     )
 }
 
-/// What came of a read.
+// What came of a read.
 fn word(read: &Result<Read, DeskFail>) -> &'static str {
     match read {
         Ok(Read::NotThere) => "not there",
@@ -140,7 +140,7 @@ fn word(read: &Result<Read, DeskFail>) -> &'static str {
     }
 }
 
-/// What comes of reading a file of this name, and how many calls failed.
+// What comes of reading a file of this name, and how many calls failed.
 fn add_read<R: rt::Files>(
     alloc: Global,
     desk: &mut FolderDesk<&R>,
@@ -152,7 +152,7 @@ fn add_read<R: rt::Files>(
     write!(line, "{}, {} failed. ", word(&read), desk.count())
 }
 
-/// What comes of reading a file that isn't there, and then the folder itself.
+// What comes of reading a file that isn't there, and then the folder itself.
 fn add_reads<R: rt::Files>(rt: &R, alloc: Global, line: &mut String) -> Result<(), AllocError> {
     let program = Text::from_str(alloc, "sh")?;
     let mut desk = FolderDesk::new(rt, alloc, program);

@@ -13,7 +13,7 @@ static ASKED: Asked = Asked {
     ..PLAIN
 };
 
-/// What two requests come to, how many calls failed, and how many requests were sent.
+// What two requests come to, how many calls failed, and how many requests were sent.
 fn add_seen(
     rt: &impl Abort,
     alloc: Global,
@@ -24,7 +24,7 @@ fn add_seen(
     write!(line, "{} failed, {} sent", desk.count(), desk.sent().len())
 }
 
-/// That this comes of a desk with these failing calls and this lie.
+// That this comes of a desk with these failing calls and this lie.
 fn check_seen(
     rt: &impl Abort,
     alloc: Global,

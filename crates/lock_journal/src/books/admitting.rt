@@ -38,7 +38,7 @@ impl Book {
         }
     }
 
-    /// Adds an entry that failed, whose numbers are in range.
+    // Adds an entry that failed, whose numbers are in range.
     fn admit_failed(&mut self, worker: WorkerId, kind: Kind) -> Result<bool, AllocError>
         requires worker_in_range { worker.0 < self.old.graph.workers }
         requires kind { IsKindOf self.old.graph kind }
@@ -52,7 +52,7 @@ impl Book {
         Ok(true)
     }
 
-    /// Adds an entry with changes, where it is allowed.
+    // Adds an entry with changes, where it is allowed.
     fn admit_finished(
         &mut self,
         worker: WorkerId,
@@ -79,7 +79,7 @@ impl Book {
         }
     }
 
-    /// Adds an entry with changes, where it is allowed, and answers whether it is. There is room for it.
+    // Adds an entry with changes, where it is allowed, and answers whether it is. There is room for it.
     fn add_where_allowed(&mut self, worker: WorkerId, kind: Kind, changes: &[Change]) -> bool
         requires worker_in_range { worker.0 < self.old.graph.workers }
         requires kind { IsKindOf self.old.graph kind }
@@ -98,7 +98,7 @@ impl Book {
         true
     }
 
-    /// Whether an entry with changes is allowed.
+    // Whether an entry with changes is allowed.
     fn allows(&mut self, worker: WorkerId, kind: Kind, changes: &[Change]) -> bool
         requires { worker.0 < self.old.graph.workers }
         ensures allowed { result ≡ true → Allowed self.old.graph self.old.state (entry worker kind (Some changes.now)) }

@@ -1,3 +1,4 @@
+//! Taking locks and a lease.
 ghost use Rattle.std.specs.Prelude.{◌≡◌, ◌⊎◌, ◌+◌, ◌<◌, true, false, length};
 ghost use Rattle.std.specs.List.{list_all};
 ghost use Rattle.resource_lock.specs.Shape.{BelongsTo};
@@ -71,7 +72,7 @@ impl Transform for Acquire<'_> {
     fn waits_for_news(&self) {}
 }
 
-/// Whether a worker isn't blocked and runs nothing, and may take each of these locks.
+// Whether a worker isn't blocked and runs nothing, and may take each of these locks.
 fn may_acquire(graph: &Graph, state: &State, worker: WorkerId, locks: &[LockId]) -> bool
     requires belongs { BelongsTo graph.now state.now }
     requires worker_in_range { worker.0 < graph.now.workers }
@@ -80,7 +81,7 @@ fn may_acquire(graph: &Graph, state: &State, worker: WorkerId, locks: &[LockId])
     !state.blocked(worker) && !state.runs_any(worker) && are_open(graph, state, worker, locks)
 }
 
-/// Whether each lock is one of the graph's that the worker hasn't parked.
+// Whether each lock is one of the graph's that the worker hasn't parked.
 fn are_open(graph: &Graph, state: &State, worker: WorkerId, locks: &[LockId]) -> bool
     requires belongs { BelongsTo graph.now state.now }
     requires worker_in_range { worker.0 < graph.now.workers }

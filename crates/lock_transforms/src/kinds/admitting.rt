@@ -55,8 +55,8 @@ pub(crate) fn make_given(work: &mut Tentative, kind: Kind, changes: &[Change]) -
     }
 }
 
-/// The same for a kind whose changes the graph, the state and the worker fix: they are made, and
-/// compared with those given.
+// The same for a kind whose changes the graph, the state and the worker fix: they are made, and
+// compared with those given.
 fn make_fixed<K: FixedKind>(work: &mut Tentative, kind: &K, changes: &[Change]) -> bool
     requires fresh { work.old.made ≡ [] }
     requires room { K.most kind.now ≤ work.old.room }
@@ -68,7 +68,7 @@ fn make_fixed<K: FixedKind>(work: &mut Tentative, kind: &K, changes: &[Change]) 
     }
 }
 
-/// Whether two lists have the same changes.
+// Whether two lists have the same changes.
 fn are_same(made: &[Change], given: &[Change]) -> bool
     ensures { Decides result (made.now ≡ given.now) }
 {
@@ -83,14 +83,14 @@ fn are_same(made: &[Change], given: &[Change]) -> bool
     true
 }
 
-/// Whether two changes are the same.
+// Whether two changes are the same.
 fn is_same(made: Change, given: Change) -> bool
     ensures { Decides result (made ≡ given) }
 {
     made == given
 }
 
-/// The same for an `Acquire`, which may take any locks in rising order.
+// The same for an `Acquire`, which may take any locks in rising order.
 fn acquire_given(work: &mut Tentative, changes: &[Change]) -> bool
     requires fresh { work.old.made ≡ [] }
     requires room { MAX_LOCKS + 1 ≤ work.old.room }
@@ -99,7 +99,7 @@ fn acquire_given(work: &mut Tentative, changes: &[Change]) -> bool
     are_acquired(work, changes) && try_changes(work, changes)
 }
 
-/// Whether an `Acquire` is allowed with the changes, if only each can be made.
+// Whether an `Acquire` is allowed with the changes, if only each can be made.
 fn are_acquired(work: &Tentative, changes: &[Change]) -> bool
     ensures acquired { result ≡ true → IsAcquire work.now changes.now }
     ensures refused { result ≡ false → ¬ Allowed work.now.graph work.now.state (entry work.now.worker kinds.Acquire (Some changes.now)) }
@@ -113,7 +113,7 @@ fn are_acquired(work: &Tentative, changes: &[Change]) -> bool
     are_within(work, changes)
 }
 
-/// Whether the worker isn't blocked and runs nothing.
+// Whether the worker isn't blocked and runs nothing.
 fn may_take(work: &Tentative) -> bool
     ensures condition { result ≡ condition work.now.graph work.now.state work.now.worker kinds.Acquire }
     ensures sound { IsSoundTentative work.now }
@@ -122,21 +122,21 @@ fn may_take(work: &Tentative) -> bool
     !work.state().blocked(work.worker()) && !work.state().runs_any(work.worker())
 }
 
-/// Whether the worker has a lease.
+// Whether the worker has a lease.
 fn is_leased(work: &Tentative) -> bool
     ensures { result ≡ (holding_of work.now.state work.now.worker).lease }
 {
     work.state().has_lease(work.worker())
 }
 
-/// Whether each lock that changes take is the state's.
+// Whether each lock that changes take is the state's.
 fn are_within(work: &Tentative, changes: &[Change]) -> bool
     ensures { result ≡ list_all (takes_within work.now.graph.locks) changes.now }
 {
     take_below(changes, work.graph().locks())
 }
 
-/// Whether changes take locks in strictly rising order, and then a lease where there is none.
+// Whether changes take locks in strictly rising order, and then a lease where there is none.
 fn acquires(changes: &[Change], leased: bool) -> bool
     ensures { result ≡ acquires 0 leased changes.now }
 {
@@ -156,14 +156,14 @@ fn acquires(changes: &[Change], leased: bool) -> bool
     leased
 }
 
-/// The number after a lock's.
+// The number after a lock's.
 fn number_after(lock: LockId) -> u64
     ensures { result ≡ lock.0 + 1 }
 {
     u64::from(lock.0) + 1
 }
 
-/// Whether each lock that changes take is one of so many.
+// Whether each lock that changes take is one of so many.
 fn take_below(changes: &[Change], locks: u32) -> bool
     ensures { result ≡ list_all (takes_within locks) changes.now }
 {
@@ -190,7 +190,7 @@ pub fn is_kind_of(graph: &Graph, kind: Kind) -> bool
     }
 }
 
-/// Whether it is a unit of the graph with an outcome of work that was done.
+// Whether it is a unit of the graph with an outcome of work that was done.
 fn is_closed_of(graph: &Graph, closed: Closed) -> bool
     ensures { IsTrue result ↔ IsClosedOf graph.now closed }
 {

@@ -1,3 +1,4 @@
+//! Entering a blocking section.
 ghost use Rattle.std.specs.Prelude.{◌≡◌, ◌≤◌, ◌<◌, ◌&&◌, ◌==◌, ◌∷◌, Some, false, length, ◌+◌, ◌*◌};
 ghost use Rattle.resource_lock.specs.declared.limits.TheConstants.{MAX_LOCKS};
 ghost use Rattle.resource_lock.specs.Change.{same_mark};
@@ -89,7 +90,7 @@ impl FixedKind for Block {
     }
 }
 
-/// Moves a fetch's mark from Waiting to Running, and sets down the lease and the locks.
+// Moves a fetch's mark from Waiting to Running, and sets down the lease and the locks.
 fn begin_fetch(work: &mut Tentative, unit: u32) -> bool
     requires fits { Fits work.old.graph }
     requires belongs { BelongsTo work.old.graph work.old.state }
@@ -109,7 +110,7 @@ fn begin_fetch(work: &mut Tentative, unit: u32) -> bool
     set_down(work)
 }
 
-/// Gives the lease back, gives back and parks each lock by rising number, and enters.
+// Gives the lease back, gives back and parks each lock by rising number, and enters.
 fn set_down(work: &mut Tentative) -> bool
     requires fits { Fits work.old.graph }
     requires belongs { BelongsTo work.old.graph work.old.state }
@@ -126,7 +127,7 @@ fn set_down(work: &mut Tentative) -> bool
     try_change(work, Change::Enter)
 }
 
-/// Whether a unit is a fetch that the worker can run now.
+// Whether a unit is a fetch that the worker can run now.
 fn can_fetch(graph: &Graph, state: &State, worker: WorkerId, unit: u32) -> bool
     requires fits { Fits graph.now }
     requires belongs { BelongsTo graph.now state.now }
@@ -137,7 +138,7 @@ fn can_fetch(graph: &Graph, state: &State, worker: WorkerId, unit: u32) -> bool
     can_begin(graph, state, worker, graph.action_with(unit), unit)
 }
 
-/// Whether a unit is the fetch of an action, and the worker can run it now.
+// Whether a unit is the fetch of an action, and the worker can run it now.
 fn can_begin(graph: &Graph, state: &State, worker: WorkerId, action: u32, unit: u32) -> bool
     requires belongs { BelongsTo graph.now state.now }
     requires worker_in_range { worker.0 < graph.now.workers }

@@ -1,3 +1,4 @@
+//! Beginning to run an item.
 ghost use Rattle.std.specs.Prelude.{◌≡◌, ◌≢◌, ◌<◌, false};
 ghost use Rattle.resource_lock.specs.StateView.{mark_of};
 ghost use Rattle.lock_transforms.specs.Allowed.{IsFixedList};

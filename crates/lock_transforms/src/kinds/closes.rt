@@ -1,3 +1,4 @@
+//! Ending an item.
 ghost use Rattle.std.specs.Prelude.{◌≡◌, false};
 ghost use Rattle.lock_transforms.specs.Allowed.{IsDisabled, IsFixedList};
 ghost use Rattle.lock_transforms.specs.Table.{is_enabled};

@@ -1,3 +1,4 @@
+//! Ending a task.
 ghost use Rattle.std.specs.Prelude.{◌≡◌, ◌≤◌, ◌<◌, ◌+◌, ◌||◌, ◌∷◌, [], false, length, if◌then◌else◌};
 ghost use Rattle.std.specs.List.{list_all, list_any, range_with_len};
 ghost use Rattle.resource_lock.specs.Change.{same_mark};
@@ -96,7 +97,7 @@ impl FixedKind for End {
     }
 }
 
-/// Moves the worker's task to a mark, and gives its lock and the lease back where there is a lease.
+// Moves the worker's task to a mark, and gives its lock and the lease back where there is a lease.
 fn end_task(work: &mut Tentative, task: u32, mark: Mark, leased: bool) -> bool
     requires belongs { BelongsTo work.old.graph work.old.state }
     requires in_range { task < length work.old.graph.tasks }
@@ -116,7 +117,7 @@ fn end_task(work: &mut Tentative, task: u32, mark: Mark, leased: bool) -> bool
     }
 }
 
-/// Whether each of these actions has passed or never ran.
+// Whether each of these actions has passed or never ran.
 fn all_through(graph: &Graph, state: &State, actions: Span) -> bool
     requires belongs { BelongsTo graph.now state.now }
     requires in_range { actions.first + actions.count ≤ length graph.now.actions }
@@ -126,7 +127,7 @@ fn all_through(graph: &Graph, state: &State, actions: Span) -> bool
     (actions.first..actions.first + actions.count).all(|action| is_through(graph, state, action))
 }
 
-/// Whether an action has passed or never ran.
+// Whether an action has passed or never ran.
 fn is_through(graph: &Graph, state: &State, action: u32) -> bool
     requires belongs { BelongsTo graph.now state.now }
     requires in_range { action < length graph.now.actions }
@@ -135,7 +136,7 @@ fn is_through(graph: &Graph, state: &State, action: u32) -> bool
     state.mark(MarkId::Action(action)).has_passed() || never_ran(graph, state, action)
 }
 
-/// Whether an action never ran, since one of its task before it has a failed unit.
+// Whether an action never ran, since one of its task before it has a failed unit.
 fn never_ran(graph: &Graph, state: &State, action: u32) -> bool
     requires belongs { BelongsTo graph.now state.now }
     requires in_range { action < length graph.now.actions }
@@ -146,7 +147,7 @@ fn never_ran(graph: &Graph, state: &State, action: u32) -> bool
         && some_earlier_failed(graph, state, action)
 }
 
-/// Whether each of these units is Waiting.
+// Whether each of these units is Waiting.
 fn all_waiting(state: &State, units: Span) -> bool
     requires { units.first + units.count ≤ length state.now.units }
     ensures { result ≡ list_all (λ u. same_mark (mark_of state.now (ids.Unit u)) marks.Waiting) (range_with_len units.first units.count) }
@@ -155,7 +156,7 @@ fn all_waiting(state: &State, units: Span) -> bool
         == Mark::Waiting)
 }
 
-/// Whether an action before this one in its task has a failed unit.
+// Whether an action before this one in its task has a failed unit.
 fn some_earlier_failed(graph: &Graph, state: &State, action: u32) -> bool
     requires belongs { BelongsTo graph.now state.now }
     requires in_range { action < length graph.now.actions }
@@ -166,7 +167,7 @@ fn some_earlier_failed(graph: &Graph, state: &State, action: u32) -> bool
     (earlier.first..earlier.first + earlier.count).any(|action| has_failed(graph, state, action))
 }
 
-/// Whether an action has a failed unit.
+// Whether an action has a failed unit.
 fn has_failed(graph: &Graph, state: &State, action: u32) -> bool
     requires belongs { BelongsTo graph.now state.now }
     requires in_range { action < length graph.now.actions }
@@ -177,7 +178,7 @@ fn has_failed(graph: &Graph, state: &State, action: u32) -> bool
         == Mark::Failed)
 }
 
-/// The mark that a task ends with: Passed where all its units have passed.
+// The mark that a task ends with: Passed where all its units have passed.
 fn end_mark(graph: &Graph, state: &State, task: u32) -> Mark
     requires belongs { BelongsTo graph.now state.now }
     requires in_range { task < length graph.now.tasks }
@@ -190,7 +191,7 @@ fn end_mark(graph: &Graph, state: &State, task: u32) -> Mark
     }
 }
 
-/// Whether each unit of these actions has passed.
+// Whether each unit of these actions has passed.
 fn all_units_passed(graph: &Graph, state: &State, actions: Span) -> bool
     requires belongs { BelongsTo graph.now state.now }
     requires in_range { actions.first + actions.count ≤ length graph.now.actions }

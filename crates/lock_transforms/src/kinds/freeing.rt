@@ -26,7 +26,7 @@ pub(crate) fn free_locks(work: &mut Tentative, parks: bool) -> bool
     true
 }
 
-/// Gives a lock back where the worker owns it, and parks it then where `parks` says so.
+// Gives a lock back where the worker owns it, and parks it then where `parks` says so.
 fn free_lock(work: &mut Tentative, lock: LockId, parks: bool) -> bool
     requires in_range { IsLockOf work.old.state lock }
     requires room { length (freed parks (if_owned work.old.state work.old.worker lock)) ≤ work.old.room }

@@ -1,3 +1,4 @@
+//! Giving back all locks and the lease.
 ghost use Rattle.std.specs.Prelude.{◌≡◌, false, ◌+◌};
 ghost use Rattle.resource_lock.specs.declared.limits.TheConstants.{MAX_LOCKS};
 ghost use Rattle.lock_transforms.specs.Allowed.{IsFixedList, IsUnmet};

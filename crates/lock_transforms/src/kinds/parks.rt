@@ -1,3 +1,4 @@
+//! Beginning to wait for the items of an action.
 ghost use Rattle.std.specs.Prelude.{◌≡◌, ◌≤◌, false, length};
 ghost use Rattle.resource_lock.specs.StateView.{IsLockOf};
 ghost use Rattle.lock_transforms.specs.Allowed.{IsDisabled, IsFixedList};
@@ -76,7 +77,7 @@ impl FixedKind for Park {
     }
 }
 
-/// Gives back the lease and, unless the retention keeps it, the lock, which is parked then.
+// Gives back the lease and, unless the retention keeps it, the lock, which is parked then.
 fn give_back(work: &mut Tentative, retention: Retention, lock: LockId) -> bool
     requires in_range { IsLockOf work.old.state lock }
     requires room { 3 ≤ work.old.room }

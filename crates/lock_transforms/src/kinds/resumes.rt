@@ -1,3 +1,4 @@
+//! Going on after the items of an action.
 ghost use Rattle.std.specs.Prelude.{◌≡◌, ◌≤◌, ◌+◌, false, length};
 ghost use Rattle.std.specs.List.{list_all, range_with_len};
 ghost use Rattle.resource_lock.specs.StateView.{IsLockOf, mark_of};
@@ -80,7 +81,7 @@ impl FixedKind for Resume {
     }
 }
 
-/// Takes a lease and the parked lock again, or only takes the lock off the parked list, as the retention says.
+// Takes a lease and the parked lock again, or only takes the lock off the parked list, as the retention says.
 fn take_again(work: &mut Tentative, retention: Retention, lock: LockId) -> bool
     requires in_range { IsLockOf work.old.state lock }
     requires room { 3 ≤ work.old.room }
@@ -96,7 +97,7 @@ fn take_again(work: &mut Tentative, retention: Retention, lock: LockId) -> bool
     }
 }
 
-/// Whether each of these units has ended.
+// Whether each of these units has ended.
 fn all_ended(state: &State, units: Span) -> bool
     requires { units.first + units.count ≤ length state.now.units }
     ensures { result ≡ list_all (λ u. has_ended (mark_of state.now (ids.Unit u))) (range_with_len units.first units.count) }

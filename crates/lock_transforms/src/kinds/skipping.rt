@@ -10,8 +10,8 @@ use crate::kinds::ranges::{Span, units_of};
 use crate::tentatives::Tentative;
 use resource_lock::{Change, Mark, MarkId};
 
-/// Moves an action and its units from Waiting to Skipped, up to the first that can't be moved, and
-/// answers whether all were.
+// Moves an action and its units from Waiting to Skipped, up to the first that can't be moved, and
+// answers whether all were.
 fn skip_action(work: &mut Tentative, action: u32) -> bool
     requires belongs { BelongsTo work.old.graph work.old.state }
     requires in_range { action < length work.old.graph.actions }
@@ -42,7 +42,7 @@ pub(crate) fn skip_actions(work: &mut Tentative, actions: Span) -> bool
     true
 }
 
-/// Skips an action and its units where the action is Waiting, and answers whether all were.
+// Skips an action and its units where the action is Waiting, and answers whether all were.
 fn skip_if_waiting(work: &mut Tentative, action: u32) -> bool
     requires belongs { BelongsTo work.old.graph work.old.state }
     requires in_range { action < length work.old.graph.actions }

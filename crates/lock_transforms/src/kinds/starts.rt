@@ -1,3 +1,4 @@
+//! Starting a task.
 ghost use Rattle.std.specs.Prelude.{◌≡◌, ◌≤◌, false, length};
 ghost use Rattle.lock_transforms.specs.Allowed.{IsFixedList};
 ghost use Rattle.lock_transforms.specs.Table.{is_enabled};

@@ -1,3 +1,4 @@
+//! Queueing the items of an action.
 ghost use Rattle.std.specs.Prelude.{◌≡◌, ◌+◌, ◌<◌, length};
 ghost use Rattle.resource_lock.specs.declared.limits.TheConstants.{MAX_UNITS};
 ghost use Rattle.resource_lock.specs.Shape.{BelongsTo};
@@ -78,7 +79,7 @@ impl FixedKind for Submit {
     }
 }
 
-/// Whether an action has no fetch, or one that has passed or failed.
+// Whether an action has no fetch, or one that has passed or failed.
 fn fetch_closed(graph: &Graph, state: &State, action: u32) -> bool
     requires belongs { BelongsTo graph.now state.now }
     requires in_range { action < length graph.now.actions }

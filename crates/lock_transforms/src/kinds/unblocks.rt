@@ -1,3 +1,4 @@
+//! Leaving a blocking section.
 ghost use Rattle.std.specs.Prelude.{◌≡◌, ◌≤◌, ◌<◌, ◌+◌, ◌++◌, ◌∷◌, [], false, length, reverse, ◌*◌};
 ghost use Rattle.resource_lock.specs.declared.limits.TheConstants.{MAX_LOCKS};
 ghost use Rattle.resource_lock.specs.StateView.{holding_of};
@@ -91,7 +92,7 @@ impl FixedKind for Unblock {
     }
 }
 
-/// Takes the locks and a lease again, and moves a fetch's mark from Running to what its outcome gives.
+// Takes the locks and a lease again, and moves a fetch's mark from Running to what its outcome gives.
 fn end_fetch(work: &mut Tentative, closed: Closed) -> bool
     requires sound { IsSoundTentative work.old }
     requires in_range { closed.unit < work.old.graph.units }
@@ -111,7 +112,7 @@ fn end_fetch(work: &mut Tentative, closed: Closed) -> bool
     )
 }
 
-/// Leaves, takes each parked lock again, the last first, and then a lease.
+// Leaves, takes each parked lock again, the last first, and then a lease.
 fn take_up(work: &mut Tentative) -> bool
     requires sound { IsSoundTentative work.old }
     requires room { 2 + 2 * MAX_LOCKS ≤ work.old.room }
@@ -127,7 +128,7 @@ fn take_up(work: &mut Tentative) -> bool
     take_all(work, &[])
 }
 
-/// Takes each parked lock again, from the last parked to the first.
+// Takes each parked lock again, from the last parked to the first.
 fn take_parked(work: &mut Tentative) -> bool
     requires { length (taken_again (reverse (holding_of work.old.state work.old.worker).parked)) ≤ work.old.room }
     ensures { Makes work.old work.new (taken_again (reverse (holding_of work.old.state work.old.worker).parked)) result }

@@ -1,6 +1,6 @@
 -- A TOML value's members, keys and pairs beside the lists that the code goes over.
-use Rattle.std.proofs.Common.{cond, ◌+◌, ◌≡◌, Bool, true, false, is_some, ◌||◌, ◌&&◌, List, [], ◌∷◌, length, map, Some, refl, ap, sym, ◌∙◌, Global, String, Vec, BTreeMap, string_bytes}
-use Rattle.std.specs.List.{list_any, list_all, position, position_or_len}
+use Rattle.std.proofs.Common.{cond, ◌+◌, ◌≡◌, Bool, true, false, is_some, ◌||◌, ◌&&◌, List, [], ◌∷◌, length, map, Option, Some, None, option_map, refl, ap, sym, ◌∙◌, Global, String, Vec, BTreeMap, string_bytes}
+use Rattle.std.specs.List.{find, list_any, list_all, position, position_or_len}
 use Rattle.std.proofs.lemmas.List.{length-map}
 use Rattle.toml.specs.declared.value.Value.{Value, Array, Table}
 use Rattle.toml.specs.Data.{Data, as_array}
@@ -21,6 +21,14 @@ any_of_map p h (x ∷ xs) = ap (λ b. p (h x) || b) (any_of_map p h xs)
 pub all_of_map : {X Y : Type 0} (p : Y → Bool) (h : X → Y) (xs : List X) → list_all p (map h xs) ≡ list_all (λ x. p (h x)) xs
 all_of_map p h [] = refl
 all_of_map p h (x ∷ xs) = ap (λ b. p (h x) && b) (all_of_map p h xs)
+
+pub find_of_map : {X Y : Type 0} (p : Y → Bool) (h : X → Y) (xs : List X) → find p (map h xs) ≡ option_map h (find (λ x. p (h x)) xs)
+find_of_map p h [] = refl
+find_of_map p h (x ∷ xs) = by (p (h x)) (find_of_map p h xs)
+  where
+    by : (b : Bool) → find p (map h xs) ≡ option_map h (find (λ y. p (h y)) xs) → cond b (Some (h x)) (find p (map h xs)) ≡ option_map h (cond b (Some x) (find (λ y. p (h y)) xs))
+    by true e = refl
+    by false e = e
 
 position_or_len_of_map : {X Y : Type 0} (p : Y → Bool) (h : X → Y) (xs : List X) → position_or_len p (map h xs) ≡ position_or_len (λ x. p (h x)) xs
 position_or_len_of_map p h [] = refl

@@ -90,7 +90,7 @@ some_refusal d =
     ∙ same_test _ _ parts (λ p. any_swap (λ t. holds_at t p) tests (places d p) ∙ same_test _ _ (places d p) (in_part_any p))
     ∙ sym (some_place (in_part any_holds) d)
 
-none_as_some : {Y : Type 0} (o : Option Y) → is_none o ≡ not (is_some o)
+pub none_as_some : {Y : Type 0} (o : Option Y) → is_none o ≡ not (is_some o)
 none_as_some None = refl
 none_as_some (Some y) = refl
 

@@ -65,7 +65,7 @@ impl State {
     }
 }
 
-/// Whether a worker can move a mark from the second to the third, where the first is found.
+// Whether a worker can move a mark from the second to the third, where the first is found.
 #[inline(always)]
 fn can_move(worker: WorkerId, found: Mark, from: Mark, to: Mark) -> bool
     ensures { result ≡ (same_mark found from && not (same_mark from to) && names_only from worker && names_only to worker) }
@@ -73,7 +73,7 @@ fn can_move(worker: WorkerId, found: Mark, from: Mark, to: Mark) -> bool
     found == from && from != to && names_only(from, worker) && names_only(to, worker)
 }
 
-/// Whether a mark, where it is Running, names this worker.
+// Whether a mark, where it is Running, names this worker.
 fn names_only(mark: Mark, worker: WorkerId) -> bool
     ensures { result ≡ names_only mark worker }
 {

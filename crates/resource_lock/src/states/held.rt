@@ -82,7 +82,7 @@ impl Held {
     }
 }
 
-/// How many marks run by a worker, where one of them is moved.
+// How many marks run by a worker, where one of them is moved.
 fn recounted(count: usize, worker: WorkerId, from: Mark, to: Mark) -> usize
     requires { CanRecount count worker from to }
     ensures { result ≡ recounted count worker from to }

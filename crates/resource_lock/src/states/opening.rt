@@ -33,15 +33,15 @@ impl State {
     }
 }
 
-/// The owners of so many locks that have none. Only want of memory is an error.
+// The owners of so many locks that have none. Only want of memory is an error.
 fn no_owners(alloc: Global, locks: usize) -> Result<Vec<Option<WorkerId>>, AllocError>
     ensures { IfOk result (λ owners. owners.items ≡ replicate locks None) }
 {
     vec![in alloc; None; locks]
 }
 
-/// The entries of workers that have nothing, each with room for every lock. Only want of memory is
-/// an error.
+// The entries of workers that have nothing, each with room for every lock. Only want of memory is
+// an error.
 fn empty_holdings(alloc: Global, locks: usize, workers: usize) -> Result<Vec<Held>, AllocError>
     ensures empty { IfOk result (λ held. map holding_from held.items ≡ replicate workers empty_holding) }
     ensures counts { IfOk result (λ held. map (λ h. h.counts) held.items ≡ replicate workers no_counts) }

@@ -1,7 +1,8 @@
 //! Who owns what, who has what, and how far each task, action and unit has come.
 ghost use Rattle.std.specs.Prelude.{◌≡◌};
 ghost use Rattle.resource_lock.specs.Good.{Good};
-ghost use Rattle.resource_lock.specs.StateView.{IsWorkerOf, IsLockOf, IsMarkOf, owner_of, holding_of, leases_out, mark_of, owns, is_owner, stands_in, has_parked};
+ghost use Rattle.resource_lock.specs.StateView.{IsWorkerOf, IsLockOf, IsMarkOf, owner_of, holding_of, leases_out, mark_of, owns, is_owner, stands_in};
+ghost use Rattle.resource_lock.specs.StateView.{has_parked};
 
 use super::State;
 use crate::ids::{LockId, WorkerId};
@@ -78,7 +79,7 @@ impl State {
     }
 }
 
-/// Whether an owner is this worker.
+// Whether an owner is this worker.
 fn is_owner(owner: Option<WorkerId>, worker: WorkerId) -> bool
     ensures { result ≡ is_owner owner worker }
 {
@@ -88,7 +89,7 @@ fn is_owner(owner: Option<WorkerId>, worker: WorkerId) -> bool
     }
 }
 
-/// Whether a lock stands in a list.
+// Whether a lock stands in a list.
 fn stands_in(lock: LockId, locks: &[LockId]) -> bool
     ensures { result ≡ stands_in lock locks.now }
 {

@@ -1,6 +1,7 @@
-use Rattle.build_runner.specs.Units.{fetch_unit}
-use Rattle.build_runner.proofs.Sending.{of_fetch, same_view}
+use Rattle.plan_reader.specs.Units.{fetch_unit}
+use Rattle.build_runner.proofs.Sending.{of_fetch}
 use Rattle.build_runner.proofs.Stepping.{honest_at}
+use Rattle.build_runner.proofs.lemmas.SentViews.{same_view}
 use Rattle.build_runner.proofs.fetching.read_fetch.Goals as goal
 
 pub returns-clause-ran : goal.returns-clause-ran
@@ -10,9 +11,8 @@ returns-clause-ran g c =
     let file = c.fetch.result.now in
     let none = g.met.D.Desk.reads_send_nothing c.args.desk.now c.work_out.new.files ran.keeps in record {
       files = ran.files;
-      count = ran.kept;
       ran = ran.ran;
-      fault = ran.fault;
+      counted = ran.counted;
       honest = honest_at c.args.site.now.units (fetch_unit file) c.work_out.result (g.D.Files.files c.args.desk.now) unit c.fetch.ensures ran.honest;
       sent = of_fetch c.args.site.now.units (record { unit = unit; outcome = c.work_out.result }) (file, c.fetch.ensures) (same_view none.0 none.1);
     }

@@ -2,6 +2,7 @@ use Rattle.std.proofs.Common.{true}
 use Rattle.coordination.specs.Holds.{HoldsNothing}
 use Rattle.item_work.specs.Tallying.{ReservesForEach}
 use Rattle.build_runner.specs.Desks.{desk_view}
+use Rattle.build_runner.specs.Failing.{FailsForEach}
 use Rattle.build_runner.specs.Steps.{Steps}
 use Rattle.build_runner.proofs.idle.work_to_the_end.Given as goal
 
@@ -11,3 +12,4 @@ invariant-loop g l =
     × Steps l.site (desk_view g.D.Files.files g.D.Files.faults g.D.Desk.sends g.D.Desk.sent) l.initial.desk l.desk l.initial.pass l.pass true
     × HoldsNothing l.pass.sight
     × ReservesForEach (g.D.Desk.sends l.initial.desk) (g.D.Desk.sends l.desk) l.initial.mine l.mine
+    × FailsForEach l.initial.pass.sight l.pass.sight l.initial.mine l.mine

@@ -17,7 +17,7 @@ use Rattle.plan_reader.specs.Units.{plan_units}
 use Rattle.history_laws.specs.Marks.{HasEnded}
 use Rattle.build_runner.specs.Desks.{known_by}
 use Rattle.build_runner.specs.Run.{depth}
-use Rattle.build_runner.proofs.AtTheEnd.{all_are_honest, all_ended, all_faults, all_requests, all_rest, all_there, has_results}
+use Rattle.build_runner.proofs.AtTheEnd.{all_are_honest, all_ended, all_faults, all_requests, all_rest, all_there, closings_in, has_results}
 use Rattle.build_runner.proofs.Ranks.{afters_count, in_range, no_cycle, ranks_of, task_count}
 use Rattle.build_runner.proofs.runs.close_service.Goals as goal
 
@@ -75,3 +75,9 @@ returns-clause-broken_off c = λ before after there.
       lawful = subst (λ (g : GraphView). Lawful g b.history) graph lawful;
       requests = all_there (plan_units c.args.plan.now) before after c.args.opened.value.passes.items options.workers b c.requires.workers agrees there;
     }
+
+pub returns-clause-closings : goal.returns-clause-closings
+returns-clause-closings c = λ i p low.
+    let out = c.into_inner-service.ensures in
+    let agrees = subst (λ (o : Opened QueuePlace). All (λ p. Agrees p.sight.worker p.sight.seen c.finish-book.result.value) o.passes.items) out c.finish-book.ensures.agrees in
+    closings_in c.args.opened.value.passes.items c.args.options.now.workers c.finish-book.result.value c.requires.workers agrees i p low

@@ -7,16 +7,16 @@ use Rattle.coordination.specs.Sights.{workers_from}
 use Rattle.coordination.specs.declared.services.Opened.{Opened}
 use Rattle.build_runner.specs.declared.queue.QueuePlace.{QueuePlace}
 use Rattle.plan_reader.specs.PlanView.{PlanView}
-use Rattle.plan_reader.specs.Units.{PlannedUnit}
+use Rattle.plan_reader.specs.Units.{PlannedUnit, unit_view}
 use Rattle.build_runner.specs.Desks.{DeskView, desk_view, desks_view, known_by}
 use Rattle.build_runner.specs.Prepared.{IsOpenedOn, IsPrepared}
 use Rattle.build_runner.specs.Run.{WasBrokenOff}
 use Rattle.build_runner.specs.Site.{SiteView}
-use Rattle.build_runner.specs.Units.{unit_view}
 use Rattle.build_runner.specs.Worked.{HasComeToTheEnd, WasThere}
 use Rattle.build_runner.specs.declared.options.RunOptions.{RunOptions}
 use Rattle.build_runner.specs.declared.prepared.Prepared.{Prepared}
-use Rattle.build_runner.specs.declared.units.UnitWork.{UnitWork}
+use Rattle.plan_reader.specs.declared.units.UnitWork.{UnitWork}
+use Rattle.build_runner.proofs.Failing.{unreal_at_end, unreal_at_first}
 use Rattle.build_runner.proofs.Joined.{all_come, all_counts, all_files, all_were_there, left_numbers, left_service}
 use Rattle.build_runner.proofs.Keeping.{at_err}
 use Rattle.build_runner.proofs.PlannedUnits.{units_of_graph}
@@ -251,3 +251,15 @@ returns-clause-reserved g c =
     let back : c.put_behind.new.desks.items ≡ worked ++ drop n old = c.put_behind.ensures ∙ ap (λ (l : List D). worked ++ l) c.in_ok-rest.ensures.tail in
     let firsts : sum_by g.D.Desk.sends mine ≡ sum_by g.D.Desk.sends (take n old) = ap (sum_by g.D.Desk.sends) c.in_ok-rest.ensures.items in
     with_the_rest g.D.Desk.sends n old worked c.put_behind.new.desks.items back c.args.tallies.now.reserved c.run_team-ended.new.tallies.reserved (omega (arith, firsts, c.run_team-ended.ensures.reserved))
+
+pub returns-then-ended-clause-failed : goal.returns-then-ended-clause-failed
+returns-then-ended-clause-failed g c =
+    let n = c.args.options.now.workers in
+    let start = c.in_ok-graph.ensures in
+    let team = c.run_team-ended.ensures in
+    let begun = c.deref_mut-parts.result.now in
+    let opened = subst (IsOpenedOn c.in_ok-graph.field-0.graph) (sym c.deref_mut-parts.ensures.value) start.opened in
+    let size : c.split_off.new.self.len ≡ n = c.in_ok-rest.ensures.len in
+    let first = unreal_at_first begun.passes.items (λ i p low. opened.untouched i p low) in
+    let last = unreal_at_end c.run_team-ended.new.passes.items n c.close_service-book.result.value.history (team.passes ∙ size) c.close_service-book.ensures.closings in
+    omega (arith, team.failed c.if-ended.true, first, last)

@@ -1,8 +1,9 @@
-use Rattle.std.proofs.Common.{◌≡◌, Box, List, ap, arith, refl, ◌∙◌}
+use Rattle.std.proofs.Common.{◌≡◌, ◌+◌, ◌≤◌, Box, List, ap, arith, refl, ◌∙◌}
 use Rattle.std.specs.Prelude.{sum_by}
 use Rattle.std.specs.declared.alloc.Global.{Global}
 use Rattle.lock_journal.specs.BookView.{BookView}
 use Rattle.build_runner.specs.Desks.{DeskView, desk_view, desks_view}
+use Rattle.build_runner.specs.Failing.{unreal_of}
 use Rattle.build_runner.specs.Run.{IsRunOf}
 use Rattle.build_runner.proofs.lemmas.FirstDesk.{drop_more}
 use Rattle.build_runner.proofs.lemmas.Within.{asked_nothing, broken_within, nothing_done, run_within}
@@ -60,3 +61,9 @@ returns-in_err-book-clause-broken_off g c = λ d.
 
 pub returns-in_err-pool-clause-broken_off : goal.returns-in_err-pool-clause-broken_off
 returns-in_err-pool-clause-broken_off g c = λ d. at_err _ (nothing_done c.args.plan.now c.args.options.now (desks_view (desk_view g.D.Files.files g.D.Files.faults g.D.Desk.sends g.D.Desk.sent) c.args.desks.now.items d))
+
+pub returns-clause-failed : goal.returns-clause-failed
+returns-clause-failed g c =
+    let start = c.new-pool.result.1 in
+    let book = if_ok (λ (book : Box BookView Global). c.run_book-book.new.tallies.failed ≤ start.failed + unreal_of c.args.options.now.workers book.value.history) c.run_book-book.result c.in_ok-book.field-0 c.in_ok-book.was c.run_book-book.ensures.failed in
+    omega (arith, book, c.close_pool-events.ensures.failed, ap (λ t. t.failed) c.new-pool.ensures.tallies)

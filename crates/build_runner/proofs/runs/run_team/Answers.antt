@@ -1,11 +1,13 @@
-use Rattle.std.proofs.Common.{◌≡◌, List, Vec, map, true, sym, ap, ◌∙◌, subst, arith}
+use Rattle.std.proofs.Common.{◌≡◌, ℕ, ◌+◌, ◌<◌, ◌≤◌, List, Vec, get_or, length, map, true, sym, ap, ◌∙◌, subst, arith}
 use Rattle.std.specs.List.{All}
 use Rattle.std.specs.Prelude.{sum_by}
 use Rattle.std.specs.declared.alloc.Global.{Global}
 use Rattle.coordination.specs.Passes.{PassView}
 use Rattle.build_runner.specs.Desks.{desk_view}
+use Rattle.build_runner.specs.Failing.{unreal_seen}
 use Rattle.build_runner.specs.Team.{CanWork}
 use Rattle.build_runner.specs.declared.team.Worker.{Worker}
+use Rattle.build_runner.proofs.Failing.{failed_of}
 use Rattle.build_runner.proofs.Seated.{each_worked, of_each, written_back}
 use Rattle.build_runner.proofs.Tallied.{in_sum, sum_of_parts}
 use Rattle.build_runner.proofs.runs.run_team.Goals as goal
@@ -45,3 +47,21 @@ returns-clause-reserved g c =
     let begun = ap (λ (l : List W). sum_by (λ (w : W). w.tally.reserved) l) c.as_mut_slice.ensures.value in
     let gone = ap (λ (l : List W). sum_by (λ (w : W). w.tally.reserved) l) back in
     omega (arith, all, before, after, begun, gone, c.seat.ensures.reserved, c.part.ensures.reserved)
+
+pub returns-clause-failed : goal.returns-clause-failed
+returns-clause-failed g c = λ is.
+    let W : Type 0 = Worker g.row.D.Denot g.row.U.Denot g.row.F.Denot in
+    let old : List W = c.as_mut_slice.result.now in
+    let new : List W = c.work.new.team in
+    let pass : W → PassView = λ w. w.pass in
+    let back = written_back new c.seat.new.team.items c.seat.new.team.len (c.work.ensures.len ∙ c.as_mut_slice.ensures.len) in
+    let ended : All (λ (w : W). w.ended ≡ true) new = subst (λ (ws : List W). All (λ w. w.ended ≡ true) ws) (c.as_slice.ensures.value ∙ back) (c.all_ended-ended.ensures is) in
+    let each : (i : ℕ) (w : W) → i < length old → (get_or new i w).tally.failed + unreal_seen (get_or old i w).pass ≤ (get_or old i w).tally.failed + unreal_seen (get_or new i w).pass =
+    λ i w low. failed_of (get_or old i w).pass (get_or new i w).pass (get_or old i w).tally (get_or new i w).tally (c.work.ensures.worked i w low).step.keeps.worker
+    (c.work.ensures.failed i w low (ended i w (omega (arith, c.work.ensures.len, low)))) in
+    let all = in_sum (λ (w : W). w.tally.failed) (λ (w : W). unreal_seen w.pass) old new c.work.ensures.len each in
+    let before = sum_of_parts pass unreal_seen old c.args.passes.now.items (ap (λ (l : List W). map pass l) c.as_mut_slice.ensures.value ∙ (c.seat.ensures.passes ∙ ap (λ (v : Vec PassView Global). v.items) c.replace.ensures.value)) in
+    let after = sum_of_parts pass unreal_seen new c.part.new.passes.items (sym (c.part.ensures.passes ∙ ap (λ (l : List W). map pass l) back)) in
+    let begun = ap (λ (l : List W). sum_by (λ (w : W). w.tally.failed) l) c.as_mut_slice.ensures.value in
+    let gone = ap (λ (l : List W). sum_by (λ (w : W). w.tally.failed) l) back in
+    omega (arith, all, before, after, begun, gone, c.seat.ensures.failed, c.part.ensures.failed)

@@ -7,6 +7,7 @@ use Rattle.coordination.specs.declared.rule.Sight.{Sight}
 use Rattle.async_tracker.specs.ParkedView.{ParkedView}
 use Rattle.async_tracker.specs.Shows.{ShowsParked, ShowsResumed}
 use Rattle.build_runner.specs.Points.{IsInTask, RunsTask}
+use Rattle.build_runner.proofs.Failing.{fails_not, fails_then}
 use Rattle.build_runner.proofs.Keeping.{if_ok, of_ok}
 use Rattle.build_runner.proofs.Points.{ok_is, own_task, resumed, with_lease}
 use Rattle.build_runner.proofs.Stepping.{step_err, step_still, step_then, step_weaker}
@@ -56,3 +57,27 @@ returns-in_err-failed-clause-step g c =
     let first = c.fetch_first.ensures.step in
     let queued = step_still c.fetch_first.new.desk true first.at c.queue_items.ensures.service c.queue_items.ensures.closed in
     step_err c.from_residual-in_err-failed.result c.from_residual-in_err-failed.ensures.0 (step_then (step_then first (ap is_ok c.in_ok-fetch_first.was) queued) refl c.wait_for_items.ensures.step)
+
+pub returns-then-not-failed-clause-failed : goal.returns-then-not-failed-clause-failed
+returns-then-not-failed-clause-failed g c =
+    let first = c.fetch_first.ensures.step in
+    let queued = c.queue_items.ensures.closed in
+    let mine = c.args.mine.now in
+    let old = c.args.pass.now.sight in
+    let fetched = c.fetch_first.new.pass.sight in
+    let parked = c.queue_items.new.pass.sight in
+    fails_then old parked c.wait_for_items.new.pass.sight mine mine c.wait_for_items.new.mine (queued.worker ∙ first.keeps.worker)
+    (fails_then old fetched parked mine mine mine first.keeps.worker (fails_not mine first.sent.closes) (fails_not mine queued))
+    (of_ok c.wait_for_items.result c.in_ok-failed.failed c.in_ok-failed.was c.wait_for_items.ensures.failed)
+
+pub returns-else-not-failed-clause-failed : goal.returns-else-not-failed-clause-failed
+returns-else-not-failed-clause-failed g c =
+    let first = c.fetch_first.ensures.step in
+    let queued = c.queue_items.ensures.closed in
+    let mine = c.args.mine.now in
+    let old = c.args.pass.now.sight in
+    let fetched = c.fetch_first.new.pass.sight in
+    let parked = c.queue_items.new.pass.sight in
+    fails_then old parked c.wait_for_items.new.pass.sight mine mine c.wait_for_items.new.mine (queued.worker ∙ first.keeps.worker)
+    (fails_then old fetched parked mine mine mine first.keeps.worker (fails_not mine first.sent.closes) (fails_not mine queued))
+    (of_ok c.wait_for_items.result c.in_ok-failed.failed c.in_ok-failed.was c.wait_for_items.ensures.failed)

@@ -13,3 +13,4 @@ invariant-loop-worker g l =
     × (vec_capacity l.desks ≡ vec_capacity l.initial.desks)
     × (l.tallies.parts ≡ l.initial.tallies.parts + length l.yielded)
     × (l.tallies.reserved ≡ l.initial.tallies.reserved + sum_by (λ w. w.tally.reserved) l.yielded)
+    × (l.tallies.failed ≡ l.initial.tallies.failed + sum_by (λ w. w.tally.failed) l.yielded)

@@ -14,3 +14,4 @@ invariant-loop-pass g l =
     × (l.tallies.parts + length l.yielded ≡ l.initial.tallies.parts)
     × (length l.yielded + into_iter_len l.pass-iterator < l.initial.tallies.parts)
     × (sum_by (λ w. w.tally.reserved) l.team.items + l.tallies.reserved ≡ l.initial.tallies.reserved)
+    × (sum_by (λ w. w.tally.failed) l.team.items + l.tallies.failed ≡ l.initial.tallies.failed)

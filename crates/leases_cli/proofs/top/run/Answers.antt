@@ -1,13 +1,14 @@
 use Rattle.std.proofs.Common.{◌≤◌, Vec, length, ap, arith, refl, sym, ◌∙◌}
 use Rattle.std.specs.declared.alloc.Global.{Global}
-use Rattle.daemon_manager.specs.Counts.{reservations}
+use Rattle.daemon_manager.specs.Counts.{failures, reservations}
 use Rattle.daemon_manager.specs.declared.events.Event.{Event}
 use Rattle.build_runner.specs.Desks.{DeskView, desk_view, desks_view}
 use Rattle.build_runner.proofs.lemmas.KnownFiles.{still_alike}
 use Rattle.build_runner.proofs.lemmas.Within.{asked_nothing, broken_within, run_within}
 use Rattle.leases_cli.specs.Answered.{book_of, call_of, options_of}
 use Rattle.leases_cli.specs.Around.{Call, around}
-use Rattle.leases_cli.proofs.Commands.{drop_more, some_desk}
+use Rattle.build_runner.proofs.lemmas.FirstDesk.{drop_more}
+use Rattle.leases_cli.proofs.Commands.{some_desk}
 use Rattle.leases_cli.proofs.Reports.{broken_answers, refusal_answers, reported_answers}
 use Rattle.leases_cli.proofs.Reserving.{first_sent}
 use Rattle.leases_cli.proofs.top.run.Goals as goal
@@ -60,7 +61,8 @@ returns-in-Ok-run_plan-clause-answer g c = λ d source.
     let reserved = first_sent view c.args.desks.now.items c.read_first.new.desks.items c.run_plan.new.desks.items d asked.threads count few (omega (arith, few, c.run_plan.ensures.places))
     c.run_plan.ensures.rest (λ i. c.read_first.ensures.sent i d) c.in-Ok-run_plan.ensures.reserved in
     let kept = ap (λ (v : Vec Event Global). reservations v.items) c.report_run.ensures.kept in
-    reported_answers asked call plan b (ap book_of c.report_run.ensures.book) (record { named = c.in-Ok.ensures.plan d; run = run; reserved = omega (arith, reserved, kept) }) (c.report_run.ensures.status first after run)
+    let lost = ap (λ (v : Vec Event Global). failures v.items) c.report_run.ensures.kept in
+    reported_answers asked call plan b (ap book_of c.report_run.ensures.book) (record { named = c.in-Ok.ensures.plan d; run = run; reserved = omega (arith, reserved, kept); failed = omega (arith, c.in-Ok-run_plan.ensures.failed, lost) }) (c.report_run.ensures.status first after run)
 
 pub returns-clause-answer : goal.returns-clause-answer
 returns-clause-answer g c = λ d source.

@@ -1,4 +1,5 @@
 use Rattle.std.proofs.Common.{◌∙◌, List, ap, sym, subst, take, ◌+◌}
+use Rattle.file_access.proofs.lemmas.Counting.{fault_rises}
 use Rattle.resource_lock.specs.GraphView.{GraphView}
 use Rattle.shared_services.specs.Services.{AreServices}
 use Rattle.service_jobs.specs.Worked.{HasRun}
@@ -27,5 +28,5 @@ loop-job-preserved g c =
           (one_job_more table (g.F.Files.files c.args.desk.now) (g.F.Files.files c.loop-job.desk) (g.F.Files.faults c.args.desk.now) (g.F.Files.faults c.loop-job.desk) (g.F.Files.faults c.run_job.new.desk)
           c.args.jobs.now c.job-item.result c.loop-job.job-index c.job-item.result c.loop-job.done.items c.in_ok-ran.ran c.loop-job-test.true (sym c.job-item.is)
           (subst (λ (j : Job). AreServices c.args.table.now j.uses.items) (sym c.job-item.is) (c.requires.services c.loop-job.job-index c.job-item.result c.loop-job-test.true))
-          before.1 before.2 now.ran now.honest now.kept now.fault),
+          before.1 before.2 now.ran now.honest now.kept (fault_rises c.in_ok-ran.ran.outcome (g.F.Files.faults c.loop-job.desk) (g.F.Files.faults c.run_job.new.desk) now.counted)),
     )

@@ -2,7 +2,7 @@ use Rattle.std.proofs.Common.{◌≡◌, Some, ap, subst, sym, ◌∙◌}
 use Rattle.std.specs.Prelude.{slice_get}
 use Rattle.resource_lock.specs.Ranges.{IsFetchOf}
 use Rattle.build_runner.specs.Site.{SiteView}
-use Rattle.build_runner.specs.Units.{fetch_unit, unit_view}
+use Rattle.plan_reader.specs.Units.{fetch_unit, unit_view}
 use Rattle.build_runner.proofs.SiteUnits.{is_no_item, unit_is, unit_within}
 use Rattle.build_runner.proofs.site.Site.fetch.Goals as goal
 

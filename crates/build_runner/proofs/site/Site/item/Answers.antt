@@ -2,9 +2,9 @@ use Rattle.std.proofs.Common.{◌≡◌, Some, true, ap, subst, sym, ◌∙◌}
 use Rattle.std.specs.Prelude.{slice_get}
 use Rattle.resource_lock.specs.Ranges.{is_item}
 use Rattle.plan_reader.specs.PlanView.{work_view}
-use Rattle.plan_reader.specs.Units.{item_unit}
+use Rattle.plan_reader.specs.Units.{item_unit, unit_view}
 use Rattle.build_runner.specs.Site.{SiteView}
-use Rattle.build_runner.specs.Units.{HasFileName, unit_view}
+use Rattle.build_runner.specs.Units.{HasFileName}
 use Rattle.build_runner.proofs.SiteUnits.{is_no_item, unit_is, unit_named, unit_within}
 use Rattle.build_runner.proofs.site.Site.item.Goals as goal
 

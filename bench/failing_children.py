@@ -1,0 +1,316 @@
+#!/usr/bin/env python3
+"""Runs plans beside worker processes that die, lie or don't listen, and with outputs and systems that fail.
+
+Each case says what the run has to print and its status. A run that takes more than ten seconds hangs, and a worker process that is
+still there a second after its run is left behind: both fail. Not part of the gate.
+
+    bench/failing_children.py [PROGRAM]
+"""
+
+import collections.abc
+import dataclasses
+import os
+import pathlib
+import resource
+import shutil
+import signal
+import subprocess
+import sys
+import tempfile
+import time
+
+import measure
+
+FILE = b"one\ntwo\nthree\n"
+LINES, BYTES = "3", "14"
+REPLY_BYTES = 18
+MOST_SECONDS = 10
+# A user that nothing else runs as, since the limit of processes counts all of a user.
+LONELY_USER = 64_321
+
+# A child. `DOES` says what the first one does with its first request; it and all others answer every other request as they should.
+CHILD = """#!%s -IS
+import os, signal, struct, sys, time
+does, _, number = os.environ.get("DOES", "answers").partition(" ")
+open("started-%%d" %% os.getpid(), "w").close()
+
+def first():
+    try:
+        os.close(os.open("first", os.O_CREAT | os.O_EXCL))
+        return True
+    except FileExistsError:
+        return False
+
+def read(count):
+    got = b""
+    while len(got) < count:
+        piece = os.read(0, count - len(got))
+        if not piece:
+            return None
+        got += piece
+    return got
+
+def reply(unit, action):
+    return b"\\x02" + struct.pack(">IIBQ", 13, unit, 1, {1: 3, 4: 14}.get(action, 14))
+
+odd = does == "always dies" or first()
+if odd and does == "ends":
+    sys.exit()
+if odd and does == "hastens":
+    os.write(1, reply(0, 1))
+while True:
+    head = read(5)
+    if head is None or head[0] == 3:
+        if does == "lingers":
+            time.sleep(0.5)
+        if does == "ignores" and head is not None:
+            continue
+        break
+    body = read(struct.unpack(">I", head[1:])[0])
+    unit, action = struct.unpack(">IB", body[:5])
+    right = reply(unit, action)
+    if does == "slow":
+        time.sleep(0.3)
+    if does == "dies":
+        os.kill(os.getpid(), signal.SIGKILL)
+    if odd and does == "cut":
+        os.write(1, right[: int(number)])
+        break
+    if odd and does == "killed":
+        os.write(1, right[: int(number)])
+        os.kill(os.getpid(), signal.SIGKILL)
+    if odd and does == "closes":
+        os.write(1, right[: int(number)])
+        os.close(1)
+        time.sleep(60)
+    if odd and does == "lies":
+        os.write(1, bytes.fromhex(number))
+        time.sleep(60)
+    if odd and does == "hastens":
+        odd = False
+        continue
+    os.write(1, right)
+    odd = False
+""" % sys.executable
+
+
+@dataclasses.dataclass
+class Case:
+    """A run: what its children do, its executable and items, and what it has to print of them."""
+
+    name: str
+    does: str
+    outcomes: list[str]
+    executable: str = "./child"
+    threads: int = 1
+    limits: dict[int, int] = dataclasses.field(default_factory=dict)
+    user: int | None = None
+
+    def plan(self) -> str:
+        item = '\n[[task.action.item]]\ndo = "{}"\nfile = "a.txt"\nisolation = "process"\nrequirements = "r"\n'
+        items = "".join(item.format(("lines", "bytes")[n % 2]) for n in range(len(self.outcomes)))
+        head = '[[project]]\nname = "p"\n\n[[requirements]]\nname = "r"\nexecutable = "{}"\n\n[[task]]\nname = "t"\nproject = "p"\n'
+        return head.format(self.executable) + "\n[[task.action]]\nwait = \"release\"\n" + items
+
+    def expected(self) -> tuple[str, int]:
+        failed = sum(not outcome.isdigit() for outcome in self.outcomes)
+        passed = len(self.outcomes) - failed
+        lines = [f"task t {'failed' if failed else 'passed'}"]
+        lines += [f"  {('lines', 'bytes')[n % 2]} a.txt {outcome}" for n, outcome in enumerate(self.outcomes)]
+        lines.append(f"tasks: {int(not failed)} passed, {int(bool(failed))} failed, 0 skipped")
+        lines.append(f"units: {passed} passed, {failed} failed, 0 skipped")
+        lines.append(f"total: {sum(int(outcome) for outcome in self.outcomes if outcome.isdigit())}")
+        return "\n".join(lines) + "\n", int(bool(failed))
+
+    def settle(self) -> None:
+        """Sets the limits and the user of a process that is about to become the program."""
+        for which, limit in self.limits.items():
+            resource.setrlimit(which, (limit, limit))
+        if self.user is not None:
+            os.setgroups([])
+            os.setresgid(self.user, self.user, self.user)
+            os.setresuid(self.user, self.user, self.user)
+
+
+def cases() -> collections.abc.Iterator[Case]:
+    for cut in range(REPLY_BYTES):
+        for how in ("cut", "killed", "closes"):
+            yield Case(f"first child: {how} after {cut} bytes of its reply", f"{how} {cut}", ["fault", BYTES])
+    for name, lie in {
+        "a request": "010000000c0000000001000561" + "2e747874",
+        "a stop": "0300000000",
+        "a reply for another unit": "020000000d00000001010000000000000003",
+        "a reply with a fault": "0200000005" + "00000000" + "05",
+        "no frame": "ff00000000",
+        "a frame that is too long": "02ffffffff",
+    }.items():
+        yield Case(f"first child: answers with {name}, and doesn't end", f"lies {lie}", ["fault", BYTES])
+    yield Case("first child: ends before it is asked", "ends", ["fault", BYTES])
+    yield Case("first child: answers before it is asked", "hastens", [LINES, BYTES])
+    yield Case("children that ignore Stop", "ignores", [LINES, BYTES])
+    yield Case("children that take half a second to stop", "lingers", [LINES, BYTES])
+    yield Case("every child dies, 200 items, 32 threads", "dies", ["fault"] * 200, threads=32)
+    for name in ("./not-there", "./not-executable", "./folder"):
+        yield Case(f"executable {name}", "answers", ["fault", "fault"], executable=name)
+    yield Case("no more descriptors", "answers", ["fault", "fault"], limits={resource.RLIMIT_NOFILE: 5})
+    if os.geteuid() == 0:
+        # The run itself and its one worker are the two that are allowed.
+        limits = {resource.RLIMIT_NPROC: 2}
+        yield Case("no more processes", "answers", ["fault", "fault"], limits=limits, user=LONELY_USER)
+
+
+class Folder:
+    """A folder of a run, with its plan, its file and its children."""
+
+    def __init__(self, folder: pathlib.Path, case: Case) -> None:
+        self.folder, self.case = folder, case
+        folder.chmod(0o777)
+        (folder / "plan.toml").write_text(case.plan())
+        (folder / "a.txt").write_bytes(FILE)
+        (folder / "folder").mkdir()
+        for name, mode in (("child", 0o755), ("not-executable", 0o644)):
+            (folder / name).write_text(CHILD)
+            (folder / name).chmod(mode)
+
+    def start(self, program: str, words: list[str] = [], **streams: object) -> subprocess.Popen[str]:
+        call = [program, "run", "plan.toml", "--threads", str(self.case.threads), "--max-workers", "32", *words]
+        settings = {**os.environ, "DOES": self.case.does}
+        return subprocess.Popen(
+            call, cwd=self.folder, env=settings, stdin=subprocess.DEVNULL, text=True, preexec_fn=self.case.settle, **streams
+        )
+
+    def started(self) -> list[int]:
+        """The numbers of all children that were started."""
+        return [int(path.name.removeprefix("started-")) for path in self.folder.glob("started-*")]
+
+    def left_behind(self) -> list[int]:
+        """The children that are still there after a second."""
+        end = time.monotonic() + 1
+        while time.monotonic() < end and any(is_running(child) for child in self.started()):
+            time.sleep(0.02)
+        return [child for child in self.started() if is_running(child)]
+
+
+def is_running(process: int) -> bool:
+    try:
+        state = pathlib.Path(f"/proc/{process}/stat").read_text().rpartition(")")[2].split()[0]
+    except (FileNotFoundError, ProcessLookupError):
+        return False
+    return state != "Z"
+
+
+def in_folder(case: Case, tried: collections.abc.Callable[[Folder], str]) -> str:
+    """What is wrong with a run in a folder of its own, or nothing."""
+    with tempfile.TemporaryDirectory(prefix="children-") as name:
+        folder = Folder(pathlib.Path(name), case)
+        try:
+            wrong = tried(folder)
+        except subprocess.TimeoutExpired:
+            wrong = f"it took more than {MOST_SECONDS} seconds"
+        left = folder.left_behind()
+        for child in left:
+            os.kill(child, signal.SIGKILL)
+        return wrong or (f"{len(left)} worker processes are left behind" if left else "")
+
+
+def try_case(program: str, case: Case) -> str:
+    def tried(folder: Folder) -> str:
+        run = folder.start(program, stdout=subprocess.PIPE, stderr=subprocess.PIPE)
+        try:
+            printed, _ = run.communicate(timeout=MOST_SECONDS)
+        except subprocess.TimeoutExpired:
+            run.kill()
+            raise
+        text, status = case.expected()
+        if len(folder.started()) > len(case.outcomes):
+            return f"{len(folder.started())} worker processes were started for {len(case.outcomes)} items"
+        if (printed, run.returncode) != (text, status):
+            return f"status {run.returncode}, not {status}, and it printed:\n{printed}"
+        return ""
+
+    return in_folder(case, tried)
+
+
+def try_full_disk(program: str) -> str:
+    def tried(folder: Folder) -> str:
+        with open("/dev/full", "w") as full:
+            status = folder.start(program, stdout=full).wait(MOST_SECONDS)
+        return "" if status == 6 else f"status {status}, not 6"
+
+    return in_folder(Case("", "answers", [LINES, BYTES]), tried)
+
+
+def try_closed_pipe(program: str) -> str:
+    def tried(folder: Folder) -> str:
+        source, sink = os.pipe()
+        os.close(source)
+        run = folder.start(program, stdout=sink)
+        os.close(sink)
+        status = run.wait(MOST_SECONDS)
+        return "" if status == 6 else f"status {status}, not 6"
+
+    return in_folder(Case("", "answers", [LINES, BYTES]), tried)
+
+
+def try_signal(program: str) -> str:
+    """A run that is ended by a signal while 32 threads and their children work. Each child ends at the end of its input."""
+
+    def tried(folder: Folder) -> str:
+        run = folder.start(program, stdout=subprocess.PIPE)
+        time.sleep(2)
+        if len(folder.started()) < 16:
+            return f"only {len(folder.started())} worker processes had been started"
+        run.send_signal(signal.SIGTERM)
+        printed, _ = run.communicate(timeout=MOST_SECONDS)
+        return "" if run.returncode == -signal.SIGTERM and not printed else f"status {run.returncode}"
+
+    return in_folder(Case("", "slow", [BYTES] * 2_000, threads=32), tried)
+
+
+def try_own_program(program: str) -> str:
+    """`self` is the running program, also where its file is gone and it was called by another name."""
+
+    def tried(folder: Folder) -> str:
+        copy = folder.folder / "copy"
+        shutil.copy(program, copy)
+        os.mkfifo(folder.folder / "gate")
+        text = (folder.folder / "plan.toml").read_text()
+        first = '\n[[task]]\nname = "wait"\nproject = "p"\n\n[[task.action]]\nwait = "retain"\n'
+        first += '\n[[task.action.item]]\ndo = "bytes"\nfile = "gate"\n'
+        text = text.replace('name = "t"\n', 'name = "t"\nafter = ["wait"]\n') + first
+        (folder.folder / "plan.toml").write_text(text)
+        call = ["another-name", "run", "plan.toml", "--threads", "1"]
+        streams = {"stdin": subprocess.DEVNULL, "stdout": subprocess.PIPE}
+        run = subprocess.Popen(call, executable=copy, cwd=folder.folder, text=True, **streams)
+        with open(folder.folder / "gate", "w") as gate:
+            copy.unlink()
+            gate.write("x")
+        printed, _ = run.communicate(timeout=MOST_SECONDS)
+        right = "  lines a.txt 3\n  bytes a.txt 14\n" in printed and run.returncode == 0
+        return "" if right else f"status {run.returncode}, and it printed:\n{printed}"
+
+    return in_folder(Case("", "answers", [LINES, BYTES], executable="self"), tried)
+
+
+def main() -> None:
+    program = measure.leases_program()
+    tries = [(case.name, lambda case=case: try_case(program, case)) for case in cases()]
+    tries += [
+        ("standard output is a full disk", lambda: try_full_disk(program)),
+        ("standard output is a pipe that nobody reads", lambda: try_closed_pipe(program)),
+        ("a signal ends the run", lambda: try_signal(program)),
+        ("`self`, with the program's file removed", lambda: try_own_program(program)),
+    ]
+    failed = 0
+    for name, tried in tries:
+        start = time.monotonic()
+        wrong = tried()
+        failed += bool(wrong)
+        if wrong:
+            print(f"FAILED in {time.monotonic() - start:.1f} s: {name}: {wrong}")
+    print(f"{len(tries) - failed} of {len(tries)} runs ended as they should")
+    sys.exit(bool(failed))
+
+
+if __name__ == "__main__":
+    main()

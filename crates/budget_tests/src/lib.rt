@@ -1,0 +1,9 @@
+//! Tests of a pool within a memory budget.
+#![tactic(auto)]
+
+#[cfg(test)]
+mod asked;
+#[cfg(test)]
+mod pool_tests;
+#[cfg(test)]
+mod run_tests;

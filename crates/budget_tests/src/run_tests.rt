@@ -1,0 +1,277 @@
+//! Tests of `run_in_budget`: items that daemons in memory work out within a budget, on one thread and on several.
+ghost use Rattle.std.specs.Prelude.{◌≡◌, ◌≤◌, [], All, IfOk, true};
+ghost use Rattle.item_actions.specs.Forms.{is_file_name};
+ghost use Rattle.memory_budget.specs.Waiting.{AsksProcess};
+ghost use Rattle.resource_lock.specs.Opening.{opening_of};
+
+use crate::asked::requirements_of;
+use coordination::{Coordination, Opened, Pass, openings_are_at_rest};
+use daemon_desk::{Desk, MemoryDesk, MemoryLink};
+use daemon_manager::Event;
+use daemon_requirements::{Isolation, Work};
+use file_access::{FileEntry, FileMap};
+use item_actions::{ItemAction, Outcome, Text, is_file_name};
+use lease_service::current_lease;
+use lock_journal::Book;
+use lock_transforms::kinds::{Acquire, Shortage};
+use memory_budget::{BudgetLock, BudgetPool, Budgeted, MAX_BUDGET_MB, run_in_budget};
+use resource_lock::Graph;
+use std::alloc::{AllocError, Global};
+use std::process::Abort;
+use std::sync::Wait;
+use std::thread;
+use std::thread::Threads;
+
+/// A worker: its pass has a lease.
+#[derive(Drop)]
+struct Seat {
+    pass: Pass,
+    desk: Box<MemoryDesk>,
+    first: u32,
+    right: u32,
+}
+
+/// The heaps that items ask for, by their number. Two of them fit at a time, and no three.
+static HEAPS: [u32; 4] = [500, 600, 700, 800];
+
+const BUDGET_MB: u64 = 1600;
+
+const WORKERS: u32 = 8;
+
+const ITEMS: u32 = 200;
+
+// The lines of a.txt, in a daemon with this heap at least.
+fn work<R: Abort>(rt: &R, alloc: Global, heap_mb: u32) -> Work
+    ensures form { is_file_name result.file ≡ true }
+    ensures process { AsksProcess result.isolation }
+{
+    let file = Text::from_str(alloc, "a.txt").expect(rt, "memory");
+    assert!(rt; is_file_name(file.bytes()));
+    let asked = requirements_of(alloc, heap_mb).expect(rt, "a heap in range");
+    Work {
+        action: ItemAction::Lines,
+        file,
+        isolation: Isolation::Process(asked),
+    }
+}
+
+// A desk with a.txt, which has 3 lines. These calls fail.
+fn desk(alloc: Global, failing: &[u64]) -> Result<Box<MemoryDesk>, AllocError> {
+    let name = Text::from_str(alloc, "a.txt")?;
+    let bytes = Vec::from_slice(alloc, b"one\ntwo\nthree\n")?;
+    let mut entries = Vec::new(alloc);
+    entries.push(FileEntry { name, bytes })?;
+    let failing = Vec::from_slice(alloc, failing)?;
+    let desk = MemoryDesk::new(alloc, FileMap::new(entries), failing, Vec::new(alloc));
+    Ok(Box::new(alloc, desk)?)
+}
+
+fn book<R: Abort>(rt: &R, alloc: Global) -> Result<Box<Book>, AllocError>
+    ensures { IfOk result (λ book. book.value.state ≡ opening_of book.value.graph) }
+{
+    let tasks = Vec::new(alloc);
+    let actions = Vec::new(alloc);
+    assert!(rt; Graph::fits(0, 1, 1, &tasks, &actions));
+    let graph = Graph::new(0, 1, 1, tasks, actions);
+    Ok(Box::new(alloc, Book::opening(alloc, graph, 0, 0)?)?)
+}
+
+fn open<R: Abort>(rt: &R, alloc: Global) -> Result<Opened, AllocError>
+    ensures { IfOk result (λ opened. All (λ p. p.service ≡ opened.service.service) opened.passes.items) }
+{
+    openings_are_at_rest();
+    let book = book(rt, alloc)?;
+    Coordination::open(alloc, book)
+}
+
+// The last of the service's passes.
+fn last_pass(service: &Coordination, passes: &mut Vec<Pass>) -> Result<Pass, AllocError>
+    requires { All (λ p. p.service ≡ service.now.service) passes.old.items }
+    ensures { IfOk result (λ pass. pass.service ≡ service.now.service) }
+{
+    passes.pop().ok_or(AllocError)
+}
+
+// The pass of the one worker of a service, which has a lease.
+fn leased<R: Wait + Abort>(rt: &R, alloc: Global) -> Result<Pass, AllocError> {
+    let Opened {
+        service,
+        mut passes,
+    } = open(rt, alloc)?;
+    let mut pass = last_pass(&service, &mut passes)?;
+    let acquire = Acquire {
+        locks: &[],
+        shortage: Shortage::Fails,
+    };
+    let got = service.with_state_lock(rt, &mut pass, &acquire);
+    assert!(rt; matches!(got, Ok(true)));
+    Ok(pass)
+}
+
+fn new_lock<R: Abort>(rt: &R, alloc: Global, budget_mb: u64) -> BudgetLock<MemoryLink>
+    requires { budget_mb ≤ MAX_BUDGET_MB }
+{
+    BudgetLock::new(BudgetPool::new(alloc, budget_mb).expect(rt, "memory"))
+}
+
+// Stops the idle daemons, and gives all that happened.
+fn close<D: Desk>(lock: BudgetLock<D::Link>, desk: &mut D) -> Vec<Event> {
+    let mut pool = lock.into_pool();
+    stop_idle(&mut pool, desk);
+    pool.into_events()
+}
+
+fn stop_idle<D: Desk>(pool: &mut BudgetPool<D::Link>, desk: &mut D)
+    ensures { pool.new.pool.idle ≡ [] }
+{
+    while let Some(link) = pool.stop_idle() {
+        desk.stop(link);
+    }
+}
+
+// The greatest memory that was held at any time.
+fn most_held(events: &[Event]) -> u64 {
+    let mut heaps = [0u64; 1024];
+    let mut held = 0u64;
+    let mut most = 0u64;
+    for event in events {
+        let place = event.daemon() as usize % 1024;
+        match event {
+            Event::Started(_, requirements) => {
+                heaps[place] = u64::from(requirements.fields().heap_mb);
+                held = held.saturating_add(heaps[place]);
+            }
+            Event::Failed(_) | Event::Stopped(_) => held = held.saturating_sub(heaps[place]),
+            Event::Reserved(..) | Event::Released(_) => {}
+        }
+        most = most.max(held);
+    }
+    most
+}
+
+impl Seat {
+    // Runs an item that asks for this heap.
+    fn run<R: Wait + Abort>(
+        &mut self,
+        rt: &R,
+        alloc: Global,
+        lock: &BudgetLock<MemoryLink>,
+        unit: u32,
+        heap_mb: u32,
+    ) -> Budgeted {
+        let work = work(rt, alloc, heap_mb);
+        let lease = current_lease(&self.pass).expect(rt, "a lease");
+        run_in_budget(rt, alloc, &lease, &mut *self.desk, lock, unit, &work)
+    }
+
+    // Runs each eighth item.
+    fn run_share<R: Wait + Abort>(&mut self, rt: &R, alloc: Global, lock: &BudgetLock<MemoryLink>) {
+        for unit in 0..ITEMS {
+            if unit % WORKERS == self.first {
+                let heap_mb = HEAPS[unit as usize % 4];
+                match self.run(rt, alloc, lock, unit, heap_mb) {
+                    Budgeted::Done(Outcome::Number(3)) => self.right = self.right.saturating_add(1),
+                    _ => {}
+                }
+            }
+        }
+    }
+}
+
+// A seat whose pass has a lease. These calls of its desk fail.
+fn new_seat<R: Wait + Abort>(
+    rt: &R,
+    alloc: Global,
+    first: u32,
+    failing: &[u64],
+) -> Result<Seat, AllocError> {
+    let pass = leased(rt, alloc)?;
+    let desk = desk(alloc, failing)?;
+    Ok(Seat {
+        pass,
+        desk,
+        first,
+        right: 0,
+    })
+}
+
+fn seats<R: Wait + Abort>(rt: &R, alloc: Global) -> Result<Vec<Seat>, AllocError> {
+    let mut seats = Vec::new(alloc);
+    for first in 0..WORKERS {
+        seats.push(new_seat(rt, alloc, first, &[])?)?;
+    }
+    Ok(seats)
+}
+
+// Runs all items on all seats at once, on a new pool, and checks what came of them and what was held.
+fn run_all<R: Threads + Wait + Abort + Sync>(rt: &R, alloc: Global) {
+    let mut seats = seats(rt, alloc).expect(rt, "memory");
+    let lock = new_lock(rt, alloc, BUDGET_MB);
+    let shared = &lock;
+    let threads = seats.len().max(1);
+    thread::for_each_mut(
+        rt,
+        &mut seats,
+        threads,
+        &|_, seat: &mut Seat| { seat.run_share(rt, alloc, shared) },
+    );
+    let mut right = 0u32;
+    for seat in &seats {
+        right = right.saturating_add(seat.right);
+    }
+    let mut last = desk(alloc, &[]).expect(rt, "memory");
+    let events = close(lock, &mut *last);
+    let most = most_held(&events);
+    assert!(rt; right == ITEMS, "{right} items were right");
+    assert!(rt; most <= BUDGET_MB && most >= 800, "{most} MB were held");
+}
+
+#[test]
+fn no_more_is_held_than_the_budget_while_items_wait_for_room(rt: HostRuntime) {
+    for _ in 0..50 {
+        run_all(&rt, rt.alloc());
+    }
+}
+
+#[test]
+fn what_asks_for_more_than_the_budget_is_over(rt: HostRuntime) {
+    let alloc = rt.alloc();
+    let mut seat = new_seat(&rt, alloc, 0, &[]).expect(&rt, "memory");
+    let lock = new_lock(&rt, alloc, 512);
+    let over = seat.run(&rt, alloc, &lock, 0, 513);
+    let done = seat.run(&rt, alloc, &lock, 1, 512);
+    let budget_mb = lock.budget_mb();
+    let events = close(lock, &mut *seat.desk);
+    assert!(rt; budget_mb == 512 && matches!(over, Budgeted::Over(513)));
+    assert!(rt; matches!(done, Budgeted::Done(Outcome::Number(3))));
+    assert!(rt; seat.desk.sent().len() == 1 && events.len() == 4);
+}
+
+// Whether these events are those of a daemon that failed and of one that worked for the next unit.
+fn is_second_right(events: &[Event]) -> bool {
+    matches!(
+        events,
+        [
+            Event::Started(0, _),
+            Event::Reserved(0, 0),
+            Event::Failed(0),
+            Event::Started(1, _),
+            Event::Reserved(1, 1),
+            Event::Released(1),
+            Event::Stopped(1),
+        ]
+    )
+}
+
+#[test]
+fn a_daemon_that_fails_makes_room_for_the_next(rt: HostRuntime) {
+    let alloc = rt.alloc();
+    let mut seat = new_seat(&rt, alloc, 0, &[2]).expect(&rt, "memory");
+    let lock = new_lock(&rt, alloc, 512);
+    let first = seat.run(&rt, alloc, &lock, 0, 512);
+    let second = seat.run(&rt, alloc, &lock, 1, 512);
+    let events = close(lock, &mut *seat.desk);
+    assert!(rt; matches!(first, Budgeted::Done(Outcome::Fault)));
+    assert!(rt; matches!(second, Budgeted::Done(Outcome::Number(3))));
+    assert!(rt; seat.desk.count() == 1 && is_second_right(&events));
+}

@@ -1,0 +1,80 @@
+-- The daemons that failed, beside the units that weren't worked out, over the parts of a run.
+use Rattle.std.proofs.Common.{◌≡◌, ℕ, suc, ◌+◌, ◌<◌, ◌≤◌, List, [], ◌∷◌, length, get_or, Result, Ok, Err, refl, sym, ap, ◌∙◌, arith, subst}
+use Rattle.std.specs.List.{range_with_len}
+use Rattle.std.specs.Prelude.{OnOk, sum_by}
+use Rattle.std.proofs.lemmas.List.Sums.{sum_by-append, sum_by-cons}
+use Rattle.item_actions.specs.declared.outcomes.Outcome.{Outcome}
+use Rattle.lock_transforms.specs.Entry.{Entry}
+use Rattle.lock_transforms.specs.declared.entries.Closed.{Closed}
+use Rattle.daemon_manager.specs.Counts.{TallyView}
+use Rattle.daemon_requirements.specs.declared.work.Isolation.{Isolation}
+use Rattle.daemon_requirements.specs.declared.work.Isolation.TheVariants.{InThread, Process}
+use Rattle.history_laws.specs.ClosedBy.{closed_by}
+use Rattle.coordination.specs.Passes.{PassView}
+use Rattle.coordination.specs.declared.rule.Sight.{Sight}
+use Rattle.item_work.specs.Tallying.{TalliesFor, one_if_unreal}
+use Rattle.build_runner.specs.Failing.{FailsForEach, unreal_by, unreal_in, unreal_of, unreal_seen}
+use Rattle.build_runner.specs.Kept.{HasClosed}
+
+-- an item adds one failure at most, and none where it was worked out
+pub fails_for : (i : Isolation) (mine mine' : TallyView) (before after : ℕ) (o : Outcome) → TalliesFor i mine mine' before after o → mine'.failed ≤ mine.failed + one_if_unreal o
+fails_for InThread mine mine' before after o counted = omega (arith, ap (λ (t : TallyView). t.failed) counted)
+fails_for (Process asked) mine mine' before after o counted = counted.failed
+
+-- what was closed more
+grows : {ds : List Closed} {old new : Sight} → HasClosed ds old new → unreal_by old.worker new.seen.history ≡ unreal_by old.worker old.seen.history + unreal_in ds
+grows {ds} {old} {new} closed = ap unreal_in closed.closed ∙ sum_by-append (λ (d : Closed). one_if_unreal d.outcome) (closed_by old.worker old.seen.history) ds
+
+-- no daemon was given back, whatever was closed
+pub fails_not : {ds : List Closed} {old new : Sight} (mine : TallyView) → HasClosed ds old new → FailsForEach old new mine mine
+fails_not mine closed = let more = grows closed in omega (arith, more)
+
+-- one part after the other
+pub fails_then : (a b c : Sight) (m m' m'' : TallyView) → b.worker ≡ a.worker → FailsForEach a b m m' → FailsForEach b c m' m'' → FailsForEach a c m m''
+fails_then a b c m m' m'' worker before other =
+    let after = subst (λ w. m''.failed + unreal_by w b.seen.history ≤ m'.failed + unreal_by w c.seen.history) worker other in
+    omega (arith, before, after)
+
+-- what holds anyway holds at a value
+pub at_ok : {T E P : Type 0} (r : Result T E) → P → OnOk r P
+at_ok (Ok x) p = p
+at_ok (Err e) p = tt
+
+-- a unit was run, and closed with what it gave
+pub fails_closed : {T E : Type 0} (old new : Sight) (m m' : TallyView) (d : Closed) (r : Result T E) → OnOk r (HasClosed (d ∷ []) old new) → m'.failed ≤ m.failed + one_if_unreal d.outcome → OnOk r (FailsForEach old new m m')
+fails_closed old new m m' d (Ok x) closed failed = let more = grows closed in let one = sum_by-cons (λ (e : Closed). one_if_unreal e.outcome) d [] in omega (arith, more, one, failed)
+fails_closed old new m m' d (Err e) closed failed = tt
+
+-- ---- of all workers
+
+-- what is said of a worker's pass, where it came to the end
+pub failed_of : (old new : PassView) (mine mine' : TallyView) → new.sight.worker ≡ old.sight.worker
+    → mine'.failed + unreal_by old.sight.worker old.sight.seen.history ≤ mine.failed + unreal_by old.sight.worker new.sight.seen.history → mine'.failed + unreal_seen old ≤ mine.failed + unreal_seen new
+failed_of old new mine mine' worker failed = let same = ap (λ w. unreal_by w new.sight.seen.history) worker in omega (arith, failed, same)
+
+-- a sum over numbers that go on from one
+sum_along : (f : PassView → ℕ) (g : ℕ → ℕ) (ps : List PassView) (k : ℕ) → ((i j : ℕ) (p : PassView) → i < length ps → k + i ≡ j → f (get_or ps i p) ≡ g j) → sum_by f ps ≡ sum_by g (range_with_len k (length ps))
+sum_along f g [] k each = refl
+sum_along f g (p ∷ ps) k each =
+    let first : f p ≡ g k = each 0 k p (omega arith) (omega arith) in
+    let rest = sum_along f g ps (k + 1) (λ i j q low is. each (suc i) j q (omega (arith, low)) (omega (arith, is))) in
+    omega (arith, first, rest, sum_by-cons f p ps, sum_by-cons g k (range_with_len (k + 1) (length ps)))
+
+-- what the passes saw at the end is what the workers closed
+pub unreal_at_end : (ps : List PassView) (n : ℕ) (h : List Entry) → length ps ≡ n
+    → ((i : ℕ) (p : PassView) → i < n → closed_by (record { 0 = i }) h ≡ closed_by (get_or ps i p).sight.worker (get_or ps i p).sight.seen.history)
+    → sum_by unreal_seen ps ≡ unreal_of n h
+unreal_at_end ps n h long each =
+    sum_along unreal_seen (λ i. unreal_by (record { 0 = i }) h) ps 0 (λ i j p low is.
+    let here : i ≡ j = omega (arith, is) in
+    let same : closed_by (record { 0 = i }) h ≡ closed_by (get_or ps i p).sight.worker (get_or ps i p).sight.seen.history = each i p (omega (arith, long, low)) in
+    subst (λ (m : ℕ). unreal_seen (get_or ps i p) ≡ unreal_by (record { 0 = m }) h) here (ap unreal_in (sym same)))
+    ∙ ap (λ (m : ℕ). sum_by (λ i. unreal_by (record { 0 = i }) h) (range_with_len 0 m)) long
+
+-- and at the beginning they saw nothing
+pub unreal_at_first : (ps : List PassView) → ((i : ℕ) (p : PassView) → i < length ps → (get_or ps i p).sight.seen.history ≡ []) → sum_by unreal_seen ps ≡ 0
+unreal_at_first [] none = refl
+unreal_at_first (p ∷ ps) none =
+    let first : unreal_seen p ≡ 0 = ap (λ (h : List Entry). unreal_by p.sight.worker h) (none 0 p (omega arith)) in
+    let rest = unreal_at_first ps (λ i q low. none (suc i) q (omega (arith, low))) in
+    omega (arith, first, rest, sum_by-cons unreal_seen p ps)

@@ -1,5 +1,0 @@
-use Rattle.std.proofs.Common.{length, ap, arith}
-use Rattle.build_runner.proofs.daemons.stop_idle.Goals as goal
-
-pub loop-link-smaller : goal.loop-link-smaller
-loop-link-smaller g c = omega (arith, ap (λ l. length l) c.in-Some.ensures.first)

@@ -1,0 +1,5 @@
+pub mod SumsBelow
+pub mod SumsKept
+pub mod Stopping
+pub mod Permitted
+pub mod Coverings

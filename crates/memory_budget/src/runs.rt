@@ -1,0 +1,341 @@
+//! An item that a daemon works out, within a budget of memory.
+ghost use Rattle.std.specs.Prelude.{◌≡◌, ◌≢◌, ◌≤◌, IfOk, IfSome, true};
+ghost use Rattle.std.specs.Result.{IsErrOf, is_ok};
+ghost use Rattle.item_actions.specs.Forms.{is_file_name};
+ghost use Rattle.item_actions.specs.Value.{IsHonest, value_on};
+ghost use Rattle.item_actions.specs.declared.outcomes.Outcome.TheVariants as outcomes;
+ghost use Rattle.daemon_requirements.specs.Covers.{Covers};
+ghost use Rattle.daemon_desk.specs.Replies.{IsReplyTo};
+ghost use Rattle.file_access.specs.SinkView.{Rises};
+ghost use Rattle.item_work.specs.Requests.{Asks, Sends, request_for};
+ghost use Rattle.memory_budget.specs.Waiting.{AsksProcess, IfDone, IsOverExactly, IsOverFor, SendsWithin, SendsWithinFor};
+
+use crate::locks::BudgetLock;
+use crate::permits::{Permit, heap_of};
+use crate::rooms::{Room, Unadopted};
+use daemon_desk::Desk;
+use daemon_manager::Reserved;
+use daemon_protocol::{Reply, Request};
+use daemon_requirements::{Isolation, Requirements, Work};
+use file_access::DeskFail;
+use item_actions::Outcome;
+use lease_service::Lease;
+use std::alloc::{AllocError, Global};
+use std::sync::Wait;
+
+/// What came of an item within a budget.
+#[derive(Clone, Copy, Drop)]
+pub enum Budgeted {
+    /// It was run, with this outcome.
+    Done(Outcome),
+    /// It asks for so many MB, which is over the budget. Nothing was done.
+    Over(u64),
+}
+
+/// Has a daemon of the pool work an item out, once there is room for one within the budget.
+///
+/// While the item waits and runs the lease borrows its pass, so the worker takes part in no transform. The item runs in a process,
+/// and its file has the form of a file's name. What asks for more than the budget is `Over`, and nothing else is. Where the files
+/// are known the outcome is the action's value on them, NotThere or TooLong; else Fault, where the desk failed and its count of
+/// faults rose, or NoMemory. At most one request is sent, this unit's, to a daemon that covers what is asked; it is sent where
+/// the outcome is neither Fault nor NoMemory.
+pub fn run_in_budget<R: Wait, D: Desk>(
+    rt: &R,
+    alloc: Global,
+    lease: &Lease<'_>,
+    desk: &mut D,
+    pool: &BudgetLock<D::Link>,
+    unit: u32,
+    work: &Work,
+) -> Budgeted
+    requires process { AsksProcess work.now.isolation }
+    requires form { is_file_name work.now.file ≡ true }
+    ensures files { D.files desk.new ≡ D.files desk.old }
+    ensures kept { D.faults desk.old ≤ D.faults desk.new }
+    ensures over { IsOverFor work.now.isolation pool.now.budget_mb result }
+    ensures ran { IfDone result (λ outcome. outcome ≢ outcomes.Skipped) }
+    ensures fault { IfDone result (λ outcome. outcome ≡ outcomes.Fault → Rises (D.faults desk.old) (D.faults desk.new)) }
+    ensures honest { IfDone result (λ outcome.
+        IfSome (D.files desk.old) (λ known. IsHonest outcome (value_on known work.now.action work.now.file))) }
+    ensures sent { SendsWithinFor work.now.isolation (record { count = D.sends desk.old; requests = D.sent desk.old })
+        (record { count = D.sends desk.new; requests = D.sent desk.new }) (request_for unit work.now) result }
+{
+    match &work.isolation {
+        Isolation::InThread => unreachable!(),
+        Isolation::Process(asked) => run_asked(rt, alloc, desk, pool, unit, work, asked),
+    }
+}
+
+// Runs an item that asks for this.
+fn run_asked<R: Wait, D: Desk>(
+    rt: &R,
+    alloc: Global,
+    desk: &mut D,
+    pool: &BudgetLock<D::Link>,
+    unit: u32,
+    work: &Work,
+    asked: &Requirements,
+) -> Budgeted
+    requires form { is_file_name work.now.file ≡ true }
+    ensures files { D.files desk.new ≡ D.files desk.old }
+    ensures kept { D.faults desk.old ≤ D.faults desk.new }
+    ensures over { IsOverExactly asked.now pool.now.budget_mb result }
+    ensures ran { IfDone result (λ outcome. outcome ≢ outcomes.Skipped) }
+    ensures fault { IfDone result (λ outcome. outcome ≡ outcomes.Fault → Rises (D.faults desk.old) (D.faults desk.new)) }
+    ensures honest { IfDone result (λ outcome.
+        IfSome (D.files desk.old) (λ known. IsHonest outcome (value_on known work.now.action work.now.file))) }
+    ensures sent { SendsWithin asked.now (record { count = D.sends desk.old; requests = D.sent desk.old })
+        (record { count = D.sends desk.new; requests = D.sent desk.new }) (request_for unit work.now) result }
+{
+    let heap_mb = heap_of(asked);
+    if heap_mb > pool.budget_mb() {
+        return Budgeted::Over(heap_mb);
+    }
+    Budgeted::Done(work_in_daemon(rt, alloc, desk, pool, unit, work, asked))
+}
+
+// Lets a daemon work the item out, one that covers what is asked, or starts one. The pool's lock is held only for the pool's own
+// calls.
+fn work_in_daemon<R: Wait, D: Desk>(
+    rt: &R,
+    alloc: Global,
+    desk: &mut D,
+    pool: &BudgetLock<D::Link>,
+    unit: u32,
+    work: &Work,
+    asked: &Requirements,
+) -> Outcome
+    requires form { is_file_name work.now.file ≡ true }
+    ensures files { D.files desk.new ≡ D.files desk.old }
+    ensures kept { D.faults desk.old ≤ D.faults desk.new }
+    ensures ran { result ≢ outcomes.Skipped }
+    ensures fault { result ≡ outcomes.Fault → Rises (D.faults desk.old) (D.faults desk.new) }
+    ensures honest { IfSome (D.files desk.old) (λ known. IsHonest result (value_on known work.now.action work.now.file)) }
+    ensures sent { Sends asked.now (record { count = D.sends desk.old; requests = D.sent desk.old })
+        (record { count = D.sends desk.new; requests = D.sent desk.new }) (request_for unit work.now) result }
+{
+    let Ok(request) = request_for(alloc, unit, work) else {
+        return Outcome::NoMemory;
+    };
+    match ask_daemon(rt, alloc, desk, pool, &request, asked) {
+        Ok(reply) => reply.outcome,
+        Err(DeskFail::Failed) => Outcome::Fault,
+        Err(DeskFail::NoMemory) => Outcome::NoMemory,
+    }
+}
+
+// The request for the unit's action on its file.
+fn request_for(alloc: Global, unit: u32, work: &Work) -> Result<Request, AllocError>
+    ensures { IfOk result (λ request. request ≡ request_for unit work.now) }
+{
+    Ok(Request {
+        unit,
+        action: work.action,
+        file: work.file.copy(alloc)?,
+    })
+}
+
+// Asks a daemon of the pool, or a new one, once there is room for it. The idle daemons that made the room are stopped first.
+fn ask_daemon<R: Wait, D: Desk>(
+    rt: &R,
+    alloc: Global,
+    desk: &mut D,
+    pool: &BudgetLock<D::Link>,
+    request: &Request,
+    asked: &Requirements,
+) -> Result<Reply, DeskFail>
+    requires { is_file_name request.now.file ≡ true }
+    ensures files { D.files desk.new ≡ D.files desk.old }
+    ensures kept { D.faults desk.old ≤ D.faults desk.new }
+    ensures failed { IsErrOf result DeskFail.Failed → Rises (D.faults desk.old) (D.faults desk.new) }
+    ensures reply { IfOk result (λ reply. IsReplyTo (D.files desk.old) request.now reply) }
+    ensures sent { Asks (record { count = D.sends desk.old; requests = D.sent desk.old })
+        (record { count = D.sends desk.new; requests = D.sent desk.new }) asked.now request.now result }
+{
+    match pool.wait_for_room(rt, alloc, request.unit, asked)? {
+        Room::Idle(reserved) => ask_reserved(rt, alloc, desk, pool, reserved, request, asked),
+        Room::Start(permit, links) => {
+            stop_each(desk, links);
+            ask_started(rt, alloc, desk, pool, permit, request, asked)
+        }
+        Room::Over(_) => unreachable!(),
+    }
+}
+
+// Stops these daemons, in this order.
+fn stop_each<D: Desk>(desk: &mut D, links: Vec<D::Link>)
+    ensures files { D.files desk.new ≡ D.files desk.old }
+    ensures faults { D.faults desk.new ≡ D.faults desk.old }
+    ensures sends { D.sends desk.new ≡ D.sends desk.old }
+    ensures sent { D.sent desk.new ≡ D.sent desk.old }
+{
+    let mut links = links;
+    links.reverse();
+    while let Some(link) = links.pop() {
+        desk.stop(link);
+    }
+    links.destroy_empty();
+}
+
+// Starts a daemon on the permit, and asks it. The permit is given up where none was started, or none could be kept.
+fn ask_started<R: Wait, D: Desk>(
+    rt: &R,
+    alloc: Global,
+    desk: &mut D,
+    pool: &BudgetLock<D::Link>,
+    permit: Permit,
+    request: &Request,
+    asked: &Requirements,
+) -> Result<Reply, DeskFail>
+    requires permit { permit.requirements ≡ asked.now }
+    requires form { is_file_name request.now.file ≡ true }
+    ensures files { D.files desk.new ≡ D.files desk.old }
+    ensures kept { D.faults desk.old ≤ D.faults desk.new }
+    ensures failed { IsErrOf result DeskFail.Failed → Rises (D.faults desk.old) (D.faults desk.new) }
+    ensures reply { IfOk result (λ reply. IsReplyTo (D.files desk.old) request.now reply) }
+    ensures sent { Asks (record { count = D.sends desk.old; requests = D.sent desk.old })
+        (record { count = D.sends desk.new; requests = D.sent desk.new }) asked.now request.now result }
+{
+    match desk.start(alloc, permit.requirements()) {
+        Ok(link) => ask_adopted(rt, alloc, desk, pool, permit, link, request, asked),
+        Err(fail) => {
+            pool.give_up(rt, permit);
+            Err(fail)
+        }
+    }
+}
+
+// Has the pool take a daemon in that was started on the permit, and asks it. One that isn't taken in is stopped: for want of
+// memory at once, and else once it was asked.
+fn ask_adopted<R: Wait, D: Desk>(
+    rt: &R,
+    alloc: Global,
+    desk: &mut D,
+    pool: &BudgetLock<D::Link>,
+    permit: Permit,
+    link: D::Link,
+    request: &Request,
+    asked: &Requirements,
+) -> Result<Reply, DeskFail>
+    requires permit { permit.requirements ≡ asked.now }
+    requires made { D.Link.requirements link ≡ permit.requirements }
+    requires settled { D.Link.settled link ≡ true }
+    requires form { is_file_name request.now.file ≡ true }
+    ensures files { D.files desk.new ≡ D.files desk.old }
+    ensures kept { D.faults desk.old ≤ D.faults desk.new }
+    ensures failed { IsErrOf result DeskFail.Failed → Rises (D.faults desk.old) (D.faults desk.new) }
+    ensures reply { IfOk result (λ reply. IsReplyTo (D.files desk.old) request.now reply) }
+    ensures sent { Asks (record { count = D.sends desk.old; requests = D.sent desk.old })
+        (record { count = D.sends desk.new; requests = D.sent desk.new }) asked.now request.now result }
+{
+    match pool.adopt(rt, alloc, permit, link) {
+        Ok(reserved) => ask_reserved(rt, alloc, desk, pool, reserved, request, asked),
+        Err(Unadopted::NotOut(permit, link)) => {
+            pool.give_up(rt, permit);
+            ask_once(alloc, desk, link, request, asked)
+        }
+        Err(Unadopted::NoMemory(permit, link)) => {
+            pool.give_up(rt, permit);
+            desk.stop(link);
+            Err(DeskFail::NoMemory)
+        }
+    }
+}
+
+// Asks a daemon that isn't the pool's, and stops it.
+fn ask_once<D: Desk>(
+    alloc: Global,
+    desk: &mut D,
+    link: D::Link,
+    request: &Request,
+    asked: &Requirements,
+) -> Result<Reply, DeskFail>
+    requires covers { Covers (D.Link.requirements link) asked.now }
+    requires settled { D.Link.settled link ≡ true }
+    requires form { is_file_name request.now.file ≡ true }
+    ensures files { D.files desk.new ≡ D.files desk.old }
+    ensures kept { D.faults desk.old ≤ D.faults desk.new }
+    ensures failed { IsErrOf result DeskFail.Failed → Rises (D.faults desk.old) (D.faults desk.new) }
+    ensures reply { IfOk result (λ reply. IsReplyTo (D.files desk.old) request.now reply) }
+    ensures sent { Asks (record { count = D.sends desk.old; requests = D.sent desk.old })
+        (record { count = D.sends desk.new; requests = D.sent desk.new }) asked.now request.now result }
+{
+    let mut link = link;
+    let answer = ask(alloc, desk, &mut link, request, asked);
+    desk.stop(link);
+    answer
+}
+
+// Asks a daemon that is reserved, and gives it back. One that gave no reply is never used again: it is stopped.
+fn ask_reserved<R: Wait, D: Desk>(
+    rt: &R,
+    alloc: Global,
+    desk: &mut D,
+    pool: &BudgetLock<D::Link>,
+    reserved: Reserved<D::Link>,
+    request: &Request,
+    asked: &Requirements,
+) -> Result<Reply, DeskFail>
+    requires covers { Covers (D.Link.requirements reserved.link) asked.now }
+    requires settled { D.Link.settled reserved.link ≡ true }
+    requires form { is_file_name request.now.file ≡ true }
+    ensures files { D.files desk.new ≡ D.files desk.old }
+    ensures kept { D.faults desk.old ≤ D.faults desk.new }
+    ensures failed { IsErrOf result DeskFail.Failed → Rises (D.faults desk.old) (D.faults desk.new) }
+    ensures reply { IfOk result (λ reply. IsReplyTo (D.files desk.old) request.now reply) }
+    ensures sent { Asks (record { count = D.sends desk.old; requests = D.sent desk.old })
+        (record { count = D.sends desk.new; requests = D.sent desk.new }) asked.now request.now result }
+{
+    let mut reserved = reserved;
+    let answer = ask(alloc, desk, reserved.link(), request, asked);
+    give_back(rt, desk, pool, reserved, answer.is_ok());
+    answer
+}
+
+// Gives a daemon back that answered, or one that failed, and stops the daemon that the pool gives for it.
+fn give_back<R: Wait, D: Desk>(
+    rt: &R,
+    desk: &mut D,
+    pool: &BudgetLock<D::Link>,
+    reserved: Reserved<D::Link>,
+    answered: bool,
+)
+    requires { D.Link.settled reserved.link ≡ answered }
+    ensures files { D.files desk.new ≡ D.files desk.old }
+    ensures faults { D.faults desk.new ≡ D.faults desk.old }
+    ensures sends { D.sends desk.new ≡ D.sends desk.old }
+    ensures sent { D.sent desk.new ≡ D.sent desk.old }
+{
+    let spare = if answered {
+        pool.release(rt, reserved)
+    } else {
+        Some(pool.fail(rt, reserved))
+    };
+    if let Some(link) = spare {
+        desk.stop(link);
+    }
+}
+
+// Sends the request over a settled link that covers what is asked, and receives the reply. The link is then settled exactly where
+// there is one.
+fn ask<D: Desk>(
+    alloc: Global,
+    desk: &mut D,
+    link: &mut D::Link,
+    request: &Request,
+    asked: &Requirements,
+) -> Result<Reply, DeskFail>
+    requires covers { Covers (D.Link.requirements link.old) asked.now }
+    requires settled { D.Link.settled link.old ≡ true }
+    requires form { is_file_name request.now.file ≡ true }
+    ensures settled { D.Link.settled link.new ≡ is_ok result }
+    ensures files { D.files desk.new ≡ D.files desk.old }
+    ensures kept { D.faults desk.old ≤ D.faults desk.new }
+    ensures failed { IsErrOf result DeskFail.Failed → Rises (D.faults desk.old) (D.faults desk.new) }
+    ensures reply { IfOk result (λ reply. IsReplyTo (D.files desk.old) request.now reply) }
+    ensures sent { Asks (record { count = D.sends desk.old; requests = D.sent desk.old })
+        (record { count = D.sends desk.new; requests = D.sent desk.new }) asked.now request.now result }
+{
+    desk.send(alloc, link, request)?;
+    desk.receive(alloc, link)
+}
