@@ -1,5 +1,5 @@
 #!/usr/bin/env python3
-"""Tests of the launcher `leases`, on small checkouts with a stand-in for `rt`, which builds a program in no time.
+"""Tests of the launchers `leases` and `picture`, on small checkouts with a stand-in for `rt`, which builds a program in no time.
 
 The stand-in's program prints the text of crates/leases/src/main.rt and its words, and ends with the status that its
 first word names. Each call of the stand-in leaves a line in the file `calls`. What it does beside that a test says by
@@ -243,5 +243,55 @@ class LauncherTests(unittest.TestCase):
         self.assert_ran(it.call(env={"CDPATH": f"{it.above}:."}), "first\n")
 
 
+class PictureTests(unittest.TestCase):
+    """Tests of the launcher `picture`, which is the launcher `leases` for another program in the same folder."""
+
+    def checkout(self) -> Checkout:
+        made = Checkout()
+        self.addCleanup(shutil.rmtree, made.above, ignore_errors=True)
+        made.write_stand_in("rt", RT.replace("out/leases", 'out/"$(basename "$PWD")"'))
+        folder = made.top / "crates/leases_picture/src"
+        folder.mkdir(parents=True)
+        (folder / "main.rt").write_text("drawn\n")
+        (made.top / "crates.txt").write_text("# crates\nbase:\nleases: base\nleases_picture: base\n")
+        shutil.copy(LAUNCHER.with_name("picture"), made.top / "picture")
+        return made
+
+    def draw(self, it: Checkout, *words: str) -> tuple:
+        ran = it.call(*words, launcher=it.top / "picture")
+        return ran.returncode, ran.stdout
+
+    def test_builds_once_and_runs_its_own_program(self) -> None:
+        it = self.checkout()
+        self.assertEqual(self.draw(it, "0", "a b"), (0, "drawn 0 a b\n"))
+        self.assertEqual(self.draw(it, "9"), (9, "drawn 9\n"))
+        self.assertEqual(it.builds(), 1)
+
+    def test_builds_again_where_the_sources_changed(self) -> None:
+        it = self.checkout()
+        self.draw(it)
+        (it.top / "crates/leases_picture/src/main.rt").write_text("drawn anew\n")
+        self.assertEqual(self.draw(it), (0, "drawn anew\n"))
+        self.assertEqual(it.builds(), 2)
+
+    def test_each_launcher_leaves_the_others_program_alone(self) -> None:
+        it = self.checkout()
+        self.draw(it)
+        self.assertEqual(it.call().stdout, "first\n")
+        self.assertEqual((self.draw(it), it.call().stdout), ((0, "drawn\n"), "first\n"))
+        self.assertEqual(it.builds(), 2)
+
+    def test_a_failed_build_ends_with_126_and_takes_nothing_away(self) -> None:
+        it = self.checkout()
+        self.draw(it)
+        (it.top / "crates/base/src/lib.rt").write_text("second\n")
+        it.instead("exit 1")
+        self.assertEqual(self.draw(it), (126, ""))
+        it.as_usual()
+        self.assertEqual(self.draw(it), (0, "drawn\n"))
+
+
 if __name__ == "__main__":
+    # Who runs in a shell's background ignores this signal, and so would all that is called here.
+    signal.signal(signal.SIGINT, signal.default_int_handler)
     unittest.main()

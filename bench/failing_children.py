@@ -1,16 +1,18 @@
 #!/usr/bin/env python3
 """Runs plans beside worker processes that die, lie or don't listen, and with outputs and systems that fail.
 
-Each case says what the run has to print and its status. A run that takes more than ten seconds hangs, and a worker process that is
-still there a second after its run is left behind: both fail. Not part of the gate.
+Each case says what the run has to print and its status. A run that takes more than ten seconds hangs (a minute, where 200
+worker processes are started), and a worker process that is still there a second after its run is left behind: both fail. Not
+part of the gate.
 
-    bench/failing_children.py [PROGRAM]
+    bench/failing_children.py [PROGRAM [PART OF A CASE'S NAME]]
 """
 
 import collections.abc
 import dataclasses
 import os
 import pathlib
+import re
 import resource
 import shutil
 import signal
@@ -25,6 +27,8 @@ FILE = b"one\ntwo\nthree\n"
 LINES, BYTES = "3", "14"
 REPLY_BYTES = 18
 MOST_SECONDS = 10
+# For 200 worker processes, and for the start of many.
+STORM_SECONDS = 60
 # A user that nothing else runs as, since the limit of processes counts all of a user.
 LONELY_USER = 64_321
 
@@ -53,9 +57,18 @@ def read(count):
 def reply(unit, action):
     return b"\\x02" + struct.pack(">IIBQ", 13, unit, 1, {1: 3, 4: 14}.get(action, 14))
 
-odd = does == "always dies" or first()
+odd = first()
 if odd and does == "ends":
     sys.exit()
+if odd and does == "falls":
+    os.kill(os.getpid(), signal.SIGKILL)
+if odd and does == "ignores-all":
+    os.close(0)
+    time.sleep(0.5)
+    sys.exit()
+if odd and does == "falls-silent":
+    os.close(1)
+    time.sleep(60)
 if odd and does == "hastens":
     os.write(1, reply(0, 1))
 while True:
@@ -69,10 +82,6 @@ while True:
     body = read(struct.unpack(">I", head[1:])[0])
     unit, action = struct.unpack(">IB", body[:5])
     right = reply(unit, action)
-    if does == "slow":
-        time.sleep(0.3)
-    if does == "dies":
-        os.kill(os.getpid(), signal.SIGKILL)
     if odd and does == "cut":
         os.write(1, right[: int(number)])
         break
@@ -89,9 +98,21 @@ while True:
     if odd and does == "hastens":
         odd = False
         continue
+    if odd and does == "repeats":
+        right += right
     os.write(1, right)
+    if odd and does == "stops-listening":
+        os.close(0)
+        time.sleep(0.5)
+        break
     odd = False
 """ % sys.executable
+
+# Children of many, which start fast: one that dies at its first request, and one that works on it until its input ends.
+SMALL_CHILDREN = {
+    "dies": '#!/bin/sh\n: >"started-$$"\nhead -c 1 >/dev/null\nkill -9 $$\n',
+    "works": '#!/bin/sh\n: >"started-$$"\nexec cat 3>&1 >/dev/null\n',
+}
 
 
 @dataclasses.dataclass
@@ -105,6 +126,7 @@ class Case:
     threads: int = 1
     limits: dict[int, int] = dataclasses.field(default_factory=dict)
     user: int | None = None
+    seconds: int = MOST_SECONDS
 
     def plan(self) -> str:
         item = '\n[[task.action.item]]\ndo = "{}"\nfile = "a.txt"\nisolation = "process"\nrequirements = "r"\n'
@@ -146,10 +168,15 @@ def cases() -> collections.abc.Iterator[Case]:
     }.items():
         yield Case(f"first child: answers with {name}, and doesn't end", f"lies {lie}", ["fault", BYTES])
     yield Case("first child: ends before it is asked", "ends", ["fault", BYTES])
+    yield Case("first child: is killed before it is asked", "falls", ["fault", BYTES])
+    yield Case("first child: closes its input before it is asked, and ends later", "ignores-all", ["fault", BYTES])
+    yield Case("first child: closes its output before it is asked", "falls-silent", ["fault", BYTES])
+    yield Case("first child: closes its input behind its first reply, and ends later", "stops-listening", [LINES, "fault", LINES])
     yield Case("first child: answers before it is asked", "hastens", [LINES, BYTES])
+    yield Case("first child: gives its first reply twice", "repeats", [LINES, "fault", LINES])
     yield Case("children that ignore Stop", "ignores", [LINES, BYTES])
     yield Case("children that take half a second to stop", "lingers", [LINES, BYTES])
-    yield Case("every child dies, 200 items, 32 threads", "dies", ["fault"] * 200, threads=32)
+    yield Case("every child dies, 200 items, 32 threads", "dies", ["fault"] * 200, executable="./dies", threads=32, seconds=STORM_SECONDS)
     for name in ("./not-there", "./not-executable", "./folder"):
         yield Case(f"executable {name}", "answers", ["fault", "fault"], executable=name)
     yield Case("no more descriptors", "answers", ["fault", "fault"], limits={resource.RLIMIT_NOFILE: 5})
@@ -171,6 +198,9 @@ class Folder:
         for name, mode in (("child", 0o755), ("not-executable", 0o644)):
             (folder / name).write_text(CHILD)
             (folder / name).chmod(mode)
+        for name, text in SMALL_CHILDREN.items():
+            (folder / name).write_text(text)
+            (folder / name).chmod(0o755)
 
     def start(self, program: str, words: list[str] = [], **streams: object) -> subprocess.Popen[str]:
         call = [program, "run", "plan.toml", "--threads", str(self.case.threads), "--max-workers", "32", *words]
@@ -201,12 +231,13 @@ def is_running(process: int) -> bool:
 
 def in_folder(case: Case, tried: collections.abc.Callable[[Folder], str]) -> str:
     """What is wrong with a run in a folder of its own, or nothing."""
-    with tempfile.TemporaryDirectory(prefix="children-") as name:
+    # A child that is just starting when its run ends may still write its mark while the folder is removed.
+    with tempfile.TemporaryDirectory(prefix="children-", ignore_cleanup_errors=True) as name:
         folder = Folder(pathlib.Path(name), case)
         try:
             wrong = tried(folder)
         except subprocess.TimeoutExpired:
-            wrong = f"it took more than {MOST_SECONDS} seconds"
+            wrong = f"it took more than {case.seconds} seconds"
         left = folder.left_behind()
         for child in left:
             os.kill(child, signal.SIGKILL)
@@ -217,7 +248,7 @@ def try_case(program: str, case: Case) -> str:
     def tried(folder: Folder) -> str:
         run = folder.start(program, stdout=subprocess.PIPE, stderr=subprocess.PIPE)
         try:
-            printed, _ = run.communicate(timeout=MOST_SECONDS)
+            printed, _ = run.communicate(timeout=case.seconds)
         except subprocess.TimeoutExpired:
             run.kill()
             raise
@@ -231,40 +262,95 @@ def try_case(program: str, case: Case) -> str:
     return in_folder(case, tried)
 
 
+def wait_for(run: subprocess.Popen[str]) -> int:
+    """The status of a run that has to end by itself."""
+    try:
+        return run.wait(MOST_SECONDS)
+    except subprocess.TimeoutExpired:
+        run.kill()
+        raise
+
+
 def try_full_disk(program: str) -> str:
     def tried(folder: Folder) -> str:
         with open("/dev/full", "w") as full:
-            status = folder.start(program, stdout=full).wait(MOST_SECONDS)
+            status = wait_for(folder.start(program, stdout=full))
         return "" if status == 6 else f"status {status}, not 6"
 
     return in_folder(Case("", "answers", [LINES, BYTES]), tried)
 
 
-def try_closed_pipe(program: str) -> str:
+def try_closed_pipe(program: str, ignored: bool) -> str:
+    """A pipe that nobody reads. Where the signal of such a write is ignored from the start, it has to be the same."""
+
     def tried(folder: Folder) -> str:
         source, sink = os.pipe()
         os.close(source)
-        run = folder.start(program, stdout=sink)
+        run = folder.start(program, stdout=sink, restore_signals=not ignored)
         os.close(sink)
-        status = run.wait(MOST_SECONDS)
+        status = wait_for(run)
         return "" if status == 6 else f"status {status}, not 6"
 
     return in_folder(Case("", "answers", [LINES, BYTES]), tried)
 
 
-def try_signal(program: str) -> str:
+def try_stream(program: str, words: str, expected: int) -> str:
+    """A command of a shell, whose streams are closed, full or no files."""
+
+    def tried(folder: Folder) -> str:
+        run = subprocess.Popen(["sh", "-c", words, program], cwd=folder.folder, stdin=subprocess.DEVNULL, stdout=subprocess.DEVNULL)
+        status = wait_for(run)
+        return "" if status == expected else f"status {status}, not {expected}"
+
+    return in_folder(Case("", "answers", [LINES, BYTES]), tried)
+
+
+# A command, in which $0 is the program, and the status that it has to have.
+STREAMS = {
+    "a worker's output is a full disk": ("printf '%b' '\\01\\0\\0\\0\\014\\0\\0\\0\\07\\01\\0\\05a.txt' | \"$0\" worker >/dev/full", 6),
+    "a made plan's output is a full disk": ('"$0" make 7 a.txt >/dev/full', 6),
+    "the output is closed": ('"$0" run plan.toml --threads 1 >&-', 6),
+    "refused words, and the output is a full disk": ('"$0" >/dev/full', 6),
+    "a worker's input is closed": ('"$0" worker <&-', 8),
+    "a worker's input is a folder": ('"$0" worker <folder', 8),
+    "the input of check is a folder": ('"$0" check plan.toml <folder', 8),
+    "the plan is a folder": ('"$0" run folder', 5),
+    "the plan isn't there": ('"$0" run none.toml', 4),
+}
+
+
+def try_signal(program: str, number: int) -> str:
     """A run that is ended by a signal while 32 threads and their children work. Each child ends at the end of its input."""
 
     def tried(folder: Folder) -> str:
         run = folder.start(program, stdout=subprocess.PIPE)
-        time.sleep(2)
+        end = time.monotonic() + STORM_SECONDS
+        while len(folder.started()) < 16 and time.monotonic() < end:
+            time.sleep(0.1)
         if len(folder.started()) < 16:
+            run.kill()
             return f"only {len(folder.started())} worker processes had been started"
-        run.send_signal(signal.SIGTERM)
+        run.send_signal(number)
         printed, _ = run.communicate(timeout=MOST_SECONDS)
-        return "" if run.returncode == -signal.SIGTERM and not printed else f"status {run.returncode}"
+        return "" if run.returncode == -number and not printed else f"status {run.returncode}"
 
-    return in_folder(Case("", "slow", [BYTES] * 2_000, threads=32), tried)
+    return in_folder(Case("", "answers", [BYTES] * 64, executable="./works", threads=32), tried)
+
+
+def try_time_limit(program: str) -> str:
+    """The example of a time limit, which has to print what its page says."""
+
+    def tried(folder: Folder) -> str:
+        example = folder.folder / "examples/time-limit"
+        shutil.copytree(measure.TOP / "examples/time-limit", example)
+        (folder.folder / "leases").symlink_to(program)
+        page = (example / "README.md").read_text()
+        words, expected = re.search(r"```sh\n(.*)\n```", page)[1], re.search(r"```text\n(.*?)```", page, re.S)[1]
+        run = subprocess.run(words.split(), cwd=example, stdin=subprocess.DEVNULL, capture_output=True, text=True, timeout=MOST_SECONDS)
+        right = (run.returncode, run.stdout) == (1, expected)
+        return "" if right else f"status {run.returncode}, and it printed:\n{run.stdout}"
+
+    return in_folder(Case("", "answers", [LINES, BYTES]), tried)
 
 
 def try_own_program(program: str) -> str:
@@ -297,10 +383,17 @@ def main() -> None:
     tries = [(case.name, lambda case=case: try_case(program, case)) for case in cases()]
     tries += [
         ("standard output is a full disk", lambda: try_full_disk(program)),
-        ("standard output is a pipe that nobody reads", lambda: try_closed_pipe(program)),
-        ("a signal ends the run", lambda: try_signal(program)),
+        ("standard output is a pipe that nobody reads", lambda: try_closed_pipe(program, False)),
+        ("standard output is a pipe that nobody reads, its signal ignored", lambda: try_closed_pipe(program, True)),
+        ("a time limit for worker processes", lambda: try_time_limit(program)),
         ("`self`, with the program's file removed", lambda: try_own_program(program)),
     ]
+    for name, (words, status) in STREAMS.items():
+        tries.append((name, lambda words=words, status=status: try_stream(program, words, status)))
+    for number in (signal.SIGTERM, signal.SIGINT, signal.SIGHUP, signal.SIGKILL):
+        tries.append((f"{number.name} ends the run", lambda number=number: try_signal(program, number)))
+    wanted = sys.argv[2] if len(sys.argv) > 2 else ""
+    tries = [(name, tried) for name, tried in tries if wanted in name]
     failed = 0
     for name, tried in tries:
         start = time.monotonic()

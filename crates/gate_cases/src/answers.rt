@@ -12,7 +12,11 @@ use std::thread::Threads;
 
 /// A number between words, where there is one.
 #[derive(Drop)]
-struct Counted(&'static str, Option<u64>, &'static str);
+pub(crate) struct Counted(
+    pub(crate) &'static str,
+    pub(crate) Option<u64>,
+    pub(crate) &'static str,
+);
 
 impl fmt::Display for Counted {
     fn fmt<W: fmt::Write>(&self, f: &mut fmt::Formatter<W>) -> fmt::Result {

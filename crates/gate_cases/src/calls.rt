@@ -1,5 +1,5 @@
 //! The calls of the program that a case asks for.
-ghost use Rattle.std.specs.Prelude.{◌≡◌, All, IfOk, Some, length};
+ghost use Rattle.std.specs.Prelude.{◌≡◌, All, IfOk, IfSome, length};
 ghost use Rattle.file_access.specs.Folders.{folder_of};
 ghost use Rattle.daemon_desk.specs.MemoryDeskView.{known_files};
 ghost use Rattle.leases_cli.specs.declared.top.TheConstants.{DESKS};
@@ -8,7 +8,7 @@ use crate::cases::Case;
 use crate::each::Each;
 use crate::pieces::InPieces;
 use anyhow::Result;
-use daemon_desk::MemoryDesk;
+use daemon_desk::{Lie, MemoryDesk};
 use file_access::{FileEntry, FileMap, MeetingGate, MemorySink, MemorySource, Source};
 use item_actions::Outcome;
 use leases_cli::{DESKS, Ended, Status, leases};
@@ -38,39 +38,52 @@ pub(crate) fn copies_of(alloc: Global, files: &[FileEntry]) -> Result<Vec<FileEn
     Ok(copies)
 }
 
-// The numbers of the calls of a desk that fail.
-fn failing_calls(alloc: Global, case: &Case, desk: usize) -> Result<Vec<u64>> {
-    let calls = format!(in alloc; "desk {desk} ")?;
-    case.failing(alloc, calls.as_str())
-}
-
-// The desk of this number.
-fn desk_of(alloc: Global, case: &Case, number: usize) -> Result<MemoryDesk>
-    ensures { IfOk result (λ desk. known_files desk ≡ Some (folder_of case.now.files.items)) }
-{
-    let failing = failing_calls(alloc, case, number)?;
-    let files = copies_of(alloc, &case.files)?;
-    Ok(MemoryDesk::new(alloc, FileMap::new(files), failing, Vec::new(alloc)))
-}
-
-// A desk for each thread that a run may have.
-fn desks_of(alloc: Global, case: &Case) -> Result<Vec<MemoryDesk>>
-    ensures count { IfOk result (λ desks. length desks.items ≡ DESKS) }
-    ensures files { IfOk result (λ desks. All (λ desk. known_files desk ≡ Some (folder_of case.now.files.items)) desks.items) }
-{
-    let mut desks = Vec::with_capacity(alloc, DESKS)?;
-    for number in 0..DESKS {
-        desks.push(desk_of(alloc, case, number)?)?;
-    }
-    Ok(desks)
-}
-
 // The bytes of the input of the call of this number.
 fn input_of(alloc: Global, case: &Case, number: usize) -> Result<Vec<u8>, AllocError> {
     match case.each {
         Some(each) => each.input(alloc, &case.input, number),
         None => Vec::from_slice(alloc, &case.input),
     }
+}
+
+// The numbers of the calls of a desk that fail.
+fn failing_calls(alloc: Global, case: &Case, desk: usize) -> Result<Vec<u64>> {
+    let calls = format!(in alloc; "desk {desk} ")?;
+    case.failing(alloc, calls.as_str())
+}
+
+// The lies of a desk, in the call of this number. The bytes of each are the input's.
+fn lies_of(alloc: Global, case: &Case, desk: usize, number: usize) -> Result<Vec<Lie>> {
+    let calls = format!(in alloc; "{desk} ")?;
+    let mut lies = Vec::new(alloc);
+    for call in case.lying(alloc, calls.as_str())? {
+        let bytes = input_of(alloc, case, number)?;
+        lies.push(Lie { call, bytes })?;
+    }
+    Ok(lies)
+}
+
+// A desk, for the call of this number. It knows the case's files, unless it has a lie.
+fn desk_of(alloc: Global, case: &Case, desk: usize, number: usize) -> Result<MemoryDesk>
+    ensures { IfOk result (λ desk. IfSome (known_files desk) (λ known. known ≡ folder_of case.now.files.items)) }
+{
+    let failing = failing_calls(alloc, case, desk)?;
+    let lies = lies_of(alloc, case, desk, number)?;
+    let files = copies_of(alloc, &case.files)?;
+    Ok(MemoryDesk::new(alloc, FileMap::new(files), failing, lies))
+}
+
+// A desk for each thread that a run may have, for the call of this number.
+fn desks_of(alloc: Global, case: &Case, number: usize) -> Result<Vec<MemoryDesk>>
+    ensures count { IfOk result (λ desks. length desks.items ≡ DESKS) }
+    ensures files { IfOk result (λ desks. All
+        (λ desk. IfSome (known_files desk) (λ known. known ≡ folder_of case.now.files.items)) desks.items) }
+{
+    let mut desks = Vec::with_capacity(alloc, DESKS)?;
+    for desk in 0..DESKS {
+        desks.push(desk_of(alloc, case, desk, number)?)?;
+    }
+    Ok(desks)
 }
 
 // The numbers of the calls of the input that fail.
@@ -98,11 +111,19 @@ fn source_of(alloc: Global, case: &Case, number: usize) -> Result<InPieces<Memor
     })
 }
 
+// How many bytes the output takes.
+fn room_of(case: &Case, number: usize) -> u64 {
+    match case.each {
+        Some(Each::Room) => number as u64,
+        _ => case.limits.room,
+    }
+}
+
 /// The output of the call of this number.
 pub(crate) fn sink_of(alloc: Global, case: &Case, number: usize) -> Result<InPieces<MemorySink>> {
     let failing = failing_puts(alloc, case, number)?;
     Ok(InPieces {
-        inner: MemorySink::new(alloc, case.limits.room, failing)?,
+        inner: MemorySink::new(alloc, room_of(case, number), failing)?,
         most: case.limits.piece as usize,
     })
 }
@@ -241,7 +262,7 @@ pub(crate) fn answer_to<T: Threads + Wait + Sync>(
     number: usize,
     out: &mut InPieces<MemorySink>,
 ) -> Result<Answer> {
-    let mut desks = desks_of(alloc, case)?;
+    let mut desks = desks_of(alloc, case, number)?;
     let mut input = source_of(alloc, case, number)?;
     let gate = MeetingGate::new(case.limits.turns);
     let ended = leases(

@@ -63,15 +63,25 @@ impl<'a> Case<'a> {
 
     /// The numbers of the calls that fail, of those that the sections `fail` call so.
     pub(crate) fn failing(&self, alloc: Global, calls: &str) -> Result<Vec<u64>> {
-        let mut failing = Vec::new(alloc);
+        self.numbers(alloc, "fail", calls)
+    }
+
+    /// The numbers of the calls that are answered by a lie, of those that the sections `lie` call so.
+    pub(crate) fn lying(&self, alloc: Global, calls: &str) -> Result<Vec<u64>> {
+        self.numbers(alloc, "lie", calls)
+    }
+
+    // The numbers in the sections of a kind whose heads go on like this.
+    fn numbers(&self, alloc: Global, kind: &str, calls: &str) -> Result<Vec<u64>> {
+        let mut numbers = Vec::new(alloc);
         for section in self.sections {
-            if section.kind == "fail"
+            if section.kind == kind
                 && let Some(digits) = section.rest.strip_prefix(calls)
             {
-                failing.push(number_of(digits)?)?;
+                numbers.push(number_of(digits)?)?;
             }
         }
-        Ok(failing)
+        Ok(numbers)
     }
 
     /// The check of a history that was printed for the plan of this name, at the same files.
@@ -94,6 +104,7 @@ impl<'a> Case<'a> {
 /// - `input`: the section's other lines are further bytes of the input. `input DIGITS`: bytes in hexadecimal digits.
 ///   `empty N`: so many empty lines.
 /// - `fail desk D N`, `fail take N`, `fail put N`: this call fails of desk D, of the input or of the output.
+/// - `lie D N`: where call N of desk D awaits a daemon's answer, the input's bytes are taken for it.
 /// - `room N`: the output takes so many bytes. `pieces N`: the input gives and the output takes at most N bytes a call.
 /// - `meet N`: units 0 and 1 wait for each other for so many turns.
 /// - `digest`: what is written isn't printed, but its SHA-256 digest.

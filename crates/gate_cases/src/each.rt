@@ -17,6 +17,8 @@ pub(crate) enum Each {
     Take,
     /// Which call of the output fails. In the last call of the program none does.
     Put,
+    /// How many bytes the output takes. In the last call of the program it takes all.
+    Room,
 }
 
 /// What the rest of the head of a section `each` says:
@@ -26,6 +28,7 @@ pub(crate) enum Each {
 ///   input in turn is this one.
 /// - `line CHANGE`: each line of the input in turn is changed, as `lines.rt` says.
 /// - `take`, `put`: each call of the input or of the output fails in turn, and at last none.
+/// - `room`: the output takes no bytes, one, and so on up to all.
 pub(crate) fn each_of(rest: Option<&str>) -> Result<Option<Each>> {
     let Some(rest) = rest else {
         return Ok(None);
@@ -38,6 +41,7 @@ pub(crate) fn each_of(rest: Option<&str>) -> Result<Option<Each>> {
         "line" => each_line(how),
         "take" => Ok(Some(Each::Take)),
         "put" => Ok(Some(Each::Put)),
+        "room" => Ok(Some(Each::Room)),
         _ => Err(anyhow!("no such change: {rest}")),
     }
 }
@@ -63,13 +67,13 @@ impl Each {
             Each::Beginning => input.len().saturating_add(1),
             Each::Byte(_, _) => input.len(),
             Each::Line(_) => input.iter().filter(|byte| **byte == b'\n').count(),
-            Each::Take | Each::Put => usize::MAX,
+            Each::Take | Each::Put | Each::Room => usize::MAX,
         }
     }
 
     /// Whether a call without a failure is the last.
     pub(crate) fn ends_without_failure(&self) -> bool {
-        matches!(self, Each::Take | Each::Put)
+        matches!(self, Each::Take | Each::Put | Each::Room)
     }
 
     /// The input of the call of this number.
@@ -83,7 +87,7 @@ impl Each {
             Each::Beginning => Vec::from_slice(alloc, &input[..min(number, input.len())]),
             Each::Byte(kept, turned) => with_byte(alloc, input, number, *kept, *turned),
             Each::Line(change) => with_changed_line(alloc, input, number, *change),
-            Each::Take | Each::Put => Vec::from_slice(alloc, input),
+            Each::Take | Each::Put | Each::Room => Vec::from_slice(alloc, input),
         }
     }
 }

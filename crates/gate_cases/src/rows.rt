@@ -1,10 +1,12 @@
 //! What is printed of calls that differ from one another.
-use crate::answers::text_of;
-use crate::calls::{answer_to, sink_of};
+use crate::answers::{Counted, text_of};
+use crate::calls::{Answer, answer_to, sink_of};
 use crate::cases::Case;
 use crate::each::Each;
 use anyhow::Result;
+use file_access::MemorySink;
 use std::alloc::Global;
+use std::cmp::min;
 use std::sync::Wait;
 use std::thread::Threads;
 
@@ -39,16 +41,52 @@ impl Row {
 }
 
 // What was written, where it is a text, and else the status and what was written.
-fn told(alloc: Global, status: u8, bytes: &[u8]) -> Result<String> {
+fn told(alloc: Global, answer: &Answer, bytes: &[u8]) -> Result<String> {
     match text_of(bytes) {
         Some(text) if !text.is_empty() => Ok(text.trim_end_matches('\n').to_string(alloc)?),
-        _ => status_and_digits(alloc, status, bytes),
+        _ => status_and_digits(alloc, answer, bytes),
     }
 }
 
-fn status_and_digits(alloc: Global, status: u8, bytes: &[u8]) -> Result<String> {
+fn status_and_digits(alloc: Global, answer: &Answer, bytes: &[u8]) -> Result<String> {
     let digits = hex::encode(alloc, bytes)?;
-    Ok(format!(in alloc; "status {status}, {} bytes [{digits}]", bytes.len())?)
+    let place = Counted(" at ", answer.place, "");
+    let status = answer.status;
+    Ok(format!(in alloc; "status {status}{place}, {} bytes [{digits}]", bytes.len())?)
+}
+
+// What is told where the output takes so many bytes: whether those were written, and no others.
+fn told_of_room(
+    alloc: Global,
+    answer: &Answer,
+    room: usize,
+    bytes: &[u8],
+    whole: &[u8],
+) -> Result<String> {
+    let entries = Counted(", ", answer.run.map(|run| run.entries), " entries");
+    let status = answer.status;
+    let words = if bytes == &whole[..min(room, whole.len())] {
+        "as many of the first bytes as there is room for"
+    } else {
+        "other bytes"
+    };
+    Ok(format!(in alloc; "status {status}{entries}, {words}")?)
+}
+
+// What is written where the output takes as much as it ever does, if the calls differ in that.
+fn whole_output<T: Threads + Wait + Sync>(
+    threads: &T,
+    alloc: Global,
+    case: &Case,
+    each: Each,
+) -> Result<Option<MemorySink>> {
+    if !matches!(each, Each::Room) {
+        return Ok(None);
+    }
+    let room = case.limits.room as usize;
+    let mut out = sink_of(alloc, case, room)?;
+    answer_to(threads, alloc, case, room, &mut out)?;
+    Ok(Some(out.inner))
 }
 
 // Makes the call of this number, and adds what is told of it. It answers whether nothing failed.
@@ -57,11 +95,17 @@ fn add_call<T: Threads + Wait + Sync>(
     threads: &T,
     case: &Case,
     number: usize,
+    whole: Option<&MemorySink>,
     row: &mut Row,
 ) -> Result<bool> {
-    let mut out = sink_of(rt.alloc(), case, number)?;
-    let answer = answer_to(threads, rt.alloc(), case, number, &mut out)?;
-    row.add(rt, told(rt.alloc(), answer.status, out.inner.taken())?)?;
+    let alloc = rt.alloc();
+    let mut out = sink_of(alloc, case, number)?;
+    let answer = answer_to(threads, alloc, case, number, &mut out)?;
+    let told = match whole {
+        Some(whole) => told_of_room(alloc, &answer, number, out.inner.taken(), whole.taken())?,
+        None => told(alloc, &answer, out.inner.taken())?,
+    };
+    row.add(rt, told)?;
     Ok(answer.input_faults == 0 && out.inner.count() == 0)
 }
 
@@ -72,14 +116,15 @@ pub(crate) fn run_each<T: Threads + Wait + Sync>(
     case: &Case,
     each: Each,
 ) -> Result<()> {
+    let whole = whole_output(threads, rt.alloc(), case, each)?;
     let mut row = Row {
         first: 0,
         next: 0,
         told: String::new(rt.alloc()),
     };
     for number in 0..each.calls(&case.input) {
-        let whole = add_call(rt, threads, case, number, &mut row)?;
-        if whole && each.ends_without_failure() {
+        let passed = add_call(rt, threads, case, number, whole.as_ref(), &mut row)?;
+        if passed && each.ends_without_failure() {
             break;
         }
     }

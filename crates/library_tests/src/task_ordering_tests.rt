@@ -43,7 +43,11 @@ static ROWS: [Row; 4] = [
     ),
     (
         &[(&[], &[1], &[1]), (&[], &[], &[])],
-        &[(&[0], Err(OrderRefusal::Cycle(0))), (&[], Ok(&[]))],
+        &[
+            (&[0], Err(OrderRefusal::Cycle(0))),
+            (&[], Ok(&[])),
+            (&[5], Err(OrderRefusal::NoSuchTask(None))),
+        ],
     ),
     (
         &[(&[], &[], &[]), (&[], &[2], &[])],

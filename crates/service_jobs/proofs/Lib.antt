@@ -1,5 +1,6 @@
 pub mod Owning
 pub mod Prefixes
+pub mod Stops
 pub mod OneJob
 pub mod ManyJobs
 pub mod NoTasks

@@ -1,5 +1,5 @@
 -- What a worker did of its jobs.
-use Rattle.std.specs.Prelude.{ℕ, ◌≡◌, ◌≤◌, ◌<◌, ◌+◌, ◌-◌, ◌*◌, ◌^◌, List, length, Option}
+use Rattle.std.specs.Prelude.{ℕ, ◌≡◌, ◌≤◌, ◌<◌, ◌+◌, ◌-◌, ◌*◌, ◌^◌, List, length, get_or, take, Option}
 use Rattle.std.specs.List.{AllByRecursion}
 use Rattle.item_actions.specs.Files.{Folder}
 use Rattle.lock_transforms.specs.Allowed.{IsFixedList}
@@ -8,13 +8,14 @@ use Rattle.lock_transforms.specs.declared.entries.Kind.TheVariants as kinds
 use Rattle.resource_lock.specs.GraphView.{GraphView}
 use Rattle.resource_lock.specs.declared.ids.WorkerId.{WorkerId}
 use Rattle.coordination.specs.Agrees.{IsSoundBook}
-use Rattle.coordination.specs.Calls.{HasFinished}
+use Rattle.coordination.specs.Calls.{HasFinished, WasStopped}
 use Rattle.coordination.specs.Holds.{HoldsNothing}
 use Rattle.coordination.specs.Lasts.{entry_count_of, last_of}
 use Rattle.coordination.specs.declared.rule.Sight.{Sight}
 use Rattle.lease_service.specs.Shows.{ShowsGivenBack}
 use Rattle.shared_services.specs.Services.{lock_count}
 use Rattle.shared_services.specs.Shows.{HasTakenUses}
+use Rattle.shared_services.specs.Takings.{IsShort}
 use Rattle.service_jobs.specs.Done.{AreApart, IsHonestJob, IsRunIn, OwnsOneOfEach, faults_of}
 use Rattle.service_jobs.specs.OneByOne.{OneByOne}
 use Rattle.service_jobs.specs.declared.jobs.Job.{Job}
@@ -55,3 +56,16 @@ pub record HasRun (maxima : List ℕ) (known : Option Folder) (before after : �
   pub entries : entry_count_of new.worker new.seen.history ≡ entry_count_of old.worker old.seen.history + 2 * length ran
   pub count : before ≤ after
   pub faults : after < 2 ^ 64 - 1 → faults_of new.worker ran + before ≤ after
+
+-- The worker ran the jobs before this place, and was stopped while it waited for the uses of the job at it, or for a lease, which
+-- weren't to be had.
+pub record WasStoppedAtOne (maxima : List ℕ) (known : Option Folder) (count : ℕ) (old : Sight) (jobs : List Job) (by : WorkerId) (new : Sight) (ran : List JobDone) : Type 0 where
+  pub place : ℕ
+  pub inside : place < length jobs
+  pub job : Job
+  pub there : job ≡ get_or jobs place job
+  pub before : Sight
+  -- what the desk had counted by then
+  pub counted : ℕ
+  pub earlier : HasRun maxima known count counted old (take place jobs) before ran
+  pub stopped : WasStopped (λ g w s. IsShort maxima job.uses.items s) by before new

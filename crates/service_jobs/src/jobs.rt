@@ -1,7 +1,10 @@
 //! A job, taken with its uses, worked out and given back.
-ghost use Rattle.std.specs.Prelude.{◌≡◌, ◌≤◌, IfOk, IfSome};
+ghost use Rattle.std.specs.Prelude.{◌≡◌, ◌≤◌, Err, IfOk, IfSome};
 ghost use Rattle.file_access.specs.ReadView.{IsOutcomeCounted};
+ghost use Rattle.resource_lock.specs.declared.ids.WorkerId.{WorkerId};
+ghost use Rattle.coordination.specs.Calls.{WasStopped};
 ghost use Rattle.shared_services.specs.Shows.{MayTakeUses};
+ghost use Rattle.shared_services.specs.Takings.{IsShort};
 ghost use Rattle.service_jobs.specs.Done.{IsHonestJob};
 ghost use Rattle.service_jobs.specs.Worked.{HasRunJob};
 
@@ -59,6 +62,8 @@ pub(crate) fn run_job<R: Wait, F: Files>(
     ensures ran { IfOk result (HasRunJob table.now job.now.uses.items pass.old.sight pass.new.sight) }
     ensures counted { IfOk result (λ done. IsOutcomeCounted (F.faults desk.old) (F.faults desk.new) done.outcome) }
     ensures honest { IfOk result (IsHonestJob (F.files desk.old) job.now) }
+    ensures stopped { (by : WorkerId) → result ≡ Err (Halt.Stopped by)
+        → WasStopped (λ g w s. IsShort table.now job.now.uses.items s) by pass.old.sight pass.new.sight }
 {
     take_uses(rt, service, table, pass, &job.uses)?;
     let taken = pass.last();

@@ -1,7 +1,8 @@
 //! Jobs run one after another by one worker.
-ghost use Rattle.std.specs.Prelude.{◌≡◌, ◌≤◌, ◌∷◌, ◌++◌, [], All, OnOk};
+ghost use Rattle.std.specs.Prelude.{◌≡◌, ◌≤◌, ◌∷◌, ◌++◌, [], All, Err, IfErr, OnOk};
+ghost use Rattle.resource_lock.specs.declared.ids.WorkerId.{WorkerId};
 ghost use Rattle.shared_services.specs.Services.{AreServices};
-ghost use Rattle.service_jobs.specs.Worked.{CanRun, HasRun};
+ghost use Rattle.service_jobs.specs.Worked.{CanRun, HasRun, WasStoppedAtOne};
 
 use crate::jobs::{Job, JobDone, run_job};
 use coordination::{Coordination, Halt, Pass};
@@ -17,8 +18,9 @@ use std::sync::Wait;
 /// all back. What happens between the two entries the history doesn't say. Where the files are known a job's outcome is its value
 /// on them, or `Fault` or `NoMemory`; the desk counts its faults, until its count stands at its end.
 ///
-/// After an error the worker may hold the uses of the job that it was at. It comes where there is no memory, or where the service
-/// was stopped while the worker waited.
+/// `Stopped` comes only where the worker had to wait at a job, whose uses or a lease weren't to be had, while the service was
+/// stopped. The jobs before it were run, what they gave is noted, and the worker has nothing. After `NoMemory` the worker may hold
+/// the uses of the job that it was at.
 pub fn run_in_turn<R: Wait, F: Files>(
     rt: &R,
     alloc: Global,
@@ -39,6 +41,8 @@ pub fn run_in_turn<R: Wait, F: Files>(
     ensures kept { F.faults desk.old ≤ F.faults desk.new }
     ensures ran { OnOk result (HasRun table.now (F.files desk.old) (F.faults desk.old) (F.faults desk.new)
         pass.old.sight jobs.now pass.new.sight done.new.items) }
+    ensures stopped { (by : WorkerId) → result ≡ Err (Halt.Stopped by) → WasStoppedAtOne table.now (F.files desk.old) (F.faults desk.old)
+        pass.old.sight jobs.now by pass.new.sight done.new.items }
 {
     for job in jobs {
         let ran = run_job(rt, alloc, service, table, pass, desk, job)?;
@@ -49,7 +53,8 @@ pub fn run_in_turn<R: Wait, F: Files>(
 
 // Notes a job that was run.
 fn note(done: &mut Vec<JobDone>, ran: JobDone) -> Result<(), Halt>
-    ensures { OnOk result (done.new.items ≡ done.old.items ++ ran ∷ []) }
+    ensures noted { OnOk result (done.new.items ≡ done.old.items ++ ran ∷ []) }
+    ensures no_memory { IfErr result (λ halt. halt ≡ Halt.NoMemory) }
 {
     match done.push(ran) {
         Ok(()) => Ok(()),

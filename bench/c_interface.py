@@ -1,0 +1,120 @@
+#!/usr/bin/env python3
+"""Builds the C interface, tests it under tools that find mistakes of memory and of threads, and times it.
+
+The archive is made by c/build.sh, which needs the command rt and proves crates/wakhurmi_c where that is still to be done. Then
+
+* examples/embedding-in-c runs, and examples/embedding-in-rust where cargo is there; the history of the first is replayed, and checked
+  by the program `leases` against a plan of three projects without tasks;
+* bench/programs/c_rounds checks four threads over 400,000 rounds: never more at work than may be, one owner a lock, the answers
+  that are known beforehand; the history is replayed and checked. The same with fewer rounds under memcheck and helgrind, and built with
+  the compiler's sanitizers of threads and of addresses. Helgrind knows no lock but a mutex, so for it the calls of the proved
+  library are made one at a time;
+* a take and a hand-back are timed in processor time, by one thread and by four, beside a plain mutex with a counter.
+
+Tools that aren't there are passed over, and said so; so is `leases`, which is the script's first word, or the program that `./leases`
+builds. Not part of the gate.
+
+    bench/c_interface.py [PROGRAM]
+"""
+
+import os
+import pathlib
+import shutil
+import statistics
+import subprocess
+import sys
+import tempfile
+
+import measure
+
+TOP = measure.TOP
+EXAMPLE = TOP / "examples/embedding-in-c"
+LEASES = pathlib.Path(sys.argv[1]).resolve() if len(sys.argv) > 1 else TOP / "out/leases"
+ROUNDS = 100_000
+FEW_ROUNDS = 2_000
+TIMED_ROUNDS = 400_000
+TURNS = 9
+
+# The goals: how many times as long as a plain mutex with a counter a take and a hand-back take together.
+MOST_ALONE = 4.0
+MOST_CONTENDED = 2.5
+
+SANITIZERS = {"threads": "-fsanitize=thread", "addresses": "-fsanitize=address"}
+VALGRIND = ["valgrind", "-q", "--error-exitcode=9"]
+
+
+def call(words: list[str], **more: object) -> str:
+    run = subprocess.run(words, capture_output=True, text=True, **more)
+    if run.returncode:
+        sys.exit(f"{' '.join(words)} ended with status {run.returncode}\n{run.stdout[-2000:]}{run.stderr[-4000:]}")
+    return run.stdout
+
+
+def build(folder: pathlib.Path, name: str, *flags: str) -> pathlib.Path:
+    """The folder with an archive that was built with these flags, beside the two programs."""
+    made = folder / name
+    call([str(TOP / "c/build.sh"), str(made), *flags])
+    settings = {**os.environ, "PKG_CONFIG_PATH": str(made)}
+    words = call(["pkg-config", "--cflags", "--libs", "wakhurmi"], env=settings).split() if shutil.which("pkg-config") else [
+        f"-I{made}", f"-L{made}", "-lwakhurmi", "-pthread"
+    ]
+    for source in [TOP / "bench/programs/c_rounds/c_rounds.c", EXAMPLE / "eight.c"]:
+        call(["cc", "-O2", "-g", *flags, str(source), "-o", str(made / source.stem), *words])
+    return made
+
+
+def judged(history: str) -> str:
+    """What the replay and `leases check` say of a history. Where one of them refuses it, the bench ends."""
+    replayed = call([str(EXAMPLE / "replay.py")], input=history).strip()
+    if not os.access(LEASES, os.X_OK):
+        return f"replayed: {replayed}; leases check: passed over, there is no {LEASES.name}"
+    checked = call([str(LEASES), "check", "plan.toml"], input=history, cwd=EXAMPLE).strip()
+    if checked != replayed:
+        sys.exit(f"the replay says {replayed}, and leases check says {checked}")
+    return f"replayed and checked: {checked}"
+
+
+def check(program: pathlib.Path, rounds: int, tool: list[str], what: str) -> None:
+    history = call([*tool, str(program), "check", "4", str(rounds)])
+    print(f"{what}: four threads, {4 * rounds} rounds: {judged(history)}", flush=True)
+
+
+def try_in_rust(made: pathlib.Path, folder: pathlib.Path) -> None:
+    if shutil.which("cargo") is None:
+        print("in Rust: passed over, there is no cargo")
+        return
+    settings = {**os.environ, "WAKHURMI": str(made), "CARGO_TARGET_DIR": str(folder / "target")}
+    said = call(["cargo", "run", "-q", "--offline", "--release"], cwd=TOP / "examples/embedding-in-rust", env=settings)
+    print(f"in Rust: {said.strip()}")
+
+
+def time_rounds(made: pathlib.Path, threads: int, most: float) -> None:
+    program = str(made / "c_rounds")
+    turn = lambda kind: float(call([program, kind, str(threads), str(TIMED_ROUNDS)]))
+    turns = [(turn("time"), turn("plain")) for _ in range(TURNS)]
+    ours, plain = (statistics.median(side) for side in zip(*turns))
+    met = "yes" if ours <= most * plain else "no"
+    print(f"{threads} threads: {ours:.1f} ns, plain {plain:.1f} ns, {ours / plain:.1f} times as long, goal {most}, met: {met}")
+
+
+def main() -> None:
+    measure.skip_without("rt", "cc", "ar")
+    with tempfile.TemporaryDirectory() as name:
+        folder = pathlib.Path(name)
+        made = build(folder, "plain")
+        print("in C:", judged(call([str(made / "eight")])))
+        try_in_rust(made, folder)
+        check(made / "c_rounds", ROUNDS, [], "as it is")
+        for what, flag in SANITIZERS.items():
+            check(build(folder, what, "-g", flag) / "c_rounds", ROUNDS // 10, [], f"sanitizer of {what}")
+        if shutil.which("valgrind"):
+            check(made / "c_rounds", FEW_ROUNDS, [*VALGRIND, "--leak-check=full"], "memcheck")
+            single = build(folder, "single", "-g", "-DWAKHURMI_ONE_AT_A_TIME")
+            check(single / "c_rounds", FEW_ROUNDS, [*VALGRIND, "--tool=helgrind"], "helgrind")
+        else:
+            print("memcheck, helgrind: passed over, there is no valgrind")
+        time_rounds(made, 1, MOST_ALONE)
+        time_rounds(made, 4, MOST_CONTENDED)
+
+
+main()

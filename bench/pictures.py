@@ -1,0 +1,255 @@
+#!/usr/bin/env python3
+"""Draws histories by a program, and compares each rectangle and each curve of the picture with a replay of the history in Python.
+
+    bench/pictures.py PROGRAM HISTORY.. [--render FOLDER]
+
+A picture has to be well-formed XML. Each entry has to have one tick, in order, whose title is its line. Each rectangle below the
+legend has to be one of the replay's: its class, its place, its size and its title, and each of the replay's has to be there. So
+have the two curves of each part. With --render the pictures are also rendered by rsvg-convert and by chromium, in colour and in grey.
+"""
+import collections
+import pathlib
+import resource
+import subprocess
+import sys
+import xml.etree.ElementTree as xml
+
+SVG = "{http://www.w3.org/2000/svg}"
+LEFT, PLOT, CURVE = 76, 1190, 48
+Interval = collections.namedtuple("Interval", "subject since until worker how")
+# Where a worker's row has its bars: its height, and the places and heights of tasks, lanes, items and ticks.
+LARGE = dict(row=36, task=(3, 12), lane=(16, 15), item=(18, 11), tick=(32, 3))
+SMALL = dict(row=20, task=(2, 4), lane=(7, 9), item=(8, 7), tick=(17, 2))
+
+
+def history_of(text):
+    """The lines of the first history of a text, from its second line on, without its end."""
+    lines = text.split("\n")
+    begin = lines.index("history 1") + 1
+    end = next(n for n in range(begin, len(lines)) if lines[n].startswith("end "))
+    return lines[begin:end]
+
+
+class Replay:
+    """The intervals of a history: what holds, from the entry that begins it up to the one that ends it; and after each entry the
+    leases out and the items queued."""
+
+    def __init__(self, lines):
+        self.lines, self.count = lines, len(lines) - 1
+        words = lines[0].split()
+        self.workers, self.max = int(words[1]), int(words[3])
+        self.opened, self.intervals = {}, []
+        self.out, self.queued = [0], [0]
+        for entry, line in enumerate(lines[1:], 1):
+            self.out.append(self.out[-1])
+            self.queued.append(self.queued[-1])
+            head, tail = line.split(" | ")
+            worker = int(head.split()[1][1:])
+            for change in [] if tail in ("nothing", "failed") else tail.split(", "):
+                self.change(change.split(), entry, worker)
+        for subject, (since, who) in self.opened.items():
+            self.intervals.append(Interval(subject, since, len(lines), who, "running"))
+        self.intervals.sort(key=lambda i: i.since)
+
+    def say(self, subject, holds, entry, worker, how="waiting"):
+        if subject in self.opened:
+            since, who = self.opened.pop(subject)
+            self.intervals.append(Interval(subject, since, entry, who, how))
+        if holds:
+            self.opened[subject] = (entry, worker)
+
+    def change(self, words, entry, worker):
+        match words:
+            case ["lock" | "unlock" as word, lock]:
+                self.say(("owned", int(lock)), word == "lock", entry, worker)
+            case ["park" | "unpark" as word, lock]:
+                self.say(("parked", worker, int(lock)), word == "park", entry, worker)
+            case ["take" | "give" as word]:
+                self.say(("lease", worker), word == "take", entry, worker)
+                self.out[-1] += 1 if word == "take" else -1
+            case ["enter" | "leave" as word]:
+                self.say(("blocked", worker), word == "enter", entry, worker)
+            case [kind, number, was, to]:
+                self.say((kind, int(number)), to == "running", entry, worker, to)
+                if kind == "unit":
+                    self.queued[-1] += (to == "queued") - (was == "queued")
+
+    def is_fetch(self, interval):
+        return self.lines[interval.since].split()[2] == "block"
+
+    def title_of(self, interval):
+        subject, since, until, worker, how = interval
+        over = f", entries {since} to {until - 1}" if until - since > 1 else f", entry {since}"
+        match subject:
+            case ("lease", _):
+                return f"w{worker} has a lease{over}"
+            case ("blocked", _):
+                return f"w{worker} is blocked{over}"
+            case ("action", number):
+                return f"w{worker} is parked at action {number}{over}"
+            case ("owned", lock):
+                return f"lock {lock} is owned by w{worker}{over}"
+            case ("parked", _, lock):
+                return f"lock {lock} is parked by w{worker}{over}"
+            case ("task", number):
+                return f"task {number} of w{worker}{over}, {how}"
+        words = self.lines[until].split(" | ")[0].split(" ", 4) if until < len(self.lines) else []
+        told = words[4] if len(words) > 4 and words[2] in ("close", "unblock") else how
+        return f"{'fetch' if self.is_fetch(interval) else 'item'}, unit {subject[1]}, at w{worker}{over}: {told}"
+
+
+def scale_of(workers, count):
+    per = max(1, min(12, 40 // workers))
+    size = PLOT // per
+    if count <= size:
+        size = max(count, 1)
+        return min(24, PLOT // size), size
+    parts = -(-count // size)
+    return per, -(-count // parts)
+
+
+class Part:
+    """The rectangles and the curves of the entries from `first` on, before `behind`, from `top` on."""
+
+    def __init__(self, run, first, behind, per, top, most):
+        self.run, self.first, self.behind, self.per, self.top = run, first, behind, per, top
+        self.rows = LARGE if run.workers <= 12 else SMALL
+        shown = [i for i in run.intervals if i.since < behind and first < i.until and i.since < i.until]
+        self.locks = sorted({i.subject[-1] for i in shown if i.subject[0] in ("owned", "parked")})
+        self.lock_row = 14 if len(self.locks) <= 20 else 10
+        self.locks_top = top + CURVE + 24 + run.workers * self.rows["row"] + 10
+        self.bottom = self.locks_top + len(self.locks) * self.lock_row
+        self.rects, self.ticks = [], []
+        for worker in range(run.workers):
+            self.put(f"m{worker % 8}", 8, self.row(worker) + 4, 5, self.rows["row"] - 8)
+        for interval in shown:
+            self.draw(interval)
+        for entry in range(first, behind):
+            self.draw_entry(entry)
+        base = top + CURVE
+        self.curves = [self.stairs(run.out, run.max) + f"V{base}", self.stairs(run.queued, most)]
+
+    def x(self, entry):
+        return LEFT + (entry - self.first) * self.per
+
+    def row(self, worker):
+        return self.top + CURVE + 24 + worker * self.rows["row"]
+
+    def stairs(self, values, most):
+        base = self.top + CURVE
+        return f"M{LEFT} {base}" + "".join(
+            f"V{base - CURVE * min(values[k], most) // most}H{self.x(k + 1)}" for k in range(self.first, self.behind))
+
+    def put(self, kind, x, y, width, height, title=None):
+        self.rects.append((kind, x, y, width, height, title))
+
+    def cap(self, x, y, width, height):
+        if width > 5:
+            self.put("z", x + width - 5, y, 1, height)
+        self.put("r", x + width - min(width, 4), y, min(width, 4), height)
+
+    def draw(self, interval):
+        kind, hue = interval.subject[0], interval.worker % 8
+        x = self.x(max(interval.since, self.first))
+        width = self.x(min(interval.until, self.behind)) - x
+        title = self.run.title_of(interval)
+        fails = interval.how == "failed" and interval.until <= self.behind
+        if kind in ("owned", "parked"):
+            y = self.locks_top + self.locks.index(interval.subject[-1]) * self.lock_row
+            if kind == "parked":
+                self.put(f"m{hue}", x, y + self.lock_row // 2 - 1, width, 2, title)
+            else:
+                self.put(f"m{hue}", x, y + 1, width, self.lock_row - 3, title)
+                self.put(f"d{hue}", x, y + 1, 1, self.lock_row - 3)
+            return
+        place, height = self.rows[{"task": "task", "unit": "item"}.get(kind, "lane")]
+        y = self.row(interval.worker) + place
+        if kind == "task":
+            self.put(f"p{hue}", x, y, width, height, title)
+            self.put(f"d{hue}", x, y, width, 1)
+            self.put(f"d{hue}", x, y, 1, height)
+        elif kind == "unit":
+            self.put(f"d{hue}", x, y, width, height, title)
+            if self.run.is_fetch(interval):
+                self.put("z", x + 1, y + 1, max(width - 2, 0), height - 2, title)
+        else:
+            self.put({"lease": f"m{hue}", "action": f"k{hue}", "blocked": "b"}[kind], x, y, width, height, title)
+        if kind in ("task", "unit") and fails:
+            self.cap(x, y, width, height)
+
+    def draw_entry(self, entry):
+        line = self.run.lines[entry]
+        words = line.split()
+        worker = int(words[1][1:])
+        place, height = self.rows["tick"]
+        self.ticks.append(line)
+        self.put("t", self.x(entry), self.row(worker) + place, max(self.per // 2, 1), height, line)
+        if words[2] == "skip" and not line.endswith("| failed"):
+            place, height = self.rows["task"]
+            self.put("n", self.x(entry), self.row(worker) + place, max(self.per, 2), height,
+                     f"task {words[3]} is skipped by w{worker}, entry {entry}")
+
+
+def parts_of(run):
+    per, size = scale_of(run.workers, run.count)
+    heading = 24 if run.count > size else 0
+    top, most = 86 + heading, max(run.max, *run.queued)
+    for first in range(1, run.count + 1, size):
+        part = Part(run, first, min(first + size, run.count + 1), per, top, most)
+        yield part
+        top = part.bottom + 30 + heading
+
+
+def compare(name, text, picture):
+    root = xml.fromstring(picture)
+    parts = list(parts_of(Replay(history_of(text))))
+    found = collections.Counter()
+    for rect in root.iter(SVG + "rect"):
+        title = rect.find(SVG + "title")
+        place = tuple(int(float(rect.get(word, "0"))) for word in ("x", "y", "width", "height"))
+        if rect.get("class") is not None and (place[1] >= 86 or title is not None):
+            found[rect.get("class"), *place, None if title is None else title.text] += 1
+    wanted = collections.Counter(rect for part in parts for rect in part.rects)
+    wrong = (found - wanted) + (wanted - found)
+    assert not wrong, f"{name}: {list(wrong)[:5]}"
+    ticks = [rect.find(SVG + "title").text for rect in root.iter(SVG + "rect")
+             if rect.get("class") == "t" and rect.find(SVG + "title") is not None]
+    assert ticks == [line for part in parts for line in part.ticks], f"{name}: the ticks aren't the lines in order"
+    curves = [path.get("d") for path in root.iter(SVG + "path")
+              if path.get("class") in ("c", "q") and path.find(SVG + "title") is not None]
+    assert curves == [curve for part in parts for curve in part.curves], f"{name}: a curve is wrong"
+    height = parts[-1].bottom + 20 if parts else 76
+    assert root.get("height") == str(height), f"{name}: its height is {root.get('height')}, not {height}"
+    return len(ticks), sum(found.values()), height
+
+
+def screenshot(picture, height, page, image):
+    page.write_bytes(picture)
+    subprocess.run(["chromium", "--headless", "--no-sandbox", "--disable-gpu", "--hide-scrollbars",
+                    f"--window-size=1280,{height}", f"--screenshot={image}", page.resolve().as_uri()],
+                   check=True, stderr=subprocess.DEVNULL, stdout=subprocess.DEVNULL)
+
+
+def render(picture, height, to):
+    subprocess.run(["rsvg-convert", "--unlimited", "-o", f"{to}-rsvg.png"], input=picture, check=True)
+    screenshot(picture, height, pathlib.Path(f"{to}.svg"), f"{to}-chromium.png")
+    grey = picture.replace(b"<svg ", b'<svg style="filter:grayscale(1)" ', 1)
+    screenshot(grey, height, pathlib.Path(f"{to}-grey.svg"), f"{to}-grey.png")
+
+
+def main(words):
+    folder = pathlib.Path(words[words.index("--render") + 1]) if "--render" in words else None
+    names = [w for n, w in enumerate(words) if w != "--render" and words[n - 1] != "--render"]
+    for name in names[1:]:
+        text = pathlib.Path(name).read_bytes()
+        before = resource.getrusage(resource.RUSAGE_CHILDREN)
+        picture = subprocess.run([names[0]], input=text, stdout=subprocess.PIPE, check=True).stdout
+        after = resource.getrusage(resource.RUSAGE_CHILDREN)
+        took = after.ru_utime + after.ru_stime - before.ru_utime - before.ru_stime
+        ticks, rects, height = compare(name, text.decode(), picture)
+        print(f"{name}: {ticks} ticks, {rects} rectangles, {len(picture)} bytes, {height} px high, {took * 1000:.1f} ms of a processor")
+        if folder:
+            render(picture, height, folder / pathlib.Path(name).stem)
+
+
+main(sys.argv[1:])

@@ -1,0 +1,264 @@
+/* The part that waits, which no proof covers. Every change of a service is a call of the proved library; such a call never waits.
+ *
+ * No wake-up is lost. Who finds that it has to wait takes the mutex, counts itself among the sleepers, and then looks again; only if
+ * it still has to wait does it sleep, and waiting lets the mutex go. Who made an entry that can let others go on, as the proved
+ * part says of each entry, looks afterwards whether there are sleepers, and if so takes the mutex and wakes all. The count and the
+ * word by which the proved part takes its book are sequentially consistent. So either the entry came before the sleeper's second
+ * look, which then saw it, or the count came before the entry, and whoever made it sees a sleeper. It gets the mutex only once that
+ * one sleeps. A stop is made in the same way, and wakes always. That other entries let nobody go on is proved (`waits_for_news`). */
+#define _GNU_SOURCE
+#include "wakhurmi.h"
+#include <pthread.h>
+#include <sched.h>
+#include <stdatomic.h>
+#include <stdbool.h>
+#include <stdlib.h>
+#include <string.h>
+
+/* What the proved library exports. A handle is emptied and filled by its calls alone. An empty one is all zeros. */
+typedef struct {
+    void *at;
+    bool full;
+} handle;
+
+typedef struct {
+    uint32_t answer;
+    bool wakes;
+} told;
+
+/* Answers of the proved library that no caller of this one sees. */
+enum { REFUSED = 2, AGAIN = 4 };
+
+uint32_t wakhurmi_c_open(uint32_t max_leases, uint32_t locks, handle *workers, size_t count);
+told wakhurmi_c_take(handle *worker, const uint32_t *locks, size_t count);
+told wakhurmi_c_try_take(handle *worker, const uint32_t *locks, size_t count);
+told wakhurmi_c_hand_back(handle *worker);
+told wakhurmi_c_enter(handle *worker);
+told wakhurmi_c_leave(handle *worker);
+uint32_t wakhurmi_c_stop(handle *worker);
+uint32_t wakhurmi_c_leases_out(handle *worker, uint32_t *leases);
+uint32_t wakhurmi_c_close(handle *worker);
+uint32_t wakhurmi_c_finish(handle *workers, size_t count, handle *book);
+uint32_t wakhurmi_c_history(handle *book, uint64_t part, uint8_t *buffer, size_t size, size_t *written);
+uint32_t wakhurmi_c_close_book(handle *book);
+
+#define MAX_WORKERS 32
+/* How often a call looks again at once where another worker is inside, before it lets other threads run. */
+#define SPINS 100
+#define SHORT_LINE 1024
+
+struct wakhurmi_service {
+    pthread_mutex_t mutex;
+    pthread_cond_t freed;
+    atomic_uint sleepers;
+    uint32_t count;
+    handle book;
+    /* Each in a cache line of its own, since each call writes its worker's. */
+    struct {
+        _Alignas(64) handle own;
+    } workers[MAX_WORKERS];
+};
+
+/* With WAKHURMI_ONE_AT_A_TIME each call of the proved library is made under a mutex, so that tools that know mutexes alone can follow. */
+#ifdef WAKHURMI_ONE_AT_A_TIME
+static pthread_mutex_t inside = PTHREAD_MUTEX_INITIALIZER;
+static void go_in(void) { pthread_mutex_lock(&inside); }
+static void go_out(void) { pthread_mutex_unlock(&inside); }
+#else
+static inline void go_in(void) {}
+static inline void go_out(void) {}
+#endif
+
+typedef enum { TAKE, TRY_TAKE, HAND_BACK, ENTER, LEAVE } deed;
+
+typedef struct {
+    deed what;
+    const uint32_t *locks;
+    size_t count;
+} request;
+
+static inline told call_once(handle *worker, const request *asked) {
+    switch (asked->what) {
+    case TAKE: return wakhurmi_c_take(worker, asked->locks, asked->count);
+    case TRY_TAKE: return wakhurmi_c_try_take(worker, asked->locks, asked->count);
+    case HAND_BACK: return wakhurmi_c_hand_back(worker);
+    case ENTER: return wakhurmi_c_enter(worker);
+    default: return wakhurmi_c_leave(worker);
+    }
+}
+
+static inline void wait_a_moment(unsigned *looks) {
+    if (++*looks % SPINS == 0) sched_yield();
+#if defined(__x86_64__)
+    else __builtin_ia32_pause();
+#endif
+}
+
+/* One look, repeated while another worker is inside. */
+static told look(handle *worker, const request *asked) {
+    unsigned looks = 0;
+    for (;;) {
+        go_in();
+        told said = call_once(worker, asked);
+        go_out();
+        if (said.answer != AGAIN) return said;
+        wait_a_moment(&looks);
+    }
+}
+
+static void wake(wakhurmi_service *service) {
+    pthread_mutex_lock(&service->mutex);
+    pthread_cond_broadcast(&service->freed);
+    pthread_mutex_unlock(&service->mutex);
+}
+
+/* Sleeps until the deed can be done, or can't for another reason than that others have what it takes. */
+static told sleep_until_done(wakhurmi_service *service, handle *worker, const request *asked) {
+    pthread_mutex_lock(&service->mutex);
+    atomic_fetch_add(&service->sleepers, 1);
+    told said = look(worker, asked);
+    while (said.answer == WAKHURMI_BUSY) {
+        pthread_cond_wait(&service->freed, &service->mutex);
+        said = look(worker, asked);
+    }
+    atomic_fetch_sub(&service->sleepers, 1);
+    pthread_mutex_unlock(&service->mutex);
+    return said;
+}
+
+static wakhurmi_answer perform(wakhurmi_service *service, uint32_t worker, request asked) {
+    if (worker >= service->count) return WAKHURMI_BAD_NUMBER;
+    handle *own = &service->workers[worker].own;
+    if (!own->full) return WAKHURMI_MISUSED;
+    told said = look(own, &asked);
+    if (said.answer == WAKHURMI_BUSY) said = sleep_until_done(service, own, &asked);
+    if (said.wakes && atomic_load(&service->sleepers) > 0) wake(service);
+    return said.answer == REFUSED ? WAKHURMI_BUSY : (wakhurmi_answer)said.answer;
+}
+
+/* The proved library takes no null pointer, not even for no locks and no room. */
+static const uint32_t no_locks[1];
+static char no_room[1];
+
+wakhurmi_answer wakhurmi_take(wakhurmi_service *service, uint32_t worker, const uint32_t *locks, size_t count) {
+    return perform(service, worker, (request){TAKE, count == 0 ? no_locks : locks, count});
+}
+
+wakhurmi_answer wakhurmi_try_take(wakhurmi_service *service, uint32_t worker, const uint32_t *locks, size_t count) {
+    return perform(service, worker, (request){TRY_TAKE, count == 0 ? no_locks : locks, count});
+}
+
+wakhurmi_answer wakhurmi_hand_back(wakhurmi_service *service, uint32_t worker) {
+    return perform(service, worker, (request){HAND_BACK, NULL, 0});
+}
+
+wakhurmi_answer wakhurmi_enter(wakhurmi_service *service, uint32_t worker) {
+    return perform(service, worker, (request){ENTER, NULL, 0});
+}
+
+wakhurmi_answer wakhurmi_leave(wakhurmi_service *service, uint32_t worker) {
+    return perform(service, worker, (request){LEAVE, NULL, 0});
+}
+
+wakhurmi_answer wakhurmi_stop(wakhurmi_service *service, uint32_t worker) {
+    if (worker >= service->count) return WAKHURMI_BAD_NUMBER;
+    handle *own = &service->workers[worker].own;
+    if (!own->full) return WAKHURMI_MISUSED;
+    go_in();
+    uint32_t answer = wakhurmi_c_stop(own);
+    go_out();
+    wake(service);
+    return (wakhurmi_answer)answer;
+}
+
+wakhurmi_answer wakhurmi_leases_out(wakhurmi_service *service, uint32_t worker, uint32_t *leases) {
+    if (worker >= service->count) return WAKHURMI_BAD_NUMBER;
+    handle *own = &service->workers[worker].own;
+    if (!own->full) return WAKHURMI_MISUSED;
+    unsigned looks = 0;
+    for (;;) {
+        go_in();
+        uint32_t answer = wakhurmi_c_leases_out(own, leases);
+        go_out();
+        if (answer != AGAIN) return (wakhurmi_answer)answer;
+        wait_a_moment(&looks);
+    }
+}
+
+/* The value of a handle, which is empty afterwards. */
+static handle moved(handle *from) {
+    handle value = *from;
+    memset(from, 0, sizeof *from);
+    return value;
+}
+
+static bool has_waiting_tools(wakhurmi_service *service) {
+    if (pthread_mutex_init(&service->mutex, NULL) != 0) return false;
+    if (pthread_cond_init(&service->freed, NULL) == 0) return true;
+    pthread_mutex_destroy(&service->mutex);
+    return false;
+}
+
+wakhurmi_answer wakhurmi_open(uint32_t workers, uint32_t max_leases, uint32_t locks, wakhurmi_service **opened) {
+    if (workers < 1 || workers > MAX_WORKERS) return WAKHURMI_BAD_NUMBER;
+    wakhurmi_service *service = aligned_alloc(_Alignof(wakhurmi_service), sizeof *service);
+    if (service == NULL) return WAKHURMI_NO_MEMORY;
+    memset(service, 0, sizeof *service);
+    handle handles[MAX_WORKERS] = {{0}};
+    uint32_t answer = wakhurmi_c_open(max_leases, locks, handles, workers);
+    if (answer == WAKHURMI_OK && !has_waiting_tools(service)) {
+        for (uint32_t worker = 0; worker < workers; worker++) wakhurmi_c_close(&handles[worker]);
+        answer = WAKHURMI_NO_MEMORY;
+    }
+    if (answer != WAKHURMI_OK) {
+        free(service);
+        return (wakhurmi_answer)answer;
+    }
+    service->count = workers;
+    for (uint32_t worker = 0; worker < workers; worker++) service->workers[worker].own = moved(&handles[worker]);
+    *opened = service;
+    return WAKHURMI_OK;
+}
+
+wakhurmi_answer wakhurmi_finish(wakhurmi_service *service) {
+    if (service->book.full) return WAKHURMI_MISUSED;
+    handle handles[MAX_WORKERS] = {{0}};
+    for (uint32_t worker = 0; worker < service->count; worker++) handles[worker] = moved(&service->workers[worker].own);
+    uint32_t answer = wakhurmi_c_finish(handles, service->count, &service->book);
+    for (uint32_t worker = 0; worker < service->count; worker++) service->workers[worker].own = moved(&handles[worker]);
+    return (wakhurmi_answer)answer;
+}
+
+/* A line of the history, where it fits. The proved library takes as much memory for a moment as the buffer has, so most lines are tried
+ * in a small one. */
+static uint32_t write_line(handle *book, uint64_t place, char *buffer, size_t size, size_t *line) {
+    size_t small = size < SHORT_LINE ? size : SHORT_LINE;
+    uint32_t answer = wakhurmi_c_history(book, place, (uint8_t *)buffer, small, line);
+    if (answer != WAKHURMI_BAD_NUMBER || small == size) return answer;
+    return wakhurmi_c_history(book, place, (uint8_t *)buffer, size, line);
+}
+
+wakhurmi_answer wakhurmi_history(wakhurmi_service *service, uint64_t *place, char *buffer, size_t size, size_t *written) {
+    if (!service->book.full) return WAKHURMI_MISUSED;
+    if (size == 0) buffer = no_room;
+    size_t filled = 0, line = 0;
+    uint32_t answer;
+    while ((answer = write_line(&service->book, *place, buffer + filled, size - filled, &line)) == WAKHURMI_OK && line > 0) {
+        filled += line;
+        ++*place;
+    }
+    if (answer != WAKHURMI_OK && filled == 0) return (wakhurmi_answer)answer;
+    *written = filled;
+    return WAKHURMI_OK;
+}
+
+void wakhurmi_close(wakhurmi_service *service) {
+    if (service == NULL) return;
+    if (service->book.full) wakhurmi_c_close_book(&service->book);
+    for (uint32_t worker = 0; worker < service->count; worker++) {
+        if (service->workers[worker].own.full) wakhurmi_c_close(&service->workers[worker].own);
+    }
+    pthread_cond_destroy(&service->freed);
+    pthread_mutex_destroy(&service->mutex);
+    free(service);
+}

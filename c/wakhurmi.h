@@ -1,0 +1,134 @@
+/* Worker leases and project locks for the threads of a build tool.
+ *
+ * A service has so many workers, numbered from 0. Each is used by one thread at a time; which thread, and whether it is always the
+ * same, is the caller's affair. At most so many workers have a lease at once, and a project lock has one owner at most. Every call
+ * that changes something makes one entry of a history: it happens whole or not at all.
+ *
+ * What is proved: all that a call does to the service, in the library that this one calls (crates/wakhurmi_c). By its contracts no
+ * more leases are out than may be, no lock has two owners, an answer is the one that the state gives, and the history is lawful,
+ * whatever the other threads do. What is not proved: the file wakhurmi.c, which waits and wakes; that handing back and entering a
+ * section never have to wait, and from what place of its worker a call answers MISUSED; and the caller's part below. Each comment here
+ * says in words what the contract of the proved call says, and what wakhurmi.c adds: that it waits, that it tests a worker's number, and
+ * that it answers MISUSED after wakhurmi_finish.
+ *
+ * The caller's part. A service is one that wakhurmi_open gave and wakhurmi_close hasn't taken. No two threads are in calls with the
+ * same worker at once. During wakhurmi_finish, wakhurmi_history and wakhurmi_close no other call of the service runs. Pointers are
+ * valid for what is read or written there; `locks` may be null where `count` is 0. No call is made from a signal handler, or in the
+ * child of a fork without an exec. Numbers may be any: each is tested.
+ *
+ * A worker's place. It has nothing, or a lease with or without locks, or it is in a blocking section. A call that doesn't fit its
+ * worker's place answers WAKHURMI_MISUSED. */
+#ifndef WAKHURMI_H
+#define WAKHURMI_H
+#include <stddef.h>
+#include <stdint.h>
+#ifdef __cplusplus
+extern "C" {
+#endif
+
+typedef struct wakhurmi_service wakhurmi_service;
+
+/* After every answer but WAKHURMI_OK the worker has what it had, and what is written by a pointer is as it was. The history is longer
+ * by a failed entry where wakhurmi_try_take answers WAKHURMI_BUSY, and else as the other workers leave it. */
+typedef enum {
+    WAKHURMI_OK = 0,         /* The call did what it says. */
+    WAKHURMI_BUSY = 1,       /* Another worker has what the call takes. */
+    WAKHURMI_STOPPED = 3,    /* The same, and the service has been stopped, so the call doesn't wait. */
+    WAKHURMI_NO_MEMORY = 5,  /* There wasn't enough memory. */
+    WAKHURMI_BAD_NUMBER = 6, /* A number isn't in range, or locks don't strictly rise. */
+    WAKHURMI_MISUSED = 7     /* The worker, or the service, isn't where this call may be made. */
+} wakhurmi_answer;
+
+/* Opens a service for 1 to 32 workers, of whom 1 to 32 may have a lease at once, with at most 4,096 project locks.
+ *
+ * OK          The service is written to `service`. Nobody has anything, and the history is empty.
+ * BAD_NUMBER  One of the three numbers isn't in its range.
+ * NO_MEMORY */
+wakhurmi_answer wakhurmi_open(uint32_t workers, uint32_t max_leases, uint32_t locks, wakhurmi_service **service);
+
+/* Takes a lease and these locks in one entry: the locks that the worker doesn't own yet, and the lease where it has none. It waits
+ * while another worker owns one of the locks, or the worker has no lease and as many as may be are out. `count` may be 0.
+ *
+ * OK          The worker has a lease, these locks, and all that it had before.
+ * STOPPED     The call would have to wait, and the service has been stopped.
+ * BAD_NUMBER  There is no such worker or no such lock, or the locks don't strictly rise.
+ * MISUSED     The worker is in a blocking section.
+ * NO_MEMORY
+ *
+ * Who takes locks one call after another can wait for one who does so in another order: that is the caller's to avoid. */
+wakhurmi_answer wakhurmi_take(wakhurmi_service *service, uint32_t worker, const uint32_t *locks, size_t count);
+
+/* The same without waiting, also once the service has been stopped.
+ *
+ * OK, BAD_NUMBER, MISUSED, NO_MEMORY   As wakhurmi_take.
+ * BUSY        At the moment of its entry another worker owned one of the locks, or the worker had no lease and as many as may be were
+ *             out. The history shows the failed entry. */
+wakhurmi_answer wakhurmi_try_take(wakhurmi_service *service, uint32_t worker, const uint32_t *locks, size_t count);
+
+/* Hands back the lease and all locks of the worker, in one entry. It never waits, and no other worker keeps it from that.
+ *
+ * OK          The worker has nothing.
+ * BAD_NUMBER  There is no such worker.
+ * MISUSED     The worker has nothing, or is in a blocking section.
+ * NO_MEMORY */
+wakhurmi_answer wakhurmi_hand_back(wakhurmi_service *service, uint32_t worker);
+
+/* Enters a blocking section, for the time in which the worker waits for something else: hands back the lease and all locks in one
+ * entry, and notes the locks. It never waits, and no other worker keeps it from that.
+ *
+ * OK          The worker has nothing, and is in a section.
+ * BAD_NUMBER  There is no such worker.
+ * MISUSED     The worker has no lease, or is in a blocking section.
+ * NO_MEMORY */
+wakhurmi_answer wakhurmi_enter(wakhurmi_service *service, uint32_t worker);
+
+/* Leaves the blocking section: takes a lease and all locks that the worker had when it entered, in one entry. It waits while another
+ * worker owns one of them, or as many leases as may be are out.
+ *
+ * OK          The worker is in no section, and has a lease and those locks.
+ * STOPPED     The call would have to wait, and the service has been stopped. The worker is in its section yet.
+ * BAD_NUMBER  There is no such worker.
+ * MISUSED     The worker is in no blocking section.
+ * NO_MEMORY   The worker is in its section yet. */
+wakhurmi_answer wakhurmi_leave(wakhurmi_service *service, uint32_t worker);
+
+/* Stops the service: a wakhurmi_take or wakhurmi_leave that waits, or would have to wait from now on, answers STOPPED. Work that is
+ * under way goes on, and all calls that needn't wait do what they did.
+ *
+ * OK          The service is stopped, by this worker or by one that was earlier.
+ * BAD_NUMBER  There is no such worker.
+ * MISUSED     The service has been ended. */
+wakhurmi_answer wakhurmi_stop(wakhurmi_service *service, uint32_t worker);
+
+/* Tells how many leases are out. `worker` is who asks.
+ *
+ * OK          So many leases were out at a moment during the call. The number is written to `leases`.
+ * BAD_NUMBER  There is no such worker.
+ * MISUSED     The service has been ended. */
+wakhurmi_answer wakhurmi_leases_out(wakhurmi_service *service, uint32_t worker, uint32_t *leases);
+
+/* Ends the service. What workers still have stays theirs in the history.
+ *
+ * OK          The history can be read from now on, and no worker can do anything.
+ * MISUSED     It was ended before.
+ * NO_MEMORY   It isn't ended. */
+wakhurmi_answer wakhurmi_finish(wakhurmi_service *service);
+
+/* Writes the next whole lines of the history's text that fit into the buffer, and how many bytes they have. `place` is 0 at first,
+ * and each call moves it on. The text is what `leases run --history` prints: a head of two lines, which are written together, a line
+ * for each entry, and a last one.
+ *
+ * OK          So many bytes are written to `written`, 0 behind the last line.
+ * BAD_NUMBER  The buffer is too small for the next line. A line has less than 100,000 bytes, and that of an entry that takes or gives
+ *             back K locks less than 100 + 24 K.
+ * MISUSED     The service hasn't been ended.
+ * NO_MEMORY */
+wakhurmi_answer wakhurmi_history(wakhurmi_service *service, uint64_t *place, char *buffer, size_t size, size_t *written);
+
+/* Closes the service, ended or not, and gives all its memory back. It takes a null pointer too. */
+void wakhurmi_close(wakhurmi_service *service);
+
+#ifdef __cplusplus
+}
+#endif
+#endif

@@ -1,0 +1,4 @@
+pub mod Adding
+pub mod Chains
+pub mod Running
+pub mod Showing

@@ -1,0 +1,4 @@
+pub mod Found
+pub mod Taking
+pub mod Ends
+pub mod Pictured

@@ -1,0 +1,61 @@
+//! The history that stands in a text.
+ghost use Rattle.std.specs.Prelude.{◌++◌, IfSome, IfNone};
+ghost use Rattle.history_check.specs.Naming.{Breaks};
+ghost use Rattle.history_reader.specs.HistoryView.{history_view};
+ghost use Rattle.history_reader.specs.Grammar.{HistoryFits, lines_of};
+ghost use Rattle.leases_picture.specs.Found.{IsBehindHead, EndsIn, IsFoundIn};
+
+use history_reader::{History, HistoryLine, TextFail, is_first_line, next_line};
+use std::alloc::Global;
+
+// The text behind the first line that is the first of a history.
+fn behind_head(text: &[u8]) -> Option<&[u8]>
+    ensures some { IfSome result (λ rest. IsBehindHead text.now rest.now) }
+    ensures none { IfNone result (Breaks text.now 0) }
+{
+    let mut rest = text;
+    loop {
+        let (line, more) = next_line(rest);
+        if is_first_line(line) {
+            return Some(more);
+        }
+        if more.is_empty() {
+            return None;
+        }
+        rest = more;
+    }
+}
+
+// Takes the lines of a history up to its end. What stands behind it is left alone.
+fn take_lines(alloc: Global, history: &mut History, lines: &[u8]) -> Result<(), TextFail>
+    requires { HistoryFits (history_view history.old) }
+    ensures { EndsIn (lines_of (history_view history.old) ++ lines.now) (history_view history.new) result }
+{
+    let mut rest = lines;
+    loop {
+        let (line, more) = next_line(rest);
+        match history.take_line(alloc, line)? {
+            HistoryLine::Entry => rest = more,
+            HistoryLine::End => return Ok(()),
+        }
+    }
+}
+
+/// The first history of a text. Lines before the first that is `history 1` are passed over, and what stands behind
+/// its `end` line is left alone. Stops comes where the text stops being a history, with the number at which it does,
+/// and NoMemory where there was no memory for the entries.
+pub(crate) fn find_history(alloc: Global, text: &[u8]) -> Result<History, TextFail>
+    ensures { IsFoundIn text.now result }
+{
+    let Some(rest) = behind_head(text) else {
+        return Err(TextFail::Stops(0));
+    };
+    let (second, lines) = next_line(rest);
+    let Some(mut history) = History::opening(alloc, second) else {
+        return Err(TextFail::Stops(0));
+    };
+    match take_lines(alloc, &mut history, lines) {
+        Ok(()) => Ok(history),
+        Err(fail) => Err(fail),
+    }
+}

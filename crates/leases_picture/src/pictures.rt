@@ -1,0 +1,51 @@
+//! From an input to its picture.
+ghost use Rattle.std.specs.Prelude.{◌≡◌};
+ghost use Rattle.history_reader.specs.HistoryView.{history_view};
+ghost use Rattle.history_text.specs.Fitting.{HeadFits};
+ghost use Rattle.leases_picture.specs.Pictured.{IsDrawnAs, IsAnswered, HasPictured};
+
+use crate::inputs::find_history;
+use crate::reading::{ReadFail, read_all};
+use crate::status::{Status, told};
+use file_access::{Sink, Source};
+use history_reader::{History, TextFail};
+use run_picture::{DrawFail, draw};
+use std::alloc::Global;
+
+fn draw_history<K: Sink>(alloc: Global, history: &History, sink: &mut K) -> Status
+    requires { HeadFits history.now.workers history.now.max }
+    ensures { IsDrawnAs (history_view history.now) (K.seen sink.old) (K.seen sink.new) result }
+{
+    match draw(alloc, history, sink) {
+        Ok(()) => Status::Drawn,
+        Err(DrawFail::SinkFault) => Status::SinkFault,
+        Err(DrawFail::TooLarge) => told(Status::TooLarge, sink),
+        Err(DrawFail::NoMemory) => Status::NoMemory,
+    }
+}
+
+fn draw_text<K: Sink>(alloc: Global, text: &[u8], sink: &mut K) -> Status
+    ensures { IsAnswered text.now (K.seen sink.old) (K.seen sink.new) result }
+{
+    match find_history(alloc, text) {
+        Ok(history) => draw_history(alloc, &history, sink),
+        Err(TextFail::Stops(number)) => told(Status::NoHistory(number), sink),
+        Err(TextFail::NoMemory) => Status::NoMemory,
+    }
+}
+
+/// Draws the history that an input gives. Lines before the first that is `history 1` are passed over, and what stands
+/// behind its `end` line is left alone.
+///
+/// Drawn comes where the picture was written, NoHistory where the text stops being a history, TooLarge where the
+/// history can't be drawn, SourceFault where the input failed. The last three have a line. At SinkFault the beginning
+/// of the picture or of the line was written, and at NoMemory nothing.
+pub(crate) fn picture<I: Source, K: Sink>(alloc: Global, input: &mut I, sink: &mut K) -> Status
+    ensures { HasPictured (I.seen input.old) (I.seen input.new) (K.seen sink.old) (K.seen sink.new) result }
+{
+    match read_all(alloc, input) {
+        Ok(text) => draw_text(alloc, &text, sink),
+        Err(ReadFail::SourceFault) => told(Status::SourceFault, sink),
+        Err(ReadFail::NoMemory) => Status::NoMemory,
+    }
+}

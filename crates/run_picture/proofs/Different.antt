@@ -1,0 +1,125 @@
+-- Two histories never give one picture.
+use Rattle.std.proofs.Common.{◌≡◌, ◌≤◌, ◌<◌, ℕ, ◌+◌, ◌^◌, List, [], ◌∷◌, ◌++◌, Bool, true, false, refl, sym, ap, ap₂, subst, ◌∙◌, append_assoc, arith, decimal, codes, length, get_or}
+use Rattle.std.specs.List.{flat_map}
+use Rattle.std.proofs.lemmas.Fmt.{decimal_injective}
+use Rattle.std.proofs.lemmas.List.{append_cancel_left}
+use Rattle.lock_transforms.specs.Entry.{Entry}
+use Rattle.history_text.specs.Text.{parallel_text}
+use Rattle.history_text.specs.Fitting.{HeadFits}
+use Rattle.history_reader.specs.HistoryView.{HistoryView}
+use Rattle.history_reader.specs.Grammar.{HistoryFits}
+use Rattle.run_spans.specs.Levels.{levels_of, nothing_out}
+use Rattle.run_spans.specs.Spans.{spans_of}
+use Rattle.run_picture.specs.Heads.{opening_text, desc_text, title_text, second_text}
+use Rattle.run_picture.specs.Laws.{frame_at}
+use Rattle.run_picture.specs.Parts.{PartView, height_of}
+use Rattle.run_picture.specs.Picture.{head_text, style_text, legend_text, parts_text, ticks_of, parts_in, picture_text, totals_of}
+use Rattle.run_picture.specs.declared.frames.Frame.{Frame}
+use Rattle.run_picture.proofs.Marked.{calm, calm_both, calm_ticks, last_mark}
+use Rattle.run_picture.proofs.Telling.{foot, ticks_by, same_number, same_ticks}
+use Rattle.run_picture.proofs.Ticking.{all_ticks}
+
+-- what stands above the ticks
+unfoldable above : HistoryView → List ℕ
+above h = head_text h (height_of (parts_in h)) (totals_of h (levels_of nothing_out h.entries) (spans_of h.entries)) ++ parts_text h (levels_of nothing_out h.entries) (parts_in h)
+
+no_frame : Frame
+no_frame = record { first = 0; behind = 0; per = 0; top = 0; workers = 0; locks = 0 }
+
+abbrev ticks_in : HistoryView → List ℕ
+ticks_in h = ticks_by (λ n. frame_at no_frame (parts_in h) n) 1 h.entries
+
+nested_ticks : (a g t f : List ℕ) → a ++ g ++ t ++ f ≡ a ++ (g ++ (t ++ f))
+nested_ticks a g t f = simp append_assoc
+
+picture_form : (h : HistoryView) → picture_text h ≡ above h ++ (codes "<g>\n" ++ (ticks_in h ++ foot))
+unfolding above
+picture_form h =
+    let ticks : flat_map (ticks_of h) (parts_in h) ≡ ticks_in h = all_ticks h no_frame in
+    nested_ticks (above h) (codes "<g>\n") (flat_map (ticks_of h) (parts_in h)) foot ∙ ap (λ l. above h ++ (codes "<g>\n" ++ (l ++ foot))) ticks
+
+calm_foot : (h : HistoryView) → calm (ticks_in h ++ foot) ≡ true
+calm_foot h = calm_both (ticks_in h) foot (calm_ticks (λ n. frame_at no_frame (parts_in h) n) 1 h.entries) refl
+
+same_entries : (h k : HistoryView) → HistoryFits h → HistoryFits k → picture_text h ≡ picture_text k → h.entries ≡ k.entries
+same_entries h k a b is =
+    same_ticks (λ n. frame_at no_frame (parts_in h) n) (λ n. frame_at no_frame (parts_in k) n) 1 h.entries k.entries a.entries b.entries
+    (last_mark (above h) (above k) (ticks_in h ++ foot) (ticks_in k ++ foot) (calm_foot h) (calm_foot k) (sym (picture_form h) ∙ (is ∙ picture_form k)))
+
+-- the settings stand in front
+nested_opening : (a b c d e h r : List ℕ) → (a ++ h) ++ (b ++ h) ++ c ++ (d ++ h) ++ e ++ r ≡ a ++ (h ++ (b ++ (h ++ (c ++ (d ++ (h ++ (e ++ r)))))))
+nested_opening a b c d e h r = simp append_assoc
+
+opening_form : (height : ℕ) (r : List ℕ) → opening_text height ++ r
+    ≡ codes "<svg xmlns=\"http://www.w3.org/2000/svg\" viewBox=\"0 0 1280 " ++ (decimal height ++ (codes "\" width=\"1280\" height=\"" ++ (decimal height
+    ++ (codes "\" font-family=\"DejaVu Sans, Verdana, Arial, sans-serif\">\n<rect class=\"z\" width=\"1280\" height=\"" ++ (decimal height ++ (codes "\"/>\n" ++ r))))))
+unfolding opening_text
+opening_form height r = nested_opening (codes "<svg xmlns=\"http://www.w3.org/2000/svg\" viewBox=\"0 0 1280 ") (codes "\" width=\"1280\" height=\"")
+    (codes "\" font-family=\"DejaVu Sans, Verdana, Arial, sans-serif\">\n") (codes "<rect class=\"z\" width=\"1280\" height=\"") (codes "\"/>\n") (decimal height) r
+
+same_opening : (m n : ℕ) (r s : List ℕ) → opening_text m ++ r ≡ opening_text n ++ s → r ≡ s
+same_opening m n r s is =
+    let a = same_number m n _ _ refl refl (append_cancel_left (codes "<svg xmlns=\"http://www.w3.org/2000/svg\" viewBox=\"0 0 1280 ") _ _ (sym (opening_form m r) ∙ (is ∙ opening_form n s))) in
+    let b = same_number m n _ _ refl refl (append_cancel_left (codes "\" width=\"1280\" height=\"") _ _ a.rest) in
+    let c = same_number m n _ _ refl refl (append_cancel_left (codes "<rect class=\"z\" width=\"1280\" height=\"") _ _ (append_cancel_left (codes "\" font-family=\"DejaVu Sans, Verdana, Arial, sans-serif\">\n") _ _ b.rest)) in
+    append_cancel_left (codes "\"/>\n") _ _ c.rest
+
+nested_desc : (a w b m c p d r : List ℕ) → (a ++ w) ++ (b ++ m) ++ c ++ p ++ d ++ r ≡ a ++ (w ++ (b ++ (m ++ (c ++ (p ++ (d ++ r))))))
+nested_desc a w b m c p d r = simp append_assoc
+
+desc_form : (w m : ℕ) (p : Bool) (r : List ℕ) → desc_text w m p ++ r
+    ≡ codes "<desc>workers " ++ (decimal w ++ (codes " max " ++ (decimal m ++ (codes " parallel " ++ (parallel_text p ++ (codes "</desc>\n" ++ r))))))
+unfolding desc_text
+desc_form w m p r = nested_desc (codes "<desc>workers ") (decimal w) (codes " max ") (decimal m) (codes " parallel ") (parallel_text p) (codes "</desc>\n") r
+
+same_parallel : (p q : Bool) (r s : List ℕ) → parallel_text p ++ (60 ∷ r) ≡ parallel_text q ++ (60 ∷ s) → p ≡ q
+same_parallel true true r s is = refl
+same_parallel false false r s is = refl
+same_parallel true false r s is = absurd (let first : 121 ≡ 110 = ap (λ (l : List ℕ). get_or l 0 0) is in omega (arith, first))
+same_parallel false true r s is = absurd (let first : 110 ≡ 121 = ap (λ (l : List ℕ). get_or l 0 0) is in omega (arith, first))
+
+record SameSettings (w v m n : ℕ) (p q : Bool) : Type 0 where
+  workers : w ≡ v
+  leases : m ≡ n
+  parallel : p ≡ q
+
+same_desc : (w v m n : ℕ) (p q : Bool) (r s : List ℕ) → HeadFits w m → HeadFits v n → desc_text w m p ++ r ≡ desc_text v n q ++ s → SameSettings w v m n p q
+same_desc w v m n p q r s a b is =
+    let workers = same_number w v _ _ refl refl (append_cancel_left (codes "<desc>workers ") _ _ (sym (desc_form w m p r) ∙ (is ∙ desc_form v n q s))) in
+    let leases = same_number m n _ _ refl refl (append_cancel_left (codes " max ") _ _ workers.rest) in
+    record {
+      workers = decimal_injective w v (omega (arith, a.few_workers)) (omega (arith, b.few_workers)) workers.front;
+      leases = decimal_injective m n (omega (arith, a.few_leases)) (omega (arith, b.few_leases)) leases.front;
+      parallel = same_parallel p q _ _ (append_cancel_left (codes " parallel ") _ _ leases.rest);
+    }
+
+-- what stands behind the settings
+unfoldable behind_of : HistoryView → List ℕ
+behind_of h =
+    style_text ++ (title_text h.workers h.max (length h.entries) ++ (second_text (totals_of h (levels_of nothing_out h.entries) (spans_of h.entries)) ++ (legend_text
+    ++ (parts_text h (levels_of nothing_out h.entries) (parts_in h) ++ (codes "<g>\n" ++ (flat_map (ticks_of h) (parts_in h) ++ foot))))))
+
+nested_front : (a b c d e f g h i j : List ℕ) → (a ++ b ++ c ++ d ++ e ++ f) ++ g ++ h ++ i ++ j ≡ a ++ (b ++ (c ++ (d ++ (e ++ (f ++ (g ++ (h ++ (i ++ j))))))))
+nested_front a b c d e f g h i j = simp append_assoc
+
+front_form : (h : HistoryView) → picture_text h ≡ opening_text (height_of (parts_in h)) ++ (desc_text h.workers h.max h.parallel ++ behind_of h)
+unfolding head_text behind_of
+front_form h =
+    nested_front (opening_text (height_of (parts_in h))) (desc_text h.workers h.max h.parallel) style_text (title_text h.workers h.max (length h.entries))
+    (second_text (totals_of h (levels_of nothing_out h.entries) (spans_of h.entries))) legend_text (parts_text h (levels_of nothing_out h.entries) (parts_in h))
+    (codes "<g>\n") (flat_map (ticks_of h) (parts_in h)) foot
+
+same_settings : (h k : HistoryView) → HistoryFits h → HistoryFits k → picture_text h ≡ picture_text k → SameSettings h.workers k.workers h.max k.max h.parallel k.parallel
+same_settings h k a b is =
+    same_desc h.workers k.workers h.max k.max h.parallel k.parallel (behind_of h) (behind_of k) a.head b.head
+    (same_opening (height_of (parts_in h)) (height_of (parts_in k)) _ _ (sym (front_form h) ∙ (is ∙ front_form k)))
+
+history_is : (h k : HistoryView) → SameSettings h.workers k.workers h.max k.max h.parallel k.parallel → h.entries ≡ k.entries → h ≡ k
+history_is h k same es =
+    ap (λ n. record { workers = n; max = h.max; parallel = h.parallel; entries = h.entries }) same.workers
+    ∙ (ap (λ n. record { workers = k.workers; max = n; parallel = h.parallel; entries = h.entries }) same.leases
+    ∙ (ap (λ p. record { workers = k.workers; max = k.max; parallel = p; entries = h.entries }) same.parallel
+    ∙ ap (λ l. record { workers = k.workers; max = k.max; parallel = k.parallel; entries = l }) es))
+
+pub one_history : (h k : HistoryView) → HistoryFits h → HistoryFits k → picture_text h ≡ picture_text k → h ≡ k
+one_history h k a b is = history_is h k (same_settings h k a b is) (same_entries h k a b is)

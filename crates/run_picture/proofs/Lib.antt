@@ -1,0 +1,14 @@
+pub mod Next
+pub mod Counts
+pub mod Numbers
+pub mod Ranges
+pub mod Below
+pub mod Levels
+pub mod Rising
+pub mod Carrying
+pub mod Plain
+pub mod Ticking
+pub mod Telling
+pub mod Marked
+pub mod Different
+pub mod Drawing

@@ -1,0 +1,15 @@
+pub mod Shapes
+pub mod Frames
+pub mod Titles
+pub mod Bars
+pub mod Items
+pub mod Layers
+pub mod Axis
+pub mod Curve
+pub mod Locks
+pub mod Ticks
+pub mod Parts
+pub mod Totals
+pub mod Heads
+pub mod Picture
+pub mod Laws

@@ -1,0 +1,189 @@
+//! The scale of the entries, and where the rows of a part lie.
+ghost use Rattle.std.specs.Prelude.{◌≡◌, ◌<◌, ◌≤◌, ◌+◌, ◌^◌};
+ghost use Rattle.run_picture.specs.Frames.{scale_of, rows_of, x_of, right_of, base_of, row_y, rows_bottom, locks_y, lock_height, ceil_div};
+
+/// The width of the labels, and of the plot.
+pub(crate) const LEFT: u64 = 76;
+
+pub(crate) const PLOT: u64 = 1190;
+
+/// The height of the curve of leases.
+pub(crate) const CURVE: u64 = 48;
+
+/// Into how many parts the entries are cut, how many entries each has, and how many px an entry is wide.
+#[derive(Clone, Copy)]
+pub(crate) struct Scale {
+    pub(crate) per: u8,
+    pub(crate) size: u32,
+    pub(crate) parts: u32,
+}
+
+/// Where the bars of a worker's row lie in it, in px.
+#[derive(Clone, Copy)]
+pub(crate) struct Rows {
+    pub(crate) height: u8,
+    pub(crate) task_y: u8,
+    pub(crate) task_height: u8,
+    pub(crate) lane_y: u8,
+    pub(crate) lane_height: u8,
+    pub(crate) item_y: u8,
+    pub(crate) item_height: u8,
+    pub(crate) item_foot: u8,
+    pub(crate) tick_y: u8,
+    pub(crate) tick_height: u8,
+    pub(crate) label_y: u8,
+    /// Whether there is room for words of 9 px.
+    pub(crate) large: bool,
+}
+
+/// The rows of up to 12 workers.
+pub(crate) const LARGE: Rows = Rows {
+    height: 36,
+    task_y: 3,
+    task_height: 12,
+    lane_y: 16,
+    lane_height: 15,
+    item_y: 18,
+    item_height: 11,
+    item_foot: 2,
+    tick_y: 32,
+    tick_height: 3,
+    label_y: 22,
+    large: true,
+};
+
+/// The rows of more workers.
+pub(crate) const SMALL: Rows = Rows {
+    height: 20,
+    task_y: 2,
+    task_height: 4,
+    lane_y: 7,
+    lane_height: 9,
+    item_y: 8,
+    item_height: 7,
+    item_foot: 1,
+    tick_y: 17,
+    tick_height: 2,
+    label_y: 14,
+    large: false,
+};
+
+pub(crate) fn rows_of(workers: u32) -> Rows
+    ensures { result ≡ rows_of workers }
+{
+    if workers <= 12 { LARGE } else { SMALL }
+}
+
+/// The scale for so many workers and entries. A run that fits into the plot is one part, with entries as wide as they
+/// can be, and 24 px at most.
+pub(crate) fn scale_of(workers: u32, count: u32) -> Scale
+    requires workers { 1 ≤ workers }
+    requires few { count < 2 ^ 31 }
+    ensures is { result ≡ scale_of workers count }
+    ensures size { result.size ≤ count + 1 }
+{
+    let per = (40 / workers).min(12).max(1);
+    let most = 1190 / per;
+    if count <= most {
+        let size = count.max(1);
+        return Scale {
+            per: (1190 / size).min(24) as u8,
+            size,
+            parts: count.min(1),
+        };
+    }
+    let size = ceil_div(count, ceil_div(count, most));
+    Scale {
+        per: per as u8,
+        size,
+        parts: ceil_div(count, size),
+    }
+}
+
+fn ceil_div(number: u32, by: u32) -> u32
+    requires some { 1 ≤ by }
+    requires number { number < 2 ^ 31 }
+    requires by { by < 2 ^ 31 }
+    ensures is { result ≡ ceil_div number by }
+    ensures some { 1 ≤ number → 1 ≤ result }
+    ensures few { result ≤ number }
+{
+    (number + (by - 1)) / by
+}
+
+/// A part of the picture: its entries, how wide one is, where it begins, and its rows.
+#[derive(Clone, Copy)]
+pub(crate) struct Frame {
+    pub(crate) first: u32,
+    /// The number behind its last entry.
+    pub(crate) behind: u32,
+    pub(crate) per: u8,
+    pub(crate) top: u32,
+    pub(crate) workers: u32,
+    /// How many rows of locks there are.
+    pub(crate) locks: u32,
+}
+
+impl Frame {
+    pub(crate) fn rows(&self) -> Rows
+        ensures { result ≡ rows_of self.now.workers }
+    {
+        rows_of(self.workers)
+    }
+
+    /// Where an entry begins. Those outside of the plot lie at its edges.
+    pub(crate) fn x_of(&self, entry: u64) -> u64
+        ensures at { result ≡ x_of self.now entry }
+        ensures within { result < 2 ^ 19 }
+    {
+        LEFT + entry.saturating_sub(u64::from(self.first)).min(PLOT) * u64::from(self.per)
+    }
+
+    /// Where the part ends.
+    pub(crate) fn right(&self) -> u64
+        ensures at { result ≡ right_of self.now }
+        ensures within { result < 2 ^ 19 }
+    {
+        self.x_of(u64::from(self.behind))
+    }
+
+    /// Where the curve of the leases stands on.
+    pub(crate) fn base(&self) -> u64
+        ensures at { result ≡ base_of self.now }
+        ensures within { result < 2 ^ 33 }
+    {
+        u64::from(self.top) + CURVE
+    }
+
+    /// Where the row of a worker begins.
+    pub(crate) fn row_y(&self, worker: u32) -> u64
+        ensures at { result ≡ row_y self.now worker }
+        ensures within { result < 2 ^ 39 }
+    {
+        u64::from(self.top) + 72 + u64::from(worker) * u64::from(self.rows().height)
+    }
+
+    /// Where the rows of the locks begin.
+    pub(crate) fn locks_y(&self) -> u64
+        ensures at { result ≡ locks_y self.now }
+        ensures within { result < 2 ^ 40 }
+    {
+        self.row_y(self.workers) + 10
+    }
+
+    /// How high the row of a lock is.
+    pub(crate) fn lock_height(&self) -> u64
+        ensures at { result ≡ lock_height self.now }
+        ensures within { result ≤ 14 }
+    {
+        if self.locks <= 20 { 14 } else { 10 }
+    }
+
+    /// Where all rows end.
+    pub(crate) fn bottom(&self) -> u64
+        ensures at { result ≡ rows_bottom self.now }
+        ensures within { result < 2 ^ 41 }
+    {
+        self.locks_y() + u64::from(self.locks) * self.lock_height()
+    }
+}

@@ -1,0 +1,7 @@
+-- The values of handles, and how many there are.
+mod Counting
+mod Gathering
+pub mod HeldBookValues
+pub mod HeldValues
+mod Numbered
+pub mod Values

@@ -1,0 +1,7 @@
+-- the locks so far
+use Rattle.std.proofs.Common.{◌≡◌, take}
+use Rattle.wakhurmi_c.specs.Locks.{locks_of}
+use Rattle.wakhurmi_c.proofs.asking.ask_for.Given as goal
+
+abbrev pub invariant-loop-lock : goal.invariant-loop-lock
+invariant-loop-lock l = l.asked.items ≡ locks_of (take l.lock-index l.locks)

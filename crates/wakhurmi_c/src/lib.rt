@@ -1,0 +1,26 @@
+//! The lease service for programs in C and for all that call C. Each worker has a handle of its own. No call waits, and calls
+//! with several handles may run at once.
+#![tactic(auto)]
+
+mod acting;
+mod answers;
+mod asking;
+mod book_handles;
+mod calls;
+mod closing;
+mod handles;
+mod held;
+mod held_books;
+mod loose;
+mod opening;
+mod questions;
+mod texts;
+mod tries;
+mod workers;
+
+pub use answers::{Answer, Told};
+pub use book_handles::BookHandle;
+pub use handles::Handle;
+pub use held::{Held, Opaque};
+pub use held_books::HeldBook;
+pub use workers::Worker;

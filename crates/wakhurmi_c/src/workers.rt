@@ -1,0 +1,26 @@
+ghost use Rattle.std.specs.Prelude.{◌≡◌};
+ghost use Rattle.std.specs.Arc.{arc_value};
+
+use coordination::{Pass, Sleepers, Slot};
+use resource_lock::LockId;
+use std::alloc::Global;
+use std::sync::Arc;
+
+/// A worker of a service: the service, which all its workers share, and its pass.
+#[derive(Drop)]
+pub struct Worker {
+    /// The service.
+    pub service: Arc<Slot, Global>,
+    /// The pass.
+    pub pass: Pass,
+    /// How many workers the service has.
+    pub workers: u32,
+    /// How many project locks it has.
+    pub locks: u32,
+    // The locks that a call asks for. It is kept, so that most calls take no memory for them.
+    pub(crate) asked: Vec<LockId>,
+    // Who sleeps is known to C alone. So each entry is asked whether it would wake a transform that sleeps.
+    pub(crate) sleepers: Sleepers,
+    ghost own: { pass.service ≡ (arc_value service).table.shared.table_id },
+    ghost workers_are: { workers ≡ (arc_value service).table.shared.key.book.value.graph.workers },
+}
