@@ -19,17 +19,7 @@ import tempfile
 
 import measure
 
-BELOW = [
-    "item_actions",
-    "resource_lock",
-    "task_ranks",
-    "ready_work",
-    "lock_transforms",
-    "lock_journal",
-    "history_laws",
-    "worker_choices",
-    "coordination",
-]
+BELOW = measure.with_those_below("coordination")
 PROGRAM = "coordination_rounds"
 # As many rounds as a thread of the program makes in a run.
 ROUNDS = 400_000

@@ -42,6 +42,24 @@ def leases_program() -> str:
     return str(program)
 
 
+def with_those_below(crate: str) -> list[str]:
+    """A crate of this repository behind those that it stands on, as crates.txt has them."""
+    used = {}
+    for line in (TOP / "crates.txt").read_text().splitlines():
+        name, _, libraries = line.partition(":")
+        used[name.split(" ")[0]] = libraries.split()
+    found = []
+
+    def add(name: str) -> None:
+        if name in used and name not in found:
+            for library in used[name]:
+                add(library)
+            found.append(name)
+
+    add(crate)
+    return found
+
+
 class Workshop:
     """A repository in a folder of its own: copies of some crates with their lines in crates.txt, and programs over them."""
 

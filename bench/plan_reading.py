@@ -31,7 +31,7 @@ CHAIN = 100_000
 TOO_MANY = "TooMany(Tasks, Place { part: Plan, number: 0 })\n"
 
 # The crates that the program stands on.
-BELOW = ["item_actions", "resource_lock", "task_ranks", "file_access", "daemon_requirements", "plan_table", "plan_reader"]
+BELOW = [*measure.with_those_below("plan_reader"), "file_access"]
 
 
 def task_name(task: int) -> str:

@@ -20,21 +20,7 @@ import tempfile
 
 import measure
 
-BELOW = [
-    "item_actions",
-    "file_access",
-    "resource_lock",
-    "task_ranks",
-    "ready_work",
-    "lock_transforms",
-    "lock_journal",
-    "history_laws",
-    "worker_choices",
-    "coordination",
-    "lease_service",
-    "shared_services",
-    "service_jobs",
-]
+BELOW = measure.with_those_below("service_jobs")
 PROGRAM = "job_rounds"
 JOBS = 2000
 # How many runs the program makes in a call, and how often it is called.

@@ -19,7 +19,7 @@ import tempfile
 
 import measure
 
-BELOW = ["item_actions", "task_ranks", "resource_lock", "ready_work", "lock_transforms", "lock_journal", "task_ordering"]
+BELOW = measure.with_those_below("task_ordering")
 PROGRAM = "order_probe"
 
 TASKS = 2048

@@ -20,15 +20,7 @@ import tempfile
 
 import measure
 
-BELOW = [
-    "item_actions",
-    "resource_lock",
-    "task_ranks",
-    "ready_work",
-    "lock_transforms",
-    "lock_journal",
-    "history_views",
-]
+BELOW = measure.with_those_below("history_views")
 PROGRAM = "view_rounds"
 ENTRIES = 200_000
 LOOKS = 1_000_000
