@@ -110,6 +110,43 @@ def drive_random_plans(program: str, folder: pathlib.Path, plans: int) -> None:
     print(f"  each gave the same, and {differ} of them another entry with another file")
 
 
+PROJECTS = {"core": [], "util": ["core"], "api": ["util"], "web": ["api"], "cli": ["api"], "docs": []}
+
+
+def task(name: str, project: str, after: list[str], items: list[str]) -> str:
+    """A task of one action, with items after their keys."""
+    head = f'[[task]]\nname = "{name}"\nproject = "{project}"\nafter = {after}\n\n[[task.action]]\n'
+    return head.replace("'", '"') + "".join(f"\n[[task.action.item]]\n{item}" for item in items) + "\n"
+
+
+def six_projects(folder: pathlib.Path) -> str:
+    """A plan of 14 tasks and 60 units, 10 of them in processes, and its files."""
+    process = 'isolation = "process"\n'
+    compiles, tests = "", ""
+    for project, needs in PROJECTS.items():
+        (folder / "src" / project).mkdir(parents=True)
+        for k in range(6):
+            (folder / "src" / project / f"{k}.txt").write_text("alpha beta\n" * (k + 1))
+        lines = [f'do = "lines"\nfile = "src/{project}/{k}.txt"\n' for k in range(6)]
+        words = [f'do = "words"\nfile = "src/{project}/{k}.txt"\n' + process * (k == 0) for k in range(3)]
+        compiles += task(f"{project}:compile", project, [f"{need}:compile" for need in needs], lines)
+        tests += task(f"{project}:test", project, [f"{project}:compile"], words)
+    sizes = [f'do = "bytes"\nfile = "src/core/{k}.txt"\n' + process for k in range(4)]
+    counts = [f'do = "count"\nneedle = "alpha"\nfile = "src/core/{k}.txt"\n' for k in (4, 5)]
+    last = task("dist", "core", [f"{project}:test" for project in PROJECTS], sizes) + task("report", "docs", ["dist"], counts)
+    return "".join(f'[[project]]\nname = "{project}"\n\n' for project in PROJECTS) + compiles + tests + last
+
+
+def drive_six_projects(program: str, folder: pathlib.Path) -> None:
+    """Runs the plan on eight threads, and drives the run again."""
+    (folder / "plan.toml").write_text(six_projects(folder))
+    _, printed = threads.run(program, folder, "--history", "--threads", "8", "--max-workers", "4", "--parallel")
+    entries = printed.decode().splitlines()[-1].removeprefix("end ")
+    if again(program, folder, printed) != f"same {entries}\n" or b"total: 319\n" not in printed:
+        sys.exit(f"the plan of six projects doesn't give the same:\n{printed.decode()}")
+    print(f"six projects: the same {entries} entries")
+
+
 def measure_cost(program: str, folder: pathlib.Path) -> None:
     """The instructions of `again` beside those of `check` and of the run, on a plan of 2,048 items."""
     runs.make_folder(folder, 2048)
@@ -130,6 +167,7 @@ def main() -> None:
         for number, file in enumerate(threads.FILES[:3]):
             (folder / file).write_bytes(b"a line of words\n" * (number * number * 3 + 1))
         drive_random_plans(program, folder, plans)
+        drive_six_projects(program, folder)
         measure.skip_without("valgrind")
     with tempfile.TemporaryDirectory() as name:
         measure_cost(program, pathlib.Path(name))

@@ -77,10 +77,13 @@ typedef struct {
     size_t count;
 } request;
 
-static inline told call_once(handle *worker, const request *asked) {
-    switch (asked->what) {
-    case TAKE: return wakhurmi_c_take(worker, asked->locks, asked->count);
-    case TRY_TAKE: return wakhurmi_c_try_take(worker, asked->locks, asked->count);
+/* What each call is made of. In each of them the deed is known, so no call chooses among them while it runs. */
+#define IN_EACH_CALL static inline __attribute__((always_inline))
+
+IN_EACH_CALL told call_once(handle *worker, request asked) {
+    switch (asked.what) {
+    case TAKE: return wakhurmi_c_take(worker, asked.locks, asked.count);
+    case TRY_TAKE: return wakhurmi_c_try_take(worker, asked.locks, asked.count);
     case HAND_BACK: return wakhurmi_c_hand_back(worker);
     case ENTER: return wakhurmi_c_enter(worker);
     default: return wakhurmi_c_leave(worker);
@@ -95,7 +98,7 @@ static inline void wait_a_moment(unsigned *looks) {
 }
 
 /* One look, repeated while another worker is inside. */
-static told look(handle *worker, const request *asked) {
+IN_EACH_CALL told look(handle *worker, request asked) {
     unsigned looks = 0;
     for (;;) {
         go_in();
@@ -106,14 +109,14 @@ static told look(handle *worker, const request *asked) {
     }
 }
 
-static void wake(wakhurmi_service *service) {
+static __attribute__((noinline)) void wake(wakhurmi_service *service) {
     pthread_mutex_lock(&service->mutex);
     pthread_cond_broadcast(&service->freed);
     pthread_mutex_unlock(&service->mutex);
 }
 
 /* Sleeps until the deed can be done, or can't for another reason than that others have what it takes. */
-static told sleep_until_done(wakhurmi_service *service, handle *worker, const request *asked) {
+static __attribute__((noinline, cold)) told sleep_until_done(wakhurmi_service *service, handle *worker, request asked) {
     pthread_mutex_lock(&service->mutex);
     atomic_fetch_add(&service->sleepers, 1);
     told said = look(worker, asked);
@@ -126,12 +129,12 @@ static told sleep_until_done(wakhurmi_service *service, handle *worker, const re
     return said;
 }
 
-static wakhurmi_answer perform(wakhurmi_service *service, uint32_t worker, request asked) {
+IN_EACH_CALL wakhurmi_answer perform(wakhurmi_service *service, uint32_t worker, request asked) {
     if (worker >= service->count) return WAKHURMI_BAD_NUMBER;
     handle *own = &service->workers[worker].own;
     if (!own->full) return WAKHURMI_MISUSED;
-    told said = look(own, &asked);
-    if (said.answer == WAKHURMI_BUSY) said = sleep_until_done(service, own, &asked);
+    told said = look(own, asked);
+    if (said.answer == WAKHURMI_BUSY) said = sleep_until_done(service, own, asked);
     if (said.wakes && atomic_load(&service->sleepers) > 0) wake(service);
     return said.answer == REFUSED ? WAKHURMI_BUSY : (wakhurmi_answer)said.answer;
 }

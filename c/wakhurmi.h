@@ -6,10 +6,9 @@
  *
  * What is proved: all that a call does to the service, in the library that this one calls (crates/wakhurmi_c). By its contracts no
  * more leases are out than may be, no lock has two owners, an answer is the one that the state gives, and the history is lawful,
- * whatever the other threads do. What is not proved: the file wakhurmi.c, which waits and wakes; that handing back and entering a
- * section never have to wait, and from what place of its worker a call answers MISUSED; and the caller's part below. Each comment here
- * says in words what the contract of the proved call says, and what wakhurmi.c adds: that it waits, that it tests a worker's number, and
- * that it answers MISUSED after wakhurmi_finish.
+ * whatever the other threads do. What is not proved: the file wakhurmi.c, which waits and wakes, and the caller's part below. Each
+ * comment here says in words what the contract of the proved call says, and what wakhurmi.c adds: that it waits, that it tests a
+ * worker's number, and that it answers MISUSED after wakhurmi_finish.
  *
  * The caller's part. A service is one that wakhurmi_open gave and wakhurmi_close hasn't taken. No two threads are in calls with the
  * same worker at once. During wakhurmi_finish, wakhurmi_history and wakhurmi_close no other call of the service runs. Pointers are

@@ -24,7 +24,7 @@ use Rattle.coordination.specs.declared.rule.Sight.{Sight}
 use Rattle.async_tracker.specs.Shows.{IsFree, IsIdleOrParked, IsItemHere, ShowsClaimed, ShowsClosed}
 use Rattle.async_tracker.specs.Waits.{NeedsLease}
 use Rattle.coordination.proofs.lemmas.Shown.{shows_left}
-use Rattle.async_tracker.proofs.lemmas.Claims.{action_claimed, idle_shown, unit_claimed, unit_runs}
+use Rattle.history_laws.proofs.lemmas.Claims.{action_claimed, idle_shown, unit_claimed, unit_runs}
 
 -- what is so of a worker in a state where it may claim
 pub record MayClaim (s : StateView) (w : WorkerId) : Type 0 where

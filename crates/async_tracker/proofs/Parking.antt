@@ -33,11 +33,12 @@ use Rattle.coordination.specs.Shown.{ShowsTheSame, claimed_shown, lease_shown, l
 use Rattle.coordination.specs.declared.rule.Sight.{Sight}
 use Rattle.coordination.proofs.lemmas.Entries.{belongs_sound, good_sound}
 use Rattle.coordination.proofs.lemmas.Shown.{Leaves, shows_left}
-use Rattle.async_tracker.specs.Shows.{HasParkedLast, HasReleased, IsFree, IsIdleOrParked, IsParkedBy, OwnsToPark, ShowsParked, WorksOn, is_action, is_unit, locks_on_park, parked_on_park}
+use Rattle.history_laws.specs.Own.{is_action, is_unit}
+use Rattle.async_tracker.specs.Shows.{HasParkedLast, HasReleased, IsFree, IsIdleOrParked, IsParkedBy, OwnsToPark, ShowsParked, WorksOn, locks_on_park, parked_on_park}
 use Rattle.async_tracker.specs.ParkedView.{ParkedView}
 use Rattle.async_tracker.specs.Waits.{ActionIsNotQueued, CannotQueue, can_queue}
-use Rattle.async_tracker.proofs.Owned.{owned_there, stands_in_owned}
-use Rattle.async_tracker.proofs.lemmas.Claims.{action_claimed, any_with, has_member, task_runs}
+use Rattle.history_laws.proofs.lemmas.Owned.{owned_there, stands_in_owned}
+use Rattle.history_laws.proofs.lemmas.Claims.{action_claimed, any_with, has_member, task_runs}
 
 -- the worker works on the task in every state that it finds
 works_found : (old : Sight) (book : BookView) (t : ℕ) → Finds old.worker old.seen book → WorksOn old t → works_on book.state old.worker t ≡ true

@@ -31,7 +31,7 @@ use Rattle.coordination.specs.declared.halts.Halt.{Halt}
 use Rattle.coordination.specs.declared.rule.Sight.{Sight}
 use Rattle.coordination.proofs.lemmas.Shown.{failed_shows, looked_shows, shows_left, stopped_shows}
 use Rattle.async_tracker.specs.Tasks.{CannotEnd, CannotSkip, CannotStart, MayEnd, ShowsEnded, ShowsStarted, locks_on_end}
-use Rattle.async_tracker.proofs.lemmas.Claims.{action_claimed, idle_shown, task_runs, unit_claimed}
+use Rattle.history_laws.proofs.lemmas.Claims.{action_claimed, idle_shown, task_runs, unit_claimed}
 
 -- a worker that has nothing is idle in every state that it finds, and has nothing there
 idle_found : (old : Sight) (book : BookView) → Finds old.worker old.seen book → HoldsNothing old → is_idle book.state old.worker ≡ true

@@ -1,4 +1,3 @@
 pub mod After
-pub mod Claims
 pub mod Resumed
 pub mod Turns

@@ -8,22 +8,14 @@ use Rattle.resource_lock.specs.StateView.{owns, stands_in}
 use Rattle.resource_lock.specs.declared.graphs.Retention.{Retention}
 use Rattle.resource_lock.specs.declared.graphs.Retention.TheVariants.{Retain, Release, ReleaseAndReacquire}
 use Rattle.resource_lock.specs.declared.ids.LockId.{LockId}
-use Rattle.resource_lock.specs.declared.marks.MarkId.{MarkId}
 use Rattle.resource_lock.specs.declared.marks.MarkId.TheVariants.{Task as TaskOf, Action as ActionOf, Unit as UnitOf}
 use Rattle.lock_journal.specs.BookView.{BookView}
+use Rattle.history_laws.specs.Own.{is_action, is_unit}
 use Rattle.history_laws.specs.OwnChanges.{lock_before, mark_before, with_member, without_member}
 use Rattle.coordination.specs.Agrees.{Agrees}
 use Rattle.coordination.specs.Shown.{Shows, blocked_shown, claimed_shown, lease_shown, locks_shown, parked_shown}
 use Rattle.coordination.specs.declared.rule.Sight.{Sight}
 use Rattle.async_tracker.specs.ParkedView.{ParkedView}
-
-abbrev pub is_unit : MarkId → Bool
-is_unit (UnitOf u) = true
-is_unit _ = false
-
-abbrev pub is_action : MarkId → Bool
-is_action (ActionOf a) = true
-is_action _ = false
 
 -- the unit is one of the graph's items
 pub record IsItemHere (g : GraphView) (u : ℕ) : Type 0 where

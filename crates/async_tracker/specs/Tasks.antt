@@ -15,7 +15,7 @@ use Rattle.history_laws.specs.OwnChanges.{lock_before, mark_before, without_memb
 use Rattle.worker_choices.specs.NextSteps.{CanBegin}
 use Rattle.coordination.specs.Shown.{Shows, blocked_shown, claimed_shown, lease_shown, locks_shown, parked_shown}
 use Rattle.coordination.specs.declared.rule.Sight.{Sight}
-use Rattle.async_tracker.specs.Shows.{is_action, is_unit}
+use Rattle.history_laws.specs.Own.{is_action, is_unit}
 
 -- The worker runs the task, and neither waits for items nor runs a unit nor is blocked.
 pub record MayEnd (s : Sight) (t : ℕ) : Type 0 where

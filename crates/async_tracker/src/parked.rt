@@ -20,6 +20,7 @@ impl Model for Parked {
 }
 
 impl Parked {
+    /// What a worker keeps that waits for the items of an action.
     pub(crate) fn new(worker: WorkerId, action: u32) -> Parked
         ensures worker { result.worker ≡ worker }
         ensures action { result.action ≡ action }

@@ -24,7 +24,7 @@ use Rattle.coordination.specs.declared.rule.Sight.{Sight}
 use Rattle.coordination.proofs.lemmas.Nothing.{owns_none}
 use Rattle.coordination.proofs.lemmas.Shown.{ShowsAfter, shows_after}
 use Rattle.blocking_section.specs.Sections.{HasSetDown, HasUnit, IsGivenBackBy, IsNotReady, MayEnter, OwnsNothingMeanwhile, is_ready, with_unit}
-use Rattle.blocking_section.proofs.Claims.{has_member, no_action, no_unit, task_runs}
+use Rattle.history_laws.proofs.lemmas.Claims.{has_member, action_claimed, unit_claimed, task_runs}
 use Rattle.blocking_section.proofs.Down.{down, down_claimed, down_holding, down_locks, enters_for, enters_without}
 
 -- the same of the list with the fetch's move before it
@@ -81,7 +81,7 @@ given_back {unit} {old} {new} worker may shows = record {
 pub not_ready : (unit : Option ℕ) (old : Sight) (book : BookView) → Finds old.worker old.seen book → lease_shown old ≡ true → MayEnter unit old → IsUnmet (Block unit) book.graph old.worker book.state → IsNotReady unit book.graph old.worker book.state
 not_ready None old book found lease may unmet =
     let leased : (holding_of book.state old.worker).lease ≡ true = ap (λ (h : Holding). h.lease) found.agrees.state.holding ∙ lease in
-    absurd (false≢true (sym (unmet tt) ∙ enters_without book.graph book.state old.worker leased (found.agrees.state.runs_unit ∙ no_unit old.seen.state old.worker may)))
+    absurd (false≢true (sym (unmet tt) ∙ enters_without book.graph book.state old.worker leased (found.agrees.state.runs_unit ∙ sym (unit_claimed old.seen.state old.worker) ∙ may)))
 not_ready (Some u) old book found lease may unmet =
     let leased : (holding_of book.state old.worker).lease ≡ true = ap (λ (h : Holding). h.lease) found.agrees.state.holding ∙ lease in
     let graph : old.seen.graph ≡ book.graph = sym found.agrees.graph in
@@ -93,5 +93,5 @@ not_ready (Some u) old book found lease may unmet =
       may.0.action,
       fetch,
       false_from_ne_true (is_ready book.graph book.state may.0.action u) (λ ready. false≢true (sym (unmet there)
-          ∙ enters_for book.graph book.state old.worker may.0.action u fetch leased task (found.agrees.state.is_parked ∙ no_action old.seen.state old.worker may.1) ready)),
+          ∙ enters_for book.graph book.state old.worker may.0.action u fetch leased task (found.agrees.state.is_parked ∙ sym (action_claimed old.seen.state old.worker) ∙ may.1) ready)),
     )

@@ -29,8 +29,8 @@ use Rattle.coordination.proofs.lemmas.Shown.{ShowsAfter, shows_after}
 use Rattle.blocking_section.specs.BlockedView.{BlockedView}
 use Rattle.blocking_section.specs.Sections.{CanNotTakeUp, FitsUnit, HasTakenUp, HasUnit, IsGivenBackBy, closed_with, without_unit}
 use Rattle.blocking_section.proofs.After.{after_all-append}
-use Rattle.blocking_section.proofs.Claims.{no_unit, unit_runs}
-use Rattle.blocking_section.proofs.Up.{ended_not_running, leaves_for, leaves_without, up, up_claimed, up_holding, up_rises, up_stands}
+use Rattle.history_laws.proofs.lemmas.Claims.{unit_claimed, unit_runs}
+use Rattle.blocking_section.proofs.lemmas.Up.{ended_not_running, leaves_for, leaves_without, up, up_claimed, up_holding, up_rises, up_stands}
 
 -- the changes, by what is parked: with the fetch's move behind where there is one
 abbrev up_with : WorkerId → Option ℕ → Option Outcome → List LockId → List Change
@@ -105,7 +105,7 @@ can_not_take_up b outcome old book found own fits disabled = at b.unit outcome f
 
     at : (unit : Option ℕ) (o : Option Outcome) → FitsUnit unit o → HasUnit unit (claimed_shown old) → IsDisabled (Unblock (closed_with unit o)) book.graph old.worker book.state → CanNotTakeUp book.graph old.worker book.state
     at None None fit has off = false_from_ne_true (can_take_all book.state old.worker (holding_of book.state old.worker).parked) (λ free.
-        false≢true (sym (off tt) ∙ leaves_without book.graph book.state old.worker worker (good_sound book found.sound) blocked (found.agrees.state.runs_unit ∙ no_unit old.seen.state old.worker has) free))
+        false≢true (sym (off tt) ∙ leaves_without book.graph book.state old.worker worker (good_sound book found.sound) blocked (found.agrees.state.runs_unit ∙ sym (unit_claimed old.seen.state old.worker) ∙ has) free))
     at (Some u) (Some o) fit has off =
         let runs : mark_of book.state (UnitOf u) ≡ Running old.worker = (found.agrees.state.running (UnitOf u)).0 (unit_runs old.seen.state old.worker u has) in
         let belongs = belongs_sound book found.sound in

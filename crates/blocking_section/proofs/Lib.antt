@@ -1,8 +1,6 @@
 pub mod lemmas
 pub mod After
-pub mod Claims
 pub mod Down
-pub mod Up
 pub mod Entered
 pub mod Left
 pub mod Ready

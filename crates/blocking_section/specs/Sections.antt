@@ -18,19 +18,12 @@ use Rattle.lock_transforms.specs.Table.{condition, earlier_passed}
 use Rattle.lock_transforms.specs.Taking.{can_take_all}
 use Rattle.lock_transforms.specs.declared.entries.Closed.{Closed}
 use Rattle.lock_transforms.specs.declared.entries.Kind.TheVariants.{Block}
+use Rattle.history_laws.specs.Own.{is_action, is_unit}
 use Rattle.history_laws.specs.OwnChanges.{mark_before, with_member, without_member}
 use Rattle.coordination.specs.Agrees.{Agrees, IsSoundBook}
 use Rattle.coordination.specs.Shown.{blocked_shown, claimed_shown, lease_shown, locks_shown, parked_shown}
 use Rattle.coordination.specs.declared.rule.Sight.{Sight}
 use Rattle.blocking_section.specs.BlockedView.{BlockedView}
-
-abbrev pub is_unit : MarkId → Bool
-is_unit (UnitOf u) = true
-is_unit _ = false
-
-abbrev pub is_action : MarkId → Bool
-is_action (ActionOf a) = true
-is_action _ = false
 
 -- The unit is the fetch of an action whose task is claimed.
 pub record IsOwnFetch (g : GraphView) (marks : List MarkId) (u : ℕ) : Type 0 where

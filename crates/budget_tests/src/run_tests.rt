@@ -14,7 +14,7 @@ use item_actions::{ItemAction, Outcome, Text, is_file_name};
 use lease_service::current_lease;
 use lock_journal::Book;
 use lock_transforms::kinds::{Acquire, Shortage};
-use memory_budget::{BudgetLock, BudgetPool, Budgeted, MAX_BUDGET_MB, run_in_budget};
+use memory_budget::{BudgetLock, BudgetPool, Budgeted, MAX_BUDGET_MB, run_in_budget, stop_idle};
 use resource_lock::Graph;
 use std::alloc::{AllocError, Global};
 use std::process::Abort;
@@ -117,11 +117,11 @@ fn new_lock<R: Abort>(rt: &R, alloc: Global, budget_mb: u64) -> BudgetLock<Memor
 // Stops the idle daemons, and gives all that happened.
 fn close<D: Desk>(lock: BudgetLock<D::Link>, desk: &mut D) -> Vec<Event> {
     let mut pool = lock.into_pool();
-    stop_idle(&mut pool, desk);
+    stop_all_idle(&mut pool, desk);
     pool.into_events()
 }
 
-fn stop_idle<D: Desk>(pool: &mut BudgetPool<D::Link>, desk: &mut D)
+fn stop_all_idle<D: Desk>(pool: &mut BudgetPool<D::Link>, desk: &mut D)
     ensures { pool.new.pool.idle ≡ [] }
 {
     while let Some(link) = pool.stop_idle() {
@@ -274,4 +274,38 @@ fn a_daemon_that_fails_makes_room_for_the_next(rt: HostRuntime) {
     assert!(rt; matches!(first, Budgeted::Done(Outcome::Fault)));
     assert!(rt; matches!(second, Budgeted::Done(Outcome::Number(3))));
     assert!(rt; seat.desk.count() == 1 && is_second_right(&events));
+}
+
+// Whether these events are those of two daemons that worked for a unit each and were stopped.
+fn is_second_new(events: &[Event]) -> bool {
+    matches!(
+        events,
+        [
+            Event::Started(0, _),
+            Event::Reserved(0, 0),
+            Event::Released(0),
+            Event::Stopped(0),
+            Event::Started(1, _),
+            Event::Reserved(1, 1),
+            Event::Released(1),
+            Event::Stopped(1),
+        ]
+    )
+}
+
+#[test]
+fn a_daemon_that_was_stopped_while_idle_serves_no_more(rt: HostRuntime) {
+    let alloc = rt.alloc();
+    let mut seat = new_seat(&rt, alloc, 0, &[]).expect(&rt, "memory");
+    let lock = new_lock(&rt, alloc, 512);
+    let early = stop_idle(&rt, &mut *seat.desk, &lock);
+    let first = seat.run(&rt, alloc, &lock, 0, 512);
+    let stopped = stop_idle(&rt, &mut *seat.desk, &lock);
+    let again = stop_idle(&rt, &mut *seat.desk, &lock);
+    let second = seat.run(&rt, alloc, &lock, 1, 512);
+    let events = close(lock, &mut *seat.desk);
+    assert!(rt; !early && stopped && !again);
+    assert!(rt; matches!(first, Budgeted::Done(Outcome::Number(3))));
+    assert!(rt; matches!(second, Budgeted::Done(Outcome::Number(3))));
+    assert!(rt; is_second_new(&events));
 }

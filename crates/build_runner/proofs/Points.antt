@@ -18,7 +18,8 @@ use Rattle.history_laws.specs.OwnChanges.{lock_before, mark_before, with_member,
 use Rattle.coordination.specs.Holds.{HoldsNothing}
 use Rattle.coordination.specs.Shown.{ShowsTheSame, blocked_shown, claimed_shown, lease_shown, locks_shown, parked_shown}
 use Rattle.coordination.specs.declared.rule.Sight.{Sight}
-use Rattle.async_tracker.specs.Shows.{IsIdleOrParked, OwnsToPark, is_action, is_unit, locks_on_park, parked_on_park, ShowsParked, ShowsResumed, WorksOn}
+use Rattle.history_laws.specs.Own.{is_action, is_unit}
+use Rattle.async_tracker.specs.Shows.{IsIdleOrParked, OwnsToPark, locks_on_park, parked_on_park, ShowsParked, ShowsResumed, WorksOn}
 use Rattle.async_tracker.specs.Tasks.{MayEnd, ShowsEnded, ShowsStarted, locks_on_end}
 use Rattle.blocking_section.specs.Sections.{HasSetDown, HasTakenUp}
 use Rattle.build_runner.specs.Points.{CanHelp, IsFetchIn, IsInTask, RunsTask}

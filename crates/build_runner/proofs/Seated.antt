@@ -1,23 +1,13 @@
 -- From the workers, each with its pass and its desk, to the passes and the desks.
-use Rattle.std.proofs.Common.{◌≡◌, ℕ, ◌<◌, Bool, true, List, length, get_or, map, take, drop, sym, ap, ◌∙◌, subst, arith, ◌++◌}
+use Rattle.std.proofs.Common.{◌≡◌, ℕ, ◌<◌, Bool, true, List, length, get_or, map, sym, ap, ◌∙◌, arith}
 use Rattle.std.specs.List.{All}
-use Rattle.std.proofs.lemmas.List.{get_or-map, length-map, take_at}
+use Rattle.std.proofs.lemmas.List.{get_or-map, length-map}
 use Rattle.coordination.specs.Passes.{PassView}
 use Rattle.build_runner.specs.Site.{SiteView}
 use Rattle.build_runner.specs.Desks.{DeskView}
 use Rattle.build_runner.specs.Worked.{HasWorked}
 use Rattle.coordination.proofs.lemmas.Numbered.{element}
 use Rattle.build_runner.proofs.Stepping.{worked_weaker}
-
--- what a slice of a whole Vec leaves in it
-pub written_back : {X : Type 0} (xs ys : List X) (n : ℕ) → length xs ≡ n → take n (xs ++ drop (length xs) ys) ≡ xs
-written_back xs ys n is = take_at xs (drop (length xs) ys) n is
-
--- what holds of each of these holds of what each is made of, as of each pass and of each worker's
-pub of_each : {W V : Type 0} (part : W → V) (P : V → Type 0) (ws : List W) (vs : List V) → map part ws ≡ vs → All P vs → All (λ w. P (part w)) ws
-of_each part P ws vs is all k d low =
-    let l : k < length (map part ws) = omega (arith, length-map ws part, low) in
-    subst P (get_or-map part ws k d (part d) low) (subst (All P) (sym is) all k (part d) l)
 
 -- Each worker is a pass, a desk and whether it came to the end.
 module _ {W D : Type 0} (pass : W → PassView) (desk : W → D) (ended : W → Bool) (old new : List W) (long : length new ≡ length old)

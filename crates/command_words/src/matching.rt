@@ -38,6 +38,7 @@ pub(crate) fn matches_of<'a>(
     }
 }
 
+/// The first value under this name, if there is one.
 pub(crate) fn text_at<'a>(matches: &ArgMatches<'a>, id: &str) -> Option<&'a str>
     ensures { option_map (λ s. s.now) result ≡ first_of id.now (rows_of (found_of matches.now)) }
 {
@@ -51,6 +52,7 @@ pub(crate) fn given<'a>(matches: &ArgMatches<'a>, id: &str) -> &'a str
     text_at(matches, id).unwrap_or("")
 }
 
+/// Whether the option without a value was given.
 pub(crate) fn is_on(matches: &ArgMatches<'_>, id: &str) -> bool
     ensures { result ≡ is_on id.now (rows_of (found_of matches.now)) }
 {

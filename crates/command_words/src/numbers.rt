@@ -13,12 +13,14 @@ const MAX_SEED_DIGITS: usize = 20;
 /// The greatest number of threads, and of leases.
 pub const MAX_COUNT: u32 = 32;
 
+// Whether each byte is a decimal digit.
 fn are_digits(bytes: &[u8]) -> bool
     ensures { result ≡ list_all is_ascii_digit bytes.now }
 {
     bytes.iter().all(|b| b.is_ascii_digit())
 }
 
+// Whether the text is 1 to `max_digits` decimal digits.
 fn is_numeral(text: &str, max_digits: usize) -> bool
     ensures { result ≡ is_numeral max_digits text.now }
 {
@@ -36,6 +38,7 @@ fn value_of(text: &str, max_digits: usize) -> Option<u64>
     }
 }
 
+// The count, where it is 1 to `MAX_COUNT`.
 fn in_bounds(value: u64) -> Option<u32>
     ensures value { result ≡ in_bounds value }
     ensures some { IfSome result (λ n. 1 ≤ n) }

@@ -18,6 +18,7 @@ pub(crate) enum Parameter<'a> {
     Flag(&'a str),
 }
 
+// The parser's rule for a word that has to be there.
 fn required<'a>(alloc: Global, name: &'a str) -> Arg<'a>
     ensures rule { rule_of result ≡ required_rule name.entry.now }
     ensures local { result.global ≡ false }
@@ -25,6 +26,7 @@ fn required<'a>(alloc: Global, name: &'a str) -> Arg<'a>
     Arg::new(alloc, name).required(true).action(ArgAction::Set)
 }
 
+// The parser's rule for an option with a value.
 fn option<'a>(alloc: Global, name: &'a str) -> Arg<'a>
     ensures rule { rule_of result ≡ option_rule name.entry.now }
     ensures local { result.global ≡ false }
@@ -32,6 +34,7 @@ fn option<'a>(alloc: Global, name: &'a str) -> Arg<'a>
     Arg::new(alloc, name).long(name).action(ArgAction::Set)
 }
 
+// The parser's rule for an option without a value.
 fn flag<'a>(alloc: Global, name: &'a str) -> Arg<'a>
     ensures rule { rule_of result ≡ flag_rule name.entry.now }
     ensures local { result.global ≡ false }
@@ -39,6 +42,7 @@ fn flag<'a>(alloc: Global, name: &'a str) -> Arg<'a>
     Arg::new(alloc, name).long(name).action(ArgAction::SetTrue)
 }
 
+// The parser's rule for a parameter.
 fn argument<'a>(alloc: Global, parameter: &Parameter<'a>) -> Arg<'a>
     ensures rule { rule_of result ≡ asked_rule parameter.now }
     ensures local { result.global ≡ false }
@@ -50,6 +54,7 @@ fn argument<'a>(alloc: Global, parameter: &Parameter<'a>) -> Arg<'a>
     }
 }
 
+// A command without parameters. It has none of the words that the parser adds by itself.
 fn bare_command<'a>(alloc: Global, name: &'a str) -> Command<'a>
     ensures { app_of result ≡ bare_app name.entry.now }
 {

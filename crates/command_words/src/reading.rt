@@ -15,6 +15,7 @@ use crate::run::read_run;
 use item_actions::Text;
 use std::alloc::{AllocError, Global};
 
+// The words as borrowed strings, in their order.
 fn borrowed(alloc: Global, words: &[Text]) -> Result<Vec<&str>, AllocError>
     ensures { IfOk result (λ strs. map (λ s. s.now) strs.items ≡ words.entry.now) }
 {
@@ -25,6 +26,7 @@ fn borrowed(alloc: Global, words: &[Text]) -> Result<Vec<&str>, AllocError>
     Ok(strs)
 }
 
+// The command `run` with these words, or that they are none.
 fn run(alloc: Global, words: &[Text]) -> Result<Command, WordsFail>
     ensures ok { IfOk result (λ command. option_map Run (run_of words.now) ≡ Some command) }
     ensures bounds { IfOk result IsBounded }
@@ -34,6 +36,7 @@ fn run(alloc: Global, words: &[Text]) -> Result<Command, WordsFail>
     read_run(alloc, &words).map(Command::Run)
 }
 
+// The command `check` with these words, or that they are none.
 fn check(alloc: Global, words: &[Text]) -> Result<Command, WordsFail>
     ensures ok { IfOk result (λ command. option_map Check (check_of words.now) ≡ Some command) }
     ensures bounds { IfOk result IsBounded }
@@ -43,6 +46,7 @@ fn check(alloc: Global, words: &[Text]) -> Result<Command, WordsFail>
     read_check(alloc, &words).map(Command::Check)
 }
 
+// The command `again` with these words, or that they are none.
 fn again(alloc: Global, words: &[Text]) -> Result<Command, WordsFail>
     ensures ok { IfOk result (λ command. option_map Again (again_of words.now) ≡ Some command) }
     ensures bounds { IfOk result IsBounded }
@@ -52,6 +56,7 @@ fn again(alloc: Global, words: &[Text]) -> Result<Command, WordsFail>
     read_again(alloc, &words).map(Command::Again)
 }
 
+// The command `make` with these words, or that they are none.
 fn make(alloc: Global, words: &[Text]) -> Result<Command, WordsFail>
     ensures ok { IfOk result (λ command. option_map Make (make_of words.now) ≡ Some command) }
     ensures bounds { IfOk result IsBounded }

@@ -35,6 +35,7 @@ fn count_at(matches: &ArgMatches<'_>, id: &str, default: u32) -> Option<u32>
     }
 }
 
+// Whether one of the bytes is zero.
 fn has_zero(bytes: &[u8]) -> bool
     ensures { result ≡ list_any (λ b. b == 0) bytes.now }
 {

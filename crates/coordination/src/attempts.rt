@@ -36,8 +36,8 @@ pub enum Reply<A> {
 }
 
 impl Slot {
-    // Runs the transform once, ends the hold, and hears who has stopped the service where the transform asks
-    // to be run again.
+    /// Runs the transform once, ends the hold, and hears who has stopped the service where the transform asks to be run
+    /// again. It answers Again too where another pass has the book: then the pass is as before, and nobody is woken.
     #[inline]
     pub(crate) fn try_transform<T: Transform>(
         &self,
@@ -63,7 +63,8 @@ impl Slot {
         }
     }
 
-    // Asks the question once, ends the hold, and hears who has stopped the service where it has no answer.
+    /// Asks the question once, ends the hold, and hears who has stopped the service where it has no answer. It answers
+    /// Again too where another pass has the book: then the pass is as before, and nobody is woken.
     #[inline]
     pub(crate) fn try_question<Q: Question>(
         &self,

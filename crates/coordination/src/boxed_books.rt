@@ -7,6 +7,7 @@ use std::marker::Model;
 /// A book in a box, which moves as one pointer. Contracts see the book.
 #[derive(Drop)]
 pub struct BoxedBook {
+    /// The book.
     pub inner: Box<Book>,
 }
 
@@ -19,6 +20,7 @@ impl Model for BoxedBook {
 }
 
 impl BoxedBook {
+    /// The book in its own box.
     pub fn into_box(self) -> Box<Book>
         ensures { result.value ≡ self }
     {

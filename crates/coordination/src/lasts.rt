@@ -6,7 +6,7 @@ use lock_journal::Book;
 use resource_lock::WorkerId;
 use std::alloc::{AllocError, Global};
 
-// The number of the worker's last entry, or 0.
+/// The number of the worker's last entry, counted from 1, or 0 where it has none. It goes through the whole history.
 pub fn last_number(book: &Book, worker: WorkerId) -> u64
     ensures { result ≡ last_of worker book.now.history }
 {

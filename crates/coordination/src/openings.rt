@@ -25,11 +25,12 @@ pub struct Stock {
     pub parts: Vec<Part>,
     /// Room for the passes.
     pub passes: Vec<Pass>,
+    /// What the workers wait with.
     pub waiting: Waiting,
 }
 
 impl Stock {
-    // For the workers of a book in which nobody has anything.
+    /// For the workers of a book in which nobody has anything. It fails for want of memory alone.
     pub fn of(alloc: Global, book: &Book) -> Result<Stock, AllocError>
         requires { IsAtRest book.now.state }
         ensures len { IfOk result (λ stock. length stock.parts.items ≡ book.now.graph.workers) }
@@ -48,7 +49,8 @@ impl Stock {
         })
     }
 
-    // The service over the slot, and its passes, whose seats are cut off this one.
+    /// The service over the slot, and its passes by the numbers of their workers, whose seats are cut off this one. It takes no
+    /// memory.
     pub fn open<O>(self, slot: Slot, seat: Seat<BoxedBook, SeatView>, offers: O) -> Opened<O>
         requires id { seat.table_id ≡ slot.table.shared.table_id }
         requires view { seat.me ≡ (starting slot.table.shared.key.book.value, []) }
@@ -110,7 +112,9 @@ fn parts_of(alloc: Global, book: &Book) -> Result<Vec<Part>, AllocError>
 /// What those wait with who wait in a service: who sleeps, and each worker's own Condvar.
 #[derive(Drop)]
 pub struct Waiting {
+    /// Who sleeps, and who looks.
     pub sleepers: Sleepers,
+    /// The Condvar of each worker, by its number.
     pub own: Vec<Condvar>,
 }
 

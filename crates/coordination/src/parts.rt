@@ -15,11 +15,14 @@ use std::alloc::{AllocError, Global};
 /// How many locks a graph has, and how many tasks, actions and units together.
 #[derive(Clone, Copy)]
 pub struct Room {
+    /// How many locks.
     pub locks: usize,
+    /// How many marks: of tasks, actions and units.
     pub marks: usize,
 }
 
 impl Room {
+    /// The room that a graph needs.
     pub fn of(graph: &Graph) -> Room
         ensures { IsRoomOf graph.now result }
     {
@@ -33,16 +36,22 @@ impl Room {
 /// The worker's part of a book.
 #[derive(Drop)]
 pub struct Part {
+    /// The number of its last entry, or 0.
     pub last: u64,
+    /// Whether it has a lease.
     pub lease: bool,
+    /// Whether it is in a blocking section.
     pub blocked: bool,
+    /// The locks that it owns, by rising number.
     pub locks: Vec<LockId>,
+    /// The marks that it runs: of tasks, then of actions, then of units, each by rising number.
     pub claimed: Vec<MarkId>,
+    /// The locks that it has parked, the last one at the end.
     pub parked: Vec<LockId>,
 }
 
 impl Part {
-    // The part of a worker that has nothing, with room for all that it can ever have.
+    /// The part of a worker that has nothing, with room for all that it can ever have. It fails for want of memory alone.
     pub fn fresh(alloc: Global, room: Room, last: u64) -> Result<Part, AllocError>
         ensures { IfOk result (IsFreshPart room last) }
     {
@@ -59,7 +68,7 @@ impl Part {
         })
     }
 
-    // Follows the book, on which a transform of the worker was run.
+    /// Follows the book, on which a transform of the worker was run, with what came of that. It takes no memory.
     #[inline]
     pub fn follow(&mut self, worker: WorkerId, book: &Book, ran: &Result<Disposition, AllocError>)
         requires { (before : BookView) × Follows worker before book.now ran.now self.old }

@@ -17,6 +17,7 @@ use std::alloc::{AllocError, Global};
 use std::snapshot::Snapshot;
 
 impl OpenedWith {
+    // The book that a service is opened with, for contracts.
     fn of(book: &Book) -> OpenedWith
         ensures book { result.book.value ≡ book.now }
         ensures sound { IsSoundBook book.now }
@@ -31,7 +32,7 @@ impl OpenedWith {
 }
 
 impl Slot {
-    // A slot with the book in it, and a seat with all workers of its graph.
+    /// A slot with the book in it, and a seat with all workers of its graph. It fails for want of memory alone.
     pub(crate) fn new(
         alloc: Global,
         book: Box<Book>,
@@ -49,7 +50,7 @@ impl Slot {
         }
     }
 
-    // A pass for each worker, with these parts. There is room for them.
+    /// A pass for each worker, with these parts, in their order. There is room for them.
     pub(crate) fn seated(
         &self,
         mut seat: Seat<BoxedBook, SeatView>,

@@ -328,7 +328,7 @@ impl<O: Offers> Coordination<O> {
     }
 }
 
-// The service over a slot.
+/// The service over a slot.
 pub(crate) fn service_of<O>(slot: Slot, waiting: Waiting, offers: O) -> Coordination<O>
     ensures service { result.service ≡ slot.table.shared.table_id }
     ensures book { result.book ≡ slot.table.shared.key.book.value }

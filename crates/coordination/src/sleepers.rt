@@ -37,12 +37,14 @@ pub struct Wakes {
 }
 
 impl Wakes {
+    /// All that sleep.
     pub(crate) const ALL: Wakes = Wakes {
         transforms: true,
         questions: true,
         workers: Woken::All,
     };
 
+    /// None of them.
     pub(crate) const NOBODY: Wakes = Wakes {
         transforms: false,
         questions: false,
@@ -72,8 +74,8 @@ impl Sleepers {
         })
     }
 
-    // Ends a hold: its worker takes this stance, and who is woken looks. Where the hold made an entry, that
-    // wakes questions and transforms too.
+    /// Ends a hold: its worker takes this stance, and who is woken looks. Where the hold made an entry, that wakes questions
+    /// and transforms too.
     #[inline]
     pub(crate) fn end_hold(
         &mut self,
@@ -96,14 +98,14 @@ impl Sleepers {
         }
     }
 
-    // Notes that all that sleep are woken.
+    /// Notes that all that sleep are woken.
     pub(crate) fn note_all_awake(&mut self) {
         self.transforms = false;
         self.questions = false;
         self.stances.note_woken(Woken::All);
     }
 
-    // Ends the hold in which a transform of this kind was run.
+    /// Ends the hold in which a transform of this kind was run.
     #[inline]
     pub(crate) fn end_transform(
         &mut self,
@@ -123,7 +125,7 @@ impl Sleepers {
         self.end_hold(book, worker, looks_if(again), entered)
     }
 
-    // Ends the hold in which a question was asked.
+    /// Ends the hold in which a question was asked.
     #[inline]
     pub(crate) fn end_question<A>(
         &mut self,

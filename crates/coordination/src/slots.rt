@@ -29,7 +29,7 @@ pub struct Slot {
 }
 
 impl Slot {
-    // Takes the book out, unless it is out.
+    /// Takes the book out. False says that it is out: then the seat is as before.
     pub(crate) fn try_take(&self, seat: &mut Seat<BoxedBook, SeatView>) -> bool
         requires id { seat.old.table_id ≡ self.now.table.shared.table_id }
         requires lone { seat.old.me ≡ (one (sight_of seat.old.me.0), []) }
@@ -40,8 +40,7 @@ impl Slot {
         self.table.shared.swap::<Take>(seat, 0, 1) == 0
     }
 
-    // Runs the transform on the book that the seat holds, has the worker's part follow it, and ends the
-    // hold.
+    /// Runs the transform on the book that the seat holds, has the worker's part follow it, and ends the hold.
     pub(crate) fn run<T: Transform>(
         &self,
         seat: &mut Seat<BoxedBook, SeatView>,
@@ -63,7 +62,7 @@ impl Slot {
         run_on(&mut boxed.inner, worker, part, transform, sleepers)
     }
 
-    // Asks the question of the book that the seat holds, and ends the hold.
+    /// Asks the question of the book that the seat holds, and ends the hold.
     pub(crate) fn ask_book<Q: Question>(
         &self,
         seat: &mut Seat<BoxedBook, SeatView>,
@@ -83,7 +82,7 @@ impl Slot {
         ask_of(&boxed.inner, worker, question, sleepers)
     }
 
-    // Puts the book back.
+    /// Puts the book back, in which no entries but the worker's own are new.
     pub(crate) fn put_back(&self, seat: &mut Seat<BoxedBook, SeatView>)
         requires id { seat.old.table_id ≡ self.now.table.shared.table_id }
         requires held { seat.old.me ≡ (holding (sight_of seat.old.me.0), (0, carried_book seat.old.me.1) ∷ []) }
@@ -94,7 +93,7 @@ impl Slot {
         self.table.shared.store::<PutBack>(seat, 0, 0);
     }
 
-    // Stops the service, or says who has stopped it before.
+    /// Stops the service, or says who has stopped it before.
     pub(crate) fn mark(
         &self,
         seat: &mut Seat<BoxedBook, SeatView>,
@@ -118,7 +117,7 @@ impl Slot {
         }
     }
 
-    // Who has stopped the service.
+    /// Who has stopped the service, or none.
     pub(crate) fn marked(&self, seat: &mut Seat<BoxedBook, SeatView>) -> Option<WorkerId>
         requires id { seat.old.table_id ≡ self.now.table.shared.table_id }
         requires lone { seat.old.me ≡ (one (sight_of seat.old.me.0), []) }

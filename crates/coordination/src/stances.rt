@@ -33,7 +33,7 @@ impl Model for Stances {
 }
 
 impl Stances {
-    // So many workers, each of whom is away.
+    /// So many workers, each of whom is away. It fails for want of memory alone.
     pub fn away(alloc: Global, workers: u32) -> Result<Stances, AllocError>
         ensures { IfOk result (λ stances. stances ≡ replicate workers stance.Away) }
     {
@@ -44,7 +44,7 @@ impl Stances {
         })
     }
 
-    // Notes a worker's stance.
+    /// Notes a worker's stance. A number of no worker changes nothing.
     pub fn note(&mut self, worker: WorkerId, stance: Stance)
         ensures { self.new ≡ set self.old worker.0 stance }
     {
@@ -57,7 +57,7 @@ impl Stances {
         }
     }
 
-    // Whether some worker sleeps.
+    /// Whether some worker sleeps.
     #[inline]
     pub fn some_sleep(&self) -> bool
         ensures { result ≡ false → asleep self.now ≡ 0 }
@@ -65,7 +65,7 @@ impl Stances {
         self.sleepers > 0
     }
 
-    // Ends a hold, where a ticket is queued or none: its worker takes this stance, and who is woken looks.
+    /// Ends a hold, where a ticket is queued or none: its worker takes this stance, and who is woken looks.
     #[inline]
     pub fn settle(&mut self, book: &Book, queued: bool, worker: WorkerId, stance: Stance) -> Woken
         ensures woken { IsWokenBy book.now queued (set self.old worker.0 stance) result }
@@ -106,7 +106,7 @@ impl Stances {
         whom_to_wake(book, queued, &self.stances)
     }
 
-    // Notes that who is woken looks, and that where all are, none is counted on.
+    /// Notes that who is woken looks, and that where all are, none is counted on.
     pub fn note_woken(&mut self, woken: Woken)
         ensures { self.new ≡ stances_after woken self.old }
     {

@@ -35,6 +35,7 @@ fn set_up(command: &mut Command, args: &[Text], variables: &[Pair]) -> Result<()
     add_variables(command, variables)
 }
 
+// The program to start: this one where the executable says so, or the executable.
 fn program_of<'a>(own: &'a str, executable: &'a str) -> &'a str
     ensures { result.now ≡ program_of own.now executable.now }
 {
@@ -45,6 +46,7 @@ fn program_of<'a>(own: &'a str, executable: &'a str) -> &'a str
     }
 }
 
+// Adds the word `worker`, and these arguments behind it.
 fn add_arguments(command: &mut Command, args: &[Text]) -> Result<(), AllocError>
     ensures { OnOk result (SetsArguments args.now command.old command.new) }
 {
@@ -55,6 +57,7 @@ fn add_arguments(command: &mut Command, args: &[Text]) -> Result<(), AllocError>
     Ok(())
 }
 
+// Sets each of the variables, in their order.
 fn add_variables(command: &mut Command, variables: &[Pair]) -> Result<(), AllocError>
     ensures { OnOk result (SetsVariables variables.now command.old command.new) }
 {
@@ -64,6 +67,7 @@ fn add_variables(command: &mut Command, variables: &[Pair]) -> Result<(), AllocE
     Ok(())
 }
 
+// Sets one variable.
 fn add_variable(command: &mut Command, variable: &Pair) -> Result<(), AllocError>
     ensures set { OnOk result (command_var command.new variable.now.name ≡ Some (Some variable.now.value)) }
     ensures others { OnOk result (SameOtherVars command.old command.new variable.now.name) }

@@ -4,5 +4,6 @@
 pub struct Lie {
     /// The number of the call that is answered so, counted from 0 over all calls of the desk.
     pub call: u64,
+    /// The bytes.
     pub bytes: Vec<u8>,
 }

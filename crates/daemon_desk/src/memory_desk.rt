@@ -1,11 +1,11 @@
 //! A desk in memory.
-ghost use Rattle.std.specs.Prelude.{◌≡◌, ◌↔◌, [], None, Some, IfOk, IfSome, IsTrue, IsSome, OnErr, OnOk, true, false};
+ghost use Rattle.std.specs.Prelude.{◌≡◌, ◌==◌, ◌↔◌, [], None, Some, IfOk, IfSome, IsTrue, IsSome, OnErr, OnOk, find, option_map, true, false};
 ghost use Rattle.std.specs.Result.{IsErrOf};
 ghost use Rattle.item_actions.specs.Forms.{is_file_name};
 ghost use Rattle.file_access.specs.Calls.{no_calls, next_fails};
 ghost use Rattle.file_access.specs.ReadView.{ReadsFrom};
 ghost use Rattle.daemon_desk.specs.LinkView.{new_link};
-ghost use Rattle.daemon_desk.specs.MemoryDeskView.{called, and_sends, is_fault, known_files};
+ghost use Rattle.daemon_desk.specs.MemoryDeskView.{IsReceived, called, and_sends, is_fault, known_files, lie_at};
 ghost use Rattle.daemon_desk.specs.Replies.{IsReplyTo};
 ghost use Rattle.daemon_desk.specs.Sent.{sent_over};
 
@@ -125,6 +125,7 @@ impl MemoryDesk {
         ensures same { self.new ≡ self.old }
         ensures link { link.new ≡ record link.old { waiting = None } }
         ensures fails { IsTrue (next_fails self.old.log) → IsErrOf result DeskFail.Failed }
+        ensures exact { IsReceived self.old link.old.waiting result }
         ensures reply { IfOk result (λ reply. IfSome link.old.waiting (λ request. IsReplyTo (known_files self.old) request reply)) }
     {
         let Some(request) = link.take_waiting() else {
@@ -141,16 +142,21 @@ impl MemoryDesk {
 
     // The lie at this call, if one is told.
     fn lie(&self) -> Option<&[u8]>
-        ensures { IsSome result → known_files self.now ≡ None }
+        ensures lie { option_map (λ bytes. bytes.now) result ≡ lie_at self.now.log.made self.now.lies }
+        ensures told { IsSome result → known_files self.now ≡ None }
     {
-        let number = self.calls.made();
-        for lie in &self.lies {
-            if lie.call == number {
-                return Some(lie.bytes.as_slice());
-            }
+        match lie_of(&self.lies, self.calls.made()) {
+            Some(lie) => Some(lie.bytes.as_slice()),
+            None => None,
         }
-        None
     }
+}
+
+// The lie of the call of this number, if there is one.
+fn lie_of(lies: &[Lie], number: u64) -> Option<&Lie>
+    ensures { option_map (λ lie. lie.now) result ≡ find (λ lie. lie.call == number) lies.now }
+{
+    lies.iter().find(|lie| lie.call == number)
 }
 
 // Whether the call that gave this answer failed.
@@ -232,6 +238,7 @@ impl Desk for MemoryDesk {
 
     fn receive(&mut self, alloc: Global, link: &mut MemoryLink) -> Result<Reply, DeskFail>
         ensures failed { IsTrue (next_fails self.old.log) → IsErrOf result DeskFail.Failed }
+        ensures exact { IsReceived self.old link.old.waiting result }
         ensures reply { IfOk result (λ reply. IfSome link.old.waiting (λ request. IsReplyTo (known_files self.old) request reply)) }
         ensures link { OnOk result (link.new ≡ record link.old { waiting = None }) }
         ensures broken { OnErr result (link.new ≡ record link.old { waiting = None; broken = true }) }

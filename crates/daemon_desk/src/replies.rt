@@ -3,7 +3,7 @@ ghost use Rattle.item_actions.specs.declared.outcomes.Outcome.TheVariants as out
 ghost use Rattle.daemon_protocol.specs.declared.frames.Frame.TheVariants as frames;
 ghost use Rattle.daemon_protocol.specs.declared.starts.StreamStart.TheVariants.{Whole};
 ghost use Rattle.daemon_protocol.specs.StreamStart.{look};
-ghost use Rattle.daemon_desk.specs.Replies.{reply_to};
+ghost use Rattle.daemon_desk.specs.Replies.{IsReplyIn, reply_to};
 
 use daemon_protocol::{Frame, Reply, StreamStart, look};
 use file_access::DeskFail;
@@ -29,6 +29,7 @@ pub(crate) fn reply_to(unit: u32, start: &StreamStart) -> Result<Reply, DeskFail
 
 /// The reply for this unit that stands at the start of the bytes.
 pub(crate) fn reply_in(alloc: Global, unit: u32, bytes: &[u8]) -> Result<Reply, DeskFail>
+    ensures exact { IsReplyIn unit bytes.now result }
     ensures stands { IfOk result (λ r. (n : ℕ) × (look bytes.now ≡ Whole (frames.Reply r) n)) }
     ensures unit { IfOk result (λ r. r.unit ≡ unit) }
     ensures ran { IfOk result (λ r. r.outcome ≢ outcomes.Skipped) }

@@ -12,7 +12,7 @@ use Rattle.daemon_manager.specs.Events.{daemon_of, is_about, state_after, state_
 use Rattle.daemon_manager.specs.LedgerView.{one_if_busy}
 use Rattle.daemon_manager.proofs.Order.{Some-is}
 use Rattle.daemon_manager.proofs.LedgerKept.{None-is-not}
-use Rattle.daemon_manager.proofs.Appending.{pool_other, push_front, started_more, state_other, was_started}
+use Rattle.daemon_manager.proofs.lemmas.Appending.{pool_other, push_front, started_more, state_other, was_started}
 
 -- one event about another daemon, a start too
 one_other : (events : List Event) (e : Event) (d : ℕ) (x : DaemonView) → pool events d ≡ Some x → daemon_of e ≢ d → pool (events ++ e ∷ []) d ≡ Some x

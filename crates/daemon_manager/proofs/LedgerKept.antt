@@ -15,7 +15,7 @@ use Rattle.daemon_manager.specs.declared.ledger.Daemon.{Daemon}
 use Rattle.daemon_manager.specs.Events.{daemon_of, state_after, started_with, started, DaemonView, pool}
 use Rattle.daemon_manager.specs.LedgerView.{IsLedger, IsKept, one_if_busy}
 use Rattle.daemon_manager.proofs.Order.{Some-is}
-use Rattle.daemon_manager.proofs.Appending.{started_same, started_more, push_front, push_last, push_other, pool_other, pool_same, pool_before, pool_next, was_started}
+use Rattle.daemon_manager.proofs.lemmas.Appending.{started_same, started_more, push_front, push_last, push_other, pool_other, pool_same, pool_before, pool_next, was_started}
 
 pub None-is-not : {X : Type 0} {x : X} → None ≡ Some x → ⊥
 None-is-not e = true≢false (sym (ap is_some e))

@@ -57,6 +57,7 @@ impl<L> IdleDaemons<L> {
         Ok(IdleDaemons { numbers, order })
     }
 
+    /// How many daemons are idle.
     pub(crate) fn len(&self) -> usize
         ensures { result ≡ length self.now }
     {

@@ -53,12 +53,14 @@ impl Ledger {
         }
     }
 
+    /// What happened so far, in order.
     pub(crate) fn events(&self) -> &[Event]
         ensures { result.now ≡ self.now.events }
     {
         self.events.as_slice()
     }
 
+    /// What happened, in order.
     pub(crate) fn into_events(self) -> Vec<Event>
         ensures { result.items ≡ self.events }
     {
@@ -151,6 +153,7 @@ fn add_start(events: &mut Vec<Event>, daemon: u64, requirements: Requirements, u
     let _ = events.push(Event::Reserved(daemon, unit));
 }
 
+// 1 for a daemon that is busy, and else 0.
 fn one_if_busy(state: DaemonState) -> usize
     ensures { result ≡ one_if_busy state }
 {
@@ -160,6 +163,7 @@ fn one_if_busy(state: DaemonState) -> usize
     }
 }
 
+// Whether a daemon in this state is busy.
 fn is_busy(state: DaemonState) -> bool
     ensures { IsTrue result ↔ (state ≡ Busy) }
 {

@@ -36,6 +36,7 @@ pub(crate) fn request_of(alloc: Global, body: &[u8]) -> Result<Option<Frame>, Al
     }
 }
 
+// The request of a unit for an action, whose file's name stands in the bytes behind its length. None where no name does.
 #[inline(always)]
 fn request_with(
     alloc: Global,
@@ -58,6 +59,7 @@ fn request_with(
     }
 }
 
+// The text of a file's name, where the bytes have the form of one.
 fn file_of(alloc: Global, name: &[u8]) -> Result<Option<Text>, AllocError>
     ensures { IfOk result (λ f. f ≡ (if is_file_name name.now then Some name.now else None)) }
 {
@@ -87,6 +89,8 @@ fn action_at(bytes: &[u8]) -> Option<(ItemAction, usize)>
     }
 }
 
+// The action Count at the start of the bytes, and how many bytes it takes up. None where the needle isn't whole or has no
+// needle's form.
 fn count_at(bytes: &[u8]) -> Option<(ItemAction, usize)>
     ensures action { result ≡ count_at bytes.now }
     ensures within { IfSome result (λ a. a.1 ≤ length bytes.now + 1) }
@@ -121,6 +125,7 @@ pub(crate) fn reply_of(body: &[u8]) -> Option<Frame>
     }
 }
 
+// The outcome that the bytes say, if they say one.
 fn outcome_of(bytes: &[u8]) -> Option<Outcome>
     ensures { result ≡ outcome_of bytes.now }
 {
@@ -132,6 +137,7 @@ fn outcome_of(bytes: &[u8]) -> Option<Outcome>
     }
 }
 
+// The outcome with a number, which is 8 bytes long.
 fn outcome_of_number(bytes: &[u8]) -> Option<Outcome>
     ensures { result ≡ (if length bytes.now == 8 then Some (Number (from_be_bytes w64 bytes.now)) else None) }
 {
@@ -143,6 +149,7 @@ fn outcome_of_number(bytes: &[u8]) -> Option<Outcome>
     Some(Outcome::Number(u64::from_be_bytes(number)))
 }
 
+// The outcome with a digest, which is `DIGEST_BYTES` long.
 fn outcome_of_digest(bytes: &[u8]) -> Option<Outcome>
     ensures { result ≡ (if length bytes.now == DIGEST_BYTES then Some (Digest bytes.now) else None) }
 {
@@ -154,6 +161,7 @@ fn outcome_of_digest(bytes: &[u8]) -> Option<Outcome>
     Some(Outcome::Digest(digest))
 }
 
+// The outcome without a value that a byte says, if it says one.
 fn cause_of(cause: u8) -> Option<Outcome>
     ensures { result ≡ cause_of cause }
 {

@@ -196,6 +196,7 @@ fn push_frame(
     }
 }
 
+// Pushes the frame, and answers whether there was one.
 #[inline(always)]
 fn push_some(frames: &mut Vec<Frame>, frame: Option<Frame>) -> Result<bool, AllocError>
     ensures { IfOk result (λ is. IsPushed frame frames.old.items frames.new.items is) }
@@ -209,6 +210,7 @@ fn push_some(frames: &mut Vec<Frame>, frame: Option<Frame>) -> Result<bool, Allo
     }
 }
 
+// Takes so many bytes off the front.
 fn drop_front(bytes: &mut Vec<u8>, count: usize)
     requires { count ≤ length bytes.old.items }
     ensures { bytes.new.items ≡ drop count bytes.old.items }
@@ -221,6 +223,7 @@ fn drop_front(bytes: &mut Vec<u8>, count: usize)
     bytes.truncate(left);
 }
 
+// The refusal that a flaw is at this place of the stream.
 fn refusal_at(flaw: Flaw, place: u64) -> FrameRefusal
     ensures { result ≡ refusal_at flaw place }
 {

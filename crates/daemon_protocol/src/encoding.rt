@@ -42,6 +42,7 @@ fn push_tagged(bytes: &mut Vec<u8>, tag: u8, after: &[u8]) -> Result<(), AllocEr
     bytes.extend_from_slice(after)
 }
 
+// The tag of a frame.
 fn tag_of(frame: &Frame) -> u8
     ensures { result ≡ tag frame.now }
 {
@@ -52,6 +53,7 @@ fn tag_of(frame: &Frame) -> u8
     }
 }
 
+// How many bytes a frame's body has.
 fn body_len(frame: &Frame) -> usize
     requires { IsValid frame.now }
     ensures len { result ≡ length (body frame.now) }
@@ -64,6 +66,7 @@ fn body_len(frame: &Frame) -> usize
     }
 }
 
+// How many bytes an action has.
 fn action_len(action: &ItemAction) -> usize
     ensures len { result ≡ length (action_bytes action.now) }
     ensures few { result ≤ MAX_ACTION_BYTES }
@@ -74,6 +77,7 @@ fn action_len(action: &ItemAction) -> usize
     }
 }
 
+// How many bytes an outcome has. Skipped has none, and is never sent.
 fn outcome_len(outcome: Outcome) -> usize
     ensures len { result ≡ length (outcome_bytes outcome) }
     ensures few { result ≤ MAX_OUTCOME_BYTES }
@@ -86,6 +90,7 @@ fn outcome_len(outcome: Outcome) -> usize
     }
 }
 
+// Adds the body of a frame.
 fn push_body(bytes: &mut Vec<u8>, frame: &Frame) -> Result<(), AllocError>
     requires { IsValid frame.now }
     ensures bytes { OnOk result (bytes.new.items ≡ bytes.old.items ++ body frame.now) }
@@ -98,6 +103,7 @@ fn push_body(bytes: &mut Vec<u8>, frame: &Frame) -> Result<(), AllocError>
     }
 }
 
+// Adds the body of a request.
 fn push_request(bytes: &mut Vec<u8>, request: &Request) -> Result<(), AllocError>
     requires { IsValid (frames.Request request.now) }
     ensures bytes { OnOk result (bytes.new.items ≡ bytes.old.items ++ body (frames.Request request.now)) }
@@ -110,6 +116,7 @@ fn push_request(bytes: &mut Vec<u8>, request: &Request) -> Result<(), AllocError
     bytes.extend_from_slice(file)
 }
 
+// Adds the body of a reply.
 fn push_reply(bytes: &mut Vec<u8>, reply: &Reply) -> Result<(), AllocError>
     ensures bytes { OnOk result (bytes.new.items ≡ bytes.old.items ++ body (frames.Reply reply.now)) }
     ensures fits { OnOk result (FrameFits (frames.Reply reply.now)) }
@@ -118,6 +125,7 @@ fn push_reply(bytes: &mut Vec<u8>, reply: &Reply) -> Result<(), AllocError>
     push_outcome(bytes, &reply.outcome)
 }
 
+// Adds the bytes of an action.
 fn push_action(bytes: &mut Vec<u8>, action: &ItemAction) -> Result<(), AllocError>
     ensures bytes { OnOk result (bytes.new.items ≡ bytes.old.items ++ action_bytes action.now) }
     ensures fits { OnOk result (ActionFits action.now) }
@@ -132,6 +140,7 @@ fn push_action(bytes: &mut Vec<u8>, action: &ItemAction) -> Result<(), AllocErro
     }
 }
 
+// Adds the bytes of the action Count with this needle.
 fn push_count(bytes: &mut Vec<u8>, needle: &[u8]) -> Result<(), AllocError>
     requires { length needle.now ≤ MAX_NEEDLE_BYTES }
     ensures { OnOk result (bytes.new.items ≡ bytes.old.items ++ 5 ∷ length needle.now ∷ needle.now) }
@@ -140,6 +149,7 @@ fn push_count(bytes: &mut Vec<u8>, needle: &[u8]) -> Result<(), AllocError>
     bytes.extend_from_slice(needle)
 }
 
+// Adds the bytes of an outcome.
 fn push_outcome(bytes: &mut Vec<u8>, outcome: &Outcome) -> Result<(), AllocError>
     ensures bytes { OnOk result (bytes.new.items ≡ bytes.old.items ++ outcome_bytes outcome.now) }
     ensures fits { OnOk result (OutcomeFits outcome.now) }

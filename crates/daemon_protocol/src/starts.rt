@@ -68,6 +68,7 @@ pub(crate) fn head_of(bytes: &[u8]) -> Head<'_>
     }
 }
 
+// The head of a frame with this tag, by the bytes behind the tag.
 #[inline(always)]
 fn head_of_tag(tag: u8, bytes: &[u8]) -> Head<'_>
     ensures start { start_of result ≡ look_tag tag bytes.now }
@@ -80,6 +81,7 @@ fn head_of_tag(tag: u8, bytes: &[u8]) -> Head<'_>
     }
 }
 
+// The head of a frame with a right tag, by the bytes behind it, which begin with the body's length.
 #[inline(always)]
 fn head_of_length(tag: u8, bytes: &[u8]) -> Head<'_>
     ensures start { start_of result ≡ look_length tag bytes.now }
@@ -91,6 +93,7 @@ fn head_of_length(tag: u8, bytes: &[u8]) -> Head<'_>
     head_of_body(tag, number_of(&bytes[..4]) as usize, &bytes[4..])
 }
 
+// The head of a frame with a right tag and a body of this length, by the bytes behind the length.
 #[inline(always)]
 fn head_of_body(tag: u8, len: usize, bytes: &[u8]) -> Head<'_>
     ensures start { start_of result ≡ look_body tag len bytes.now }
@@ -105,6 +108,7 @@ fn head_of_body(tag: u8, len: usize, bytes: &[u8]) -> Head<'_>
     Head::Whole(tag, &bytes[..len])
 }
 
+// What stands at the start of a stream by what a body of this length is: a whole frame, or a flaw where it is none.
 fn look_field(len: usize, frame: Option<Frame>) -> StreamStart
     requires { HEAD_BYTES + len < 2 ^ 64 }
     ensures { result ≡ look_field len frame }

@@ -24,6 +24,7 @@ pub(crate) fn copy_fields(
     })
 }
 
+// A copy of each text, in their order.
 fn copy_texts(alloc: Global, texts: &[Text]) -> Result<Vec<Text>, AllocError>
     ensures { IfOk result (λ copies. copies.items ≡ texts.now) }
 {
@@ -34,6 +35,7 @@ fn copy_texts(alloc: Global, texts: &[Text]) -> Result<Vec<Text>, AllocError>
     Ok(copies)
 }
 
+// A copy of each pair, in their order.
 fn copy_pairs(alloc: Global, pairs: &[Pair]) -> Result<Vec<Pair>, AllocError>
     ensures { IfOk result (λ copies. copies.items ≡ pairs.now) }
 {
@@ -44,6 +46,7 @@ fn copy_pairs(alloc: Global, pairs: &[Pair]) -> Result<Vec<Pair>, AllocError>
     Ok(copies)
 }
 
+// A copy of a pair.
 fn copy_pair(alloc: Global, pair: &Pair) -> Result<Pair, AllocError>
     ensures { IfOk result (λ copy. copy ≡ pair.now) }
 {

@@ -20,6 +20,7 @@ pub(crate) fn are_same_fields(a: &RequirementFields, b: &RequirementFields) -> b
         && is_same_text(&a.encoding, &b.encoding)
 }
 
+// Whether both lists have the same texts in the same order.
 fn are_same_texts(a: &[Text], b: &[Text]) -> bool
     ensures { IsTrue result ↔ (a.now ≡ b.now) }
 {
@@ -34,6 +35,7 @@ fn are_same_texts(a: &[Text], b: &[Text]) -> bool
     true
 }
 
+// Whether both lists have the same pairs in the same order.
 fn are_same_pairs(a: &[Pair], b: &[Pair]) -> bool
     ensures { IsTrue result ↔ (a.now ≡ b.now) }
 {

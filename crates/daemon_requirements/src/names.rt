@@ -20,6 +20,7 @@ pub(crate) fn first_twice(pairs: &[Pair]) -> Option<usize>
     None
 }
 
+// Whether one of the pairs has this name.
 fn has_name(pairs: &[Pair], name: &Text) -> bool
     ensures { result ≡ list_any (λ p. bytes_eq p.name name.now) pairs.now }
 {

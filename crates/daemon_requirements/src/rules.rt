@@ -127,24 +127,28 @@ impl Field for Vec<Pair> {
     }
 }
 
+// Whether each text that is asked stands among the texts.
 fn has_texts(texts: &[Text], asked: &[Text]) -> bool
     ensures { result ≡ list_all (λ a. list_any (bytes_eq a) texts.now) asked.now }
 {
     asked.iter().all(|wanted| has_text(texts, wanted))
 }
 
+// Whether the text stands among the texts.
 fn has_text(texts: &[Text], wanted: &Text) -> bool
     ensures { result ≡ list_any (bytes_eq wanted.now) texts.now }
 {
     texts.iter().any(|text| is_same_text(wanted, text))
 }
 
+// Whether each pair that is asked stands among the pairs.
 fn has_pairs(pairs: &[Pair], asked: &[Pair]) -> bool
     ensures { result ≡ list_all (λ a. list_any (is_same_pair a) pairs.now) asked.now }
 {
     asked.iter().all(|wanted| has_pair(pairs, wanted))
 }
 
+// Whether the pair stands among the pairs.
 fn has_pair(pairs: &[Pair], wanted: &Pair) -> bool
     ensures { result ≡ list_any (is_same_pair wanted.now) pairs.now }
 {

@@ -14,6 +14,7 @@ use std::thread::Threads;
 /// How many workers there are, each with a project of its own, and how many of them may work at once.
 const WORKERS: u32 = 2;
 
+// How many leases are out at most.
 const MAX_LEASES: u32 = 1;
 
 // Has the workers work, and prints what came of it.

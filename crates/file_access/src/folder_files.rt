@@ -93,6 +93,7 @@ pub fn read_file<R: rt::Files>(
     }
 }
 
+// Opens a file, again where the call was interrupted.
 fn open<R: rt::Files>(rt: &R, name: &str, retries: &mut Retries) -> io::Result<R::File> {
     loop {
         match File::open(rt, name) {

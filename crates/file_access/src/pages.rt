@@ -7,6 +7,7 @@ use crate::sinks::{Failed, Sink, put_all};
 use itoa::{Buffer, write_digits};
 use std::marker::Model;
 
+// The most bytes that wait on a page.
 const MAX_WAITING_BYTES: usize = 4096;
 
 /// The most digits of a number that is written straight onto the page.
@@ -47,6 +48,7 @@ impl Page {
         }
     }
 
+    // How many bytes more can wait.
     fn room(&self) -> usize
         ensures { result + length self.now.waiting ≡ MAX_WAITING_BYTES }
     {

@@ -13,6 +13,7 @@ pub(crate) struct Retries {
 }
 
 impl Retries {
+    /// As many as there may be, 1,000.
     pub fn new() -> Retries
         ensures { result.left ≡ 1000 }
     {

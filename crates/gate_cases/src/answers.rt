@@ -101,6 +101,7 @@ fn print_asked(rt: &HostRuntime, case: &Case, answer: &Answer) -> Result<()> {
     }
 }
 
+// Prints what the run's graph has.
 fn print_graph(rt: &HostRuntime, run: &Run) -> Result<()> {
     let Run {
         workers,

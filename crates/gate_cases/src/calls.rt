@@ -102,6 +102,7 @@ fn failing_puts(alloc: Global, case: &Case, number: usize) -> Result<Vec<u64>> {
     }
 }
 
+// The input of the case's call of this number.
 fn source_of(alloc: Global, case: &Case, number: usize) -> Result<InPieces<MemorySource>> {
     let failing = failing_takes(alloc, case, number)?;
     let bytes = input_of(alloc, case, number)?;
@@ -162,6 +163,7 @@ pub(crate) struct Answer {
     pub(crate) met: bool,
 }
 
+// How many entries of the book finished.
 fn finished_entries(book: &Book) -> u64 {
     let mut finished = 0u64;
     for place in 0..book.len() {
@@ -172,6 +174,7 @@ fn finished_entries(book: &Book) -> u64 {
     finished
 }
 
+// How many units of the book ended with a fault.
 fn faults_in(book: &Book) -> u64 {
     let mut faults = 0u64;
     for unit in 0..book.graph().units() {
@@ -182,6 +185,7 @@ fn faults_in(book: &Book) -> u64 {
     faults
 }
 
+// What is printed of a run, by its book.
 fn run_of(book: &Book) -> Run {
     let graph = book.graph();
     Run {
@@ -194,6 +198,7 @@ fn run_of(book: &Book) -> Run {
     }
 }
 
+// What is printed of the run that a call ended with, if it ended with one.
 fn run_in(ended: &Ended) -> Option<Run> {
     match &ended.book {
         Some(book) => Some(run_of(book)),

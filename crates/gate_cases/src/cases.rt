@@ -123,6 +123,7 @@ pub(crate) fn case_of<'a>(alloc: Global, sections: &'a [Section<'a>]) -> Result<
     Ok(case)
 }
 
+// The limits that a case says, or ample ones.
 fn limits_of(sections: &[Section]) -> Result<Limits> {
     Ok(Limits {
         room: number_in(sections, "room", AMPLE)?,
@@ -145,6 +146,7 @@ fn add_section(alloc: Global, case: &mut Case, section: &Section) -> Result<()> 
     }
 }
 
+// Adds the words of a text.
 fn add_words(alloc: Global, words: &mut Vec<Text>, text: &str, between: char) -> Result<()> {
     for word in text.split(between) {
         words.push(Text::from_str(alloc, word)?)?;
@@ -168,6 +170,7 @@ fn bytes_of(alloc: Global, lines: Option<&str>) -> Result<Vec<u8>, AllocError> {
     Ok(bytes)
 }
 
+// Adds the file that a section says.
 fn add_file(alloc: Global, files: &mut Vec<FileEntry>, section: &Section) -> Result<()> {
     let bytes = bytes_of(alloc, section.lines)?;
     let name = Text::from_str(alloc, section.rest)?;
@@ -221,6 +224,7 @@ fn add_times(alloc: Global, bytes: &mut Vec<u8>, section: &Section) -> Result<()
     Ok(())
 }
 
+// Adds what a section says to the input.
 fn add_input(alloc: Global, input: &mut Vec<u8>, section: &Section) -> Result<()> {
     if let Some(lines) = section.lines {
         add_lines(input, lines)?;
@@ -228,6 +232,7 @@ fn add_input(alloc: Global, input: &mut Vec<u8>, section: &Section) -> Result<()
     add_digits(alloc, input, section.rest)
 }
 
+// Adds so many empty lines to the input.
 fn add_empty_lines(input: &mut Vec<u8>, digits: &str) -> Result<()> {
     let len = input.len().saturating_add(number_of(digits)? as usize);
     input.resize(len, b'\n')?;

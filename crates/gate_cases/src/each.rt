@@ -46,6 +46,7 @@ pub(crate) fn each_of(rest: Option<&str>) -> Result<Option<Each>> {
     }
 }
 
+// Each text that differs in one byte, by this pattern of bits.
 fn each_byte(kept: u8, turned: &str) -> Result<Option<Each>> {
     match turned.parse::<u8>() {
         Ok(turned) => Ok(Some(Each::Byte(kept, turned))),
@@ -53,6 +54,7 @@ fn each_byte(kept: u8, turned: &str) -> Result<Option<Each>> {
     }
 }
 
+// Each text that differs in one line, by the change of this name.
 fn each_line(change: &str) -> Result<Option<Each>> {
     match line_change(change) {
         Some(change) => Ok(Some(Each::Line(change))),

@@ -12,6 +12,7 @@ pub(crate) enum LineChange {
     Between(&'static [u8], &'static [u8]),
 }
 
+// The changes of a line, by their names.
 static CHANGES: [(&str, LineChange); 9] = [
     ("left out", LineChange::LeftOut),
     ("twice", LineChange::Twice),

@@ -48,6 +48,7 @@ fn told(alloc: Global, answer: &Answer, bytes: &[u8]) -> Result<String> {
     }
 }
 
+// The row of an answer whose bytes are no text.
 fn status_and_digits(alloc: Global, answer: &Answer, bytes: &[u8]) -> Result<String> {
     let digits = hex::encode(alloc, bytes)?;
     let place = Counted(" at ", answer.place, "");

@@ -8,6 +8,7 @@ use file_access::{Page, Sink};
 use item_actions::{ActionKind, Text};
 use resource_lock::Retention;
 
+// How many items an action has.
 const ITEMS: u32 = 4;
 
 // What an item does, by a number drawn.
@@ -44,6 +45,7 @@ fn second_wait(number: u64) -> Retention
     }
 }
 
+// Writes an item, whose action is drawn.
 fn write_item<K: Sink>(file: &Text, draws: &mut Draws, page: &mut Page, sink: &mut K)
     ensures text { Adds (K.seen sink.old) page.old (K.seen sink.new) page.new (item_text file.now draws.old.number) }
     ensures drawn { draws.new.number ≡ after_draws 1 draws.old.number }
@@ -55,6 +57,7 @@ fn write_item<K: Sink>(file: &Text, draws: &mut Draws, page: &mut Page, sink: &m
     page.text(sink, b"\"\n");
 }
 
+// Writes the items of an action.
 fn write_items<K: Sink>(file: &Text, draws: &mut Draws, page: &mut Page, sink: &mut K)
     ensures text { Adds (K.seen sink.old) page.old (K.seen sink.new) page.new (items_text file.now draws.old.number) }
     ensures drawn { draws.new.number ≡ after_draws 4 draws.old.number }
@@ -64,6 +67,7 @@ fn write_items<K: Sink>(file: &Text, draws: &mut Draws, page: &mut Page, sink: &
     }
 }
 
+// Writes the head of an action, with its retention.
 fn write_wait<K: Sink>(wait: Retention, page: &mut Page, sink: &mut K)
     ensures { Adds (K.seen sink.old) page.old (K.seen sink.new) page.new (wait_text wait) }
 {

@@ -1,8 +1,10 @@
 ghost use Rattle.std.specs.Prelude.{◌≡◌};
 ghost use Rattle.generated_plan.specs.Draws.{draw, number_after};
 
+// What the number of the last draw is multiplied by.
 const FACTOR: u64 = 6_364_136_223_846_793_005;
 
+// What is added then.
 const STEP: u64 = 1_442_695_040_888_963_407;
 
 /// Numbers that are drawn one after another.

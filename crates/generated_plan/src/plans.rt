@@ -10,6 +10,7 @@ use item_actions::Text;
 /// How many tasks a plan has.
 const TASKS: u32 = 400;
 
+// Writes the project of this number.
 fn write_project<K: Sink>(project: u64, page: &mut Page, sink: &mut K)
     ensures { Adds (K.seen sink.old) page.old (K.seen sink.new) page.new (project_text project) }
 {
@@ -18,6 +19,7 @@ fn write_project<K: Sink>(project: u64, page: &mut Page, sink: &mut K)
     page.text(sink, b"\"\n");
 }
 
+// Writes all projects.
 fn write_projects<K: Sink>(page: &mut Page, sink: &mut K)
     ensures { Adds (K.seen sink.old) page.old (K.seen sink.new) page.new projects_text }
 {
@@ -26,6 +28,7 @@ fn write_projects<K: Sink>(page: &mut Page, sink: &mut K)
     }
 }
 
+// Writes all tasks, drawn from the seed.
 fn write_tasks<K: Sink>(seed: u64, file: &Text, page: &mut Page, sink: &mut K)
     ensures { Adds (K.seen sink.old) page.old (K.seen sink.new) page.new (tasks_text seed file.now) }
 {
@@ -35,6 +38,7 @@ fn write_tasks<K: Sink>(seed: u64, file: &Text, page: &mut Page, sink: &mut K)
     }
 }
 
+// Writes the whole plan.
 fn write_plan<K: Sink>(seed: u64, file: &Text, page: &mut Page, sink: &mut K)
     ensures { Adds (K.seen sink.old) page.old (K.seen sink.new) page.new (made seed file.now) }
 {

@@ -1,5 +1,5 @@
 -- What a worker has, owns and runs, and lists without its entries.
-use Rattle.std.specs.Prelude.{ℕ, ◌≡◌, ◌≢◌, ◌<◌, ◌+◌, Bool, List, [], ◌∷◌, ◌++◌, map, Some, if◌then◌else◌}
+use Rattle.std.specs.Prelude.{ℕ, ◌≡◌, ◌≢◌, ◌<◌, ◌+◌, Bool, true, false, List, [], ◌∷◌, ◌++◌, map, Some, if◌then◌else◌}
 use Rattle.resource_lock.specs.declared.ids.LockId.{LockId}
 use Rattle.resource_lock.specs.declared.ids.WorkerId.{WorkerId}
 use Rattle.resource_lock.specs.declared.marks.Mark.TheVariants.{Running}
@@ -26,6 +26,14 @@ unit_at n = UnitOf n
 -- tasks, actions and units, in this order
 abbrev pub marks_in : List ℕ → List ℕ → List ℕ → List MarkId
 marks_in tasks actions units = map task_at tasks ++ (map action_at actions ++ map unit_at units)
+
+abbrev pub is_unit : MarkId → Bool
+is_unit (UnitOf u) = true
+is_unit _ = false
+
+abbrev pub is_action : MarkId → Bool
+is_action (ActionOf a) = true
+is_action _ = false
 
 -- the marks that are Running by a worker: tasks, actions, units, each by rising number
 abbrev pub claimed : StateView → WorkerId → List MarkId

@@ -1,6 +1,7 @@
 -- The laws of the second line.
 use Rattle.std.proofs.Common.{◌≡◌, ◌≢◌, ℕ, ◌+◌, ◌<◌, ◌≤◌, List, [], ◌∷◌, ◌++◌, Option, Some, None, Bool, true, false, refl, sym, ap, subst, ◌∙◌, append_assoc, append-nil, arith, decimal, codes, nat_eq, cond}
 use Rattle.std.proofs.lemmas.Bool.{ne_eqb, eqb-false}
+use Rattle.resource_lock.specs.declared.limits.TheConstants.{MAX_WORKERS}
 use Rattle.history_text.specs.Text.{parallel_text}
 use Rattle.history_text.specs.Fitting.{HeadFits}
 use Rattle.history_reader.specs.declared.heads.Settings.{Settings}
@@ -12,26 +13,26 @@ use Rattle.history_reader.proofs.Words.{Spelled, some_is, none_some, bind_some, 
 record CountRead (text : List ℕ) (y : ℕ × List ℕ) : Type 0 where
   is : text ≡ decimal y.0 ++ y.1
   some : 1 ≤ y.0
-  few : y.0 ≤ 32
+  few : y.0 ≤ MAX_WORKERS
 
 count_taken : (text : List ℕ) (y : ℕ × List ℕ) → count_at text ≡ Some y → CountRead text y
 unfolding count_at
 count_taken text y e =
-    let n = bind_some (number_at 33 text) _ y e in
-    let a = number_taken 33 text n.0 (omega arith) (omega arith) n.1 in
+    let n = bind_some (number_at (MAX_WORKERS + 1) text) _ y e in
+    let a = number_taken (MAX_WORKERS + 1) text n.0 (omega arith) (omega arith) n.1 in
     at n.0 a.0 a.1 (nat_eq n.0.0 0) refl n.2
   where
-    at : (n : ℕ × List ℕ) → n.0 < 33 → text ≡ decimal n.0 ++ n.1 → (b : Bool) → nat_eq n.0 0 ≡ b → cond (nat_eq n.0 0) None (Some n) ≡ Some y → CountRead text y
+    at : (n : ℕ × List ℕ) → n.0 < MAX_WORKERS + 1 → text ≡ decimal n.0 ++ n.1 → (b : Bool) → nat_eq n.0 0 ≡ b → cond (nat_eq n.0 0) None (Some n) ≡ Some y → CountRead text y
     at n few is true s h = absurd (none_some (sym (ap (λ b. cond b None (Some n)) s) ∙ h))
     at n few is false s h =
         let ne : n.0 ≢ 0 = eqb-false n.0 0 s in
         subst (λ z. CountRead text z) (some_is (sym (ap (λ b. cond b None (Some n)) s) ∙ h)) (record { is = is; some = omega arith; few = omega arith })
 
-count_again : (n : ℕ) (rest : List ℕ) → 1 ≤ n → n ≤ 32 → begins_with_digit rest ≡ false → count_at (decimal n ++ rest) ≡ Some (n, rest)
+count_again : (n : ℕ) (rest : List ℕ) → 1 ≤ n → n ≤ MAX_WORKERS → begins_with_digit rest ≡ false → count_at (decimal n ++ rest) ≡ Some (n, rest)
 unfolding count_at
 count_again n rest some few nd =
     let ne : n ≢ 0 = omega arith in
-    ap (λ r. r >>= λ k. cond (nat_eq k.0 0) None (Some k)) (number_again 33 n rest (omega arith) (omega arith) nd)
+    ap (λ r. r >>= λ k. cond (nat_eq k.0 0) None (Some k)) (number_again (MAX_WORKERS + 1) n rest (omega arith) (omega arith) nd)
     ∙ ap (λ b. cond b None (Some (n, rest))) (ne_eqb n 0 ne)
 
 abbrev Any : Bool → Type 0

@@ -4,6 +4,7 @@ use Rattle.std.specs.Prelude.{Err, ◌≡◌, zero, suc, Bool, true, false, if�
 use Rattle.history_reader.specs.Plain.{LockId, WorkerId, MarkId, TaskOf, ActionOf, UnitOf, Mark, Waiting, Queued, Running, Passed, Failed, Skipped, Change}
 use Rattle.history_reader.specs.Plain.{Lock, Unlock, Take, Give, Move, Park, Unpark, Enter, Leave, Outcome, Number, Digest, NotThere, TooLong, Fault, NoMemory}
 use Rattle.history_reader.specs.Plain.{Closed, Kind, Start, Skip, Submit, ParkFor, Resume, Claim, Close, Block, Unblock, End, Acquire, HandBack}
+use Rattle.resource_lock.specs.declared.limits.TheConstants.{MAX_WORKERS}
 use Rattle.lock_transforms.specs.Entry.{Entry}
 use Rattle.history_reader.specs.declared.heads.Settings.{Settings}
 use Rattle.history_reader.specs.declared.fails.ReadFail.{ReadFail}
@@ -175,7 +176,7 @@ Gives view (Err Memory) read = Unit {0}
 
 -- a number of workers or leases
 unfoldable pub count_at : List ℕ → Option (ℕ × List ℕ)
-count_at text = number_at 33 text >>= λ n. if nat_eq n.0 0 then None else Some n
+count_at text = number_at (MAX_WORKERS + 1) text >>= λ n. if nat_eq n.0 0 then None else Some n
 
 unfoldable pub parallel_at : List ℕ → Option (Bool × List ℕ)
 parallel_at text = branch (codes "yes") text (plain true) (branch (codes "no") text (plain false) None)

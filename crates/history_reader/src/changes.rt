@@ -21,6 +21,7 @@ fn read_mark(text: &[u8], worker: WorkerId) -> Option<(Mark, &[u8])>
     None
 }
 
+// Reads which mark it is at the start of the text, and gives what follows.
 #[tactic(auto, unfolding(crate::specs::Reading::id_at, crate::specs::Reading::branch))]
 fn read_id(text: &[u8]) -> Option<(MarkId, &[u8])>
     ensures { option_map (λ x. (x.0, x.1.now)) result ≡ id_at text.now }
@@ -33,6 +34,7 @@ fn read_id(text: &[u8]) -> Option<(MarkId, &[u8])>
     None
 }
 
+// Reads a move of a mark at the start of the text, and gives what follows.
 #[tactic(auto, unfolding(crate::specs::Reading::move_at))]
 fn read_move(text: &[u8], worker: WorkerId) -> Option<(Change, &[u8])>
     ensures { option_map (λ x. (x.0, x.1.now)) result ≡ move_at worker text.now }

@@ -14,6 +14,7 @@ fn digit_value(digit: u8) -> Option<u8>
     }
 }
 
+// Reads a byte of two hexadecimal digits at the start of the text, and gives what follows.
 fn read_byte(text: &[u8]) -> Option<(u8, &[u8])>
     ensures { option_map (λ x. (x.0, x.1.now)) result ≡ byte_at text.now }
 {

@@ -37,6 +37,7 @@ fn read_further<'a>(
     Err(ReadFail::Wrong)
 }
 
+// Reads changes with commas between them at the start of the text, and gives what follows.
 #[tactic(auto, unfolding(crate::specs::Reading::changes_at))]
 fn read_changes<'a>(
     changes: &mut Vec<Change>,
@@ -123,6 +124,7 @@ pub(crate) fn read_entry_line(
     }
 }
 
+// Reads the `end` line behind so many entries, and gives what follows.
 #[tactic(auto, unfolding(crate::specs::Reading::end_at))]
 fn read_end(text: &[u8], count: u64) -> Option<&[u8]>
     ensures { option_map (λ r. r.now) result ≡ end_at count text.now }

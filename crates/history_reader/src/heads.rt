@@ -33,6 +33,7 @@ fn read_count(text: &[u8]) -> Option<(u32, &[u8])>
     Some((count as u32, rest))
 }
 
+// Reads `yes` or `no` at the start of the text, and gives what follows.
 #[tactic(auto, unfolding(crate::specs::Reading::parallel_at, crate::specs::Reading::branch))]
 fn read_parallel(text: &[u8]) -> Option<(bool, &[u8])>
     ensures { option_map (λ x. (x.0, x.1.now)) result ≡ parallel_at text.now }

@@ -7,6 +7,7 @@ use crate::tokens::{by_word, read_long, read_short, text_after};
 use item_actions::Outcome;
 use lock_transforms::Closed;
 
+// Reads an outcome at the start of the text, and gives what follows.
 #[tactic(auto, unfolding(crate::specs::Reading::outcome_at, crate::specs::Reading::branch))]
 fn read_outcome(text: &[u8]) -> Option<(Outcome, &[u8])>
     ensures { option_map (λ x. (x.0, x.1.now)) result ≡ outcome_at text.now }

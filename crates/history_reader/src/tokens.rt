@@ -58,6 +58,7 @@ macro_rules! by_word {
 
 pub(crate) use by_word;
 
+// Reads the digits behind the first one of a number that is `last` at most, and gives the number and what follows.
 fn read_digits(text: &[u8], first: u64, last: u64) -> Option<(u64, &[u8])>
     requires { first ≤ last }
     ensures reads { option_map (λ x. (x.0, x.1.now)) result ≡ number_after (last + 1) first text.now }

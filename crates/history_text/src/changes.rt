@@ -30,6 +30,7 @@ pub fn write_mark<K: Sink>(mark: Mark, page: &mut Page, sink: &mut K)
     }
 }
 
+// Writes which mark it is.
 #[inline(always)]
 fn write_id<K: Sink>(id: MarkId, page: &mut Page, sink: &mut K)
     ensures { Adds (K.seen sink.old) page.old (K.seen sink.new) page.new (id_text id) }
@@ -41,6 +42,7 @@ fn write_id<K: Sink>(id: MarkId, page: &mut Page, sink: &mut K)
     }
 }
 
+// Writes a move of a mark.
 #[inline(always)]
 fn write_move<K: Sink>(id: MarkId, from: Mark, to: Mark, page: &mut Page, sink: &mut K)
     ensures { Adds (K.seen sink.old) page.old (K.seen sink.new) page.new (change_text (Change.Move id from to)) }
@@ -68,6 +70,7 @@ fn write_change<K: Sink>(change: &Change, page: &mut Page, sink: &mut K)
     }
 }
 
+// Writes the changes behind the first, each behind a comma.
 fn write_further<K: Sink>(changes: &[Change], page: &mut Page, sink: &mut K)
     ensures { Adds (K.seen sink.old) page.old (K.seen sink.new) page.new (flat_map further_text changes.now) }
 {
@@ -77,6 +80,7 @@ fn write_further<K: Sink>(changes: &[Change], page: &mut Page, sink: &mut K)
     }
 }
 
+// Writes the changes of an entry, or that there are none.
 fn write_changes<K: Sink>(changes: &[Change], page: &mut Page, sink: &mut K)
     ensures { Adds (K.seen sink.old) page.old (K.seen sink.new) page.new (changes_text changes.now) }
 {

@@ -9,6 +9,7 @@ use file_access::{Page, Sink};
 use lock_journal::{Book, Shown};
 use lock_transforms::{Closed, Kind};
 
+// Writes the word, and the unit and the outcome that an entry closes.
 fn write_closed<K: Sink>(word: &[u8], closed: &Closed, page: &mut Page, sink: &mut K)
     ensures { Adds (K.seen sink.old) page.old (K.seen sink.new) page.new (word.now ++ closed_text closed.now) }
 {

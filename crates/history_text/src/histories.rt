@@ -7,6 +7,7 @@ use crate::entries::write_entries;
 use file_access::{Page, Sink};
 use lock_journal::Book;
 
+// Writes whether projects run beside each other.
 fn write_parallel<K: Sink>(parallel: bool, page: &mut Page, sink: &mut K)
     ensures { Adds (K.seen sink.old) page.old (K.seen sink.new) page.new (parallel_text parallel) }
 {

@@ -45,6 +45,7 @@ pub(crate) fn write_value<K: Sink>(outcome: &Outcome, page: &mut Page, sink: &mu
     }
 }
 
+// Writes a digest as hexadecimal digits.
 fn write_digest<K: Sink>(digest: &[u8; 32], page: &mut Page, sink: &mut K)
     ensures { Adds (K.seen sink.old) page.old (K.seen sink.new) page.new (flat_map hex_text digest.now) }
 {

@@ -64,6 +64,7 @@ fn write_tasks<K: Sink>(tasks: &[PlanTask], book: &Book, page: &mut Page, sink: 
     }
 }
 
+// Writes the results of a run that has ended.
 fn write_whole<K: Sink>(plan: &Plan, book: &Book, page: &mut Page, sink: &mut K)
     requires tasks { length book.now.graph.tasks ≡ length plan.now.tasks }
     requires units { book.now.graph.units ≡ length (plan_units plan.now) }

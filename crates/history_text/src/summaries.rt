@@ -11,6 +11,7 @@ use file_access::{Page, Sink};
 use item_actions::Outcome;
 use lock_journal::Book;
 
+// How many tasks passed, failed and were skipped.
 fn count_tasks(book: &Book) -> Counts
     ensures { result ≡ task_counts (below (length book.now.graph.tasks) (task_marks book.now.state)) }
 {
@@ -21,6 +22,7 @@ fn count_tasks(book: &Book) -> Counts
     counts
 }
 
+// How many units passed, failed and were skipped.
 fn count_units(book: &Book) -> Counts
     requires { HasEnded book.now.state }
     ensures { result ≡ unit_counts (below book.now.graph.units (outcome_in book.now.history)) }
@@ -44,6 +46,7 @@ fn total_of(book: &Book) -> u128
     total
 }
 
+// The number of an outcome, or 0 where it has none.
 fn number_in(outcome: &Outcome) -> u64
     ensures { result ≡ number_in outcome.now }
 {
@@ -65,6 +68,7 @@ pub(crate) fn write_counts<K: Sink>(counts: Counts, page: &mut Page, sink: &mut 
     page.text(sink, b" skipped\n");
 }
 
+// Writes the line with the counts of tasks.
 fn write_tasks_line<K: Sink>(book: &Book, page: &mut Page, sink: &mut K)
     ensures { Adds (K.seen sink.old) page.old (K.seen sink.new) page.new
         (codes "tasks: " ++ counts_text (task_counts (below (length book.now.graph.tasks) (task_marks book.now.state)))) }
@@ -73,6 +77,7 @@ fn write_tasks_line<K: Sink>(book: &Book, page: &mut Page, sink: &mut K)
     write_counts(count_tasks(book), page, sink);
 }
 
+// Writes the line with the counts of units.
 fn write_units_line<K: Sink>(book: &Book, page: &mut Page, sink: &mut K)
     requires { HasEnded book.now.state }
     ensures { Adds (K.seen sink.old) page.old (K.seen sink.new) page.new
@@ -82,6 +87,7 @@ fn write_units_line<K: Sink>(book: &Book, page: &mut Page, sink: &mut K)
     write_counts(count_units(book), page, sink);
 }
 
+// Writes the line with the sum of all numbers.
 fn write_total_line<K: Sink>(book: &Book, page: &mut Page, sink: &mut K)
     requires { HasEnded book.now.state }
     ensures { Adds (K.seen sink.old) page.old (K.seen sink.new) page.new

@@ -42,6 +42,7 @@ pub(crate) fn write_unit<K: Sink>(
     page.text(sink, b"\n");
 }
 
+// Writes the line of an item.
 fn write_item<K: Sink>(work: &Work, number: u32, book: &Book, page: &mut Page, sink: &mut K)
     requires within { number < book.now.graph.units }
     requires ended { HasEnded book.now.state }

@@ -75,11 +75,13 @@ impl Join<Option<Reach>> for Telling {
     ghost spent = { None };
 }
 
+/// The end of a board at which a reach is shown.
 pub type BoardWriter = Writer<Reach, Reach, Option<Reach>, OneLedger>;
 
+/// An end of a board at which a reach is read.
 pub type BoardReader = Reader<Reach, Option<Reach>, OneLedger>;
 
-// A board that shows the reach, with room for so many readers.
+/// A board that shows the reach, with room for so many readers.
 pub fn open_board<R: Wait>(
     rt: &R,
     alloc: Global,
@@ -94,7 +96,7 @@ pub fn open_board<R: Wait>(
     Ok(writer)
 }
 
-// Takes the memory that the next showing needs. It is false where there is none, and changes nothing that is shown.
+/// Takes the memory that the next showing needs. It is false where there is none, and changes nothing that is shown.
 pub fn has_room(writer: &mut BoardWriter, reach: &Reach) -> bool
     requires { Writes reach.now.ledger (view writer.old.desk.place) writer.old.desk.shown.value (drop writer.old.behind writer.old.log.items) }
     ensures { Writes reach.now.ledger (view writer.new.desk.place) writer.new.desk.shown.value (drop writer.new.behind writer.new.log.items) }
@@ -102,7 +104,7 @@ pub fn has_room(writer: &mut BoardWriter, reach: &Reach) -> bool
     writer.append(reach.again()).is_ok()
 }
 
-// Shows the reach. It waits for those that still read what was shown before the last time.
+/// Shows the reach. It waits for those that still read what was shown before the last time.
 pub fn show<R: Wait>(rt: &R, mut writer: BoardWriter, reach: &Reach) -> BoardWriter
     requires { Writes reach.now.ledger (view writer.desk.place) writer.desk.shown.value (drop writer.behind writer.log.items) }
     ensures { Writes reach.now.ledger (view result.desk.place) result.desk.shown.value (drop result.behind result.log.items) }
@@ -112,7 +114,7 @@ pub fn show<R: Wait>(rt: &R, mut writer: BoardWriter, reach: &Reach) -> BoardWri
     writer
 }
 
-// A reader of the board, which knows the ledger. It fails where the board has no place left, or for want of memory.
+/// A reader of the board, which knows the ledger. It fails where the board has no place left, or for want of memory.
 pub fn reader_of(writer: &mut BoardWriter, reach: &Reach) -> Result<BoardReader, AllocError>
     requires { Writes reach.now.ledger (view writer.old.desk.place) writer.old.desk.shown.value (drop writer.old.behind writer.old.log.items) }
     ensures writer { Writes reach.now.ledger (view writer.new.desk.place) writer.new.desk.shown.value (drop writer.new.behind writer.new.log.items) }
@@ -123,7 +125,7 @@ pub fn reader_of(writer: &mut BoardWriter, reach: &Reach) -> Result<BoardReader,
     Ok(reader)
 }
 
-// What is shown, or none where the writer is gone.
+/// What is shown, or none where the writer is gone.
 pub fn read(reader: BoardReader, reach: &Reach) -> (BoardReader, Option<Reach>)
     requires { Names reach.now.ledger (view reader.place) }
     ensures reader { Names reach.now.ledger (view result.0.place) }

@@ -27,7 +27,7 @@ impl Model for Ledger {
 }
 
 impl Ledger {
-    // A ledger that begins with the book. None would mean that somebody else had it before.
+    /// A ledger that begins with the book. None would mean that somebody else had it before.
     pub fn open(book: &Book) -> Option<Ledger>
         ensures { IfSome result (λ l. l.log ≡ book.now ∷ []) }
     {
@@ -43,7 +43,7 @@ impl Ledger {
         })
     }
 
-    // Adds a book that goes on from the last one. False would mean that somebody else had added one.
+    /// Adds a book that goes on from the last one. False would mean that somebody else had added one.
     pub fn advance(&mut self, book: &Book) -> bool
         requires { IsLater (last_book self.old.log) book.now }
         ensures ledger { self.new.ledger ≡ self.old.ledger }

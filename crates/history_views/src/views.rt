@@ -38,7 +38,7 @@ impl Model for View {
 }
 
 impl View {
-    // A view over a reader.
+    /// A view over a reader.
     pub(crate) fn over(reader: BoardReader, reach: &Reach) -> View
         requires { Names reach.now.ledger (known_at reader.place) }
         ensures { result ≡ reach.now }

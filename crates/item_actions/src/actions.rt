@@ -10,6 +10,7 @@ use crate::pieces::longest_piece;
 use crate::word_counts::count_of_words;
 use sha2::{Digest, Sha256};
 
+// The byte that ends a line.
 const LINE_END: u8 = b'\n';
 
 /// What is worked out of a file's bytes.

@@ -2,6 +2,7 @@ ghost use Rattle.std.specs.Prelude.{◌≡◌, ◌==◌, ◌+◌, ◌≤◌, len
 
 use std::simd::prelude::*;
 
+// How many bytes are looked at together.
 const LANES: usize = 32;
 
 /// How many of the bytes equal `byte`.
@@ -16,6 +17,7 @@ pub(crate) fn count_of_byte(bytes: &[u8], byte: u8) -> usize
     total + count_one_by_one(&bytes[LANES * blocks..], byte)
 }
 
+// How often the byte stands in the bytes.
 fn count_one_by_one(bytes: &[u8], byte: u8) -> usize
     ensures { result ≡ count_by (λ b. b == byte) bytes.now }
 {

@@ -13,6 +13,7 @@ enum Part {
     Name,
 }
 
+// Whether the byte can stand in a file's name.
 fn is_file_byte(b: u8) -> bool
     ensures { result ≡ is_file_byte b }
 {

@@ -33,6 +33,7 @@ fn equal_to(lanes: u8x32, byte: u8) -> u8x32
         .select(u8x32::splat(255), u8x32::splat(0))
 }
 
+// 255 at each byte from a tab to a carriage return, and else 0.
 #[inline(always)]
 fn tabs(lanes: u8x32) -> u8x32
     ensures { HasLanes result (λ k. bit_and (if nat_le 9 (slice_index lanes k) then 255 else 0) (if nat_le (slice_index lanes k) 13 then 255 else 0)) }
@@ -40,6 +41,7 @@ fn tabs(lanes: u8x32) -> u8x32
     both(at_least(lanes, 9), at_most(lanes, 13))
 }
 
+// 255 at each byte that isn't below `low`, and else 0.
 #[inline(always)]
 fn at_least(lanes: u8x32, low: u8) -> u8x32
     ensures { HasLanes result (λ k. if nat_le low (slice_index lanes k) then 255 else 0) }
@@ -49,6 +51,7 @@ fn at_least(lanes: u8x32, low: u8) -> u8x32
         .select(u8x32::splat(255), u8x32::splat(0))
 }
 
+// 255 at each byte that isn't above `high`, and else 0.
 #[inline(always)]
 fn at_most(lanes: u8x32, high: u8) -> u8x32
     ensures { HasLanes result (λ k. if nat_le (slice_index lanes k) high then 255 else 0) }
@@ -66,6 +69,7 @@ pub(crate) fn both(left: u8x32, right: u8x32) -> u8x32
     left & right
 }
 
+// At each place the bits of both.
 #[inline(always)]
 fn either(left: u8x32, right: u8x32) -> u8x32
     ensures { HasLanes result (λ k. bit_or (slice_index left k) (slice_index right k)) }

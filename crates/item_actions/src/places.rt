@@ -6,8 +6,10 @@ ghost use Rattle.item_actions.specs.Bytes.{FirstIsAlone, agrees, occurrences};
 
 use std::simd::prelude::*;
 
+// How many places are looked at together.
 const LANES: usize = 32;
 
+// A bit for each of the places that are looked at together.
 const ALL_PLACES: u64 = 0xffff_ffff;
 
 /// How often a needle is found of which no two occurrences can overlap: at how many places it stands.
@@ -30,6 +32,7 @@ pub(crate) fn count_of_places(bytes: &[u8], needle: &[u8]) -> usize
     total
 }
 
+// Whether the needle stands at the place, behind which there are bytes enough.
 fn occurs_at(bytes: &[u8], needle: &[u8], place: usize) -> bool
     requires { place + length needle.now ≤ length bytes.now }
     ensures { result ≡ occurs_at bytes.now needle.now place }

@@ -5,6 +5,7 @@ ghost use Rattle.item_actions.specs.Bytes.{is_space, begins_word, follows_space,
 use crate::lanes::{both, count_of_tops, flipped, later, load, spaces};
 use std::simd::prelude::*;
 
+// How many bytes are looked at together.
 const LANES: usize = 32;
 
 /// How many maximal runs there are of bytes that aren't space bytes.
@@ -41,6 +42,7 @@ fn count_in_block(bytes: &[u8], at: usize, before: u8x32) -> (u32, u8x32)
     (count_of_tops(begins), here)
 }
 
+// Whether a word begins at the place.
 fn begins_word(bytes: &[u8], place: usize) -> bool
     requires { place < length bytes.now }
     ensures { result ≡ begins_word bytes.now place }
@@ -48,6 +50,7 @@ fn begins_word(bytes: &[u8], place: usize) -> bool
     !is_space(bytes[place]) && (place == 0 || is_space(bytes[place - 1]))
 }
 
+// Whether the byte stands between words.
 fn is_space(byte: u8) -> bool
     ensures { result ≡ is_space byte }
 {

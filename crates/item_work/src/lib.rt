@@ -7,3 +7,4 @@ mod processes;
 
 pub use daemons::PoolLock;
 pub use items::run_item;
+pub use processes::{ask, request_for};

@@ -57,8 +57,8 @@ pub(crate) fn work_in_daemon<R: Wait, D: Desk, U: Ledger, F: Ledger>(
     }
 }
 
-// The request for the unit's action on its file.
-fn request_for(alloc: Global, unit: u32, work: &Work) -> Result<Request, AllocError>
+/// The request for the unit's action on its file. The error is want of memory alone.
+pub fn request_for(alloc: Global, unit: u32, work: &Work) -> Result<Request, AllocError>
     ensures { IfOk result (λ request. request ≡ request_for unit work.now) }
 {
     Ok(Request {
@@ -121,9 +121,9 @@ fn give_back<R: Wait, D: Desk, U: Ledger, F: Ledger>(
     }
 }
 
-// Sends the request over a settled link that covers what is asked, and receives the reply. The link is then settled exactly
-// where there is one.
-fn ask<D: Desk>(
+/// Sends the request over a settled link that covers what is asked, and receives the reply. The link is then settled exactly
+/// where there is one; another is for `stop` alone.
+pub fn ask<D: Desk>(
     alloc: Global,
     desk: &mut D,
     link: &mut D::Link,

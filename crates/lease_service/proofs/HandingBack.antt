@@ -19,7 +19,7 @@ use Rattle.coordination.specs.Calls.{HasFinished, WasStopped}
 use Rattle.coordination.specs.Shown.{blocked_shown, claimed_shown, lease_shown, locks_shown}
 use Rattle.coordination.proofs.lemmas.Shown.{shows_left}
 use Rattle.lease_service.specs.Shows.{ShowsGivenBack}
-use Rattle.lease_service.proofs.Owned.{owns_some}
+use Rattle.history_laws.proofs.lemmas.Owned.{owns_some}
 use Rattle.lease_service.proofs.Taking.{is_free}
 
 -- these locks, and a lease where there was one

@@ -1,4 +1,4 @@
+pub mod lemmas
 pub mod Names
-pub mod Owned
 pub mod Taking
 pub mod HandingBack

@@ -1,7 +1,6 @@
 -- What taking locks and a lease leaves, and when it can't be done.
-use Rattle.std.proofs.Common.{◌≡◌, ◌<◌, ◌⊎◌, Bool, true, false, not, cond, ◌&&◌, List, [], ◌∷◌, ◌++◌, map, Result, Ok, Err, OnErr, inl, inr, refl, sym, ap, ◌∙◌, subst}
+use Rattle.std.proofs.Common.{◌≡◌, ◌<◌, ◌⊎◌, Bool, true, false, not, cond, ◌&&◌, List, [], ◌∷◌, ◌++◌, map, inl, inr, refl, sym, ap, ◌∙◌, subst}
 use Rattle.std.specs.List.{All, filter, list_all}
-use Rattle.std.specs.Result.{IsErrAnd}
 use Rattle.std.proofs.lemmas.Bool.{and_from, false≢true, lt-ltb}
 use Rattle.std.proofs.lemmas.List.Elements.{All-head, All-tail}
 use Rattle.resource_lock.specs.Change.{holding_after}
@@ -18,16 +17,14 @@ use Rattle.lock_transforms.specs.Taking.{acquired, can_take_all, is_open, may_ac
 use Rattle.lock_transforms.specs.declared.entries.Kind.{Kind}
 use Rattle.lock_transforms.specs.declared.entries.Kind.TheVariants as kinds
 use Rattle.history_laws.specs.OwnChanges.{after_all, claimed_after, lock_before, locks_after, with_member}
+use Rattle.history_laws.proofs.lemmas.Claims.{runs_nothing}
+use Rattle.history_laws.proofs.lemmas.Owned.{filter_same, stands_in_owned}
 use Rattle.coordination.specs.declared.rule.Sight.{Sight}
-use Rattle.coordination.specs.declared.halts.Halt.{Halt}
-use Rattle.coordination.specs.declared.halts.Halt.TheVariants.{NoMemory, Stopped}
 use Rattle.coordination.specs.Agrees.{Finds}
-use Rattle.coordination.specs.Attempts.{Cause}
-use Rattle.coordination.specs.Calls.{HasFailed, HasFinished, HasLooked, WasStopped}
-use Rattle.coordination.specs.Shown.{ShowsTheSame, claimed_shown, locks_shown}
-use Rattle.coordination.proofs.lemmas.Shown.{looked_shows, shows_left, stopped_for, stopped_shows}
+use Rattle.coordination.specs.Calls.{HasFailed, HasFinished, WasStopped}
+use Rattle.coordination.specs.Shown.{claimed_shown, locks_shown}
+use Rattle.coordination.proofs.lemmas.Shown.{shows_left, stopped_for}
 use Rattle.lease_service.specs.Shows.{MayTake, ShowsTaken, with_locks}
-use Rattle.lease_service.proofs.Owned.{filter_same, runs_nothing, stands_in_owned}
 
 -- these locks, and a lease where there was none
 abbrev takes : List LockId → Bool → List Change
@@ -112,16 +109,3 @@ failed_short fails locks f = (
     sight = f.sight;
   },
 )
-
--- whichever way a call came to nothing, its worker has what it had
-pub kept_by : {retries : Cause} {old new : Sight} (halt : Halt) → (◌≡◌ {A = Result Bool Halt} (Err halt) (Err NoMemory) → HasLooked old new)
-    → ((by : WorkerId) → ◌≡◌ {A = Result Bool Halt} (Err halt) (Err (Stopped by)) → WasStopped retries by old new) → ShowsTheSame old new
-kept_by NoMemory looked stopped = looked_shows (looked refl)
-kept_by (Stopped by) looked stopped = stopped_shows (stopped by refl)
-
-pub on_err_of : {A E P : Type 0} (r : Result A E) → P → OnErr r P
-on_err_of (Ok a) p = tt
-on_err_of (Err e) p = p
-
-pub err_at : {A E : Type 0} (P : E → Type 0) (r : Result A E) (e : E) → r ≡ Err e → IsErrAnd r P → P e
-err_at P r e is p = subst (λ x. IsErrAnd x P) is p

@@ -10,6 +10,7 @@ use crate::status::Status;
 use file_access::{Failed, Page, Sink};
 use plan_reader::{Part, Place, PlanRefusal, Which};
 
+// The number and the name of the refusal of too many of these.
 fn excess_label(which: Which) -> &'static [u8]
     ensures { result.now ≡ excess_label which }
 {
@@ -46,6 +47,7 @@ fn label_of(refusal: PlanRefusal) -> &'static [u8]
     }
 }
 
+// The word of a part of a plan.
 fn part_word(part: Part) -> &'static [u8]
     ensures { result.now ≡ part_word part }
 {
@@ -57,6 +59,7 @@ fn part_word(part: Part) -> &'static [u8]
     }
 }
 
+// Writes a place of a plan.
 fn write_place<K: Sink>(place: Place, page: &mut Page, sink: &mut K)
     ensures { Adds (K.seen sink.old) page.old (K.seen sink.new) page.new (place_text place) }
 {
@@ -65,6 +68,7 @@ fn write_place<K: Sink>(place: Place, page: &mut Page, sink: &mut K)
     page.number(sink, u64::from(place.number));
 }
 
+// Writes the line of a plan that is refused.
 fn write_bad_plan<K: Sink>(refusal: PlanRefusal, page: &mut Page, sink: &mut K)
     ensures { Adds (K.seen sink.old) page.old (K.seen sink.new) page.new (bad_plan_line refusal) }
 {
@@ -75,6 +79,7 @@ fn write_bad_plan<K: Sink>(refusal: PlanRefusal, page: &mut Page, sink: &mut K)
     page.text(sink, b"\n");
 }
 
+// Writes the line of a history whose entry of this number isn't allowed.
 fn write_not_lawful<K: Sink>(number: u64, page: &mut Page, sink: &mut K)
     ensures { Adds (K.seen sink.old) page.old (K.seen sink.new) page.new (not_lawful_line number) }
 {
@@ -83,6 +88,7 @@ fn write_not_lawful<K: Sink>(number: u64, page: &mut Page, sink: &mut K)
     page.text(sink, b"\n");
 }
 
+// Writes the line of a recorded run whose entry of this number differs.
 fn write_differs<K: Sink>(number: u64, page: &mut Page, sink: &mut K)
     ensures { Adds (K.seen sink.old) page.old (K.seen sink.new) page.new (differs_line number) }
 {
@@ -91,6 +97,7 @@ fn write_differs<K: Sink>(number: u64, page: &mut Page, sink: &mut K)
     page.text(sink, b"\n");
 }
 
+// Writes the line of a recorded run in which this unit's file wasn't read.
 fn write_not_read<K: Sink>(unit: u32, page: &mut Page, sink: &mut K)
     ensures { Adds (K.seen sink.old) page.old (K.seen sink.new) page.new (not_read_line unit) }
 {

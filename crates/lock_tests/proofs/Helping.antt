@@ -10,7 +10,8 @@ use Rattle.history_laws.specs.OwnChanges.{mark_before, without_member}
 use Rattle.coordination.specs.Shown.{ShowsTheSame, claimed_shown}
 use Rattle.coordination.specs.declared.rule.Sight.{Sight}
 use Rattle.async_tracker.specs.ParkedView.{ParkedView}
-use Rattle.async_tracker.specs.Shows.{ShowsResumed, is_action, is_unit}
+use Rattle.history_laws.specs.Own.{is_action, is_unit}
+use Rattle.async_tracker.specs.Shows.{ShowsResumed}
 use Rattle.async_tracker.proofs.lemmas.Turns.{free_still, parked_still, waits_still}
 use Rattle.lock_tests.specs.TwoItems.{CanEnd, CanHelp, HasTwoItems}
 

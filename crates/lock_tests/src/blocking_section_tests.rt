@@ -4,7 +4,7 @@ ghost use Rattle.std.specs.List.{list_any};
 ghost use Rattle.lock_transforms.specs.Taking.{rises};
 ghost use Rattle.coordination.specs.Shown.{blocked_shown, claimed_shown, lease_shown, locks_shown, parked_shown};
 ghost use Rattle.lease_service.specs.Shows.{MayTake};
-ghost use Rattle.blocking_section.specs.Sections.{is_unit};
+ghost use Rattle.history_laws.specs.Own.{is_unit};
 
 use crate::entries::{EntriesFrom, EntryRow, are_entries};
 use crate::rows::Limits;

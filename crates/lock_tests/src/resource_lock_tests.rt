@@ -90,10 +90,17 @@ fn knows_its_units(graph: &Graph) -> bool {
     true
 }
 
+// Whether the graph is as before, and knows the action of each unit, where these are noted.
+fn knows_noted_units(alloc: Global, graph: &mut Graph) -> Result<bool, AllocError> {
+    graph.note_unit_actions(alloc)?;
+    Ok(has_its_parts(graph) && knows_its_units(graph))
+}
+
 #[test]
 fn a_graph_knows_its_parts_and_the_action_of_each_unit(rt: HostRuntime) -> Result<(), Fail> {
-    let graph = graph_of(&rt, rt.alloc(), &LIMITS, &TASKS, &ACTIONS)?;
+    let mut graph = graph_of(&rt, rt.alloc(), &LIMITS, &TASKS, &ACTIONS)?;
     assert!(rt; has_its_parts(&graph) && knows_its_units(&graph));
+    assert!(rt; knows_noted_units(rt.alloc(), &mut graph)?);
     Ok(())
 }
 

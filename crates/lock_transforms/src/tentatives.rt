@@ -154,13 +154,15 @@ impl Tentative {
         }
     }
 
-    /// The state that a run of the graph begins in, with room for so many changes.
-    pub fn opening(alloc: Global, graph: Graph, changes: usize) -> Result<Tentative, AllocError>
+    /// The state that a run of the graph begins in, with room for so many changes. It takes a word for each unit too, by which
+    /// the unit's action is found.
+    pub fn opening(alloc: Global, mut graph: Graph, changes: usize) -> Result<Tentative, AllocError>
         ensures graph { IfOk result (λ tentative. tentative.graph ≡ graph) }
         ensures state { IfOk result (λ tentative. tentative.state ≡ opening_of graph) }
         ensures made { IfOk result (λ tentative. tentative.made ≡ []) }
         ensures room { IfOk result (λ tentative. changes ≤ tentative.room) }
     {
+        graph.note_unit_actions(alloc)?;
         let made = Vec::with_capacity(alloc, changes)?;
         let state = State::opening(alloc, &graph)?;
         Ok(Tentative {

@@ -2,4 +2,3 @@ pub mod SumsBelow
 pub mod SumsKept
 pub mod Stopping
 pub mod Permitted
-pub mod Coverings

@@ -8,7 +8,7 @@ use Rattle.daemon_manager.specs.declared.events.Event.TheVariants.{Started, Rese
 use Rattle.daemon_manager.specs.declared.events.DaemonState.{DaemonState}
 use Rattle.daemon_manager.specs.declared.events.DaemonState.TheVariants.{Busy}
 use Rattle.daemon_manager.specs.Events.{DaemonView, daemon_of, pool, started, started_with, state_after}
-use Rattle.daemon_manager.proofs.Appending.{pool_other, pool_same, pool_before, pool_next, started_more, started_same, was_started}
+use Rattle.daemon_manager.proofs.lemmas.Appending.{pool_other, pool_same, pool_before, pool_next, started_more, started_same, was_started}
 use Rattle.memory_budget.specs.Heaps.{heap_where, heaps_where, sum_below}
 
 pub sum_same : (f g : ℕ → ℕ) (n : ℕ) → ((k : ℕ) → k < n → f k ≡ g k) → sum_below f n ≡ sum_below g n

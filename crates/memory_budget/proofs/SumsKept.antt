@@ -12,7 +12,7 @@ use Rattle.daemon_manager.specs.declared.reserved.Reserved.{Reserved}
 use Rattle.daemon_manager.specs.Calls.{Adopts, Fails, FailsOrNot, Keeps, KeepsAndStops, Releases, Reserves, StopsIdle, idle_daemon}
 use Rattle.daemon_manager.specs.Events.{pool, started}
 use Rattle.daemon_manager.specs.PoolView.{PoolView, IsPool, IsOf}
-use Rattle.daemon_manager.proofs.PoolKept.{released_agrees}
+use Rattle.daemon_manager.proofs.lemmas.PoolKept.{released_agrees}
 use Rattle.memory_budget.specs.Heaps.{busy_heaps, has_memory, held, idle_heaps, is_busy}
 use Rattle.memory_budget.specs.Sums.{AreSums}
 use Rattle.memory_budget.proofs.SumsBelow.{adoption_adds, event_changes}

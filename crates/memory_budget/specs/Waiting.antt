@@ -6,6 +6,7 @@ use Rattle.daemon_requirements.specs.Covers.{Covers}
 use Rattle.daemon_requirements.specs.declared.work.Isolation.{Isolation}
 use Rattle.daemon_requirements.specs.declared.work.Isolation.TheVariants.{InThread, Process}
 use Rattle.daemon_protocol.specs.declared.frames.Request.{Request}
+use Rattle.file_access.specs.ReadView.{IsOutcomeCounted}
 use Rattle.item_work.specs.Requests.{SentView, Sends}
 use Rattle.memory_budget.specs.declared.rooms.Room.{Room}
 use Rattle.memory_budget.specs.declared.rooms.Room.TheVariants.{Idle, Start, Over as NoRoom}
@@ -34,6 +35,11 @@ AsksProcess (Process asked) = Unit {0}
 abbrev pub IfDone : Budgeted → (Outcome → Type 0) → Type 0
 IfDone (Done outcome) P = P outcome
 IfDone (Over heap_mb) P = Unit {0}
+
+-- the count of faults rises by one where the item was a fault, and at no other answer
+abbrev pub IsCountedWithin : ℕ → ℕ → Budgeted → Type 0
+IsCountedWithin old new (Done outcome) = IsOutcomeCounted old new outcome
+IsCountedWithin old new (Over heap_mb) = new ≡ old
 
 -- what an item asks for is told where it is over the budget, and only then
 abbrev pub IsOverExactly : RequirementsView → ℕ → Budgeted → Type 0

@@ -13,4 +13,4 @@ pub use locks::BudgetLock;
 pub use permits::Permit;
 pub use pools::{BudgetPool, MAX_BUDGET_MB};
 pub use rooms::{Room, Unadopted};
-pub use runs::{Budgeted, run_in_budget};
+pub use runs::{Budgeted, run_in_budget, stop_idle};

@@ -29,7 +29,7 @@ impl Permit {
         &self.requirements
     }
 
-    // Ends a permit that isn't out any more.
+    /// Ends a permit that isn't out any more.
     pub(crate) fn end(self) {
         let Permit {
             unit: _,

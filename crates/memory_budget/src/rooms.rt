@@ -1,3 +1,4 @@
+//! What comes of asking for room in a budget, and of taking a daemon in.
 use crate::permits::Permit;
 use daemon_manager::Reserved;
 

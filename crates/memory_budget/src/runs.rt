@@ -1,14 +1,13 @@
 //! An item that a daemon works out, within a budget of memory.
-ghost use Rattle.std.specs.Prelude.{◌≡◌, ◌≢◌, ◌≤◌, IfOk, IfSome, true};
-ghost use Rattle.std.specs.Result.{IsErrOf, is_ok};
+ghost use Rattle.std.specs.Prelude.{◌≡◌, ◌≢◌, IfOk, IfSome, true};
 ghost use Rattle.item_actions.specs.Forms.{is_file_name};
 ghost use Rattle.item_actions.specs.Value.{IsHonest, value_on};
 ghost use Rattle.item_actions.specs.declared.outcomes.Outcome.TheVariants as outcomes;
 ghost use Rattle.daemon_requirements.specs.Covers.{Covers};
 ghost use Rattle.daemon_desk.specs.Replies.{IsReplyTo};
-ghost use Rattle.file_access.specs.SinkView.{Rises};
+ghost use Rattle.file_access.specs.ReadView.{IsFaultCounted, IsOutcomeCounted};
 ghost use Rattle.item_work.specs.Requests.{Asks, Sends, request_for};
-ghost use Rattle.memory_budget.specs.Waiting.{AsksProcess, IfDone, IsOverExactly, IsOverFor, SendsWithin, SendsWithinFor};
+ghost use Rattle.memory_budget.specs.Waiting.{AsksProcess, IfDone, IsCountedWithin, IsOverExactly, IsOverFor, SendsWithin, SendsWithinFor};
 
 use crate::locks::BudgetLock;
 use crate::permits::{Permit, heap_of};
@@ -16,11 +15,12 @@ use crate::rooms::{Room, Unadopted};
 use daemon_desk::Desk;
 use daemon_manager::Reserved;
 use daemon_protocol::{Reply, Request};
-use daemon_requirements::{Isolation, Requirements, Work};
+use daemon_requirements::{Isolation, Linked, Requirements, Work};
 use file_access::DeskFail;
 use item_actions::Outcome;
+use item_work::{ask, request_for};
 use lease_service::Lease;
-use std::alloc::{AllocError, Global};
+use std::alloc::Global;
 use std::sync::Wait;
 
 /// What came of an item within a budget.
@@ -36,9 +36,9 @@ pub enum Budgeted {
 ///
 /// While the item waits and runs the lease borrows its pass, so the worker takes part in no transform. The item runs in a process,
 /// and its file has the form of a file's name. What asks for more than the budget is `Over`, and nothing else is. Where the files
-/// are known the outcome is the action's value on them, NotThere or TooLong; else Fault, where the desk failed and its count of
-/// faults rose, or NoMemory. At most one request is sent, this unit's, to a daemon that covers what is asked; it is sent where
-/// the outcome is neither Fault nor NoMemory.
+/// are known the outcome is the action's value on them, NotThere or TooLong; else Fault, where the desk failed, or NoMemory. The
+/// desk's count of faults rises by one at Fault, and at no other answer. No file is read here. At most one request is sent, this
+/// unit's, to a daemon that covers what is asked; it is sent where the outcome is neither Fault nor NoMemory.
 pub fn run_in_budget<R: Wait, D: Desk>(
     rt: &R,
     alloc: Global,
@@ -51,10 +51,10 @@ pub fn run_in_budget<R: Wait, D: Desk>(
     requires process { AsksProcess work.now.isolation }
     requires form { is_file_name work.now.file ≡ true }
     ensures files { D.files desk.new ≡ D.files desk.old }
-    ensures kept { D.faults desk.old ≤ D.faults desk.new }
+    ensures reads { D.reads desk.new ≡ D.reads desk.old }
     ensures over { IsOverFor work.now.isolation pool.now.budget_mb result }
     ensures ran { IfDone result (λ outcome. outcome ≢ outcomes.Skipped) }
-    ensures fault { IfDone result (λ outcome. outcome ≡ outcomes.Fault → Rises (D.faults desk.old) (D.faults desk.new)) }
+    ensures faults { IsCountedWithin (D.faults desk.old) (D.faults desk.new) result }
     ensures honest { IfDone result (λ outcome.
         IfSome (D.files desk.old) (λ known. IsHonest outcome (value_on known work.now.action work.now.file))) }
     ensures sent { SendsWithinFor work.now.isolation (record { count = D.sends desk.old; requests = D.sent desk.old })
@@ -78,10 +78,10 @@ fn run_asked<R: Wait, D: Desk>(
 ) -> Budgeted
     requires form { is_file_name work.now.file ≡ true }
     ensures files { D.files desk.new ≡ D.files desk.old }
-    ensures kept { D.faults desk.old ≤ D.faults desk.new }
+    ensures reads { D.reads desk.new ≡ D.reads desk.old }
     ensures over { IsOverExactly asked.now pool.now.budget_mb result }
     ensures ran { IfDone result (λ outcome. outcome ≢ outcomes.Skipped) }
-    ensures fault { IfDone result (λ outcome. outcome ≡ outcomes.Fault → Rises (D.faults desk.old) (D.faults desk.new)) }
+    ensures faults { IsCountedWithin (D.faults desk.old) (D.faults desk.new) result }
     ensures honest { IfDone result (λ outcome.
         IfSome (D.files desk.old) (λ known. IsHonest outcome (value_on known work.now.action work.now.file))) }
     ensures sent { SendsWithin asked.now (record { count = D.sends desk.old; requests = D.sent desk.old })
@@ -107,9 +107,9 @@ fn work_in_daemon<R: Wait, D: Desk>(
 ) -> Outcome
     requires form { is_file_name work.now.file ≡ true }
     ensures files { D.files desk.new ≡ D.files desk.old }
-    ensures kept { D.faults desk.old ≤ D.faults desk.new }
+    ensures reads { D.reads desk.new ≡ D.reads desk.old }
     ensures ran { result ≢ outcomes.Skipped }
-    ensures fault { result ≡ outcomes.Fault → Rises (D.faults desk.old) (D.faults desk.new) }
+    ensures faults { IsOutcomeCounted (D.faults desk.old) (D.faults desk.new) result }
     ensures honest { IfSome (D.files desk.old) (λ known. IsHonest result (value_on known work.now.action work.now.file)) }
     ensures sent { Sends asked.now (record { count = D.sends desk.old; requests = D.sent desk.old })
         (record { count = D.sends desk.new; requests = D.sent desk.new }) (request_for unit work.now) result }
@@ -124,17 +124,6 @@ fn work_in_daemon<R: Wait, D: Desk>(
     }
 }
 
-// The request for the unit's action on its file.
-fn request_for(alloc: Global, unit: u32, work: &Work) -> Result<Request, AllocError>
-    ensures { IfOk result (λ request. request ≡ request_for unit work.now) }
-{
-    Ok(Request {
-        unit,
-        action: work.action,
-        file: work.file.copy(alloc)?,
-    })
-}
-
 // Asks a daemon of the pool, or a new one, once there is room for it. The idle daemons that made the room are stopped first.
 fn ask_daemon<R: Wait, D: Desk>(
     rt: &R,
@@ -146,8 +135,8 @@ fn ask_daemon<R: Wait, D: Desk>(
 ) -> Result<Reply, DeskFail>
     requires { is_file_name request.now.file ≡ true }
     ensures files { D.files desk.new ≡ D.files desk.old }
-    ensures kept { D.faults desk.old ≤ D.faults desk.new }
-    ensures failed { IsErrOf result DeskFail.Failed → Rises (D.faults desk.old) (D.faults desk.new) }
+    ensures reads { D.reads desk.new ≡ D.reads desk.old }
+    ensures faults { IsFaultCounted (D.faults desk.old) (D.faults desk.new) result }
     ensures reply { IfOk result (λ reply. IsReplyTo (D.files desk.old) request.now reply) }
     ensures sent { Asks (record { count = D.sends desk.old; requests = D.sent desk.old })
         (record { count = D.sends desk.new; requests = D.sent desk.new }) asked.now request.now result }
@@ -155,7 +144,8 @@ fn ask_daemon<R: Wait, D: Desk>(
     match pool.wait_for_room(rt, alloc, request.unit, asked)? {
         Room::Idle(reserved) => ask_reserved(rt, alloc, desk, pool, reserved, request, asked),
         Room::Start(permit, links) => {
-            stop_each(desk, links);
+            stop_each(rt, desk, pool, links);
+            pool.wait_for_ends(rt);
             ask_started(rt, alloc, desk, pool, permit, request, asked)
         }
         Room::Over(_) => unreachable!(),
@@ -163,8 +153,14 @@ fn ask_daemon<R: Wait, D: Desk>(
 }
 
 // Stops these daemons, in this order.
-fn stop_each<D: Desk>(desk: &mut D, links: Vec<D::Link>)
+fn stop_each<R: Wait, D: Desk>(
+    rt: &R,
+    desk: &mut D,
+    pool: &BudgetLock<D::Link>,
+    links: Vec<D::Link>,
+)
     ensures files { D.files desk.new ≡ D.files desk.old }
+    ensures reads { D.reads desk.new ≡ D.reads desk.old }
     ensures faults { D.faults desk.new ≡ D.faults desk.old }
     ensures sends { D.sends desk.new ≡ D.sends desk.old }
     ensures sent { D.sent desk.new ≡ D.sent desk.old }
@@ -172,9 +168,40 @@ fn stop_each<D: Desk>(desk: &mut D, links: Vec<D::Link>)
     let mut links = links;
     links.reverse();
     while let Some(link) = links.pop() {
-        desk.stop(link);
+        stop(rt, desk, pool, link);
     }
     links.destroy_empty();
+}
+
+// Stops a daemon that the pool gave to stop. Once it has ended, its memory serves for others.
+fn stop<R: Wait, D: Desk>(rt: &R, desk: &mut D, pool: &BudgetLock<D::Link>, link: D::Link)
+    ensures files { D.files desk.new ≡ D.files desk.old }
+    ensures reads { D.reads desk.new ≡ D.reads desk.old }
+    ensures faults { D.faults desk.new ≡ D.faults desk.old }
+    ensures sends { D.sends desk.new ≡ D.sends desk.old }
+    ensures sent { D.sent desk.new ≡ D.sent desk.old }
+{
+    let heap_mb = heap_of(link.made_for());
+    desk.stop(link);
+    pool.ended(rt, heap_mb);
+}
+
+/// Stops the idle daemon of the pool that was released first, if one is idle, and tells whether it did. Who waits for room looks
+/// again once the daemon has ended.
+pub fn stop_idle<R: Wait, D: Desk>(rt: &R, desk: &mut D, pool: &BudgetLock<D::Link>) -> bool
+    ensures files { D.files desk.new ≡ D.files desk.old }
+    ensures reads { D.reads desk.new ≡ D.reads desk.old }
+    ensures faults { D.faults desk.new ≡ D.faults desk.old }
+    ensures sends { D.sends desk.new ≡ D.sends desk.old }
+    ensures sent { D.sent desk.new ≡ D.sent desk.old }
+{
+    match pool.stop_idle(rt) {
+        Some(link) => {
+            stop(rt, desk, pool, link);
+            true
+        }
+        None => false,
+    }
 }
 
 // Starts a daemon on the permit, and asks it. The permit is given up where none was started, or none could be kept.
@@ -190,8 +217,8 @@ fn ask_started<R: Wait, D: Desk>(
     requires permit { permit.requirements ≡ asked.now }
     requires form { is_file_name request.now.file ≡ true }
     ensures files { D.files desk.new ≡ D.files desk.old }
-    ensures kept { D.faults desk.old ≤ D.faults desk.new }
-    ensures failed { IsErrOf result DeskFail.Failed → Rises (D.faults desk.old) (D.faults desk.new) }
+    ensures reads { D.reads desk.new ≡ D.reads desk.old }
+    ensures faults { IsFaultCounted (D.faults desk.old) (D.faults desk.new) result }
     ensures reply { IfOk result (λ reply. IsReplyTo (D.files desk.old) request.now reply) }
     ensures sent { Asks (record { count = D.sends desk.old; requests = D.sent desk.old })
         (record { count = D.sends desk.new; requests = D.sent desk.new }) asked.now request.now result }
@@ -222,8 +249,8 @@ fn ask_adopted<R: Wait, D: Desk>(
     requires settled { D.Link.settled link ≡ true }
     requires form { is_file_name request.now.file ≡ true }
     ensures files { D.files desk.new ≡ D.files desk.old }
-    ensures kept { D.faults desk.old ≤ D.faults desk.new }
-    ensures failed { IsErrOf result DeskFail.Failed → Rises (D.faults desk.old) (D.faults desk.new) }
+    ensures reads { D.reads desk.new ≡ D.reads desk.old }
+    ensures faults { IsFaultCounted (D.faults desk.old) (D.faults desk.new) result }
     ensures reply { IfOk result (λ reply. IsReplyTo (D.files desk.old) request.now reply) }
     ensures sent { Asks (record { count = D.sends desk.old; requests = D.sent desk.old })
         (record { count = D.sends desk.new; requests = D.sent desk.new }) asked.now request.now result }
@@ -235,8 +262,8 @@ fn ask_adopted<R: Wait, D: Desk>(
             ask_once(alloc, desk, link, request, asked)
         }
         Err(Unadopted::NoMemory(permit, link)) => {
-            pool.give_up(rt, permit);
             desk.stop(link);
+            pool.give_up(rt, permit);
             Err(DeskFail::NoMemory)
         }
     }
@@ -254,8 +281,8 @@ fn ask_once<D: Desk>(
     requires settled { D.Link.settled link ≡ true }
     requires form { is_file_name request.now.file ≡ true }
     ensures files { D.files desk.new ≡ D.files desk.old }
-    ensures kept { D.faults desk.old ≤ D.faults desk.new }
-    ensures failed { IsErrOf result DeskFail.Failed → Rises (D.faults desk.old) (D.faults desk.new) }
+    ensures reads { D.reads desk.new ≡ D.reads desk.old }
+    ensures faults { IsFaultCounted (D.faults desk.old) (D.faults desk.new) result }
     ensures reply { IfOk result (λ reply. IsReplyTo (D.files desk.old) request.now reply) }
     ensures sent { Asks (record { count = D.sends desk.old; requests = D.sent desk.old })
         (record { count = D.sends desk.new; requests = D.sent desk.new }) asked.now request.now result }
@@ -280,8 +307,8 @@ fn ask_reserved<R: Wait, D: Desk>(
     requires settled { D.Link.settled reserved.link ≡ true }
     requires form { is_file_name request.now.file ≡ true }
     ensures files { D.files desk.new ≡ D.files desk.old }
-    ensures kept { D.faults desk.old ≤ D.faults desk.new }
-    ensures failed { IsErrOf result DeskFail.Failed → Rises (D.faults desk.old) (D.faults desk.new) }
+    ensures reads { D.reads desk.new ≡ D.reads desk.old }
+    ensures faults { IsFaultCounted (D.faults desk.old) (D.faults desk.new) result }
     ensures reply { IfOk result (λ reply. IsReplyTo (D.files desk.old) request.now reply) }
     ensures sent { Asks (record { count = D.sends desk.old; requests = D.sent desk.old })
         (record { count = D.sends desk.new; requests = D.sent desk.new }) asked.now request.now result }
@@ -302,6 +329,7 @@ fn give_back<R: Wait, D: Desk>(
 )
     requires { D.Link.settled reserved.link ≡ answered }
     ensures files { D.files desk.new ≡ D.files desk.old }
+    ensures reads { D.reads desk.new ≡ D.reads desk.old }
     ensures faults { D.faults desk.new ≡ D.faults desk.old }
     ensures sends { D.sends desk.new ≡ D.sends desk.old }
     ensures sent { D.sent desk.new ≡ D.sent desk.old }
@@ -312,30 +340,6 @@ fn give_back<R: Wait, D: Desk>(
         Some(pool.fail(rt, reserved))
     };
     if let Some(link) = spare {
-        desk.stop(link);
+        stop(rt, desk, pool, link);
     }
-}
-
-// Sends the request over a settled link that covers what is asked, and receives the reply. The link is then settled exactly where
-// there is one.
-fn ask<D: Desk>(
-    alloc: Global,
-    desk: &mut D,
-    link: &mut D::Link,
-    request: &Request,
-    asked: &Requirements,
-) -> Result<Reply, DeskFail>
-    requires covers { Covers (D.Link.requirements link.old) asked.now }
-    requires settled { D.Link.settled link.old ≡ true }
-    requires form { is_file_name request.now.file ≡ true }
-    ensures settled { D.Link.settled link.new ≡ is_ok result }
-    ensures files { D.files desk.new ≡ D.files desk.old }
-    ensures kept { D.faults desk.old ≤ D.faults desk.new }
-    ensures failed { IsErrOf result DeskFail.Failed → Rises (D.faults desk.old) (D.faults desk.new) }
-    ensures reply { IfOk result (λ reply. IsReplyTo (D.files desk.old) request.now reply) }
-    ensures sent { Asks (record { count = D.sends desk.old; requests = D.sent desk.old })
-        (record { count = D.sends desk.new; requests = D.sent desk.new }) asked.now request.now result }
-{
-    desk.send(alloc, link, request)?;
-    desk.receive(alloc, link)
 }

@@ -5,6 +5,7 @@ use Rattle.std.specs.List.{list_any, sum_by}
 use Rattle.std.specs.Option.{option_map_or}
 use Rattle.std.specs.Str.{bytes_eq}
 use Rattle.toml.specs.Data.{Data}
+use Rattle.daemon_requirements.specs.declared.requirement.TheConstants.{MAX_HEAP_MB}
 use Rattle.plan_table.specs.declared.refusals.Part.{Part}
 use Rattle.plan_table.specs.declared.refusals.Part.TheVariants as part
 use Rattle.plan_table.specs.declared.refusals.Which.{Which}
@@ -88,7 +89,7 @@ asks_unknown names item = option_map_or (λ name. not (has_name names name)) (re
 
 -- from 1 to 65,536 MB
 abbrev pub is_heap : ℤ → Bool
-is_heap (pos mb) = nat_le 1 mb && nat_le mb 65536
+is_heap (pos mb) = nat_le 1 mb && nat_le mb MAX_HEAP_MB
 is_heap (negsuc n) = false
 
 -- of an item

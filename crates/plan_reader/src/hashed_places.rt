@@ -16,6 +16,7 @@ pub(crate) struct HashedPlaces {
     places: Vec<u32>,
 }
 
+// The hash of a name's bytes.
 fn hash_of(name: &str) -> u64 {
     let mut hasher = FoldHasher::default();
     hasher.write(name.as_bytes());

@@ -18,6 +18,7 @@ pub(crate) struct Known<'k, 'a> {
 }
 
 impl Known<'_, '_> {
+    // The requirements of this name, if there are any.
     fn profile(&self, name: &str) -> Option<&Requirements>
         ensures { option_map (λ p. p.now) result ≡ option_and_then (slice_get self.now.profiles.now) (position (bytes_eq name.now) self.now.requirements.now) }
     {

@@ -18,25 +18,30 @@ use plan_table::{
 use resource_lock::{MAX_ACTIONS_PER_TASK, MAX_AFTER, MAX_TASKS, MAX_UNITS};
 use toml::{Table, Value};
 
+// The most projects of a plan.
 const MAX_PROJECTS: usize = 512;
 
+// The most tables of requirements of a plan.
 const MAX_REQUIREMENTS: usize = 256;
 
 /// The most arguments, properties or variables of one requirements table.
 const MAX_LISTED: usize = 64;
 
+// How many tables these are.
 fn table_count(tables: &[Value]) -> usize
     ensures { result ≡ length (map view tables.now) }
 {
     tables.len()
 }
 
+// How many texts these are.
 fn text_count(texts: &[Value]) -> usize
     ensures { result ≡ length (map (λ v. text_of (view v)) texts.now) }
 {
     texts.len()
 }
 
+// How many units an action has: its items, and its fetch if it has one.
 fn unit_count(action: &Value) -> usize
     ensures { result ≡ unit_count (view action.now) }
 {
@@ -53,6 +58,7 @@ fn room_after_actions(mut room: usize, actions: &[Value]) -> Option<usize>
     Some(room)
 }
 
+// How much room for units is left behind a task, or none where it isn't enough.
 fn room_after_task(room: usize, task: &Value) -> Option<usize>
     ensures { IsLeft room (task_unit_count (view task.now)) result }
 {
@@ -69,12 +75,14 @@ fn room_after_tasks(mut room: usize, tasks: &[Value]) -> Option<usize>
     Some(room)
 }
 
+// Whether the plan has more than `MAX_UNITS` units.
 fn has_many_units(document: &Value) -> bool
     ensures { result ≡ nat_lt MAX_UNITS (plan_unit_count (view document.now)) }
 {
     room_after_tasks(MAX_UNITS as usize, tasks_of(document)).is_none()
 }
 
+// What the plan has too many of, the first in the order of the limits.
 fn excess_of_plan(document: &Value) -> Option<Which>
     ensures { result ≡ excess_of_plan (view document.now) }
 {
@@ -91,6 +99,7 @@ fn excess_of_plan(document: &Value) -> Option<Which>
     }
 }
 
+// What a task has too many of: actions, or texts in `after`.
 fn excess_of_task(task: &Value) -> Option<Which>
     ensures { result ≡ excess_of_task (view task.now) }
 {
@@ -103,6 +112,7 @@ fn excess_of_task(task: &Value) -> Option<Which>
     }
 }
 
+// How many pairs a table has, or 0 where there is none.
 fn pair_count(pairs: Option<&Table>) -> usize
     ensures { result ≡ length {A = Text × Text} (option_map_or (λ m. map (λ e. (string_bytes e.0, text_of (view e.1))) m.now.entries) pairs.entry []) }
 {
@@ -112,6 +122,7 @@ fn pair_count(pairs: Option<&Table>) -> usize
     }
 }
 
+// Whether requirements keep the limit of their arguments, properties and variables.
 fn has_few_lists(requirements: &Value) -> bool
     ensures { result ≡ has_few_lists (view requirements.now) }
 {
@@ -120,6 +131,7 @@ fn has_few_lists(requirements: &Value) -> bool
         && pair_count(variables_of(requirements)) <= MAX_LISTED
 }
 
+// What requirements have too many of: members of one of their lists, or nothing.
 fn excess_of_requirements(requirements: &Value) -> Option<Which>
     ensures { result ≡ excess_of_requirements (view requirements.now) }
 {

@@ -47,6 +47,7 @@ fn numbers_of<'a>(
     Ok(Ok(numbers))
 }
 
+// The names as borrowed strings, in their order.
 fn strs_of<'a>(alloc: Global, names: &'a [Text]) -> Result<Vec<&'a str>, AllocError>
     ensures { IfOk result (λ strs. texts strs.items ≡ names.entry.now) }
 {

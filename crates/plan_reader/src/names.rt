@@ -29,6 +29,7 @@ pub(crate) struct Names<'n, 'a> {
     pub requirements: &'n NameTable<'a>,
 }
 
+// The names of these tables, in their order.
 fn names_of<'a>(alloc: Global, values: &'a [Value]) -> Result<Vec<&'a str>, AllocError>
     ensures { IfOk result (λ names. texts names.items ≡ map (λ v. name_of (view v)) values.entry.now) }
 {
@@ -39,6 +40,7 @@ fn names_of<'a>(alloc: Global, values: &'a [Value]) -> Result<Vec<&'a str>, Allo
     Ok(names)
 }
 
+// The names of the document's tables of this part, in their order.
 fn names_at<'a>(alloc: Global, part: Part, document: &'a Value) -> Result<Vec<&'a str>, AllocError>
     ensures { IfOk result (λ names. texts names.items ≡ map name_of (places (view document.entry.now) part)) }
 {
@@ -139,6 +141,8 @@ fn numbers_of(
     Ok(Some(numbers))
 }
 
+// The numbers of the tasks that a task comes after, each once. None where a name isn't a task's. `mark` is the task's own, and
+// higher than all that stand in `marks`.
 fn dependency_numbers(
     alloc: Global,
     names: &NameTable,
@@ -155,6 +159,7 @@ fn dependency_numbers(
     numbers_of(alloc, names, marks, mark, next, after_of(task))
 }
 
+// For each task the numbers of those that it comes after. None where a name isn't a task's.
 fn rows_of(
     alloc: Global,
     names: &NameTable,

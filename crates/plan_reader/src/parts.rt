@@ -56,6 +56,7 @@ fn item_action(item: &Value) -> ItemAction
     }
 }
 
+// Where an item runs: in the thread, or in a process with the requirements that it names.
 fn isolation_in(alloc: Global, known: &Known, item: &Value) -> Result<Isolation, AllocError>
     requires { known.now.default.now ≡ default_requirements }
     ensures { IfOk result (λ i. shown_process i ≡ process_of (known_names known.now) known.now.profiles.now (view item.now)) }
@@ -68,6 +69,7 @@ fn isolation_in(alloc: Global, known: &Known, item: &Value) -> Result<Isolation,
     }
 }
 
+// An item's work. Its texts are taken out of the table.
 fn work_of(alloc: Global, known: &Known, mut item: Value) -> Result<Work, AllocError>
     requires { known.now.default.now ≡ default_requirements }
     ensures { IfOk result (λ w. work_view w ≡ work_of (known_names known.now) known.now.profiles.now (view item)) }
@@ -79,6 +81,7 @@ fn work_of(alloc: Global, known: &Known, mut item: Value) -> Result<Work, AllocE
     })
 }
 
+// The work of each item, in their order.
 fn works_of(alloc: Global, known: &Known, items: Vec<Value>) -> Result<Vec<Work>, AllocError>
     requires { known.now.default.now ≡ default_requirements }
     ensures { IfOk result (λ works. map work_view works.items ≡ map (λ v. work_of (known_names known.now) known.now.profiles.now (view v)) items.items) }
@@ -90,6 +93,7 @@ fn works_of(alloc: Global, known: &Known, items: Vec<Value>) -> Result<Vec<Work>
     Ok(works)
 }
 
+// The work of each item of an action, which are taken out of its table.
 fn items_of_action(
     alloc: Global,
     known: &Known,
@@ -108,6 +112,7 @@ fn retention_named(word: &str) -> Retention
     Retention::of_word(word).unwrap_or(Retention::ReleaseAndReacquire)
 }
 
+// The action that a table says.
 fn action_of(alloc: Global, known: &Known, mut action: Value) -> Result<PlanAction, AllocError>
     requires { known.now.default.now ≡ default_requirements }
     ensures { IfOk result (λ a. plan_action_view a ≡ action_of (known_names known.now) known.now.profiles.now (view action)) }
@@ -119,6 +124,7 @@ fn action_of(alloc: Global, known: &Known, mut action: Value) -> Result<PlanActi
     })
 }
 
+// The action that each table says, in their order.
 fn plan_actions_of(
     alloc: Global,
     known: &Known,
@@ -135,6 +141,7 @@ fn plan_actions_of(
     Ok(actions)
 }
 
+// The actions of a task, which are taken out of its table.
 fn actions_of_task(
     alloc: Global,
     known: &Known,

@@ -47,6 +47,7 @@ impl Model for Plan {
 }
 
 impl Plan {
+    /// The plan of these parts, which keep all that every plan keeps.
     pub(crate) fn new(
         projects: Vec<Text>,
         tasks: Vec<PlanTask>,

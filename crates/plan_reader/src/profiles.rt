@@ -19,6 +19,7 @@ use plan_table::{
 use std::alloc::{AllocError, Global};
 use toml::{Table, Value};
 
+// The text of each value, in their order.
 fn texts_of(alloc: Global, values: Vec<Value>) -> Result<Vec<Text>, AllocError>
     ensures { IfOk result (λ texts. texts.items ≡ map (λ v. text_of (view v)) values.items) }
 {
@@ -29,6 +30,7 @@ fn texts_of(alloc: Global, values: Vec<Value>) -> Result<Vec<Text>, AllocError>
     Ok(texts)
 }
 
+// The pairs of a table, in their order. No name stands twice among them.
 fn pairs_of(alloc: Global, table: Table) -> Result<Vec<Pair>, AllocError>
     ensures pairs { IfOk result (λ pairs. pairs.items ≡ map (λ e. pair_of (string_bytes e.0, text_of (view e.1))) table.entries) }
     ensures distinct { IfOk result (λ pairs. HasDistinctNames pairs.items) }
@@ -42,6 +44,7 @@ fn pairs_of(alloc: Global, table: Table) -> Result<Vec<Pair>, AllocError>
     Ok(pairs)
 }
 
+// The heap of requirements that keep its limits, in MB.
 fn heap_mb_of(requirements: &Value) -> u32
     requires { is_heap (heap_of (view requirements.now)) ≡ true }
     ensures { result ≡ heap_number (heap_of (view requirements.now)) }
@@ -49,6 +52,7 @@ fn heap_mb_of(requirements: &Value) -> u32
     heap_of(requirements) as u32
 }
 
+// The fields that requirements say, with the defaults of those that they leave out.
 fn fields_of(alloc: Global, mut requirements: Value) -> Result<RequirementFields, AllocError>
     requires { is_heap (heap_of (view requirements)) ≡ true }
     ensures fields { IfOk result (λ f. requirements_view f ≡ requirements_from (view requirements)) }
@@ -66,6 +70,7 @@ fn fields_of(alloc: Global, mut requirements: Value) -> Result<RequirementFields
     })
 }
 
+// The requirements that a table says, whose heap keeps its limits.
 fn requirements_from(alloc: Global, requirements: Value) -> Result<Requirements, AllocError>
     requires { is_heap (heap_of (view requirements)) ≡ true }
     ensures { IfOk result (λ p. p ≡ requirements_from (view requirements)) }
@@ -85,6 +90,7 @@ pub(crate) fn default_requirements(alloc: Global) -> Result<Requirements, AllocE
     requirements_from(alloc, empty)
 }
 
+// The requirements that each table says, in their order.
 fn profiles_in(alloc: Global, values: Vec<Value>) -> Result<Vec<Requirements>, AllocError>
     requires { list_all (λ v. is_heap (heap_of (view v))) values.items ≡ true }
     ensures { IfOk result (λ profiles. profiles.items ≡ map (λ v. requirements_from (view v)) values.items) }
@@ -108,6 +114,7 @@ pub(crate) fn all_requirements(
     profiles_in(alloc, take_requirements(alloc, document))
 }
 
+// A copy of the name of each table, in their order.
 fn names_of(alloc: Global, values: &[Value]) -> Result<Vec<Text>, AllocError>
     ensures { IfOk result (λ names. names.items ≡ map (λ v. name_of (view v)) values.now) }
 {

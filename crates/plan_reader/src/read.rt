@@ -3,6 +3,7 @@ ghost use Rattle.std.specs.Prelude.{◌≡◌, ◌≤◌, true, None, map, lengt
 ghost use Rattle.toml.specs.View.{view};
 ghost use Rattle.task_ranks.specs.Rank.{lists_of, InRange, IsFirstCycle};
 ghost use Rattle.plan_table.specs.Document.{is_numbered};
+ghost use Rattle.plan_table.specs.declared.document.TheConstants.{MAX_PARTS};
 ghost use Rattle.plan_table.specs.Search.{places, table_refusal};
 ghost use Rattle.plan_reader.specs.Names.{name_lists, names_in, dependencies_of};
 ghost use Rattle.plan_reader.specs.Planned.{plan_of};
@@ -23,6 +24,7 @@ use std::alloc::Global;
 use task_ranks::first_cycle;
 use toml::Value;
 
+// Refuses a document of which the row holds somewhere, at its first place.
 fn check(row: Row, names: &Names, document: &Value) -> Result<(), PlanFail>
     requires names { name_lists names.now ≡ names_in (view document.now) }
     requires numbered { is_numbered (view document.now) ≡ true }
@@ -68,6 +70,7 @@ fn check_before(alloc: Global, names: &Names, document: &Value) -> Result<Vec<Ve
     known_dependencies(alloc, names, document)
 }
 
+// The same for each row that is looked at once the names and the ranks are known, in their order.
 fn check_behind(names: &Names, document: &Value) -> Result<(), PlanFail>
     requires names { name_lists names.now ≡ names_in (view document.now) }
     requires numbered { is_numbered (view document.now) ≡ true }
@@ -83,7 +86,7 @@ fn check_behind(names: &Names, document: &Value) -> Result<(), PlanFail>
 // Each task has a rank, by the numbers of the tasks that it comes after.
 fn check_ranks(alloc: Global, dependencies: &[Vec<u32>]) -> Result<(), PlanFail>
     requires in_range { InRange (lists_of dependencies.now) }
-    requires numbered { length dependencies.now ≤ 4294967295 }
+    requires numbered { length dependencies.now ≤ MAX_PARTS }
     ensures ok { IfOk result (λ _. IsFirstCycle (lists_of dependencies.now) None) }
     ensures err { IfErr result (RefusesCycle (lists_of dependencies.now)) }
 {
@@ -96,6 +99,7 @@ fn check_ranks(alloc: Global, dependencies: &[Vec<u32>]) -> Result<(), PlanFail>
     }
 }
 
+// Refuses a document of which a table is refused by itself.
 fn check_table(document: &Value) -> Result<(), PlanFail>
     requires { is_numbered (view document.now) ≡ true }
     ensures ok { IfOk result (λ _. table_refusal (view document.now) ≡ None) }

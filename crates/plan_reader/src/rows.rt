@@ -29,30 +29,35 @@ pub(crate) enum Row {
     BadRequirements,
 }
 
+// Whether a task's project isn't one of the names.
 fn lacks_project(names: &NameTable, task: &Value) -> bool
     ensures { result ≡ lacks_project names.now (view task.now) }
 {
     !names.has(project_of(task))
 }
 
+// Whether one of the texts isn't one of the names.
 fn lacks_any(names: &NameTable, values: &[Value]) -> bool
     ensures { result ≡ list_any (λ v. not (has_name names.now (text_of (view v)))) values.now }
 {
     values.iter().any(|value| !names.has(text_of(value)))
 }
 
+// Whether a task comes after what isn't one of the names.
 fn lacks_task(names: &NameTable, task: &Value) -> bool
     ensures { result ≡ lacks_task names.now (view task.now) }
 {
     lacks_any(names, after_of(task))
 }
 
+// Whether an action releases its lock while it waits, and doesn't take it again.
 fn releases(action: &Value) -> bool
     ensures { result ≡ releases (view action.now) }
 {
     wait_of(action) == "release"
 }
 
+// Whether one of the actions does.
 fn any_releases(actions: &[Value]) -> bool
     ensures { result ≡ list_any (λ v. releases (view v)) actions.now }
 {
@@ -66,6 +71,7 @@ fn releases_early(actions: &[Value]) -> bool
     any_releases(&actions[..actions.len().saturating_sub(1)])
 }
 
+// Whether an action of the task does that isn't the last.
 fn task_releases_early(task: &Value) -> bool
     ensures { result ≡ releases_early (actions_of (view task.now)) }
 {
@@ -82,6 +88,7 @@ fn asks_unknown(names: &NameTable, item: &Value) -> bool
     }
 }
 
+// Whether a row of items holds of an item. Rows of other things hold of none.
 fn item_fails(row: Row, names: &NameTable, item: &Value) -> bool
     ensures { result ≡ item_fails row names.now (view item.now) }
 {
@@ -92,18 +99,21 @@ fn item_fails(row: Row, names: &NameTable, item: &Value) -> bool
     }
 }
 
+// Whether it holds of one of the items.
 fn any_item_fails(row: Row, names: &NameTable, items: &[Value]) -> bool
     ensures { result ≡ list_any (λ v. item_fails row names.now (view v)) items.now }
 {
     items.iter().any(|item| item_fails(row, names, item))
 }
 
+// Whether it holds of an item of the action.
 fn action_fails(row: Row, names: &NameTable, action: &Value) -> bool
     ensures { result ≡ list_any (item_fails row names.now) (items_of (view action.now)) }
 {
     any_item_fails(row, names, items_of(action))
 }
 
+// Whether it holds of an item of one of the actions.
 fn any_action_fails(row: Row, names: &NameTable, actions: &[Value]) -> bool
     ensures { result ≡ list_any (λ v. list_any (item_fails row names.now) (items_of (view v))) actions.now }
 {
@@ -112,18 +122,21 @@ fn any_action_fails(row: Row, names: &NameTable, actions: &[Value]) -> bool
         .any(|action| action_fails(row, names, action))
 }
 
+// Whether it holds of an item of the task.
 fn has_failing_item(row: Row, names: &NameTable, task: &Value) -> bool
     ensures { result ≡ has_item (item_fails row names.now) (view task.now) }
 {
     any_action_fails(row, names, actions_of(task))
 }
 
+// Whether a heap keeps its limits, 1 to `MAX_HEAP_MB` MB.
 fn is_heap(mb: i64) -> bool
     ensures { result ≡ is_heap mb }
 {
     (1..=65_536).contains(&mb)
 }
 
+// Whether a row of tasks holds of a task.
 fn holds_of_task(row: Row, names: &Names, task: &Value) -> bool
     ensures { result ≡ holds (name_lists names.now) row Part.Task (view task.now) }
 {

@@ -36,6 +36,7 @@ fn table_at<'a>(document: &'a Value, place: Place) -> &'a Value
         .unwrap_or(document)
 }
 
+// The refusal of a row at a place of this table.
 fn refusal_of(row: Row, table: &Value, place: Place) -> PlanRefusal
     ensures { result ≡ refusal_of row (view table.now) place }
 {

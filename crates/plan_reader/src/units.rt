@@ -28,6 +28,7 @@ pub fn units_of(alloc: Global, plan: &Plan) -> Result<Vec<UnitWork<'_>>, AllocEr
     Ok(units)
 }
 
+// Adds the units of a task.
 fn add_task<'a>(units: &mut Vec<UnitWork<'a>>, task: &'a PlanTask) -> Result<(), AllocError>
     ensures { OnOk result (map unit_view units.new.items ≡ map unit_view units.old.items ++ task_units (plan_task_view task.now)) }
 {
@@ -37,6 +38,7 @@ fn add_task<'a>(units: &mut Vec<UnitWork<'a>>, task: &'a PlanTask) -> Result<(),
     Ok(())
 }
 
+// Adds the units of an action: its fetch, if it has one, and its items.
 fn add_action<'a>(units: &mut Vec<UnitWork<'a>>, action: &'a PlanAction) -> Result<(), AllocError>
     ensures { OnOk result (map unit_view units.new.items ≡ map unit_view units.old.items ++ action_units (plan_action_view action.now)) }
 {
@@ -44,6 +46,7 @@ fn add_action<'a>(units: &mut Vec<UnitWork<'a>>, action: &'a PlanAction) -> Resu
     add_items(units, &action.items)
 }
 
+// Adds the unit of a fetch, if there is one.
 fn add_fetch<'a>(units: &mut Vec<UnitWork<'a>>, fetch: &'a Option<Text>) -> Result<(), AllocError>
     ensures { OnOk result (map unit_view units.new.items ≡ map unit_view units.old.items ++ fetch_units fetch.now) }
 {
@@ -53,6 +56,7 @@ fn add_fetch<'a>(units: &mut Vec<UnitWork<'a>>, fetch: &'a Option<Text>) -> Resu
     Ok(())
 }
 
+// Adds the unit of each item, in their order.
 fn add_items<'a>(units: &mut Vec<UnitWork<'a>>, items: &'a [Work]) -> Result<(), AllocError>
     ensures { OnOk result (map unit_view units.new.items ≡ map unit_view units.old.items ++ map (λ w. item_unit (work_view w)) items.now) }
 {

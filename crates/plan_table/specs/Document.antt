@@ -7,6 +7,7 @@ use Rattle.toml.specs.Parse.{parse_document}
 use Rattle.toml.specs.View.{view}
 use Rattle.toml.specs.declared.value.Value.{Value}
 use Rattle.item_actions.specs.Value.{max_file_bytes}
+use Rattle.plan_table.specs.declared.document.TheConstants.{MAX_PARTS}
 use Rattle.plan_table.specs.declared.refusals.PlanRefusal.{PlanRefusal}
 use Rattle.plan_table.specs.declared.refusals.PlanRefusal.TheVariants.{TooLong, NotToml}
 use Rattle.plan_table.specs.declared.refusals.PlanFail.{PlanFail}
@@ -34,9 +35,9 @@ abbrev pub ReadsDocument : Result Value PlanFail → Result Data PlanRefusal →
 ReadsDocument (Ok v) reading = reading ≡ Ok (view v)
 ReadsDocument (Err fail) reading = RefusesDocument fail reading
 
--- the number of each is one that a place can have, which is below 2 ^ 32
+-- the number of each is one that a place can have
 abbrev pub have_numbers : List Data → Bool
-have_numbers ds = nat_le (length ds) 4294967295
+have_numbers ds = nat_le (length ds) MAX_PARTS
 
 -- each project, task and requirements has such a number
 abbrev pub is_numbered : Data → Bool

@@ -10,6 +10,10 @@ use item_actions::MAX_FILE_BYTES;
 use std::alloc::Global;
 use toml::Value;
 
+/// The most projects, tasks or requirements of a document, so that a `u32` has the number of each.
+pub const MAX_PARTS: usize = u32::MAX as usize;
+
+// The document that `toml` reads in the bytes, or NotToml.
 fn parse_document(alloc: Global, bytes: &[u8]) -> Result<Value, PlanFail>
     ensures { ReadsDocument result (document_or_not_toml (document_of bytes.now)) }
 {
@@ -25,13 +29,15 @@ fn parse_document(alloc: Global, bytes: &[u8]) -> Result<Value, PlanFail>
     }
 }
 
+// Whether each of the tables can have a number.
 #[tactic(auto, using(crate::proofs::lemmas::Lists::length_of_view))]
 fn have_numbers(values: &[Value]) -> bool
     ensures { result ≡ have_numbers (map view values.now) }
 {
-    values.len() <= u32::MAX as usize
+    values.len() <= MAX_PARTS
 }
 
+// Whether each project, task and requirements of the document can have a number.
 fn is_numbered(document: &Value) -> bool
     ensures { result ≡ is_numbered (view document.now) }
 {
@@ -43,7 +49,7 @@ fn is_numbered(document: &Value) -> bool
 /// The document that a text is, as a table. TooLong comes exactly where the text has more than 4,194,304 bytes,
 /// and NotToml exactly where it has no more and `toml` reads no document in it. NoMemory says nothing of the text.
 ///
-/// A document that is read has less than 2^32 projects, tasks and requirements each, so that each has a number: one
+/// A document that is read has at most `MAX_PARTS` projects, tasks and requirements each, so that each has a number: one
 /// that had more would be answered with NoMemory.
 pub fn read_document(alloc: Global, bytes: &[u8]) -> Result<Value, PlanFail>
     ensures document { ReadsDocument result (document_reading bytes.now) }

@@ -17,6 +17,7 @@ const MAX_TEXT_BYTES: usize = 255;
 // A byte of a name, and another byte.
 const NB: bool = true;
 
+// A byte that can't stand in a name.
 const NO: bool = false;
 
 // Whether each byte can stand in a name. Looking that up takes fewer steps than comparing.
@@ -34,6 +35,7 @@ static NAME_BYTES: [bool; 256] = [
     NO, NO, NO, NO, NO, NO, NO, NO, NO, NO, NO, NO, NO, NO, NO, NO,
 ];
 
+// Whether the byte can stand in a name.
 fn is_name_byte(byte: u8) -> bool
     ensures { result ≡ is_name_byte byte }
 {
@@ -51,12 +53,14 @@ fn are_name_bytes(bytes: &[u8]) -> bool
     are
 }
 
+// Whether there are at least and at most so many bytes.
 fn has_length(bytes: &[u8], least: usize, most: usize) -> bool
     ensures { result ≡ has_length least most bytes.now }
 {
     least <= bytes.len() && bytes.len() <= most
 }
 
+// Whether the byte stands among the bytes.
 fn has_byte(bytes: &[u8], b: u8) -> bool
     ensures { result ≡ has_byte b bytes.now }
 {

@@ -16,7 +16,7 @@ mod tables;
 mod taking;
 mod values;
 
-pub use document::read_document;
+pub use document::{MAX_PARTS, read_document};
 pub use keys::{
     actions_of, after_of, args_of, assertions_of, debug_of, do_of, fetch_of, heap_of, isolation_of,
     items_of, name_of, needle_of, project_of, projects_of, properties_of, requirements_name_of,

@@ -21,6 +21,7 @@ pub(crate) enum Sought {
     One(TableTest),
 }
 
+// The rule of the key, if there is one.
 fn rule_for<'r>(rules: &'r [KeyRule], key: &str) -> Option<&'r KeyRule>
     ensures { option_copied result ≡ find (λ r. bytes_eq r.key.now key.now) rules.entry.now }
 {
@@ -44,6 +45,7 @@ fn required_keys(rules: &[KeyRule], entries: &Table) -> Option<usize>
     Some(required)
 }
 
+// How many of the rules are of keys that are required.
 fn required_count(rules: &[KeyRule]) -> usize
     ensures { result ≡ count_by (λ r. r.is_required) rules.now }
 {

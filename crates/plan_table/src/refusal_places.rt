@@ -1,5 +1,5 @@
 //! Where a refusal holds.
-ghost use Rattle.std.specs.Prelude.{◌≡◌, ◌<◌};
+ghost use Rattle.std.specs.Prelude.{◌≡◌, ◌<◌, ◌^◌};
 ghost use Rattle.plan_table.specs.First.{place_of};
 ghost use Rattle.plan_table.specs.Search.{place_at};
 
@@ -8,7 +8,7 @@ use crate::refusals::{Part, Place, PlanRefusal};
 impl Place {
     /// The place of the part of this number. `read_document` gives documents whose parts have such numbers.
     pub fn new(part: Part, number: usize) -> Place
-        requires { number < 4294967296 }
+        requires { number < 2 ^ 32 }
         ensures { result ≡ place_at part number }
     {
         Place {

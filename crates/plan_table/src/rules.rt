@@ -71,14 +71,17 @@ macro_rules! rule {
     };
 }
 
+// The keys of a document.
 static DOCUMENT_RULES: [KeyRule; 3] = [
     rule!(optional "project": Tables),
     rule!(optional "task": Tables),
     rule!(optional "requirements": Tables),
 ];
 
+// The keys of a project.
 static PROJECT_RULES: [KeyRule; 1] = [rule!(required "name": One(Name))];
 
+// The keys of a task.
 static TASK_RULES: [KeyRule; 4] = [
     rule!(required "name": One(Name)),
     rule!(required "project": One(Name)),
@@ -86,12 +89,14 @@ static TASK_RULES: [KeyRule; 4] = [
     rule!(optional "action": Tables),
 ];
 
+// The keys of an action.
 static ACTION_RULES: [KeyRule; 3] = [
     rule!(optional "wait": Wait),
     rule!(optional "fetch": One(FileName)),
     rule!(required "item": Tables),
 ];
 
+// The keys of an item.
 static ITEM_RULES: [KeyRule; 5] = [
     rule!(required "do": Do),
     rule!(required "file": One(FileName)),
@@ -100,6 +105,7 @@ static ITEM_RULES: [KeyRule; 5] = [
     rule!(optional "requirements": One(Name)),
 ];
 
+// The keys of requirements.
 static REQUIREMENTS_RULES: [KeyRule; 9] = [
     rule!(required "name": One(Name)),
     rule!(optional "executable": One(Executable)),
@@ -126,6 +132,7 @@ pub(crate) fn rules_of(kind: TableKind) -> &'static [KeyRule]
     }
 }
 
+// The words that `isolation` may be.
 static ISOLATIONS: [&str; 3] = ["none", "process", "classloader"];
 
 /// Whether the value has the type that the form asks for.
@@ -145,6 +152,7 @@ pub(crate) fn has_type(form: ValueForm, value: &Value) -> bool
     }
 }
 
+// Whether the text has the form.
 fn is_formed(form: TextForm, text: &str) -> bool
     ensures { result ≡ is_formed form text.now }
 {
@@ -158,24 +166,28 @@ fn is_formed(form: TextForm, text: &str) -> bool
     }
 }
 
+// Whether the text of each value has the form.
 fn are_formed(form: TextForm, values: &[Value]) -> bool
     ensures { result ≡ list_all (λ v. is_formed form (text_of (view v))) values.now }
 {
     values.iter().all(|value| is_formed(form, text_of(value)))
 }
 
+// Whether the text of each member of an array has the form. A value of another type has no members.
 fn has_formed_texts(form: TextForm, value: &Value) -> bool
     ensures { result ≡ list_all (is_formed form) (texts_of (view value.now)) }
 {
     are_formed(form, members(value))
 }
 
+// Whether each name of the table has the form of a key, and what it is set to that of a value.
 fn are_settings(table: &Table) -> bool
     ensures { result ≡ list_all (λ e. is_setting (string_bytes e.0, text_of (view e.1))) table.now.entries }
 {
     table.iter().all(|(key, value)| is_key(key.as_bytes()) && is_value(text_of(value).as_bytes()))
 }
 
+// The same of a value. One of another type has none.
 #[tactic(auto, using(crate::proofs::lemmas::Lists::settings_of_table))]
 fn has_settings(value: &Value) -> bool
     ensures { result ≡ list_all is_setting (table_pairs (Some (view value.now))) }
@@ -198,6 +210,7 @@ pub(crate) fn has_form(form: ValueForm, value: &Value) -> bool
     }
 }
 
+// Whether the value is a text in the form.
 fn is_text_in(form: TextForm, value: &Value) -> bool
     ensures { result ≡ (is_text (view value.now) && is_formed form (text_of (view value.now))) }
 {
@@ -211,12 +224,14 @@ fn is_text_in(form: TextForm, value: &Value) -> bool
     }
 }
 
+// Whether each value is a text in the form.
 fn are_texts_in(form: TextForm, values: &[Value]) -> bool
     ensures { result ≡ list_all (λ v. is_text (view v) && is_formed form (text_of (view v))) values.now }
 {
     values.iter().all(|value| is_text_in(form, value))
 }
 
+// Whether the value is an array of texts, each in the form.
 #[tactic(auto, using(crate::proofs::lemmas::Lists::texts_of_array))]
 fn is_array_in(form: TextForm, value: &Value) -> bool
     ensures { result ≡ (is_array_of_texts (view value.now) && list_all (is_formed form) (texts_of (view value.now))) }

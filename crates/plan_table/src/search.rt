@@ -34,18 +34,21 @@ pub fn places<'a>(part: Part, document: &'a Value) -> &'a [Value]
     }
 }
 
+// The place of the first table of which the test holds.
 fn position_in<T: PlaceTest>(test: &T, part: Part, tables: &[Value]) -> Option<usize>
     ensures { result ≡ position (λ v. T.test test.now part (view v)) tables.now }
 {
     tables.iter().position(|table| test.holds(part, table))
 }
 
+// The number of the first table of this part in the document of which the test holds.
 fn first_number<T: PlaceTest>(test: &T, part: Part, document: &Value) -> Option<usize>
     ensures { result ≡ position (T.test test.now part) (places (view document.now) part) }
 {
     position_in(test, part, places(part, document))
 }
 
+// The first place of this part at which the test holds.
 fn first_in<T: PlaceTest>(test: &T, part: Part, document: &Value) -> Option<Place>
     requires { is_numbered (view document.now) ≡ true }
     ensures { result ≡ first_in (T.test test.now) (view document.now) part }

@@ -15,6 +15,7 @@ use crate::search::{PlaceTest, first_place};
 use crate::tables::TableTest;
 use toml::Value;
 
+// Whether what is sought stands in one of the items.
 fn is_in_items(sought: Sought, items: &[Value]) -> bool
     ensures { result ≡ list_any (λ v. is_found sought TableKind.Item (view v)) items.now }
 {
@@ -23,24 +24,28 @@ fn is_in_items(sought: Sought, items: &[Value]) -> bool
         .any(|item| is_found(sought, TableKind::Item, item))
 }
 
+// Whether it stands in an item of the action.
 fn is_in_items_of(sought: Sought, action: &Value) -> bool
     ensures { result ≡ list_any (is_found sought TableKind.Item) (items_of (view action.now)) }
 {
     is_in_items(sought, items_of(action))
 }
 
+// Whether it stands in the action or in one of its items.
 fn is_in_action(sought: Sought, action: &Value) -> bool
     ensures { result ≡ in_action (is_found sought) (view action.now) }
 {
     is_found(sought, TableKind::Action, action) || is_in_items_of(sought, action)
 }
 
+// Whether it stands in one of the actions or in one of their items.
 fn is_in_actions(sought: Sought, actions: &[Value]) -> bool
     ensures { result ≡ list_any (λ v. in_action (is_found sought) (view v)) actions.now }
 {
     actions.iter().any(|action| is_in_action(sought, action))
 }
 
+// Whether it stands in an action of the task or in one of their items.
 fn is_in_actions_of(sought: Sought, task: &Value) -> bool
     ensures { result ≡ list_any (in_action (is_found sought)) (actions_of (view task.now)) }
 {
@@ -63,6 +68,7 @@ impl PlaceTest for Sought {
     }
 }
 
+// The refusal by one test, at the first place at which it holds.
 fn refusal_by(test: TableTest, document: &Value) -> Option<PlanRefusal>
     requires { is_numbered (view document.now) ≡ true }
     ensures { result ≡ option_map (refusal_of test) (first_place (holds_at test) (view document.now)) }
@@ -73,6 +79,7 @@ fn refusal_by(test: TableTest, document: &Value) -> Option<PlanRefusal>
     }
 }
 
+// The refusal that a test gives at a place.
 fn refusal_of(test: TableTest, place: Place) -> PlanRefusal
     ensures { result ≡ refusal_of test place }
 {

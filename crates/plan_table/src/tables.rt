@@ -30,12 +30,14 @@ enum RuleTest {
     Misformed,
 }
 
+// Whether one of the rules is of the key.
 fn is_key_of_rule(rules: &[KeyRule], key: &str) -> bool
     ensures { result ≡ list_any (λ r. bytes_eq r.key.now key.now) rules.now }
 {
     rules.iter().any(|rule| rule.key == key)
 }
 
+// Whether there is a rule of the key.
 #[tactic(auto, using(crate::proofs::lemmas::Lists::any_of_map))]
 fn has_rule(rules: &[KeyRule], key: &str) -> bool
     ensures { result ≡ has_rule (map rule_of rules.now) key.now }
@@ -43,12 +45,14 @@ fn has_rule(rules: &[KeyRule], key: &str) -> bool
     is_key_of_rule(rules, key)
 }
 
+// Whether the table has a key without a rule.
 fn has_key_without_rule(table: &Table, rules: &[KeyRule]) -> bool
     ensures { result ≡ list_any (λ k. not (has_rule (map rule_of rules.now) (string_bytes k))) (keys table.now) }
 {
     table.keys().any(|key| !has_rule(rules, key.as_str()))
 }
 
+// Whether a table of this kind has a key that its kind hasn't. A value of another type has no keys.
 #[tactic(auto, using(crate::proofs::lemmas::Lists::other_key_of_table))]
 fn has_other_key(kind: TableKind, table: &Value) -> bool
     ensures { result ≡ has_other_key (rules kind) (view table.now) }
@@ -59,12 +63,14 @@ fn has_other_key(kind: TableKind, table: &Value) -> bool
     }
 }
 
+// Whether an item counts a needle.
 fn counts(item: &Value) -> bool
     ensures { result ≡ counts (view item.now) }
 {
     do_of(item) == "count"
 }
 
+// Whether an item asks for a process.
 fn asks_for_process(item: &Value) -> bool
     ensures { result ≡ asks_for_process (view item.now) }
 {
@@ -84,12 +90,14 @@ pub(crate) fn has_idle_key(kind: TableKind, table: &Value) -> bool
     }
 }
 
+// Whether a table of this kind has a key that means nothing there.
 fn unknown_key(kind: TableKind, table: &Value) -> bool
     ensures { result ≡ unknown_key kind (view table.now) }
 {
     has_other_key(kind, table) || has_idle_key(kind, table)
 }
 
+// Whether the table fails the test at the key of this rule.
 fn fails(test: RuleTest, table: &Value, rule: &KeyRule) -> bool
     ensures { result ≡ fails test (view table.now) (rule_of rule.now) }
 {
@@ -104,6 +112,7 @@ fn fails(test: RuleTest, table: &Value, rule: &KeyRule) -> bool
     }
 }
 
+// Whether it fails the test at the key of one of the rules.
 fn any_fails(test: RuleTest, table: &Value, rules: &[KeyRule]) -> bool
     ensures { result ≡ list_any (λ r. fails test (view table.now) (rule_of r)) rules.now }
 {
@@ -117,12 +126,14 @@ fn any_fails_of(test: RuleTest, kind: TableKind, table: &Value) -> bool
     any_fails(test, table, rules_of(kind))
 }
 
+// Whether what should be a table of this kind isn't one, or a value in it has another type than its key's.
 fn wrong_type(kind: TableKind, table: &Value) -> bool
     ensures { result ≡ wrong_type kind (view table.now) }
 {
     !table.is_table() || any_fails_of(RuleTest::Mistyped, kind, table)
 }
 
+// Whether an action has no items.
 #[tactic(auto, using(crate::proofs::lemmas::Lists::length_of_view))]
 fn has_no_items(action: &Value) -> bool
     ensures { result ≡ (length (items_of (view action.now)) == 0) }
@@ -141,12 +152,14 @@ pub(crate) fn lacks_more(kind: TableKind, table: &Value) -> bool
     }
 }
 
+// Whether a table of this kind lacks what it needs.
 fn missing(kind: TableKind, table: &Value) -> bool
     ensures { result ≡ missing kind (view table.now) }
 {
     any_fails_of(RuleTest::Lacking, kind, table) || lacks_more(kind, table)
 }
 
+// Whether a value in a table of this kind hasn't its key's form.
 fn bad_name(kind: TableKind, table: &Value) -> bool
     ensures { result ≡ bad_name kind (view table.now) }
 {

@@ -45,6 +45,7 @@ pub fn into_text(alloc: Global, value: Value) -> Text
     }
 }
 
+// Takes the text under a key out of the table. It is empty where none stands there.
 fn take_text(alloc: Global, table: &mut Value, key: &str) -> Text
     ensures text { result ≡ text_at key.now (view table.old) }
     ensures others { KeepsOthers key.now (view table.old) (view table.new) }
@@ -55,6 +56,7 @@ fn take_text(alloc: Global, table: &mut Value, key: &str) -> Text
     }
 }
 
+// The same, with a copy of the default where none stands there.
 fn take_text_or(
     alloc: Global,
     table: &mut Value,

@@ -30,18 +30,21 @@ fn elements<'a>(value: Option<&'a Value>) -> &'a [Value]
     }
 }
 
+/// The elements of the array under the key, or none.
 pub(crate) fn list_at<'a>(value: &'a Value, key: &str) -> &'a [Value]
     ensures { map view result.now ≡ list_at key.now (view value.entry.now) }
 {
     elements(value.get(key))
 }
 
+/// The text under the key, or an empty one.
 pub(crate) fn text_at<'a>(value: &'a Value, key: &str) -> &'a str
     ensures { result.now ≡ text_at key.now (view value.entry.now) }
 {
     text_or(value.get(key), "")
 }
 
+/// The text that the value is. The default stands for no value, and an empty text for a value of another type.
 pub(crate) fn text_or<'a>(value: Option<&'a Value>, default: &'static str) -> &'a str
     ensures { result.now ≡ text_or default.entry.now (option_map (λ v. view v.now) value.entry) }
 {
@@ -51,6 +54,7 @@ pub(crate) fn text_or<'a>(value: Option<&'a Value>, default: &'static str) -> &'
     }
 }
 
+/// The text under the key, if one stands there.
 pub(crate) fn optional_text_at<'a>(value: &'a Value, key: &str) -> Option<&'a str>
     ensures { option_map (λ s. s.now) result ≡ optional_text_at key.now (view value.entry.now) }
 {
@@ -60,6 +64,7 @@ pub(crate) fn optional_text_at<'a>(value: &'a Value, key: &str) -> Option<&'a st
     }
 }
 
+/// The number that the value is, or the default.
 pub(crate) fn integer_or(value: Option<&Value>, default: i64) -> i64
     ensures { result ≡ integer_or default (option_map (λ v. view v.now) value.entry) }
 {
@@ -69,6 +74,7 @@ pub(crate) fn integer_or(value: Option<&Value>, default: i64) -> i64
     }
 }
 
+/// Whether the value is true, or the default where it is no boolean.
 pub(crate) fn boolean_or(value: Option<&Value>, default: bool) -> bool
     ensures { result ≡ boolean_or default (option_map (λ v. view v.now) value.entry) }
 {
@@ -90,6 +96,7 @@ pub(crate) fn table_of<'a>(value: Option<&'a Value>) -> Option<&'a Table>
     }
 }
 
+// Whether each of the values is a text.
 fn are_texts(values: &[Value]) -> bool
     ensures { result ≡ list_all (λ v. is_text (view v)) values.now }
 {
@@ -103,24 +110,28 @@ pub(crate) fn members<'a>(value: &'a Value) -> &'a [Value]
     elements(Some(value))
 }
 
+// Whether each member of an array is a text. A value of another type has no members.
 fn has_text_members(value: &Value) -> bool
     ensures { result ≡ list_all is_text (elements (Some (view value.now))) }
 {
     are_texts(members(value))
 }
 
+/// Whether the value is an array of texts.
 pub(crate) fn is_array_of_texts(value: &Value) -> bool
     ensures { result ≡ is_array_of_texts (view value.now) }
 {
     value.is_array() && has_text_members(value)
 }
 
+// Whether each value of the table is a text.
 fn has_text_values(table: &Table) -> bool
     ensures { result ≡ list_all (λ v. is_text (view v)) (values table.now) }
 {
     table.values().all(Value::is_str)
 }
 
+/// Whether the value is a table of texts.
 #[tactic(auto, using(crate::proofs::lemmas::Lists::texts_of_table))]
 pub(crate) fn is_table_of_texts(value: &Value) -> bool
     ensures { result ≡ is_table_of_texts (view value.now) }

@@ -1,5 +1,6 @@
 pub mod lemmas
 pub mod Follows
+pub mod Noting
 pub mod FitParts
 pub mod TakenBack
 pub mod Holding

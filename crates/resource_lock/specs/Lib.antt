@@ -8,6 +8,7 @@ pub mod Trying
 pub mod GraphView
 pub mod Ranges
 pub mod Fits
+pub mod UnitActions
 pub mod Made
 pub mod Parts
 pub mod Opening

@@ -53,6 +53,7 @@ fn tasks_fit(locks: u32, tasks: &[GraphTask]) -> bool
     tasks.iter().all(|task| task_fits(locks, tasks.len(), task))
 }
 
+// Whether a task fits beside so many locks and tasks.
 fn task_fits(locks: u32, tasks: usize, task: &GraphTask) -> bool
     ensures { IsTrue result ↔ IsFitTask locks tasks (graph_view task.now) }
 {
@@ -101,6 +102,7 @@ fn actions_fit(tasks: &[GraphTask], actions: &[GraphAction]) -> bool
     true
 }
 
+// Whether the action of this number fits: it has items, and is one of its task's.
 fn action_fits(tasks: &[GraphTask], number: u64, action: &GraphAction) -> bool
     ensures { IsTrue result ↔ IsFitAction (map graph_view tasks.now) number action.now }
 {

@@ -4,6 +4,8 @@ ghost use Rattle.resource_lock.specs.GraphView.{graph_view};
 ghost use Rattle.resource_lock.specs.Fits.{Fits};
 ghost use Rattle.resource_lock.specs.Made.{made_of};
 
+mod unit_ranges;
+
 use crate::fitting::unit_count;
 use crate::ids::LockId;
 use std::marker::Model;
@@ -103,32 +105,19 @@ pub struct Graph {
     units: u32,
     tasks: Vec<GraphTask>,
     actions: Vec<GraphAction>,
+    // The action of each unit, where these were noted.
+    unit_actions: Option<Vec<u32>>,
 }
 
 impl Model for Graph {
-    ghost use Rattle.std.specs.Prelude.{map};
-    ghost use Rattle.resource_lock.specs.GraphView.{GraphView, graph_view};
-    ghost use Rattle.resource_lock.specs.Fits.{Fits};
+    ghost use Rattle.resource_lock.specs.GraphView.{GraphView};
+    ghost use Rattle.resource_lock.specs.UnitActions.{graph_value, IsGraph};
 
     ghost Value = { GraphView };
 
-    ghost view = { λ g. record {
-      locks = g.locks;
-      workers = g.workers;
-      max_leases = g.max_leases;
-      units = g.units;
-      tasks = map graph_view g.tasks.items;
-      actions = g.actions.items;
-    } };
+    ghost view = { graph_value };
 
-    ghost invariant = { λ g. Fits (record {
-      locks = g.locks;
-      workers = g.workers;
-      max_leases = g.max_leases;
-      units = g.units;
-      tasks = map graph_view g.tasks.items;
-      actions = g.actions.items;
-    }) };
+    ghost invariant = { IsGraph };
 }
 
 impl Graph {
@@ -151,6 +140,7 @@ impl Graph {
             units,
             tasks,
             actions,
+            unit_actions: None,
         }
     }
 

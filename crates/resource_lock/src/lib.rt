@@ -11,7 +11,6 @@ mod limits;
 mod marks;
 mod project_locks;
 mod states;
-mod unit_ranges;
 
 pub use changes::Change;
 pub use graphs::{Graph, GraphAction, GraphTask, Retention};

@@ -42,6 +42,7 @@ fn after_change(level: Level, change: &Change) -> Level
     }
 }
 
+// The level after these changes.
 fn after_changes(level: Level, changes: &[Change]) -> Level
     ensures { result ≡ after_changes level changes.now }
 {

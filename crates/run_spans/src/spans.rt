@@ -34,8 +34,8 @@ pub(crate) struct Saying {
     pub(crate) mark: Mark,
 }
 
-// What is known of the steps of a history from one of them on: their spans, the last one first, and where each
-// subject is spoken of first.
+/// What is known of the steps of a history from one of them on: their spans, the last one first, and where each
+/// subject is spoken of first.
 #[derive(Drop)]
 pub(crate) struct Tail {
     pub(crate) spans: Vec<Span>,

@@ -56,8 +56,10 @@ pub(crate) fn mark_left(change: &Change) -> Mark
     }
 }
 
+// One for the kind of a subject, in the subject's number.
 const KIND: u128 = 1 << 64;
 
+// One for the worker of a subject, in the subject's number.
 const WORKER: u128 = 1 << 32;
 
 impl Subject {

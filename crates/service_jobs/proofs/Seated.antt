@@ -1,8 +1,8 @@
 -- From the workers, each with its pass and its desk, to the passes and the desks.
-use Rattle.std.proofs.Common.{◌≡◌, ◌<◌, ℕ, Bool, true, List, [], ◌++◌, length, get_or, map, take, drop, Option, Result, Ok, Err, sym, ap, ◌∙◌, subst, arith}
+use Rattle.std.proofs.Common.{◌≡◌, ◌<◌, ℕ, Bool, true, List, [], length, get_or, map, Option, Result, Ok, Err, sym, ap, ◌∙◌, subst, arith}
 use Rattle.std.specs.List.{All, flat_map}
 use Rattle.std.specs.Prelude.{IfOk}
-use Rattle.std.proofs.lemmas.List.{get_or-map, length-map, take_at}
+use Rattle.std.proofs.lemmas.List.{get_or-map, length-map}
 use Rattle.std.proofs.lemmas.List.Folds.{flat_map-map}
 use Rattle.item_actions.specs.Files.{Folder}
 use Rattle.coordination.specs.Passes.{PassView}
@@ -11,16 +11,6 @@ use Rattle.service_jobs.specs.Team.{HasComeBack, HasWorked, HaveRun}
 use Rattle.service_jobs.specs.Worked.{HasRun}
 use Rattle.service_jobs.specs.declared.jobs.Job.{Job}
 use Rattle.service_jobs.specs.declared.jobs.JobDone.{JobDone}
-
--- what a slice of a whole Vec leaves in it
-pub put_back : {X : Type 0} (xs ys : List X) (n : ℕ) → length xs ≡ n → take n (xs ++ drop (length xs) ys) ≡ xs
-put_back xs ys n is = take_at xs (drop (length xs) ys) n is
-
--- what holds of each part holds of the part of each
-pub of_each : {W V : Type 0} (part : W → V) (P : V → Type 0) (ws : List W) (vs : List V) → map part ws ≡ vs → All P vs → All (λ w. P (part w)) ws
-of_each part P ws vs is all k d low =
-    let l : k < length (map part ws) = omega (arith, length-map ws part, low) in
-    subst P (get_or-map part ws k d (part d) low) (subst (All P) (sym is) all k (part d) l)
 
 -- as many as have parts
 pub as_many : {W V : Type 0} (part : W → V) (ws : List W) (vs : List V) → map part ws ≡ vs → length ws ≡ length vs

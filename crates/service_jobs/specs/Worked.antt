@@ -59,7 +59,9 @@ pub record HasRun (maxima : List ℕ) (known : Option Folder) (before after : �
 
 -- The worker ran the jobs before this place, and was stopped while it waited for the uses of the job at it, or for a lease, which
 -- weren't to be had.
-pub record WasStoppedAtOne (maxima : List ℕ) (known : Option Folder) (count : ℕ) (old : Sight) (jobs : List Job) (by : WorkerId) (new : Sight) (ran : List JobDone) : Type 0 where
+pub record WasStoppedAtOne
+    (maxima : List ℕ) (known : Option Folder) (count : ℕ) (old : Sight) (jobs : List Job)
+    (by : WorkerId) (new : Sight) (ran : List JobDone) : Type 0 where
   pub place : ℕ
   pub inside : place < length jobs
   pub job : Job

@@ -14,6 +14,7 @@ use std::thread::Threads;
 /// How many threads there are, and how many connections. As many leases as threads: only the connections are short.
 const WORKERS: u32 = 8;
 
+// How many connections there are.
 const CONNECTIONS: u32 = 3;
 
 // Has the workers send their queries, and prints what came of it.

@@ -1,28 +1,24 @@
 -- What a pass shows once its uses are taken, and that nothing else can keep it from them.
-use Rattle.std.proofs.Common.{◌≡◌, ◌<◌, ◌≤◌, ◌+◌, ◌⊎◌, ℕ, zero, suc, Bool, true, false, not, cond, ◌&&◌, ◌||◌, List, [], ◌∷◌, ◌++◌, length, get_or, map, nat_eq, Result, Ok, Err, OnErr, inl, inr, refl, sym, ap, ◌∙◌, subst, arith}
-use Rattle.std.specs.List.{list_any}
-use Rattle.std.specs.Result.{IsErrAnd}
+use Rattle.std.proofs.Common.{◌≡◌, ◌<◌, ◌≤◌, ◌+◌, ◌⊎◌, ℕ, zero, suc, true, false, not, cond, ◌&&◌, List, [], ◌∷◌, ◌++◌, length, get_or, nat_eq}
+use Rattle.std.proofs.Common.{inl, inr, refl, sym, ap, ◌∙◌, arith}
 use Rattle.std.proofs.lemmas.Bool.{and_parts, false≢true, leb-true, lt-ltb}
 use Rattle.std.proofs.lemmas.List.{append-nil, append_assoc}
 use Rattle.resource_lock.specs.Change.{holding_after}
 use Rattle.resource_lock.specs.GraphView.{GraphView}
-use Rattle.resource_lock.specs.StateView.{Holding, StateView, empty_holding, holding_of, is_parked, runs_any, runs_by, runs_task, runs_unit}
+use Rattle.resource_lock.specs.StateView.{Holding, empty_holding, holding_of, runs_any}
 use Rattle.resource_lock.specs.declared.ids.LockId.{LockId}
 use Rattle.resource_lock.specs.declared.ids.WorkerId.{WorkerId}
 use Rattle.resource_lock.specs.declared.marks.MarkId.{MarkId}
 use Rattle.lock_transforms.specs.Taking.{rises}
 use Rattle.lock_transforms.specs.declared.entries.Kind.TheVariants as kinds
 use Rattle.lock_journal.specs.BookView.{BookView}
-use Rattle.history_laws.specs.Own.{action_at, claimed, places_from, task_at, unit_at}
+use Rattle.history_laws.specs.Own.{claimed}
 use Rattle.history_laws.specs.OwnChanges.{after_all, claimed_after, lock_before, locks_after, with_member}
+use Rattle.history_laws.proofs.lemmas.Claims.{runs_nothing}
 use Rattle.coordination.specs.Agrees.{Finds}
-use Rattle.coordination.specs.Attempts.{Cause}
-use Rattle.coordination.specs.Calls.{HasFinished, HasLooked, WasStopped}
-use Rattle.coordination.specs.Shown.{ShowsTheSame}
-use Rattle.coordination.specs.declared.halts.Halt.{Halt}
-use Rattle.coordination.specs.declared.halts.Halt.TheVariants.{NoMemory, Stopped}
+use Rattle.coordination.specs.Calls.{HasFinished, WasStopped}
 use Rattle.coordination.specs.declared.rule.Sight.{Sight}
-use Rattle.coordination.proofs.lemmas.Shown.{looked_shows, shows_left, stopped_for, stopped_shows}
+use Rattle.coordination.proofs.lemmas.Shown.{shows_left, stopped_for}
 use Rattle.shared_services.specs.Services.{no_lock}
 use Rattle.shared_services.specs.Shows.{HasTakenUses, MayTakeUses}
 use Rattle.shared_services.specs.Takings.{IsShort, MayNotTake, TakesUses, has_nothing, taken}
@@ -73,38 +69,6 @@ has_taken {maxima} {asked} {old = old} may f =
       };
     }
 
-none_placed : {X : Type 0} (test : X → Bool) (n : ℕ) (xs : List X) → places_from test n xs ≡ [] → list_any test xs ≡ false
-none_placed test n [] none = refl
-none_placed test n (x ∷ xs) none = at (test x) none (none_placed test (n + 1) xs)
-  where
-    at : (b : Bool) → cond b (n ∷ places_from test (n + 1) xs) (places_from test (n + 1) xs) ≡ [] → (places_from test (n + 1) xs ≡ [] → list_any test xs ≡ false)
-        → (b || list_any test xs) ≡ false
-    at true some rest = absurd (cc)
-    at false none rest = rest none
-
-empty_front : {X : Type 0} (xs ys : List X) → xs ++ ys ≡ [] → xs ≡ []
-empty_front [] ys none = refl
-empty_front (x ∷ xs) ys none = absurd (cc)
-
-empty_back : {X : Type 0} (xs ys : List X) → xs ++ ys ≡ [] → ys ≡ []
-empty_back [] ys none = none
-empty_back (x ∷ xs) ys none = absurd (cc)
-
-empty_map : {X Y : Type 0} (f : X → Y) (xs : List X) → map f xs ≡ [] → xs ≡ []
-empty_map f [] none = refl
-empty_map f (x ∷ xs) none = absurd (cc)
-
-pub runs_nothing : (s : StateView) (w : WorkerId) → claimed s w ≡ [] → runs_any s w ≡ false
-runs_nothing s w none =
-    let ts = places_from (runs_by w) 0 s.tasks in
-    let qs = places_from (runs_by w) 0 s.actions in
-    let us = places_from (runs_by w) 0 s.units in
-    let rest = empty_back (map task_at ts) (map action_at qs ++ map unit_at us) none in
-    let tasks : runs_task s w ≡ false = none_placed (runs_by w) 0 s.tasks (empty_map task_at ts (empty_front (map task_at ts) (map action_at qs ++ map unit_at us) none)) in
-    let actions : is_parked s w ≡ false = none_placed (runs_by w) 0 s.actions (empty_map action_at qs (empty_front (map action_at qs) (map unit_at us) rest)) in
-    let units : runs_unit s w ≡ false = none_placed (runs_by w) 0 s.units (empty_map unit_at us (empty_back (map action_at qs) (map unit_at us) rest)) in
-    (λ i. tasks i || actions i || units i)
-
 -- who has nothing has nothing in the book that it finds
 nothing_there : (old : Sight) (book : BookView) → Finds old.worker old.seen book → holding_of old.seen.state old.worker ≡ empty_holding → claimed old.seen.state old.worker ≡ [] → has_nothing book.state old.worker ≡ true
 nothing_there old book found holding none =
@@ -126,16 +90,3 @@ stopped_short waits may f = elim (f.cause) [
   | inl not_yet ↦ absurd (may_there may f.found not_yet)
   | inr short ↦ (short.0, stopped_for f short.1)
 ]
-
--- whichever way a call came to nothing, its worker has what it had
-pub kept_by : {retries : Cause} {old new : Sight} (halt : Halt) → (◌≡◌ {A = Result Bool Halt} (Err halt) (Err NoMemory) → HasLooked old new)
-    → ((by : WorkerId) → ◌≡◌ {A = Result Bool Halt} (Err halt) (Err (Stopped by)) → WasStopped retries by old new) → ShowsTheSame old new
-kept_by NoMemory looked stopped = looked_shows (looked refl)
-kept_by (Stopped by) looked stopped = stopped_shows (stopped by refl)
-
-pub on_err_of : {A E P : Type 0} (r : Result A E) → P → OnErr r P
-on_err_of (Ok a) p = tt
-on_err_of (Err e) p = p
-
-pub err_at : {A E : Type 0} (P : E → Type 0) (r : Result A E) (e : E) → r ≡ Err e → IsErrAnd r P → P e
-err_at P r e is p = subst (λ x. IsErrAnd x P) is p

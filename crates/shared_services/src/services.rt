@@ -1,10 +1,11 @@
 //! Services and their locks.
-ghost use Rattle.std.specs.Prelude.{◌≡◌, ◌<◌, ◌≤◌, ◌+◌, ◌-◌, ◌↔◌, ◌^◌, All, Any, IfNone, IfSome, IsTrue, length};
+ghost use Rattle.std.specs.Prelude.{◌≡◌, ◌<◌, ◌≤◌, ◌+◌, ◌-◌, ◌*◌, ◌↔◌, ◌^◌, All, Any, IfNone, IfSome, IsTrue, length};
 ghost use Rattle.std.specs.Prelude.{slice_index_or, slice_range, sum, take, true, false};
 ghost use Rattle.std.specs.List.{list_any};
 ghost use Rattle.resource_lock.specs.StateView.{is_owner, owner_of};
 ghost use Rattle.shared_services.specs.Services.{AreLowestFree, AreServices, FitMaxima, IsFull, IsLockOfService, IsLowestFree, first_lock, is_last_of};
 ghost use Rattle.shared_services.specs.Services.{lock_count, maximum_of, uses};
+ghost use Rattle.shared_services.specs.declared.services.TheConstants.{MAX_SERVICES, MAX_USES};
 
 use resource_lock::{LockId, State, WorkerId};
 use std::marker::Model;
@@ -113,7 +114,7 @@ impl ServiceTable {
     fn maximum(&self, service: u32) -> u32
         requires { service < length self.now }
         ensures maximum { result ≡ maximum_of self.now service }
-        ensures few { lock_count self.now ≤ 2048 }
+        ensures few { lock_count self.now ≤ MAX_SERVICES * MAX_USES }
     {
         self.maxima[service as usize]
     }
@@ -123,7 +124,7 @@ impl ServiceTable {
         requires { service < length self.now }
         ensures first { result ≡ first_lock self.now service }
         ensures within { result + maximum_of self.now service ≤ lock_count self.now }
-        ensures few { lock_count self.now ≤ 2048 }
+        ensures few { lock_count self.now ≤ MAX_SERVICES * MAX_USES }
     {
         total(&self.maxima[..service as usize])
     }
@@ -170,6 +171,7 @@ fn rises_at(asked: &[u32], place: usize) -> bool
     place == 0 || asked[place - 1] < asked[place]
 }
 
+// The sum of the maxima.
 fn total(maxima: &[u32]) -> u32
     requires { sum maxima.now < 2 ^ 32 }
     ensures { result ≡ sum maxima.now }

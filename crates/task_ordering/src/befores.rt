@@ -16,6 +16,7 @@ fn are_both(to_run: &[bool], first: usize, second: usize) -> bool
     to_run[first] && to_run[second]
 }
 
+// Notes that the first stands before the second.
 fn push_before(befores: &mut Vec<Vec<u32>>, first: u32, second: usize) -> Result<(), AllocError>
     requires { second < length befores.old.items }
     ensures { OnOk result (AddsPairs (lists_of befores.old.items) (lists_of befores.new.items) (λ a b. (a ≡ first) × (b ≡ second))) }
@@ -81,6 +82,7 @@ fn add_before_all(
     Ok(())
 }
 
+// A list for each of so many tasks, before which none stands yet.
 fn no_befores(alloc: Global, count: usize) -> Result<Vec<Vec<u32>>, AllocError>
     ensures size { IfOk result (λ befores. length befores.items ≡ count) }
     ensures empty { IfOk result (λ befores. (t : ℕ) → after (lists_of befores.items) t ≡ []) }

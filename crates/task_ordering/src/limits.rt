@@ -8,6 +8,7 @@ use crate::tasks::{OrderTask, after_of, finalizers_of, must_after_of};
 /// How many tasks there may be, how many numbers in each of their lists, and how many asked for.
 pub const MAX_NUMBERS: usize = 2048;
 
+// Whether no list of a task is too long for its places to have numbers.
 fn has_short_lists(task: &OrderTask) -> bool
     ensures { IsTrue result ↔ HasShortLists task.now }
 {
@@ -16,6 +17,7 @@ fn has_short_lists(task: &OrderTask) -> bool
         && task.finalized_by.len() <= MAX_NUMBERS
 }
 
+// Whether no list is too long for its places to have numbers.
 fn fits(tasks: &[OrderTask], asked: &[u32]) -> bool
     ensures { IsTrue result ↔ Fits tasks.now asked.now }
 {
@@ -24,6 +26,7 @@ fn fits(tasks: &[OrderTask], asked: &[u32]) -> bool
         && tasks.iter().all(|task| has_short_lists(task))
 }
 
+// Whether each number is one of `count` tasks.
 fn are_below(numbers: &[u32], count: usize) -> bool
     ensures { IsTrue result ↔ All (λ u. u < count) numbers.now }
 {

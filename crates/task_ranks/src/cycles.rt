@@ -21,6 +21,7 @@ fn ranked_marks(alloc: Global, rows: &[Vec<u32>]) -> Result<Vec<bool>, AllocErro
     Ok(ranked)
 }
 
+// The first place without a mark.
 fn first_without_mark(marks: &[bool]) -> Option<usize>
     ensures { MatchOption result ((k : ℕ) → k < length marks.now → slice_index_or marks.now k false ≡ true)
         (λ i. (i < length marks.now) × (slice_index_or marks.now i false ≡ false) × ((k : ℕ) → k < i → slice_index_or marks.now k false ≡ true)) }

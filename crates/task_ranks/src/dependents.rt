@@ -6,6 +6,7 @@ ghost use Rattle.task_ranks.specs.Dependents.{AddsDependent, ListsDependents};
 use crate::rank_search::names_of;
 use std::alloc::{AllocError, Global};
 
+// An empty list for each row.
 fn empty_rows(alloc: Global, rows: &[Vec<u32>]) -> Result<Vec<Vec<usize>>, AllocError>
     ensures size { IfOk result (λ dependents. length dependents.items ≡ length rows.now) }
     ensures empty { IfOk result (λ dependents. (u : ℕ) → after (lists_of dependents.items) u ≡ []) }
@@ -18,6 +19,7 @@ fn empty_rows(alloc: Global, rows: &[Vec<u32>]) -> Result<Vec<Vec<usize>>, Alloc
     Ok(dependents)
 }
 
+// Adds a task at the end of one of the lists.
 fn push_at(dependents: &mut Vec<Vec<usize>>, at: usize, task: usize) -> Result<(), AllocError>
     requires { at < length dependents.old.items }
     ensures { OnOk result (lists_of dependents.new.items ≡ slice_set (lists_of dependents.old.items) at

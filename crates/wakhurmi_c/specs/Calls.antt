@@ -1,34 +1,42 @@
 -- What each call of a worker leaves, by its answer.
-use Rattle.std.specs.Prelude.{◌≡◌, ◌⊎◌, ℕ, false, List, None}
-use Rattle.lock_transforms.specs.Allowed.{IsDisabled, IsFixedList, IsUnmet}
-use Rattle.lock_transforms.specs.Taking.{acquired, can_take_all, may_acquire}
+use Rattle.std.specs.Prelude.{◌≡◌, ℕ, false, List, None}
+use Rattle.lock_transforms.specs.Allowed.{IsFixedList}
+use Rattle.lock_transforms.specs.Taking.{acquired, can_take_all}
 use Rattle.lock_transforms.specs.declared.entries.Kind.TheVariants as kinds
 use Rattle.lock_transforms.specs.declared.kinds.acquires.Shortage.{Shortage}
 use Rattle.lock_transforms.specs.declared.kinds.acquires.Shortage.TheVariants.{Waits, Fails}
-use Rattle.resource_lock.specs.StateView.{leases_out}
+use Rattle.resource_lock.specs.StateView.{holding_of, leases_out}
+use Rattle.resource_lock.specs.declared.ids.LockId.{LockId}
 use Rattle.coordination.specs.declared.rule.Sight.{Sight}
 use Rattle.coordination.specs.Calls.{IsAnswered}
+use Rattle.coordination.specs.Shown.{blocked_shown, lease_shown}
 use Rattle.wakhurmi_c.specs.Leaves.{Leaves}
-use Rattle.wakhurmi_c.specs.Locks.{locks_of}
+use Rattle.wakhurmi_c.specs.Places.{are_in_order, may_hand_back, may_take}
 use Rattle.wakhurmi_c.specs.declared.answers.Answer.{Answer}
-use Rattle.wakhurmi_c.specs.declared.answers.Answer.TheVariants.{Done}
+use Rattle.wakhurmi_c.specs.declared.answers.Answer.TheVariants.{Done, Again}
 
--- A lease and locks are taken; where that can't be, the call waits or fails.
-abbrev pub TakeLeaves : Shortage → List ℕ → Sight → Sight → Answer → Type 0
-TakeLeaves shortage locks = Leaves kinds.Acquire (λ g w s cs. cs ≡ acquired s w (locks_of locks))
-    (λ g w s. (shortage ≡ Fails) × (can_take_all s w (locks_of locks) ≡ false))
-    (λ g w s. (may_acquire g s w (locks_of locks) ≡ false) ⊎ ((shortage ≡ Waits) × (can_take_all s w (locks_of locks) ≡ false)))
+-- A lease and locks are taken. Where another worker owns one of the locks, or the worker has no lease and none is free, the
+-- call can't be done yet, or fails.
+abbrev pub TakeLeaves : Shortage → List LockId → Sight → Sight → Answer → Type 0
+TakeLeaves shortage locks = Leaves kinds.Acquire (λ g w s cs. cs ≡ acquired s w locks) (λ g w s. (shortage ≡ Fails) × (can_take_all s w locks ≡ false))
+    (λ g w s. (shortage ≡ Waits) × (can_take_all s w locks ≡ false)) (λ sight. are_in_order locks sight.seen.graph.locks ≡ false)
+    (λ sight. may_take sight ≡ false)
 
+-- It never fails, and nothing keeps it from being done.
 abbrev pub HandBackLeaves : Sight → Sight → Answer → Type 0
-HandBackLeaves = Leaves kinds.HandBack (IsFixedList kinds.HandBack) (λ g w s. ⊥) (IsUnmet kinds.HandBack)
+HandBackLeaves = Leaves kinds.HandBack (IsFixedList kinds.HandBack) (λ g w s. ⊥) (λ g w s. ⊥) (λ sight. ⊥) (λ sight. may_hand_back sight ≡ false)
 
+-- The same holds of it.
 abbrev pub EnterLeaves : Sight → Sight → Answer → Type 0
-EnterLeaves = Leaves (kinds.Block None) (IsFixedList (kinds.Block None)) (λ g w s. ⊥) (IsUnmet (kinds.Block None))
+EnterLeaves = Leaves (kinds.Block None) (IsFixedList (kinds.Block None)) (λ g w s. ⊥) (λ g w s. ⊥) (λ sight. ⊥) (λ sight. lease_shown sight ≡ false)
 
+-- Where another worker owns a lock that the worker has parked, or no lease is free, the call can't be done yet.
 abbrev pub LeaveLeaves : Sight → Sight → Answer → Type 0
-LeaveLeaves = Leaves (kinds.Unblock None) (IsFixedList (kinds.Unblock None)) (λ g w s. ⊥) (IsDisabled (kinds.Unblock None))
+LeaveLeaves = Leaves (kinds.Unblock None) (IsFixedList (kinds.Unblock None)) (λ g w s. ⊥)
+    (λ g w s. can_take_all s w (holding_of s w).parked ≡ false) (λ sight. ⊥) (λ sight. blocked_shown sight ≡ false)
 
 -- So many leases were out in a book that the worker found, or it found none.
 abbrev pub CountLeaves : ℕ → Sight → Sight → Answer → Type 0
 CountLeaves n old new Done = IsAnswered (λ w book m. m ≡ leases_out book.state) n old new
-CountLeaves n old new _ = new ≡ old
+CountLeaves n old new Again = new ≡ old
+CountLeaves n old new _ = ⊥

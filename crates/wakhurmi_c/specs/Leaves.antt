@@ -9,7 +9,7 @@ use Rattle.coordination.specs.Attempts.{Cause, Making}
 use Rattle.coordination.specs.Calls.{HasFailed, HasFinished, HasLooked, WasStopped}
 use Rattle.coordination.specs.Sights.{seeing}
 use Rattle.wakhurmi_c.specs.declared.answers.Answer.{Answer}
-use Rattle.wakhurmi_c.specs.declared.answers.Answer.TheVariants.{Done, Busy, Refused, Stopped, NoMemory}
+use Rattle.wakhurmi_c.specs.declared.answers.Answer.TheVariants.{Done, Busy, Refused, Stopped, Again, NoMemory, BadNumber, Misused}
 
 -- The call found a book in which it couldn't be done, and nothing of the worker's has changed.
 pub record WasKept (cause : Cause) (old new : Sight) : Type 0 where
@@ -18,14 +18,18 @@ pub record WasKept (cause : Cause) (old new : Sight) : Type 0 where
   pub kept : cause book.graph old.worker book.state
   pub sight : new ≡ seeing old book
 
--- what a try of a transform leaves
-abbrev pub Leaves : Kind → Making → Cause → Cause → Sight → Sight → Answer → Type 0
-Leaves kind makes fails retries old new Done = HasFinished kind makes old new
-Leaves kind makes fails retries old new Refused = HasFailed kind fails old new
-Leaves kind makes fails retries old new Busy = WasKept retries old new
-Leaves kind makes fails retries old new Stopped = (by : WorkerId) × WasStopped retries by old new
-Leaves kind makes fails retries old new NoMemory = HasLooked old new ⊎ (new ≡ old)
-Leaves kind makes fails retries old new _ = new ≡ old
+-- What a call leaves of a transform: where it fails, where it can't be done yet, and for which sights of its worker the call
+-- refuses its numbers, or may not be made.
+abbrev pub Leaves : Kind → Making → Cause → Cause → (Sight → Type 0) → (Sight → Type 0) → Sight → Sight → Answer → Type 0
+Leaves kind makes fails waits refuses misuses old new Done = HasFinished kind makes old new
+Leaves kind makes fails waits refuses misuses old new Refused = HasFailed kind fails old new
+Leaves kind makes fails waits refuses misuses old new Busy = WasKept waits old new
+Leaves kind makes fails waits refuses misuses old new Stopped = (by : WorkerId) × WasStopped waits by old new
+Leaves kind makes fails waits refuses misuses old new Again = new ≡ old
+Leaves kind makes fails waits refuses misuses old new NoMemory = HasLooked old new ⊎ (new ≡ old)
+Leaves kind makes fails waits refuses misuses old new BadNumber = (new ≡ old) × refuses old
+Leaves kind makes fails waits refuses misuses old new Misused = (new ≡ old) × misuses old
+Leaves kind makes fails waits refuses misuses old new _ = ⊥
 
 -- these answers come with an entry
 abbrev pub is_entry : Answer → Bool

@@ -1,8 +1,10 @@
 -- What the contracts of the library say.
 pub mod Calls
+pub mod Closed
 pub mod Leaves
 pub mod Locks
 pub mod Numbers
 pub mod Opened
 pub mod Owned
+pub mod Places
 pub mod Texts

@@ -5,21 +5,24 @@ ghost use Rattle.worker_choices.specs.GoingOn.{last_lets_go_on};
 ghost use Rattle.coordination.specs.Calls.{HasStopped, IsAnswered};
 ghost use Rattle.wakhurmi_c.specs.Leaves.{is_entry};
 ghost use Rattle.wakhurmi_c.specs.Calls.{TakeLeaves, HandBackLeaves, EnterLeaves, LeaveLeaves};
+ghost use Rattle.wakhurmi_c.specs.Locks.{locks_of};
+ghost use Rattle.wakhurmi_c.specs.Places.{may_hand_back, may_take};
 
 use crate::answers::{Answer, Outcome};
 use crate::asking::{are_in_order, ask_for};
 use crate::questions::LeasesOut;
 use crate::tries::try_once;
 use crate::workers::Worker;
+use coordination::Pass;
 use lock_transforms::kinds::{Acquire, Block, HandBack, Shortage, Unblock};
 
 impl Worker {
     /// Takes a lease, where the worker has none, and those of these locks that it doesn't own.
     pub(crate) fn acquire(&mut self, locks: &[u32], shortage: Shortage) -> Outcome
-        ensures left { TakeLeaves shortage locks.now self.old.pass.sight self.new.pass.sight result.answer }
+        ensures left { TakeLeaves shortage (locks_of locks.now) self.old.pass.sight self.new.pass.sight result.answer }
         ensures wakes { result.wakes ≡ (is_entry result.answer && last_lets_go_on self.new.pass.sight.seen.history) }
     {
-        if self.pass.blocked() {
+        if !may_take(&self.pass) {
             return Outcome::without_entry(Answer::Misused);
         }
         if ask_for(&mut self.asked, locks).is_err() {
@@ -35,19 +38,19 @@ impl Worker {
         try_once(&self.service, &mut self.pass, &mut self.sleepers, &acquire)
     }
 
-    /// Hands back the lease and all locks of the worker.
+    /// Hands back the lease and all locks of the worker. Others never keep it from that.
     pub(crate) fn hand_back(&mut self) -> Outcome
         ensures left { HandBackLeaves self.old.pass.sight self.new.pass.sight result.answer }
         ensures wakes { result.wakes ≡ (is_entry result.answer && last_lets_go_on self.new.pass.sight.seen.history) }
     {
-        let has_something = self.pass.has_lease() || !self.pass.locks().is_empty();
-        if self.pass.blocked() || !has_something {
+        if !may_hand_back(&self.pass) {
             return Outcome::without_entry(Answer::Misused);
         }
         try_once(&self.service, &mut self.pass, &mut self.sleepers, &HandBack)
     }
 
-    /// Enters a blocking section: gives the lease and all locks back, which the worker takes again when it leaves.
+    /// Enters a blocking section: gives the lease and all locks back, which the worker takes again when it leaves. Others never
+    /// keep it from that.
     pub(crate) fn enter(&mut self) -> Outcome
         ensures left { EnterLeaves self.old.pass.sight self.new.pass.sight result.answer }
         ensures wakes { result.wakes ≡ (is_entry result.answer && last_lets_go_on self.new.pass.sight.seen.history) }
@@ -96,4 +99,18 @@ impl Worker {
             .attempt_ask(&mut self.pass, &LeasesOut, &mut self.sleepers)?;
         leases
     }
+}
+
+// Whether a worker is in no blocking section, and has parked nothing.
+fn may_take(pass: &Pass) -> bool
+    ensures { result ≡ may_take pass.now.sight }
+{
+    !pass.blocked() && pass.parked().is_empty()
+}
+
+// Whether a worker is in no blocking section, and has a lease or a lock.
+fn may_hand_back(pass: &Pass) -> bool
+    ensures { result ≡ may_hand_back pass.now.sight }
+{
+    !pass.blocked() && (pass.has_lease() || !pass.locks().is_empty())
 }

@@ -1,10 +1,11 @@
 //! What C calls with a worker's handle. A call that finds the handle empty answers so, and touches nothing.
-ghost use Rattle.std.specs.Prelude.{◌≡◌, ◌&&◌, true, false};
+ghost use Rattle.std.specs.Prelude.{◌≡◌, ◌≢◌, ◌&&◌, true, false};
 ghost use Rattle.worker_choices.specs.GoingOn.{last_lets_go_on};
 ghost use Rattle.coordination.specs.Calls.{HasStopped};
 ghost use Rattle.lock_transforms.specs.declared.kinds.acquires.Shortage.TheVariants as shortages;
 ghost use Rattle.wakhurmi_c.specs.Calls.{CountLeaves, EnterLeaves, HandBackLeaves, LeaveLeaves, TakeLeaves};
 ghost use Rattle.wakhurmi_c.specs.Leaves.{is_entry};
+ghost use Rattle.wakhurmi_c.specs.Locks.{locks_of};
 ghost use Rattle.wakhurmi_c.specs.Numbers.{answer_of};
 ghost use Rattle.wakhurmi_c.specs.declared.answers.Answer.TheVariants as answers;
 
@@ -19,7 +20,7 @@ use std::alloc::Global;
 pub extern "C" fn wakhurmi_c_take(alloc: Global, handle: &mut Handle, locks: &[u32]) -> Told
     ensures full { handle.new.full ≡ handle.old.full }
     ensures empty { handle.old.full ≡ false → answer_of result.answer ≡ answers.Empty }
-    ensures left { handle.old.full ≡ true → TakeLeaves shortages.Waits locks.now handle.old.held.worker.pass.sight handle.new.held.worker.pass.sight
+    ensures left { handle.old.full ≡ true → TakeLeaves shortages.Waits (locks_of locks.now) handle.old.held.worker.pass.sight handle.new.held.worker.pass.sight
         (answer_of result.answer) }
     ensures wakes { handle.old.full ≡ true
         → result.wakes ≡ (is_entry (answer_of result.answer) && last_lets_go_on handle.new.held.worker.pass.sight.seen.history) }
@@ -38,7 +39,7 @@ pub extern "C" fn wakhurmi_c_take(alloc: Global, handle: &mut Handle, locks: &[u
 pub extern "C" fn wakhurmi_c_try_take(alloc: Global, handle: &mut Handle, locks: &[u32]) -> Told
     ensures full { handle.new.full ≡ handle.old.full }
     ensures empty { handle.old.full ≡ false → answer_of result.answer ≡ answers.Empty }
-    ensures left { handle.old.full ≡ true → TakeLeaves shortages.Fails locks.now handle.old.held.worker.pass.sight handle.new.held.worker.pass.sight
+    ensures left { handle.old.full ≡ true → TakeLeaves shortages.Fails (locks_of locks.now) handle.old.held.worker.pass.sight handle.new.held.worker.pass.sight
         (answer_of result.answer) }
     ensures wakes { handle.old.full ≡ true
         → result.wakes ≡ (is_entry (answer_of result.answer) && last_lets_go_on handle.new.held.worker.pass.sight.seen.history) }
@@ -130,6 +131,7 @@ pub extern "C" fn wakhurmi_c_leases_out(alloc: Global, handle: &mut Handle, leas
     ensures empty { handle.old.full ≡ false → answer_of result ≡ answers.Empty }
     ensures told { handle.old.full ≡ true
         → CountLeaves leases.new handle.old.held.worker.pass.sight handle.new.held.worker.pass.sight (answer_of result) }
+    ensures kept { answer_of result ≢ answers.Done → leases.new ≡ leases.old }
 {
     if !handle.full {
         return Answer::Empty.number();

@@ -1,10 +1,11 @@
 //! The end of a service.
-ghost use Rattle.std.specs.Prelude.{◌≡◌, ◌≢◌, ◌≤◌, [], All, IfSome, IsSome, false, length, map, true, vec_capacity};
+ghost use Rattle.std.specs.Prelude.{◌≡◌, ◌≢◌, ◌≤◌, ◌⊎◌, ℕ, [], All, IfErr, IfNone, IfOk, IfSome, false, length, map, true, vec_capacity};
 ghost use Rattle.std.specs.Arc.{arc_value};
 ghost use Rattle.atomic_table.specs.Seated.{TableId};
 ghost use Rattle.resource_lock.specs.GraphView.{GraphView};
 ghost use Rattle.coordination.specs.Closings.{IsClosedBy};
 ghost use Rattle.coordination.specs.Sights.{workers_from};
+ghost use Rattle.wakhurmi_c.specs.Closed.{WhyUnfinished};
 ghost use Rattle.wakhurmi_c.specs.Numbers.{answer_of};
 ghost use Rattle.wakhurmi_c.specs.declared.answers.Answer.TheVariants as answers;
 
@@ -41,6 +42,8 @@ fn gather(alloc: Global, handles: &mut [Handle], mut passes: Vec<Pass>) -> Gathe
     ensures emptied { All (λ h. h.full ≡ false) handles.new }
     ensures passes { result.passes.items ≡ map (λ h. h.held.worker.pass) handles.old }
     ensures service { IfSome result.common (λ c. All (λ p. p.service ≡ (arc_value c.service).table.shared.table_id) result.passes.items) }
+    ensures workers { IfSome result.common (λ c. (n : ℕ) → All (λ h. h.held.worker.workers ≡ n) handles.old → c.workers ≡ n) }
+    ensures none { IfNone result.common (length handles.old ≡ 0) }
 {
     let mut common = None;
     for handle in handles.iter_mut() {
@@ -60,7 +63,8 @@ fn gather(alloc: Global, handles: &mut [Handle], mut passes: Vec<Pass>) -> Gathe
 
 /// Whether these are the passes of so many workers, in order.
 fn are_all(passes: &[Pass], workers: u32) -> bool
-    ensures { result ≡ true → map (λ p. p.sight.worker.0) passes.now ≡ workers_from 0 workers }
+    ensures are { result ≡ true → map (λ p. p.sight.worker.0) passes.now ≡ workers_from 0 workers }
+    ensures are_not { result ≡ false → map (λ p. p.sight.worker.0) passes.now ≢ workers_from 0 workers }
 {
     if passes.len() != workers as usize {
         return false;
@@ -75,22 +79,29 @@ fn are_all(passes: &[Pass], workers: u32) -> bool
     true
 }
 
-/// Takes the book out of a service, by the passes of all its workers. None where they aren't.
-fn close_by(gathered: Gathered) -> Option<Box<Book>>
+/// Takes the book out of a service, by the passes of all its workers.
+fn close_by(gathered: Gathered) -> Result<Box<Book>, Answer>
     requires { IfSome gathered.common (λ c. All (λ p. p.service ≡ (arc_value c.service).table.shared.table_id) gathered.passes.items) }
-    ensures { IfSome result (λ book. (g : GraphView) × IsClosedBy gathered.passes.items g book.value) }
+    ensures closed { IfOk result (λ book. (g : GraphView) × IsClosedBy gathered.passes.items g book.value) }
+    ensures why { IfErr result (λ answer. (answer ≡ answers.Misused) ⊎ ((answer ≡ answers.BadNumber)
+        × IfSome gathered.common (λ c. map (λ p. p.sight.worker.0) gathered.passes.items ≢ workers_from 0 c.workers))) }
 {
     let Gathered { passes, common } = gathered;
-    let Common { service, workers } = common?;
+    let Some(Common { service, workers }) = common else {
+        return Err(Answer::BadNumber);
+    };
     if !are_all(&passes, workers) {
-        return None;
+        return Err(Answer::BadNumber);
     }
-    let slot = Arc::into_inner(service)?;
-    Some(slot.close(passes))
+    match Arc::into_inner(service) {
+        Some(slot) => Ok(slot.close(passes)),
+        None => Err(Answer::Misused),
+    }
 }
 
 /// Ends a service whose workers' handles these are, all of them and in order: the book is taken out of it for good. Where they
-/// aren't that, it answers `BadNumber`, and their workers are closed all the same.
+/// aren't that, it answers `BadNumber`, and their workers are closed all the same. `Full` and `Empty` speak of the book's handle
+/// and of these.
 #[unsafe(no_mangle)]
 pub extern "C" fn wakhurmi_c_finish(
     alloc: Global,
@@ -102,7 +113,9 @@ pub extern "C" fn wakhurmi_c_finish(
     ensures closed { answer_of result ≡ answers.Done
         → (g : GraphView) × IsClosedBy (map (λ h. h.held.worker.pass) handles.old) g book.new.held.book }
     ensures emptied { answer_of result ≡ answers.Done → All (λ h. h.full ≡ false) handles.new }
-    ensures kept { answer_of result ≢ answers.Done → answer_of result ≢ answers.BadNumber → handles.new ≡ handles.old }
+    ensures why { answer_of result ≢ answers.Done → WhyUnfinished handles.old book.old.full (answer_of result) }
+    ensures kept { answer_of result ≢ answers.Done → answer_of result ≢ answers.BadNumber → answer_of result ≢ answers.Misused
+        → handles.new ≡ handles.old }
     ensures book_kept { answer_of result ≢ answers.Done → book.new ≡ book.old }
 {
     if book.full {
@@ -115,11 +128,11 @@ pub extern "C" fn wakhurmi_c_finish(
         return Answer::NoMemory.number();
     };
     match close_by(gather(alloc, handles, passes)) {
-        Some(closed) => {
+        Ok(closed) => {
             *book = BookHandle::of(closed);
             Answer::Done.number()
         }
-        None => Answer::BadNumber.number(),
+        Err(answer) => answer.number(),
     }
 }
 

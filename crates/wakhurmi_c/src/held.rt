@@ -35,6 +35,7 @@ impl Model for Held {
 }
 
 impl Held {
+    /// A full handle of the parts of a box.
     pub(crate) fn from_loose(loose: Loose<Worker, Global>) -> Held
         ensures full { result.full ≡ true }
         ensures worker { result.worker ≡ loose.value }

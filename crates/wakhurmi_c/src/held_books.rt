@@ -29,6 +29,7 @@ impl Model for HeldBook {
 }
 
 impl HeldBook {
+    /// A full handle of the parts of a box.
     pub(crate) fn from_loose(loose: Loose<Book, Global>) -> HeldBook
         ensures full { result.full ≡ true }
         ensures book { result.book ≡ loose.value }

@@ -1,9 +1,11 @@
 //! A service that C opens.
 ghost use Rattle.std.specs.Prelude.{◌≡◌, ◌≢◌, ◌≤◌, [], All, IfErr, IfOk, true, length, map, vec_capacity};
 ghost use Rattle.std.specs.Arc.{arc_value};
+ghost use Rattle.std.specs.List.{list_any};
 ghost use Rattle.resource_lock.specs.AtRest.{IsAtRest};
 ghost use Rattle.wakhurmi_c.specs.Numbers.{answer_of};
-ghost use Rattle.wakhurmi_c.specs.Opened.{IsOpened};
+ghost use Rattle.wakhurmi_c.specs.Opened.{IsOpened, WhyUnopened};
+ghost use Rattle.wakhurmi_c.specs.Places.{HasNoTasks};
 ghost use Rattle.wakhurmi_c.specs.declared.answers.Answer.TheVariants as answers;
 
 use crate::answers::Answer;
@@ -17,11 +19,12 @@ use std::sync::Arc;
 
 /// The book of a service for workers without tasks.
 fn book_of(alloc: Global, workers: u32, max_leases: u32, locks: u32) -> Result<Box<Book>, Answer>
-    ensures err { IfErr result (λ e. e ≢ answers.Done) }
+    ensures err { IfErr result (WhyUnopened workers max_leases locks) }
     ensures rest { IfOk result (λ book. IsAtRest book.value.state) }
     ensures workers { IfOk result (λ book. book.value.graph.workers ≡ workers) }
     ensures max_leases { IfOk result (λ book. book.value.graph.max_leases ≡ max_leases) }
     ensures locks { IfOk result (λ book. book.value.graph.locks ≡ locks) }
+    ensures no_tasks { IfOk result (λ book. HasNoTasks book.value.graph) }
     ensures history { IfOk result (λ book. book.value.history ≡ []) }
 {
     openings_are_at_rest();
@@ -48,6 +51,9 @@ fn worker_of(
 ) -> Result<Box<Worker, Global>, AllocError>
     requires service { pass.service ≡ (arc_value service.now).table.shared.table_id }
     requires workers { workers ≡ (arc_value service.now).table.shared.key.book.value.graph.workers }
+    requires no_tasks { HasNoTasks (arc_value service.now).table.shared.key.book.value.graph }
+    requires locks { locks ≡ (arc_value service.now).table.shared.key.book.value.graph.locks }
+    requires seen { pass.sight.seen ≡ (arc_value service.now).table.shared.key.book.value }
     ensures { IfOk result (λ worker. worker.value.pass ≡ pass) }
 {
     let service = Arc::try_clone(service)?;
@@ -73,6 +79,9 @@ fn workers_of(
 ) -> Result<Vec<Box<Worker, Global>>, AllocError>
     requires service { All (λ p. p.service ≡ (arc_value service.now).table.shared.table_id) passes.items }
     requires workers { workers ≡ (arc_value service.now).table.shared.key.book.value.graph.workers }
+    requires no_tasks { HasNoTasks (arc_value service.now).table.shared.key.book.value.graph }
+    requires locks { locks ≡ (arc_value service.now).table.shared.key.book.value.graph.locks }
+    requires seen { All (λ p. p.sight.seen ≡ (arc_value service.now).table.shared.key.book.value) passes.items }
     ensures { IfOk result (λ all. map (λ w. w.value.pass) all.items ≡ passes.items) }
 {
     let mut all = Vec::with_capacity(alloc, passes.len())?;
@@ -90,7 +99,7 @@ fn open_workers(
     locks: u32,
 ) -> Result<Vec<Box<Worker, Global>>, Answer>
     ensures opened { IfOk result (λ all. IsOpened workers max_leases locks (map (λ w. w.value.pass) all.items)) }
-    ensures err { IfErr result (λ e. e ≢ answers.Done) }
+    ensures err { IfErr result (WhyUnopened workers max_leases locks) }
 {
     let book = book_of(alloc, workers, max_leases, locks)?;
     let Ok((slot, passes)) = Slot::opening(alloc, book) else {
@@ -131,6 +140,9 @@ pub extern "C" fn wakhurmi_c_open(
     ensures full { answer_of result ≡ answers.Done → All (λ h. h.full ≡ true) handles.new }
     ensures opened { answer_of result ≡ answers.Done
         → IsOpened (length handles.old) max_leases locks (map (λ h. h.held.worker.pass) handles.new) }
+    ensures full_handle { answer_of result ≡ answers.Full → list_any (λ h. h.full) handles.old ≡ true }
+    ensures why { answer_of result ≢ answers.Done → answer_of result ≢ answers.Full
+        → WhyUnopened (length handles.old) max_leases locks (answer_of result) }
     ensures kept { answer_of result ≢ answers.Done → handles.new ≡ handles.old }
 {
     if handles.iter().any(|handle| handle.full) {

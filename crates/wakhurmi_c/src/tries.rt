@@ -16,8 +16,9 @@ pub(crate) fn try_once<T: Transform>(
 ) -> Outcome
     requires { pass.old.service ≡ service.now.table.shared.table_id }
     ensures service { pass.new.service ≡ pass.old.service }
+    ensures graph { pass.new.sight.seen.graph ≡ pass.old.sight.seen.graph }
     ensures left { Leaves (T.kind_of transform.now) (T.makes transform.now) (T.fails_on transform.now) (T.retries_on transform.now)
-        pass.old.sight pass.new.sight result.answer }
+        (λ _. ⊥) (λ _. ⊥) pass.old.sight pass.new.sight result.answer }
     ensures wakes { result.wakes ≡ (is_entry result.answer && last_lets_go_on pass.new.sight.seen.history) }
 {
     sleepers.transforms = true;

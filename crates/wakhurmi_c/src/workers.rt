@@ -1,5 +1,7 @@
+//! A worker as a handle owns it.
 ghost use Rattle.std.specs.Prelude.{◌≡◌};
 ghost use Rattle.std.specs.Arc.{arc_value};
+ghost use Rattle.wakhurmi_c.specs.Places.{HasNoTasks};
 
 use coordination::{Pass, Sleepers, Slot};
 use resource_lock::LockId;
@@ -22,5 +24,7 @@ pub struct Worker {
     // Who sleeps is known to C alone. So each entry is asked whether it would wake a transform that sleeps.
     pub(crate) sleepers: Sleepers,
     ghost own: { pass.service ≡ (arc_value service).table.shared.table_id },
+    ghost no_tasks: { HasNoTasks pass.sight.seen.graph },
+    ghost locks_are: { locks ≡ pass.sight.seen.graph.locks },
     ghost workers_are: { workers ≡ (arc_value service).table.shared.key.book.value.graph.workers },
 }

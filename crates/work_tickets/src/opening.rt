@@ -8,7 +8,7 @@ use crate::seats::TicketSeat;
 use crate::tickets::RuledQueue;
 use crossbeam_queue::Pass;
 
-// Has the keeper of one seat be that of so many.
+/// Has the keeper of one seat be that of so many.
 pub fn make_room(queue: &RuledQueue, pass: &mut Pass<u32, PassView>, seats: u32)
     requires queue { IsPassOf queue.now pass.old }
     requires view { view pass.old ≡ first_keeper }
@@ -21,7 +21,7 @@ pub fn make_room(queue: &RuledQueue, pass: &mut Pass<u32, PassView>, seats: u32)
     }
 }
 
-// Cuts all seats off the keeper. There is room for them.
+/// Cuts all seats off the keeper. There is room for them.
 pub fn cut_seats(
     queue: &RuledQueue,
     pass: &mut Pass<u32, PassView>,

@@ -43,7 +43,7 @@ use Rattle.async_tracker.specs.Shows.{HasParkedLast, IsFree, IsParkedBy, ShowsRe
 use Rattle.worker_choices.specs.NextSteps.{first_open}
 use Rattle.async_tracker.specs.Waits.{CannotResume, CannotTakeAgain, IsFirstOpen}
 use Rattle.coordination.proofs.lemmas.Shown.{Leaves, shows_left}
-use Rattle.async_tracker.proofs.lemmas.Claims.{action_runs, unit_claimed}
+use Rattle.history_laws.proofs.lemmas.Claims.{action_runs, unit_claimed}
 use Rattle.async_tracker.proofs.Parking.{stands_in-last}
 
 -- no item is open where all have ended

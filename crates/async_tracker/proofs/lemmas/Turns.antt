@@ -20,7 +20,8 @@ use Rattle.coordination.specs.Shown.{ShowsTheSame}
 use Rattle.coordination.specs.declared.rule.Sight.{Sight}
 use Rattle.coordination.proofs.lemmas.Growing.{agrees_then}
 use Rattle.async_tracker.specs.ParkedView.{ParkedView}
-use Rattle.async_tracker.specs.Shows.{HasParkedLast, IsFree, IsIdleOrParked, IsParkedBy, is_action, is_unit}
+use Rattle.history_laws.specs.Own.{is_action, is_unit}
+use Rattle.async_tracker.specs.Shows.{HasParkedLast, IsFree, IsIdleOrParked, IsParkedBy}
 
 module _ {A : Type 0} {answers : WorkerId → BookView → A → Type 0} {a : A} {old mid : Sight} (q : IsAnswered answers a old mid) where
   found_later : (book : BookView) → Finds old.worker q.book book → Finds old.worker old.seen book

@@ -1,5 +1,6 @@
 -- Passes by the numbers of their workers.
-use Rattle.std.proofs.Common.{◌≡◌, ℕ, zero, suc, ◌+◌, ◌<◌, List, [], ◌∷◌, length, get_or, map, refl, sym, ap, ◌∙◌, arith}
+use Rattle.std.proofs.Common.{◌≡◌, ℕ, zero, suc, ◌+◌, ◌<◌, List, [], ◌∷◌, length, get_or, map, refl, sym, ap, ◌∙◌, subst, arith}
+use Rattle.std.specs.List.{All}
 use Rattle.std.proofs.lemmas.List.{get_or-map, length-map, ext_get_or}
 use Rattle.resource_lock.specs.declared.ids.WorkerId.{WorkerId}
 use Rattle.coordination.specs.Passes.{PassView}
@@ -9,6 +10,12 @@ use Rattle.coordination.specs.Sights.{workers_from}
 pub element : {X : Type 0} (xs : List X) (i : ℕ) → i < length xs → X
 element [] i low = absurd (omega (arith, low))
 element (x ∷ xs) i low = get_or (x ∷ xs) i x
+
+-- what holds of each part holds of the part of each
+pub of_each : {W V : Type 0} (part : W → V) (P : V → Type 0) (ws : List W) (vs : List V) → map part ws ≡ vs → All P vs → All (λ w. P (part w)) ws
+of_each part P ws vs is all k d low =
+    let l : k < length (map part ws) = omega (arith, length-map ws part, low) in
+    subst P (get_or-map part ws k d (part d) low) (subst (All P) (sym is) all k (part d) l)
 
 at_number : (w n i d : ℕ) → i < n → get_or (workers_from w n) i d ≡ w + i
 at_number w zero i d low = absurd (omega (arith, low))

@@ -16,7 +16,7 @@ use Rattle.resource_lock.proofs.Follows.{first_range, next_range, last_range_at,
 abbrev pub end_of : GraphAction → ℕ
 end_of a = a.first_unit + units_in a
 
-stop_is_nothing : (actions : List GraphAction) (stop : ℕ) → Follow (λ a. a.first_unit) units_in 0 actions stop → length actions ≤ 0 → stop ≡ 0
+pub stop_is_nothing : (actions : List GraphAction) (stop : ℕ) → Follow (λ a. a.first_unit) units_in 0 actions stop → length actions ≤ 0 → stop ≡ 0
 stop_is_nothing [] stop h none = omega (arith, h)
 stop_is_nothing (x ∷ xs) stop h none = absurd (omega arith)
 

@@ -19,6 +19,7 @@ pub(super) struct Counts {
 }
 
 impl Counts {
+    /// Of a worker that has nothing.
     pub(super) const NONE: Counts = Counts {
         locks: 0,
         tasks: 0,

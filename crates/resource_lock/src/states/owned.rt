@@ -57,6 +57,7 @@ impl State {
             && !self.runs_any(worker)
     }
 
+    // What a worker has, counted. A number of no worker has nothing.
     fn counts(&self, worker: WorkerId) -> Counts
         ensures { result ≡ counts_of self.now worker }
     {

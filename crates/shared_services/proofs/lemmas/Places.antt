@@ -5,6 +5,7 @@ use Rattle.std.proofs.lemmas.Bool.{cases_lt}
 use Rattle.std.proofs.lemmas.List.Elements.{All-head, All-tail}
 use Rattle.std.proofs.lemmas.List.Sums.{sum_by-cons}
 use Rattle.shared_services.specs.Services.{FitMaxima, lock_count}
+use Rattle.shared_services.specs.declared.services.TheConstants.{MAX_SERVICES, MAX_USES}
 
 sum_from : (x : ℕ) (xs : List ℕ) → sum (x ∷ xs) ≡ x + sum xs
 sum_from x xs = sum_by-cons (λ (n : ℕ). n) x xs
@@ -17,7 +18,7 @@ few_each (x ∷ xs) all =
     let rest = few_each xs (All-tail (λ m. (1 ≤ m) × (m ≤ 32)) x xs all) in
     omega (arith, head.1, rest, sum_from x xs)
 
-pub few_locks : (maxima : List ℕ) → FitMaxima maxima → lock_count maxima ≤ 2048
+pub few_locks : (maxima : List ℕ) → FitMaxima maxima → lock_count maxima ≤ MAX_SERVICES * MAX_USES
 few_locks maxima fit = let total = few_each maxima fit.used in omega (arith, total, fit.few)
 
 -- the locks of a service come before those of later ones, and within all

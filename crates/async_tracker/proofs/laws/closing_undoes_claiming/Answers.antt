@@ -11,7 +11,7 @@ use Rattle.coordination.specs.declared.rule.Sight.{Sight}
 use Rattle.coordination.specs.Shown.{ShowsTheSame, lease_shown}
 use Rattle.coordination.proofs.lemmas.Growing.{agrees_self}
 use Rattle.async_tracker.specs.Shows.{HasReleased, ShowsClaimed, ShowsClosed}
-use Rattle.async_tracker.proofs.Owned.{stands_in_owned}
+use Rattle.history_laws.proofs.lemmas.Owned.{stands_in_owned}
 use Rattle.async_tracker.proofs.lemmas.Turns.{free_still, parked_still, waits_still}
 use Rattle.async_tracker.proofs.laws.closing_undoes_claiming.Goals as goal
 

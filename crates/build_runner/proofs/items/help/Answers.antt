@@ -4,7 +4,7 @@ use Rattle.resource_lock.specs.declared.marks.MarkId.{MarkId}
 use Rattle.resource_lock.specs.declared.marks.MarkId.TheVariants.{Unit as UnitOf}
 use Rattle.history_laws.specs.OwnChanges.{mark_before}
 use Rattle.coordination.specs.Shown.{claimed_shown}
-use Rattle.async_tracker.proofs.lemmas.Claims.{has_member}
+use Rattle.history_laws.proofs.lemmas.Claims.{has_member}
 use Rattle.build_runner.proofs.Failing.{fails_not, fails_then}
 use Rattle.build_runner.proofs.Keeping.{on_ok}
 use Rattle.build_runner.proofs.items.help.Goals as goal

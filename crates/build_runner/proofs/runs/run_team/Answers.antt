@@ -1,6 +1,7 @@
-use Rattle.std.proofs.Common.{◌≡◌, ℕ, ◌+◌, ◌<◌, ◌≤◌, List, Vec, get_or, length, map, true, sym, ap, ◌∙◌, subst, arith}
+use Rattle.std.proofs.Common.{◌≡◌, ℕ, ◌+◌, ◌<◌, ◌≤◌, List, Vec, drop, get_or, length, map, true, sym, ap, ◌∙◌, subst, arith}
 use Rattle.std.specs.List.{All}
 use Rattle.std.specs.Prelude.{sum_by}
+use Rattle.std.proofs.lemmas.List.{take_at}
 use Rattle.std.specs.declared.alloc.Global.{Global}
 use Rattle.coordination.specs.Passes.{PassView}
 use Rattle.build_runner.specs.Desks.{desk_view}
@@ -8,7 +9,8 @@ use Rattle.build_runner.specs.Failing.{unreal_seen}
 use Rattle.build_runner.specs.Team.{CanWork}
 use Rattle.build_runner.specs.declared.team.Worker.{Worker}
 use Rattle.build_runner.proofs.Failing.{failed_of}
-use Rattle.build_runner.proofs.Seated.{each_worked, of_each, written_back}
+use Rattle.coordination.proofs.lemmas.Numbered.{of_each}
+use Rattle.build_runner.proofs.Seated.{each_worked}
 use Rattle.build_runner.proofs.Tallied.{in_sum, sum_of_parts}
 use Rattle.build_runner.proofs.runs.run_team.Goals as goal
 
@@ -26,7 +28,7 @@ returns-clause-worked g c = λ i p d low.
     let new : List W = c.work.new.team in
     let pass : W → PassView = λ w. w.pass in
     let desk : W → D = λ w. w.desk in
-    let back = written_back new c.seat.new.team.items c.seat.new.team.len (c.work.ensures.len ∙ c.as_mut_slice.ensures.len) in
+    let back = take_at new (drop (length new) c.seat.new.team.items) c.seat.new.team.len (c.work.ensures.len ∙ c.as_mut_slice.ensures.len) in
     each_worked pass desk (λ (w : W). w.ended) old new c.work.ensures.len c.args.desks.now.items c.part.new.desks.items c.args.passes.now.items c.part.new.passes.items
     (ap (λ (l : List W). map desk l) c.as_mut_slice.ensures.value ∙ (c.seat.ensures.desks ∙ ap (λ (v : Vec D Global). v.items) c.replace-2.ensures.value)) (sym (c.part.ensures.desks ∙ ap (λ (l : List W). map desk l) back))
     (ap (λ (l : List W). map pass l) c.as_mut_slice.ensures.value ∙ (c.seat.ensures.passes ∙ ap (λ (v : Vec PassView Global). v.items) c.replace.ensures.value)) (sym (c.part.ensures.passes ∙ ap (λ (l : List W). map pass l) back))
@@ -40,7 +42,7 @@ returns-clause-reserved g c =
     let old : List W = c.as_mut_slice.result.now in
     let new : List W = c.work.new.team in
     let desk : W → D = λ w. w.desk in
-    let back = written_back new c.seat.new.team.items c.seat.new.team.len (c.work.ensures.len ∙ c.as_mut_slice.ensures.len) in
+    let back = take_at new (drop (length new) c.seat.new.team.items) c.seat.new.team.len (c.work.ensures.len ∙ c.as_mut_slice.ensures.len) in
     let all = in_sum (λ (w : W). g.D.Desk.sends w.desk) (λ (w : W). w.tally.reserved) old new c.work.ensures.len c.work.ensures.reserved in
     let before = sum_of_parts desk g.D.Desk.sends old c.args.desks.now.items (ap (λ (l : List W). map desk l) c.as_mut_slice.ensures.value ∙ (c.seat.ensures.desks ∙ ap (λ (v : Vec D Global). v.items) c.replace-2.ensures.value)) in
     let after = sum_of_parts desk g.D.Desk.sends new c.part.new.desks.items (sym (c.part.ensures.desks ∙ ap (λ (l : List W). map desk l) back)) in
@@ -54,7 +56,7 @@ returns-clause-failed g c = λ is.
     let old : List W = c.as_mut_slice.result.now in
     let new : List W = c.work.new.team in
     let pass : W → PassView = λ w. w.pass in
-    let back = written_back new c.seat.new.team.items c.seat.new.team.len (c.work.ensures.len ∙ c.as_mut_slice.ensures.len) in
+    let back = take_at new (drop (length new) c.seat.new.team.items) c.seat.new.team.len (c.work.ensures.len ∙ c.as_mut_slice.ensures.len) in
     let ended : All (λ (w : W). w.ended ≡ true) new = subst (λ (ws : List W). All (λ w. w.ended ≡ true) ws) (c.as_slice.ensures.value ∙ back) (c.all_ended-ended.ensures is) in
     let each : (i : ℕ) (w : W) → i < length old → (get_or new i w).tally.failed + unreal_seen (get_or old i w).pass ≤ (get_or old i w).tally.failed + unreal_seen (get_or new i w).pass =
     λ i w low. failed_of (get_or old i w).pass (get_or new i w).pass (get_or old i w).tally (get_or new i w).tally (c.work.ensures.worked i w low).step.keeps.worker

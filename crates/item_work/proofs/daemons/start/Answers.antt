@@ -1,5 +1,5 @@
 use Rattle.std.proofs.Common.{◌∙◌}
-use Rattle.item_work.proofs.Countings.{no_memory_counted}
+use Rattle.item_work.proofs.lemmas.Countings.{no_memory_counted}
 use Rattle.item_work.proofs.daemons.start.Goals as goal
 
 pub returns-clause-faults : goal.returns-clause-faults

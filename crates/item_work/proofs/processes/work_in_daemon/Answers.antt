@@ -1,4 +1,4 @@
-use Rattle.item_work.proofs.Countings.{no_fault_counted}
+use Rattle.item_work.proofs.lemmas.Countings.{no_fault_counted}
 use Rattle.item_work.proofs.processes.work_in_daemon.Goals as goal
 
 pub returns-in-Ok-ask_daemon-clause-faults : goal.returns-in-Ok-ask_daemon-clause-faults

@@ -1,7 +1,8 @@
 use Rattle.std.proofs.Common.{◌≡◌, Bool, Result, Ok, Err, sym, ap}
 use Rattle.coordination.specs.declared.halts.Halt.{Halt}
 use Rattle.coordination.specs.declared.halts.Halt.TheVariants.{Stopped}
-use Rattle.lease_service.proofs.Taking.{err_at, kept_by, on_err_of, shows_taken, stopped_short}
+use Rattle.lease_service.proofs.lemmas.Halts.{err_at, kept_by, on_err_of}
+use Rattle.lease_service.proofs.Taking.{shows_taken, stopped_short}
 use Rattle.lease_service.proofs.holders.take_locks.Goals as goal
 
 pub returns-in_err-with_state_lock-clause-kept : goal.returns-in_err-with_state_lock-clause-kept

@@ -4,7 +4,7 @@ use Rattle.resource_lock.specs.declared.marks.MarkId.{MarkId}
 use Rattle.resource_lock.specs.declared.marks.MarkId.TheVariants.{Unit as UnitOf}
 use Rattle.history_laws.specs.OwnChanges.{mark_before}
 use Rattle.coordination.specs.Shown.{claimed_shown}
-use Rattle.async_tracker.proofs.lemmas.Claims.{has_member}
+use Rattle.history_laws.proofs.lemmas.Claims.{has_member}
 use Rattle.lock_tests.proofs.Helping.{helps_still}
 use Rattle.lock_tests.proofs.async_tracker_tests.run_item.Goals as goal
 

@@ -2,7 +2,7 @@ use Rattle.std.proofs.Common.{rules, ◌≡◌, ◌∙◌, ap, subst, sym}
 use Rattle.daemon_requirements.specs.Covers.{Covers}
 use Rattle.memory_budget.specs.Waiting.{ComesBack}
 use Rattle.memory_budget.specs.declared.rooms.Unadopted.TheVariants.{NotOut}
-use Rattle.memory_budget.proofs.Coverings.{covers_itself}
+use Rattle.item_work.proofs.lemmas.Coverings.{covers_itself}
 use Rattle.memory_budget.proofs.runs.ask_adopted.Goals as goal
 
 pub ask_reserved-requires-clause-covers : goal.ask_reserved-requires-clause-covers

@@ -1,5 +1,6 @@
-use Rattle.std.proofs.Common.{◌≡◌, List, Vec, [], map, true, sym, ap, ◌∙◌, subst, arith}
+use Rattle.std.proofs.Common.{◌≡◌, List, Vec, [], drop, length, map, true, sym, ap, ◌∙◌, subst, arith}
 use Rattle.std.specs.List.{All, flat_map}
+use Rattle.std.proofs.lemmas.List.{take_at}
 use Rattle.std.specs.declared.alloc.Global.{Global}
 use Rattle.coordination.specs.Passes.{PassView}
 use Rattle.service_jobs.specs.Shares.{jobs_of}
@@ -7,7 +8,8 @@ use Rattle.service_jobs.specs.Team.{HaveRun}
 use Rattle.service_jobs.specs.Worked.{CanRun}
 use Rattle.service_jobs.specs.declared.jobs.JobDone.{JobDone}
 use Rattle.service_jobs.specs.declared.workers.Worker.{Worker}
-use Rattle.service_jobs.proofs.Seated.{all_back, all_ran, as_many, if_both, of_each, put_back}
+use Rattle.coordination.proofs.lemmas.Numbered.{of_each}
+use Rattle.service_jobs.proofs.Seated.{all_back, all_ran, as_many, if_both}
 use Rattle.service_jobs.proofs.runs.run_team.Goals as goal
 
 pub work-requires-clause-workers : goal.work-requires-clause-workers
@@ -34,7 +36,7 @@ returns-clause-back g c = λ i p d low.
     let D : Type 0 = g.row.F.Denot in
     let old : List W = c.as_mut_slice.result.now in
     let new : List W = c.work.new.team in
-    let back = put_back new c.seat.new.team.items c.seat.new.team.len (c.work.ensures.len ∙ c.as_mut_slice.ensures.len) in
+    let back = take_at new (drop (length new) c.seat.new.team.items) c.seat.new.team.len (c.work.ensures.len ∙ c.as_mut_slice.ensures.len) in
     all_back {W = W} {D = D} (λ w. w.pass) (λ w. w.desk) (λ w. w.done.items) (λ w. w.ended) old new c.work.ensures.len c.args.desks.now.items c.part.new.desks.items c.args.passes.now.items c.part.new.passes.items
     (ap (λ (l : List W). map (λ w. w.desk) l) c.as_mut_slice.ensures.value ∙ (c.seat.ensures.desks ∙ ap (λ (v : Vec D Global). v.items) c.replace-2.ensures.value)) (sym (c.part.ensures.desks ∙ ap (λ (l : List W). map (λ w. w.desk) l) back))
     (ap (λ (l : List W). map (λ w. w.pass) l) c.as_mut_slice.ensures.value ∙ (c.seat.ensures.passes ∙ ap (λ (v : Vec PassView Global). v.items) c.replace.ensures.value)) (sym (c.part.ensures.passes ∙ ap (λ (l : List W). map (λ w. w.pass) l) back))
@@ -47,7 +49,7 @@ returns-clause-ran g c =
     let old : List W = c.as_mut_slice.result.now in
     let new : List W = c.work.new.team in
     let team : List W = c.as_slice.result.now in
-    let back = put_back new c.seat.new.team.items c.seat.new.team.len (c.work.ensures.len ∙ c.as_mut_slice.ensures.len) in
+    let back = take_at new (drop (length new) c.seat.new.team.items) c.seat.new.team.len (c.work.ensures.len ∙ c.as_mut_slice.ensures.len) in
     let is : c.as_slice.result.now ≡ c.work.new.team = c.as_slice.ensures.value ∙ back in
     if_both (λ v. All (λ (w : W). w.ended ≡ true) team) (λ v. v.items ≡ flat_map (λ (w : W). w.done.items) team) _
     (λ v ended joined. all_ran {W = W} {D = D} (λ w. w.pass) (λ w. w.desk) (λ w. w.done.items) (λ w. w.ended) old new c.work.ensures.len c.args.desks.now.items c.part.new.desks.items c.args.passes.now.items c.part.new.passes.items

@@ -1,7 +1,7 @@
 -- the passes of the handles so far, which are empty, and the others as they were
-use Rattle.std.proofs.Common.{◌≡◌, ◌≤◌, drop, false, length, map, take}
+use Rattle.std.proofs.Common.{◌≡◌, ◌≤◌, ℕ, drop, false, length, map, take}
 use Rattle.std.specs.List.{All}
-use Rattle.std.specs.Prelude.{IfSome, vec_capacity}
+use Rattle.std.specs.Prelude.{IfNone, IfSome, vec_capacity}
 use Rattle.std.specs.Arc.{arc_value}
 use Rattle.wakhurmi_c.proofs.closing.gather.Given as goal
 
@@ -11,3 +11,4 @@ invariant-loop-handle l =
     (l.passes.items ≡ map (λ h. h.held.worker.pass) (take l.handle-index hs)) × (length hs ≤ vec_capacity l.passes)
     × All (λ h. h.full ≡ false) (take l.handle-index l.handles) × (drop l.handle-index l.handles ≡ drop l.handle-index hs)
     × IfSome l.common (λ c. All (λ p. p.service ≡ (arc_value c.service).table.shared.table_id) l.passes.items)
+    × IfSome l.common (λ c. (n : ℕ) → All (λ h. h.held.worker.workers ≡ n) hs → c.workers ≡ n) × IfNone l.common (l.handle-index ≡ 0)

@@ -1,6 +1,6 @@
 use Rattle.std.proofs.Common.{ap, arith, refl}
 use Rattle.daemon_manager.specs.PoolView.{PoolView}
-use Rattle.daemon_manager.proofs.PoolKept.{adopted_pool, adopted_own}
+use Rattle.daemon_manager.proofs.lemmas.PoolKept.{adopted_pool, adopted_own}
 use Rattle.daemon_manager.proofs.pools.Pool.adopt.Goals as goal
 
 pub invariant_of-self-2 : goal.invariant_of-self-2

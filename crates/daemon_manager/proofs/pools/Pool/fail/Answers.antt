@@ -1,5 +1,5 @@
 use Rattle.std.proofs.Common.{arith}
-use Rattle.daemon_manager.proofs.PoolKept.{failed_pool}
+use Rattle.daemon_manager.proofs.lemmas.PoolKept.{failed_pool}
 use Rattle.daemon_manager.proofs.pools.Pool.fail.Goals as goal
 
 pub invariant_of-self : goal.invariant_of-self

@@ -7,7 +7,7 @@ use Rattle.daemon_manager.specs.declared.events.DaemonState.TheVariants.{Busy}
 use Rattle.daemon_manager.specs.declared.idle.TheConstants.{MAX_IDLE_DAEMONS}
 use Rattle.daemon_manager.specs.Events.{pool}
 use Rattle.daemon_manager.specs.PoolView.{PoolView}
-use Rattle.daemon_manager.proofs.PoolKept.{All-left, first_and_rest, released_pool, released_stopped_pool, released_known}
+use Rattle.daemon_manager.proofs.lemmas.PoolKept.{All-left, first_and_rest, released_pool, released_stopped_pool, released_known}
 use Rattle.daemon_manager.proofs.pools.Pool.release.Goals as goal
 
 pub invariant_of-self : goal.invariant_of-self

@@ -3,7 +3,7 @@ use Rattle.std.proofs.lemmas.List.Edits.{length-remove}
 use Rattle.std.proofs.lemmas.Option.{slice_get_within}
 use Rattle.daemon_requirements.specs.Covers.{Covers}
 use Rattle.daemon_manager.specs.declared.events.Event.TheVariants.{Reserved}
-use Rattle.daemon_manager.proofs.PoolKept.{All-left, All-there, split_at, reserved_pool, reserved_own}
+use Rattle.daemon_manager.proofs.lemmas.PoolKept.{All-left, All-there, split_at, reserved_pool, reserved_own}
 use Rattle.daemon_manager.proofs.pools.Pool.reserve_idle.Goals as goal
 
 pub invariant_of-self-2 : goal.invariant_of-self-2

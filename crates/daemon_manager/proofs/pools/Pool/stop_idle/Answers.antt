@@ -1,7 +1,7 @@
 use Rattle.std.proofs.Common.{◌≡◌, ◌∷◌, true, length, sym, ap, ◌∙◌, arith, refl}
 use Rattle.std.proofs.lemmas.List.Edits.{length-remove}
 use Rattle.std.proofs.lemmas.Option.{slice_get_within}
-use Rattle.daemon_manager.proofs.PoolKept.{All-left, first_and_rest, stopped_pool}
+use Rattle.daemon_manager.proofs.lemmas.PoolKept.{All-left, first_and_rest, stopped_pool}
 use Rattle.daemon_manager.proofs.pools.Pool.stop_idle.Goals as goal
 
 pub invariant_of-self : goal.invariant_of-self

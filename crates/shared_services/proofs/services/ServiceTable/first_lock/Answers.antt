@@ -1,9 +1,10 @@
-use Rattle.std.proofs.Common.{◌≤◌, ◌∙◌, List, ℕ, ap, subst, sum, take, arith}
+use Rattle.std.proofs.Common.{◌≤◌, ◌*◌, ◌∙◌, List, ℕ, ap, subst, sum, take, arith}
 use Rattle.shared_services.specs.Services.{FitMaxima, lock_count}
+use Rattle.shared_services.specs.declared.services.TheConstants.{MAX_SERVICES, MAX_USES}
 use Rattle.shared_services.proofs.lemmas.Places.{ends_within, few_locks, part_within}
 use Rattle.shared_services.proofs.services.ServiceTable.first_lock.Goals as goal
 
-few : (c : goal.After-deref) → lock_count c.args.self.now ≤ 2048
+few : (c : goal.After-deref) → lock_count c.args.self.now ≤ MAX_SERVICES * MAX_USES
 few c = few_locks c.args.self.now (subst FitMaxima c.self.view_is c.self.invariant)
 
 pub total-requires : goal.total-requires

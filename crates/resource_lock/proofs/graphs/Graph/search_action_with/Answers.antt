@@ -5,7 +5,7 @@ use Rattle.resource_lock.specs.GraphView.{action_of}
 use Rattle.resource_lock.specs.Ranges.{units_in}
 use Rattle.resource_lock.proofs.Follows.{ends_rise}
 use Rattle.resource_lock.proofs.lemmas.Units.{end_of, at_partition, unit_from, few_actions_in_all}
-use Rattle.resource_lock.proofs.graphs.Graph.action_with.Goals as goal
+use Rattle.resource_lock.proofs.graphs.Graph.search_action_with.Goals as goal
 
 -- the action that the search finds is there, and the unit is in its range
 found : (c : goal.After-partition_point) → (c.partition_point.result < length c.args.self.now.actions) × ((action_of c.args.self.now c.partition_point.result).first_unit ≤ c.args.unit) × (c.args.unit < end_of (action_of c.args.self.now c.partition_point.result))

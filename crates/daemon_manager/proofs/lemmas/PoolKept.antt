@@ -16,7 +16,7 @@ use Rattle.daemon_manager.specs.PoolView.{IsPool}
 use Rattle.daemon_manager.proofs.Order.{Some-is, length-mapped, map-remove}
 use Rattle.daemon_manager.proofs.IdleKept.{stood, differ}
 use Rattle.daemon_manager.proofs.LedgerKept.{None-is-not}
-use Rattle.daemon_manager.proofs.Appending.{pool_other, pool_same, pool_before, pool_next, next_is_none}
+use Rattle.daemon_manager.proofs.lemmas.Appending.{pool_other, pool_same, pool_before, pool_next, next_is_none}
 use Rattle.daemon_manager.proofs.Ordering.{left_by, released, idle_more, idle_distinct, left_all, left_one}
 use Rattle.daemon_manager.proofs.Legality.{legal_more}
 

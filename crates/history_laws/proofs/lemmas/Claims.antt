@@ -1,18 +1,20 @@
 -- What the list of a worker's claimed marks says of the marks.
-use Rattle.std.proofs.Common.{◌≡◌, ℕ, suc, ◌+◌, Bool, true, false, ◌||◌, cond, eqb, List, [], ◌∷◌, ◌++◌, map, get_or, refl, sym, ap, ◌∙◌, subst, arith, inl, inr}
+use Rattle.std.proofs.Common.{◌≡◌, ℕ, suc, ◌+◌, length, Bool, true, false, not, ◌&&◌, ◌||◌, cond, eqb, List, [], ◌∷◌, ◌++◌, map, get_or, Option}
+use Rattle.std.proofs.Common.{refl, sym, ap, ◌∙◌, subst, arith, inl, inr}
 use Rattle.std.specs.Prelude.{Contains}
 use Rattle.std.specs.List.{list_any}
 use Rattle.std.proofs.lemmas.Bool.{cases_Bool, eq-eqb, eqb-true, false≢true, or_parts}
 use Rattle.std.proofs.lemmas.List.Folds.{list_any_at, list_any-append}
-use Rattle.resource_lock.specs.StateView.{StateView, is_parked, mark_of, runs_by, runs_unit}
+use Rattle.resource_lock.specs.StateView.{StateView, holding_of, is_idle, is_owner, is_parked, mark_of, owns_any, runs_any, runs_by, runs_task, runs_unit}
+use Rattle.resource_lock.specs.declared.ids.LockId.{LockId}
 use Rattle.resource_lock.specs.declared.ids.WorkerId.{WorkerId}
 use Rattle.resource_lock.specs.declared.marks.Mark.TheVariants.{Waiting, Running}
 use Rattle.resource_lock.specs.declared.marks.MarkId.{MarkId}
 use Rattle.resource_lock.specs.declared.marks.MarkId.TheVariants.{Task as TaskOf, Action as ActionOf, Unit as UnitOf}
-use Rattle.history_laws.specs.Own.{action_at, claimed, places_from, task_at, unit_at}
+use Rattle.lock_transforms.specs.Table.{owned, owned_from}
+use Rattle.history_laws.specs.Own.{action_at, claimed, is_action, is_unit, places_from, task_at, unit_at}
 use Rattle.history_laws.specs.OwnChanges.{with_member}
 use Rattle.history_laws.proofs.lemmas.Others.{running_of}
-use Rattle.blocking_section.specs.Sections.{is_action, is_unit}
 
 -- a test of the marks of one kind
 any_map : {X : Type 0} (p : MarkId → Bool) (q : X → Bool) (f : X → MarkId) → ((x : X) → p (f x) ≡ q x) → (xs : List X) → list_any p (map f xs) ≡ list_any q xs
@@ -38,23 +40,56 @@ any_place test n (x ∷ xs) = elim (cases_Bool (test x)) [
   | inr fails ↦ (λ i. list_any (λ k. true) (cond (fails i) (n ∷ places_from test (n + 1) xs) (places_from test (n + 1) xs))) ∙ any_place test (n + 1) xs ∙ sym (ap (λ b. b || list_any test xs) fails)
 ]
 
-pub no_unit : (s : StateView) (w : WorkerId) → list_any is_unit (claimed s w) ≡ false → runs_unit s w ≡ false
-no_unit s w h =
-    let ts = places_from (runs_by w) 0 s.tasks in
-    let qs = places_from (runs_by w) 0 s.actions in
-    let us = places_from (runs_by w) 0 s.units in
-    let all : (list_any (λ n. false) ts || (list_any (λ n. false) qs || list_any (λ n. true) us)) ≡ false = sym (any_of_three is_unit (λ n. false) (λ n. false) (λ n. true) (λ n. refl) (λ n. refl) (λ n. refl) ts qs us) ∙ h in
-    let later = (or_parts (list_any (λ n. false) ts) (list_any (λ n. false) qs || list_any (λ n. true) us) all).1 in
-    sym (any_place (runs_by w) 0 s.units) ∙ (or_parts (list_any (λ n. false) qs) (list_any (λ n. true) us) later).1
+or_nothing : (b : Bool) → (b || false) ≡ b
+or_nothing true = refl
+or_nothing false = refl
 
-pub no_action : (s : StateView) (w : WorkerId) → list_any is_action (claimed s w) ≡ false → is_parked s w ≡ false
-no_action s w h =
+-- the list of claimed marks says whether the worker runs a unit, and whether it waits for an action
+pub unit_claimed : (s : StateView) (w : WorkerId) → list_any is_unit (claimed s w) ≡ runs_unit s w
+unit_claimed s w =
     let ts = places_from (runs_by w) 0 s.tasks in
     let qs = places_from (runs_by w) 0 s.actions in
     let us = places_from (runs_by w) 0 s.units in
-    let all : (list_any (λ n. false) ts || (list_any (λ n. true) qs || list_any (λ n. false) us)) ≡ false = sym (any_of_three is_action (λ n. false) (λ n. true) (λ n. false) (λ n. refl) (λ n. refl) (λ n. refl) ts qs us) ∙ h in
-    let later = (or_parts (list_any (λ n. false) ts) (list_any (λ n. true) qs || list_any (λ n. false) us) all).1 in
-    sym (any_place (runs_by w) 0 s.actions) ∙ (or_parts (list_any (λ n. true) qs) (list_any (λ n. false) us) later).0
+    any_of_three is_unit (λ n. false) (λ n. false) (λ n. true) (λ n. refl) (λ n. refl) (λ n. refl) ts qs us
+    ∙ (λ i. none ts i || (none qs i || any_place (runs_by w) 0 s.units i))
+
+pub action_claimed : (s : StateView) (w : WorkerId) → list_any is_action (claimed s w) ≡ is_parked s w
+action_claimed s w =
+    let ts = places_from (runs_by w) 0 s.tasks in
+    let qs = places_from (runs_by w) 0 s.actions in
+    let us = places_from (runs_by w) 0 s.units in
+    any_of_three is_action (λ n. false) (λ n. true) (λ n. false) (λ n. refl) (λ n. refl) (λ n. refl) ts qs us
+    ∙ (λ i. none ts i || (any_place (runs_by w) 0 s.actions i || none us i)) ∙ or_nothing (is_parked s w)
+
+-- a worker without claimed marks runs nothing
+pub runs_nothing : (s : StateView) (w : WorkerId) → claimed s w ≡ [] → runs_any s w ≡ false
+runs_nothing s w h =
+    let ts = places_from (runs_by w) 0 s.tasks in
+    let qs = places_from (runs_by w) 0 s.actions in
+    let us = places_from (runs_by w) 0 s.units in
+    let all : list_any (λ m. true) (claimed s w) ≡ (runs_task s w || (is_parked s w || runs_unit s w)) =
+    any_of_three (λ m. true) (λ n. true) (λ n. true) (λ n. true) (λ n. refl) (λ n. refl) (λ n. refl) ts qs us
+    ∙ (λ i. any_place (runs_by w) 0 s.tasks i || (any_place (runs_by w) 0 s.actions i || any_place (runs_by w) 0 s.units i)) in
+    let either : (runs_task s w || (is_parked s w || runs_unit s w)) ≡ false = sym all ∙ ap (list_any (λ (m : MarkId). true)) h in
+    let parts = or_parts (runs_task s w) (is_parked s w || runs_unit s w) either in
+    let others = or_parts (is_parked s w) (runs_unit s w) parts.1 in
+    (λ i. parts.0 i || others.0 i || others.1 i)
+
+abbrev lock_at : ℕ → LockId
+lock_at k = record { 0 = k }
+
+owns_nothing : (n : ℕ) (os : List (Option WorkerId)) (w : WorkerId) → owned_from n os w ≡ [] → list_any (λ o. is_owner o w) os ≡ false
+owns_nothing n [] w h = refl
+owns_nothing n (o ∷ os) w h = elim (cases_Bool (is_owner o w)) [
+  | inl own ↦ absurd (omega (arith, ap length (sym (λ i. cond (own i) (lock_at n ∷ owned_from (n + 1) os w) (owned_from (n + 1) os w)) ∙ h)))
+  | inr other ↦ ap (λ b. b || list_any (λ p. is_owner p w) os) other ∙ owns_nothing (n + 1) os w (sym (λ i. cond (other i) (lock_at n ∷ owned_from (n + 1) os w) (owned_from (n + 1) os w)) ∙ h)
+]
+
+-- a worker without locks, claimed marks and a lease, which isn't blocked, is idle
+pub idle_shown : (s : StateView) (w : WorkerId) → owned s w ≡ [] → claimed s w ≡ [] → (holding_of s w).lease ≡ false → (holding_of s w).blocked ≡ false → is_idle s w ≡ true
+idle_shown s w locks marks lease blocked =
+    let owns : owns_any s w ≡ false = owns_nothing 0 s.owners w locks in
+    λ i. not (blocked i) && not (lease i) && not (owns i) && not (runs_nothing s w marks i)
 
 -- what stands at a place passes the test
 place_passes : {X : Type 0} (test : X → Bool) (d : X) (k n : ℕ) (xs : List X) → list_any (λ m. eqb m k) (places_from test n xs) ≡ true → (i : ℕ) × (n + i ≡ k) × (test (get_or xs i d) ≡ true)
@@ -89,6 +124,10 @@ unfoldable is_task_at : ℕ → MarkId → Bool
 is_task_at t (TaskOf n) = eqb n t
 is_task_at t _ = false
 
+unfoldable is_action_at : ℕ → MarkId → Bool
+is_action_at a (ActionOf n) = eqb n a
+is_action_at a _ = false
+
 right_of : (a b : Bool) → a ≡ false → (a || b) ≡ true → b ≡ true
 right_of a b is h = sym (ap (λ x. x || b) is) ∙ h
 
@@ -106,6 +145,17 @@ unit_runs s w u there =
     sym (any_of_three (is_unit_at u) (λ n. false) (λ n. false) (λ n. eqb n u) (λ n. refl) (λ n. refl) (λ n. refl) ts qs us) ∙ contained (claimed s w) (UnitOf u) (is_unit_at u) (eq-eqb u u refl) there in
     let found : list_any (λ n. eqb n u) us ≡ true = right_of (list_any (λ n. false) qs) (list_any (λ n. eqb n u) us) (none qs) (right_of (list_any (λ n. false) ts) (list_any (λ n. false) qs || list_any (λ n. eqb n u) us) (none ts) all) in
     running_of w (mark_of s (UnitOf u)) (first_place (runs_by w) Waiting u s.units found)
+
+pub action_runs : (s : StateView) (w : WorkerId) (a : ℕ) → Contains (claimed s w) (ActionOf a) → mark_of s (ActionOf a) ≡ Running w
+unfolding is_action_at
+action_runs s w a there =
+    let ts = places_from (runs_by w) 0 s.tasks in
+    let qs = places_from (runs_by w) 0 s.actions in
+    let us = places_from (runs_by w) 0 s.units in
+    let all : (list_any (λ n. false) ts || (list_any (λ n. eqb n a) qs || list_any (λ n. false) us)) ≡ true =
+    sym (any_of_three (is_action_at a) (λ n. false) (λ n. eqb n a) (λ n. false) (λ n. refl) (λ n. refl) (λ n. refl) ts qs us) ∙ contained (claimed s w) (ActionOf a) (is_action_at a) (eq-eqb a a refl) there in
+    let later : (list_any (λ n. eqb n a) qs || list_any (λ n. false) us) ≡ true = right_of (list_any (λ n. false) ts) (list_any (λ n. eqb n a) qs || list_any (λ n. false) us) (none ts) all in
+    running_of w (mark_of s (ActionOf a)) (first_place (runs_by w) Waiting a s.actions (left_of (list_any (λ n. eqb n a) qs) (list_any (λ n. false) us) (none us) later))
 
 pub task_runs : (s : StateView) (w : WorkerId) (t : ℕ) → Contains (claimed s w) (TaskOf t) → mark_of s (TaskOf t) ≡ Running w
 unfolding is_task_at
@@ -127,3 +177,17 @@ has_member before x (y ∷ ys) = elim (cases_Bool (before y x)) [
       subst (λ b. Contains (cond b (y ∷ with_member before x ys) (x ∷ y ∷ ys)) x) (sym earlier) (suc rest.0, omega (arith, rest.1), rest.2)
   | inr later ↦ subst (λ b. Contains (cond b (y ∷ with_member before x ys) (x ∷ y ∷ ys)) x) (sym later) (0, omega arith, refl)
 ]
+
+-- a test of the members, with one more
+pub any_with : {X : Type 0} (before : X → X → Bool) (p : X → Bool) (x : X) (xs : List X) → list_any p (with_member before x xs) ≡ (p x || list_any p xs)
+any_with before p x [] = refl
+any_with before p x (y ∷ ys) = elim (before y x) as (λ b. list_any p (cond b (y ∷ with_member before x ys) (x ∷ y ∷ ys)) ≡ (p x || (p y || list_any p ys))) [
+  | true ↦ ap (λ b. p y || b) (any_with before p x ys) ∙ swapped (p y) (p x) (list_any p ys)
+  | false ↦ refl
+]
+  where
+    swapped : (a b c : Bool) → (a || (b || c)) ≡ (b || (a || c))
+    swapped true true c = refl
+    swapped true false c = refl
+    swapped false true c = refl
+    swapped false false c = refl

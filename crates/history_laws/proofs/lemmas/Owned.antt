@@ -1,41 +1,12 @@
--- What the lists of a worker's locks and marks say of the tests on it.
-use Rattle.std.proofs.Common.{◌≡◌, ◌≢◌, ℕ, zero, suc, ◌+◌, ◌<◌, Bool, true, false, cond, ◌||◌, List, [], ◌∷◌, ◌++◌, map, get_or, Option, None, arith, refl, ap, ◌∙◌}
+-- What the list of a worker's locks says of their owners.
+use Rattle.std.proofs.Common.{◌≡◌, ◌≢◌, ℕ, zero, suc, ◌+◌, ◌<◌, Bool, true, false, cond, ◌||◌, List, [], ◌∷◌, get_or, length}
+use Rattle.std.proofs.Common.{Option, None, arith, refl, ap, ◌∙◌}
 use Rattle.std.specs.List.{filter, list_any}
-use Rattle.std.proofs.lemmas.Bool.{eq-eqb, ne_eqb}
-use Rattle.resource_lock.specs.StateView.{StateView, is_owner, is_parked, owns, owns_any, runs_any, runs_by, runs_task, runs_unit, stands_in}
+use Rattle.std.proofs.lemmas.Bool.{eq-eqb, false≢true, ne_eqb}
+use Rattle.resource_lock.specs.StateView.{StateView, is_owner, owns, owns_any, stands_in, IsLockOf}
 use Rattle.resource_lock.specs.declared.ids.LockId.{LockId}
 use Rattle.resource_lock.specs.declared.ids.WorkerId.{WorkerId}
 use Rattle.lock_transforms.specs.Table.{owned, owned_from}
-use Rattle.history_laws.specs.Own.{action_at, claimed, places_from, task_at, unit_at}
-
-none_passes : {X : Type 0} (test : X → Bool) (n : ℕ) (xs : List X) → places_from test n xs ≡ [] → list_any test xs ≡ false
-none_passes test n [] none = refl
-none_passes test n (x ∷ xs) none = at (test x) refl none (none_passes test (n + 1) xs)
-  where
-    at : (b : Bool) → test x ≡ b → cond b (n ∷ places_from test (n + 1) xs) (places_from test (n + 1) xs) ≡ [] → (places_from test (n + 1) xs ≡ [] → list_any test xs ≡ false) → list_any test (x ∷ xs) ≡ false
-    at true is some rest = absurd (cc)
-    at false is none rest = ap (λ b. b || list_any test xs) is ∙ rest none
-
-empty_parts : {X : Type 0} (xs ys : List X) → xs ++ ys ≡ [] → (xs ≡ []) × (ys ≡ [])
-empty_parts [] ys none = (refl, none)
-empty_parts (x ∷ xs) ys none = absurd (cc)
-
-empty_map : {X Y : Type 0} (f : X → Y) (xs : List X) → map f xs ≡ [] → xs ≡ []
-empty_map f [] none = refl
-empty_map f (x ∷ xs) none = absurd (cc)
-
--- who has claimed nothing runs nothing
-pub runs_nothing : (s : StateView) (w : WorkerId) → claimed s w ≡ [] → runs_any s w ≡ false
-runs_nothing s w none =
-    let ts : List ℕ = places_from (runs_by w) 0 s.tasks in
-    let qs : List ℕ = places_from (runs_by w) 0 s.actions in
-    let us : List ℕ = places_from (runs_by w) 0 s.units in
-    let first = empty_parts (map task_at ts) (map action_at qs ++ map unit_at us) none in
-    let second = empty_parts (map action_at qs) (map unit_at us) first.1 in
-    let tasks : runs_task s w ≡ false = none_passes (runs_by w) 0 s.tasks (empty_map task_at ts first.0) in
-    let actions : is_parked s w ≡ false = none_passes (runs_by w) 0 s.actions (empty_map action_at qs second.0) in
-    let units : runs_unit s w ≡ false = none_passes (runs_by w) 0 s.units (empty_map unit_at us second.1) in
-    (λ i. tasks i || actions i || units i)
 
 some_owned : (n : ℕ) (os : List (Option WorkerId)) (w : WorkerId) → owned_from n os w ≢ [] → list_any (λ o. is_owner o w) os ≡ true
 some_owned n [] w some = absurd (some refl)
@@ -82,6 +53,15 @@ pub stands_in_owned : (s : StateView) (w : WorkerId) (l : LockId) → stands_in 
 stands_in_owned s w l =
     let same : l.0 ≡ 0 + l.0 = omega arith in
     ap (λ (k : ℕ). stands_in (record { 0 = k }) (owned s w)) same ∙ at_place 0 l.0 s.owners w
+
+owner_within : (os : List (Option WorkerId)) (i : ℕ) (w : WorkerId) → is_owner (get_or os i None) w ≡ true → i < length os
+owner_within [] i w h = absurd (false≢true h)
+owner_within (o ∷ os) zero w h = omega arith
+owner_within (o ∷ os) (suc i) w h = omega (arith, owner_within os i w h)
+
+-- a lock that is owned is one of the state's
+pub owned_there : (s : StateView) (w : WorkerId) (l : LockId) → owns s w l ≡ true → IsLockOf s l
+owned_there s w l = owner_within s.owners l.0 w
 
 pub filter_same : {X : Type 0} (p q : X → Bool) → ((x : X) → p x ≡ q x) → (xs : List X) → filter p xs ≡ filter q xs
 filter_same p q same [] = refl

@@ -1,0 +1,23 @@
+use Rattle.std.proofs.Common.{◌≡◌, true, false, Result, Ok, Err, OnOk, sym, ◌∙◌}
+use Rattle.std.specs.Result.{is_err}
+use Rattle.std.proofs.lemmas.Bool.{false≢true}
+use Rattle.wakhurmi_c.specs.Locks.{locks_of}
+use Rattle.wakhurmi_c.specs.Places.{are_in_order}
+use Rattle.wakhurmi_c.proofs.Causes.{take_leaves}
+use Rattle.wakhurmi_c.proofs.workers.Worker.acquire.Goals as goal
+
+-- what a result without an error says
+said : {A E : Type 0} (P : Type 0) (r : Result A E) → is_err r ≡ false → OnOk r P → P
+said P (Ok a) is p = p
+said P (Err e) is p = absurd (false≢true (sym is))
+
+pub returns-clause-left : goal.returns-clause-left
+returns-clause-left c =
+    let noted : c.ask_for.new.asked.items ≡ locks_of c.args.locks.now =
+    said (c.ask_for.new.asked.items ≡ locks_of c.args.locks.now) c.ask_for.result (sym c.is_err.ensures.value ∙ c.if-is_err.false) c.ask_for.ensures in
+    let same : c.deref-2.result.now ≡ locks_of c.args.locks.now = c.deref-2.ensures.value ∙ noted in
+    let again : c.deref.result.now ≡ c.deref-2.result.now = c.deref.ensures.value ∙ sym c.deref-2.ensures.value in
+    let order : are_in_order c.deref-2.result.now c.args.self.now.pass.sight.seen.graph.locks ≡ true =
+    sym (λ i. are_in_order (again i) (c.args.self.now.locks_are i)) ∙ (sym c.are_in_order.ensures ∙ c.if-not-are_in_order.false) in
+    take_leaves c.args.shortage (locks_of c.args.locks.now) c.deref-2.result.now c.args.self.now.pass.sight c.try_once.new.pass.sight
+    c.try_once.result.answer same c.args.self.now.no_tasks (sym c.may_take.ensures ∙ c.if-not-may_take.false) order c.try_once.ensures.left
