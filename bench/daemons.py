@@ -3,12 +3,13 @@
 any child is left.
 
 Each child has a mark of this bench among its arguments, so that those which are left are found. Every run has a time limit.
-Not part of the gate. Works on Linux alone. Without valgrind the instructions aren't counted, and without strace the calls
-that start a child aren't looked at.
+Not part of the gate. Works on Linux alone. Without valgrind the instructions aren't counted, and without strace the system
+calls of an item and the calls that start a child aren't looked at.
 
     bench/daemons.py [PROGRAM]
 """
 
+import collections
 import itertools
 import os
 import pathlib
@@ -32,7 +33,8 @@ SECONDS_TO_END = 5
 FEW, MANY = 100, 1_100
 RUNS = 7
 MOST_MICROSECONDS = 15
-MOST_INSTRUCTIONS = 12_000
+MOST_INSTRUCTIONS = 4_000
+MOST_SYSTEM_CALLS = 10
 MOST_IDLE = 8
 
 
@@ -231,9 +233,9 @@ def many_threads(bench: Bench) -> None:
     print("200 items with 3 sets of requirements on 8 threads, 20 runs: the results of one thread, and legal events")
 
 
-def own_plan(count: int, sets: int = 1) -> str:
+def own_plan(count: int, sets: int = 1, executable: str = "self") -> str:
     """Items that the program's own worker runs, in turn with requirements of which none covers another."""
-    asked = [f'{{ name = "r{number}", encoding = "set-{number}" }}' for number in range(sets)]
+    asked = [f'{{ name = "r{number}", encoding = "set-{number}", executable = "{executable}" }}' for number in range(sets)]
     return plan_text([f"r{number % sets}" for number in range(count)], *asked)
 
 
@@ -242,6 +244,18 @@ def reuse(bench: Bench) -> None:
     expect("the status", status, 0)
     expect("the daemons of 200 items with two sets of requirements", check_legal(events_in(lines)), 2)
     print("200 items with two sets of requirements on one thread: 2 daemons")
+
+
+def calls_of_the_program(bench: Bench) -> collections.Counter[str]:
+    """The system calls of a run by their names, without those of its children, which call execve first."""
+    calls: dict[str, list[str]] = collections.defaultdict(list)
+    with tempfile.NamedTemporaryFile("r") as said:
+        subprocess.run(["strace", "-f", "-o", said.name, *bench.words("--summary")], cwd=bench.folder, capture_output=True, check=False)
+        for row in re.finditer(r"^(\d+) +(\w+)\(", said.read(), re.MULTILINE):
+            calls[row.group(1)].append(row.group(2))
+    program = next(iter(calls))
+    own = (names for process, names in calls.items() if process == program or "execve" not in names)
+    return collections.Counter(itertools.chain.from_iterable(own))
 
 
 def cost(bench: Bench) -> None:
@@ -256,8 +270,12 @@ def cost(bench: Bench) -> None:
         return time.perf_counter() - start
 
     def instructions(words: list[str], count: int) -> int:
-        plan.write_text(own_plan(count))
-        return measure.count_instructions(words, folder=bench.folder, settings=measure.STEPWISE)[0]
+        # Under valgrind the running program isn't this one, so it has to be named.
+        plan.write_text(own_plan(count, executable=bench.program))
+        taken, printed = measure.count_instructions(words, folder=bench.folder, settings=measure.STEPWISE)
+        if words != check:
+            expect("the units", f"units: {count} passed, 0 failed, 0 skipped" in printed.decode().splitlines(), True)
+        return taken
 
     def of_an_item(cost_of: Callable[[list[str], int], float]) -> float:
         run, reading = (cost_of(words, MANY) - cost_of(words, FEW) for words in (bench.words("--summary"), check))
@@ -268,6 +286,12 @@ def cost(bench: Bench) -> None:
     if shutil.which("valgrind"):
         print(f"an item in a process: {of_an_item(instructions):.0f} instructions in the parent (goal {MOST_INSTRUCTIONS})")
     if shutil.which("strace"):
+        plan.write_text(own_plan(MANY))
+        many = calls_of_the_program(bench)
+        plan.write_text(own_plan(FEW))
+        many.subtract(calls_of_the_program(bench))
+        found = {name: count / (MANY - FEW) for name, count in many.items() if count > (MANY - FEW) / 2}
+        print(f"an item in a process: {sum(found.values()):.1f} system calls in the parent (goal {MOST_SYSTEM_CALLS}): {found}")
         plan.write_text(own_plan(1))
         ran = measure.run_under(["strace", "-f", "-e", "trace=clone,clone3,fork,vfork"], bench.words("--summary"), folder=bench.folder)
         calls = re.findall(r"(?:clone3?|v?fork)\([^,]*", ran.said)

@@ -25,7 +25,7 @@ import measure
 
 FILE = b"one\ntwo\nthree\n"
 LINES, BYTES = "3", "14"
-REPLY_BYTES = 18
+REPLY_BYTES = 19
 MOST_SECONDS = 10
 # For 200 worker processes, and for the start of many.
 STORM_SECONDS = 60
@@ -54,8 +54,8 @@ def read(count):
         got += piece
     return got
 
-def reply(unit, action):
-    return b"\\x02" + struct.pack(">IIBQ", 13, unit, 1, {1: 3, 4: 14}.get(action, 14))
+def reply(unit, mode, action):
+    return b"\\x12" + struct.pack(">IIBBQ", 14, unit, mode, 1, {1: 3, 4: 14}.get(action, 14))
 
 odd = first()
 if odd and does == "ends":
@@ -70,7 +70,7 @@ if odd and does == "falls-silent":
     os.close(1)
     time.sleep(60)
 if odd and does == "hastens":
-    os.write(1, reply(0, 1))
+    os.write(1, reply(0, 1, 1))
 while True:
     head = read(5)
     if head is None or head[0] == 3:
@@ -80,8 +80,10 @@ while True:
             continue
         break
     body = read(struct.unpack(">I", head[1:])[0])
-    unit, action = struct.unpack(">IB", body[:5])
-    right = reply(unit, action)
+    unit, mode, action = struct.unpack(">IBB", body[:6])
+    right = reply(unit, mode, action)
+    if does == "speaks-version-1":
+        right = b"\\x02" + struct.pack(">I", 13) + right[5:9] + right[10:]
     if odd and does == "cut":
         os.write(1, right[: int(number)])
         break
@@ -124,15 +126,20 @@ class Case:
     outcomes: list[str]
     executable: str = "./child"
     threads: int = 1
+    leases: int = 32
+    # How many sets of requirements the items name in turn, none of which covers another.
+    sets: int = 1
     limits: dict[int, int] = dataclasses.field(default_factory=dict)
     user: int | None = None
     seconds: int = MOST_SECONDS
 
     def plan(self) -> str:
-        item = '\n[[task.action.item]]\ndo = "{}"\nfile = "a.txt"\nisolation = "process"\nrequirements = "r"\n'
-        items = "".join(item.format(("lines", "bytes")[n % 2]) for n in range(len(self.outcomes)))
-        head = '[[project]]\nname = "p"\n\n[[requirements]]\nname = "r"\nexecutable = "{}"\n\n[[task]]\nname = "t"\nproject = "p"\n'
-        return head.format(self.executable) + "\n[[task.action]]\nwait = \"release\"\n" + items
+        item = '\n[[task.action.item]]\ndo = "{}"\nfile = "a.txt"\nisolation = "process"\nrequirements = "r{}"\n'
+        items = "".join(item.format(("lines", "bytes")[n % 2], n % self.sets) for n in range(len(self.outcomes)))
+        asked = '[[requirements]]\nname = "r{0}"\nexecutable = "{1}"\nargs = ["{0}"]\n\n'
+        sets = "".join(asked.format(number, self.executable) for number in range(self.sets))
+        head = '[[project]]\nname = "p"\n\n' + sets + '[[task]]\nname = "t"\nproject = "p"\n'
+        return head + "\n[[task.action]]\nwait = \"release\"\n" + items
 
     def expected(self) -> tuple[str, int]:
         failed = sum(not outcome.isdigit() for outcome in self.outcomes)
@@ -159,12 +166,14 @@ def cases() -> collections.abc.Iterator[Case]:
         for how in ("cut", "killed", "closes"):
             yield Case(f"first child: {how} after {cut} bytes of its reply", f"{how} {cut}", ["fault", BYTES])
     for name, lie in {
-        "a request": "010000000c0000000001000561" + "2e747874",
+        "a request": "110000000d000000000101000561" + "2e747874",
         "a stop": "0300000000",
-        "a reply for another unit": "020000000d00000001010000000000000003",
-        "a reply with a fault": "0200000005" + "00000000" + "05",
+        "a reply for another unit": "120000000e0000000101010000000000000003",
+        "a reply in the other mode": "120000000e0000000002010000000000000003",
+        "a reply of version 1": "020000000d00000000010000000000000003",
+        "a reply with a fault": "1200000006" + "00000000" + "01" + "05",
         "no frame": "ff00000000",
-        "a frame that is too long": "02ffffffff",
+        "a frame that is too long": "12ffffffff",
     }.items():
         yield Case(f"first child: answers with {name}, and doesn't end", f"lies {lie}", ["fault", BYTES])
     yield Case("first child: ends before it is asked", "ends", ["fault", BYTES])
@@ -174,6 +183,7 @@ def cases() -> collections.abc.Iterator[Case]:
     yield Case("first child: closes its input behind its first reply, and ends later", "stops-listening", [LINES, "fault", LINES])
     yield Case("first child: answers before it is asked", "hastens", [LINES, BYTES])
     yield Case("first child: gives its first reply twice", "repeats", [LINES, "fault", LINES])
+    yield Case("children that speak version 1 alone", "speaks-version-1", ["fault", "fault"])
     yield Case("children that ignore Stop", "ignores", [LINES, BYTES])
     yield Case("children that take half a second to stop", "lingers", [LINES, BYTES])
     yield Case("every child dies, 200 items, 32 threads", "dies", ["fault"] * 200, executable="./dies", threads=32, seconds=STORM_SECONDS)
@@ -203,7 +213,7 @@ class Folder:
             (folder / name).chmod(0o755)
 
     def start(self, program: str, words: list[str] = [], **streams: object) -> subprocess.Popen[str]:
-        call = [program, "run", "plan.toml", "--threads", str(self.case.threads), "--max-workers", "32", *words]
+        call = [program, "run", "plan.toml", "--threads", str(self.case.threads), "--max-workers", str(self.case.leases), *words]
         settings = {**os.environ, "DOES": self.case.does}
         return subprocess.Popen(
             call, cwd=self.folder, env=settings, stdin=subprocess.DEVNULL, text=True, preexec_fn=self.case.settle, **streams
@@ -337,6 +347,26 @@ def try_signal(program: str, number: int) -> str:
     return in_folder(Case("", "answers", [BYTES] * 64, executable="./works", threads=32), tried)
 
 
+def try_spares(program: str) -> str:
+    """28 items that each need a worker process of their own, on four threads with one lease. At the end of 20 of them one process too
+    many is idle, and is stopped, which takes half a second. Meanwhile the others use the lease."""
+    seconds = {}
+
+    def tried(folder: Folder) -> str:
+        start = time.monotonic()
+        run = folder.start(program, stdout=subprocess.PIPE)
+        printed, _ = run.communicate(timeout=STORM_SECONDS)
+        seconds[folder.case.does] = time.monotonic() - start
+        return "" if (printed, run.returncode) == folder.case.expected() else f"status {run.returncode}, and it printed:\n{printed}"
+
+    for does in ("answers", "lingers"):
+        case = Case("", does, [LINES, BYTES] * 14, threads=4, leases=1, sets=28)
+        if wrong := in_folder(case, tried):
+            return wrong
+    longer = seconds["lingers"] - seconds["answers"]
+    return "" if longer < 6 else f"it took {longer:.1f} s longer where 20 processes take half a second each to stop"
+
+
 def try_time_limit(program: str) -> str:
     """The example of a time limit, which has to print what its page says."""
 
@@ -386,6 +416,7 @@ def main() -> None:
         ("standard output is a pipe that nobody reads", lambda: try_closed_pipe(program, False)),
         ("standard output is a pipe that nobody reads, its signal ignored", lambda: try_closed_pipe(program, True)),
         ("a time limit for worker processes", lambda: try_time_limit(program)),
+        ("worker processes that are one too many", lambda: try_spares(program)),
         ("`self`, with the program's file removed", lambda: try_own_program(program)),
     ]
     for name, (words, status) in STREAMS.items():

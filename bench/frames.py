@@ -46,6 +46,16 @@ def reply(unit: int, outcome: bytes) -> bytes:
     return frame(2, struct.pack(">I", unit) + outcome)
 
 
+def in_mode(make):
+    """The same frame of version 2, in the mode `session`."""
+
+    def made(unit: int) -> bytes:
+        first = make(unit)
+        return first if first[0] == 3 else frame(0x10 + first[0], first[5:9] + b"\x01" + first[9:])
+
+    return made
+
+
 def short_request(unit: int) -> bytes:
     return request(unit, b"\x01", SHORT_NAME)
 
@@ -82,6 +92,11 @@ STREAMS = {
     "numbers": number_reply,
     "digests": digest_reply,
     "mixed": any_frame,
+    "short names, version 2": in_mode(short_request),
+    "long names, version 2": in_mode(long_request),
+    "numbers, version 2": in_mode(number_reply),
+    "digests, version 2": in_mode(digest_reply),
+    "mixed, version 2": in_mode(any_frame),
 }
 
 
@@ -118,7 +133,7 @@ def measure_stream(program: str, folder: pathlib.Path, name: str, bytes_wanted: 
         a_byte, growth = more / len(longer), more / less
         goal = f" (goal {MOST_A_BYTE:.0f})" if what in LARGE else ""
         print(
-            f"{name:11} {what:>9}: {a_byte:6.1f} instructions a byte{goal}, {more / many:7.1f} a frame of"
+            f"{name:22} {what:>9}: {a_byte:6.1f} instructions a byte{goal}, {more / many:7.1f} a frame of"
             f" {len(longer) / many:4.1f} bytes, growth {growth:.2f}"
         )
         good = good and growth <= MOST_GROWTH and (what not in LARGE or a_byte <= MOST_A_BYTE)

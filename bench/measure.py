@@ -115,11 +115,19 @@ class Ran:
 
 
 def run_under(
-    tool: Words, words: Words, folder: pathlib.Path | None = None, given: bytes = b"", settings: dict[str, str] | None = None
+    tool: Words,
+    words: Words,
+    folder: pathlib.Path | None = None,
+    given: bytes = b"",
+    settings: dict[str, str] | None = None,
+    by_file: bool = False,
 ) -> Ran:
-    run = subprocess.run(
-        [*tool, *words], cwd=folder, input=given, capture_output=True, env=os.environ | (settings or {})
-    )
+    """Runs the words under a tool. They are given these bytes by a pipe, or by a file."""
+    with tempfile.TemporaryFile() as file:
+        file.write(given)
+        file.seek(0)
+        source = {"stdin": file} if by_file else {"input": given}
+        run = subprocess.run([*tool, *words], cwd=folder, capture_output=True, env=os.environ | (settings or {}), **source)
     return Ran(run.stdout, run.stderr.decode(errors="replace"))
 
 

@@ -5,7 +5,8 @@
 
 A picture has to be well-formed XML. Each entry has to have one tick, in order, whose title is its line. Each rectangle below the
 legend has to be one of the replay's: its class, its place, its size and its title, and each of the replay's has to be there. So
-have the two curves of each part. With --render the pictures are also rendered by rsvg-convert and by chromium, in colour and in grey.
+have the two curves of each part, and the whole run above the parts: its curves, its strip and its rows of workers. With --render
+the pictures are also rendered by rsvg-convert and by chromium, in colour and in grey, and chromium's tree has to have the ticks' titles.
 """
 import collections
 import pathlib
@@ -16,6 +17,8 @@ import xml.etree.ElementTree as xml
 
 SVG = "{http://www.w3.org/2000/svg}"
 LEFT, PLOT, CURVE = 76, 1190, 48
+# The whole run above the parts: at most so many columns, their width, and where the strip, the curve and the rows of the workers begin.
+COLUMNS, COLUMN, STRIP, RUN, RUN_ROWS = 297, 4, 100, 116, 186
 Interval = collections.namedtuple("Interval", "subject since until worker how")
 # Where a worker's row has its bars: its height, and the places and heights of tasks, lanes, items and ticks.
 LARGE = dict(row=36, task=(3, 12), lane=(16, 15), item=(18, 11), tick=(32, 3))
@@ -190,19 +193,73 @@ class Part:
                      f"task {words[3]} is skipped by w{worker}, entry {entry}")
 
 
+class Whole:
+    """The whole run above the parts: a rectangle for each part, the two curves, and two areas for each worker."""
+
+    def __init__(self, run):
+        self.run = run
+        self.size = max(-(-run.count // COLUMNS), 1)
+        self.row = 12 if run.workers <= 16 else 10
+        self.bottom = RUN_ROWS + run.workers * self.row
+        most, base = max(run.max, *run.queued), RUN + CURVE
+        out = [CURVE * sum(column) // (len(column) * run.max) for column in self.columns(run.out[1:])]
+        queued = [CURVE * max(column) // most for column in self.columns(run.queued[1:])]
+        self.curves = [self.steps(base, out) + f"V{base}", self.steps(base, queued)]
+        leased = self.held(("lease",))
+        engaged = self.held(("lease", "blocked", "action"))
+        self.fills = []
+        for worker in range(run.workers):
+            self.fills.append(self.fill("p", worker, engaged[worker], " has a lease, or is parked or blocked,"))
+            self.fills.append(self.fill("m", worker, leased[worker], " has a lease"))
+
+    def columns(self, values):
+        return [values[k:k + self.size] for k in range(0, len(values), self.size)]
+
+    def steps(self, foot, heights):
+        return f"M{LEFT} {foot}" + "".join(f"V{foot - height}h{COLUMN}" for height in heights)
+
+    def held(self, kinds):
+        held = [[False] * self.run.count for _ in range(self.run.workers)]
+        for interval in self.run.intervals:
+            if interval.subject[0] in kinds:
+                for entry in range(interval.since, interval.until):
+                    held[interval.worker][entry - 1] = True
+        return held
+
+    def fill(self, kind, worker, held, words):
+        foot = RUN_ROWS + (worker + 1) * self.row - 1
+        heights = [(self.row - 2) * sum(column) // len(column) for column in self.columns(held)]
+        return f"{kind}{worker % 8}", self.steps(foot, heights) + f"V{foot}", f"w{worker}{words} after {sum(held)} of {self.run.count} entries"
+
+    def x(self, entry):
+        return LEFT + (entry - 1) * COLUMN // self.size
+
+    def strip(self, parts):
+        return [("even" if number % 2 == 0 else "odd", self.x(part.first), STRIP, self.x(part.behind) - self.x(part.first), 12,
+                 f"part {number}: entries {part.first} to {part.behind - 1}") for number, part in enumerate(parts, 1)]
+
+
 def parts_of(run):
     per, size = scale_of(run.workers, run.count)
     heading = 24 if run.count > size else 0
-    top, most = 86 + heading, max(run.max, *run.queued)
+    top, most = Whole(run).bottom + 30 + heading if heading else 86, max(run.max, *run.queued)
     for first in range(1, run.count + 1, size):
         part = Part(run, first, min(first + size, run.count + 1), per, top, most)
         yield part
         top = part.bottom + 30 + heading
 
 
+def ticks_in(root):
+    """The titles of the ticks, in order."""
+    return [rect.find(SVG + "title").text for rect in root.iter(SVG + "rect")
+            if rect.get("class") == "t" and rect.find(SVG + "title") is not None]
+
+
 def compare(name, text, picture):
     root = xml.fromstring(picture)
-    parts = list(parts_of(Replay(history_of(text))))
+    run = Replay(history_of(text))
+    parts = list(parts_of(run))
+    whole = Whole(run) if len(parts) > 1 else None
     found = collections.Counter()
     for rect in root.iter(SVG + "rect"):
         title = rect.find(SVG + "title")
@@ -210,29 +267,40 @@ def compare(name, text, picture):
         if rect.get("class") is not None and (place[1] >= 86 or title is not None):
             found[rect.get("class"), *place, None if title is None else title.text] += 1
     wanted = collections.Counter(rect for part in parts for rect in part.rects)
+    wanted.update(whole.strip(parts) if whole else [])
     wrong = (found - wanted) + (wanted - found)
     assert not wrong, f"{name}: {list(wrong)[:5]}"
-    ticks = [rect.find(SVG + "title").text for rect in root.iter(SVG + "rect")
-             if rect.get("class") == "t" and rect.find(SVG + "title") is not None]
+    ticks = ticks_in(root)
     assert ticks == [line for part in parts for line in part.ticks], f"{name}: the ticks aren't the lines in order"
     curves = [path.get("d") for path in root.iter(SVG + "path")
               if path.get("class") in ("c", "q") and path.find(SVG + "title") is not None]
-    assert curves == [curve for part in parts for curve in part.curves], f"{name}: a curve is wrong"
+    wanted_curves = [curve for part in ([whole] if whole else []) + parts for curve in part.curves]
+    assert curves == wanted_curves, f"{name}: a curve is wrong"
+    fills = [(path.get("class"), path.get("d"), path.find(SVG + "title").text) for path in root.iter(SVG + "path")
+             if path.get("class")[0] in "pm" and path.find(SVG + "title") is not None]
+    assert fills == (whole.fills if whole else []), f"{name}: a worker's row of the whole run is wrong"
     height = parts[-1].bottom + 20 if parts else 76
     assert root.get("height") == str(height), f"{name}: its height is {root.get('height')}, not {height}"
     return len(ticks), sum(found.values()), height
 
 
+def browse(page, *words):
+    """What chromium prints, without a window."""
+    return subprocess.run(["chromium", "--headless", "--no-sandbox", "--disable-gpu", "--hide-scrollbars", *words, page.resolve().as_uri()],
+                          check=True, stderr=subprocess.DEVNULL, stdout=subprocess.PIPE).stdout
+
+
 def screenshot(picture, height, page, image):
     page.write_bytes(picture)
-    subprocess.run(["chromium", "--headless", "--no-sandbox", "--disable-gpu", "--hide-scrollbars",
-                    f"--window-size=1280,{height}", f"--screenshot={image}", page.resolve().as_uri()],
-                   check=True, stderr=subprocess.DEVNULL, stdout=subprocess.DEVNULL)
+    browse(page, f"--window-size=1280,{height}", f"--screenshot={image}")
 
 
 def render(picture, height, to):
     subprocess.run(["rsvg-convert", "--unlimited", "-o", f"{to}-rsvg.png"], input=picture, check=True)
     screenshot(picture, height, pathlib.Path(f"{to}.svg"), f"{to}-chromium.png")
+    # Without a window there are no tooltips. What would be told where one points at a tick is its title in the browser's own tree.
+    told = ticks_in(xml.fromstring(browse(pathlib.Path(f"{to}.svg"), "--dump-dom")))
+    assert told == ticks_in(xml.fromstring(picture)), f"{to}: the browser has other titles"
     grey = picture.replace(b"<svg ", b'<svg style="filter:grayscale(1)" ', 1)
     screenshot(grey, height, pathlib.Path(f"{to}-grey.svg"), f"{to}-grey.png")
 

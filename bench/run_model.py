@@ -12,7 +12,7 @@ from collections.abc import Iterator
 
 FILES = {"a.txt": b"one\ntwo\nthree\n", "b.txt": b"a single line of nine words and no more\n", "empty.txt": b""}
 PASSING = ("number", "digest")
-PHRASES = {"missing": "not there", "long": "too long", "fault": "fault", "memory": "no memory"}
+PHRASES = {"missing": "not there", "long": "too long", "fault": "fault", "no-memory": "no memory"}
 MOST_IDLE = 8
 REPLY_ACTIONS = {"lines": 1, "words": 2, "bytes": 3, "longest": 4, "count": 5, "sha256": 6}
 
@@ -372,7 +372,7 @@ def check_events(state: State, events: list[str]) -> None:
     need(all(what in ("failed", "stopped") for what in last.values()), "a daemon is left")
     for unit, outcome in state.outcomes.items():
         if state.plan.units[unit].work.asked is not None:
-            failed = outcome in ("fault", "memory")
+            failed = outcome in ("fault", "no-memory")
             need(answered.get(unit, False) != failed, f"unit {unit} ended with {outcome}, and its daemon answered: {answered.get(unit)}")
 
 

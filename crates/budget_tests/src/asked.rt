@@ -2,7 +2,7 @@
 ghost use Rattle.std.specs.Prelude.{◌≡◌, IfOk};
 
 use daemon_requirements::{Linked, RequirementFields, RequirementRefusal, Requirements};
-use item_actions::Text;
+use item_actions::{KeepAlive, Text};
 use std::alloc::{AllocError, Global};
 
 /// The program `self` with this heap.
@@ -16,6 +16,7 @@ pub(crate) fn requirements_of(alloc: Global, heap_mb: u32) -> Result<Requirement
         debug: false,
         assertions: true,
         encoding: Text::from_str(alloc, "UTF-8")?,
+        keep: KeepAlive::Session,
     };
     // Fields that are refused end a test as want of memory does.
     Requirements::of(fields).map_err(out_of_range)

@@ -4,6 +4,8 @@
 #[cfg(test)]
 mod asked;
 #[cfg(test)]
+mod plan_tests;
+#[cfg(test)]
 mod pool_tests;
 #[cfg(test)]
 mod run_tests;

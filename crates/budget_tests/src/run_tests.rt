@@ -8,13 +8,16 @@ use crate::asked::requirements_of;
 use coordination::{Coordination, Opened, Pass, openings_are_at_rest};
 use daemon_desk::{Desk, MemoryDesk, MemoryLink};
 use daemon_manager::Event;
-use daemon_requirements::{Isolation, Work};
+use daemon_requirements::{Isolation, Linked, Work};
 use file_access::{FileEntry, FileMap};
 use item_actions::{ItemAction, Outcome, Text, is_file_name};
-use lease_service::current_lease;
+use lease_service::{Lease, current_lease};
 use lock_journal::Book;
 use lock_transforms::kinds::{Acquire, Shortage};
-use memory_budget::{BudgetLock, BudgetPool, Budgeted, MAX_BUDGET_MB, run_in_budget, stop_idle};
+use memory_budget::{
+    BudgetLock, BudgetPool, Budgeted, BudgetedRun, MAX_BUDGET_MB, run_in_budget, stop_daemon,
+    stop_idle,
+};
 use resource_lock::Graph;
 use std::alloc::{AllocError, Global};
 use std::process::Abort;
@@ -32,7 +35,7 @@ struct Seat {
 }
 
 /// The heaps that items ask for, by their number. Two of them fit at a time, and no three.
-static HEAPS: [u32; 4] = [500, 600, 700, 800];
+static HEAPS: [u32; 4] = [550, 600, 700, 800];
 
 const BUDGET_MB: u64 = 1600;
 
@@ -92,8 +95,8 @@ fn last_pass(service: &Coordination, passes: &mut Vec<Pass>) -> Result<Pass, All
     passes.pop().ok_or(AllocError)
 }
 
-// The pass of the one worker of a service, which has a lease.
-fn leased<R: Wait + Abort>(rt: &R, alloc: Global) -> Result<Pass, AllocError> {
+/// The pass of the one worker of a service, which has a lease.
+pub(crate) fn leased<R: Wait + Abort>(rt: &R, alloc: Global) -> Result<Pass, AllocError> {
     let Opened {
         service,
         mut passes,
@@ -108,14 +111,15 @@ fn leased<R: Wait + Abort>(rt: &R, alloc: Global) -> Result<Pass, AllocError> {
     Ok(pass)
 }
 
-fn new_lock<R: Abort>(rt: &R, alloc: Global, budget_mb: u64) -> BudgetLock<MemoryLink>
+/// A lock round a new pool with this budget.
+pub(crate) fn new_lock<R: Abort>(rt: &R, alloc: Global, budget_mb: u64) -> BudgetLock<MemoryLink>
     requires { budget_mb ≤ MAX_BUDGET_MB }
 {
     BudgetLock::new(BudgetPool::new(alloc, budget_mb).expect(rt, "memory"))
 }
 
-// Stops the idle daemons, and gives all that happened.
-fn close<D: Desk>(lock: BudgetLock<D::Link>, desk: &mut D) -> Vec<Event> {
+/// Stops the idle daemons, and gives all that happened.
+pub(crate) fn close<D: Desk>(lock: BudgetLock<D::Link>, desk: &mut D) -> Vec<Event> {
     let mut pool = lock.into_pool();
     stop_all_idle(&mut pool, desk);
     pool.into_events()
@@ -149,7 +153,45 @@ fn most_held(events: &[Event]) -> u64 {
     most
 }
 
+/// What comes of an item, and the heap of the daemon that was one too many behind it, which is stopped.
+pub(crate) fn run_and_stop<R: Wait, D: Desk>(
+    rt: &R,
+    alloc: Global,
+    lease: &Lease<'_>,
+    desk: &mut D,
+    lock: &BudgetLock<D::Link>,
+    unit: u32,
+    work: &Work,
+) -> (Budgeted, Option<u32>)
+    requires process { AsksProcess work.now.isolation }
+    requires form { is_file_name work.now.file ≡ true }
+{
+    let BudgetedRun { budgeted, spare } = run_in_budget(rt, alloc, lease, desk, lock, unit, work);
+    match spare {
+        Some(link) => {
+            let heap_mb = link.made_for().fields().heap_mb;
+            stop_daemon(rt, desk, lock, link);
+            (budgeted, Some(heap_mb))
+        }
+        None => (budgeted, None),
+    }
+}
+
 impl Seat {
+    // Runs an item that asks for this heap, as `run_and_stop`.
+    fn run_told<R: Wait + Abort>(
+        &mut self,
+        rt: &R,
+        alloc: Global,
+        lock: &BudgetLock<MemoryLink>,
+        unit: u32,
+        heap_mb: u32,
+    ) -> (Budgeted, Option<u32>) {
+        let work = work(rt, alloc, heap_mb);
+        let lease = current_lease(&self.pass).expect(rt, "a lease");
+        run_and_stop(rt, alloc, &lease, &mut *self.desk, lock, unit, &work)
+    }
+
     // Runs an item that asks for this heap.
     fn run<R: Wait + Abort>(
         &mut self,
@@ -159,9 +201,8 @@ impl Seat {
         unit: u32,
         heap_mb: u32,
     ) -> Budgeted {
-        let work = work(rt, alloc, heap_mb);
-        let lease = current_lease(&self.pass).expect(rt, "a lease");
-        run_in_budget(rt, alloc, &lease, &mut *self.desk, lock, unit, &work)
+        let (budgeted, _) = self.run_told(rt, alloc, lock, unit, heap_mb);
+        budgeted
     }
 
     // Runs each eighth item.
@@ -247,8 +288,8 @@ fn what_asks_for_more_than_the_budget_is_over(rt: HostRuntime) {
     assert!(rt; seat.desk.sent().len() == 1 && events.len() == 4);
 }
 
-// Whether these events are those of a daemon that failed and of one that worked for the next unit.
-fn is_second_right(events: &[Event]) -> bool {
+/// Whether these events are those of a daemon that failed and of one that worked for the next unit.
+pub(crate) fn is_second_right(events: &[Event]) -> bool {
     matches!(
         events,
         [
@@ -308,4 +349,36 @@ fn a_daemon_that_was_stopped_while_idle_serves_no_more(rt: HostRuntime) {
     assert!(rt; matches!(first, Budgeted::Done(Outcome::Number(3))));
     assert!(rt; matches!(second, Budgeted::Done(Outcome::Number(3))));
     assert!(rt; is_second_new(&events));
+}
+
+// The heaps of the daemons that are one too many behind nine items, which ask for 1 MB, 2 MB and so on: no idle daemon covers
+// the next item.
+fn spares_of_nine<R: Wait + Abort>(
+    rt: &R,
+    alloc: Global,
+    seat: &mut Seat,
+    lock: &BudgetLock<MemoryLink>,
+) -> [Option<u32>; 9] {
+    let mut spares = [None; 9];
+    for unit in 0..9u32 {
+        let (_, spare_mb) = seat.run_told(rt, alloc, lock, unit, unit + 1);
+        spares[unit as usize] = spare_mb;
+    }
+    spares
+}
+
+#[test]
+fn the_first_of_nine_idle_daemons_comes_back(rt: HostRuntime) {
+    let alloc = rt.alloc();
+    let mut seat = new_seat(&rt, alloc, 0, &[]).expect(&rt, "memory");
+    let lock = new_lock(&rt, alloc, 45);
+    let spares = spares_of_nine(&rt, alloc, &mut seat, &lock);
+    let events = close(lock, &mut *seat.desk);
+    assert!(rt;
+        matches!(
+            spares,
+            [None, None, None, None, None, None, None, None, Some(1)]
+        )
+    );
+    assert!(rt; events.len() == 36 && seat.desk.sent().len() == 9);
 }

@@ -7,7 +7,7 @@ use Rattle.lock_transforms.specs.declared.entries.Closed.{Closed}
 use Rattle.daemon_requirements.specs.declared.work.Isolation.{Isolation}
 use Rattle.daemon_requirements.specs.declared.work.Isolation.TheVariants.{InThread, Process}
 use Rattle.daemon_requirements.specs.declared.work.Work.{Work}
-use Rattle.item_work.specs.Requests.{SentView, request_for}
+use Rattle.item_work.specs.Requests.{SentView, mode_of, request_for}
 use Rattle.item_work.specs.Sends.{SendsFor}
 use Rattle.plan_reader.specs.PlanView.{process_of, work_view}
 use Rattle.plan_reader.specs.Units.{PlannedUnit, item_unit}
@@ -22,7 +22,7 @@ pub of_fetch : (units : List PlannedUnit) (d : Closed) {old new : SentView} → 
 of_fetch units d {old} {new} fetched same = subst (λ (o : Option PlannedUnit). SentForUnit o d old new) (sym fetched.1) same
 
 -- and for an item what running it sends
-of_work : (isolation : Isolation) (action : ItemAction) (file : List ℕ) (d : Closed) (old new : SentView) → SendsFor isolation old new (record { unit = d.unit; action = action; file = file }) d.outcome
+of_work : (isolation : Isolation) (action : ItemAction) (file : List ℕ) (d : Closed) (old new : SentView) → SendsFor isolation old new (record { unit = d.unit; action = action; file = file; keep = mode_of isolation }) d.outcome
     → SentForWork (process_of isolation) (Some action) file d old new
 of_work InThread action file d old new sent = sent
 of_work (Process asked) action file d old new sent = sent

@@ -47,6 +47,15 @@ step_then {view = view} {s} {a} {b} {c} {old} {mid} {new} {last = last} k done l
   sent = sent_then last s.units (subst (λ (all : Bool). HasSent all s.units (view a).sent (view b).sent old.sight mid.sight) done k.sent) l.sent;
 }
 
+-- the desk was used for what contracts don't see
+pub step_desk : {D : Type 0} {view : D → DeskView} {s : SiteView} {a b c : D} {old new : PassView} {done : Bool} → view c ≡ view b → Steps s view a b old new done → Steps s view a c old new done
+step_desk {view = view} {s} {a} {b} {c} {old} {new} {done} same k = record {
+  at = k.at;
+  files = subst (λ (v : DeskView). v.files ≡ (view a).files) (sym same) k.files;
+  keeps = subst (λ (v : DeskView). Keeps (view a).files s.units (view a).faults v.faults old.sight new.sight) (sym same) k.keeps;
+  sent = subst (λ (v : DeskView). HasSent done s.units (view a).sent v.sent old.sight new.sight) (sym same) k.sent;
+}
+
 -- less is said of a part that says less
 pub step_weaker : {D : Type 0} {view : D → DeskView} {s : SiteView} {a b : D} {old new : PassView} {more less : Bool} → (less ≡ true → more ≡ true) → Steps s view a b old new more → Steps s view a b old new less
 step_weaker weaker k = record {

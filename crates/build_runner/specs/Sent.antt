@@ -13,12 +13,12 @@ use Rattle.build_runner.specs.Kept.{HasClosed}
 abbrev pub sent_view : {D : Type 0} → (D → ℕ) → (D → Option (List SentRequest)) → D → SentView
 sent_view sends sent desk = record { count = sends desk; requests = sent desk }
 
--- An item in a process: at most one request, this unit's, over a link made for requirements that cover those asked, and one
--- where its outcome is neither Fault nor NoMemory. Nothing for an item in the worker's own thread, nor for a fetch.
+-- An item in a process: at most one request, this unit's, in the keep-alive mode asked for, over a link made for requirements that
+-- cover those asked, and one where its outcome is neither Fault nor NoMemory. Nothing for an item in the worker's own thread, nor for a fetch.
 abbrev pub SentForWork : Option RequirementsView → Option ItemAction → List ℕ → Closed → SentView → SentView → Type 0
 SentForWork None action file d old new = new ≡ old
 SentForWork (Some asked) None file d old new = new ≡ old
-SentForWork (Some asked) (Some action) file d old new = Sends asked old new (record { unit = d.unit; action = action; file = file }) d.outcome
+SentForWork (Some asked) (Some action) file d old new = Sends asked old new (record { unit = d.unit; action = action; file = file; keep = Some asked.keep }) d.outcome
 
 abbrev pub SentForUnit : Option PlannedUnit → Closed → SentView → SentView → Type 0
 SentForUnit None d old new = new ≡ old

@@ -1,9 +1,11 @@
-//! The end of a run's daemons.
+//! The end of a run's daemons, and of those that are one too many while it runs.
 ghost use Rattle.std.specs.Prelude.{◌≡◌, ◌≤◌, ℕ, [], drop, get_or, length};
 ghost use Rattle.daemon_manager.specs.Counts.{failures, reservations};
 ghost use Rattle.daemon_manager.specs.Events.{NoneIdle, IsLegal};
 ghost use Rattle.build_runner.specs.Desks.{desk_view};
 
+use crate::queue::QueuePlace;
+use coordination::Coordination;
 use daemon_desk::Desk;
 use daemon_manager::{CountedPool, Event, Tallies};
 use item_work::PoolLock;
@@ -18,6 +20,22 @@ fn stop_idle<D: Desk, U: Ledger, F: Ledger>(pool: &mut CountedPool<D::Link, U, F
     if let Some(mut link) = pool.stop_idle() {
         desk.tell_to_stop(&mut link);
         stop_idle(pool, desk);
+        desk.stop(link);
+    }
+}
+
+/// Stops a daemon that is one too many, if there is one. The service counts on this worker to come again at once, and so wakes nobody
+/// for what the worker left behind. It doesn't come while it waits for the daemon's end, so the others are woken before.
+pub(crate) fn stop_spare<D: Desk>(
+    service: &Coordination<QueuePlace>,
+    desk: &mut D,
+    spare: Option<D::Link>,
+)
+    ensures sends { D.sends desk.new ≡ D.sends desk.old }
+    ensures desk { desk_view D.files D.faults D.sends D.sent desk.new ≡ desk_view D.files D.faults D.sends D.sent desk.old }
+{
+    if let Some(link) = spare {
+        service.notify_state_change();
         desk.stop(link);
     }
 }

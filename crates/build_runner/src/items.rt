@@ -12,6 +12,7 @@ ghost use Rattle.item_work.specs.Tallying.{ReservesForEach, one_if_unreal};
 ghost use Rattle.build_runner.specs.Desks.{desk_view};
 ghost use Rattle.build_runner.specs.Steps.{HasRun, Steps};
 
+use crate::daemons::stop_spare;
 use crate::hands::Hand;
 use crate::site::Site;
 use async_tracker::{claim, close, closing_undoes_claiming};
@@ -20,14 +21,13 @@ use daemon_desk::Desk;
 use daemon_manager::Tally;
 use daemon_requirements::Linked;
 use file_access::Gate;
-use item_actions::Outcome;
-use item_work::run_item;
+use item_work::{Ran, run_item};
 use lease_service::current_lease;
 use lock_transforms::Closed;
 use std::sync::Wait;
 use std::sync::ledger::Ledger;
 
-// Runs an item that the worker has claimed, and says what it gives.
+// Runs an item that the worker has claimed, and says what it gives. A daemon that is one too many comes with it.
 fn run_claimed<R: Wait, D: Desk, G: Gate, U: Ledger, F: Ledger>(
     rt: &R,
     site: &Site<'_, G, D::Link, U, F>,
@@ -35,13 +35,13 @@ fn run_claimed<R: Wait, D: Desk, G: Gate, U: Ledger, F: Ledger>(
     desk: &mut D,
     mine: &mut Tally<U, F>,
     unit: u32,
-) -> Outcome
+) -> Ran<D::Link>
     requires item { IsItemHere site.now.graph unit }
     requires claimed { Contains (claimed_shown pass.now.sight) (ids.Unit unit) }
     requires lease { lease_shown pass.now.sight ≡ true }
-    ensures ran { HasRun site.now.units (desk_view D.files D.faults D.sends D.sent) desk.old desk.new (record { unit = unit; outcome = result }) }
+    ensures ran { HasRun site.now.units (desk_view D.files D.faults D.sends D.sent) desk.old desk.new (record { unit = unit; outcome = result.outcome }) }
     ensures reserved { ReservesForEach (D.sends desk.old) (D.sends desk.new) mine.old mine.new }
-    ensures failed { mine.new.failed ≤ mine.old.failed + one_if_unreal result }
+    ensures failed { mine.new.failed ≤ mine.old.failed + one_if_unreal result.outcome }
 {
     let Some(lease) = current_lease(pass) else {
         unreachable!()
@@ -92,7 +92,8 @@ fn close_item<R: Wait, G, L: Linked, U: Ledger, F: Ledger>(
     }
 }
 
-// Runs an item that the worker has claimed, and closes it with what it gives.
+// Runs an item that the worker has claimed, and closes it with what it gives. A daemon that is one too many is stopped behind that,
+// also where the close failed: while its end is waited for, the item is over, and no lease is kept.
 fn run_and_close<R: Wait, D: Desk, G: Gate, U: Ledger, F: Ledger>(
     rt: &R,
     site: &Site<'_, G, D::Link, U, F>,
@@ -110,8 +111,10 @@ fn run_and_close<R: Wait, D: Desk, G: Gate, U: Ledger, F: Ledger>(
     ensures reserved { ReservesForEach (D.sends desk.old) (D.sends desk.new) mine.old mine.new }
     ensures failed { OnOk result (FailsForEach pass.old.sight pass.new.sight mine.old mine.new) }
 {
-    let outcome = run_claimed(rt, site, pass, desk, mine, unit);
-    close_item(rt, site, pass, Closed { unit, outcome })
+    let Ran { outcome, spare } = run_claimed(rt, site, pass, desk, mine, unit);
+    let closed = close_item(rt, site, pass, Closed { unit, outcome });
+    stop_spare(site.service, desk, spare);
+    closed
 }
 
 // Claims an item, runs it and closes it, unless another worker was faster.

@@ -64,7 +64,7 @@ of_answers spelled files q came left rest (a ∷ others) r n valid fits is cuts 
     let told = spelled (reply a) (replies others) honest.0.ran (unit, honest.0.fits) in
     let both : Whole (reply a) (length (spelling (reply a))) ≡ Whole (frames.Reply r) n = sym told ∙ whole in
     let frame : reply a ≡ frames.Reply r = cc in
-    let that : record { unit = a.request.unit; outcome = a.outcome } ≡ r = cc in
+    let that : record { unit = a.request.unit; outcome = a.outcome; keep = a.request.keep } ≡ r = cc in
     subst (λ (o : Outcome). IsHonest o (value_on files q.action q.file)) (ap (λ (x : Reply). x.outcome) that)
     (subst (λ (x : Request). IsHonest a.outcome (value_on files x.action x.file)) same honest.0.honest)
 

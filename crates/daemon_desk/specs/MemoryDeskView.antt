@@ -44,7 +44,7 @@ lie_at number lies = option_map (λ lie. lie.bytes.items) (find (λ lie. lie.cal
 
 -- a lie is answered with the reply that it begins with; and a daemon that serves on the files gives a reply to the request, or none
 abbrev pub IsAnswerBy : Folder → Request → Option (List ℕ) → Result Reply DeskFail → Type 0
-IsAnswerBy files request (Some lie) result = IsReplyIn request.unit lie result
+IsAnswerBy files request (Some lie) result = IsReplyIn request.unit request.keep lie result
 IsAnswerBy files request None result = IfOk result (IsReplyTo (Some files) request)
 
 -- What is received: nothing where no request waits, and where the call fails by its number; else what the lie at this call is, or what

@@ -11,8 +11,8 @@ use std::process::{Command, Stdio};
 const OWN_PROGRAM: &str = "self";
 
 /// The command that starts a daemon with these requirements, where `own` is the program that starts it: the word `worker`
-/// and the arguments, the variables in the environment, and pipes for its input and its output. Heap, properties, switches
-/// and encoding serve for matching alone.
+/// and the arguments, the variables in the environment, and pipes for its input and its output. Heap, properties, switches,
+/// encoding and keep-alive mode serve for matching alone.
 pub(crate) fn command_of(
     alloc: Global,
     own: &str,

@@ -74,8 +74,8 @@ pub trait Desk: Files {
         ensures whole { OnOk result (broken link.new ≡ broken link.old) }
         ensures broken { OnErr result (broken link.new ≡ true) };
 
-    /// Receives the reply to the request that waits on the link; afterwards none waits. An answer that begins with no reply,
-    /// or with one for another unit or with a fault, is Failed. After an error the link is broken.
+    /// Receives the reply to the request that waits on the link; afterwards none waits. An answer that begins with no reply, or
+    /// with one for another unit, of another version, in another mode or with a fault, is Failed. After an error the link is broken.
     fn receive(&mut self, alloc: Global, link: &mut Self::Link) -> Result<Reply, DeskFail>
         requires { IsSome (waiting link.old) }
         ensures files { Self.files self.new ≡ Self.files self.old }

@@ -14,6 +14,7 @@ use daemon_protocol::{Frame, HEAD_BYTES, MAX_FRAME_BYTES, Reply, Request, encode
 use daemon_requirements::{Linked, Requirements};
 use daemon_server::take_frame;
 use file_access::{DeskFail, StdSink, StdSource, put_all};
+use item_actions::KeepAlive;
 use std::alloc::Global;
 use std::marker::Model;
 use std::process::{Child, ChildStdin, ChildStdout, Command, Processes, SystemProcess};
@@ -132,7 +133,9 @@ impl FolderLink {
         ensures left { self.new ≡ record self.old { waiting = None } }
     {
         match (self.waiting.take(), &mut self.pipes) {
-            (Some(request), Some(pipes)) => pipes.reply(alloc, request.unit, &mut self.held),
+            (Some(request), Some(pipes)) => {
+                pipes.reply(alloc, request.unit, request.keep, &mut self.held)
+            }
             _ => Err(DeskFail::Failed),
         }
     }
@@ -177,15 +180,22 @@ impl Pipes {
         }
     }
 
-    // Reads the reply for a unit.
-    fn reply(&mut self, alloc: Global, unit: u32, held: &mut Vec<u8>) -> Result<Reply, DeskFail>
+    // Reads the reply for a unit, in the mode of its request.
+    fn reply(
+        &mut self,
+        alloc: Global,
+        unit: u32,
+        keep: Option<KeepAlive>,
+        held: &mut Vec<u8>,
+    ) -> Result<Reply, DeskFail>
         ensures unit { IfOk result (λ r. r.unit ≡ unit) }
+        ensures keep { IfOk result (λ r. r.keep ≡ keep) }
         ensures ran { IfOk result (λ r. r.outcome ≢ outcomes.Skipped) }
         ensures worked { IfOk result (λ r. r.outcome ≢ outcomes.Fault) }
     {
         let room = MAX_FRAME_BYTES as u64;
         let start = take_frame(alloc, &mut self.output, held, room)?;
-        reply_to(unit, &start)
+        reply_to(unit, keep, &start)
     }
 
     // Tells the child to stop, and closes both pipes.

@@ -135,7 +135,7 @@ impl MemoryDesk {
             return Err(DeskFail::Failed);
         }
         match self.lie() {
-            Some(answer) => reply_in(alloc, request.unit, answer),
+            Some(answer) => reply_in(alloc, request.unit, request.keep, answer),
             None => served_reply(alloc, request, &mut self.files),
         }
     }

@@ -9,10 +9,11 @@ use crate::replies::reply_in;
 use daemon_protocol::{Frame, HEAD_BYTES, Reply, Request, encode, spelled_frames_are_read};
 use daemon_server::{Served, serve};
 use file_access::{DeskFail, FileMap, MemorySink, MemorySource};
+use item_actions::KeepAlive;
 use std::alloc::Global;
 
-/// The most bytes of a reply: its head, the unit, and a digest behind the byte that says so.
-const MAX_REPLY_BYTES: u64 = HEAD_BYTES as u64 + 37;
+/// The most bytes of a reply: its head, the unit, the mode, and a digest behind the byte that says so.
+const MAX_REPLY_BYTES: u64 = HEAD_BYTES as u64 + 38;
 
 /// The reply of a daemon that serves over memory.
 pub(crate) fn served_reply(
@@ -24,27 +25,28 @@ pub(crate) fn served_reply(
     ensures files { files.new ≡ files.old }
     ensures reply { IfOk result (λ reply. IsReplyTo (Some files.old) request reply) }
 {
-    let unit = request.unit;
+    let (unit, keep) = (request.unit, request.keep);
     let bytes = encode(alloc, &Frame::Request(request))?;
-    reply_to_bytes(alloc, unit, bytes, files)
+    reply_to_bytes(alloc, unit, keep, bytes, files)
 }
 
-// The reply of a daemon to the bytes of a request of this unit.
+// The reply of a daemon to the bytes of a request of this unit and mode.
 fn reply_to_bytes(
     alloc: Global,
     unit: u32,
+    keep: Option<KeepAlive>,
     bytes: Vec<u8>,
     files: &mut FileMap,
 ) -> Result<Reply, DeskFail>
     ensures files { files.new ≡ files.old }
     ensures reply { (request : Asked) → bytes.items ≡ spelling (frames.Request request) → is_file_name request.file ≡ true → FrameFits (frames.Request request)
-        → unit ≡ request.unit → IfOk result (λ reply. IsReplyTo (Some files.old) request reply) }
+        → unit ≡ request.unit → keep ≡ request.keep → IfOk result (λ reply. IsReplyTo (Some files.old) request reply) }
 {
     spelled_frames_are_read();
     let mut sink = MemorySink::limited(alloc, MAX_REPLY_BYTES)?;
     let mut source = MemorySource::new(bytes, Vec::new(alloc));
     match serve(alloc, &mut source, &mut sink, files) {
-        Served::Done => reply_in(alloc, unit, sink.taken()),
+        Served::Done => reply_in(alloc, unit, keep, sink.taken()),
         Served::NoMemory => Err(DeskFail::NoMemory),
         _ => Err(DeskFail::Failed),
     }

@@ -8,7 +8,7 @@ use Rattle.daemon_protocol.specs.declared.frames.Frame.{Frame}
 use Rattle.daemon_protocol.specs.declared.starts.StreamStart.TheVariants.{Unfinished, Whole, Refused}
 use Rattle.daemon_protocol.specs.declared.starts.Flaw.TheVariants.{Length, Tag}
 use Rattle.daemon_protocol.specs.Bodies.{frame_of}
-use Rattle.daemon_protocol.specs.StreamStart.{look, look_length, look_body, look_field}
+use Rattle.daemon_protocol.specs.StreamStart.{look, is_tag, look_length, look_body, look_field}
 use Rattle.daemon_protocol.proofs.lemmas.Settled.{fits_body}
 
 -- the length of the body, by the bytes behind the tag
@@ -30,7 +30,7 @@ sized_length tag m after f h =
 pub sized : (s : List ℕ) (f : Frame) (m : ℕ) → look s ≡ Whole f m → (5 ≤ length s) × (m ≡ 5 + body_len (drop 1 s))
 sized [] f m = λ h. cc
 sized (tag ∷ after) f m =
-    elim (eqb tag 1 || eqb tag 2 || eqb tag 3) as (λ b. cond b (look_length tag after) (Refused Tag) ≡ Whole f m → (5 ≤ suc (length after)) × (m ≡ 5 + body_len after))
+    elim (is_tag tag) as (λ b. cond b (look_length tag after) (Refused Tag) ≡ Whole f m → (5 ≤ suc (length after)) × (m ≡ 5 + body_len after))
     [ true ↦ λ h. let s = sized_length tag m after f h in (omega (arith, s.0), s.1) | false ↦ λ h. cc ]
 
 -- what follows the head changes nothing of that
@@ -70,5 +70,5 @@ unfinished_length tag after head h =
 pub unfinished : (s : List ℕ) → 5 ≤ length s → look s ≡ Unfinished → (length s < 5 + body_len (drop 1 s)) × (body_len (drop 1 s) ≤ 65536)
 unfinished [] head = λ h. absurd (omega arith)
 unfinished (tag ∷ after) head =
-    elim (eqb tag 1 || eqb tag 2 || eqb tag 3) as (λ b. cond b (look_length tag after) (Refused Tag) ≡ Unfinished → (suc (length after) < 5 + body_len after) × (body_len after ≤ 65536))
+    elim (is_tag tag) as (λ b. cond b (look_length tag after) (Refused Tag) ≡ Unfinished → (suc (length after) < 5 + body_len after) × (body_len after ≤ 65536))
     [ true ↦ λ h. let u = unfinished_length tag after (omega arith) h in (omega (arith, u.0), u.1) | false ↦ λ h. cc ]

@@ -11,9 +11,11 @@ use Rattle.item_actions.specs.declared.actions.ItemAction.{ItemAction}
 use Rattle.item_actions.specs.declared.actions.ItemAction.TheVariants as actions
 use Rattle.item_actions.specs.declared.outcomes.Outcome.{Outcome}
 use Rattle.item_actions.specs.declared.outcomes.Outcome.TheVariants as outcomes
-use Rattle.daemon_protocol.specs.Bodies.{action_at, count_at, request_after, request_with, request_of, cause_of, outcome_of, reply_with, reply_of, frame_of}
-use Rattle.daemon_protocol.specs.Spelling.{action_bytes, outcome_bytes, body, tag, spelling, IsValid}
-use Rattle.daemon_protocol.specs.StreamStart.{look, look_length, look_body, look_field}
+use Rattle.item_actions.specs.declared.keep_alive.KeepAlive.{KeepAlive}
+use Rattle.daemon_protocol.specs.Bodies.{mode_at, action_at, count_at, request_after, request_behind, request_from, request_with, request_of, request_in_mode_of}
+use Rattle.daemon_protocol.specs.Bodies.{cause_of, outcome_of, reply_behind, reply_from, reply_with, reply_of, reply_in_mode_of, frame_of}
+use Rattle.daemon_protocol.specs.Spelling.{mode_bytes, action_bytes, outcome_bytes, body, request_tag, reply_tag, tag, spelling, IsValid}
+use Rattle.daemon_protocol.specs.StreamStart.{look, is_tag, look_length, look_body, look_field}
 use Rattle.daemon_protocol.specs.declared.frames.Frame.{Frame}
 use Rattle.daemon_protocol.specs.declared.starts.StreamStart.{StreamStart}
 use Rattle.daemon_protocol.specs.declared.starts.StreamStart.TheVariants.{Unfinished, Whole, Refused}
@@ -67,31 +69,63 @@ four bytes are enough =
 abbrev HasBody : ℕ → List ℕ → Frame → Type 0
 HasBody t bytes f = (t ≡ tag f) × (body f ≡ bytes) × IsValid f
 
-file_is : (unit : ℕ) (a : ItemAction) (before bytes : List ℕ) → AreBytes bytes → to_be_bytes w32 unit ++ (action_bytes a ++ bytes) ≡ before → IfSome (request_with unit a bytes) (HasBody 1 before)
-file_is unit a before bytes are whole =
-    let P : Option Frame → Type 0 = λ o. IfSome o (HasBody 1 before) in
+file_is : (unit : ℕ) (keep : Option KeepAlive) (a : ItemAction) (before bytes : List ℕ) → AreBytes bytes
+    → to_be_bytes w32 unit ++ (mode_bytes keep ++ (action_bytes a ++ bytes)) ≡ before → IfSome (request_with unit keep a bytes) (HasBody (request_tag keep) before)
+file_is unit keep a before bytes are whole =
+    let P : Option Frame → Type 0 = λ o. IfSome o (HasBody (request_tag keep) before) in
     cond_both (ltb (length bytes) 2) _ _ P (λ _. tt) (λ some.
     cond_both (eqb (from_be_bytes w16 (take 2 bytes)) (length (drop 2 bytes)) && is_file_name (drop 2 bytes)) _ _ P (λ both.
     let parts = and_parts _ _ both in
     let len : length (drop 2 bytes) ≡ from_be_bytes w16 (take 2 bytes) = sym (eqb-true _ _ parts.0) in
     let two : to_be_bytes w16 (length (drop 2 bytes)) ++ drop 2 bytes ≡ bytes =
     ap (λ xs. xs ++ drop 2 bytes) (be_bytes_2 (take 2 bytes) (length (drop 2 bytes)) (length-take-le 2 bytes (ltb-false _ _ some)) (bytes_before 2 bytes are) len) ∙ take-append-drop 2 bytes in
-    (refl, ap (λ xs. to_be_bytes w32 unit ++ (action_bytes a ++ xs)) two ∙ whole, parts.1))
+    (refl, ap (λ xs. to_be_bytes w32 unit ++ (mode_bytes keep ++ (action_bytes a ++ xs))) two ∙ whole, parts.1))
     (λ _. tt))
+
+-- an action and a file behind a unit and a mode
+behind_unit : (unit : ℕ) (keep : Option KeepAlive) (before bytes : List ℕ) → AreBytes bytes
+    → to_be_bytes w32 unit ++ (mode_bytes keep ++ bytes) ≡ before → IfSome (request_from unit keep bytes) (HasBody (request_tag keep) before)
+behind_unit unit keep before bytes are whole = after (action_at bytes) (action_is bytes)
+  where
+    after : (o : Option (ItemAction × ℕ)) → IfSome o (IsAction bytes) → IfSome (request_after unit keep bytes o) (HasBody (request_tag keep) before)
+    after None is = tt
+    after (Some a) is =
+        file_is unit keep a.0 before (drop a.1 bytes) (bytes_after a.1 bytes are)
+        (ap (λ xs. to_be_bytes w32 unit ++ (mode_bytes keep ++ xs)) (ap (λ xs. xs ++ drop a.1 bytes) (sym is) ∙ take-append-drop a.1 bytes) ∙ whole)
 
 request_is : (bytes : List ℕ) → AreBytes bytes → IfSome (request_of bytes) (HasBody 1 bytes)
 request_is bytes are =
     cond_both (ltb (length bytes) 4) _ _ (λ o. IfSome o (HasBody 1 bytes)) (λ _. tt)
-    (λ some. after (action_at (drop 4 bytes)) (four bytes are (ltb-false _ _ some)) (action_is (drop 4 bytes)))
+    (λ some. behind_unit (from_be_bytes w32 (take 4 bytes)) None bytes (drop 4 bytes) (bytes_after 4 bytes are) (four bytes are (ltb-false _ _ some)))
+
+-- the mode of its byte
+abbrev IsMode : List ℕ → KeepAlive → Type 0
+IsMode bytes mode = take 1 bytes ≡ mode_bytes (Some mode)
+
+mode_is : (bytes : List ℕ) → IfSome (mode_at bytes) (IsMode bytes)
+mode_is [] = tt
+mode_is (b ∷ after) =
+    let P : Option KeepAlive → Type 0 = λ o. IfSome o (IsMode (b ∷ after)) in
+    cond_both (eqb b 1) _ _ P (one b 1 after) (λ _. cond_both (eqb b 2) _ _ P (one b 2 after) (λ _. tt))
+
+-- behind a mode's byte
+after_mode : (unit : ℕ) (mode : KeepAlive) (bytes : List ℕ) → to_be_bytes w32 unit ++ drop 4 bytes ≡ bytes → IsMode (drop 4 bytes) mode
+    → to_be_bytes w32 unit ++ (mode_bytes (Some mode) ++ drop 1 (drop 4 bytes)) ≡ bytes
+after_mode unit mode bytes whole is =
+    ap (λ xs. to_be_bytes w32 unit ++ xs) (ap (λ xs. xs ++ drop 1 (drop 4 bytes)) (sym is) ∙ take-append-drop 1 (drop 4 bytes)) ∙ whole
+
+request_in_mode_is : (bytes : List ℕ) → AreBytes bytes → IfSome (request_in_mode_of bytes) (HasBody 17 bytes)
+request_in_mode_is bytes are =
+    cond_both (ltb (length bytes) 4) _ _ (λ o. IfSome o (HasBody 17 bytes)) (λ _. tt)
+    (λ some. after (mode_at (drop 4 bytes)) (four bytes are (ltb-false _ _ some)) (mode_is (drop 4 bytes)))
   where
     unit : ℕ
     unit = from_be_bytes w32 (take 4 bytes)
 
-    after : (o : Option (ItemAction × ℕ)) → to_be_bytes w32 unit ++ drop 4 bytes ≡ bytes → IfSome o (IsAction (drop 4 bytes)) → IfSome (request_after unit (drop 4 bytes) o) (HasBody 1 bytes)
+    after : (o : Option KeepAlive) → to_be_bytes w32 unit ++ drop 4 bytes ≡ bytes → IfSome o (IsMode (drop 4 bytes)) → IfSome (request_behind unit (drop 4 bytes) o) (HasBody 17 bytes)
     after None whole is = tt
-    after (Some a) whole is =
-        file_is unit a.0 bytes (drop a.1 (drop 4 bytes)) (bytes_after a.1 (drop 4 bytes) (bytes_after 4 bytes are))
-        (ap (λ xs. to_be_bytes w32 unit ++ xs) (ap (λ xs. xs ++ drop a.1 (drop 4 bytes)) (sym is) ∙ take-append-drop a.1 (drop 4 bytes)) ∙ whole)
+    after (Some mode) whole is =
+        behind_unit unit (Some mode) bytes (drop 1 (drop 4 bytes)) (bytes_after 1 (drop 4 bytes) (bytes_after 4 bytes are)) (after_mode unit mode bytes whole is)
 
 abbrev IsOutcome : List ℕ → Outcome → Type 0
 IsOutcome bytes o = (outcome_bytes o ≡ bytes) × (o ≢ outcomes.Skipped)
@@ -118,27 +152,44 @@ outcome_is (b ∷ after) are =
     cond_both (eqb b 2) _ _ P digest (λ _.
     cond_both (eqb (length after) 0) _ _ P (λ none. cause_is b after (nil_from_length after (eqb-true _ _ none))) (λ _. tt)))
 
+-- an outcome behind a unit and a mode
+outcome_behind : (unit : ℕ) (keep : Option KeepAlive) (before bytes : List ℕ) → AreBytes bytes
+    → to_be_bytes w32 unit ++ (mode_bytes keep ++ bytes) ≡ before → IfSome (reply_from unit keep bytes) (HasBody (reply_tag keep) before)
+outcome_behind unit keep before bytes are whole = after (outcome_of bytes) (outcome_is bytes are)
+  where
+    after : (o : Option Outcome) → IfSome o (IsOutcome bytes) → IfSome (reply_with unit keep o) (HasBody (reply_tag keep) before)
+    after None is = tt
+    after (Some o) is = (refl, ap (λ xs. to_be_bytes w32 unit ++ (mode_bytes keep ++ xs)) is.0 ∙ whole, is.1)
+
 reply_is : (bytes : List ℕ) → AreBytes bytes → IfSome (reply_of bytes) (HasBody 2 bytes)
 reply_is bytes are =
     cond_both (ltb (length bytes) 4) _ _ (λ o. IfSome o (HasBody 2 bytes)) (λ _. tt)
-    (λ some. after (outcome_of (drop 4 bytes)) (four bytes are (ltb-false _ _ some)) (outcome_is (drop 4 bytes) (bytes_after 4 bytes are)))
+    (λ some. outcome_behind (from_be_bytes w32 (take 4 bytes)) None bytes (drop 4 bytes) (bytes_after 4 bytes are) (four bytes are (ltb-false _ _ some)))
+
+reply_in_mode_is : (bytes : List ℕ) → AreBytes bytes → IfSome (reply_in_mode_of bytes) (HasBody 18 bytes)
+reply_in_mode_is bytes are =
+    cond_both (ltb (length bytes) 4) _ _ (λ o. IfSome o (HasBody 18 bytes)) (λ _. tt)
+    (λ some. after (mode_at (drop 4 bytes)) (four bytes are (ltb-false _ _ some)) (mode_is (drop 4 bytes)))
   where
     unit : ℕ
     unit = from_be_bytes w32 (take 4 bytes)
 
-    after : (o : Option Outcome) → to_be_bytes w32 unit ++ drop 4 bytes ≡ bytes → IfSome o (IsOutcome (drop 4 bytes)) → IfSome (reply_with unit o) (HasBody 2 bytes)
+    after : (o : Option KeepAlive) → to_be_bytes w32 unit ++ drop 4 bytes ≡ bytes → IfSome o (IsMode (drop 4 bytes)) → IfSome (reply_behind unit (drop 4 bytes) o) (HasBody 18 bytes)
     after None whole is = tt
-    after (Some o) whole is = (refl, ap (λ xs. to_be_bytes w32 unit ++ xs) is.0 ∙ whole, is.1)
+    after (Some mode) whole is =
+        outcome_behind unit (Some mode) bytes (drop 1 (drop 4 bytes)) (bytes_after 1 (drop 4 bytes) (bytes_after 4 bytes are)) (after_mode unit mode bytes whole is)
 
-frame_is : (t : ℕ) (bytes : List ℕ) → AreBytes bytes → (eqb t 1 || eqb t 2 || eqb t 3) ≡ true → IfSome (frame_of t bytes) (HasBody t bytes)
+frame_is : (t : ℕ) (bytes : List ℕ) → AreBytes bytes → is_tag t ≡ true → IfSome (frame_of t bytes) (HasBody t bytes)
 frame_is t bytes are known =
     let P : Option Frame → Type 0 = λ o. IfSome o (HasBody t bytes) in
-    cond_both (eqb t 1) _ _ P (λ is. subst (λ n. IfSome (request_of bytes) (HasBody n bytes)) (sym (eqb-true t 1 is)) (request_is bytes are)) (λ other.
-    cond_both (eqb t 2) _ _ P (λ is. subst (λ n. IfSome (reply_of bytes) (HasBody n bytes)) (sym (eqb-true t 2 is)) (reply_is bytes are)) (λ another.
-    cond_both (eqb (length bytes) 0) _ _ P (λ none. (third other another, sym (nil_from_length bytes (eqb-true _ _ none)), tt)) (λ _. tt)))
+    cond_both (eqb t 1) _ _ P (λ is. subst (λ n. IfSome (request_of bytes) (HasBody n bytes)) (sym (eqb-true t 1 is)) (request_is bytes are)) (λ a.
+    cond_both (eqb t 2) _ _ P (λ is. subst (λ n. IfSome (reply_of bytes) (HasBody n bytes)) (sym (eqb-true t 2 is)) (reply_is bytes are)) (λ b.
+    cond_both (eqb t 17) _ _ P (λ is. subst (λ n. IfSome (request_in_mode_of bytes) (HasBody n bytes)) (sym (eqb-true t 17 is)) (request_in_mode_is bytes are)) (λ c.
+    cond_both (eqb t 18) _ _ P (λ is. subst (λ n. IfSome (reply_in_mode_of bytes) (HasBody n bytes)) (sym (eqb-true t 18 is)) (reply_in_mode_is bytes are)) (λ d.
+    cond_both (eqb (length bytes) 0) _ _ P (λ none. (third a b c d known, sym (nil_from_length bytes (eqb-true _ _ none)), tt)) (λ _. tt)))))
   where
-    third : eqb t 1 ≡ false → eqb t 2 ≡ false → t ≡ 3
-    third other another = grind (arith, nat_tests)
+    third : eqb t 1 ≡ false → eqb t 2 ≡ false → eqb t 17 ≡ false → eqb t 18 ≡ false → (eqb t 1 || eqb t 2 || eqb t 3 || eqb t 17 || eqb t 18) ≡ true → t ≡ 3
+    third a b c d known = grind (arith, nat_tests)
 
 -- where a frame stands, its bytes do
 abbrev StandsFor : List ℕ → StreamStart → Type 0
@@ -146,7 +197,7 @@ StandsFor bytes Unfinished = Unit {0}
 StandsFor bytes (Whole f n) = (n ≤ length bytes) × (take n bytes ≡ spelling f) × IsValid f
 StandsFor bytes (Refused flaw) = Unit {0}
 
-body_stands : (t n : ℕ) (bytes : List ℕ) → AreBytes bytes → (eqb t 1 || eqb t 2 || eqb t 3) ≡ true → n ≡ from_be_bytes w32 (take 4 bytes) → 4 ≤ length bytes → StandsFor (t ∷ bytes) (look_body t n (drop 4 bytes))
+body_stands : (t n : ℕ) (bytes : List ℕ) → AreBytes bytes → is_tag t ≡ true → n ≡ from_be_bytes w32 (take 4 bytes) → 4 ≤ length bytes → StandsFor (t ∷ bytes) (look_body t n (drop 4 bytes))
 body_stands t n bytes are known is some =
     let P = StandsFor (t ∷ bytes) in
     cond_both (ltb 65536 n) _ _ P (λ _. tt) (λ _.
@@ -161,14 +212,14 @@ body_stands t n bytes are known is some =
         let five : 5 + n ≡ suc (4 + n) = omega arith in
         (omega (arith, length-drop 4 bytes), ap (λ k. take k (t ∷ bytes)) five ∙ ap (λ xs. t ∷ xs) (take-add 4 n bytes) ∙ (λ i. has.0 i ∷ (sym head i ++ sym has.1 i)), has.2)
 
-length_stands : (t : ℕ) (bytes : List ℕ) → AreBytes bytes → (eqb t 1 || eqb t 2 || eqb t 3) ≡ true → StandsFor (t ∷ bytes) (look_length t bytes)
+length_stands : (t : ℕ) (bytes : List ℕ) → AreBytes bytes → is_tag t ≡ true → StandsFor (t ∷ bytes) (look_length t bytes)
 length_stands t bytes are known =
     cond_both (ltb (length bytes) 4) _ _ (StandsFor (t ∷ bytes)) (λ _. tt) (λ some. body_stands t (from_be_bytes w32 (take 4 bytes)) bytes are known refl (ltb-false _ _ some))
 
 stands : (bytes : List ℕ) → AreBytes bytes → StandsFor bytes (look bytes)
 stands [] are = tt
 stands (t ∷ bytes) are =
-    cond_both (eqb t 1 || eqb t 2 || eqb t 3) _ _ (StandsFor (t ∷ bytes)) (λ known. length_stands t bytes (bytes_after 1 (t ∷ bytes) are) known) (λ _. tt)
+    cond_both (is_tag t) _ _ (StandsFor (t ∷ bytes)) (λ known. length_stands t bytes (bytes_after 1 (t ∷ bytes) are) known) (λ _. tt)
 
 pub read_spelled : (bytes : List ℕ) (f : Frame) (n : ℕ) → AreBytes bytes → look bytes ≡ Whole f n → (n ≤ length bytes) × (take n bytes ≡ spelling f) × IsValid f
 read_spelled bytes f n are is = subst (StandsFor bytes) is (stands bytes are)

@@ -1,10 +1,10 @@
 -- What stands at the start of a stream, and the frames that it begins with.
 use Rattle.std.specs.Prelude.{◌≡◌, ℕ, ◌+◌, ◌-◌, ◌≤◌, List, [], ◌∷◌, Option, None, Some, length, take, drop, ◌==◌}
-use Rattle.std.specs.Prelude.{◌||◌, nat_lt, if◌then◌else◌}
+use Rattle.std.specs.Prelude.{◌||◌, Bool, nat_lt, if◌then◌else◌}
 use Rattle.std.specs.Int.{w32, from_be_bytes}
 use Rattle.daemon_protocol.specs.Bodies.{frame_of}
 use Rattle.daemon_protocol.specs.declared.frames.Frame.{Frame}
-use Rattle.daemon_protocol.specs.declared.limits.TheConstants.{HEAD_BYTES, MAX_BODY_BYTES, REPLY_TAG, REQUEST_TAG, STOP_TAG}
+use Rattle.daemon_protocol.specs.declared.limits.TheConstants.{HEAD_BYTES, MAX_BODY_BYTES, REPLY_TAG, REQUEST_TAG, STOP_TAG, REPLY_IN_MODE_TAG, REQUEST_IN_MODE_TAG}
 use Rattle.daemon_protocol.specs.declared.starts.Head.{Head}
 use Rattle.daemon_protocol.specs.declared.starts.Head.TheVariants as heads
 use Rattle.daemon_protocol.specs.declared.starts.Flaw.TheVariants.{Tag, Length, Field}
@@ -25,8 +25,11 @@ look_body tag n bytes =
 abbrev pub look_length : ℕ → List ℕ → StreamStart
 look_length tag bytes = if nat_lt (length bytes) 4 then Unfinished else look_body tag (from_be_bytes w32 (take 4 bytes)) (drop 4 bytes)
 
+abbrev pub is_tag : ℕ → Bool
+is_tag b = b == REQUEST_TAG || b == REPLY_TAG || b == STOP_TAG || b == REQUEST_IN_MODE_TAG || b == REPLY_IN_MODE_TAG
+
 abbrev pub look_tag : ℕ → List ℕ → StreamStart
-look_tag tag bytes = if tag == REQUEST_TAG || tag == REPLY_TAG || tag == STOP_TAG then look_length tag bytes else Refused Tag
+look_tag tag bytes = if is_tag tag then look_length tag bytes else Refused Tag
 
 -- what stands at the start of the bytes: a whole frame and its length, a flaw, or not enough to tell
 abbrev pub look : List ℕ → StreamStart

@@ -1,12 +1,13 @@
-ghost use Rattle.std.specs.Prelude.{◌≡◌, ◌≤◌, ◌+◌, ◌==◌, length, IfOk, IfSome, None, Some, if◌then◌else◌};
+ghost use Rattle.std.specs.Prelude.{◌≡◌, ◌≤◌, ◌+◌, ◌==◌, length, IfOk, IfSome, None, Some, IsSome, if◌then◌else◌};
 ghost use Rattle.std.specs.Int.{w32, w64, from_be_bytes};
 ghost use Rattle.item_actions.specs.Forms.{is_file_name};
 ghost use Rattle.item_actions.specs.declared.outcomes.Outcome.TheVariants.{Number, Digest};
-ghost use Rattle.daemon_protocol.specs.Bodies.{frame_of, request_of, request_with, action_at, count_at, reply_of, outcome_of, cause_of, stop_of};
+ghost use Rattle.daemon_protocol.specs.Bodies.{frame_of, request_of, request_in_mode_of, request_from, request_with, mode_at, action_at, count_at};
+ghost use Rattle.daemon_protocol.specs.Bodies.{reply_of, reply_in_mode_of, reply_from, outcome_of, cause_of, stop_of};
 
 use crate::frames::{Frame, Reply, Request};
-use crate::limits::{DIGEST_BYTES, REPLY_TAG, REQUEST_TAG};
-use item_actions::{ItemAction, Needle, Outcome, Text, is_file_name};
+use crate::limits::{DIGEST_BYTES, REPLY_IN_MODE_TAG, REPLY_TAG, REQUEST_IN_MODE_TAG, REQUEST_TAG};
+use item_actions::{ItemAction, KeepAlive, Needle, Outcome, Text, is_file_name};
 use std::alloc::{AllocError, Global};
 use std::str;
 
@@ -17,11 +18,13 @@ pub(crate) fn frame_of(alloc: Global, tag: u8, body: &[u8]) -> Result<Option<Fra
     match tag {
         REQUEST_TAG => request_of(alloc, body),
         REPLY_TAG => Ok(reply_of(body)),
+        REQUEST_IN_MODE_TAG => request_in_mode_of(alloc, body),
+        REPLY_IN_MODE_TAG => Ok(reply_in_mode_of(body)),
         _ => Ok(stop_of(body)),
     }
 }
 
-/// The request whose body these bytes are.
+/// The request without a mode whose body these bytes are.
 #[inline(always)]
 pub(crate) fn request_of(alloc: Global, body: &[u8]) -> Result<Option<Frame>, AllocError>
     ensures { IfOk result (λ f. f ≡ request_of body.now) }
@@ -29,9 +32,49 @@ pub(crate) fn request_of(alloc: Global, body: &[u8]) -> Result<Option<Frame>, Al
     if body.len() < 4 {
         return Ok(None);
     }
+    request_from(alloc, number_of(&body[..4]), None, &body[4..])
+}
+
+/// The request in a mode whose body these bytes are.
+#[inline(always)]
+pub(crate) fn request_in_mode_of(alloc: Global, body: &[u8]) -> Result<Option<Frame>, AllocError>
+    ensures { IfOk result (λ f. f ≡ request_in_mode_of body.now) }
+{
+    if body.len() < 4 {
+        return Ok(None);
+    }
     let (unit, bytes) = (number_of(&body[..4]), &body[4..]);
+    match mode_at(bytes) {
+        Some(mode) => request_from(alloc, unit, Some(mode), &bytes[1..]),
+        None => Ok(None),
+    }
+}
+
+// The mode at the start of the bytes, which is one byte.
+#[inline(always)]
+fn mode_at(bytes: &[u8]) -> Option<KeepAlive>
+    ensures mode { result ≡ mode_at bytes.now }
+    ensures within { IsSome result → 1 ≤ length bytes.now }
+{
+    match bytes {
+        [1, ..] => Some(KeepAlive::Session),
+        [2, ..] => Some(KeepAlive::Daemon),
+        _ => None,
+    }
+}
+
+// The request of a unit in this mode, whose action and file stand in the bytes.
+#[inline(always)]
+fn request_from(
+    alloc: Global,
+    unit: u32,
+    keep: Option<KeepAlive>,
+    bytes: &[u8],
+) -> Result<Option<Frame>, AllocError>
+    ensures { IfOk result (λ f. f ≡ request_from unit keep bytes.now) }
+{
     match action_at(bytes) {
-        Some((action, len)) => request_with(alloc, unit, action, &bytes[len..]),
+        Some((action, len)) => request_with(alloc, unit, keep, action, &bytes[len..]),
         None => Ok(None),
     }
 }
@@ -41,10 +84,11 @@ pub(crate) fn request_of(alloc: Global, body: &[u8]) -> Result<Option<Frame>, Al
 fn request_with(
     alloc: Global,
     unit: u32,
+    keep: Option<KeepAlive>,
     action: ItemAction,
     bytes: &[u8],
 ) -> Result<Option<Frame>, AllocError>
-    ensures { IfOk result (λ f. f ≡ request_with unit action bytes.now) }
+    ensures { IfOk result (λ f. f ≡ request_with unit keep action bytes.now) }
 {
     if bytes.len() < 2 {
         return Ok(None);
@@ -54,7 +98,15 @@ fn request_with(
         return Ok(None);
     }
     match file_of(alloc, name)? {
-        Some(file) => Ok(Some(Frame::Request(Request { unit, action, file }))),
+        Some(file) => {
+            let request = Request {
+                unit,
+                action,
+                file,
+                keep,
+            };
+            Ok(Some(Frame::Request(request)))
+        }
         None => Ok(None),
     }
 }
@@ -108,7 +160,7 @@ fn count_at(bytes: &[u8]) -> Option<(ItemAction, usize)>
     }
 }
 
-/// The reply whose body these bytes are.
+/// The reply without a mode whose body these bytes are.
 #[inline(always)]
 pub(crate) fn reply_of(body: &[u8]) -> Option<Frame>
     ensures { result ≡ reply_of body.now }
@@ -116,11 +168,35 @@ pub(crate) fn reply_of(body: &[u8]) -> Option<Frame>
     if body.len() < 4 {
         return None;
     }
-    match outcome_of(&body[4..]) {
-        Some(outcome) => {
-            let unit = number_of(&body[..4]);
-            Some(Frame::Reply(Reply { unit, outcome }))
-        }
+    reply_from(number_of(&body[..4]), None, &body[4..])
+}
+
+/// The reply in a mode whose body these bytes are.
+#[inline(always)]
+pub(crate) fn reply_in_mode_of(body: &[u8]) -> Option<Frame>
+    ensures { result ≡ reply_in_mode_of body.now }
+{
+    if body.len() < 4 {
+        return None;
+    }
+    let (unit, bytes) = (number_of(&body[..4]), &body[4..]);
+    match mode_at(bytes) {
+        Some(mode) => reply_from(unit, Some(mode), &bytes[1..]),
+        None => None,
+    }
+}
+
+// The reply for a unit in this mode, whose outcome stands in the bytes.
+#[inline(always)]
+fn reply_from(unit: u32, keep: Option<KeepAlive>, bytes: &[u8]) -> Option<Frame>
+    ensures { result ≡ reply_from unit keep bytes.now }
+{
+    match outcome_of(bytes) {
+        Some(outcome) => Some(Frame::Reply(Reply {
+            unit,
+            outcome,
+            keep,
+        })),
         None => None,
     }
 }

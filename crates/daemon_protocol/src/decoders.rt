@@ -5,9 +5,9 @@ ghost use Rattle.daemon_protocol.specs.StreamStart.{look, Cuts};
 ghost use Rattle.daemon_protocol.specs.DecoderView.{Reads, nothing_read, refusal_at, start_with, after_frames, IsPushed, ReadsOn};
 ghost use Rattle.daemon_protocol.specs.Bodies.{frame_of};
 
-use crate::bodies::{reply_of, request_of, stop_of};
+use crate::bodies::{reply_in_mode_of, reply_of, request_in_mode_of, request_of, stop_of};
 use crate::frames::{Frame, FrameRefusal};
-use crate::limits::HEAD_BYTES;
+use crate::limits::{HEAD_BYTES, REPLY_IN_MODE_TAG, REPLY_TAG, REQUEST_IN_MODE_TAG, REQUEST_TAG};
 use crate::starts::{Flaw, Head, head_of};
 use std::alloc::{AllocError, Global};
 use std::marker::Model;
@@ -190,8 +190,10 @@ fn push_frame(
     ensures { IfOk result (λ is. IsPushed (frame_of tag body.now) frames.old.items frames.new.items is) }
 {
     match tag {
-        1 => push_some(frames, request_of(alloc, body)?),
-        2 => push_some(frames, reply_of(body)),
+        REQUEST_TAG => push_some(frames, request_of(alloc, body)?),
+        REPLY_TAG => push_some(frames, reply_of(body)),
+        REQUEST_IN_MODE_TAG => push_some(frames, request_in_mode_of(alloc, body)?),
+        REPLY_IN_MODE_TAG => push_some(frames, reply_in_mode_of(body)),
         _ => push_some(frames, stop_of(body)),
     }
 }

@@ -1,13 +1,15 @@
-ghost use Rattle.std.specs.Prelude.{◌≡◌, ◌≤◌, ◌++◌, ◌∷◌, length, IfOk, OnOk};
+ghost use Rattle.std.specs.Prelude.{◌≡◌, ◌≤◌, ◌++◌, ◌∷◌, [], length, IfOk, OnOk};
 ghost use Rattle.daemon_protocol.specs.declared.frames.Frame.TheVariants as frames;
-ghost use Rattle.daemon_protocol.specs.Spelling.{action_bytes, outcome_bytes, body, tag, spelling, IsValid, ActionFits, OutcomeFits, FrameFits};
+ghost use Rattle.std.specs.Int.{w32, to_be_bytes};
+ghost use Rattle.daemon_protocol.specs.Spelling.{mode_bytes, action_bytes, outcome_bytes, body, request_tag, reply_tag, tag, spelling};
+ghost use Rattle.daemon_protocol.specs.Spelling.{IsValid, ActionFits, OutcomeFits, FrameFits};
 
 use crate::frames::{Frame, Reply, Request};
 use crate::limits::{
-    HEAD_BYTES, MAX_ACTION_BYTES, MAX_OUTCOME_BYTES, MAX_SENT_BODY_BYTES, REPLY_TAG, REQUEST_TAG,
-    STOP_TAG,
+    HEAD_BYTES, MAX_ACTION_BYTES, MAX_OUTCOME_BYTES, MAX_SENT_BODY_BYTES, REPLY_IN_MODE_TAG,
+    REPLY_TAG, REQUEST_IN_MODE_TAG, REQUEST_TAG, STOP_TAG,
 };
-use item_actions::{ItemAction, MAX_NEEDLE_BYTES, Outcome};
+use item_actions::{ItemAction, KeepAlive, MAX_NEEDLE_BYTES, Outcome};
 use std::alloc::{AllocError, Global};
 
 /// The bytes of a frame, whose fields then fit them. A request's file has the form of a file's name, and a reply's outcome isn't Skipped.
@@ -47,8 +49,14 @@ fn tag_of(frame: &Frame) -> u8
     ensures { result ≡ tag frame.now }
 {
     match frame {
-        Frame::Request(_) => REQUEST_TAG,
-        Frame::Reply(_) => REPLY_TAG,
+        Frame::Request(request) => match request.keep {
+            None => REQUEST_TAG,
+            Some(_) => REQUEST_IN_MODE_TAG,
+        },
+        Frame::Reply(reply) => match reply.keep {
+            None => REPLY_TAG,
+            Some(_) => REPLY_IN_MODE_TAG,
+        },
         Frame::Stop => STOP_TAG,
     }
 }
@@ -60,9 +68,22 @@ fn body_len(frame: &Frame) -> usize
     ensures few { result ≤ MAX_SENT_BODY_BYTES }
 {
     match frame {
-        Frame::Request(request) => 6 + action_len(&request.action) + request.file.bytes().len(),
-        Frame::Reply(reply) => 4 + outcome_len(reply.outcome),
+        Frame::Request(request) => {
+            6 + mode_len(request.keep) + action_len(&request.action) + request.file.bytes().len()
+        }
+        Frame::Reply(reply) => 4 + mode_len(reply.keep) + outcome_len(reply.outcome),
         Frame::Stop => 0,
+    }
+}
+
+// How many bytes a mode has.
+fn mode_len(keep: Option<KeepAlive>) -> usize
+    ensures len { result ≡ length (mode_bytes keep) }
+    ensures few { result ≤ 1 }
+{
+    match keep {
+        None => 0,
+        Some(_) => 1,
     }
 }
 
@@ -110,7 +131,7 @@ fn push_request(bytes: &mut Vec<u8>, request: &Request) -> Result<(), AllocError
     ensures fits { OnOk result (FrameFits (frames.Request request.now)) }
 {
     let file = request.file.bytes();
-    bytes.extend_from_slice(&request.unit.to_be_bytes())?;
+    push_unit(bytes, request.unit, request.keep)?;
     push_action(bytes, &request.action)?;
     bytes.extend_from_slice(&(file.len() as u16).to_be_bytes())?;
     bytes.extend_from_slice(file)
@@ -121,8 +142,20 @@ fn push_reply(bytes: &mut Vec<u8>, reply: &Reply) -> Result<(), AllocError>
     ensures bytes { OnOk result (bytes.new.items ≡ bytes.old.items ++ body (frames.Reply reply.now)) }
     ensures fits { OnOk result (FrameFits (frames.Reply reply.now)) }
 {
-    bytes.extend_from_slice(&reply.unit.to_be_bytes())?;
+    push_unit(bytes, reply.unit, reply.keep)?;
     push_outcome(bytes, &reply.outcome)
+}
+
+// Adds a unit, and the mode behind it, where there is one.
+fn push_unit(bytes: &mut Vec<u8>, unit: u32, keep: Option<KeepAlive>) -> Result<(), AllocError>
+    ensures { OnOk result (bytes.new.items ≡ bytes.old.items ++ (to_be_bytes w32 unit ++ mode_bytes keep)) }
+{
+    let [a, b, c, d] = unit.to_be_bytes();
+    match keep {
+        None => bytes.extend_from_slice(&[a, b, c, d]),
+        Some(KeepAlive::Session) => bytes.extend_from_slice(&[a, b, c, d, 1]),
+        Some(KeepAlive::Daemon) => bytes.extend_from_slice(&[a, b, c, d, 2]),
+    }
 }
 
 // Adds the bytes of an action.

@@ -1,7 +1,7 @@
 //! Frames, and why bytes are none.
 ghost use Rattle.std.specs.Prelude.{◌≡◌, IfOk};
 
-use item_actions::{ItemAction, Outcome, Text};
+use item_actions::{ItemAction, KeepAlive, Outcome, Text};
 use std::alloc::{AllocError, Global};
 use thiserror::Error;
 
@@ -12,6 +12,8 @@ pub struct Request {
     pub action: ItemAction,
     /// The name of a file, of the form that `item_actions::is_file_name` tests.
     pub file: Text,
+    /// The keep-alive mode that is asked for. Without one the frame is of version 1, and with one of version 2.
+    pub keep: Option<KeepAlive>,
 }
 
 impl Request {
@@ -23,6 +25,7 @@ impl Request {
             unit: self.unit,
             action: self.action,
             file: self.file.copy(alloc)?,
+            keep: self.keep,
         })
     }
 }
@@ -33,6 +36,8 @@ pub struct Reply {
     pub unit: u32,
     /// It isn't `Skipped`, which has no bytes.
     pub outcome: Outcome,
+    /// That of its request.
+    pub keep: Option<KeepAlive>,
 }
 
 /// What is sent over a link.

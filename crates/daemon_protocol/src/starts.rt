@@ -1,13 +1,16 @@
 //! What stands at the start of bytes.
 ghost use Rattle.std.specs.Prelude.{◌≡◌, ◌<◌, ◌≤◌, ◌+◌, ◌^◌, ◌++◌, ℕ, List, length, IfOk};
-ghost use Rattle.daemon_protocol.specs.StreamStart.{look, lacking, look_tag, look_length, look_body, look_field, start_of, FitsBehind};
+ghost use Rattle.daemon_protocol.specs.StreamStart.{look, lacking, is_tag, look_tag, look_length, look_body, look_field, start_of, FitsBehind};
 ghost use Rattle.daemon_protocol.specs.declared.frames.Frame.{Frame};
 ghost use Rattle.daemon_protocol.specs.declared.limits.TheConstants.{MAX_FRAME_BYTES};
 ghost use Rattle.daemon_protocol.specs.declared.starts.StreamStart.TheVariants.{Unfinished, Whole};
 
 use crate::bodies::{frame_of, number_of};
 use crate::frames::Frame;
-use crate::limits::{HEAD_BYTES, MAX_BODY_BYTES, REPLY_TAG, REQUEST_TAG, STOP_TAG};
+use crate::limits::{
+    HEAD_BYTES, MAX_BODY_BYTES, REPLY_IN_MODE_TAG, REPLY_TAG, REQUEST_IN_MODE_TAG, REQUEST_TAG,
+    STOP_TAG,
+};
 use std::alloc::{AllocError, Global};
 
 /// What is wrong with bytes that begin no frame.
@@ -74,11 +77,23 @@ fn head_of_tag(tag: u8, bytes: &[u8]) -> Head<'_>
     ensures start { start_of result ≡ look_tag tag bytes.now }
     ensures fits { FitsBehind 4 result (length bytes.now) }
 {
-    if tag == REQUEST_TAG || tag == REPLY_TAG || tag == STOP_TAG {
+    if is_tag(tag) {
         head_of_length(tag, bytes)
     } else {
         Head::Refused(Flaw::Tag)
     }
+}
+
+// Whether a frame begins with this byte.
+#[inline(always)]
+fn is_tag(byte: u8) -> bool
+    ensures { result ≡ is_tag byte }
+{
+    byte == REQUEST_TAG
+        || byte == REPLY_TAG
+        || byte == STOP_TAG
+        || byte == REQUEST_IN_MODE_TAG
+        || byte == REPLY_IN_MODE_TAG
 }
 
 // The head of a frame with a right tag, by the bytes behind it, which begin with the body's length.

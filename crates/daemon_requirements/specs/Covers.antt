@@ -13,3 +13,4 @@ pub record Covers (daemon asked : RequirementsView) : Type 0 where
   pub debug : daemon.debug ≡ asked.debug
   pub assertions : daemon.assertions ≡ asked.assertions
   pub encoding : daemon.encoding ≡ asked.encoding
+  pub keep : daemon.keep ≡ asked.keep

@@ -1,4 +1,5 @@
 pub mod Covers
+pub mod HeldFieldsView
 pub mod RequirementsView
 pub mod Refusals
 pub mod Rules

@@ -1,5 +1,6 @@
 -- Requirements, without where their lists lie in memory.
 use Rattle.std.specs.Prelude.{◌≢◌, ◌≤◌, ℕ, Bool, List, AllPairs}
+use Rattle.item_actions.specs.declared.keep_alive.KeepAlive.{KeepAlive}
 use Rattle.daemon_requirements.specs.declared.fields.Pair.{Pair}
 use Rattle.daemon_requirements.specs.declared.fields.RequirementFields.{RequirementFields}
 use Rattle.daemon_requirements.specs.declared.requirement.TheConstants.{MAX_HEAP_MB}
@@ -13,6 +14,7 @@ pub record RequirementsView : Type 0 where
   pub debug : Bool
   pub assertions : Bool
   pub encoding : List ℕ
+  pub keep : KeepAlive
 
 abbrev pub requirements_view : RequirementFields → RequirementsView
 requirements_view f = record {
@@ -24,6 +26,7 @@ requirements_view f = record {
   debug = f.debug;
   assertions = f.assertions;
   encoding = f.encoding;
+  keep = f.keep;
 }
 
 -- a heap of some MB, and of no more than the most

@@ -4,6 +4,7 @@ use Rattle.std.specs.Str.{bytes_eq}
 use Rattle.daemon_requirements.specs.declared.rules.FieldRule.{FieldRule}
 use Rattle.daemon_requirements.specs.declared.rules.FieldRule.TheVariants.{Equal, AtLeast, Superset, SameValues}
 use Rattle.daemon_requirements.specs.declared.fields.Pair.{Pair}
+use Rattle.item_actions.specs.declared.keep_alive.KeepAlive.{KeepAlive}
 
 abbrev pub TextRule : FieldRule → List ℕ → List ℕ → Type 0
 TextRule Equal daemon asked = daemon ≡ asked
@@ -17,6 +18,10 @@ NumberRule _ daemon asked = ⊥
 abbrev pub SwitchRule : FieldRule → Bool → Bool → Type 0
 SwitchRule Equal daemon asked = daemon ≡ asked
 SwitchRule _ daemon asked = ⊥
+
+abbrev pub KeepRule : FieldRule → KeepAlive → KeepAlive → Type 0
+KeepRule Equal has asked = has ≡ asked
+KeepRule _ has asked = ⊥
 
 abbrev pub ArgumentRule : FieldRule → List (List ℕ) → List (List ℕ) → Type 0
 ArgumentRule Superset daemon asked = All (Contains daemon) asked

@@ -21,6 +21,7 @@ pub(crate) fn copy_fields(
         debug: fields.debug,
         assertions: fields.assertions,
         encoding: fields.encoding.copy(alloc)?,
+        keep: fields.keep,
     })
 }
 

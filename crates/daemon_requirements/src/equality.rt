@@ -18,6 +18,7 @@ pub(crate) fn are_same_fields(a: &RequirementFields, b: &RequirementFields) -> b
         && a.debug == b.debug
         && a.assertions == b.assertions
         && is_same_text(&a.encoding, &b.encoding)
+        && a.keep == b.keep
 }
 
 // Whether both lists have the same texts in the same order.

@@ -1,5 +1,5 @@
 //! The fields of requirements, before they are tested.
-use item_actions::Text;
+use item_actions::{KeepAlive, Text};
 
 /// A system property or an environment variable.
 #[derive(Drop)]
@@ -27,4 +27,6 @@ pub struct RequirementFields {
     pub assertions: bool,
     /// The name of the default encoding of characters.
     pub encoding: Text,
+    /// How long the daemon is kept. It is told in each request.
+    pub keep: KeepAlive,
 }

@@ -4,6 +4,7 @@
 mod copies;
 mod equality;
 mod fields;
+mod held_fields;
 mod links;
 mod names;
 mod requirement;

@@ -5,9 +5,9 @@ ghost use Rattle.daemon_requirements.specs.RequirementsView.{requirements_view, 
 ghost use Rattle.daemon_requirements.specs.Covers.{Covers};
 ghost use Rattle.daemon_requirements.specs.Refusals.{IsCauseOf};
 
-use crate::copies::copy_fields;
 use crate::equality::are_same_fields;
 use crate::fields::RequirementFields;
+use crate::held_fields::HeldFields;
 use crate::names::first_twice;
 use crate::rules::{Field, REQUIREMENT_TABLE};
 use std::alloc::{AllocError, Global};
@@ -42,7 +42,7 @@ pub enum RequirementRefusal {
 /// properties and variables of distinct names.
 #[derive(Drop)]
 pub struct Requirements {
-    fields: RequirementFields,
+    fields: HeldFields,
 }
 
 impl Model for Requirements {
@@ -65,7 +65,9 @@ impl Requirements {
     {
         match refusal_of(&fields) {
             Some(refusal) => Err(refusal),
-            None => Ok(Requirements { fields }),
+            None => Ok(Requirements {
+                fields: HeldFields::of(fields),
+            }),
         }
     }
 
@@ -74,8 +76,8 @@ impl Requirements {
     pub fn covers(&self, asked: &Requirements) -> bool
         ensures { IsTrue result ↔ Covers self.now asked.now }
     {
-        let daemon = &self.fields;
-        let asked = &asked.fields;
+        let daemon = self.fields.get();
+        let asked = asked.fields.get();
         // Each field by the rule at its position in the table.
         macro_rules! compare_each {
             ($($field:ident),*) => {
@@ -86,7 +88,7 @@ impl Requirements {
             };
         }
         compare_each!(
-            executable, heap_mb, args, properties, variables, debug, assertions, encoding
+            executable, heap_mb, args, properties, variables, debug, assertions, encoding, keep
         );
         true
     }
@@ -95,7 +97,7 @@ impl Requirements {
     pub fn equals(&self, other: &Requirements) -> bool
         ensures { IsTrue result ↔ (self.now ≡ other.now) }
     {
-        are_same_fields(&self.fields, &other.fields)
+        are_same_fields(self.fields.get(), other.fields.get())
     }
 
     /// The fields.
@@ -103,14 +105,24 @@ impl Requirements {
         ensures value { requirements_view result.now ≡ self.now }
         ensures requirements { IsRequirements self.now }
     {
-        &self.fields
+        self.fields.get()
     }
 
-    /// Equal requirements. The error is want of memory alone.
+    /// Equal requirements. Those that were shared take no memory: the copy shares their texts too. The error is want of memory
+    /// alone.
     pub fn copy(&self, alloc: Global) -> Result<Requirements, AllocError>
         ensures { IfOk result (λ copy. copy ≡ self.now) }
     {
-        let fields = copy_fields(alloc, &self.fields)?;
+        let fields = self.fields.copy(alloc)?;
+        Ok(Requirements { fields })
+    }
+
+    /// The same requirements, in one place for them and all copies that are made of them, also in other threads. The error is want
+    /// of memory alone, and the requirements are then dropped.
+    pub fn share(self, alloc: Global) -> Result<Requirements, AllocError>
+        ensures { IfOk result (λ shared. shared ≡ self) }
+    {
+        let fields = self.fields.share(alloc)?;
         Ok(Requirements { fields })
     }
 }

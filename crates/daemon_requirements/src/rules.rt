@@ -3,11 +3,11 @@ ghost use Rattle.std.specs.Prelude.{◌≡◌, ◌↔◌, IsTrue};
 ghost use Rattle.std.specs.List.{list_any, list_all};
 ghost use Rattle.std.specs.Str.{bytes_eq};
 ghost use Rattle.daemon_requirements.specs.declared.rules.FieldRule.{FieldRule};
-ghost use Rattle.daemon_requirements.specs.Rules.{TextRule, NumberRule, SwitchRule, ArgumentRule, PairRule, is_same_pair};
+ghost use Rattle.daemon_requirements.specs.Rules.{TextRule, NumberRule, SwitchRule, ArgumentRule, PairRule, KeepRule, is_same_pair};
 
 use crate::equality::{is_same_pair, is_same_text};
 use crate::fields::Pair;
-use item_actions::Text;
+use item_actions::{KeepAlive, Text};
 
 /// When a daemon's field serves for the field that is asked for.
 #[derive(Clone, Copy)]
@@ -29,13 +29,14 @@ pub struct FieldTable<const N: usize> {
 }
 
 /// The rules of the fields of `RequirementFields`, in the order in which these are declared.
-pub const REQUIREMENT_TABLE: FieldTable<8> = FieldTable {
+pub const REQUIREMENT_TABLE: FieldTable<9> = FieldTable {
     rules: [
         FieldRule::Equal,
         FieldRule::AtLeast,
         FieldRule::Superset,
         FieldRule::SameValues,
         FieldRule::SameValues,
+        FieldRule::Equal,
         FieldRule::Equal,
         FieldRule::Equal,
         FieldRule::Equal,
@@ -49,7 +50,7 @@ macro_rules! has_rules {
     };
 }
 
-const _: () = prove!(REQUIREMENT_TABLE.rules.len() == 8);
+const _: () = prove!(REQUIREMENT_TABLE.rules.len() == 9);
 
 const _: () = prove!(has_rules!(
     0 Equal,
@@ -59,7 +60,8 @@ const _: () = prove!(has_rules!(
     4 SameValues,
     5 Equal,
     6 Equal,
-    7 Equal
+    7 Equal,
+    8 Equal
 ));
 
 /// A kind of field. A rule that isn't for this kind is met by no values.
@@ -100,6 +102,17 @@ impl Field for bool {
     fn serves(&self, rule: FieldRule, asked: &bool) -> bool {
         match rule {
             FieldRule::Equal => self == asked,
+            _ => false,
+        }
+    }
+}
+
+impl Field for KeepAlive {
+    ghost meets = { KeepRule };
+
+    fn serves(&self, rule: FieldRule, asked: &KeepAlive) -> bool {
+        match rule {
+            FieldRule::Equal => *self == *asked,
             _ => false,
         }
     }

@@ -19,7 +19,7 @@ abbrev pub asked : Answer → Frame
 asked a = frames.Request a.request
 
 abbrev pub reply : Answer → Frame
-reply a = frames.Reply record { unit = a.request.unit; outcome = a.outcome }
+reply a = frames.Reply record { unit = a.request.unit; outcome = a.outcome; keep = a.request.keep }
 
 -- the bytes of the replies, one after the other
 abbrev pub replies : List Answer → List ℕ

@@ -7,7 +7,7 @@ use daemon_protocol::{Frame, Reply, Request, encode};
 use file_access::{Files, Sink, put_all, work_out};
 use std::alloc::Global;
 
-/// Answers a request with a reply on the sink.
+/// Answers a request with a reply on the sink, of the request's unit and keep-alive mode.
 #[tactic(auto, using(file_access::proofs::lemmas::Counting::outcome_kept))]
 pub(crate) fn answer<K: Sink, F: Files>(
     alloc: Global,
@@ -21,7 +21,16 @@ pub(crate) fn answer<K: Sink, F: Files>(
 {
     let outcome = work_out(alloc, &request.action, &request.file, files);
     let unit = request.unit;
-    put_frame(alloc, &Frame::Reply(Reply { unit, outcome }), sink)
+    let keep = request.keep;
+    put_frame(
+        alloc,
+        &Frame::Reply(Reply {
+            unit,
+            outcome,
+            keep,
+        }),
+        sink,
+    )
 }
 
 // Writes a frame on the sink.

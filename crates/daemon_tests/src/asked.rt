@@ -1,6 +1,6 @@
 //! Requirements that the tests ask for.
 use daemon_requirements::{Pair, RequirementFields, Requirements};
-use item_actions::Text;
+use item_actions::{KeepAlive, Text};
 use std::alloc::{AllocError, Global};
 
 /// Names and their values.
@@ -15,6 +15,7 @@ pub(crate) struct Asked {
     pub(crate) properties: Pairs,
     pub(crate) variables: Pairs,
     pub(crate) encoding: &'static str,
+    pub(crate) keep: KeepAlive,
 }
 
 /// The program `self` with 512 MB and no lists.
@@ -25,6 +26,7 @@ pub(crate) const PLAIN: Asked = Asked {
     properties: &[],
     variables: &[],
     encoding: "UTF-8",
+    keep: KeepAlive::Session,
 };
 
 fn texts(alloc: Global, words: &[&str]) -> Result<Vec<Text>, AllocError> {
@@ -61,6 +63,7 @@ pub(crate) fn fields(alloc: Global, asked: &Asked) -> Result<RequirementFields, 
         debug: false,
         assertions: false,
         encoding,
+        keep: asked.keep,
     })
 }
 

@@ -10,8 +10,7 @@ use coordination::{Coordination, Halt, Opened, Pass, openings_are_at_rest};
 use daemon_desk::Desk;
 use daemon_manager::Tally;
 use daemon_requirements::Work;
-use item_actions::Outcome;
-use item_work::{PoolLock, run_item};
+use item_work::{PoolLock, Ran, run_item};
 use lease_service::current_lease;
 use lock_journal::Book;
 use lock_transforms::kinds::{Claim, Close, Start, Submit};
@@ -149,7 +148,7 @@ pub(crate) fn claim<R: Wait + Abort>(
     Ok(())
 }
 
-/// Runs an item that the pass has claimed.
+/// Runs an item that the pass has claimed. What it leaves to stop is stopped once the item is closed.
 pub(crate) fn run_claimed<R: Wait, D: Desk, U: Ledger, F: Ledger>(
     rt: &R,
     alloc: Global,
@@ -159,11 +158,11 @@ pub(crate) fn run_claimed<R: Wait, D: Desk, U: Ledger, F: Ledger>(
     mine: &mut Tally<U, F>,
     unit: u32,
     work: &Work,
-) -> Outcome
+) -> Ran<D::Link>
     requires lease { lease_shown pass.now.sight ≡ true }
     requires claimed { Contains (claimed_shown pass.now.sight) (ids.Unit unit) }
     requires form { IsNamedFor work.now.isolation work.now.file }
-    ensures counted { TalliesFor work.now.isolation mine.old mine.new (D.sends desk.old) (D.sends desk.new) result }
+    ensures counted { TalliesFor work.now.isolation mine.old mine.new (D.sends desk.old) (D.sends desk.new) result.outcome }
 {
     let Some(lease) = current_lease(pass) else {
         unreachable!()

@@ -10,22 +10,28 @@ use crate::lines::{add_failed, add_outcome};
 use daemon_desk::Desk;
 use daemon_protocol::Request;
 use file_access::DeskFail;
-use item_actions::{ItemAction, Text, is_file_name};
+use item_actions::{ItemAction, KeepAlive, Text, is_file_name};
 use std::alloc::{AllocError, Global};
 use std::process::Abort;
 
-// The request of a unit for an action on a.txt.
+// The request of a unit for an action on a.txt, in this mode.
 fn request(
     rt: &impl Abort,
     alloc: Global,
     unit: u32,
     action: ItemAction,
+    keep: Option<KeepAlive>,
 ) -> Result<Request, AllocError>
     ensures { IfOk result (λ request. is_file_name request.file ≡ true) }
 {
     let file = Text::from_str(alloc, "a.txt")?;
     assert!(rt; is_file_name(file.bytes()));
-    Ok(Request { unit, action, file })
+    Ok(Request {
+        unit,
+        action,
+        file,
+        keep,
+    })
 }
 
 // Sends a request over the link, and receives its reply.
@@ -55,9 +61,10 @@ fn ask_unit<D: Desk>(
     link: &mut D::Link,
     unit: u32,
     action: ItemAction,
+    keep: Option<KeepAlive>,
     line: &mut String,
 ) -> Result<(), AllocError> {
-    let request = request(rt, alloc, unit, action)?;
+    let request = request(rt, alloc, unit, action, keep)?;
     ask(alloc, desk, link, &request, line)
 }
 
@@ -67,10 +74,11 @@ fn ask_both<D: Desk>(
     alloc: Global,
     desk: &mut D,
     link: &mut D::Link,
+    keep: Option<KeepAlive>,
     line: &mut String,
 ) -> Result<(), AllocError> {
-    ask_unit(rt, alloc, desk, link, 0, ItemAction::Lines, line)?;
-    ask_unit(rt, alloc, desk, link, 1, ItemAction::Bytes, line)
+    ask_unit(rt, alloc, desk, link, 0, ItemAction::Lines, keep, line)?;
+    ask_unit(rt, alloc, desk, link, 1, ItemAction::Bytes, keep, line)
 }
 
 // Starts a daemon for what is asked.
@@ -79,17 +87,18 @@ fn start<D: Desk>(alloc: Global, desk: &mut D, asked: &Asked) -> Result<D::Link,
     desk.start(alloc, &asked)
 }
 
-// Starts a daemon, asks it for the lines and then for the bytes of a.txt, and stops it.
+// Starts a daemon, asks it for the lines and then for the bytes of a.txt, in this mode, and stops it.
 fn ask_twice<D: Desk>(
     rt: &impl Abort,
     alloc: Global,
     desk: &mut D,
     asked: &Asked,
+    keep: Option<KeepAlive>,
     line: &mut String,
 ) -> Result<(), AllocError> {
     match start(alloc, desk, asked) {
         Ok(mut link) => {
-            let answers = ask_both(rt, alloc, desk, &mut link, line);
+            let answers = ask_both(rt, alloc, desk, &mut link, keep, line);
             desk.stop(link);
             answers
         }

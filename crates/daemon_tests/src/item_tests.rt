@@ -12,7 +12,7 @@ use daemon_desk::Desk;
 use daemon_manager::{CountedPool, Event, Pool, Tallies, Tally};
 use daemon_requirements::{Isolation, Work};
 use item_actions::{ItemAction, Text, is_file_name};
-use item_work::PoolLock;
+use item_work::{PoolLock, Ran};
 use lock_transforms::Closed;
 use std::alloc::{AllocError, Global};
 use std::marker::Brand;
@@ -61,8 +61,10 @@ fn add_worked<R: Wait + Abort, D: Desk, U: Ledger, F: Ledger>(
 {
     let work = work(rt, alloc, unit, heap_mb)?;
     claim(rt, service, pass, unit)?;
-    let outcome = run_claimed(rt, alloc, pass, desk, pool, mine, unit, &work);
-    close_item(rt, service, pass, Closed { unit, outcome })?;
+    let Ran { outcome, spare } = run_claimed(rt, alloc, pass, desk, pool, mine, unit, &work);
+    let closed = close_item(rt, service, pass, Closed { unit, outcome });
+    stop_spare(desk, spare);
+    closed?;
     add_outcome(outcome, line)
 }
 
@@ -108,6 +110,15 @@ fn add_items<R: Wait + Abort, D: Desk, U: Ledger, F: Ledger>(
     add_each(
         rt, alloc, desk, pool, mine, &service, &mut first, heaps, line,
     )
+}
+
+/// Stops a daemon that is one too many, if there is one.
+pub(crate) fn stop_spare<D: Desk>(desk: &mut D, spare: Option<D::Link>)
+    ensures { D.sends desk.new ≡ D.sends desk.old }
+{
+    if let Some(link) = spare {
+        desk.stop(link);
+    }
 }
 
 /// Stops the idle daemons.
@@ -236,30 +247,35 @@ static LIES: [Row; 7] = [
     (&[], Some(b""), TWO, FIRST_FAILED),
     (
         &[],
-        Some(b"\x02\0\0\0\x0d\0\0\0\0\x01\0\0\0\0"),
+        Some(b"\x12\0\0\0\x0e\0\0\0\0\x01\x01\0\0\0\0"),
         TWO,
         FIRST_FAILED,
     ),
     (
         &[],
-        Some(b"\x02\0\0\0\x0c\0\0\0\0\x01\0\0\0\0\0\0\0"),
+        Some(b"\x12\0\0\0\x0d\0\0\0\0\x01\x01\0\0\0\0\0\0\0"),
         TWO,
         FIRST_FAILED,
     ),
     (
         &[],
-        Some(b"\x01\0\0\0\x0c\0\0\0\0\x01\0\x05a.txt"),
+        Some(b"\x11\0\0\0\x0d\0\0\0\0\x01\x01\0\x05a.txt"),
         TWO,
         FIRST_FAILED,
     ),
     (&[], Some(b"\x03\0\0\0\0"), TWO, FIRST_FAILED),
     (
         &[],
-        Some(b"\x02\0\0\0\x0d\0\0\0\x01\x01\0\0\0\0\0\0\0\x03"),
+        Some(b"\x12\0\0\0\x0e\0\0\0\x01\x01\x01\0\0\0\0\0\0\0\x03"),
         TWO,
         FIRST_FAILED,
     ),
-    (&[], Some(b"\x02\0\0\0\x05\0\0\0\0\x05"), TWO, FIRST_FAILED),
+    (
+        &[],
+        Some(b"\x12\0\0\0\x06\0\0\0\0\x01\x05"),
+        TWO,
+        FIRST_FAILED,
+    ),
 ];
 
 #[test]
@@ -269,7 +285,7 @@ fn an_answer_that_is_no_reply_is_a_fault(rt: HostRuntime) -> Result<(), AllocErr
 
 static WITHOUT_MEMORY: Row = (
     &[],
-    Some(b"\x02\0\0\0\x05\0\0\0\0\x06"),
+    Some(b"\x12\0\0\0\x06\0\0\0\0\x01\x06"),
     TWO,
     "no memory. 14. started 0. reserved 0 for 0. released 0. reserved 0 for 1. released 0. stopped 0. 0 failed",
 );

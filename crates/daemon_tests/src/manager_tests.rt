@@ -1,11 +1,12 @@
 //! Tests of `daemon_manager`: callers of the pool, whose links are the requirements that they are made for.
 ghost use Rattle.std.specs.Prelude.{◌≡◌, [], IfOk, true};
 
-use crate::asked::requirements_of;
+use crate::asked::{Asked, PLAIN, requirements, requirements_of};
 use crate::lines::{add_events, check};
 use crate::requirement_tests::{Link, heap_of};
 use daemon_manager::{DaemonState, Event, Pool, Reserved};
 use daemon_requirements::{Linked, Requirements};
+use item_actions::KeepAlive;
 use std::alloc::{AllocError, Global};
 use std::process::Abort;
 
@@ -103,6 +104,35 @@ const SMALLER_LAST: &str =
 fn a_daemon_is_used_again_where_it_covers(rt: HostRuntime) -> Result<(), AllocError> {
     check_two(&rt, rt.alloc(), [512, 1024], GREATER_LAST)?;
     check_two(&rt, rt.alloc(), [1024, 512], SMALLER_LAST)
+}
+
+// Whether an idle daemon serves for this mode.
+fn is_reserved(alloc: Global, pool: &mut Pool<Link>, keep: KeepAlive) -> Result<bool, AllocError> {
+    let asked = requirements(alloc, &Asked { keep, ..PLAIN })?;
+    match pool.reserve_idle(1, &asked)? {
+        Some(reserved) => {
+            let _ = pool.release(reserved);
+            Ok(true)
+        }
+        None => Ok(false),
+    }
+}
+
+// Whether a daemon that is kept for a session serves for each of the modes.
+fn serves(alloc: Global, pool: &mut Pool<Link>) -> Result<(bool, bool), AllocError> {
+    work(alloc, pool, 0, 512)?;
+    let session = is_reserved(alloc, pool, KeepAlive::Session)?;
+    let daemon = is_reserved(alloc, pool, KeepAlive::Daemon)?;
+    Ok((session, daemon))
+}
+
+#[test]
+fn an_idle_daemon_serves_in_its_own_mode(rt: HostRuntime) -> Result<(), AllocError> {
+    let mut pool = Pool::new(rt.alloc())?;
+    let served = serves(rt.alloc(), &mut pool);
+    let _ = close(pool);
+    assert!(rt; served? == (true, false));
+    Ok(())
 }
 
 // Whether a reserved daemon tells its number, its unit and its link.

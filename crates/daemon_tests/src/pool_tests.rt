@@ -5,14 +5,14 @@ ghost use Rattle.item_work.specs.Tallying.{TallyRises, one_if_unreal};
 ghost use Rattle.daemon_tests.specs.Asking.{CanRun};
 
 use crate::claimed_items::{Queued, claim, queue_items, run_claimed};
-use crate::item_tests::{stop_idle, work};
+use crate::item_tests::{stop_idle, stop_spare, work};
 use crate::memory_desks::desk;
 use coordination::Pass;
 use daemon_desk::{Desk, MemoryDesk};
 use daemon_manager::{CountedPool, Event, Pool, Tallies, Tally};
 use daemon_requirements::Work;
 use item_actions::Outcome;
-use item_work::PoolLock;
+use item_work::{PoolLock, Ran};
 use std::alloc::{AllocError, Global};
 use std::marker::Brand;
 use std::process::Abort;
@@ -52,7 +52,10 @@ fn work_as<R: Wait, D: Desk, U: Ledger, F: Ledger>(
 {
     let mut desk = desk;
     let mut mine = mine;
-    let outcome = run_claimed(rt, alloc, &pass, &mut desk, pool, &mut mine, unit, work);
+    let Ran { outcome, spare } = run_claimed(
+        rt, alloc, &pass, &mut desk, pool, &mut mine, unit, work,
+    );
+    stop_spare(&mut desk, spare);
     Worked {
         desk,
         mine,

@@ -13,9 +13,14 @@ use std::process::Abort;
 // Far more bytes than any stream here has.
 const MANY: u64 = 1 << 40;
 
-// A request, a reply and a stop, of 17, 18 and 5 bytes.
+// A request and a reply of version 1, and of version 2 in both modes, and a Stop.
 const STREAM: &[u8] =
-    b"\x01\0\0\0\x0c\0\0\0\x07\x01\0\x05a.txt\x02\0\0\0\x0d\0\0\0\x07\x01\0\0\0\0\0\0\0\x03\x03\0\0\0\0";
+    b"\x01\0\0\0\x0c\0\0\0\x07\x01\0\x05a.txt\x02\0\0\0\x0d\0\0\0\x07\x01\0\0\0\0\0\0\0\x03\
+\x11\0\0\0\x0d\0\0\0\x07\x01\x01\0\x05a.txt\x12\0\0\0\x0e\0\0\0\x07\x01\x01\0\0\0\0\0\0\0\x03\
+\x11\0\0\0\x0f\0\0\0\x07\x02\x05\x01o\0\x05a.txt\x12\0\0\0\x06\0\0\0\x07\x02\x03\x03\0\0\0\0";
+
+// Where each frame of the stream ends.
+const ENDS: [usize; 7] = [17, 35, 53, 72, 92, 103, 108];
 
 const STOP: &[u8] = b"\x03\0\0\0\0";
 
@@ -108,21 +113,65 @@ fn a_stream_in_pieces_of_each_size(rt: HostRuntime) -> Result<(), AllocError> {
     read_frames_are_spelled();
     streams_have_one_reading();
     for size in 1..=STREAM.len() {
-        check_reading(&rt, rt.alloc(), STREAM, size, (3, None, 0, 40), STREAM)?;
+        check_reading(&rt, rt.alloc(), STREAM, size, (7, None, 0, 108), STREAM)?;
     }
     Ok(())
+}
+
+// How many frames end within so many bytes, and where the last of them does.
+fn whole(len: usize) -> (usize, usize) {
+    let mut last = (0usize, 0);
+    for end in ENDS {
+        if end <= len {
+            last = (last.0.saturating_add(1), end);
+        }
+    }
+    last
 }
 
 #[test]
 fn a_stream_cut_off_at_every_byte(rt: HostRuntime) -> Result<(), AllocError> {
     for end in 0..STREAM.len() {
-        let (frames, place) = match end {
-            0..=16 => (0, 0),
-            17..=34 => (1, 17),
-            _ => (2, 35),
-        };
-        let told = (frames, None, (end - place) as u64, place as u64);
-        check_reading(&rt, rt.alloc(), &STREAM[..end], 40, told, &STREAM[..place])?;
+        let (frames, place) = whole(end);
+        let rest = end.saturating_sub(place);
+        let told = (frames, None, rest as u64, place as u64);
+        let spelled = STREAM.get(..place).unwrap_or(b"");
+        check_reading(&rt, rt.alloc(), &STREAM[..end], 108, told, spelled)?;
+    }
+    Ok(())
+}
+
+// That a stream whose byte at this place is another is read as frames whose bytes stand at its beginning, as far as the changed
+// one at least, and that what follows them is held or refused.
+fn check_changed(rt: &impl Abort, alloc: Global, place: usize, byte: u8) -> Result<(), AllocError> {
+    let mut stream = Vec::from_slice(alloc, STREAM)?;
+    if let Some(there) = stream.get_mut(place) {
+        *there = byte;
+    }
+    let mut spelled = Vec::new(alloc);
+    let (frames, refusal, rest, end) = read(rt, alloc, &stream, 108, &mut spelled)?;
+    let before = whole(place);
+    assert!(rt;
+        stream.starts_with(&spelled) && spelled.len() as u64 == end,
+        "{byte} at {place}"
+    );
+    assert!(rt;
+        before.0 <= frames && before.1 as u64 <= end,
+        "{byte} at {place}"
+    );
+    assert!(rt;
+        refusal.is_some() || end.saturating_add(rest) == 108,
+        "{byte} at {place}"
+    );
+    Ok(())
+}
+
+#[test]
+fn a_stream_with_each_byte_changed(rt: HostRuntime) -> Result<(), AllocError> {
+    for place in 0..STREAM.len() {
+        for byte in 0..=255u8 {
+            check_changed(&rt, rt.alloc(), place, byte)?;
+        }
     }
     Ok(())
 }
@@ -169,7 +218,7 @@ fn check_refused(
 fn tags_of_no_frame(rt: HostRuntime) -> Result<(), AllocError> {
     for tag in 0..=255u8 {
         match tag {
-            1..=3 => check_held(&rt, rt.alloc(), &[tag, 0, 0, 0])?,
+            1..=3 | 0x11 | 0x12 => check_held(&rt, rt.alloc(), &[tag, 0, 0, 0])?,
             _ => check_refused(
                 &rt,
                 rt.alloc(),
@@ -181,11 +230,13 @@ fn tags_of_no_frame(rt: HostRuntime) -> Result<(), AllocError> {
     Ok(())
 }
 
+const TAGS: [u8; 5] = [1, 2, 3, 0x11, 0x12];
+
 const LENGTHS: [u32; 6] = [65_537, 65_538, 1 << 17, 1 << 24, 1 << 31, u32::MAX];
 
 #[test]
 fn lengths_that_are_too_great(rt: HostRuntime) -> Result<(), AllocError> {
-    for tag in 1..=3u8 {
+    for tag in TAGS {
         for length in LENGTHS {
             let [a, b, c, d] = length.to_be_bytes();
             check_refused(
@@ -201,7 +252,7 @@ fn lengths_that_are_too_great(rt: HostRuntime) -> Result<(), AllocError> {
 }
 
 // Tags, lengths, and bodies that none of the tag's frames has, each before a Stop.
-static BODIES: [&[u8]; 28] = [
+static BODIES: [&[u8]; 44] = [
     b"\x01\0\0\0\0\x03\0\0\0\0",
     b"\x01\0\0\0\x03\0\0\0\x03\0\0\0\0",
     b"\x01\0\0\0\x04\0\0\0\x07\x03\0\0\0\0",
@@ -228,6 +279,22 @@ static BODIES: [&[u8]; 28] = [
     b"\x02\0\0\0\x0e\0\0\0\x07\x01\0\0\0\0\0\0\0\0\x03\x03\0\0\0\0",
     b"\x02\0\0\0\x06\0\0\0\x07\x02\0\x03\0\0\0\0",
     b"\x02\0\0\0\x06\0\0\0\x07\x03\0\x03\0\0\0\0",
+    b"\x11\0\0\0\0\x03\0\0\0\0",
+    b"\x11\0\0\0\x04\0\0\0\x07\x03\0\0\0\0",
+    b"\x11\0\0\0\x05\0\0\0\x07\x01\x03\0\0\0\0",
+    b"\x11\0\0\0\x0c\0\0\0\x07\x01\0\x05a.txt\x03\0\0\0\0",
+    b"\x11\0\0\0\x0d\0\0\0\x07\0\x01\0\x05a.txt\x03\0\0\0\0",
+    b"\x11\0\0\0\x0d\0\0\0\x07\x03\x01\0\x05a.txt\x03\0\0\0\0",
+    b"\x11\0\0\0\x0d\0\0\0\x07\x01\x07\0\x05a.txt\x03\0\0\0\0",
+    b"\x11\0\0\0\x0e\0\0\0\x07\x01\x01\x01\0\x05a.txt\x03\0\0\0\0",
+    b"\x12\0\0\0\0\x03\0\0\0\0",
+    b"\x12\0\0\0\x04\0\0\0\x07\x03\0\0\0\0",
+    b"\x12\0\0\0\x05\0\0\0\x07\x01\x03\0\0\0\0",
+    b"\x12\0\0\0\x06\0\0\0\x07\x01\x01\x03\0\0\0\0",
+    b"\x12\0\0\0\x06\0\0\0\x07\0\x03\x03\0\0\0\0",
+    b"\x12\0\0\0\x06\0\0\0\x07\x03\x03\x03\0\0\0\0",
+    b"\x12\0\0\0\x0d\0\0\0\x07\x01\0\0\0\0\0\0\0\x03\x03\0\0\0\0",
+    b"\x12\0\0\0\x0d\0\0\0\x07\x01\x05a.txt\0\x05\x03\0\0\0\0",
     b"\x03\0\0\0\x01\0\x03\0\0\0\0",
     b"\x03\0\0\0\x04\0\0\0\0\x03\0\0\0\0",
 ];

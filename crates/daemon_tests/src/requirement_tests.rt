@@ -1,6 +1,7 @@
 //! Tests of `daemon_requirements`.
 use crate::asked::{Asked, PLAIN, fields, requirements};
 use daemon_requirements::{Linked, PairList, RequirementRefusal, Requirements};
+use item_actions::KeepAlive;
 use std::alloc::{AllocError, Global};
 use std::process::Abort;
 
@@ -17,8 +18,13 @@ const A_1: Asked = Asked {
     ..PLAIN
 };
 
+const LASTING: Asked = Asked {
+    keep: KeepAlive::Daemon,
+    ..PLAIN
+};
+
 /// What a daemon was started with, what is asked, and whether the daemon covers it.
-static COVERS: [(&str, Asked, Asked, bool); 8] = [
+static COVERS: [(&str, Asked, Asked, bool); 11] = [
     (
         "a smaller heap and the same property",
         A_1,
@@ -81,6 +87,9 @@ static COVERS: [(&str, Asked, Asked, bool); 8] = [
         },
         false,
     ),
+    ("a shorter keep-alive mode", PLAIN, LASTING, false),
+    ("a longer keep-alive mode", LASTING, PLAIN, false),
+    ("the same longer keep-alive mode", LASTING, LASTING, true),
 ];
 
 #[test]

@@ -1,10 +1,11 @@
 ghost use Rattle.std.specs.Prelude.{◌≡◌, ◌↔◌, ◌-◌, ◌<◌, IsTrue, if◌then◌else◌};
 ghost use Rattle.std.specs.IoError.{error_kind};
+ghost use Rattle.file_access.specs.declared.retries.TheConstants.{MAX_RETRIES};
 
 use std::io::{Error, ErrorKind};
 
 // How often an interrupted call is made again, within one call of a sink or a desk.
-const MAX_RETRIES: u32 = 1000;
+const MAX_RETRIES: u32 = 1_000;
 
 /// The retries that are left.
 #[derive(Clone, Copy)]
@@ -13,9 +14,9 @@ pub(crate) struct Retries {
 }
 
 impl Retries {
-    /// As many as there may be, 1,000.
+    /// As many as there may be, `MAX_RETRIES`.
     pub fn new() -> Retries
-        ensures { result.left ≡ 1000 }
+        ensures { result.left ≡ MAX_RETRIES }
     {
         Retries { left: MAX_RETRIES }
     }

@@ -1,5 +1,6 @@
 -- What the entries of a history come to by its check.
-use Rattle.std.proofs.Common.{◌≡◌, ℕ, List, [], ◌∷◌, ◌++◌, length, refl, sym, ap, subst, ◌∙◌, append-nil, inl, inr, ◌⊎◌}
+use Rattle.std.proofs.Common.{◌≡◌, ℕ, List, [], ◌∷◌, ◌++◌, refl, sym, ap, subst, ◌∙◌, append-nil, inl, inr, ◌⊎◌, Option, Result, Ok, Err}
+use Rattle.std.specs.Prelude.{IfSome}
 use Rattle.resource_lock.specs.GraphView.{GraphView}
 use Rattle.resource_lock.specs.StateView.{StateView}
 use Rattle.resource_lock.specs.Opening.{opening_of}
@@ -8,16 +9,16 @@ use Rattle.lock_journal.specs.BookView.{BookView}
 use Rattle.lock_transforms.specs.Entry.{Entry, effect, replay_from}
 use Rattle.lock_transforms.specs.Allowed.{Allowed, Lawful, lawful_from}
 use Rattle.plan_reader.specs.PlanView.{PlanView}
-use Rattle.plan_reader.specs.Graph.{graph_of}
 use Rattle.history_reader.specs.HistoryView.{HistoryView}
 use Rattle.history_check.specs.CheckView.{CheckView, BeginsUnlawful, IsCheckOf}
 use Rattle.history_check.specs.Verdict.{IsFirstUnlawful, IsVerdict}
-use Rattle.history_check.specs.Checking.{Answers, AnswersBy}
+use Rattle.history_check.specs.Checking.{AnswersBy, HasEnded, HasChecked}
 use Rattle.history_check.specs.Admitting.{AdmitsInput, IsAdmission, IsAdmissionOf, IsFinish, checked_of}
 use Rattle.history_check.specs.declared.admitted.Admitted.{Admitted}
 use Rattle.history_check.specs.declared.admitted.Admitted.TheVariants as admitted
 use Rattle.history_check.specs.declared.checks.Checked.{Checked}
 use Rattle.history_check.specs.declared.checks.Checked.TheVariants as checked
+use Rattle.history_check.specs.declared.fails.CheckFail.{CheckFail}
 
 -- an entry behind lawful ones is allowed after them
 allowed_behind : (g : GraphView) (s : StateView) (front : List Entry) (e : Entry) (behind : List Entry) → lawful_from g s (front ++ e ∷ behind) → Allowed g (replay_from s front) e
@@ -34,7 +35,8 @@ module _ (p : PlanView) (h : HistoryView) (c : CheckView) (check : IsCheckOf p h
   finished (checked.Lawful n) a verdict finish =
       subst (IsAdmission c.graph h.entries) (sym finish.1) (record {
         graph = finish.2;
-        entries = finish.3 ∙ all_admitted c.graph h.entries c.admitted check.behind check.entries check.refused verdict.0;
+        entries = subst (λ (k : Option (List Entry)). IfSome k (λ es. es ≡ check.front)) finish.3 check.kept
+            ∙ all_admitted c.graph h.entries check.front check.behind check.entries check.refused verdict.0;
         lawful = verdict.0;
       })
   finished (checked.NotLawful n) a verdict finish = subst (IsAdmission c.graph h.entries) (sym finish) verdict
@@ -53,20 +55,13 @@ finished_input p start now c answer a (came, takes, inl ended, just) finish =
 finished_input p start now c answer a (came, takes, inr broken, just) finish =
     (came, takes, inr (record { number = broken.number; breaks = broken.breaks; answer = told c answer a finish broken.number broken.answer }), just)
 
-verdict_of : (g : GraphView) (es : List Entry) (a : Admitted) → IsAdmission g es a → IsVerdict g es (checked_of a)
-verdict_of g es (admitted.Lawful b) is = (is.lawful, ap length is.entries)
-verdict_of g es (admitted.NotLawful n) is = is
-
-pub checked_input : (p : PlanView) (start now : SourceView) (a : Admitted) (answer : Checked) → AdmitsInput p start now a → answer ≡ checked_of a → Answers p start now answer
-checked_input p start now a answer (came, takes, inl admits, just) is =
-    subst (Answers p start now) (sym is) (
-      came,
-      takes,
-      inl (record {
-        history = admits.history;
-        names = admits.names;
-        verdict = verdict_of (graph_of p admits.history.workers admits.history.max admits.history.parallel) admits.history.entries a admits.admission;
-      }),
-      just,
-    )
-checked_input p start now a answer (came, takes, inr broken, just) is = subst (Answers p start now) (sym is) (came, takes, inr broken, just)
+-- the answer of a check that keeps no book
+pub checked_input : (p : PlanView) (start now : SourceView) (c : CheckView) (r : Result Checked CheckFail) → HasEnded p start now c r → HasChecked p start now r
+checked_input p start now c (Ok a) (came, takes, inl ended, just) = (
+  came,
+  takes,
+  inl (record { history = ended.history; names = ended.names; verdict = subst (λ (g : GraphView). IsVerdict g ended.history.entries a) ended.check.graph ended.verdict }),
+  just,
+)
+checked_input p start now c (Ok a) (came, takes, inr broken, just) = (came, takes, inr broken, just)
+checked_input p start now c (Err fail) failed = failed

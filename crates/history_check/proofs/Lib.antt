@@ -1,4 +1,5 @@
 pub mod Supplies
+pub mod Keeping
 pub mod Verdicts
 pub mod Passing
 pub mod Steps

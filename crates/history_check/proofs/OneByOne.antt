@@ -10,18 +10,18 @@ use Rattle.history_reader.specs.HistoryView.{HistoryView, history_view, entry_re
 use Rattle.history_reader.specs.declared.histories.History.{History}
 use Rattle.history_reader.specs.declared.histories.HistoryEntry.{HistoryEntry}
 use Rattle.resource_lock.specs.GraphView.{GraphView}
-use Rattle.history_check.specs.CheckView.{CheckView, IsCheckOf, Adds}
+use Rattle.history_check.specs.CheckView.{CheckView, IsCheckOf, IsFresh, Adds}
 use Rattle.history_check.specs.Verdict.{IsVerdict, IsAnswerTo}
 use Rattle.history_check.specs.declared.checks.Checked.{Checked}
-use Rattle.history_check.proofs.Verdicts.{with_one_more}
+use Rattle.history_check.proofs.Verdicts.{fresh_check, with_one_more}
 
 -- the history with so many of its entries
 abbrev pub first_of : ℕ → HistoryView → HistoryView
 first_of n h = record h { entries = take n h.entries }
 
 -- a check of no entry
-pub none_so_far : (p : PlanView) (h : HistoryView) (c : CheckView) → c ≡ record { graph = graph_of p h.workers h.max h.parallel; admitted = []; count = 0 } → IsCheckOf p (first_of 0 h) c
-none_so_far p h c is = subst (IsCheckOf p (first_of 0 h)) (sym is) (record { graph = refl; count = refl; behind = []; entries = refl; refused = tt })
+pub none_so_far : (p : PlanView) (h : HistoryView) (c : CheckView) → IsFresh (graph_of p h.workers h.max h.parallel) c → IsCheckOf p (first_of 0 h) c
+none_so_far p h c is = fresh_check c refl is
 
 one_more_so_far : (p : PlanView) (h : HistoryView) (n : ℕ) (e : Entry) (old new : CheckView) → n < length h.entries → e ≡ get_or h.entries n e → IsCheckOf p (first_of n h) old → Adds old new e → IsCheckOf p (first_of (n + 1) h) new
 one_more_so_far p h n e old new within there is adds =

@@ -16,7 +16,7 @@ use Rattle.history_check.specs.Taking.{TakesNext, IsCutOff, EndsLine, StaysWithi
 use Rattle.history_check.specs.CheckView.{CheckView, IsCheckOf, OpensCheck, CheckGoesOn}
 use Rattle.history_check.specs.Verdict.{IsVerdict}
 use Rattle.history_check.specs.Naming.{BeginsHistory, BreaksBehind}
-use Rattle.history_check.specs.Checking.{unread, AnswersBy, HasEnded, Fails, FindsNone, FindsHead, HasTaken, HasBytesLeft, IsUnderway, TakesHead, GoesOn, HasChecked, Shortens}
+use Rattle.history_check.specs.Checking.{unread, Answers, AnswersBy, HasEnded, Fails, FindsNone, FindsHead, HasTaken, HasBytesLeft, IsUnderway, TakesHead, GoesOn, HasChecked, Shortens}
 use Rattle.history_check.specs.Admitting.{AdmitsInput, HasAdmitted}
 use Rattle.history_check.specs.declared.admitted.Admitted.{Admitted}
 use Rattle.history_check.specs.declared.admitted.Admitted.TheVariants as admitted
@@ -160,6 +160,9 @@ stop_taken {p} {start} {mid} {now} {was} {is} {c} {d} {k} n u next ends few stop
     )
 
 -- no head: that is answered at 0
+none_named : {p : PlanView} {start now : SourceView} → FindsNone start now → Answers p start now (checked.NotLawful 0)
+none_named found = (found.0, found.1, inr (record { number = 0; breaks = found.2; answer = refl }), found.3)
+
 pub none_found : {p : PlanView} {start now : SourceView} → FindsNone start now → AdmitsInput p start now (admitted.NotLawful 0)
 none_found found = (found.0, found.1, inr (record { number = 0; breaks = found.2; answer = refl }), found.3)
 
@@ -311,6 +314,12 @@ found_some start now is r same finds = subst (λ (x : Bool). FindsHead start now
 
 abbrev opening_gives : Option CheckView → Result (Option CheckView) CheckFail
 opening_gives r = Ok r
+
+pub checked_none : (p : PlanView) (start now : SourceView) (is : LinesView) (r : Option CheckView) → r ≡ None → TakesHead p start now is (opening_gives r) → Answers p start now (checked.NotLawful 0)
+checked_none p start now is r same takes = none_named (subst (λ (x : Option CheckView). TakesHead p start now is (opening_gives x)) same takes)
+
+pub head_none : {p : PlanView} (start now : SourceView) (is : LinesView) (r : Bool) → r ≡ false → FindsHead start now is (head_gives r) → Answers p start now (checked.NotLawful 0)
+head_none start now is r same finds = none_named (subst (λ (x : Bool). FindsHead start now is (head_gives x)) same finds)
 
 pub opened_none : (p : PlanView) (start now : SourceView) (is : LinesView) (r : Option CheckView) → r ≡ None → TakesHead p start now is (opening_gives r) → AdmitsInput p start now (admitted.NotLawful 0)
 opened_none p start now is r same takes = none_found (subst (λ (x : Option CheckView). TakesHead p start now is (opening_gives x)) same takes)

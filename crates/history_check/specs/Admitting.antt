@@ -1,5 +1,5 @@
 -- What admitting the entries of a history comes to: the answer of a check, and the book of a lawful history.
-use Rattle.std.specs.Prelude.{ℕ, ◌≡◌, ◌⊎◌, List, length, Result, Ok, Err}
+use Rattle.std.specs.Prelude.{ℕ, ◌≡◌, ◌⊎◌, List, length, Some, Result, Ok, Err}
 use Rattle.resource_lock.specs.GraphView.{GraphView}
 use Rattle.lock_journal.specs.BookView.{BookView}
 use Rattle.lock_transforms.specs.Allowed.{Lawful}
@@ -39,9 +39,9 @@ IsAdmission g es (admitted.NotLawful n) = IsFirstUnlawful g es n
 abbrev pub IsAdmissionOf : PlanView → HistoryView → Admitted → Type 0
 IsAdmissionOf p h a = IsAdmission (graph_of p h.workers h.max h.parallel) h.entries a
 
--- the answer, with the book of a check's entries where they are lawful
+-- the answer, with the book that a check keeps its entries in where they are lawful
 abbrev pub IsFinish : CheckView → Checked → Admitted → Type 0
-IsFinish c (checked.Lawful n) a = (b : BookView) × (a ≡ admitted.Lawful b) × (b.graph ≡ c.graph) × (b.history ≡ c.admitted)
+IsFinish c (checked.Lawful n) a = (b : BookView) × (a ≡ admitted.Lawful b) × (b.graph ≡ c.graph) × (c.kept ≡ Some b.history)
 IsFinish c (checked.NotLawful n) a = a ≡ admitted.NotLawful n
 
 -- What came is the text of a history behind lines that are passed over, and its entries come to this.

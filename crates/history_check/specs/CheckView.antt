@@ -1,9 +1,10 @@
 -- A check, as contracts see it, and of which history it is.
-use Rattle.std.specs.Prelude.{ℕ, ◌≡◌, ◌+◌, ◌<◌, ◌⊎◌, List, [], ◌∷◌, ◌++◌, length, Result, Ok, Err}
+use Rattle.std.specs.Prelude.{ℕ, ◌≡◌, ◌+◌, ◌<◌, ◌⊎◌, List, [], ◌∷◌, ◌++◌, length, Option, IfSome, option_map, Result, Ok, Err}
 use Rattle.resource_lock.specs.GraphView.{GraphView}
-use Rattle.lock_journal.specs.BookView.{BookView}
-use Rattle.lock_transforms.specs.Entry.{Entry, replay}
-use Rattle.lock_transforms.specs.Allowed.{Allowed}
+use Rattle.resource_lock.specs.StateView.{StateView}
+use Rattle.resource_lock.specs.Opening.{opening_of}
+use Rattle.lock_transforms.specs.Entry.{Entry, effect, replay}
+use Rattle.lock_transforms.specs.Allowed.{Allowed, Lawful}
 use Rattle.plan_reader.specs.PlanView.{PlanView}
 use Rattle.plan_reader.specs.Graph.{graph_of}
 use Rattle.history_reader.specs.HistoryView.{HistoryView}
@@ -12,29 +13,47 @@ use Rattle.history_reader.specs.declared.histories.HistoryLine.{HistoryLine}
 use Rattle.history_reader.specs.declared.histories.HistoryLine.TheVariants as lines
 use Rattle.history_reader.specs.declared.fails.TextFail.{TextFail}
 use Rattle.history_reader.specs.declared.fails.TextFail.TheVariants.{Stops, NoMemory}
+use Rattle.history_check.specs.AdmitterView.{AdmitterView}
 
--- the graph, the entries before the first that isn't allowed, and how many entries came
+-- the graph, the state that the entries before the first that isn't allowed lead to, how many those are, those entries where
+-- they are kept, and how many entries came
 pub record CheckView : Type 0 where
   pub graph : GraphView
-  pub admitted : List Entry
+  pub state : StateView
+  pub admitted : ℕ
+  pub kept : Option (List Entry)
   pub count : ℕ
 
--- the check whose book this is
-abbrev pub check_of : BookView → ℕ → CheckView
-check_of b count = record { graph = b.graph; admitted = b.history; count = count }
+-- the check whose entries this admitted
+abbrev pub check_of : AdmitterView → ℕ → CheckView
+check_of a count = record { graph = a.graph; state = a.state; admitted = a.entries; kept = a.kept; count = count }
+
+-- a check of no entry
+pub record IsFresh (g : GraphView) (c : CheckView) : Type 0 where
+  pub graph : c.graph ≡ g
+  pub state : c.state ≡ opening_of g
+  pub admitted : c.admitted ≡ 0
+  pub kept : IfSome c.kept (λ es. es ≡ [])
+  pub count : c.count ≡ 0
 
 -- no entry, or the first of these isn't allowed
 abbrev pub BeginsUnlawful : GraphView → List Entry → List Entry → Type 0
 BeginsUnlawful g admitted [] = Unit {0}
 BeginsUnlawful g admitted (e ∷ es) = ¬ Allowed g (replay g admitted) e
 
--- The check is of this history, for the plan: behind the entries that it has there is none, or one that isn't allowed.
+-- The check is of this history, for the plan: its state is what the first entries lead to, which are lawful, and behind them
+-- there is none, or one that isn't allowed.
 pub record IsCheckOf (p : PlanView) (h : HistoryView) (c : CheckView) : Type 0 where
   pub graph : c.graph ≡ graph_of p h.workers h.max h.parallel
   pub count : c.count ≡ length h.entries
+  pub front : List Entry
   pub behind : List Entry
-  pub entries : h.entries ≡ c.admitted ++ behind
-  pub refused : BeginsUnlawful c.graph c.admitted behind
+  pub entries : h.entries ≡ front ++ behind
+  pub lawful : Lawful c.graph front
+  pub state : c.state ≡ replay c.graph front
+  pub admitted : c.admitted ≡ length front
+  pub kept : IfSome c.kept (λ es. es ≡ front)
+  pub refused : BeginsUnlawful c.graph front behind
 
 abbrev pub OpensCheck : PlanView → List ℕ → Result CheckView TextFail → Type 0
 OpensCheck p line (Ok c) = (h : HistoryView) × Opens line h × IsCheckOf p h c × (c.count ≡ 0)
@@ -52,24 +71,32 @@ IsCounted old line new (Ok lines.End) = new ≡ old
 IsCounted old line new (Err _) = new ≡ old
 
 -- the entry is allowed, and was added
-pub record Admits (old new : CheckView) (e : Entry) : Type 0 where
-  pub all : length old.admitted ≡ old.count
-  pub allowed : Allowed old.graph (replay old.graph old.admitted) e
-  pub admitted : new.admitted ≡ old.admitted ++ e ∷ []
+pub record AdmitsNext (old new : CheckView) (e : Entry) : Type 0 where
+  pub all : old.admitted ≡ old.count
+  pub allowed : Allowed old.graph old.state e
+  pub state : new.state ≡ effect old.state e
+  pub admitted : new.admitted ≡ old.admitted + 1
+  pub kept : new.kept ≡ option_map (λ es. es ++ e ∷ []) old.kept
+
+-- what was admitted before is all that is
+pub record Stays (old new : CheckView) : Type 0 where
+  pub state : new.state ≡ old.state
+  pub admitted : new.admitted ≡ old.admitted
+  pub kept : new.kept ≡ old.kept
 
 -- the entry is the first that isn't allowed
 pub record RefusesEntry (old new : CheckView) (e : Entry) : Type 0 where
-  pub all : length old.admitted ≡ old.count
-  pub refused : ¬ Allowed old.graph (replay old.graph old.admitted) e
-  pub admitted : new.admitted ≡ old.admitted
+  pub all : old.admitted ≡ old.count
+  pub refused : ¬ Allowed old.graph old.state e
+  pub stays : Stays old new
 
 -- an entry before it wasn't allowed
 pub record Passes (old new : CheckView) : Type 0 where
-  pub fewer : length old.admitted < old.count
-  pub admitted : new.admitted ≡ old.admitted
+  pub fewer : old.admitted < old.count
+  pub stays : Stays old new
 
 -- One more entry came.
 pub record Adds (old new : CheckView) (e : Entry) : Type 0 where
   pub graph : new.graph ≡ old.graph
   pub count : new.count ≡ old.count + 1
-  pub entry : Admits old new e ⊎ RefusesEntry old new e ⊎ Passes old new
+  pub entry : AdmitsNext old new e ⊎ RefusesEntry old new e ⊎ Passes old new

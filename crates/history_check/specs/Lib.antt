@@ -1,6 +1,8 @@
 pub mod LinesView
 pub mod Taking
 pub mod Verdict
+pub mod AdmitterView
+pub mod Reached
 pub mod CheckView
 pub mod Naming
 pub mod Checking

@@ -7,8 +7,10 @@ ghost use Rattle.history_check.specs.Admitting.{IsFinish};
 ghost use Rattle.history_check.specs.Verdict.{IsVerdict};
 
 use crate::admitted::Admitted;
+use crate::admitters::Admitter;
 use crate::entry_checks::EntryCheck;
 use history_reader::{EntryHead, History, HistoryLine, LineHead, TextFail, read_line_into};
+use lock_journal::Book;
 use plan_reader::Plan;
 use resource_lock::Change;
 use std::alloc::Global;
@@ -24,16 +26,16 @@ pub enum Checked {
     NotLawful(u64),
 }
 
-/// A history that comes line by line, and is checked against a plan. It keeps the entries up to the first that
-/// isn't allowed.
+/// A history that comes line by line, and is checked against a plan. A `Book` keeps the entries up to the first that
+/// isn't allowed. `Reached` keeps none, and then the check's memory doesn't grow with the history.
 #[derive(Drop)]
-pub struct HistoryCheck {
-    entries: EntryCheck,
+pub struct HistoryCheck<A: Admitter> {
+    entries: EntryCheck<A>,
     // Those of the entry that is looked at.
     changes: Vec<Change>,
 }
 
-impl Model for HistoryCheck {
+impl<A: Admitter> Model for HistoryCheck<A> {
     ghost use Rattle.history_check.specs.CheckView.{CheckView};
 
     ghost Value = { CheckView };
@@ -41,10 +43,10 @@ impl Model for HistoryCheck {
     ghost view = { λ c. c.entries };
 }
 
-impl HistoryCheck {
+impl<A: Admitter> HistoryCheck<A> {
     /// A check of a history without entries, by its second line, which comes with its line end. Stops comes exactly
     /// where the line isn't one, at 0.
-    pub fn opening(alloc: Global, plan: &Plan, line: &[u8]) -> Result<HistoryCheck, TextFail>
+    pub fn opening(alloc: Global, plan: &Plan, line: &[u8]) -> Result<HistoryCheck<A>, TextFail>
         ensures { OpensCheck plan.now line.now result }
     {
         let Some(opened) = History::opening(alloc, line) else {
@@ -88,18 +90,20 @@ impl HistoryCheck {
         }
     }
 
-    /// What the history so far comes to by the answer: its book where all entries are lawful.
-    pub(crate) fn finish(self, answer: Checked) -> Admitted
-        ensures { IsFinish self answer result }
-    {
-        self.entries.finish(answer)
-    }
-
     /// What the check answers of the history so far.
     pub fn answer(&self) -> Checked
         ensures { (p : PlanView) (h : HistoryView) → IsCheckOf p h self.now → IsVerdict self.now.graph h.entries result }
     {
         self.entries.answer()
+    }
+}
+
+impl HistoryCheck<Book> {
+    /// What the history so far comes to by the answer: its book where all entries are lawful.
+    pub(crate) fn finish(self, answer: Checked) -> Admitted
+        ensures { IsFinish self answer result }
+    {
+        self.entries.finish(answer)
     }
 }
 

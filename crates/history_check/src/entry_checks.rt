@@ -1,14 +1,15 @@
-ghost use Rattle.std.specs.Prelude.{◌≡◌, ◌-◌, ◌^◌, ◌<◌, ◌≤◌, [], length, OnOk, OnErr, IfOk, option_map};
+ghost use Rattle.std.specs.Prelude.{◌≡◌, ◌-◌, ◌^◌, ◌<◌, OnOk, OnErr, IfOk, option_map};
 ghost use Rattle.lock_transforms.specs.Entry.{entry};
 ghost use Rattle.plan_reader.specs.PlanView.{PlanView};
 ghost use Rattle.plan_reader.specs.Graph.{graph_of};
 ghost use Rattle.history_text.specs.Fitting.{HeadFits};
 ghost use Rattle.history_reader.specs.HistoryView.{HistoryView};
-ghost use Rattle.history_check.specs.CheckView.{IsCheckOf, Adds};
+ghost use Rattle.history_check.specs.CheckView.{IsCheckOf, IsFresh, Adds};
 ghost use Rattle.history_check.specs.Admitting.{IsFinish};
 ghost use Rattle.history_check.specs.Verdict.{IsVerdict};
 
 use crate::admitted::Admitted;
+use crate::admitters::Admitter;
 use crate::checks::Checked;
 use lock_journal::Book;
 use lock_transforms::Kind;
@@ -17,25 +18,25 @@ use resource_lock::{Change, WorkerId};
 use std::alloc::{AllocError, Global};
 use std::marker::Model;
 
-/// The check of a history's entries, one by one. It keeps those up to the first that isn't allowed, and counts all.
+/// The check of a history's entries, one by one. Those up to the first that isn't allowed are admitted, and all are counted.
 #[derive(Drop)]
-pub(crate) struct EntryCheck {
-    book: Book,
+pub(crate) struct EntryCheck<A: Admitter> {
+    admitter: A,
     count: u64,
 }
 
-impl Model for EntryCheck {
-    ghost use Rattle.std.specs.Prelude.{◌≤◌, length};
+impl<A: Admitter> Model for EntryCheck<A> {
+    ghost use Rattle.std.specs.Prelude.{◌≤◌};
     ghost use Rattle.history_check.specs.CheckView.{CheckView, check_of};
 
     ghost Value = { CheckView };
 
-    ghost view = { λ c. check_of c.book c.count };
+    ghost view = { λ c. check_of (A.seen c.admitter) c.count };
 
-    ghost invariant = { λ c. length c.book.history ≤ c.count };
+    ghost invariant = { λ c. (A.seen c.admitter).entries ≤ c.count };
 }
 
-impl EntryCheck {
+impl<A: Admitter> EntryCheck<A> {
     /// The check of a history without entries, for so many workers and leases.
     pub(crate) fn opening(
         alloc: Global,
@@ -43,13 +44,13 @@ impl EntryCheck {
         workers: u32,
         max: u32,
         parallel: bool,
-    ) -> Result<EntryCheck, AllocError>
+    ) -> Result<EntryCheck<A>, AllocError>
         requires { HeadFits workers max }
-        ensures { IfOk result (λ c. c ≡ record { graph = graph_of plan.now workers max parallel; admitted = []; count = 0 }) }
+        ensures { IfOk result (IsFresh (graph_of plan.now workers max parallel)) }
     {
         let graph = plan.graph(alloc, workers, max, parallel)?;
-        let book = Book::opening(alloc, graph, 0, 0)?;
-        Ok(EntryCheck { book, count: 0 })
+        let admitter = A::open(alloc, graph)?;
+        Ok(EntryCheck { admitter, count: 0 })
     }
 
     /// How many entries came.
@@ -59,7 +60,7 @@ impl EntryCheck {
         self.count
     }
 
-    /// Counts one more entry, and adds it to the book while all before it were allowed and it is too.
+    /// Counts one more entry, and admits it while all before it were allowed and it is too.
     pub(crate) fn admit(
         &mut self,
         worker: WorkerId,
@@ -70,10 +71,8 @@ impl EntryCheck {
         ensures added { OnOk result (Adds self.old self.new (entry worker kind.now (option_map (λ c. c.now) changes.entry))) }
         ensures kept { OnErr result (self.new ≡ self.old) }
     {
-        // Of the state, that the history leads to it.
-        let _ = self.book.state();
-        if self.book.len() == self.count {
-            self.book.admit(worker, kind, changes)?;
+        if self.admitter.admitted() == self.count {
+            self.admitter.admit_next(worker, kind, changes)?;
         }
         self.count += 1;
         Ok(())
@@ -83,21 +82,22 @@ impl EntryCheck {
     pub(crate) fn answer(&self) -> Checked
         ensures { (p : PlanView) (h : HistoryView) → IsCheckOf p h self.now → IsVerdict self.now.graph h.entries result }
     {
-        // Of the state, that the history that leads to it is lawful.
-        let _ = self.book.state();
-        let admitted = self.book.len();
+        let admitted = self.admitter.admitted();
         if admitted == self.count {
             Checked::Lawful(admitted)
         } else {
             Checked::NotLawful(admitted + 1)
         }
     }
+}
+
+impl EntryCheck<Book> {
     /// What the entries come to by the answer: their book where all are lawful.
     pub(crate) fn finish(self, answer: Checked) -> Admitted
         ensures { IsFinish self answer result }
     {
         match answer {
-            Checked::Lawful(_) => Admitted::Lawful(self.book),
+            Checked::Lawful(_) => Admitted::Lawful(self.admitter),
             Checked::NotLawful(number) => Admitted::NotLawful(number),
         }
     }

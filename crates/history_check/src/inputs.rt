@@ -8,11 +8,14 @@ ghost use Rattle.history_check.specs.Admitting.{HasAdmitted};
 ghost use Rattle.history_reader.specs.Lines.{first_line};
 
 use crate::admitted::Admitted;
+use crate::admitters::Admitter;
 use crate::checks::{Checked, HistoryCheck};
 use crate::fails::CheckFail;
 use crate::lines::Lines;
+use crate::reached::Reached;
 use file_access::Source;
 use history_reader::{HistoryLine, TextFail, is_first_line};
+use lock_journal::Book;
 use plan_reader::Plan;
 use std::alloc::Global;
 
@@ -36,11 +39,16 @@ pub fn check_input<I: Source>(
 ) -> Result<Checked, CheckFail>
     ensures { HasChecked plan.now (I.seen input.old) (I.seen input.new) result }
 {
-    let admitted = admit_input(alloc, plan, input)?;
-    Ok(admitted.checked())
+    let mut lines = Lines::new(alloc, MAX_INPUT_BYTES);
+    let found = find_head(input, &mut lines)?;
+    if found {
+        check_behind(alloc, plan, input, &mut lines)
+    } else {
+        Ok(Checked::NotLawful(0))
+    }
 }
 
-/// The same, with the book of the history where all its entries are lawful.
+/// The same, with the book of the history where all its entries are lawful. So it keeps the entries.
 pub fn admit_input<I: Source>(
     alloc: Global,
     plan: &Plan,
@@ -57,6 +65,23 @@ pub fn admit_input<I: Source>(
     }
 }
 
+// Checks the entries of the history whose first line was taken.
+fn check_behind<I: Source>(
+    alloc: Global,
+    plan: &Plan,
+    input: &mut I,
+    lines: &mut Lines,
+) -> Result<Checked, CheckFail>
+    requires { HasBytesLeft 0 lines.old }
+    ensures { (start : SourceView) → HasTaken start (I.seen input.old) lines.old first_line → HasChecked plan.now start (I.seen input.new) result }
+{
+    let opened = open_check::<Reached, I>(alloc, plan, input, lines)?;
+    match opened {
+        None => Ok(Checked::NotLawful(0)),
+        Some(mut check) => check_lines(alloc, &mut check, input, lines),
+    }
+}
+
 // Admits the entries of the history whose first line was taken.
 fn admit_behind<I: Source>(
     alloc: Global,
@@ -67,7 +92,7 @@ fn admit_behind<I: Source>(
     requires { HasBytesLeft 0 lines.old }
     ensures { (start : SourceView) → HasTaken start (I.seen input.old) lines.old first_line → HasAdmitted plan.now start (I.seen input.new) result }
 {
-    let opened = open_check(alloc, plan, input, lines)?;
+    let opened = open_check::<Book, I>(alloc, plan, input, lines)?;
     match opened {
         None => Ok(Admitted::NotLawful(0)),
         Some(mut check) => {
@@ -96,12 +121,12 @@ fn find_head<I: Source>(input: &mut I, lines: &mut Lines) -> Result<bool, CheckF
 }
 
 // Takes the second line, and opens the check by it. None comes where it is no second line of a history.
-fn open_check<I: Source>(
+fn open_check<A: Admitter, I: Source>(
     alloc: Global,
     plan: &Plan,
     input: &mut I,
     lines: &mut Lines,
-) -> Result<Option<HistoryCheck>, CheckFail>
+) -> Result<Option<HistoryCheck<A>>, CheckFail>
     requires { HasBytesLeft 0 lines.old }
     ensures count { OpensWithin lines.new result }
     ensures head { (start : SourceView) → HasTaken start (I.seen input.old) lines.old first_line
@@ -116,9 +141,9 @@ fn open_check<I: Source>(
 }
 
 // Takes the lines behind the head.
-fn check_lines<I: Source>(
+fn check_lines<A: Admitter, I: Source>(
     alloc: Global,
-    check: &mut HistoryCheck,
+    check: &mut HistoryCheck<A>,
     input: &mut I,
     lines: &mut Lines,
 ) -> Result<Checked, CheckFail>
@@ -135,9 +160,9 @@ fn check_lines<I: Source>(
 }
 
 // Takes the next line. An answer comes where the history ends with it, or the text stops being one.
-fn check_next<I: Source>(
+fn check_next<A: Admitter, I: Source>(
     alloc: Global,
-    check: &mut HistoryCheck,
+    check: &mut HistoryCheck<A>,
     input: &mut I,
     lines: &mut Lines,
 ) -> Result<Option<Checked>, CheckFail>

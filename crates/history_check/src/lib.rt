@@ -2,15 +2,18 @@
 #![tactic(auto)]
 
 mod admitted;
+mod admitters;
 mod checks;
 mod entry_checks;
 mod fails;
 mod inputs;
 mod laws;
 mod lines;
+mod reached;
 mod whole;
 
 pub use admitted::Admitted;
+pub use admitters::Admitter;
 pub use checks::{Checked, HistoryCheck};
 pub use fails::CheckFail;
 pub use inputs::{MAX_INPUT_BYTES, admit_input, check_input};
@@ -19,4 +22,5 @@ pub use laws::{
     whole_and_line_by_line_agree,
 };
 pub use lines::MAX_PIECE;
+pub use reached::Reached;
 pub use whole::{admit, check};

@@ -6,9 +6,12 @@ ghost use Rattle.history_check.specs.CheckView.{IsCheckOf};
 ghost use Rattle.history_check.specs.Verdict.{IsAnswerTo};
 
 use crate::admitted::Admitted;
+use crate::admitters::Admitter;
 use crate::checks::Checked;
 use crate::entry_checks::EntryCheck;
+use crate::reached::Reached;
 use history_reader::History;
+use lock_journal::Book;
 use plan_reader::Plan;
 use std::alloc::{AllocError, Global};
 
@@ -18,7 +21,7 @@ pub fn admit(alloc: Global, plan: &Plan, history: &History) -> Result<Admitted, 
     requires { HeadFits history.now.workers history.now.max }
     ensures { IfOk result (IsAdmissionOf plan.now (history_view history.now)) }
 {
-    let check = check_entries(alloc, plan, history)?;
+    let check = check_entries::<Book>(alloc, plan, history)?;
     let answer = check.answer();
     Ok(check.finish(answer))
 }
@@ -28,12 +31,16 @@ pub fn check(alloc: Global, plan: &Plan, history: &History) -> Result<Checked, A
     requires { HeadFits history.now.workers history.now.max }
     ensures { IfOk result (IsAnswerTo plan.now (history_view history.now)) }
 {
-    let check = check_entries(alloc, plan, history)?;
+    let check = check_entries::<Reached>(alloc, plan, history)?;
     Ok(check.answer())
 }
 
 // The check of all entries of a history.
-fn check_entries(alloc: Global, plan: &Plan, history: &History) -> Result<EntryCheck, AllocError>
+fn check_entries<A: Admitter>(
+    alloc: Global,
+    plan: &Plan,
+    history: &History,
+) -> Result<EntryCheck<A>, AllocError>
     requires { HeadFits history.now.workers history.now.max }
     ensures { IfOk result (IsCheckOf plan.now (history_view history.now)) }
 {

@@ -1,4 +1,4 @@
--- The words of actions and of outcomes.
+-- The words of actions, of outcomes and of keep-alive modes.
 use Rattle.std.specs.Prelude.{ℕ, List, Option, codes}
 use Rattle.std.specs.List.{find}
 use Rattle.std.specs.Str.{bytes_eq}
@@ -10,8 +10,11 @@ use Rattle.item_actions.specs.declared.outcomes.Outcome.{Outcome}
 use Rattle.item_actions.specs.declared.outcomes.Outcome.TheVariants as outcomes
 use Rattle.item_actions.specs.declared.outcome_kinds.OutcomeKind.{OutcomeKind}
 use Rattle.item_actions.specs.declared.outcome_kinds.OutcomeKind.TheVariants as outcome_kinds
+use Rattle.item_actions.specs.declared.keep_alive.KeepAlive.{KeepAlive}
+use Rattle.item_actions.specs.declared.keep_alive.KeepAlive.TheVariants.{Session, Daemon}
 use Rattle.item_actions.specs.declared.action_kinds.TheConstants.ActionKind.{ALL as every_action}
 use Rattle.item_actions.specs.declared.outcome_kinds.TheConstants.OutcomeKind.{ALL as every_outcome}
+use Rattle.item_actions.specs.declared.keep_alive.TheConstants.KeepAlive.{ALL as every_mode}
 
 abbrev pub kind_of_action : ItemAction → ActionKind
 kind_of_action actions.Lines = action_kinds.Lines
@@ -62,3 +65,11 @@ outcome_phrase kind = outcome_word kind
 -- the kind that has the word
 abbrev pub outcome_kind_of : List ℕ → Option OutcomeKind
 outcome_kind_of word = find (λ kind. bytes_eq (outcome_word kind) word) every_outcome
+
+abbrev pub keep_alive_word : KeepAlive → List ℕ
+keep_alive_word Session = codes "session"
+keep_alive_word Daemon = codes "daemon"
+
+-- the mode that has the word
+abbrev pub keep_alive_mode_of : List ℕ → Option KeepAlive
+keep_alive_mode_of word = find (λ mode. bytes_eq (keep_alive_word mode) word) every_mode

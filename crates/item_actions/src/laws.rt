@@ -3,8 +3,9 @@ ghost use Rattle.std.specs.Prelude.{◌≡◌, ◌+◌, ◌-◌, ◌<◌, ◌≤
 ghost use Rattle.memchr.specs.Find.{OccursAt};
 ghost use Rattle.item_actions.specs.Bytes.{longest, occurrences};
 ghost use Rattle.item_actions.specs.Pieces.{HasNoLineEnd, IsPiece};
-ghost use Rattle.item_actions.specs.Words.{action_word, action_kind_of, outcome_word, outcome_kind_of};
+ghost use Rattle.item_actions.specs.Words.{action_word, action_kind_of, outcome_word, outcome_kind_of, keep_alive_word, keep_alive_mode_of};
 ghost use Rattle.item_actions.specs.declared.action_kinds.ActionKind.{ActionKind};
+ghost use Rattle.item_actions.specs.declared.keep_alive.KeepAlive.{KeepAlive};
 ghost use Rattle.item_actions.specs.declared.outcome_kinds.OutcomeKind.{OutcomeKind};
 
 /// The greatest length is that of one of the pieces between line ends, and no run of bytes without a line end is longer.
@@ -31,4 +32,10 @@ pub fn actions_have_words_of_their_own()
 pub fn outcomes_have_words_of_their_own()
     ensures read { (kind : OutcomeKind) → outcome_kind_of (outcome_word kind) ≡ Some kind }
     ensures spelled { (word : List ℕ) (kind : OutcomeKind) → outcome_kind_of word ≡ Some kind → outcome_word kind ≡ word }
+{}
+
+/// Each keep-alive mode is read by its own word, and by no other.
+pub fn keep_alive_modes_have_words_of_their_own()
+    ensures read { (mode : KeepAlive) → keep_alive_mode_of (keep_alive_word mode) ≡ Some mode }
+    ensures spelled { (word : List ℕ) (mode : KeepAlive) → keep_alive_mode_of word ≡ Some mode → keep_alive_word mode ≡ word }
 {}

@@ -5,6 +5,7 @@ mod action_kinds;
 mod actions;
 mod counting;
 mod forms;
+mod keep_alive;
 mod lanes;
 mod laws;
 mod limits;
@@ -20,9 +21,11 @@ mod word_counts;
 pub use action_kinds::ActionKind;
 pub use actions::{ItemAction, act};
 pub use forms::is_file_name;
+pub use keep_alive::KeepAlive;
 pub use laws::{
     actions_have_words_of_their_own, counting_goes_on_behind_the_first,
-    longest_is_the_greatest_piece, outcomes_have_words_of_their_own,
+    keep_alive_modes_have_words_of_their_own, longest_is_the_greatest_piece,
+    outcomes_have_words_of_their_own,
 };
 pub use limits::{MAX_FILE_BYTES, MAX_FILE_NAME_BYTES, MAX_NEEDLE_BYTES};
 pub use needles::Needle;

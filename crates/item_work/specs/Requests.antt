@@ -1,9 +1,12 @@
 -- What is sent for an item.
-use Rattle.std.specs.Prelude.{◌≡◌, ◌⊎◌, ◌≢◌, ℕ, List, Option, Result, Ok, Err}
+use Rattle.std.specs.Prelude.{◌≡◌, ◌⊎◌, ◌≢◌, ℕ, List, Option, None, Some, Result, Ok, Err}
+use Rattle.item_actions.specs.declared.keep_alive.KeepAlive.{KeepAlive}
 use Rattle.item_actions.specs.declared.outcomes.Outcome.{Outcome}
 use Rattle.item_actions.specs.declared.outcomes.Outcome.TheVariants.{Fault, NoMemory}
 use Rattle.daemon_requirements.specs.RequirementsView.{RequirementsView}
 use Rattle.daemon_requirements.specs.Covers.{Covers}
+use Rattle.daemon_requirements.specs.declared.work.Isolation.{Isolation}
+use Rattle.daemon_requirements.specs.declared.work.Isolation.TheVariants.{InThread, Process}
 use Rattle.daemon_requirements.specs.declared.work.Work.{Work}
 use Rattle.daemon_protocol.specs.declared.frames.Request.{Request}
 use Rattle.file_access.specs.Calls.{next}
@@ -36,9 +39,14 @@ Asks old new asked request (Err _) = SendsOneOrNone old new asked request
 abbrev pub IsReal : Outcome → Type 0
 IsReal outcome = (outcome ≢ Fault) × (outcome ≢ NoMemory)
 
--- a unit's request: its action and its file
+-- the keep-alive mode of what is asked, if a daemon is
+abbrev pub mode_of : Isolation → Option KeepAlive
+mode_of InThread = None
+mode_of (Process asked) = Some asked.keep
+
+-- a unit's request: its action and its file, and the mode that is asked for
 abbrev pub request_for : ℕ → Work → Request
-request_for unit work = record { unit = unit; action = work.action; file = work.file }
+request_for unit work = record { unit = unit; action = work.action; file = work.file; keep = mode_of work.isolation }
 
 -- what is sent for an item that a daemon works out: at most one request, and one where the outcome is real
 abbrev pub Sends : RequirementsView → SentView → SentView → Request → Outcome → Type 0

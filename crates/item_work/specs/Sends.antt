@@ -1,7 +1,8 @@
 -- What is sent and read for an item, by where it runs.
-use Rattle.std.specs.Prelude.{◌≡◌, ℕ, List, Option, true}
+use Rattle.std.specs.Prelude.{◌≡◌, ◌≢◌, ℕ, List, Option, None, IfSome, true}
 use Rattle.item_actions.specs.Forms.{is_file_name}
 use Rattle.item_actions.specs.declared.outcomes.Outcome.{Outcome}
+use Rattle.item_actions.specs.declared.outcomes.Outcome.TheVariants.{Fault}
 use Rattle.daemon_requirements.specs.declared.work.Isolation.{Isolation}
 use Rattle.daemon_requirements.specs.declared.work.Isolation.TheVariants.{InThread, Process}
 use Rattle.daemon_protocol.specs.declared.frames.Request.{Request}
@@ -22,3 +23,8 @@ ReadsFileFor (Process asked) old new = new ≡ old
 abbrev pub SendsFor : Isolation → SentView → SentView → Request → Outcome → Type 0
 SendsFor InThread old new request outcome = new ≡ old
 SendsFor (Process asked) old new request outcome = Sends asked old new request outcome
+
+-- no daemon is left to stop behind an item in the worker's own thread, and behind one in a process only where it is no fault
+abbrev pub SparesFor : {L : Type 0} → Isolation → Option L → Outcome → Type 0
+SparesFor InThread spare outcome = spare ≡ None
+SparesFor (Process asked) spare outcome = IfSome spare (λ _. outcome ≢ Fault)

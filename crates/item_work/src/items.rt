@@ -5,11 +5,12 @@ ghost use Rattle.resource_lock.specs.declared.marks.MarkId.TheVariants as ids;
 ghost use Rattle.coordination.specs.Shown.{claimed_shown};
 ghost use Rattle.file_access.specs.ReadView.{IsOutcomeCounted, and_read};
 ghost use Rattle.item_work.specs.Requests.{request_for};
-ghost use Rattle.item_work.specs.Sends.{IsNamedFor, ReadsFileFor, SendsFor};
+ghost use Rattle.item_work.specs.Sends.{IsNamedFor, ReadsFileFor, SendsFor, SparesFor};
 ghost use Rattle.item_work.specs.Tallying.{TalliesFor};
 
 use crate::daemons::PoolLock;
 use crate::processes::work_in_daemon;
+use crate::ran::Ran;
 use daemon_desk::Desk;
 use daemon_manager::Tally;
 use daemon_requirements::{Isolation, Work};
@@ -33,6 +34,9 @@ use std::sync::ledger::Ledger;
 /// daemon that covers what is asked; it is sent where the outcome is neither Fault nor NoMemory. The tally rises by the daemon that was reserved, one at
 /// least for a request that was sent and one at most, and by the daemon that failed: none where the outcome
 /// is neither Fault nor NoMemory, and else one at most.
+///
+/// Where one daemon too many is idle behind an item in a process, it comes back with the outcome, which then isn't Fault. The
+/// caller stops it once the item is closed. A daemon that failed was stopped here: nothing more is waited for at its end.
 pub fn run_item<R: Wait, D: Desk, U: Ledger, F: Ledger>(
     rt: &R,
     alloc: Global,
@@ -42,20 +46,21 @@ pub fn run_item<R: Wait, D: Desk, U: Ledger, F: Ledger>(
     mine: &mut Tally<U, F>,
     unit: u32,
     work: &Work,
-) -> Outcome
+) -> Ran<D::Link>
     requires claimed { Contains (claimed_shown lease.now.sight) (ids.Unit unit) }
     requires form { IsNamedFor work.now.isolation work.now.file }
     ensures files { D.files desk.new ≡ D.files desk.old }
     ensures reads { ReadsFileFor work.now.isolation (D.reads desk.old) (D.reads desk.new) }
-    ensures ran { result ≢ outcomes.Skipped }
-    ensures faults { IsOutcomeCounted (D.faults desk.old) (D.faults desk.new) result }
-    ensures honest { IfSome (D.files desk.old) (λ known. IsHonest result (value_on known work.now.action work.now.file)) }
+    ensures ran { result.outcome ≢ outcomes.Skipped }
+    ensures faults { IsOutcomeCounted (D.faults desk.old) (D.faults desk.new) result.outcome }
+    ensures honest { IfSome (D.files desk.old) (λ known. IsHonest result.outcome (value_on known work.now.action work.now.file)) }
     ensures sent { SendsFor work.now.isolation (record { count = D.sends desk.old; requests = D.sent desk.old })
-        (record { count = D.sends desk.new; requests = D.sent desk.new }) (request_for unit work.now) result }
-    ensures counted { TalliesFor work.now.isolation mine.old mine.new (D.sends desk.old) (D.sends desk.new) result }
+        (record { count = D.sends desk.new; requests = D.sent desk.new }) (request_for unit work.now) result.outcome }
+    ensures counted { TalliesFor work.now.isolation mine.old mine.new (D.sends desk.old) (D.sends desk.new) result.outcome }
+    ensures spare { SparesFor work.now.isolation result.spare result.outcome }
 {
     match &work.isolation {
-        Isolation::InThread => work_in_thread(alloc, desk, &work.action, &work.file),
+        Isolation::InThread => Ran::alone(work_in_thread(alloc, desk, &work.action, &work.file)),
         Isolation::Process(asked) => work_in_daemon(rt, alloc, desk, pool, mine, unit, work, asked),
     }
 }

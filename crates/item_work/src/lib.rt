@@ -4,7 +4,9 @@
 mod daemons;
 mod items;
 mod processes;
+mod ran;
 
 pub use daemons::PoolLock;
 pub use items::run_item;
 pub use processes::{ask, request_for};
+pub use ran::{Answered, Ran};

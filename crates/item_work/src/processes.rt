@@ -1,23 +1,23 @@
 //! An item that a daemon works out.
-ghost use Rattle.std.specs.Prelude.{◌≡◌, ◌≢◌, ◌≤◌, ◌+◌, IfOk, IfSome, MatchBool, true};
+ghost use Rattle.std.specs.Prelude.{◌≡◌, ◌≢◌, ◌≤◌, ◌+◌, IfOk, IfSome, true};
 ghost use Rattle.std.specs.Result.{is_ok};
 ghost use Rattle.item_actions.specs.Forms.{is_file_name};
 ghost use Rattle.item_actions.specs.Value.{IsHonest, value_on};
 ghost use Rattle.item_actions.specs.declared.outcomes.Outcome.TheVariants as outcomes;
 ghost use Rattle.daemon_requirements.specs.Covers.{Covers};
-ghost use Rattle.daemon_manager.specs.Counts.{and_failed};
 ghost use Rattle.daemon_desk.specs.Replies.{IsReplyTo};
 ghost use Rattle.file_access.specs.ReadView.{IsFaultCounted, IsOutcomeCounted};
-ghost use Rattle.item_work.specs.Requests.{Asks, Sends, request_for};
+ghost use Rattle.item_work.specs.Requests.{Asks, Sends, mode_of, request_for};
 ghost use Rattle.item_work.specs.Tallying.{TallyRises, one_if_err, one_if_unreal};
 
 use crate::daemons::{PoolLock, fail, release, reserve};
+use crate::ran::{Answered, Ran};
 use daemon_desk::Desk;
-use daemon_manager::{Reserved, Tally};
+use daemon_manager::Tally;
 use daemon_protocol::{Reply, Request};
-use daemon_requirements::{Requirements, Work};
+use daemon_requirements::{Isolation, Requirements, Work};
 use file_access::DeskFail;
-use item_actions::Outcome;
+use item_actions::{KeepAlive, Outcome};
 use std::alloc::{AllocError, Global};
 use std::sync::Wait;
 use std::sync::ledger::Ledger;
@@ -26,7 +26,8 @@ use std::sync::ledger::Ledger;
 ///
 /// What `run_item` says of an item in a process holds of it. The pool's lock is held only for the pool's own calls, never while
 /// a daemon starts or works. A daemon that gave no reply is stopped, and never used again: its link is broken, and only settled
-/// ones are given back. No daemon is lost, since neither a reservation nor a link can be dropped.
+/// ones are given back. An idle one that is one too many comes back with the outcome. No daemon is lost, since neither a
+/// reservation nor a link can be dropped.
 pub(crate) fn work_in_daemon<R: Wait, D: Desk, U: Ledger, F: Ledger>(
     rt: &R,
     alloc: Global,
@@ -36,28 +37,35 @@ pub(crate) fn work_in_daemon<R: Wait, D: Desk, U: Ledger, F: Ledger>(
     unit: u32,
     work: &Work,
     asked: &Requirements,
-) -> Outcome
+) -> Ran<D::Link>
     requires form { is_file_name work.now.file ≡ true }
     ensures files { D.files desk.new ≡ D.files desk.old }
     ensures reads { D.reads desk.new ≡ D.reads desk.old }
-    ensures ran { result ≢ outcomes.Skipped }
-    ensures faults { IsOutcomeCounted (D.faults desk.old) (D.faults desk.new) result }
-    ensures honest { IfSome (D.files desk.old) (λ known. IsHonest result (value_on known work.now.action work.now.file)) }
+    ensures ran { result.outcome ≢ outcomes.Skipped }
+    ensures faults { IsOutcomeCounted (D.faults desk.old) (D.faults desk.new) result.outcome }
+    ensures honest { IfSome (D.files desk.old) (λ known. IsHonest result.outcome (value_on known work.now.action work.now.file)) }
     ensures sent { Sends asked.now (record { count = D.sends desk.old; requests = D.sent desk.old })
-        (record { count = D.sends desk.new; requests = D.sent desk.new }) (request_for unit work.now) result }
-    ensures counted { TallyRises mine.old mine.new (D.sends desk.old) (D.sends desk.new) (one_if_unreal result) }
+        (record { count = D.sends desk.new; requests = D.sent desk.new }) (request_for unit work.now) result.outcome }
+    ensures counted { TallyRises mine.old mine.new (D.sends desk.old) (D.sends desk.new) (one_if_unreal result.outcome) }
+    ensures spare { IfSome result.spare (λ _. result.outcome ≢ outcomes.Fault) }
 {
     let Ok(request) = request_for(alloc, unit, work) else {
-        return Outcome::NoMemory;
+        return Ran::alone(Outcome::NoMemory);
     };
     match ask_daemon(rt, alloc, desk, pool, mine, &request, asked) {
-        Ok(reply) => reply.outcome,
-        Err(DeskFail::Failed) => Outcome::Fault,
-        Err(DeskFail::NoMemory) => Outcome::NoMemory,
+        Ok(answered) => {
+            let Answered { reply, spare } = answered;
+            Ran {
+                outcome: reply.outcome,
+                spare,
+            }
+        }
+        Err(DeskFail::Failed) => Ran::alone(Outcome::Fault),
+        Err(DeskFail::NoMemory) => Ran::alone(Outcome::NoMemory),
     }
 }
 
-/// The request for the unit's action on its file. The error is want of memory alone.
+/// The request for the unit's action on its file, in the keep-alive mode that is asked for. The error is want of memory alone.
 pub fn request_for(alloc: Global, unit: u32, work: &Work) -> Result<Request, AllocError>
     ensures { IfOk result (λ request. request ≡ request_for unit work.now) }
 {
@@ -65,10 +73,22 @@ pub fn request_for(alloc: Global, unit: u32, work: &Work) -> Result<Request, All
         unit,
         action: work.action,
         file: work.file.copy(alloc)?,
+        keep: mode_of(&work.isolation),
     })
 }
 
-// Asks a daemon of the pool, or a new one. A daemon that gave no reply is never used again: it is stopped.
+// The keep-alive mode that an item asks for, where it asks for a daemon.
+fn mode_of(isolation: &Isolation) -> Option<KeepAlive>
+    ensures { result ≡ mode_of isolation.now }
+{
+    match isolation {
+        Isolation::InThread => None,
+        Isolation::Process(asked) => Some(asked.fields().keep),
+    }
+}
+
+// Asks a daemon of the pool, or a new one, and gives it back. One that gave no reply is never used again: it is stopped, which
+// takes no time, as it is killed.
 fn ask_daemon<R: Wait, D: Desk, U: Ledger, F: Ledger>(
     rt: &R,
     alloc: Global,
@@ -77,47 +97,26 @@ fn ask_daemon<R: Wait, D: Desk, U: Ledger, F: Ledger>(
     mine: &mut Tally<U, F>,
     request: &Request,
     asked: &Requirements,
-) -> Result<Reply, DeskFail>
+) -> Result<Answered<D::Link>, DeskFail>
     requires { is_file_name request.now.file ≡ true }
     ensures files { D.files desk.new ≡ D.files desk.old }
     ensures reads { D.reads desk.new ≡ D.reads desk.old }
     ensures faults { IsFaultCounted (D.faults desk.old) (D.faults desk.new) result }
-    ensures reply { IfOk result (λ reply. IsReplyTo (D.files desk.old) request.now reply) }
+    ensures reply { IfOk result (λ answered. IsReplyTo (D.files desk.old) request.now answered.reply) }
     ensures sent { Asks (record { count = D.sends desk.old; requests = D.sent desk.old })
         (record { count = D.sends desk.new; requests = D.sent desk.new }) asked.now request.now result }
     ensures counted { TallyRises mine.old mine.new (D.sends desk.old) (D.sends desk.new) (one_if_err result) }
 {
     let mut reserved = reserve(rt, alloc, desk, pool, mine, request.unit, asked)?;
-    let answer = ask(alloc, desk, reserved.link(), request, asked);
-    give_back(rt, desk, pool, mine, reserved, answer.is_ok());
-    answer
-}
-
-// Gives a daemon back to the pool that answered, or one that failed, and stops the daemon that the pool gives for it. Whether
-// its link is settled tells which it is.
-fn give_back<R: Wait, D: Desk, U: Ledger, F: Ledger>(
-    rt: &R,
-    desk: &mut D,
-    pool: &PoolLock<D::Link, U, F>,
-    mine: &mut Tally<U, F>,
-    reserved: Reserved<D::Link>,
-    answered: bool,
-)
-    requires { D.Link.settled reserved.link ≡ answered }
-    ensures files { D.files desk.new ≡ D.files desk.old }
-    ensures reads { D.reads desk.new ≡ D.reads desk.old }
-    ensures faults { D.faults desk.new ≡ D.faults desk.old }
-    ensures sends { D.sends desk.new ≡ D.sends desk.old }
-    ensures sent { D.sent desk.new ≡ D.sent desk.old }
-    ensures counted { MatchBool answered (mine.new ≡ mine.old) (mine.new ≡ and_failed mine.old) }
-{
-    let spare = if answered {
-        release(rt, pool, reserved)
-    } else {
-        Some(fail(rt, pool, mine, reserved))
-    };
-    if let Some(link) = spare {
-        desk.stop(link);
+    match ask(alloc, desk, reserved.link(), request, asked) {
+        Ok(reply) => {
+            let spare = release(rt, pool, reserved);
+            Ok(Answered { reply, spare })
+        }
+        Err(failed) => {
+            desk.stop(fail(rt, pool, mine, reserved));
+            Err(failed)
+        }
     }
 }
 

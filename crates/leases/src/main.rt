@@ -4,12 +4,15 @@
 ghost use Rattle.std.specs.Prelude.{◌≡◌, IfOk, length};
 ghost use Rattle.leases_cli.specs.declared.top.TheConstants.{DESKS};
 
+mod ahead;
+
+use crate::ahead::Ahead;
 use daemon_desk::FolderDesk;
 use file_access::{OpenGate, StdSink, StdSource};
 use item_actions::Text;
 use leases_cli::{DESKS, Status, leases};
 use std::alloc::{AllocError, AllocFailed, Global};
-use std::io::ErrorKind;
+use std::io::{ErrorKind, Input};
 use std::process::ExitCode;
 use std::sync::Wait;
 use std::thread::Threads;
@@ -75,7 +78,7 @@ fn run<T: Threads + Wait + Sync>(rt: &HostRuntime, threads: &T) -> Result<Status
     let alloc = rt.alloc();
     let words = read_words(rt, alloc)?;
     let mut desks = desks(rt, alloc)?;
-    let mut input = StdSource::new(rt.stdin());
+    let mut input = StdSource::new(Ahead::new(rt.reader()));
     let mut out = StdSink::new(io::writer(rt));
     let ended = leases(
         threads, alloc, &words, &mut desks, &mut input, &OpenGate, &mut out,

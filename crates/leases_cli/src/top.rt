@@ -406,8 +406,8 @@ fn perform<R: Threads + Wait + Sync, D: Desk + Send + Drop, I: Source, G: Gate +
 /// the end the idle ones are stopped through the first desk. Where a run ended, each thread's desk sent, from the
 /// call's beginning to its end, the requests of those units that the thread closed, in the order in which it closed
 /// them, and no other request. For an item in a process that is one request, where the item ended with neither `Fault`
-/// nor `NoMemory`, and else at most one: the unit's number, its action and its file, over a link that was made for
-/// requirements that cover those asked. For any other unit it is none. What the words ask for is written to `out`, with
+/// nor `NoMemory`, and else at most one: the unit's number, its action and its file, in the keep-alive mode asked for, over a link that
+/// was made for requirements that cover those asked. For any other unit it is none. What the words ask for is written to `out`, with
 /// `--daemons` also what happened to the daemons, which the answer has too. For `worker` the requests that the input
 /// gives are answered on `out` by the files of the first desk. For `check` the plan is read through the first desk, and
 /// the history that the input gives is checked against it; what is found is written to `out`. For `again` the same is

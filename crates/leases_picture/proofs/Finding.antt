@@ -1,5 +1,7 @@
 -- What a line makes of what was looked at so far of a text.
-use Rattle.std.proofs.Common.{◌≡◌, ◌≢◌, ℕ, ◌+◌, ◌<◌, List, [], ◌∷◌, ◌++◌, length, Result, Ok, Err, refl, sym, ap, subst, ◌∙◌, append_assoc, append-nil, length-append, arith, codes, true, inl, inr, ◌⊎◌}
+use Rattle.std.proofs.Common.{◌≡◌, ◌≢◌, ℕ, ◌+◌, ◌<◌, List, [], ◌∷◌, ◌++◌, length, Result, Ok, Err, refl, sym, ap, subst, ◌∙◌, append_assoc, append-nil, length-append, arith, codes, true, false, inl, inr, ◌⊎◌, nat_eq}
+use Rattle.std.proofs.lemmas.Bool.{eqb-true, true≢false}
+use Rattle.std.proofs.lemmas.List.{nil_from_length}
 use Rattle.history_text.specs.Text.{numbered, entry_text, end_text}
 use Rattle.history_reader.specs.HistoryView.{HistoryView}
 use Rattle.history_reader.specs.Lines.{is_unbroken, IsLine, IsLineBefore, BeginsWithLine, AddsEntry, TakesLine, Ends, StopsIt, IsWrongAfter, Opens, OpensNone, first_line, second_line, next_number}
@@ -16,6 +18,13 @@ use Rattle.history_reader.specs.declared.histories.HistoryLine.{HistoryLine}
 use Rattle.history_reader.specs.declared.fails.TextFail.{TextFail}
 use Rattle.history_reader.specs.declared.fails.TextFail.TheVariants.{Stops, NoMemory}
 use Rattle.std.specs.Prelude.{IsErrAnd}
+
+-- whether a text is empty is asked by its length
+pub no_bytes : (bytes : List ℕ) → nat_eq (length bytes) 0 ≡ true → bytes ≡ []
+no_bytes bytes none = nil_from_length bytes (eqb-true (length bytes) 0 none)
+
+pub some_bytes : (bytes : List ℕ) → nat_eq (length bytes) 0 ≡ false → bytes ≢ []
+some_bytes bytes some is = true≢false (sym (ap (λ (l : List ℕ). nat_eq (length l) 0) is) ∙ some)
 
 -- the lines so far are passed over
 pub record Passes (text rest : List ℕ) : Type 0 where

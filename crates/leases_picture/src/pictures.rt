@@ -24,10 +24,13 @@ fn draw_history<K: Sink>(alloc: Global, history: &History, sink: &mut K) -> Stat
     }
 }
 
-fn draw_text<K: Sink>(alloc: Global, text: &[u8], sink: &mut K) -> Status
-    ensures { IsAnswered text.now (K.seen sink.old) (K.seen sink.new) result }
+// The text gives its memory back before anything is drawn.
+fn draw_text<K: Sink>(alloc: Global, text: Vec<u8>, sink: &mut K) -> Status
+    ensures { IsAnswered text.items (K.seen sink.old) (K.seen sink.new) result }
 {
-    match find_history(alloc, text) {
+    let found = find_history(alloc, &text);
+    drop(text);
+    match found {
         Ok(history) => draw_history(alloc, &history, sink),
         Err(TextFail::Stops(number)) => told(Status::NoHistory(number), sink),
         Err(TextFail::NoMemory) => Status::NoMemory,
@@ -44,7 +47,7 @@ pub(crate) fn picture<I: Source, K: Sink>(alloc: Global, input: &mut I, sink: &m
     ensures { HasPictured (I.seen input.old) (I.seen input.new) (K.seen sink.old) (K.seen sink.new) result }
 {
     match read_all(alloc, input) {
-        Ok(text) => draw_text(alloc, &text, sink),
+        Ok(text) => draw_text(alloc, text, sink),
         Err(ReadFail::SourceFault) => told(Status::SourceFault, sink),
         Err(ReadFail::NoMemory) => Status::NoMemory,
     }

@@ -1,6 +1,7 @@
 -- What comes of waiting for room, and of an item within a budget.
-use Rattle.std.specs.Prelude.{◌≡◌, ◌<◌, ◌≤◌, ℕ, Bool, true}
+use Rattle.std.specs.Prelude.{◌≡◌, ◌≢◌, ◌<◌, ◌≤◌, ℕ, Bool, true}
 use Rattle.item_actions.specs.declared.outcomes.Outcome.{Outcome}
+use Rattle.item_actions.specs.declared.outcomes.Outcome.TheVariants.{Fault}
 use Rattle.daemon_requirements.specs.RequirementsView.{RequirementsView}
 use Rattle.daemon_requirements.specs.Covers.{Covers}
 use Rattle.daemon_requirements.specs.declared.work.Isolation.{Isolation}
@@ -35,6 +36,11 @@ AsksProcess (Process asked) = Unit {0}
 abbrev pub IfDone : Budgeted → (Outcome → Type 0) → Type 0
 IfDone (Done outcome) P = P outcome
 IfDone (Over heap_mb) P = Unit {0}
+
+-- the item was run, and is no fault
+abbrev pub IsAnswered : Budgeted → Type 0
+IsAnswered (Done outcome) = outcome ≢ Fault
+IsAnswered (Over heap_mb) = ⊥
 
 -- the count of faults rises by one where the item was a fault, and at no other answer
 abbrev pub IsCountedWithin : ℕ → ℕ → Budgeted → Type 0

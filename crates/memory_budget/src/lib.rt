@@ -13,4 +13,4 @@ pub use locks::BudgetLock;
 pub use permits::Permit;
 pub use pools::{BudgetPool, MAX_BUDGET_MB};
 pub use rooms::{Room, Unadopted};
-pub use runs::{Budgeted, run_in_budget, stop_idle};
+pub use runs::{Budgeted, BudgetedRun, run_in_budget, stop_daemon, stop_idle};

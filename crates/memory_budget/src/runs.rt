@@ -7,18 +7,18 @@ ghost use Rattle.daemon_requirements.specs.Covers.{Covers};
 ghost use Rattle.daemon_desk.specs.Replies.{IsReplyTo};
 ghost use Rattle.file_access.specs.ReadView.{IsFaultCounted, IsOutcomeCounted};
 ghost use Rattle.item_work.specs.Requests.{Asks, Sends, request_for};
-ghost use Rattle.memory_budget.specs.Waiting.{AsksProcess, IfDone, IsCountedWithin, IsOverExactly, IsOverFor, SendsWithin, SendsWithinFor};
+ghost use Rattle.memory_budget.specs.Waiting.{AsksProcess, IfDone, IsAnswered, IsCountedWithin, IsOverExactly, IsOverFor, SendsWithin, SendsWithinFor};
 
 use crate::locks::BudgetLock;
 use crate::permits::{Permit, heap_of};
 use crate::rooms::{Room, Unadopted};
 use daemon_desk::Desk;
 use daemon_manager::Reserved;
-use daemon_protocol::{Reply, Request};
+use daemon_protocol::Request;
 use daemon_requirements::{Isolation, Linked, Requirements, Work};
 use file_access::DeskFail;
 use item_actions::Outcome;
-use item_work::{ask, request_for};
+use item_work::{Answered, Ran, ask, request_for};
 use lease_service::Lease;
 use std::alloc::Global;
 use std::sync::Wait;
@@ -32,13 +32,24 @@ pub enum Budgeted {
     Over(u64),
 }
 
+/// What came of an item within a budget, and perhaps a daemon to stop: one that was idle, where one too many was.
+///
+/// It can't be dropped, since the link can't. Who has it closes the item first, and gives the link to `stop_daemon` then: the wait
+/// for the daemon's end keeps no lease. It does so before it runs another item, since the daemon's memory isn't free before.
+pub struct BudgetedRun<L> {
+    pub budgeted: Budgeted,
+    pub spare: Option<L>,
+}
+
 /// Has a daemon of the pool work an item out, once there is room for one within the budget.
 ///
 /// While the item waits and runs the lease borrows its pass, so the worker takes part in no transform. The item runs in a process,
 /// and its file has the form of a file's name. What asks for more than the budget is `Over`, and nothing else is. Where the files
 /// are known the outcome is the action's value on them, NotThere or TooLong; else Fault, where the desk failed, or NoMemory. The
 /// desk's count of faults rises by one at Fault, and at no other answer. No file is read here. At most one request is sent, this
-/// unit's, to a daemon that covers what is asked; it is sent where the outcome is neither Fault nor NoMemory.
+/// unit's, to a daemon that covers what is asked; it is sent where the outcome is neither Fault nor NoMemory. Where one daemon too
+/// many is idle behind it, that one comes back with the answer, which then is no fault and not `Over`. Its memory stays taken until
+/// it was stopped.
 pub fn run_in_budget<R: Wait, D: Desk>(
     rt: &R,
     alloc: Global,
@@ -47,18 +58,19 @@ pub fn run_in_budget<R: Wait, D: Desk>(
     pool: &BudgetLock<D::Link>,
     unit: u32,
     work: &Work,
-) -> Budgeted
+) -> BudgetedRun<D::Link>
     requires process { AsksProcess work.now.isolation }
     requires form { is_file_name work.now.file ≡ true }
     ensures files { D.files desk.new ≡ D.files desk.old }
     ensures reads { D.reads desk.new ≡ D.reads desk.old }
-    ensures over { IsOverFor work.now.isolation pool.now.budget_mb result }
-    ensures ran { IfDone result (λ outcome. outcome ≢ outcomes.Skipped) }
-    ensures faults { IsCountedWithin (D.faults desk.old) (D.faults desk.new) result }
-    ensures honest { IfDone result (λ outcome.
+    ensures over { IsOverFor work.now.isolation pool.now.budget_mb result.budgeted }
+    ensures ran { IfDone result.budgeted (λ outcome. outcome ≢ outcomes.Skipped) }
+    ensures faults { IsCountedWithin (D.faults desk.old) (D.faults desk.new) result.budgeted }
+    ensures honest { IfDone result.budgeted (λ outcome.
         IfSome (D.files desk.old) (λ known. IsHonest outcome (value_on known work.now.action work.now.file))) }
     ensures sent { SendsWithinFor work.now.isolation (record { count = D.sends desk.old; requests = D.sent desk.old })
-        (record { count = D.sends desk.new; requests = D.sent desk.new }) (request_for unit work.now) result }
+        (record { count = D.sends desk.new; requests = D.sent desk.new }) (request_for unit work.now) result.budgeted }
+    ensures spare { IfSome result.spare (λ _. IsAnswered result.budgeted) }
 {
     match &work.isolation {
         Isolation::InThread => unreachable!(),
@@ -75,23 +87,31 @@ fn run_asked<R: Wait, D: Desk>(
     unit: u32,
     work: &Work,
     asked: &Requirements,
-) -> Budgeted
+) -> BudgetedRun<D::Link>
     requires form { is_file_name work.now.file ≡ true }
     ensures files { D.files desk.new ≡ D.files desk.old }
     ensures reads { D.reads desk.new ≡ D.reads desk.old }
-    ensures over { IsOverExactly asked.now pool.now.budget_mb result }
-    ensures ran { IfDone result (λ outcome. outcome ≢ outcomes.Skipped) }
-    ensures faults { IsCountedWithin (D.faults desk.old) (D.faults desk.new) result }
-    ensures honest { IfDone result (λ outcome.
+    ensures over { IsOverExactly asked.now pool.now.budget_mb result.budgeted }
+    ensures ran { IfDone result.budgeted (λ outcome. outcome ≢ outcomes.Skipped) }
+    ensures faults { IsCountedWithin (D.faults desk.old) (D.faults desk.new) result.budgeted }
+    ensures honest { IfDone result.budgeted (λ outcome.
         IfSome (D.files desk.old) (λ known. IsHonest outcome (value_on known work.now.action work.now.file))) }
     ensures sent { SendsWithin asked.now (record { count = D.sends desk.old; requests = D.sent desk.old })
-        (record { count = D.sends desk.new; requests = D.sent desk.new }) (request_for unit work.now) result }
+        (record { count = D.sends desk.new; requests = D.sent desk.new }) (request_for unit work.now) result.budgeted }
+    ensures spare { IfSome result.spare (λ _. IsAnswered result.budgeted) }
 {
     let heap_mb = heap_of(asked);
     if heap_mb > pool.budget_mb() {
-        return Budgeted::Over(heap_mb);
+        return BudgetedRun {
+            budgeted: Budgeted::Over(heap_mb),
+            spare: None,
+        };
     }
-    Budgeted::Done(work_in_daemon(rt, alloc, desk, pool, unit, work, asked))
+    let Ran { outcome, spare } = work_in_daemon(rt, alloc, desk, pool, unit, work, asked);
+    BudgetedRun {
+        budgeted: Budgeted::Done(outcome),
+        spare,
+    }
 }
 
 // Lets a daemon work the item out, one that covers what is asked, or starts one. The pool's lock is held only for the pool's own
@@ -104,23 +124,30 @@ fn work_in_daemon<R: Wait, D: Desk>(
     unit: u32,
     work: &Work,
     asked: &Requirements,
-) -> Outcome
+) -> Ran<D::Link>
     requires form { is_file_name work.now.file ≡ true }
     ensures files { D.files desk.new ≡ D.files desk.old }
     ensures reads { D.reads desk.new ≡ D.reads desk.old }
-    ensures ran { result ≢ outcomes.Skipped }
-    ensures faults { IsOutcomeCounted (D.faults desk.old) (D.faults desk.new) result }
-    ensures honest { IfSome (D.files desk.old) (λ known. IsHonest result (value_on known work.now.action work.now.file)) }
+    ensures ran { result.outcome ≢ outcomes.Skipped }
+    ensures faults { IsOutcomeCounted (D.faults desk.old) (D.faults desk.new) result.outcome }
+    ensures honest { IfSome (D.files desk.old) (λ known. IsHonest result.outcome (value_on known work.now.action work.now.file)) }
     ensures sent { Sends asked.now (record { count = D.sends desk.old; requests = D.sent desk.old })
-        (record { count = D.sends desk.new; requests = D.sent desk.new }) (request_for unit work.now) result }
+        (record { count = D.sends desk.new; requests = D.sent desk.new }) (request_for unit work.now) result.outcome }
+    ensures spare { IfSome result.spare (λ _. result.outcome ≢ outcomes.Fault) }
 {
     let Ok(request) = request_for(alloc, unit, work) else {
-        return Outcome::NoMemory;
+        return Ran::alone(Outcome::NoMemory);
     };
     match ask_daemon(rt, alloc, desk, pool, &request, asked) {
-        Ok(reply) => reply.outcome,
-        Err(DeskFail::Failed) => Outcome::Fault,
-        Err(DeskFail::NoMemory) => Outcome::NoMemory,
+        Ok(answered) => {
+            let Answered { reply, spare } = answered;
+            Ran {
+                outcome: reply.outcome,
+                spare,
+            }
+        }
+        Err(DeskFail::Failed) => Ran::alone(Outcome::Fault),
+        Err(DeskFail::NoMemory) => Ran::alone(Outcome::NoMemory),
     }
 }
 
@@ -132,12 +159,12 @@ fn ask_daemon<R: Wait, D: Desk>(
     pool: &BudgetLock<D::Link>,
     request: &Request,
     asked: &Requirements,
-) -> Result<Reply, DeskFail>
+) -> Result<Answered<D::Link>, DeskFail>
     requires { is_file_name request.now.file ≡ true }
     ensures files { D.files desk.new ≡ D.files desk.old }
     ensures reads { D.reads desk.new ≡ D.reads desk.old }
     ensures faults { IsFaultCounted (D.faults desk.old) (D.faults desk.new) result }
-    ensures reply { IfOk result (λ reply. IsReplyTo (D.files desk.old) request.now reply) }
+    ensures reply { IfOk result (λ answered. IsReplyTo (D.files desk.old) request.now answered.reply) }
     ensures sent { Asks (record { count = D.sends desk.old; requests = D.sent desk.old })
         (record { count = D.sends desk.new; requests = D.sent desk.new }) asked.now request.now result }
 {
@@ -168,13 +195,18 @@ fn stop_each<R: Wait, D: Desk>(
     let mut links = links;
     links.reverse();
     while let Some(link) = links.pop() {
-        stop(rt, desk, pool, link);
+        stop_daemon(rt, desk, pool, link);
     }
     links.destroy_empty();
 }
 
-// Stops a daemon that the pool gave to stop. Once it has ended, its memory serves for others.
-fn stop<R: Wait, D: Desk>(rt: &R, desk: &mut D, pool: &BudgetLock<D::Link>, link: D::Link)
+/// Stops a daemon that the pool gave to stop, as the spare one of a run. Once it has ended, its memory serves for others.
+pub fn stop_daemon<R: Wait, D: Desk>(
+    rt: &R,
+    desk: &mut D,
+    pool: &BudgetLock<D::Link>,
+    link: D::Link,
+)
     ensures files { D.files desk.new ≡ D.files desk.old }
     ensures reads { D.reads desk.new ≡ D.reads desk.old }
     ensures faults { D.faults desk.new ≡ D.faults desk.old }
@@ -197,7 +229,7 @@ pub fn stop_idle<R: Wait, D: Desk>(rt: &R, desk: &mut D, pool: &BudgetLock<D::Li
 {
     match pool.stop_idle(rt) {
         Some(link) => {
-            stop(rt, desk, pool, link);
+            stop_daemon(rt, desk, pool, link);
             true
         }
         None => false,
@@ -213,13 +245,13 @@ fn ask_started<R: Wait, D: Desk>(
     permit: Permit,
     request: &Request,
     asked: &Requirements,
-) -> Result<Reply, DeskFail>
+) -> Result<Answered<D::Link>, DeskFail>
     requires permit { permit.requirements ≡ asked.now }
     requires form { is_file_name request.now.file ≡ true }
     ensures files { D.files desk.new ≡ D.files desk.old }
     ensures reads { D.reads desk.new ≡ D.reads desk.old }
     ensures faults { IsFaultCounted (D.faults desk.old) (D.faults desk.new) result }
-    ensures reply { IfOk result (λ reply. IsReplyTo (D.files desk.old) request.now reply) }
+    ensures reply { IfOk result (λ answered. IsReplyTo (D.files desk.old) request.now answered.reply) }
     ensures sent { Asks (record { count = D.sends desk.old; requests = D.sent desk.old })
         (record { count = D.sends desk.new; requests = D.sent desk.new }) asked.now request.now result }
 {
@@ -243,7 +275,7 @@ fn ask_adopted<R: Wait, D: Desk>(
     link: D::Link,
     request: &Request,
     asked: &Requirements,
-) -> Result<Reply, DeskFail>
+) -> Result<Answered<D::Link>, DeskFail>
     requires permit { permit.requirements ≡ asked.now }
     requires made { D.Link.requirements link ≡ permit.requirements }
     requires settled { D.Link.settled link ≡ true }
@@ -251,7 +283,7 @@ fn ask_adopted<R: Wait, D: Desk>(
     ensures files { D.files desk.new ≡ D.files desk.old }
     ensures reads { D.reads desk.new ≡ D.reads desk.old }
     ensures faults { IsFaultCounted (D.faults desk.old) (D.faults desk.new) result }
-    ensures reply { IfOk result (λ reply. IsReplyTo (D.files desk.old) request.now reply) }
+    ensures reply { IfOk result (λ answered. IsReplyTo (D.files desk.old) request.now answered.reply) }
     ensures sent { Asks (record { count = D.sends desk.old; requests = D.sent desk.old })
         (record { count = D.sends desk.new; requests = D.sent desk.new }) asked.now request.now result }
 {
@@ -276,21 +308,24 @@ fn ask_once<D: Desk>(
     link: D::Link,
     request: &Request,
     asked: &Requirements,
-) -> Result<Reply, DeskFail>
+) -> Result<Answered<D::Link>, DeskFail>
     requires covers { Covers (D.Link.requirements link) asked.now }
     requires settled { D.Link.settled link ≡ true }
     requires form { is_file_name request.now.file ≡ true }
     ensures files { D.files desk.new ≡ D.files desk.old }
     ensures reads { D.reads desk.new ≡ D.reads desk.old }
     ensures faults { IsFaultCounted (D.faults desk.old) (D.faults desk.new) result }
-    ensures reply { IfOk result (λ reply. IsReplyTo (D.files desk.old) request.now reply) }
+    ensures reply { IfOk result (λ answered. IsReplyTo (D.files desk.old) request.now answered.reply) }
     ensures sent { Asks (record { count = D.sends desk.old; requests = D.sent desk.old })
         (record { count = D.sends desk.new; requests = D.sent desk.new }) asked.now request.now result }
 {
     let mut link = link;
     let answer = ask(alloc, desk, &mut link, request, asked);
     desk.stop(link);
-    answer
+    match answer {
+        Ok(reply) => Ok(Answered { reply, spare: None }),
+        Err(failed) => Err(failed),
+    }
 }
 
 // Asks a daemon that is reserved, and gives it back. One that gave no reply is never used again: it is stopped.
@@ -302,44 +337,27 @@ fn ask_reserved<R: Wait, D: Desk>(
     reserved: Reserved<D::Link>,
     request: &Request,
     asked: &Requirements,
-) -> Result<Reply, DeskFail>
+) -> Result<Answered<D::Link>, DeskFail>
     requires covers { Covers (D.Link.requirements reserved.link) asked.now }
     requires settled { D.Link.settled reserved.link ≡ true }
     requires form { is_file_name request.now.file ≡ true }
     ensures files { D.files desk.new ≡ D.files desk.old }
     ensures reads { D.reads desk.new ≡ D.reads desk.old }
     ensures faults { IsFaultCounted (D.faults desk.old) (D.faults desk.new) result }
-    ensures reply { IfOk result (λ reply. IsReplyTo (D.files desk.old) request.now reply) }
+    ensures reply { IfOk result (λ answered. IsReplyTo (D.files desk.old) request.now answered.reply) }
     ensures sent { Asks (record { count = D.sends desk.old; requests = D.sent desk.old })
         (record { count = D.sends desk.new; requests = D.sent desk.new }) asked.now request.now result }
 {
     let mut reserved = reserved;
-    let answer = ask(alloc, desk, reserved.link(), request, asked);
-    give_back(rt, desk, pool, reserved, answer.is_ok());
-    answer
-}
-
-// Gives a daemon back that answered, or one that failed, and stops the daemon that the pool gives for it.
-fn give_back<R: Wait, D: Desk>(
-    rt: &R,
-    desk: &mut D,
-    pool: &BudgetLock<D::Link>,
-    reserved: Reserved<D::Link>,
-    answered: bool,
-)
-    requires { D.Link.settled reserved.link ≡ answered }
-    ensures files { D.files desk.new ≡ D.files desk.old }
-    ensures reads { D.reads desk.new ≡ D.reads desk.old }
-    ensures faults { D.faults desk.new ≡ D.faults desk.old }
-    ensures sends { D.sends desk.new ≡ D.sends desk.old }
-    ensures sent { D.sent desk.new ≡ D.sent desk.old }
-{
-    let spare = if answered {
-        pool.release(rt, reserved)
-    } else {
-        Some(pool.fail(rt, reserved))
-    };
-    if let Some(link) = spare {
-        stop(rt, desk, pool, link);
+    match ask(alloc, desk, reserved.link(), request, asked) {
+        Ok(reply) => {
+            let spare = pool.release(rt, reserved);
+            Ok(Answered { reply, spare })
+        }
+        Err(failed) => {
+            let link = pool.fail(rt, reserved);
+            stop_daemon(rt, desk, pool, link);
+            Err(failed)
+        }
     }
 }

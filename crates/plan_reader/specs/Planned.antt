@@ -6,8 +6,10 @@ use Rattle.toml.specs.Data.{Data, table, no_members}
 use Rattle.item_actions.specs.declared.actions.ItemAction.{ItemAction}
 use Rattle.item_actions.specs.declared.action_kinds.ActionKind.{ActionKind}
 use Rattle.item_actions.specs.declared.action_kinds.ActionKind.TheVariants as kind
-use Rattle.item_actions.specs.Words.{action_kind_of}
+use Rattle.item_actions.specs.Words.{action_kind_of, keep_alive_mode_of}
 use Rattle.item_actions.specs.declared.actions.ItemAction.TheVariants.{Lines, Words, Bytes, Longest, Count, Sha256}
+use Rattle.item_actions.specs.declared.keep_alive.KeepAlive.{KeepAlive}
+use Rattle.item_actions.specs.declared.keep_alive.KeepAlive.TheVariants.{Session}
 use Rattle.resource_lock.specs.declared.graphs.Retention.{Retention}
 use Rattle.resource_lock.specs.declared.graphs.Retention.TheVariants.{ReleaseAndReacquire}
 use Rattle.resource_lock.specs.Words.{retention_of}
@@ -16,7 +18,7 @@ use Rattle.daemon_requirements.specs.RequirementsView.{RequirementsView}
 use Rattle.plan_table.specs.Forms.{Text, is_needle}
 use Rattle.plan_table.specs.Keys.{tasks_of, requirements_of, name_of, project_of, actions_of, wait_of, fetch_of, items_of, do_of, file_of, needle_of}
 use Rattle.plan_table.specs.Keys.{isolation_of, requirements_name_of, executable_of, heap_of, args_of, properties_of, variables_of, debug_of, assertions_of}
-use Rattle.plan_table.specs.Keys.{encoding_of}
+use Rattle.plan_table.specs.Keys.{encoding_of, keep_alive_of}
 use Rattle.plan_reader.specs.PlanView.{WorkView, PlanActionView, PlanTaskView, PlanView}
 use Rattle.plan_reader.specs.NameNumbers.{number_of}
 use Rattle.plan_reader.specs.Names.{NameLists, names_in, dependency_numbers}
@@ -31,6 +33,10 @@ abbrev pub heap_number : ℤ → ℕ
 heap_number (pos mb) = mb
 heap_number (negsuc n) = 0
 
+-- a document with a word of no mode is refused
+abbrev pub mode_named : Text → KeepAlive
+mode_named word = unwrap_or (keep_alive_mode_of word) Session
+
 abbrev pub requirements_from : Data → RequirementsView
 requirements_from r = record {
   executable = executable_of r;
@@ -41,6 +47,7 @@ requirements_from r = record {
   debug = debug_of r;
   assertions = assertions_of r;
   encoding = encoding_of r;
+  keep = mode_named (keep_alive_of r);
 }
 
 -- what a table without keys asks for

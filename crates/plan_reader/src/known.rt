@@ -28,7 +28,7 @@ impl Known<'_, '_> {
         }
     }
 
-    /// A copy of the requirements of this name, and of the default where there is none.
+    /// The requirements of this name, and the default where there is none: a copy, which shares their texts.
     pub(crate) fn copy_of(
         &self,
         alloc: Global,

@@ -3,18 +3,18 @@ ghost use Rattle.std.specs.Prelude.{string_bytes, codes, ◌≡◌, true, map, I
 ghost use Rattle.std.specs.List.{list_all};
 ghost use Rattle.toml.specs.View.{view};
 ghost use Rattle.daemon_requirements.specs.RequirementsView.{requirements_view, HasDistinctNames};
-ghost use Rattle.plan_table.specs.Keys.{requirements_of, heap_of, name_of};
+ghost use Rattle.plan_table.specs.Keys.{requirements_of, heap_of, keep_alive_of, name_of};
 ghost use Rattle.plan_table.specs.Taking.{KeepsOthers};
 ghost use Rattle.plan_table.specs.Values.{text_of};
 ghost use Rattle.plan_reader.specs.Names.{names_in};
 ghost use Rattle.plan_reader.specs.Rows.{is_heap};
-ghost use Rattle.plan_reader.specs.Planned.{pair_of, heap_number, requirements_from, default_requirements, all_requirements, requirements_named};
+ghost use Rattle.plan_reader.specs.Planned.{pair_of, heap_number, mode_named, requirements_from, default_requirements, all_requirements, requirements_named};
 
 use daemon_requirements::{Pair, RequirementFields, Requirements};
-use item_actions::Text;
+use item_actions::{KeepAlive, Text};
 use plan_table::{
-    assertions_of, debug_of, heap_of, into_text, name_of, requirements_of, take_args,
-    take_encoding, take_executable, take_properties, take_requirements, take_variables,
+    assertions_of, debug_of, heap_of, into_text, keep_alive_of, name_of, requirements_of,
+    take_args, take_encoding, take_executable, take_properties, take_requirements, take_variables,
 };
 use std::alloc::{AllocError, Global};
 use toml::{Table, Value};
@@ -52,6 +52,13 @@ fn heap_mb_of(requirements: &Value) -> u32
     heap_of(requirements) as u32
 }
 
+// The keep-alive mode of requirements. A document with a word of no mode is refused before.
+fn mode_of(requirements: &Value) -> KeepAlive
+    ensures { result ≡ mode_named (keep_alive_of (view requirements.now)) }
+{
+    KeepAlive::of_word(keep_alive_of(requirements)).unwrap_or(KeepAlive::Session)
+}
+
 // The fields that requirements say, with the defaults of those that they leave out.
 fn fields_of(alloc: Global, mut requirements: Value) -> Result<RequirementFields, AllocError>
     requires { is_heap (heap_of (view requirements)) ≡ true }
@@ -62,6 +69,7 @@ fn fields_of(alloc: Global, mut requirements: Value) -> Result<RequirementFields
         heap_mb: heap_mb_of(&requirements),
         debug: debug_of(&requirements),
         assertions: assertions_of(&requirements),
+        keep: mode_of(&requirements),
         executable: take_executable(alloc, &mut requirements)?,
         args: texts_of(alloc, take_args(alloc, &mut requirements))?,
         properties: pairs_of(alloc, take_properties(alloc, &mut requirements))?,
@@ -70,14 +78,14 @@ fn fields_of(alloc: Global, mut requirements: Value) -> Result<RequirementFields
     })
 }
 
-// The requirements that a table says, whose heap keeps its limits.
+// The requirements that a table says, whose heap keeps its limits. All items that name them share them.
 fn requirements_from(alloc: Global, requirements: Value) -> Result<Requirements, AllocError>
     requires { is_heap (heap_of (view requirements)) ≡ true }
     ensures { IfOk result (λ p. p ≡ requirements_from (view requirements)) }
 {
     let fields = fields_of(alloc, requirements)?;
     match Requirements::of(fields) {
-        Ok(requirements) => Ok(requirements),
+        Ok(requirements) => requirements.share(alloc),
         Err(_) => unreachable!(),
     }
 }

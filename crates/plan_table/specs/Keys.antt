@@ -1,6 +1,8 @@
 -- What stands under each key of a plan's tables, with the defaults.
 use Rattle.std.specs.Prelude.{ℤ, pos, codes, Bool, false, List, Option}
 use Rattle.toml.specs.Data.{Data, get}
+use Rattle.item_actions.specs.declared.keep_alive.KeepAlive.TheVariants.{Session}
+use Rattle.item_actions.specs.Words.{keep_alive_word}
 use Rattle.resource_lock.specs.declared.graphs.Retention.TheVariants.{ReleaseAndReacquire}
 use Rattle.resource_lock.specs.Words.{retention_word}
 use Rattle.plan_table.specs.Forms.{Text}
@@ -87,3 +89,6 @@ assertions_of d = boolean_or false (get (codes "assertions") d)
 
 abbrev pub encoding_of : Data → Text
 encoding_of d = text_or (codes "UTF-8") (get (codes "encoding") d)
+
+abbrev pub keep_alive_of : Data → Text
+keep_alive_of d = text_or (keep_alive_word Session) (get (codes "keep_alive") d)

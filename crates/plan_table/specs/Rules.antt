@@ -5,12 +5,12 @@ use Rattle.toml.specs.Data.{Data}
 use Rattle.plan_table.specs.declared.rules.TableKind.{TableKind}
 use Rattle.plan_table.specs.declared.rules.TableKind.TheVariants.{Document, Project, Task, Action, Item, Requirements}
 use Rattle.plan_table.specs.declared.rules.ValueForm.{ValueForm}
-use Rattle.plan_table.specs.declared.rules.ValueForm.TheVariants.{One, Many, Settings, Wait, Do, Isolation, Integer, Boolean, Tables}
+use Rattle.plan_table.specs.declared.rules.ValueForm.TheVariants.{One, Many, Settings, Wait, Do, Isolation, KeepAlive, Integer, Boolean, Tables}
 use Rattle.plan_table.specs.declared.rules.TextForm.{TextForm}
 use Rattle.plan_table.specs.declared.rules.TextForm.TheVariants.{Name, FileName, Needle, Executable, Encoding, Argument}
 use Rattle.plan_table.specs.declared.rules.KeyRule.{KeyRule}
 use Rattle.item_actions.specs.Forms.{is_file_name}
-use Rattle.item_actions.specs.Words.{action_kind_of}
+use Rattle.item_actions.specs.Words.{action_kind_of, keep_alive_mode_of}
 use Rattle.resource_lock.specs.Words.{retention_of}
 use Rattle.plan_table.specs.Forms.{Text, is_name, is_needle, is_executable, is_encoding, is_value, is_key}
 use Rattle.plan_table.specs.Values.{text_of, texts_of, table_pairs, is_text, is_integer, is_boolean, is_array, is_array_of_texts, is_table_of_texts, is_word}
@@ -65,6 +65,7 @@ rules Requirements =
     ∷ optional (codes "debug") Boolean
     ∷ optional (codes "assertions") Boolean
     ∷ optional (codes "encoding") (One Encoding)
+    ∷ optional (codes "keep_alive") KeepAlive
     ∷ []
 
 -- ---- words
@@ -81,6 +82,7 @@ has_type Settings d = is_table_of_texts d
 has_type Wait d = is_some (retention_of (text_of d))
 has_type Do d = is_some (action_kind_of (text_of d))
 has_type Isolation d = is_word isolations d
+has_type KeepAlive d = is_some (keep_alive_mode_of (text_of d))
 has_type Integer d = is_integer d
 has_type Boolean d = is_boolean d
 has_type Tables d = is_array d

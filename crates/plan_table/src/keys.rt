@@ -4,11 +4,12 @@ ghost use Rattle.std.specs.Option.{option_map_or};
 ghost use Rattle.toml.specs.View.{view};
 ghost use Rattle.plan_table.specs.Values.{text_of};
 ghost use Rattle.plan_table.specs.Keys.{projects_of, tasks_of, requirements_of, name_of, project_of, after_of, actions_of, wait_of, fetch_of, items_of, do_of};
-ghost use Rattle.plan_table.specs.Keys.{needle_of, isolation_of, requirements_name_of, heap_of, args_of, properties_of, variables_of, debug_of, assertions_of};
+ghost use Rattle.plan_table.specs.Keys.{needle_of, isolation_of, requirements_name_of, heap_of, args_of, properties_of, variables_of, debug_of, assertions_of, keep_alive_of};
 
 use crate::values::{
     boolean_or, integer_or, list_at, optional_text_at, table_of, text_at, text_or,
 };
+use item_actions::KeepAlive;
 use resource_lock::Retention;
 use toml::{Table, Value};
 
@@ -150,4 +151,11 @@ pub fn assertions_of(requirements: &Value) -> bool
     ensures { result ≡ assertions_of (view requirements.now) }
 {
     boolean_or(requirements.get("assertions"), false)
+}
+
+/// The word of the keep-alive mode of requirements: `session` where they have none.
+pub fn keep_alive_of<'a>(requirements: &'a Value) -> &'a str
+    ensures { result.now ≡ keep_alive_of (view requirements.entry.now) }
+{
+    text_or(requirements.get("keep_alive"), KeepAlive::Session.word())
 }

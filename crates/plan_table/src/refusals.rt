@@ -57,7 +57,7 @@ pub enum PlanRefusal {
     /// A table has a key that isn't known there, a `needle` where `do` isn't `count`, or `requirements` where
     /// `isolation` isn't `process`.
     UnknownKey(Place),
-    /// A value, or a member of a list, has another type, or `wait`, `do` or `isolation` is another word.
+    /// A value, or a member of a list, has another type, or `wait`, `do`, `isolation` or `keep_alive` is another word.
     WrongType(Place),
     /// A required key isn't there, an action has no item, or an item that counts has no needle.
     Missing(Place),

@@ -7,7 +7,7 @@ ghost use Rattle.plan_table.specs.Rules.{rule_of, rules, isolations, has_type, i
 
 use crate::forms::{is_encoding, is_executable, is_key, is_name, is_needle, is_value};
 use crate::values::{is_array_of_texts, is_table_of_texts, is_word, members, text_of};
-use item_actions::{ActionKind, is_file_name};
+use item_actions::{ActionKind, KeepAlive, is_file_name};
 use resource_lock::Retention;
 use toml::{Table, Value};
 
@@ -45,6 +45,7 @@ pub(crate) enum ValueForm {
     Wait,
     Do,
     Isolation,
+    KeepAlive,
     Integer,
     Boolean,
     /// An array, each member of which stands where a table should.
@@ -106,7 +107,7 @@ static ITEM_RULES: [KeyRule; 5] = [
 ];
 
 // The keys of requirements.
-static REQUIREMENTS_RULES: [KeyRule; 9] = [
+static REQUIREMENTS_RULES: [KeyRule; 10] = [
     rule!(required "name": One(Name)),
     rule!(optional "executable": One(Executable)),
     rule!(optional "heap_mb": Integer),
@@ -116,6 +117,7 @@ static REQUIREMENTS_RULES: [KeyRule; 9] = [
     rule!(optional "debug": Boolean),
     rule!(optional "assertions": Boolean),
     rule!(optional "encoding": One(Encoding)),
+    rule!(optional "keep_alive": KeepAlive),
 ];
 
 /// The keys that a table of this sort may have.
@@ -146,6 +148,7 @@ pub(crate) fn has_type(form: ValueForm, value: &Value) -> bool
         ValueForm::Wait => Retention::of_word(text_of(value)).is_some(),
         ValueForm::Do => ActionKind::of_word(text_of(value)).is_some(),
         ValueForm::Isolation => is_word(value, ISOLATIONS.as_slice()),
+        ValueForm::KeepAlive => KeepAlive::of_word(text_of(value)).is_some(),
         ValueForm::Integer => value.is_integer(),
         ValueForm::Boolean => value.is_bool(),
         ValueForm::Tables => value.is_array(),

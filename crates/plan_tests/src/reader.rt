@@ -1,4 +1,5 @@
 use daemon_requirements::{Isolation, Requirements, Work};
+use item_actions::KeepAlive;
 use plan_reader::*;
 use std::test::Fail;
 
@@ -12,6 +13,7 @@ heap_mb = 1_024
 args = [\"-v\", \"\"]
 properties = { b = \"2\", a = \"1\" }
 debug = true
+keep_alive = \"daemon\"
 
 [[task]]
 name = \"a\"
@@ -48,6 +50,7 @@ fn is_big(requirements: &Requirements) -> bool {
         && properties[0].name.as_str() == "a"
         && properties[0].value.as_str() == "1"
         && fields.debug
+        && fields.keep == KeepAlive::Daemon
 }
 
 fn is_default(requirements: &Requirements) -> bool {
@@ -60,6 +63,7 @@ fn is_default(requirements: &Requirements) -> bool {
         && !fields.debug
         && !fields.assertions
         && fields.encoding.as_str() == "UTF-8"
+        && fields.keep == KeepAlive::Session
 }
 
 fn asked(item: &Work) -> Option<&Requirements> {

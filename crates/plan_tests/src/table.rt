@@ -15,6 +15,7 @@ variables = { "PATH:X" = "" }
 debug = true
 assertions = true
 encoding = "US-ASCII"
+keep_alive = "daemon"
 "#;
 
 fn has_properties(requirements: &Value) -> bool {
@@ -42,6 +43,7 @@ fn is_large(requirements: &Value) -> bool {
         && variables_of(requirements).is_some_and(|variables| variables.len() == 1)
         && debug_of(requirements)
         && assertions_of(requirements)
+        && keep_alive_of(requirements) == "daemon"
 }
 
 #[test]
@@ -87,6 +89,7 @@ fn are_plain(requirements: &Value) -> bool {
         && variables_of(requirements).is_none()
         && !debug_of(requirements)
         && !assertions_of(requirements)
+        && keep_alive_of(requirements) == "session"
 }
 
 fn is_plain(document: &Value) -> bool {

@@ -4,12 +4,12 @@ use Rattle.std.specs.Prelude.{Contains, Vec}
 use Rattle.std.specs.List.{All}
 use Rattle.std.specs.declared.alloc.Global.{Global}
 use Rattle.std.proofs.lemmas.Bool.{cases_lt}
-use Rattle.std.proofs.lemmas.List.{get_or_default, get_or_past, get_or-map, length-map}
+use Rattle.std.proofs.lemmas.List.{get_or_default, get_or_past, length-map, take_all}
 use Rattle.resource_lock.specs.Fits.{Fits}
 use Rattle.resource_lock.specs.GraphView.{GraphView, GraphTaskView, graph_view, task_of, no_task}
 use Rattle.resource_lock.specs.declared.graphs.GraphTask.{GraphTask}
 use Rattle.task_ranks.specs.Rank.{Dependencies, InRange, after, lists_of}
-use Rattle.task_ranks.specs.Dependents.{ListsDependents}
+use Rattle.task_ranks.specs.Dependents.{ListsDependents, times}
 use Rattle.ready_work.specs.Dependents.{AreDependents}
 
 -- for each task, the tasks that it comes after
@@ -25,12 +25,6 @@ after_in (x ∷ ts) (suc t) = after_in ts t
 pub afters_read : (ts : List GraphTask) → map (λ (t : GraphTask). t.after.items) ts ≡ afters_in (map graph_view ts)
 afters_read [] = refl
 afters_read (t ∷ ts) = ap (λ rest. t.after.items ∷ rest) (afters_read ts)
-
--- a task that was read comes after tasks of the graph
-pub after_read : {g : GraphView} {task : GraphTask} (tasks : List GraphTask) (i : ℕ) → Fits g → map graph_view tasks ≡ g.tasks → i < length g.tasks → task ≡ get_or tasks i task → All (λ k. k < length g.tasks) task.after.items
-after_read {g} {task} tasks i fits is within read =
-    let inside : i < length tasks = omega (arith, ap length is, length-map tasks graph_view) in
-    subst (λ (t : GraphTaskView). All (λ k. k < length g.tasks) t.after) (ap (λ ts. get_or ts i no_task) (sym is) ∙ get_or-map graph_view tasks i task no_task inside ∙ ap graph_view (sym read)) (fits.after_within i no_task within)
 
 size_of : (g : GraphView) → length (afters_in g.tasks) ≡ length g.tasks
 size_of g = length-map g.tasks (λ (t : GraphTaskView). t.after)
@@ -56,6 +50,7 @@ dependents_from g all lists = record {
     λ c. subst (λ us. Contains us t) (after_in g.tasks k) (lists.sound t k c).1,
     λ c. lists.complete t k (has_after g k c.0 c.1) (subst (λ us. Contains us t) (sym (after_in g.tasks k)) c),
   );
+  as_often = λ t k. lists.as_often t k ∙ ap (λ (d : Dependencies). times (after d k) t) (take_all (length g.tasks) (afters_in g.tasks) (omega (arith, size_of g))) ∙ ap (λ us. times us t) (after_in g.tasks k);
 }
 
 pub are_dependents : (g : GraphView) (rows : List (Vec ℕ Global)) (all : List (Vec ℕ Global)) → lists_of rows ≡ afters_in g.tasks → ListsDependents (lists_of rows) (length rows) (lists_of all) → AreDependents g all

@@ -2,8 +2,12 @@ pub mod Words
 pub mod Sets
 pub mod Members
 pub mod AfterLists
+pub mod Places
+pub mod Counting
 pub mod Looking
 pub mod TaskLooks
+pub mod ByCount
+pub mod Opening
 pub mod Following
-pub mod Places
+pub mod Unowned
 pub mod Heads

@@ -3,7 +3,7 @@ use Rattle.std.proofs.Common.{◌≡◌, ◌≢◌, ℕ, ◌+◌, ◌<◌, ◌�
 use Rattle.std.specs.Prelude.{◌↔◌}
 use Rattle.std.proofs.lemmas.Bool.{cases_eq, true≢false}
 use Rattle.ready_work.specs.NumberSetView.{NumberSetView, has, room_of}
-use Rattle.ready_work.specs.Sets.{IsRightAt, IsSetOf, IsSetBelow, Looks, NoNumber, SameNumbers}
+use Rattle.ready_work.specs.Sets.{IsRightAt, IsSetOf, IsSetBelow, Looks, Moves, NoNumber, SameNumbers}
 
 -- one number was put where it belongs
 pub looks_put : (P : ℕ → Type 0) (t : ℕ) (b : Bool) (old new : NumberSetView) → room_of new ≡ room_of old → has new t ≡ b → ((k : ℕ) → k ≢ t → has new k ≡ has old k) → ((b ≡ true) ↔ P t) → Looks P (λ k. k ≡ t) old new
@@ -89,12 +89,30 @@ set_moved P Q Open set same is = record { each = λ k. at k (same k) (is.each k)
     at k (inr eq) (inl none) = absurd none
     at k (inr eq) (inr right) = inr (λ h. eq.0 (right.0 h), λ q. right.1 (eq.1 q))
 
-pub set_closed : (P Open After : ℕ → Type 0) (set : NumberSetView) → ((k : ℕ) → Open k → After k) → IsSetOf P Open set → IsSetOf P After set
-set_closed P Open After set close is = record { each = λ k. at k (is.each k) }
+-- ---- what holds of numbers changes too
+
+-- numbers were looked at, of those for which what holds has changed
+pub moves_seen : (P Q A B : ℕ → Type 0) (old new : NumberSetView) → ((k : ℕ) → B k → A k) → ((k : ℕ) → A k ⊎ (P k ↔ Q k)) → Looks Q A old new → Moves P Q B old new
+moves_seen P Q A B old new into known looks = record { room = looks.room; seen = λ k b. looks.seen k (into k b); kept = λ k right. at k right (known k) (looks.kept k) }
   where
-    at : (k : ℕ) → Open k ⊎ IsRightAt P set k → After k ⊎ IsRightAt P set k
-    at k (inl o) = inl (close k o)
-    at k (inr right) = inr right
+    at : (k : ℕ) → IsRightAt P old k → A k ⊎ (P k ↔ Q k) → (has new k ≡ has old k) ⊎ IsRightAt Q new k → IsRightAt Q new k
+    at k right (inl a) _ = looks.seen k a
+    at k right (inr eq) (inl same) = (λ h. eq.0 (right.0 (sym same ∙ h)), λ q. same ∙ right.1 (eq.1 q))
+    at k right (inr eq) (inr now) = now
+
+pub moves_looked : (P A : ℕ → Type 0) (old new : NumberSetView) → Looks P A old new → Moves P P A old new
+moves_looked P A old new looks = record { room = looks.room; seen = looks.seen; kept = λ k right. carried P old new k (looks.kept k) right }
+
+pub set_moves : (P Q Before Seen After : ℕ → Type 0) (old new : NumberSetView) → ((k : ℕ) → Before k → Seen k ⊎ After k) → Moves P Q Seen old new → IsSetOf P Before old → IsSetOf Q After new
+set_moves P Q Before Seen After old new cover moves is = record { each = λ k. at k (is.each k) }
+  where
+    seen : (k : ℕ) → Seen k ⊎ After k → After k ⊎ IsRightAt Q new k
+    seen k (inl s) = inr (moves.seen k s)
+    seen k (inr a) = inl a
+
+    at : (k : ℕ) → Before k ⊎ IsRightAt P old k → After k ⊎ IsRightAt Q new k
+    at k (inl b) = seen k (cover k b)
+    at k (inr right) = inr (moves.kept k right)
 
 -- ---- all numbers are looked at, one after another
 

@@ -2,9 +2,11 @@
 use Rattle.std.specs.Prelude.{ℕ, ◌≡◌, ◌↔◌, List, Vec, length, Contains}
 use Rattle.std.specs.declared.alloc.Global.{Global}
 use Rattle.resource_lock.specs.GraphView.{GraphView, task_of}
+use Rattle.task_ranks.specs.Dependents.{times}
 use Rattle.task_ranks.specs.Rank.{after, lists_of}
 
--- among the dependents of a task stand exactly the tasks of the graph that come after it
+-- among the dependents of a task stand exactly the tasks of the graph that come after it, each as often as it names the task
 pub record AreDependents (g : GraphView) (all : List (Vec ℕ Global)) : Type 0 where
   pub size : length all ≡ length g.tasks
   pub each : (t k : ℕ) → Contains (after (lists_of all) t) k ↔ Contains (task_of g k).after t
+  pub as_often : (t k : ℕ) → times (after (lists_of all) t) k ≡ times (task_of g k).after t

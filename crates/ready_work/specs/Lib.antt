@@ -9,6 +9,7 @@ pub mod LockOrderView
 pub mod LockOrder
 pub mod StartableTasksView
 pub mod StartableTasks
+pub mod Tally
 pub mod TaskSets
 pub mod Dependents
 pub mod ReadyWork

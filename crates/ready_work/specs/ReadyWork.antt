@@ -1,10 +1,9 @@
 -- The index of what can be done next, and how it follows changes.
-use Rattle.std.specs.Prelude.{ℕ, ◌≡◌, ◌≤◌, ◌⊎◌, ◌||◌, true, List, [], ◌∷◌, length, map, Contains}
+use Rattle.std.specs.Prelude.{ℕ, ◌≡◌, ◌≤◌, ◌⊎◌, true, List, [], ◌∷◌, length, map}
 use Rattle.std.specs.List.{AllByRecursion}
 use Rattle.resource_lock.specs.Change.{NamesOnly, can_all, make_all}
 use Rattle.resource_lock.specs.Fits.{Fits}
-use Rattle.resource_lock.specs.GraphView.{GraphView, task_of}
-use Rattle.resource_lock.specs.Marks.{has_ended}
+use Rattle.resource_lock.specs.GraphView.{GraphView}
 use Rattle.resource_lock.specs.Shape.{BelongsTo}
 use Rattle.resource_lock.specs.StateView.{StateView}
 use Rattle.resource_lock.specs.declared.changes.Change.{Change}
@@ -15,37 +14,44 @@ use Rattle.ready_work.specs.Choices.{IsFree, IsOpenUnit}
 use Rattle.ready_work.specs.Dependents.{AreDependents}
 use Rattle.ready_work.specs.NumberSetView.{room_of}
 use Rattle.ready_work.specs.Sets.{IsSetOf, Looks, NoNumber}
-use Rattle.ready_work.specs.TaskSets.{AreTaskSets, HasTaskRoom, LooksAt}
+use Rattle.ready_work.specs.TaskSets.{AreCounted, AreSetsByCount, AreTaskSets, HasTallies, HasTaskRoom, MovesTasks}
 use Rattle.ready_work.specs.declared.ready_works.ReadyWork.{ReadyWork}
 
--- the graph fits, the dependents and the tasks' locks are its own, and there is room for its units, tasks and locks
+-- the graph fits, the dependents, the counts and the tasks' locks are its own, and there is room for its units, tasks and locks
 pub record IsMadeFor (g : GraphView) (ready : ReadyWork) : Type 0 where
   pub fits : Fits g
   pub dependents : AreDependents g ready.dependents.items
   pub units : g.units ≤ room_of ready.open_units
   pub tasks : HasTaskRoom (length g.tasks) ready.tasks
+  pub tallies : HasTallies g ready.tasks
   pub locks : g.locks ≤ room_of ready.tasks.startable.free
   pub task_locks : ready.tasks.startable.locks ≡ map (λ t. t.lock.0) g.tasks
 
--- The index is that of the graph and the state, but for units, tasks and locks that are left open.
+-- The index is that of the graph and the state.
+pub record IsIndexOf (g : GraphView) (s : StateView) (ready : ReadyWork) : Type 0 where
+  pub made : IsMadeFor g ready
+  pub open_units : IsSetOf (IsOpenUnit g s) NoNumber ready.open_units
+  pub tasks : AreTaskSets g s ready.tasks
+  pub counted : AreCounted s NoNumber ready.tasks
+  pub free : IsSetOf (IsFree g s) NoNumber ready.tasks.startable.free
+
+-- The index is that of the graph and the state by its counts, but for units, tasks and locks that are left open.
 pub record IsIndexBut (g : GraphView) (s : StateView) (OpenUnits OpenTasks OpenLocks : ℕ → Type 0) (ready : ReadyWork) : Type 0 where
   pub made : IsMadeFor g ready
   pub open_units : IsSetOf (IsOpenUnit g s) OpenUnits ready.open_units
-  pub tasks : AreTaskSets g s OpenTasks ready.tasks
+  pub tasks : AreSetsByCount s OpenTasks ready.tasks
+  pub counted : AreCounted s OpenTasks ready.tasks
   pub free : IsSetOf (IsFree g s) OpenLocks ready.tasks.startable.free
-
-abbrev pub IsIndexOf : GraphView → StateView → ReadyWork → Type 0
-IsIndexOf g s ready = IsIndexBut g s NoNumber NoNumber NoNumber ready
 
 -- the unit's mark is moved
 abbrev pub TouchesUnit : Change → ℕ → Type 0
 TouchesUnit (Move (UnitOf u) from to) k = k ≡ u
 TouchesUnit _ k = ⊥
 
--- the task's mark is moved, or that of one that it comes after, from or to its end
-abbrev pub TouchesTask : GraphView → Change → ℕ → Type 0
-TouchesTask g (Move (TaskOf t) from to) k = (k ≡ t) ⊎ (((has_ended from || has_ended to) ≡ true) × Contains (task_of g k).after t)
-TouchesTask g _ k = ⊥
+-- the task's mark is moved
+abbrev pub TouchesTask : Change → ℕ → Type 0
+TouchesTask (Move (TaskOf t) from to) k = k ≡ t
+TouchesTask _ k = ⊥
 
 -- the lock is taken or given back
 abbrev pub TouchesLock : Change → ℕ → Type 0
@@ -58,9 +64,9 @@ abbrev pub TouchUnit : List Change → ℕ → Type 0
 TouchUnit [] k = ⊥
 TouchUnit (c ∷ cs) k = TouchesUnit c k ⊎ TouchUnit cs k
 
-abbrev pub TouchTask : GraphView → List Change → ℕ → Type 0
-TouchTask g [] k = ⊥
-TouchTask g (c ∷ cs) k = TouchesTask g c k ⊎ TouchTask g cs k
+abbrev pub TouchTask : List Change → ℕ → Type 0
+TouchTask [] k = ⊥
+TouchTask (c ∷ cs) k = TouchesTask c k ⊎ TouchTask cs k
 
 abbrev pub TouchLock : List Change → ℕ → Type 0
 TouchLock [] k = ⊥
@@ -70,7 +76,7 @@ TouchLock (c ∷ cs) k = TouchesLock c k ⊎ TouchLock cs k
 pub record Notes (g : GraphView) (s : StateView) (c : Change) (old new : ReadyWork) : Type 0 where
   pub dependents : new.dependents ≡ old.dependents
   pub open_units : Looks (IsOpenUnit g s) (TouchesUnit c) old.open_units new.open_units
-  pub tasks : LooksAt g s (TouchesTask g c) old.tasks new.tasks
+  pub tasks : MovesTasks g s (TouchesTask c) old.tasks new.tasks
   pub free : Looks (IsFree g s) (TouchesLock c) old.tasks.startable.free new.tasks.startable.free
 
 -- The worker could make the changes in turn in the first state, and they led to the second.

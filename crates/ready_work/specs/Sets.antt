@@ -23,6 +23,12 @@ pub record Looks (P Seen : ℕ → Type 0) (old new : NumberSetView) : Type 0 wh
   pub seen : (k : ℕ) → Seen k → IsRightAt P new k
   pub kept : (k : ℕ) → (has new k ≡ has old k) ⊎ IsRightAt P new k
 
+-- The set is right for what holds now at the numbers that were seen, and wherever it was right for what held before.
+pub record Moves (Before Now Seen : ℕ → Type 0) (old new : NumberSetView) : Type 0 where
+  pub room : room_of new ≡ room_of old
+  pub seen : (k : ℕ) → Seen k → IsRightAt Now new k
+  pub kept : (k : ℕ) → IsRightAt Before old k → IsRightAt Now new k
+
 -- both have the same members, and room for the same numbers
 pub record SameNumbers (old new : NumberSetView) : Type 0 where
   pub room : room_of new ≡ room_of old

@@ -9,6 +9,7 @@ mod lock_orders;
 mod number_sets;
 mod ready_works;
 mod startable_tasks;
+mod tallies;
 mod task_sets;
 
 pub use number_sets::NumberSet;

@@ -6,20 +6,18 @@ ghost use Rattle.resource_lock.specs.Marks.{has_ended};
 ghost use Rattle.resource_lock.specs.Shape.{BelongsTo};
 ghost use Rattle.resource_lock.specs.StateView.{StateView, IsLockOf};
 ghost use Rattle.resource_lock.specs.declared.ids.WorkerId.{WorkerId};
-ghost use Rattle.resource_lock.specs.declared.changes.Change.TheVariants.{Move};
-ghost use Rattle.resource_lock.specs.declared.marks.MarkId.TheVariants as ids;
 ghost use Rattle.ready_work.specs.Choices.{CanSkip, CanStart, IsFree, IsOpenUnit};
 ghost use Rattle.ready_work.specs.Lowest.{IsFrom, IsLowest, IsNone};
 ghost use Rattle.ready_work.specs.NumberSetView.{room_of};
-ghost use Rattle.ready_work.specs.ReadyWork.{Follows, IsIndexOf, IsMadeFor, Notes, TouchesTask};
+ghost use Rattle.ready_work.specs.ReadyWork.{Follows, IsIndexOf, IsMadeFor, Notes};
 ghost use Rattle.ready_work.specs.Sets.{IsSetOf, Looks, NoNumber, SameNumbers};
-ghost use Rattle.ready_work.specs.TaskSets.{LooksAt};
+ghost use Rattle.ready_work.specs.TaskSets.{LooksAt, MovesTasks};
 
 use crate::choices::{is_free, is_open};
 use crate::dependents::all_dependents;
 use crate::number_sets::NumberSet;
 use crate::task_sets::TaskSets;
-use resource_lock::{Change, Graph, LockId, Mark, MarkId, State};
+use resource_lock::{Change, Graph, LockId, MarkId, State};
 use std::alloc::{AllocError, Global};
 use task_ranks::dependents_at;
 
@@ -42,7 +40,7 @@ impl ReadyWork {
     {
         let dependents = all_dependents(alloc, graph)?;
         let open_units = open_units(alloc, graph, state)?;
-        let tasks = TaskSets::of(alloc, graph, state)?;
+        let tasks = TaskSets::of(alloc, graph, state, &dependents)?;
         Ok(ReadyWork {
             tasks,
             open_units,
@@ -106,9 +104,7 @@ impl ReadyWork {
                 let is_open = is_open(state, unit);
                 self.open_units.put(unit, is_open);
             }
-            Change::Move(MarkId::Task(task), from, to) => self.note_task(
-                graph, state, task, from, to,
-            ),
+            Change::Move(MarkId::Task(task), _, _) => self.note_task(graph, state, task),
             Change::Lock(lock) | Change::Unlock(lock) => self.note_lock(state, lock),
             _ => {}
         }
@@ -120,7 +116,7 @@ impl ReadyWork {
         requires room { lock.0 < room_of self.old.tasks.startable.free }
         ensures free { (g : GraphView) → BelongsTo g state.now
             → Looks (IsFree g state.now) (λ l. l ≡ lock.0) self.old.tasks.startable.free self.new.tasks.startable.free }
-        ensures tasks { (g : GraphView) → LooksAt g state.now NoNumber self.old.tasks self.new.tasks }
+        ensures tasks { LooksAt state.now NoNumber self.old.tasks self.new.tasks }
         ensures same { self.new ≡ record self.old { tasks = self.new.tasks } }
     {
         self.tasks
@@ -128,21 +124,17 @@ impl ReadyWork {
             .put_lock(lock.0, is_free(state, lock.0));
     }
 
-    // Looks at a task whose mark has moved, and at its dependents where it came to its end or
-    // left it.
-    fn note_task(&mut self, graph: &Graph, state: &State, task: u32, from: Mark, to: Mark)
+    // Looks at a task whose mark has moved, and at its dependents where that matters to them.
+    fn note_task(&mut self, graph: &Graph, state: &State, task: u32)
         requires made { IsMadeFor graph.now self.old }
         requires belongs { BelongsTo graph.now state.now }
         requires within { task < length graph.now.tasks }
-        ensures tasks { LooksAt graph.now state.now (TouchesTask graph.now (Move (ids.Task task) from to)) self.old.tasks self.new.tasks }
+        ensures tasks { MovesTasks graph.now state.now (λ k. k ≡ task) self.old.tasks self.new.tasks }
         ensures free { SameNumbers self.old.tasks.startable.free self.new.tasks.startable.free }
         ensures same { self.new ≡ record self.old { tasks = self.new.tasks } }
     {
-        self.tasks.look_at(graph, state, task);
-        if from.has_ended() || to.has_ended() {
-            let dependents = dependents_at(&self.dependents, task as usize);
-            self.tasks.look_at_all(graph, state, dependents);
-        }
+        let dependents = dependents_at(&self.dependents, task as usize);
+        self.tasks.note(state, task, dependents);
     }
 }
 

@@ -1,16 +1,14 @@
 -- One more part below those above it, and how far down they go.
 use Rattle.std.proofs.Common.{◌≡◌, ℕ, suc, zero, ◌+◌, ◌-◌, ◌*◌, ◌<◌, ◌≤◌, ◌^◌, List, [], ◌∷◌, ◌++◌, Bool, true, false, sym, ap, ap₂, subst, ◌∙◌, append_assoc, arith, refl}
-use Rattle.std.specs.Prelude.{min, nat_le, if◌then◌else◌, map, Result, Ok, Err, IfErr, IsErrAnd}
+use Rattle.std.specs.Prelude.{min, nat_le, if◌then◌else◌, Result, Ok, Err, IfErr, IsErrAnd}
 use Rattle.std.specs.List.{filter}
-use Rattle.std.proofs.lemmas.List.{map-append}
 use Rattle.run_spans.specs.declared.spans.Span.{Span}
-use Rattle.run_picture.specs.Frames.{rows_bottom, row_y, locks_y, lock_height}
-use Rattle.run_picture.specs.Parts.{PartView, part_of, part_with, parts_from, part_view, last_bottom, last_shown, height_of, touches, IsRefused, IsRefusedPart, begun_before, begun_from, Rising}
+use Rattle.run_picture.specs.Frames.{rows_bottom, locks_y}
+use Rattle.run_picture.specs.Parts.{PartView, part_of, part_with, parts_from, last_bottom, last_shown, height_of, touches, IsRefused, IsRefusedPart, begun_before, begun_from}
 use Rattle.run_picture.specs.declared.frames.Frame.{Frame}
 use Rattle.run_picture.specs.declared.frames.Scale.{Scale}
 use Rattle.run_picture.specs.declared.parts.LayoutFail.{LayoutFail}
 use Rattle.run_picture.specs.declared.parts.LayoutFail.TheVariants.{NoMemory, TooLarge}
-use Rattle.run_picture.specs.declared.staves.Part.{Part}
 use Rattle.run_picture.proofs.Carrying.{Carries, shows_all, carries_on}
 
 -- the parts from a place on are its part, and those below

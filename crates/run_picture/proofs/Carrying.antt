@@ -1,5 +1,5 @@
 -- What a part shows is found among what the part above shows, and the spans that begin in it.
-use Rattle.std.proofs.Common.{◌≡◌, ◌≤◌, ◌<◌, ℕ, ◌+◌, List, [], ◌∷◌, ◌++◌, Bool, true, false, cond, refl, sym, ap, ap₂, subst, ◌∙◌, append_assoc, append-nil, arith, take, drop, length, get_or}
+use Rattle.std.proofs.Common.{◌≡◌, ◌≤◌, ◌<◌, ℕ, ◌+◌, List, [], ◌∷◌, ◌++◌, Bool, true, false, cond, refl, sym, ap, subst, ◌∙◌, append_assoc, append-nil, arith, take, drop, length, get_or}
 use Rattle.std.specs.Prelude.{nat_lt, ◌&&◌}
 use Rattle.std.specs.List.{filter, AllByRecursion}
 use Rattle.std.proofs.lemmas.Bool.{lt-ltb, le-ltb, ltb-true, ltb-false, and_from, and_parts, and_left}
@@ -14,18 +14,18 @@ parted_cons : (b : Bool) (s : Span) (xs ys zs : List Span) → zs ≡ xs ++ ys �
 parted_cons true s xs ys zs is = ap (λ l. s ∷ l) is
 parted_cons false s xs ys zs is = refl
 
-parted : (b : ℕ) (ss : List Span) → ss ≡ begun_before b ss ++ begun_from b ss
+pub parted : (b : ℕ) (ss : List Span) → ss ≡ begun_before b ss ++ begun_from b ss
 parted b [] = refl
 parted b (s ∷ ss) = parted_cons (nat_lt s.from b) s (begun_before b ss) (begun_from b ss) ss (parted b ss)
 
-abbrev AllBefore : ℕ → List Span → Type 0
+abbrev pub AllBefore : ℕ → List Span → Type 0
 AllBefore b ss = AllByRecursion (λ (s : Span). s.from < b) ss
 
 before_cons : (c : Bool) (b : ℕ) (s : Span) (ss : List Span) → nat_lt s.from b ≡ c → AllBefore b ss → AllBefore b (cond c (s ∷ ss) [])
 before_cons true b s ss is all = (ltb-true s.from b is, all)
 before_cons false b s ss is all = tt
 
-all_before : (b : ℕ) (ss : List Span) → AllBefore b (begun_before b ss)
+pub all_before : (b : ℕ) (ss : List Span) → AllBefore b (begun_before b ss)
 all_before b [] = tt
 all_before b (s ∷ ss) = before_cons (nat_lt s.from b) b s (begun_before b ss) refl (all_before b ss)
 
@@ -33,7 +33,7 @@ from_cons : (c : Bool) (b : ℕ) (s : Span) (ss rest : List Span) → nat_lt s.f
 from_cons true b s ss rest is r more = more
 from_cons false b s ss rest is r more = (ltb-false s.from b is, r)
 
-from_rises : (n b : ℕ) (ss : List Span) → Rising n ss → Rising b (begun_from b ss)
+pub from_rises : (n b : ℕ) (ss : List Span) → Rising n ss → Rising b (begun_from b ss)
 from_rises n b [] r = tt
 from_rises n b (s ∷ ss) r = from_cons (nat_lt s.from b) b s ss (begun_from b ss) refl r.1 (from_rises s.from b ss r.1)
 

@@ -1,9 +1,8 @@
 -- Two histories never give one picture.
-use Rattle.std.proofs.Common.{◌≡◌, ◌≤◌, ◌<◌, ℕ, ◌+◌, ◌^◌, List, [], ◌∷◌, ◌++◌, Bool, true, false, refl, sym, ap, ap₂, subst, ◌∙◌, append_assoc, arith, decimal, codes, length, get_or}
+use Rattle.std.proofs.Common.{◌≡◌, ℕ, List, ◌∷◌, ◌++◌, Bool, true, false, refl, sym, ap, ◌∙◌, append_assoc, arith, decimal, codes, length, get_or}
 use Rattle.std.specs.List.{flat_map}
 use Rattle.std.proofs.lemmas.Fmt.{decimal_injective}
 use Rattle.std.proofs.lemmas.List.{append_cancel_left}
-use Rattle.lock_transforms.specs.Entry.{Entry}
 use Rattle.history_text.specs.Text.{parallel_text}
 use Rattle.history_text.specs.Fitting.{HeadFits}
 use Rattle.history_reader.specs.HistoryView.{HistoryView}
@@ -12,16 +11,21 @@ use Rattle.run_spans.specs.Levels.{levels_of, nothing_out}
 use Rattle.run_spans.specs.Spans.{spans_of}
 use Rattle.run_picture.specs.Heads.{opening_text, desc_text, title_text, second_text}
 use Rattle.run_picture.specs.Laws.{frame_at}
-use Rattle.run_picture.specs.Parts.{PartView, height_of}
-use Rattle.run_picture.specs.Picture.{head_text, style_text, legend_text, parts_text, ticks_of, parts_in, picture_text, totals_of}
+use Rattle.run_picture.specs.Parts.{height_of}
+use Rattle.run_picture.specs.Picture.{head_text, style_text, legend_text, parts_text, ticks_of, parts_in, picture_text, totals_of, whole_text}
 use Rattle.run_picture.specs.declared.frames.Frame.{Frame}
 use Rattle.run_picture.proofs.Marked.{calm, calm_both, calm_ticks, last_mark}
 use Rattle.run_picture.proofs.Telling.{foot, ticks_by, same_number, same_ticks}
 use Rattle.run_picture.proofs.Ticking.{all_ticks}
 
+-- the whole run, where it is drawn
+abbrev whole_in : HistoryView → List ℕ
+whole_in h = whole_text h (levels_of nothing_out h.entries) (spans_of h.entries) (parts_in h)
+
 -- what stands above the ticks
 unfoldable above : HistoryView → List ℕ
-above h = head_text h (height_of (parts_in h)) (totals_of h (levels_of nothing_out h.entries) (spans_of h.entries)) ++ parts_text h (levels_of nothing_out h.entries) (parts_in h)
+above h = head_text h (height_of (parts_in h)) (totals_of h (levels_of nothing_out h.entries) (spans_of h.entries))
+    ++ whole_in h ++ parts_text h (levels_of nothing_out h.entries) (parts_in h)
 
 no_frame : Frame
 no_frame = record { first = 0; behind = 0; per = 0; top = 0; workers = 0; locks = 0 }
@@ -97,16 +101,16 @@ same_desc w v m n p q r s a b is =
 unfoldable behind_of : HistoryView → List ℕ
 behind_of h =
     style_text ++ (title_text h.workers h.max (length h.entries) ++ (second_text (totals_of h (levels_of nothing_out h.entries) (spans_of h.entries)) ++ (legend_text
-    ++ (parts_text h (levels_of nothing_out h.entries) (parts_in h) ++ (codes "<g>\n" ++ (flat_map (ticks_of h) (parts_in h) ++ foot))))))
+    ++ (whole_in h ++ (parts_text h (levels_of nothing_out h.entries) (parts_in h) ++ (codes "<g>\n" ++ (flat_map (ticks_of h) (parts_in h) ++ foot)))))))
 
-nested_front : (a b c d e f g h i j : List ℕ) → (a ++ b ++ c ++ d ++ e ++ f) ++ g ++ h ++ i ++ j ≡ a ++ (b ++ (c ++ (d ++ (e ++ (f ++ (g ++ (h ++ (i ++ j))))))))
-nested_front a b c d e f g h i j = simp append_assoc
+nested_front : (a b c d e f w g h i j : List ℕ) → (a ++ b ++ c ++ d ++ e ++ f) ++ w ++ g ++ h ++ i ++ j ≡ a ++ (b ++ (c ++ (d ++ (e ++ (f ++ (w ++ (g ++ (h ++ (i ++ j)))))))))
+nested_front a b c d e f w g h i j = simp append_assoc
 
 front_form : (h : HistoryView) → picture_text h ≡ opening_text (height_of (parts_in h)) ++ (desc_text h.workers h.max h.parallel ++ behind_of h)
 unfolding head_text behind_of
 front_form h =
     nested_front (opening_text (height_of (parts_in h))) (desc_text h.workers h.max h.parallel) style_text (title_text h.workers h.max (length h.entries))
-    (second_text (totals_of h (levels_of nothing_out h.entries) (spans_of h.entries))) legend_text (parts_text h (levels_of nothing_out h.entries) (parts_in h))
+    (second_text (totals_of h (levels_of nothing_out h.entries) (spans_of h.entries))) legend_text (whole_in h) (parts_text h (levels_of nothing_out h.entries) (parts_in h))
     (codes "<g>\n") (flat_map (ticks_of h) (parts_in h)) foot
 
 same_settings : (h k : HistoryView) → HistoryFits h → HistoryFits k → picture_text h ≡ picture_text k → SameSettings h.workers k.workers h.max k.max h.parallel k.parallel

@@ -6,6 +6,7 @@ pub mod Below
 pub mod Levels
 pub mod Rising
 pub mod Carrying
+pub mod Swept
 pub mod Plain
 pub mod Ticking
 pub mod Telling

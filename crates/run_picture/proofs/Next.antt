@@ -34,3 +34,7 @@ adds_mapped view f xs i x within is before one =
 -- those of a part, of what the members stand for
 pub within_viewed : {X Y : Type 0} (view : X → Y) (f : Frame) (xs : List X) → map view (within f xs) ≡ within f (map view xs)
 within_viewed view f xs = sym (take-map view (f.behind - f.first) (drop (f.first - 1) xs)) ∙ ap (take (f.behind - f.first)) (sym (drop-map view (f.first - 1) xs))
+
+pub adds_at : {X : Type 0} {a b c : SinkView} {p q r : PageView} (f : X → List ℕ) (xs : List X) (i : ℕ) (x : X) → slice_get xs i ≡ Some x
+    → Adds a p b q (flat_map f (take i xs)) → Adds b q c r (f x) → Adds a p c r (flat_map f (take (i + 1) xs))
+adds_at f xs i x is before one = adds_as (sym (flat_map_next f xs i x is)) (adds_then before one)

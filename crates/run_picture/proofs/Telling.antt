@@ -1,28 +1,24 @@
 -- Two histories never give one picture: the lines of the entries, and the settings, are read off it.
-use Rattle.std.proofs.Common.{◌≡◌, ◌≢◌, ◌≤◌, ◌<◌, ℕ, ◌+◌, ◌^◌, List, [], ◌∷◌, ◌++◌, Bool, true, false, not, ◌&&◌, cond, Option, Some, None, refl, sym, ap, ap₂, subst, ◌∙◌, append_assoc, append-nil, arith, decimal, codes, nat_eq, get_or, drop}
+use Rattle.std.proofs.Common.{◌≡◌, ◌<◌, ℕ, ◌+◌, List, [], ◌∷◌, ◌++◌, Bool, true, false, not, cond, Some, refl, sym, ap, ap₂, subst, ◌∙◌, append_assoc, arith, decimal, codes, get_or, drop}
 use Rattle.std.specs.Prelude.{is_some}
-use Rattle.std.specs.List.{list_all, AllByRecursion, flat_map}
-use Rattle.std.proofs.lemmas.Bool.{and_from, and_parts, true≢false, eq-eqb}
-use Rattle.std.proofs.lemmas.Fmt.{decimal_injective}
+use Rattle.std.specs.List.{list_all, AllByRecursion}
+use Rattle.std.proofs.lemmas.Bool.{and_from, and_parts, true≢false, le-leb}
 use Rattle.std.proofs.lemmas.List.{append_cancel_left}
 use Rattle.lock_transforms.specs.Entry.{Entry}
 use Rattle.lock_transforms.specs.declared.entries.Kind.{Kind}
 use Rattle.lock_transforms.specs.declared.entries.Kind.TheVariants as kinds
 use Rattle.history_text.specs.Text.{entry_text, numbered, kind_text, effect_text}
-use Rattle.history_text.specs.Fitting.{EntryFits, HeadFits}
+use Rattle.history_text.specs.Fitting.{EntryFits}
 use Rattle.history_reader.specs.Reading.{is_digit, entry_at}
 use Rattle.history_reader.proofs.Digits.{all_of_decimal}
-use Rattle.history_reader.proofs.Numbers.{digit_is}
 use Rattle.history_reader.proofs.EntryLaws.{entry_again}
-use Rattle.history_reader.proofs.Words.{some_is}
 use Rattle.history_reader.proofs.lemmas.Splits.{SameParts}
-use Rattle.run_picture.specs.Heads.{opening_text, desc_text}
-use Rattle.run_picture.specs.Laws.{is_plain, all_plain}
+use Rattle.run_picture.specs.Laws.{is_plain}
 use Rattle.run_picture.specs.Shapes.{area_text}
-use Rattle.run_picture.specs.Ticks.{line_of, line_title, tick_area, tick_bar, skip_area, skip_bar, skip_where, cross_at, cross_text, more_marks, marks_of}
+use Rattle.run_picture.specs.Ticks.{line_of, tick_area, skip_area, skip_bar, skip_where, cross_at, cross_text, more_marks, marks_of}
 use Rattle.run_picture.specs.declared.frames.Frame.{Frame}
 use Rattle.run_picture.specs.declared.shapes.Area.{Area}
-use Rattle.run_picture.proofs.Plain.{number_plain, line_plain}
+use Rattle.run_picture.proofs.Plain.{line_plain}
 
 -- the text doesn't go on with what passes a test
 abbrev stops : (ℕ → Bool) → List ℕ → Bool
@@ -41,6 +37,12 @@ same_front q (x ∷ xs) (y ∷ ys) r s a b c d e =
     let others : xs ++ r ≡ ys ++ s = ap (λ (l : List ℕ). drop 1 l) e in
     let more = same_front q xs ys r s (and_parts (q x) (list_all q xs) a).1 (and_parts (q y) (list_all q ys) b).1 c d others in
     record { front = ap₂ (λ z l. z ∷ l) first more.front; rest = more.rest }
+
+digit_is : (d : ℕ) → d < 10 → is_digit (48 + d) ≡ true
+digit_is d few = and_from _ _ (le-leb 48 (48 + d) (omega arith)) (le-leb (48 + d) 57 (omega arith))
+
+some_is : {A : Type 0} {x y : A} → Some x ≡ Some y → x ≡ y
+some_is e = cc
 
 digits_of_number : (n : ℕ) → list_all is_digit (decimal n) ≡ true
 digits_of_number n = all_of_decimal is_digit digit_is n

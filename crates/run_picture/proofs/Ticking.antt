@@ -1,6 +1,6 @@
 -- The parts show each entry once, in order.
-use Rattle.std.proofs.Common.{◌≡◌, ◌≤◌, ◌<◌, ℕ, suc, zero, ◌+◌, ◌-◌, ◌*◌, ◌/◌, ◌%◌, List, [], ◌∷◌, ◌++◌, Bool, true, false, cond, length, take, drop, refl, sym, ap, ap₂, subst, ◌∙◌, append_assoc, append-nil, arith}
-use Rattle.std.specs.Prelude.{min, max, nat_lt, nat_le}
+use Rattle.std.proofs.Common.{◌≡◌, ◌≤◌, ◌<◌, ℕ, suc, zero, ◌+◌, ◌-◌, ◌*◌, ◌/◌, List, [], ◌∷◌, ◌++◌, Bool, true, false, cond, length, take, drop, refl, sym, ap, ap₂, subst, ◌∙◌, append_assoc, arith}
+use Rattle.std.specs.Prelude.{min, max, nat_le}
 use Rattle.std.specs.List.{flat_map}
 use Rattle.std.proofs.Math.Nat.{lt-div-mul-add}
 use Rattle.std.proofs.lemmas.Bool.{lt-ltb, le-ltb, leb-false}
@@ -12,7 +12,7 @@ use Rattle.run_spans.specs.Spans.{spans_of}
 use Rattle.run_spans.specs.declared.spans.Span.{Span}
 use Rattle.run_picture.specs.Frames.{scale_of, whole, cut, ceil_div, narrow, rows_bottom}
 use Rattle.run_picture.specs.Laws.{frame_at}
-use Rattle.run_picture.specs.Parts.{PartView, part_of, parts_from, heading}
+use Rattle.run_picture.specs.Parts.{PartView, part_of, parts_from, heading, first_top}
 use Rattle.run_picture.specs.Picture.{ticks_of, parts_in}
 use Rattle.run_picture.specs.Ticks.{marks_of}
 use Rattle.run_picture.specs.declared.frames.Frame.{Frame}
@@ -127,4 +127,4 @@ all_ticks h other =
     let s = scale_of h.workers count in
     let far : reached s.parts s.size (count + 1) 1 ≡ count + 1 =
     (let is = reached_is s.parts s.size (count + 1) 1 (omega arith) in omega (arith, is, scale_covers h.workers count)) in
-    sym (ticks_from h other s.parts h.workers s (spans_of h.entries) (count + 1) (30 + heading s) 1 (86 + heading s) (omega arith) (omega arith) refl far)
+    sym (ticks_from h other s.parts h.workers s (spans_of h.entries) (count + 1) (30 + heading s) 1 (first_top h.workers s) (omega arith) (omega arith) refl far)

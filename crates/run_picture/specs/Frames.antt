@@ -50,3 +50,10 @@ lock_height f = if nat_le f.locks 20 then 14 else 10
 
 abbrev pub rows_bottom : Frame → ℕ
 rows_bottom f = locks_y f + f.locks * lock_height f
+
+-- in the whole run above the parts: how high the row of a worker is, and where it stands
+abbrev pub run_row_height : ℕ → ℕ
+run_row_height workers = if nat_le workers 16 then 12 else 10
+
+abbrev pub run_foot : ℕ → ℕ → ℕ
+run_foot workers w = 185 + (w + 1) * run_row_height workers

@@ -1,5 +1,5 @@
 -- The bars of items and fetches.
-use Rattle.std.specs.Prelude.{ℕ, ◌+◌, ◌-◌, Bool, not, ◌&&◌, List, [], ◌++◌, length, codes, decimal, Option, if◌then◌else◌}
+use Rattle.std.specs.Prelude.{ℕ, ◌+◌, ◌-◌, not, ◌&&◌, List, [], ◌++◌, length, codes, decimal, Option, if◌then◌else◌}
 use Rattle.lock_transforms.specs.Entry.{Entry}
 use Rattle.lock_transforms.specs.declared.entries.Kind.{Kind}
 use Rattle.run_spans.specs.declared.spans.Span.{Span}

@@ -1,5 +1,5 @@
 -- What a picture tells of its history.
-use Rattle.std.specs.Prelude.{ℕ, ◌+◌, nat_eq, nat_le, nat_lt, Bool, not, ◌&&◌, List, [], ◌∷◌, if◌then◌else◌}
+use Rattle.std.specs.Prelude.{ℕ, nat_eq, nat_le, nat_lt, Bool, not, ◌&&◌, List, [], ◌∷◌, if◌then◌else◌}
 use Rattle.std.specs.List.{list_all}
 use Rattle.run_picture.specs.Parts.{PartView}
 use Rattle.run_picture.specs.declared.frames.Frame.{Frame}

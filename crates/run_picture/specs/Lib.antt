@@ -10,6 +10,9 @@ pub mod Locks
 pub mod Ticks
 pub mod Parts
 pub mod Totals
+pub mod Shares
+pub mod Columns
+pub mod Overview
 pub mod Heads
 pub mod Picture
 pub mod Laws

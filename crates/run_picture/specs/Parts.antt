@@ -1,10 +1,10 @@
 -- The parts of a picture, which stand below each other like staves.
-use Rattle.std.specs.Prelude.{ℕ, zero, suc, ◌≤◌, ◌+◌, ◌^◌, nat_lt, min, Bool, ◌&&◌, List, [], ◌∷◌, length, if◌then◌else◌}
+use Rattle.std.specs.Prelude.{ℕ, zero, suc, ◌≤◌, ◌+◌, ◌*◌, ◌^◌, nat_lt, min, Bool, ◌&&◌, List, [], ◌∷◌, length, if◌then◌else◌}
 use Rattle.std.specs.List.{filter}
 use Rattle.run_spans.specs.declared.spans.Span.{Span}
 use Rattle.run_spans.specs.declared.subjects.Subject.{Subject}
 use Rattle.run_spans.specs.declared.subjects.Subject.TheVariants.{Owned, Parked}
-use Rattle.run_picture.specs.Frames.{scale_of, rows_bottom}
+use Rattle.run_picture.specs.Frames.{scale_of, rows_bottom, run_row_height}
 use Rattle.run_picture.specs.declared.frames.Frame.{Frame}
 use Rattle.run_picture.specs.declared.frames.Scale.{Scale}
 use Rattle.run_picture.specs.declared.staves.Part.{Part}
@@ -65,8 +65,12 @@ parts_from (suc n) workers s spans end gap first top =
 abbrev pub heading : Scale → ℕ
 heading s = if nat_lt 1 s.parts then 24 else 0
 
+-- where the first begins: below the whole run, where there are several
+abbrev pub first_top : ℕ → Scale → ℕ
+first_top workers s = if nat_lt 1 s.parts then 240 + workers * run_row_height workers else 86
+
 abbrev pub parts_with : ℕ → Scale → List Span → ℕ → List PartView
-parts_with workers s spans count = parts_from s.parts workers s spans (count + 1) (30 + heading s) 1 (86 + heading s)
+parts_with workers s spans count = parts_from s.parts workers s spans (count + 1) (30 + heading s) 1 (first_top workers s)
 
 abbrev pub parts_of : ℕ → List Span → ℕ → List PartView
 parts_of workers spans count = parts_with workers (scale_of workers count) spans count

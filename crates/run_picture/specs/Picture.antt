@@ -1,5 +1,5 @@
 -- The whole picture, as a function of the history.
-use Rattle.std.specs.Prelude.{ℕ, ◌≡◌, ◌≤◌, ◌<◌, ◌^◌, ◌⊎◌, Result, Ok, Err, ◌+◌, ◌-◌, ◌*◌, ◌/◌, nat_lt, max, List, [], ◌∷◌, ◌++◌, length}
+use Rattle.std.specs.Prelude.{ℕ, ◌≡◌, ◌≤◌, ◌<◌, ◌^◌, ◌⊎◌, Result, Ok, Err, ◌+◌, ◌-◌, ◌*◌, ◌/◌, nat_lt, max, List, [], ◌++◌, length}
 use Rattle.std.specs.Prelude.{take, drop, codes, decimal}
 use Rattle.std.specs.Prelude.{count_by, if◌then◌else◌}
 use Rattle.std.specs.List.{flat_map}
@@ -17,6 +17,7 @@ use Rattle.run_picture.specs.Frames.{rows_bottom, right_of}
 use Rattle.run_picture.specs.Heads.{opening_text, desc_text, title_text, second_text}
 use Rattle.run_picture.specs.Layers.{bars_text}
 use Rattle.run_picture.specs.Locks.{lock_row}
+use Rattle.run_picture.specs.Overview.{RunView, run_of, overview_text}
 use Rattle.run_picture.specs.Parts.{PartView, parts_of, height_of}
 use Rattle.run_picture.specs.Shapes.{number_words, text_begin, down}
 use Rattle.run_picture.specs.Ticks.{marks_of}
@@ -88,9 +89,20 @@ parts_text h levels ps = numbered (part_with_heading h levels (length ps)) 1 ps
 abbrev pub ticks_of : HistoryView → PartView → List ℕ
 ticks_of h p = numbered (marks_of p.frame) p.frame.first (within p.frame h.entries)
 
+-- the whole run by what it shows, where there are several parts
+unfoldable pub run_text : HistoryView → List Level → List PartView → RunView → List ℕ
+run_text h levels ps v = overview_text h.workers h.max (max h.max (most_queued levels)) (length h.entries) ps v
+
+abbrev pub whole_by : HistoryView → List Level → List PartView → RunView → List ℕ
+whole_by h levels ps v = if nat_lt 1 (length ps) then run_text h levels ps v else []
+
+abbrev pub whole_text : HistoryView → List Level → List Span → List PartView → List ℕ
+whole_text h levels spans ps = whole_by h levels ps (run_of h.workers h.max levels spans (length h.entries))
+
 abbrev pub sheet_text : HistoryView → List Level → List Span → List PartView → List ℕ
 sheet_text h levels spans ps =
-    head_text h (height_of ps) (totals_of h levels spans) ++ parts_text h levels ps ++ codes "<g>\n" ++ flat_map (ticks_of h) ps ++ codes "</g>\n</svg>\n"
+    head_text h (height_of ps) (totals_of h levels spans) ++ whole_text h levels spans ps ++ parts_text h levels ps
+    ++ codes "<g>\n" ++ flat_map (ticks_of h) ps ++ codes "</g>\n</svg>\n"
 
 abbrev pub parts_in : HistoryView → List PartView
 parts_in h = parts_of h.workers (spans_of h.entries) (length h.entries)

@@ -1,5 +1,5 @@
 -- What is told where one points at a bar.
-use Rattle.std.specs.Prelude.{ℕ, ◌-◌, nat_lt, Bool, true, false, List, ◌++◌, codes, decimal, Option, Some, None, if◌then◌else◌, option_map}
+use Rattle.std.specs.Prelude.{ℕ, ◌-◌, nat_lt, Bool, true, false, List, ◌++◌, codes, Option, Some, if◌then◌else◌, option_map}
 use Rattle.std.specs.List.{slice_get}
 use Rattle.resource_lock.specs.declared.marks.Mark.{Mark}
 use Rattle.lock_transforms.specs.Entry.{Entry}

@@ -1,5 +1,5 @@
 -- What the head of a picture counts.
-use Rattle.std.specs.Prelude.{ℕ, ◌+◌, max, Bool, true, false, ◌&&◌, List, [], ◌∷◌, is_some}
+use Rattle.std.specs.Prelude.{ℕ, max, Bool, true, false, ◌&&◌, List, [], ◌∷◌, is_some}
 use Rattle.std.specs.List.{sum_by}
 use Rattle.resource_lock.specs.Change.{same_mark}
 use Rattle.resource_lock.specs.declared.marks.Mark.{Mark}

@@ -10,7 +10,7 @@ use file_access::{Page, Sink};
 use run_spans::Level;
 
 /// How high a value stands, where the most is at the top.
-fn height_of(value: u64, most: u64) -> u64
+pub(crate) fn height_of(value: u64, most: u64) -> u64
     requires { 1 ≤ most }
     ensures is { result ≡ height_of value most }
     ensures within { result ≤ 48 }
@@ -120,7 +120,13 @@ fn write_queued<K: Sink>(
 }
 
 /// Writes the scale of the curve.
-fn write_scale<K: Sink>(frame: &Frame, max: u64, most: u64, page: &mut Page, sink: &mut K)
+pub(crate) fn write_scale<K: Sink>(
+    frame: &Frame,
+    max: u64,
+    most: u64,
+    page: &mut Page,
+    sink: &mut K,
+)
     ensures { Adds (K.seen sink.old) page.old (K.seen sink.new) page.new (scale_text frame.now max most) }
 {
     let top = u64::from(frame.top);

@@ -1,6 +1,6 @@
 //! The scale of the entries, and where the rows of a part lie.
 ghost use Rattle.std.specs.Prelude.{◌≡◌, ◌<◌, ◌≤◌, ◌+◌, ◌^◌};
-ghost use Rattle.run_picture.specs.Frames.{scale_of, rows_of, x_of, right_of, base_of, row_y, rows_bottom, locks_y, lock_height, ceil_div};
+ghost use Rattle.run_picture.specs.Frames.{scale_of, rows_of, x_of, right_of, base_of, row_y, rows_bottom, locks_y, lock_height, ceil_div, run_row_height};
 
 /// The width of the labels, and of the plot.
 pub(crate) const LEFT: u64 = 76;
@@ -100,7 +100,7 @@ pub(crate) fn scale_of(workers: u32, count: u32) -> Scale
     }
 }
 
-fn ceil_div(number: u32, by: u32) -> u32
+pub(crate) fn ceil_div(number: u32, by: u32) -> u32
     requires some { 1 ≤ by }
     requires number { number < 2 ^ 31 }
     requires by { by < 2 ^ 31 }
@@ -186,4 +186,13 @@ impl Frame {
     {
         self.locks_y() + u64::from(self.locks) * self.lock_height()
     }
+}
+
+/// How high the row of a worker is in the whole run above the parts.
+pub(crate) fn run_row_height(workers: u32) -> u8
+    ensures is { result ≡ run_row_height workers }
+    ensures some { 10 ≤ result }
+    ensures few { result ≤ 12 }
+{
+    if workers <= 16 { 12 } else { 10 }
 }

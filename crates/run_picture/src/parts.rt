@@ -1,11 +1,11 @@
 //! The parts of a picture, which stand below each other like staves.
 ghost use Rattle.std.specs.Prelude.{◌≡◌, ◌<◌, ◌≤◌, ◌^◌, ◌+◌, ◌++◌, [], IfOk, IfErr, OnOk, map};
 ghost use Rattle.std.specs.List.{filter};
-ghost use Rattle.run_picture.specs.Parts.{touches, with_number, with_lock, locks_from, part_with, part_view, parts_from, heading, parts_of};
+ghost use Rattle.run_picture.specs.Parts.{touches, with_number, with_lock, locks_from, part_with, part_view, parts_from, heading, first_top, parts_of};
 ghost use Rattle.run_picture.specs.Parts.{last_shown, height_of, IsRefused, IsRefusedPart, Rising, begun_before, begun_from};
 ghost use Rattle.run_picture.specs.declared.parts.LayoutFail.TheVariants.{TooLarge};
 
-use crate::frames::{Frame, Scale, scale_of};
+use crate::frames::{Frame, Scale, run_row_height, scale_of};
 use crate::staves::Part;
 use resource_lock::LockId;
 use run_spans::{Span, Subject};
@@ -49,7 +49,7 @@ fn shown_of(
 }
 
 /// Parts spans that stand in the order in which they begin: those that begin before an entry, and the others.
-fn part_begun(spans: &[Span], entry: u32) -> (&[Span], &[Span])
+pub(crate) fn part_begun(spans: &[Span], entry: u32) -> (&[Span], &[Span])
     ensures before { result.0.now ≡ begun_before entry spans.now }
     ensures from { result.1.now ≡ begun_from entry spans.now }
 {
@@ -230,6 +230,18 @@ fn heading(scale: Scale) -> u32
     if scale.parts > 1 { 24 } else { 0 }
 }
 
+/// Where the first part begins: below the whole run, where there are several.
+fn first_top(workers: u32, scale: Scale) -> u32
+    requires { workers ≤ 32 }
+    ensures { result ≡ first_top workers scale }
+{
+    if scale.parts > 1 {
+        240 + workers * u32::from(run_row_height(workers))
+    } else {
+        86
+    }
+}
+
 /// The parts of a picture, from the top. TooLarge comes where the picture would be 2^32 px high, or higher.
 pub(crate) fn parts_of(
     alloc: Global,
@@ -238,6 +250,7 @@ pub(crate) fn parts_of(
     spans: &[Span],
 ) -> Result<Vec<Part>, LayoutFail>
     requires workers { 1 ≤ workers }
+    requires few_workers { workers ≤ 32 }
     requires few { count < 2 ^ 30 }
     requires rising { Rising 1 spans.now }
     ensures parts { IfOk result (λ parts. map part_view parts.items ≡ parts_of workers spans.now count) }
@@ -253,7 +266,7 @@ pub(crate) fn parts_of(
         spans,
         count + 1,
         30 + heading,
-        86 + heading,
+        first_top(workers, scale),
     )?;
     place_of(height_of(&parts))?;
     Ok(parts)

@@ -9,9 +9,10 @@ ghost use Rattle.history_reader.specs.HistoryView.{entry_read, history_view};
 ghost use Rattle.run_picture.specs.Heads.{desc_text, title_text};
 ghost use Rattle.run_picture.specs.Layers.{bars_text};
 ghost use Rattle.run_picture.specs.Locks.{lock_row};
+ghost use Rattle.run_picture.specs.Overview.{IsOverview, run_view};
 ghost use Rattle.run_picture.specs.Parts.{part_view, height_of, Rising};
 ghost use Rattle.run_picture.specs.Picture.{within, average_of, totals_of, heading_text, heading_where, part_curve, edge_text, part_text};
-ghost use Rattle.run_picture.specs.Picture.{parts_text, ticks_of, style_text, legend_text, head_text, sheet_text, IsDrawn};
+ghost use Rattle.run_picture.specs.Picture.{parts_text, ticks_of, style_text, legend_text, head_text, run_text, whole_by, sheet_text, IsDrawn};
 ghost use Rattle.run_picture.specs.Totals.{most_queued};
 ghost use Rattle.run_spans.specs.Levels.{levels_of, nothing_out};
 ghost use Rattle.run_spans.specs.Spans.{spans_of};
@@ -22,6 +23,7 @@ use crate::curve::write_curve;
 use crate::frames::Frame;
 use crate::heads::{Totals, write_desc, write_opening, write_second, write_title};
 use crate::locks::write_locks;
+use crate::overview::{overview_of, write_overview};
 use crate::parts::{LayoutFail, MOST_ENTRIES, height_of, parts_of};
 use crate::shapes::{begin_text, write_down, write_number};
 use crate::staves::Part;
@@ -30,6 +32,7 @@ use crate::ticks::write_ticks;
 use crate::totals::{
     count_failed_units, count_skips, count_tasks, count_units, most_queued, total_out,
 };
+use crate::whole::Overview;
 use file_access::{Failed, Page, Sink};
 use history_reader::History;
 use resource_lock::Mark;
@@ -308,21 +311,79 @@ fn write_top<K: Sink>(
     );
 }
 
+/// How many entries a history has, where they are few.
+fn few_entries(history: &History) -> u32
+    requires { length history.now.entries.items < 2 ^ 30 }
+    ensures { result ≡ length (map entry_read history.now.entries.items) }
+{
+    history.entries.len() as u32
+}
+
+/// Writes the whole run.
+fn write_run<K: Sink>(
+    history: &History,
+    levels: &[Level],
+    parts: &[Part],
+    overview: &Overview,
+    page: &mut Page,
+    sink: &mut K,
+)
+    requires few { length history.now.entries.items < 2 ^ 30 }
+    ensures { Adds (K.seen sink.old) page.old (K.seen sink.new) page.new
+        (run_text (history_view history.now) levels.now (map part_view parts.now) (run_view overview.now)) }
+{
+    let max = u64::from(history.max);
+    let queued = most_queued(levels);
+    let count = few_entries(history);
+    write_overview(
+        history.workers,
+        max,
+        max.max(queued),
+        count,
+        parts,
+        overview,
+        page,
+        sink,
+    );
+}
+
+/// Writes the whole run, where there are several parts.
+fn write_whole<K: Sink>(
+    history: &History,
+    levels: &[Level],
+    parts: &[Part],
+    overview: &Overview,
+    page: &mut Page,
+    sink: &mut K,
+)
+    requires few { length history.now.entries.items < 2 ^ 30 }
+    ensures { Adds (K.seen sink.old) page.old (K.seen sink.new) page.new
+        (whole_by (history_view history.now) levels.now (map part_view parts.now) (run_view overview.now)) }
+{
+    if parts.len() > 1 {
+        write_run(history, levels, parts, overview, page, sink);
+    }
+}
+
 /// Writes the whole picture.
 fn write_sheet<K: Sink>(
     history: &History,
     levels: &[Level],
     spans: &[Span],
     parts: &[Part],
+    overview: &Overview,
     page: &mut Page,
     sink: &mut K,
 )
     requires some { 1 ≤ history.now.max }
     requires few { length levels.now < 2 ^ 30 }
+    requires entries { length history.now.entries.items < 2 ^ 30 }
+    requires overview { IsOverview history.now levels.now spans.now overview.now }
     ensures { Adds (K.seen sink.old) page.old (K.seen sink.new) page.new
         (sheet_text (history_view history.now) levels.now spans.now (map part_view parts.now)) }
 {
     write_top(history, levels, spans, parts, page, sink);
+    write_whole(history, levels, parts, overview, page, sink);
     write_parts(history, levels, parts, page, sink);
     page.text(sink, b"<g>\n");
     write_all_ticks(history, parts, page, sink);
@@ -334,14 +395,17 @@ fn print_sheet<K: Sink>(
     levels: &[Level],
     spans: &[Span],
     parts: &[Part],
+    overview: &Overview,
     sink: &mut K,
 ) -> Result<(), Failed>
     requires some { 1 ≤ history.now.max }
     requires few { length levels.now < 2 ^ 30 }
+    requires entries { length history.now.entries.items < 2 ^ 30 }
+    requires overview { IsOverview history.now levels.now spans.now overview.now }
     ensures { Prints (K.seen sink.old) (K.seen sink.new) (sheet_text (history_view history.now) levels.now spans.now (map part_view parts.now)) result }
 {
     let mut page = Page::new();
-    write_sheet(history, levels, spans, parts, &mut page, sink);
+    write_sheet(history, levels, spans, parts, overview, &mut page, sink);
     page.end(sink)
 }
 
@@ -367,7 +431,10 @@ fn draw_spans<K: Sink>(
         Err(LayoutFail::NoMemory) => return Err(DrawFail::NoMemory),
         Err(LayoutFail::TooLarge) => return Err(DrawFail::TooLarge),
     };
-    match print_sheet(history, levels, spans, &parts, sink) {
+    let Ok(overview) = overview_of(alloc, history.workers, history.max, levels, spans, count) else {
+        return Err(DrawFail::NoMemory);
+    };
+    match print_sheet(history, levels, spans, &parts, &overview, sink) {
         Ok(()) => Ok(()),
         Err(Failed) => Err(DrawFail::SinkFault),
     }

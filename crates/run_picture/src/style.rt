@@ -13,7 +13,7 @@ pub(crate) const CLASSES: &[u8] =
     text{fill:#1B1F24;font-size:11px}\n\
     .title{font-size:16px;font-weight:bold}\n\
     .second{fill:#57606A}\n\
-    .b{fill:url(#b)}.z{fill:#FFF}.r{fill:#C62828}.n{fill:#8C959F}.t{fill:#1B1F24}\n\
+    .odd{fill:#F3F5F7}.even{fill:#E1E6EB}.b{fill:url(#b)}.z{fill:#FFF}.r{fill:#C62828}.n{fill:#8C959F}.t{fill:#1B1F24}\n\
     path{fill:none}.c{fill:#C9D1DA;stroke:#33404F}.q{stroke:#A34A00;stroke-width:2}.s{stroke:#C62828;stroke-width:1.6}.g{stroke:#EEF1F4}\
     .f{stroke:#DDE2E8}.u{stroke:#E4E8EC}.o{stroke:#9AA4AF}.h{stroke:#33404F;stroke-dasharray:5 3}\n\
     .e,.x,.y,.l,.k{text-anchor:end}text.e{font-size:10px;fill:#57606A}text.y{font-size:10px;fill:#A34A00}text\

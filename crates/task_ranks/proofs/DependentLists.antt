@@ -1,10 +1,11 @@
 -- Lists of dependents, as graphs.
-use Rattle.std.proofs.Common.{◌≡◌, ◌≢◌, ◌⊎◌, ◌<◌, ◌≤◌, ◌+◌, ℕ, List, [], ◌∷◌, ◌++◌, length, get_or, set, refl, ap, sym, ◌∙◌, arith, inl, inr, Contains, subst, Vec, Global, get_or-set_same, get_or-set_other, length-set}
-use Rattle.std.proofs.lemmas.Bool.{cases_eq}
-use Rattle.std.proofs.lemmas.List.{get_or-map, map-set}
+use Rattle.std.proofs.Common.{◌≡◌, ◌≢◌, ◌⊎◌, ◌<◌, ◌≤◌, ◌+◌, ℕ, zero, suc, List, [], ◌∷◌, ◌++◌, cond, length, get_or, set, take, eqb, refl, ap, sym, ◌∙◌, arith, inl, inr, Contains, subst, Vec, Global, get_or-set_same, get_or-set_other, length-set}
+use Rattle.std.proofs.lemmas.Bool.{cases_eq, cases_lt, eq-eqb, ne_eqb}
+use Rattle.std.proofs.lemmas.List.{get_or-map, get_or-take, map-set}
+use Rattle.std.proofs.lemmas.List.Sums.{sum_by_push}
 use Rattle.std.proofs.lemmas.List.Elements.{Contains-append_left, Contains-push, Contains-push_cases}
 use Rattle.task_ranks.specs.Rank.{Dependencies, after, lists_of}
-use Rattle.task_ranks.specs.Dependents.{AddsDependent, ListsDependents}
+use Rattle.task_ranks.specs.Dependents.{AddsDependent, ListsDependents, times}
 
 pub pushed_at : (rows : List (Vec ℕ Global)) (at task : ℕ) (old new : Vec ℕ Global) → at < length rows → old ≡ get_or rows at old → new.items ≡ old.items ++ task ∷ []
     → lists_of (set rows at new) ≡ set (lists_of rows) at (after (lists_of rows) at ++ task ∷ [])
@@ -41,6 +42,30 @@ gains_only d u t v x lt found = elim (cases_eq v u) [
   | inr other ↦ inl (rw (gains_other d u t v other) at found)
 ]
 
+-- ---- how often a task stands among the dependents
+
+times_push : (xs : List ℕ) (y n : ℕ) → times (xs ++ y ∷ []) n ≡ times xs n + cond (eqb y n) 1 0
+times_push xs y n = sum_by_push (λ x. cond (eqb x n) 1 0) xs y
+
+times_push_same : (xs : List ℕ) (y n : ℕ) → y ≡ n → times (xs ++ y ∷ []) n ≡ times xs n + 1
+times_push_same xs y n is = times_push xs y n ∙ ap (λ b. times xs n + cond b 1 0) (eq-eqb y n is)
+
+times_push_other : (xs : List ℕ) (y n : ℕ) → y ≢ n → times (xs ++ y ∷ []) n ≡ times xs n
+times_push_other xs y n ne = times_push xs y n ∙ ap (λ b. times xs n + cond b 1 0) (ne_eqb y n ne) ∙ omega arith
+
+-- one more name, counted
+gains_times : (old now : Dependencies) (names : List ℕ) (u task v : ℕ) → u < length now → AddsDependent old now names task → times (after (gains now u task) v) task ≡ times (after old v) task + times (names ++ u ∷ []) v
+gains_times old now names u task v lt a = elim (cases_eq v u) [
+  | inl same ↦ rw (same, gains_here now u task lt) (let p = a.gained u in omega (arith, times_push_same (after now u) task task refl, times_push_same names u u refl, p))
+  | inr other ↦ rw (gains_other now u task v other) (let p = a.gained v in omega (arith, times_push_other names u v (λ e. other (sym e)), p))
+]
+
+gains_others : (old now : Dependencies) (names : List ℕ) (u task v x : ℕ) → u < length now → x ≢ task → AddsDependent old now names task → times (after (gains now u task) v) x ≡ times (after old v) x
+gains_others old now names u task v x lt ne a = elim (cases_eq v u) [
+  | inl same ↦ rw (same, gains_here now u task lt) (times_push_other (after now u) task x (λ e. ne (sym e)) ∙ a.others u x ne)
+  | inr other ↦ rw (gains_other now u task v other) (a.others v x ne)
+]
+
 -- one more name
 pub adds_next : (old now : Dependencies) (names : List ℕ) (u task : ℕ) → u < length now → AddsDependent old now names task → AddsDependent old (gains now u task) (names ++ u ∷ []) task
 adds_next old now names u task lt a = record {
@@ -57,7 +82,29 @@ adds_next old now names u task lt a = record {
     ]
     | inr new_one ↦ inr (new_one.0, subst (λ w. Contains (names ++ u ∷ []) w) new_one.1 (Contains-push names u))
   ];
+  gained = λ v. gains_times old now names u task v lt a;
+  others = λ v x ne. gains_others old now names u task v x lt ne a;
 }
+
+-- ---- the first tasks
+
+taken_same : (d : Dependencies) (n x : ℕ) → x < n → after (take n d) x ≡ after d x
+taken_same d n x lt = get_or-take n d x [] lt
+
+taken_past : (d : Dependencies) (n x : ℕ) → n ≤ x → after (take n d) x ≡ []
+taken_past [] zero x past = refl
+taken_past [] (suc n) x past = refl
+taken_past (row ∷ d) zero x past = refl
+taken_past (row ∷ d) (suc n) zero past = absurd (omega (arith, past))
+taken_past (row ∷ d) (suc n) (suc x) past = taken_past d n x (omega (arith, past))
+
+none_plus : (n u : ℕ) → times [] u + n ≡ n
+none_plus n u = omega arith
+
+next_as_often : (d dependents new : Dependencies) (i u x : ℕ) → ListsDependents d i dependents → AddsDependent dependents new (after d i) i → (x ≡ i) ⊎ (x ≡ i → ⊥) → (x < i) ⊎ (i ≤ x) → times (after new u) x ≡ times (after (take (i + 1) d) x) u
+next_as_often d dependents new i u x l a (inl same) _ = rw same (a.gained u ∙ ap (λ n. n + times (after d i) u) (l.as_often u i ∙ ap (λ xs. times xs u) (taken_past d i i (omega arith))) ∙ none_plus (times (after d i) u) u ∙ ap (λ xs. times xs u) (sym (taken_same d (i + 1) i (omega arith))))
+next_as_often d dependents new i u x l a (inr other) (inl lt) = a.others u x other ∙ l.as_often u x ∙ ap (λ xs. times xs u) (taken_same d i x lt ∙ sym (taken_same d (i + 1) x (omega (arith, lt))))
+next_as_often d dependents new i u x l a (inr other) (inr past) = a.others u x other ∙ l.as_often u x ∙ ap (λ xs. times xs u) (taken_past d i x past ∙ sym (taken_past d (i + 1) x (omega (arith, past, other))))
 
 -- one more task
 pub lists_next : (d dependents new : Dependencies) (i : ℕ) → ListsDependents d i dependents → AddsDependent dependents new (after d i) i → ListsDependents d (i + 1) new
@@ -71,6 +118,7 @@ lists_next d dependents new i l a = record {
     | inl same ↦ rw same (a.adds u (rw same at named))
     | inr other ↦ a.keeps u x (l.complete u x (omega (arith, low, other)) named)
   ];
+  as_often = λ u x. next_as_often d dependents new i u x l a (cases_eq x i) (cases_lt x i);
 }
 
 -- at the last task

@@ -7,7 +7,7 @@ use Rattle.daemon_protocol.specs.declared.frames.Frame.{Frame}
 use Rattle.daemon_protocol.specs.declared.starts.StreamStart.TheVariants.{Unfinished, Whole, Refused}
 use Rattle.daemon_protocol.specs.declared.starts.Flaw.TheVariants.{Length, Tag}
 use Rattle.daemon_protocol.specs.Bodies.{frame_of}
-use Rattle.daemon_protocol.specs.StreamStart.{look, look_length, look_body, look_field, Cuts, nothing, first}
+use Rattle.daemon_protocol.specs.StreamStart.{look, is_tag, look_length, look_body, look_field, Cuts, nothing, first}
 
 longer : (xs t : List ℕ) (n : ℕ) → ltb (length xs) n ≡ false → ltb (length (xs ++ t)) n ≡ false
 longer xs t n p = let le = ltb-false (length xs) n p in le-ltb _ n (omega (arith, length-append xs t))
@@ -46,7 +46,7 @@ length_settles tag after t =
 pub settles : (s t : List ℕ) → (look s ≡ Unfinished) ⊎ (look (s ++ t) ≡ look s)
 settles [] t = inl refl
 settles (tag ∷ after) t =
-    elim (eqb tag 1 || eqb tag 2 || eqb tag 3) as (λ b. (cond b (look_length tag after) (Refused Tag) ≡ Unfinished) ⊎ (cond b (look_length tag (after ++ t)) (Refused Tag) ≡ cond b (look_length tag after) (Refused Tag)))
+    elim (is_tag tag) as (λ b. (cond b (look_length tag after) (Refused Tag) ≡ Unfinished) ⊎ (cond b (look_length tag (after ++ t)) (Refused Tag) ≡ cond b (look_length tag after) (Refused Tag)))
     [ true ↦ length_settles tag after t | false ↦ inr refl ]
 
 -- a whole frame fits
@@ -79,7 +79,7 @@ fits_length tag m after f h =
 pub fits : (s : List ℕ) (f : Frame) (m : ℕ) → look s ≡ Whole f m → (0 < m) × (m ≤ length s)
 fits [] f m = λ h. cc
 fits (tag ∷ after) f m =
-    elim (eqb tag 1 || eqb tag 2 || eqb tag 3) as (λ b. cond b (look_length tag after) (Refused Tag) ≡ Whole f m → (0 < m) × (m ≤ suc (length after)))
+    elim (is_tag tag) as (λ b. cond b (look_length tag after) (Refused Tag) ≡ Whole f m → (0 < m) × (m ≤ suc (length after)))
     [ true ↦ fits_length tag m after f | false ↦ λ h. cc ]
 
 -- one frame more

@@ -4,31 +4,36 @@ use crate::asked::{Asked, PLAIN};
 use crate::lines::check;
 use daemon_desk::FolderDesk;
 use file_access::{DeskFail, Files, Read};
-use item_actions::Text;
+use item_actions::{KeepAlive, Text};
 use std::alloc::{AllocError, Global};
 use std::process::{Abort, Processes, SystemProcess};
 use std::{fs, io, rt};
 
 // It replies from the file that its argument names, and from the one that a variable names. Then it keeps what comes until
 // its input ends.
-const SCRIPT: &[u8] = b"cat \"$1\"\ncat \"$BYTES\"\ncat > daemon_desk_came\n";
+const SCRIPT: &[u8] = b"cat \"$1\"\ncat \"$BYTES\"\nexec cat > daemon_desk_came\n";
 
 // What stands in each file at first.
-static FILES: [(&str, &[u8]); 3] = [
+static FILES: [(&str, &[u8]); 4] = [
     ("worker", SCRIPT),
     (
         "daemon_desk_lines",
-        b"\x02\0\0\0\x0d\0\0\0\0\x01\0\0\0\0\0\0\0\x03",
+        b"\x12\0\0\0\x0e\0\0\0\0\x01\x01\0\0\0\0\0\0\0\x03",
     ),
     (
         "daemon_desk_bytes",
-        b"\x02\0\0\0\x0d\0\0\0\x01\x01\0\0\0\0\0\0\0\x0e",
+        b"\x12\0\0\0\x0e\0\0\0\x01\x01\x01\0\0\0\0\0\0\0\x0e",
+    ),
+    // The same replies of version 1.
+    (
+        "daemon_desk_before",
+        b"\x02\0\0\0\x0d\0\0\0\0\x01\0\0\0\0\0\0\0\x03\x02\0\0\0\x0d\0\0\0\x01\x01\0\0\0\0\0\0\0\x0e",
     ),
 ];
 
 // The requests of units 0 and 1, and Stop.
 const CAME: &[u8] =
-    b"\x01\0\0\0\x0c\0\0\0\0\x01\0\x05a.txt\x01\0\0\0\x0c\0\0\0\x01\x03\0\x05a.txt\x03\0\0\0\0";
+    b"\x11\0\0\0\x0d\0\0\0\0\x01\x01\0\x05a.txt\x11\0\0\0\x0d\0\0\0\x01\x01\x03\0\x05a.txt\x03\0\0\0\0";
 
 fn write_files(rt: &HostRuntime) -> io::Result<()> {
     for (name, bytes) in &FILES {
@@ -54,7 +59,7 @@ fn add_child<R: rt::Files + Processes<Started = SystemProcess> + Abort>(
 ) -> Result<(), AllocError> {
     let program = Text::from_str(alloc, program)?;
     let mut desk = FolderDesk::new(rt, alloc, program);
-    ask_twice(rt, alloc, &mut desk, asked, line)?;
+    ask_twice(rt, alloc, &mut desk, asked, Some(asked.keep), line)?;
     write!(line, "{} failed", desk.count())
 }
 
@@ -88,9 +93,18 @@ const CHILD: Asked = Asked {
 
 static OWN: Asked = CHILD;
 
-static NAMED: Asked = Asked {
+const NAMED_CHILD: Asked = Asked {
     program: "sh",
     ..CHILD
+};
+
+static NAMED: Asked = NAMED_CHILD;
+
+// It answers in version 1, whatever it is asked.
+static BEFORE: Asked = Asked {
+    args: &["daemon_desk_before"],
+    variables: &[("BYTES", "daemon_desk_none")],
+    ..NAMED_CHILD
 };
 
 #[test]
@@ -105,6 +119,13 @@ fn a_child_gets_its_argument_its_variable_and_each_frame_once(rt: HostRuntime) -
     )?;
     assert!(rt; has_come(&rt)?);
     check_child(&rt, rt.alloc(), "sh", &OWN, "3. 14. 0 failed")?;
+    check_child(
+        &rt,
+        rt.alloc(),
+        "daemon_desk_none",
+        &BEFORE,
+        "receive failed. receive failed. 2 failed",
+    )?;
     remove_files(&rt)
 }
 

@@ -4,8 +4,11 @@ use crate::asked::{Asked, PLAIN};
 use crate::lines::check;
 use crate::memory_desks::desk;
 use daemon_desk::MemoryDesk;
+use item_actions::KeepAlive;
 use std::alloc::{AllocError, Global};
 use std::process::Abort;
+
+const SESSION: Option<KeepAlive> = Some(KeepAlive::Session);
 
 static ASKED: Asked = Asked {
     args: &["quiet"],
@@ -13,28 +16,30 @@ static ASKED: Asked = Asked {
     ..PLAIN
 };
 
-// What two requests come to, how many calls failed, and how many requests were sent.
+// What two requests in this mode come to, how many calls failed, and how many requests were sent.
 fn add_seen(
     rt: &impl Abort,
     alloc: Global,
     desk: &mut MemoryDesk,
+    keep: Option<KeepAlive>,
     line: &mut String,
 ) -> Result<(), AllocError> {
-    ask_twice(rt, alloc, desk, &ASKED, line)?;
+    ask_twice(rt, alloc, desk, &ASKED, keep, line)?;
     write!(line, "{} failed, {} sent", desk.count(), desk.sent().len())
 }
 
-// That this comes of a desk with these failing calls and this lie.
+// That this comes of requests in this mode, and of a desk with these failing calls and this lie.
 fn check_seen(
     rt: &impl Abort,
     alloc: Global,
+    keep: Option<KeepAlive>,
     failing: &[u64],
     lie: Option<&[u8]>,
     expected: &str,
 ) -> Result<(), AllocError> {
     let mut desk = desk(alloc, failing, lie)?;
     let mut line = String::new(alloc);
-    add_seen(rt, alloc, &mut desk, &mut line)?;
+    add_seen(rt, alloc, &mut desk, keep, &mut line)?;
     check(rt, &line, expected);
     Ok(())
 }
@@ -42,9 +47,14 @@ fn check_seen(
 /// Calls that fail, a lie in place of the first reply, and what comes of them.
 type Row = (&'static [u64], Option<&'static [u8]>, &'static str);
 
-fn check_rows(rt: &impl Abort, alloc: Global, rows: &[Row]) -> Result<(), AllocError> {
+fn check_rows(
+    rt: &impl Abort,
+    alloc: Global,
+    keep: Option<KeepAlive>,
+    rows: &[Row],
+) -> Result<(), AllocError> {
     for (failing, lie, expected) in rows {
-        check_seen(rt, alloc, failing, *lie, expected)?;
+        check_seen(rt, alloc, keep, failing, *lie, expected)?;
     }
     Ok(())
 }
@@ -62,11 +72,16 @@ static FAILING: [Row; 7] = [
 
 #[test]
 fn each_call_fails_in_turn(rt: HostRuntime) -> Result<(), AllocError> {
-    check_rows(&rt, rt.alloc(), &FAILING)
+    check_rows(&rt, rt.alloc(), None, &FAILING)?;
+    check_rows(&rt, rt.alloc(), SESSION, &FAILING)
 }
 
-// The reply for unit 0 with the number 3.
-const RIGHT: &[u8] = b"\x02\0\0\0\x0d\0\0\0\0\x01\0\0\0\0\0\0\0\x03";
+// The reply for unit 0 with the number 3, of version 1, and of version 2 in both modes.
+const FIRST: &[u8] = b"\x02\0\0\0\x0d\0\0\0\0\x01\0\0\0\0\0\0\0\x03";
+
+const RIGHT: &[u8] = b"\x12\0\0\0\x0e\0\0\0\0\x01\x01\0\0\0\0\0\0\0\x03";
+
+const LASTING: &[u8] = b"\x12\0\0\0\x0e\0\0\0\0\x02\x01\0\0\0\0\0\0\0\x03";
 
 // The second request is answered all the same.
 const REFUSED: &str = "receive failed. 14. 1 failed, 2 sent";
@@ -74,41 +89,66 @@ const REFUSED: &str = "receive failed. 14. 1 failed, 2 sent";
 #[test]
 fn a_beginning_of_a_reply_is_none(rt: HostRuntime) -> Result<(), AllocError> {
     for len in 0..RIGHT.len() {
-        check_seen(&rt, rt.alloc(), &[], Some(&RIGHT[..len]), REFUSED)?;
+        check_seen(&rt, rt.alloc(), SESSION, &[], Some(&RIGHT[..len]), REFUSED)?;
     }
     Ok(())
 }
 
 // The right reply; another number, and a byte behind it; want of memory. Then a reply of a shorter body; a request; a
-// Stop; a reply for unit 1; a fault.
-static LIES: [Row; 8] = [
+// Stop; a reply for unit 1; a fault; a reply of version 1; one in the other mode.
+static LIES: [Row; 10] = [
     (&[], Some(RIGHT), "3. 14. 0 failed, 2 sent"),
     (
         &[],
-        Some(b"\x02\0\0\0\x0d\0\0\0\0\x01\0\0\0\0\0\0\0\x04\x09"),
+        Some(b"\x12\0\0\0\x0e\0\0\0\0\x01\x01\0\0\0\0\0\0\0\x04\x09"),
         "4. 14. 0 failed, 2 sent",
     ),
     (
         &[],
-        Some(b"\x02\0\0\0\x05\0\0\0\0\x06"),
+        Some(b"\x12\0\0\0\x06\0\0\0\0\x01\x06"),
         "no memory. 14. 0 failed, 2 sent",
     ),
     (
         &[],
-        Some(b"\x02\0\0\0\x0c\0\0\0\0\x01\0\0\0\0\0\0\0"),
+        Some(b"\x12\0\0\0\x0d\0\0\0\0\x01\x01\0\0\0\0\0\0\0"),
         REFUSED,
     ),
-    (&[], Some(b"\x01\0\0\0\x0c\0\0\0\0\x01\0\x05a.txt"), REFUSED),
+    (
+        &[],
+        Some(b"\x11\0\0\0\x0d\0\0\0\0\x01\x01\0\x05a.txt"),
+        REFUSED,
+    ),
     (&[], Some(b"\x03\0\0\0\0"), REFUSED),
     (
         &[],
-        Some(b"\x02\0\0\0\x0d\0\0\0\x01\x01\0\0\0\0\0\0\0\x03"),
+        Some(b"\x12\0\0\0\x0e\0\0\0\x01\x01\x01\0\0\0\0\0\0\0\x03"),
         REFUSED,
     ),
-    (&[], Some(b"\x02\0\0\0\x05\0\0\0\0\x05"), REFUSED),
+    (&[], Some(b"\x12\0\0\0\x06\0\0\0\0\x01\x05"), REFUSED),
+    (&[], Some(FIRST), REFUSED),
+    (&[], Some(LASTING), REFUSED),
 ];
 
 #[test]
 fn replies_for_the_unit_without_a_fault_are_believed(rt: HostRuntime) -> Result<(), AllocError> {
-    check_rows(&rt, rt.alloc(), &LIES)
+    check_rows(&rt, rt.alloc(), SESSION, &LIES)
+}
+
+// To a request of version 1, and then to one in the mode that lasts: each of the three replies.
+static IN_VERSION_1: [Row; 3] = [
+    (&[], Some(FIRST), "3. 14. 0 failed, 2 sent"),
+    (&[], Some(RIGHT), REFUSED),
+    (&[], Some(LASTING), REFUSED),
+];
+
+static IN_THE_OTHER_MODE: [Row; 3] = [
+    (&[], Some(FIRST), REFUSED),
+    (&[], Some(RIGHT), REFUSED),
+    (&[], Some(LASTING), "3. 14. 0 failed, 2 sent"),
+];
+
+#[test]
+fn a_reply_is_of_its_requests_version_and_mode(rt: HostRuntime) -> Result<(), AllocError> {
+    check_rows(&rt, rt.alloc(), None, &IN_VERSION_1)?;
+    check_rows(&rt, rt.alloc(), Some(KeepAlive::Daemon), &IN_THE_OTHER_MODE)
 }

@@ -14,4 +14,5 @@ covers_itself r = record {
   debug = refl;
   assertions = refl;
   encoding = refl;
+  keep = refl;
 }

@@ -16,8 +16,8 @@ returns-clause-ran g c =
       files = ran.files;
       ran = ran.ran;
       counted = ran.faults;
-      honest = honest_at c.args.site.now.units (item_unit (work_view work)) c.run_item.result (g.D.Files.files c.args.desk.now) unit c.item-work.ensures.unit ran.honest;
-      sent = of_item c.args.site.now.units work (record { unit = unit; outcome = c.run_item.result })
+      honest = honest_at c.args.site.now.units (item_unit (work_view work)) c.run_item.result.outcome (g.D.Files.files c.args.desk.now) unit c.item-work.ensures.unit ran.honest;
+      sent = of_item c.args.site.now.units work (record { unit = unit; outcome = c.run_item.result.outcome })
           (sent_view g.D.Desk.sends g.D.Desk.sent c.args.desk.now) (sent_view g.D.Desk.sends g.D.Desk.sent c.run_item.new.desk) c.item-work.ensures.unit ran.sent;
     }
 
@@ -26,8 +26,8 @@ returns-clause-reserved g c =
     let ran = c.run_item.ensures in
     let work = c.item-work.result.now in
     reserves_for work.isolation c.args.mine.now c.run_item.new.mine (sent_view g.D.Desk.sends g.D.Desk.sent c.args.desk.now)
-    (sent_view g.D.Desk.sends g.D.Desk.sent c.run_item.new.desk) (request_for c.args.unit work) c.run_item.result ran.sent ran.counted
+    (sent_view g.D.Desk.sends g.D.Desk.sent c.run_item.new.desk) (request_for c.args.unit work) c.run_item.result.outcome ran.sent ran.counted
 
 pub returns-clause-failed : goal.returns-clause-failed
 returns-clause-failed g c =
-    fails_for c.item-work.result.now.isolation c.args.mine.now c.run_item.new.mine (g.D.Desk.sends c.args.desk.now) (g.D.Desk.sends c.run_item.new.desk) c.run_item.result c.run_item.ensures.counted
+    fails_for c.item-work.result.now.isolation c.args.mine.now c.run_item.new.mine (g.D.Desk.sends c.args.desk.now) (g.D.Desk.sends c.run_item.new.desk) c.run_item.result.outcome c.run_item.ensures.counted

@@ -5,4 +5,4 @@ use Rattle.history_check.proofs.whole.check_entries.Given as goal
 
 -- the check is that of the entries so far
 abbrev pub invariant-loop-entry : goal.invariant-loop-entry
-invariant-loop-entry l = IsCheckOf l.plan (first_of l.entry-index (history_view l.history)) l.check
+invariant-loop-entry g l = IsCheckOf l.plan (first_of l.entry-index (history_view l.history)) l.check

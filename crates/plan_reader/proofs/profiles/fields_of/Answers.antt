@@ -44,4 +44,5 @@ returns-clause-fields c =
       debug = c.debug_of.ensures i;
       assertions = c.assertions_of.ensures i;
       encoding = encoding i;
+      keep = c.mode_of.ensures i;
     }

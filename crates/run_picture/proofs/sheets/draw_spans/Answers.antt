@@ -1,4 +1,4 @@
-use Rattle.std.proofs.Common.{◌<◌, ◌^◌, length, map, ap, arith}
+use Rattle.std.proofs.Common.{length, map, ap, arith}
 use Rattle.std.proofs.lemmas.List.{length-map}
 use Rattle.history_reader.specs.HistoryView.{entry_read}
 use Rattle.run_spans.specs.Levels.{nothing_out}
@@ -7,4 +7,8 @@ use Rattle.run_picture.proofs.sheets.draw_spans.Goals as goal
 
 pub print_sheet-requires-clause-few : goal.print_sheet-requires-clause-few
 print_sheet-requires-clause-few g c =
+    omega (arith, c.requires.few, ap length c.requires.levels, levels_long nothing_out (map entry_read c.args.history.now.entries.items), length-map c.args.history.now.entries.items entry_read)
+
+pub overview_of-requires-clause-levels : goal.overview_of-requires-clause-levels
+overview_of-requires-clause-levels g c =
     omega (arith, c.requires.few, ap length c.requires.levels, levels_long nothing_out (map entry_read c.args.history.now.entries.items), length-map c.args.history.now.entries.items entry_read)

@@ -5,17 +5,17 @@ use Rattle.daemon_requirements.proofs.Coverings.{not_served}
 use Rattle.daemon_requirements.proofs.requirement.Requirements.covers.Goals as goal
 
 pub returns-then-not-serves-3 : goal.returns-then-not-serves-3
-returns-then-not-serves-3 c = rw (← c.self.view_is, ← c.asked.view_is) (not_served c.serves-3.ensures c.if-not-serves-3.true (λ covers. covers.args))
+returns-then-not-serves-3 c = rw (← c.self.view_is, ← c.asked.view_is, ← c.get-daemon.ensures, ← c.get-asked.ensures) (not_served c.serves-3.ensures c.if-not-serves-3.true (λ covers. covers.args))
 
 pub returns-then-not-serves-4 : goal.returns-then-not-serves-4
-returns-then-not-serves-4 c = rw (← c.self.view_is, ← c.asked.view_is) (not_served c.serves-4.ensures c.if-not-serves-4.true (λ covers. covers.properties))
+returns-then-not-serves-4 c = rw (← c.self.view_is, ← c.asked.view_is, ← c.get-daemon.ensures, ← c.get-asked.ensures) (not_served c.serves-4.ensures c.if-not-serves-4.true (λ covers. covers.properties))
 
 pub returns-then-not-serves-5 : goal.returns-then-not-serves-5
-returns-then-not-serves-5 c = rw (← c.self.view_is, ← c.asked.view_is) (not_served c.serves-5.ensures c.if-not-serves-5.true (λ covers. covers.variables))
+returns-then-not-serves-5 c = rw (← c.self.view_is, ← c.asked.view_is, ← c.get-daemon.ensures, ← c.get-asked.ensures) (not_served c.serves-5.ensures c.if-not-serves-5.true (λ covers. covers.variables))
 
 pub returns : goal.returns
 returns c =
-    let covers : Covers (requirements_view c.self.inside.fields) (requirements_view c.asked.inside.fields) = record {
+    let covers : Covers (requirements_view c.get-daemon.result.now) (requirements_view c.get-asked.result.now) = record {
       executable = c.serves.ensures.0 c.if-not-serves.false;
       heap_mb = c.serves-2.ensures.0 c.if-not-serves-2.false;
       args = c.serves-3.ensures.0 c.if-not-serves-3.false;
@@ -24,5 +24,6 @@ returns c =
       debug = c.serves-6.ensures.0 c.if-not-serves-6.false;
       assertions = c.serves-7.ensures.0 c.if-not-serves-7.false;
       encoding = c.serves-8.ensures.0 c.if-not-serves-8.false;
+      keep = c.serves-9.ensures.0 c.if-not-serves-9.false;
     } in
-    rw (← c.self.view_is, ← c.asked.view_is) (λ _. covers, λ _. refl)
+    rw (← c.self.view_is, ← c.asked.view_is, ← c.get-daemon.ensures, ← c.get-asked.ensures) (λ _. covers, λ _. refl)

@@ -6,6 +6,6 @@ use Rattle.history_check.specs.Verdict.{IsVerdict}
 use Rattle.history_check.proofs.checks.HistoryCheck.answer.Goals as goal
 
 pub returns : goal.returns
-returns c =
+returns g c =
     let same : c.args.self.now ≡ c.self.inside.entries = search rules in
     subst (λ (v : CheckView). (p : PlanView) (h : HistoryView) → IsCheckOf p h v → IsVerdict v.graph h.entries c.answer.result) (sym same) c.answer.ensures

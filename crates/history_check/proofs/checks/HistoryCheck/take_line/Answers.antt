@@ -6,7 +6,7 @@ use Rattle.history_check.proofs.Verdicts.{added_there, entry_came, entry_said}
 use Rattle.history_check.proofs.checks.HistoryCheck.take_line.Goals as goal
 
 pub returns-in_ok-admit-in-Entry-clause-goes_on : goal.returns-in_ok-admit-in-Entry-clause-goes_on
-returns-in_ok-admit-in-Entry-clause-goes_on c = λ p h is.
+returns-in_ok-admit-in-Entry-clause-goes_on g c = λ p h is.
     let was : c.args.self.now ≡ c.self.inside.entries = search rules in
     let counted : c.count.result ≡ c.args.self.now.count = c.count.ensures ∙ ap (λ (v : CheckView). v.count) (sym was) in
     let changes = c.changes_of-changes.ensures ∙ ap (changes_of c.in-Entry.head.is_finished) c.deref.ensures.value in

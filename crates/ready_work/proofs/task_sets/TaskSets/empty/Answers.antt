@@ -1,14 +1,29 @@
 use Rattle.std.proofs.Common.{length, ap, arith}
 use Rattle.std.proofs.lemmas.List.{length-map}
 use Rattle.resource_lock.specs.GraphView.{graph_view}
+use Rattle.ready_work.proofs.Counting.{no_tally}
 use Rattle.ready_work.proofs.task_sets.TaskSets.empty.Goals as goal
+
+pub returns-clause-tallies : goal.returns-clause-tallies
+returns-clause-tallies c = record {
+  unpassed = no_tally c.args.graph.now c.in_ok-unpassed.unpassed c.in_ok-unpassed.ensures.none c.in_ok-unpassed.ensures.zero;
+  fallen = no_tally c.args.graph.now c.in_ok-fallen.fallen c.in_ok-fallen.ensures.none c.in_ok-fallen.ensures.zero;
+}
 
 pub returns-clause-room : goal.returns-clause-room
 returns-clause-room c =
-    let size = ap length c.tasks.ensures.value in
-    let mapped = length-map c.tasks.result.now graph_view in
-    let few = c.tasks.ensures.fits.few_tasks in
+    let size = ap length c.tasks-tasks.ensures.value in
+    let mapped = length-map c.tasks-tasks.result.now graph_view in
+    let few = c.tasks-tasks.ensures.fits.few_tasks in
     let skippable = c.in_ok-skippable.ensures.room in
     let startable = c.in_ok-startable.ensures.room in
     let unended = c.in_ok-unended.ensures.room in
-    record { skippable = omega arith; startable = omega arith; unended = omega arith }
+    let unpassed = c.in_ok-unpassed.ensures.size in
+    let fallen = c.in_ok-fallen.ensures.size in
+    record {
+      skippable = omega arith;
+      startable = omega arith;
+      unended = omega arith;
+      unpassed = record { counted = omega (arith, unpassed.counted); counts = omega (arith, unpassed.counts) };
+      fallen = record { counted = omega (arith, fallen.counted); counts = omega (arith, fallen.counts) };
+    }

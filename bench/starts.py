@@ -1,0 +1,60 @@
+#!/usr/bin/env python3
+"""Counts what the program takes to start: words that it refuses, and a run of a plan with one task and no unit.
+
+The counts are parted by whose code it is: the system's loader, the C library, the crates that read words and plans, and all else.
+Makes its files in a temporary folder. Not part of the gate. Skips, with status 0, where valgrind is missing.
+
+    bench/starts.py [PROGRAM]
+"""
+
+import collections
+import pathlib
+import re
+import subprocess
+import tempfile
+
+import measure
+
+MOST_INSTRUCTIONS = 200_000
+
+PLAN = """project = [{ name = "app" }]
+task = [{ name = "a", project = "app" }]
+"""
+
+# The parts, and what the names of their functions, files and libraries have in them. The first that fits counts.
+PARTS = {
+    "the loader": r"ld-linux|/elf/|/dl-",
+    "the C library": r"libc\.so|\./(malloc|string|nptl|stdlib|io)/",
+    "words": r"clap|command_words",
+    "plans": r"toml|plan_",
+    "all else": r"",
+}
+
+
+def parts_of(profile: str) -> collections.Counter[str]:
+    """How many instructions each part took, by callgrind's own list of functions."""
+    listed = subprocess.run(["callgrind_annotate", "--threshold=100", profile], capture_output=True, text=True, check=True)
+    counts: collections.Counter[str] = collections.Counter()
+    for line in listed.stdout.splitlines():
+        row = re.fullmatch(r"\s*([\d,]+) \([ \d.]+%\)\s+(\S.*)", line)
+        if row is not None and row.group(2) != "PROGRAM TOTALS":
+            part = next(part for part, names in PARTS.items() if re.search(names, row.group(2)))
+            counts[part] += int(row.group(1).replace(",", ""))
+    return counts
+
+
+def main() -> None:
+    measure.skip_without("valgrind")
+    program = measure.leases_program()
+    with tempfile.TemporaryDirectory() as name:
+        folder = pathlib.Path(name)
+        (folder / "plan.toml").write_text(PLAN)
+        profile = str(folder / "profile")
+        for what, words in {"refused words": ["nonsense"], "a run of one task": ["run", "plan.toml"]}.items():
+            count, _ = measure.count_instructions([program, *words], folder=folder, profile=profile)
+            listed = ", ".join(f"{part} {taken:,}" for part, taken in parts_of(profile).most_common())
+            print(f"{what}: {count:,} instructions (goal: at most {MOST_INSTRUCTIONS:,}): {listed}")
+
+
+if __name__ == "__main__":
+    main()

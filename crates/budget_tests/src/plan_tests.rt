@@ -1,0 +1,143 @@
+//! Tests of `run_in_budget` on the items of a plan, which the desk reads first, by its call 0.
+ghost use Rattle.std.specs.Prelude.{◌≡◌, true};
+ghost use Rattle.item_actions.specs.Forms.{is_file_name};
+ghost use Rattle.memory_budget.specs.Waiting.{AsksProcess};
+
+use crate::run_tests::{close, is_second_right, leased, new_lock, run_and_stop};
+use daemon_desk::{Lie, MemoryDesk, MemoryLink};
+use daemon_requirements::{Isolation, Work};
+use file_access::{FileEntry, FileMap, Files, Read};
+use item_actions::{MAX_FILE_BYTES, Outcome, Text, is_file_name};
+use lease_service::{Lease, current_lease};
+use memory_budget::{BudgetLock, Budgeted};
+use plan_reader::{Plan, UnitWork, read_plan, units_of};
+use std::alloc::Global;
+use std::process::Abort;
+use std::sync::Wait;
+use std::test::Fail;
+
+/// A task of two items, each in a daemon of 512 MB.
+static PLAN: &[u8] = b"project = [{ name = \"app\" }]\n\n\
+    [[task]]\nname = \"count\"\nproject = \"app\"\n\n\
+    [[task.action]]\nwait = \"retain\"\nitem = [\n\
+    { do = \"lines\", file = \"a.txt\", isolation = \"process\" },\n\
+    { do = \"lines\", file = \"a.txt\", isolation = \"process\" },\n\
+    ]\n";
+
+/// Room for one daemon.
+const BUDGET_MB: u64 = 512;
+
+/// The call of the desk that receives the first reply, behind the reading of the plan, a start and a request.
+const FIRST_REPLY: u64 = 3;
+
+/// What comes in place of the first reply: a Stop, a reply for unit 9, a fault. None is a call that fails.
+static ANSWERS: [Option<&[u8]>; 4] = [
+    None,
+    Some(b"\x03\0\0\0\0"),
+    Some(b"\x02\0\0\0\x0d\0\0\0\x09\x01\0\0\0\0\0\0\0\x03"),
+    Some(b"\x02\0\0\0\x05\0\0\0\0\x05"),
+];
+
+// A file of this name, with these bytes.
+fn entry(alloc: Global, name: &str, bytes: &[u8]) -> Result<FileEntry, Fail> {
+    let name = Text::from_str(alloc, name)?;
+    let bytes = Vec::from_slice(alloc, bytes)?;
+    Ok(FileEntry { name, bytes })
+}
+
+// A desk with the plan and a.txt, which has 3 lines.
+fn desk(alloc: Global, answer: Option<&[u8]>) -> Result<Box<MemoryDesk>, Fail> {
+    let mut entries = Vec::new(alloc);
+    entries.push(entry(alloc, "plan.toml", PLAN)?)?;
+    entries.push(entry(alloc, "a.txt", b"one\ntwo\nthree\n")?)?;
+    let mut failing = Vec::new(alloc);
+    let mut lies = Vec::new(alloc);
+    match answer {
+        None => failing.push(FIRST_REPLY)?,
+        Some(bytes) => lies.push(Lie {
+            call: FIRST_REPLY,
+            bytes: Vec::from_slice(alloc, bytes)?,
+        })?,
+    }
+    let desk = MemoryDesk::new(alloc, FileMap::new(entries), failing, lies);
+    Ok(Box::new(alloc, desk)?)
+}
+
+// The plan, which the desk reads.
+fn plan<R: Abort>(rt: &R, alloc: Global, desk: &mut MemoryDesk) -> Result<Plan, Fail> {
+    let name = Text::from_str(alloc, "plan.toml")?;
+    match desk.read(alloc, &name, MAX_FILE_BYTES) {
+        Ok(Read::Bytes(bytes)) => {
+            let plan = read_plan(alloc, bytes.as_bytes());
+            desk.give_back(bytes);
+            Ok(plan?)
+        }
+        _ => panic!(rt; "the plan wasn't read"),
+    }
+}
+
+// Whether the item has the form of an item that runs within a budget.
+fn is_for_daemon(work: &Work) -> bool
+    ensures process { result ≡ true → AsksProcess work.now.isolation }
+    ensures form { result ≡ true → is_file_name work.now.file ≡ true }
+{
+    matches!(work.isolation, Isolation::Process(_)) && is_file_name(work.file.bytes())
+}
+
+// What comes of the plan's items, one after the other.
+fn run_items<R: Wait + Abort>(
+    rt: &R,
+    alloc: Global,
+    lease: &Lease<'_>,
+    desk: &mut MemoryDesk,
+    lock: &BudgetLock<MemoryLink>,
+    plan: &Plan,
+) -> Result<Vec<Budgeted>, Fail> {
+    let mut ran = Vec::new(alloc);
+    let mut unit = 0u32;
+    let units = units_of(alloc, plan)?;
+    for of_unit in &units {
+        match *of_unit {
+            UnitWork::Item(work) => {
+                assert!(rt; is_for_daemon(work));
+                let (budgeted, spare_mb) = run_and_stop(rt, alloc, lease, desk, lock, unit, work);
+                assert!(rt; spare_mb.is_none());
+                ran.push(budgeted)?;
+            }
+            UnitWork::Fetch(_) => panic!(rt; "the plan fetches nothing"),
+        }
+        unit = unit.saturating_add(1);
+    }
+    Ok(ran)
+}
+
+// That the first item is a fault whatever comes in place of its reply, and the second is worked out by another daemon.
+fn check_answer<R: Wait + Abort>(rt: &R, alloc: Global, answer: Option<&[u8]>) -> Result<(), Fail> {
+    let mut desk = desk(alloc, answer)?;
+    let plan = plan(rt, alloc, &mut *desk)?;
+    let pass = leased(rt, alloc)?;
+    let lease = current_lease(&pass).expect(rt, "a lease");
+    let lock = new_lock(rt, alloc, BUDGET_MB);
+    let ran = run_items(rt, alloc, &lease, &mut *desk, &lock, &plan);
+    let events = close(lock, &mut *desk);
+    let ran = ran?;
+    assert!(rt;
+        matches!(
+            &ran[..],
+            [
+                Budgeted::Done(Outcome::Fault),
+                Budgeted::Done(Outcome::Number(3))
+            ]
+        )
+    );
+    assert!(rt; desk.count() == 1 && is_second_right(&events));
+    Ok(())
+}
+
+#[test]
+fn the_items_of_a_plan_run_within_a_budget(rt: HostRuntime) -> Result<(), Fail> {
+    for answer in ANSWERS {
+        check_answer(&rt, rt.alloc(), answer)?;
+    }
+    Ok(())
+}

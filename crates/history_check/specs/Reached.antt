@@ -1,0 +1,14 @@
+-- What the fields of a `Reached` stand for, and what holds of them.
+use Rattle.std.specs.Prelude.{ℕ, ◌≡◌, ◌≤◌, [], None}
+use Rattle.lock_transforms.specs.TentativeView.{TentativeView}
+use Rattle.lock_transforms.specs.declared.kinds.admitting.TheConstants.{MAX_CHANGES}
+use Rattle.history_check.specs.AdmitterView.{AdmitterView}
+
+-- the state of so many entries, none of which is kept
+abbrev pub reached_view : TentativeView → ℕ → AdmitterView
+reached_view t entries = record { graph = t.graph; state = t.state; entries = entries; kept = None }
+
+-- No change is under way, and there is room for the changes of any entry.
+pub record IsBetweenEntries (t : TentativeView) : Type 0 where
+  pub fresh : t.made ≡ []
+  pub room : MAX_CHANGES ≤ t.room

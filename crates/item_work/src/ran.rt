@@ -1,0 +1,32 @@
+//! What comes of an item, and of a request.
+ghost use Rattle.std.specs.Prelude.{◌≡◌, None};
+
+use daemon_protocol::Reply;
+use item_actions::Outcome;
+
+/// What an item gave, and perhaps a daemon to stop: one that was idle, where one too many was.
+///
+/// It can't be dropped, since the link can't. Who has it closes the item first, and stops the daemon then: the wait for the
+/// daemon's end keeps no lease.
+pub struct Ran<L> {
+    pub outcome: Outcome,
+    pub spare: Option<L>,
+}
+
+impl<L> Ran<L> {
+    /// An item that leaves no daemon to stop.
+    pub fn alone(outcome: Outcome) -> Ran<L>
+        ensures { result ≡ record { outcome = outcome; spare = None } }
+    {
+        Ran {
+            outcome,
+            spare: None,
+        }
+    }
+}
+
+/// A daemon's reply, and perhaps another daemon to stop. It can't be dropped, since the link can't.
+pub struct Answered<L> {
+    pub reply: Reply,
+    pub spare: Option<L>,
+}
