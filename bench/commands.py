@@ -66,7 +66,8 @@ def main() -> None:
         (folder / "plan.toml").write_bytes(plan)
         run = [program, "run", "plan.toml", "--max-workers", "1", "--threads", "1", "--history"]
         printed = subprocess.run(run, cwd=folder, capture_output=True, check=False).stdout
-        lines = printed[printed.index(b"history 1\n") :].splitlines(keepends=True)[:-1]
+        _, history = measure.split_history(printed.decode())
+        lines = history.encode().splitlines(keepends=True)[:-1]
         check = [program, "check", "plan.toml"]
         reading, _ = measure.count_instructions(check, folder=folder)
         for part in [2, 1]:

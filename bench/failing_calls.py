@@ -101,7 +101,7 @@ def words(number: int, threads: int) -> str:
 def parts_of(text: str) -> tuple[list[str], list[str], list[str]]:
     """The lines of the results, of the history and of the events."""
     lines = text.splitlines()
-    begin = lines.index("history 1")
+    begin = next(place for place, line in enumerate(lines) if measure.HISTORY.fullmatch(line))
     events = next(place for place, line in enumerate(lines) if re.fullmatch(r"daemons \d+", line))
     need(lines[events] == f"daemons {len(lines) - events - 1}", f"not so many events: {lines[events]}")
     return lines[:begin], lines[begin:events], lines[events + 1 :]

@@ -5,7 +5,9 @@ Copies the crates into a temporary folder, and adds a small program, which is pr
 It reads streams of requests with short and with long names, of replies with numbers and with digests, and of all
 frames mixed: in one piece, in pieces of 4,096 and of 64 bytes, and byte by byte. What is counted is `feed` and the
 release of the frames that it gives. Printed are the instructions a byte and a frame, and how many times as many there are
-for a stream eight times as long. Not part of the gate. Skips, with status 0, where valgrind or rt is missing.
+for a stream eight times as long. At the end stand frames of version 1 and 2 side by side, in streams of 32 KiB in one piece:
+their decoding, and their encoding with the release of the bytes, by a second program. Not part of the gate. Skips, with
+status 0, where valgrind or rt is missing.
 
     bench/frames.py [KIB]
 """
@@ -20,12 +22,16 @@ import measure
 
 BELOW = ["item_actions", "daemon_protocol"]
 PROGRAM = "frame_probe"
+ENCODER = "encode_probe"
 
 # The goal: the most instructions a byte in large pieces.
 MOST_A_BYTE = 20.0
 # The longer stream, and how many times as many instructions it may take.
 TIMES = 8
 MOST_GROWTH = 8.8
+# The goal: the most instructions that a frame of version 2 takes more than one of version 1, and the streams' bytes.
+MOST_MORE = 2.0
+SIDE_BY_SIDE = 32 << 10
 
 SIZES = {"one piece": 1 << 30, "4,096": 4096, "64": 64, "1": 1}
 LARGE = ("one piece", "4,096")
@@ -86,18 +92,17 @@ def any_frame(unit: int) -> bytes:
     return kinds[unit % len(kinds)]()
 
 
-STREAMS = {
+VERSION_2 = ", version 2"
+
+KINDS = {
     "short names": short_request,
     "long names": long_request,
     "numbers": number_reply,
     "digests": digest_reply,
     "mixed": any_frame,
-    "short names, version 2": in_mode(short_request),
-    "long names, version 2": in_mode(long_request),
-    "numbers, version 2": in_mode(number_reply),
-    "digests, version 2": in_mode(digest_reply),
-    "mixed, version 2": in_mode(any_frame),
 }
+
+STREAMS = KINDS | {name + VERSION_2: in_mode(make) for name, make in KINDS.items()}
 
 
 def stream_of(make, size: int) -> tuple[bytes, int]:
@@ -140,6 +145,37 @@ def measure_stream(program: str, folder: pathlib.Path, name: str, bytes_wanted: 
     return good
 
 
+def encoding(program: str, file: pathlib.Path, bytes_in: int) -> int:
+    """The instructions of one round of encoding the frames of a file: of a run with two, less one with one."""
+    two, one = (
+        measure.count_instructions(
+            [program, str(rounds), str(file)], f"{bytes_in}\n".encode() * rounds, settings=measure.STEPWISE
+        )[0]
+        for rounds in (2, 1)
+    )
+    return two - one
+
+
+def measure_versions(decoder: str, encoder: str, folder: pathlib.Path) -> bool:
+    good = True
+    for name in KINDS:
+        counts = []
+        for version in (name, name + VERSION_2):
+            stream, number = stream_of(STREAMS[version], SIDE_BY_SIDE)
+            file = folder / "stream"
+            file.write_bytes(stream)
+            decoded = instructions(decoder, 1 << 30, file, number) / number
+            counts.append((decoded, encoding(encoder, file, len(stream)) / number))
+        for what, (first, second) in zip(("decoding", "encoding"), zip(*counts)):
+            more = second - first
+            print(
+                f"{name:22} {what}: {first:7.1f} instructions a frame in version 1, {second:7.1f} in version 2:"
+                f" {more:+6.1f} (goal {MOST_MORE:.0f})"
+            )
+            good = good and more <= MOST_MORE
+    return good
+
+
 def main() -> None:
     measure.skip_without("valgrind", "rt")
     bytes_wanted = (int(sys.argv[1]) if len(sys.argv) > 1 else 512) << 10
@@ -147,8 +183,11 @@ def main() -> None:
         folder = pathlib.Path(name)
         workshop = measure.Workshop(folder, BELOW)
         workshop.add(PROGRAM, *BELOW, "anyhow")
+        workshop.add(ENCODER, *BELOW, "anyhow")
         program = workshop.build(PROGRAM)
+        encoder = workshop.build(ENCODER)
         results = [measure_stream(program, folder, stream, bytes_wanted) for stream in STREAMS]
+        results.append(measure_versions(program, encoder, folder))
     sys.exit(0 if all(results) else 1)
 
 

@@ -25,6 +25,9 @@ STEPWISE = {
 
 Words = list[str]
 
+# The first line of a printed history, of the version without a number of locks or of that with one.
+HISTORY = re.compile(r"^history [12]$", re.MULTILINE)
+
 
 def skip_without(*tools: str) -> None:
     """Ends the bench, with status 0, where one of the tools is missing."""
@@ -58,6 +61,14 @@ def with_those_below(crate: str) -> list[str]:
 
     add(crate)
     return found
+
+
+def split_history(printed: str) -> tuple[str, str]:
+    """What was printed before the history, and the history from its first line on."""
+    found = HISTORY.search(printed)
+    if found is None:
+        sys.exit(f"no history was printed:\n{printed}")
+    return printed[: found.start()], printed[found.start() :]
 
 
 class Workshop:

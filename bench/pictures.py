@@ -28,7 +28,7 @@ SMALL = dict(row=20, task=(2, 4), lane=(7, 9), item=(8, 7), tick=(17, 2))
 def history_of(text):
     """The lines of the first history of a text, from its second line on, without its end."""
     lines = text.split("\n")
-    begin = lines.index("history 1") + 1
+    begin = next(place for place, line in enumerate(lines) if line in ("history 1", "history 2")) + 1
     end = next(n for n in range(begin, len(lines)) if lines[n].startswith("end "))
     return lines[begin:end]
 

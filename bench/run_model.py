@@ -1,7 +1,8 @@
 """Plans, and what a run of one has to print: a reckoning that knows nothing of the program's code.
 
 A printed history is replayed entry by entry: each has to be allowed where it stands, with exactly the changes that its kind has
-there, and at the end no worker may own a lock, have a lease, be blocked or have parked a lock. The events of worker processes
+there. Whoever owns the all-projects lock then has to own alone. At the end no worker may own a lock, have a lease, be blocked or
+have parked a lock. The events of worker processes
 are replayed beside it, and the results are worked out from the outcomes that the history closes its units with.
 """
 
@@ -72,6 +73,7 @@ class Task:
     project: int
     after: tuple[int, ...]
     actions: tuple[Action, ...]
+    all_projects: bool = False
 
 
 @dataclasses.dataclass
@@ -112,6 +114,10 @@ class Plan:
     def units_of(self, task: int) -> list[int]:
         return [unit.number for unit in self.units if unit.task == task]
 
+    def project_locks(self, parallel: bool) -> int:
+        """How many locks the projects have. The all-projects lock is the next one."""
+        return self.projects if parallel else min(1, self.projects)
+
     def text(self) -> str:
         lines = [f'[[project]]\nname = "p{number}"\n' for number in range(self.projects)]
         for number, asked in enumerate(self.sets):
@@ -120,6 +126,7 @@ class Plan:
         for number, task in enumerate(self.tasks):
             after = ", ".join(f'"t{other}"' for other in task.after)
             lines.append(f'[[task]]\nname = "t{number}"\nproject = "p{task.project}"\nafter = [{after}]\n')
+            lines.append("all_projects = true\n" if task.all_projects else "")
             lines += [self.action_text(action) for action in task.actions]
         return "\n".join(lines)
 
@@ -140,7 +147,9 @@ class State:
 
     def __init__(self, plan: Plan, workers: int, most: int, parallel: bool) -> None:
         self.plan, self.workers, self.most = plan, workers, most
-        self.locks = [task.project if parallel else 0 for task in plan.tasks]
+        self.all_lock = plan.project_locks(parallel)
+        own = [task.project if parallel else 0 for task in plan.tasks]
+        self.locks = [self.all_lock if task.all_projects else lock for task, lock in zip(plan.tasks, own)]
         self.owner: dict[int, int] = {}
         self.leases: set[int] = set()
         self.blocked: set[int] = set()
@@ -179,8 +188,18 @@ class State:
         self.marks[kind, number] = f"running {worker}" if mark == "running" else mark
         return f"{kind} {number} {old.split()[0]} {mark}"
 
+    def is_kept_from(self, worker: int, lock: int) -> bool:
+        """Another worker owns the lock, or one of the two is the all-projects lock."""
+        others = [owned for owned, owner in self.owner.items() if owner != worker]
+        return any(lock == owned or self.all_lock in (lock, owned) for owned in others)
+
+    def need_all_alone(self) -> None:
+        alone = self.owner.get(self.all_lock)
+        need(alone is None or set(self.owner.values()) == {alone}, f"worker {alone} owns the all-projects lock, but not alone")
+
     def lock(self, worker: int, lock: int) -> str:
-        need(lock not in self.owner and lock not in self.parked[worker], f"lock {lock} can't be taken")
+        free = lock not in self.owner and lock not in self.parked[worker] and not self.is_kept_from(worker, lock)
+        need(free, f"lock {lock} can't be taken")
         self.owner[lock] = worker
         return f"lock {lock}"
 
@@ -310,11 +329,20 @@ class State:
 ENTRY = re.compile(r"(\d+) w(\d+) (\w+) (\d+)(?: ([^|]+))? \| (.+)")
 
 
+def opening(plan: Plan, lines: list[str]) -> State:
+    """The state before the first entry, by the two lines of the head. In version 2 they name the number of locks."""
+    head = re.fullmatch(r"workers (\d+) max (\d+) parallel (yes|no)(?: locks (\d+))?", lines[1])
+    version = {"history 1": 1, "history 2": 2}.get(lines[0])
+    need(version is not None and head is not None, f"the history begins with {lines[:2]}")
+    need((head[4] is None) == (version == 1), f"version {version} has another head: {lines[1]}")
+    state = State(plan, int(head[1]), int(head[2]), head[3] == "yes")
+    need(head[4] is None or int(head[4]) == state.all_lock + 1, f"there are {state.all_lock + 1} locks: {lines[1]}")
+    return state
+
+
 def replay(plan: Plan, lines: list[str]) -> State:
     """The state that a printed history leads to. Each entry has to be allowed, and the last state empty-handed."""
-    head = re.fullmatch(r"workers (\d+) max (\d+) parallel (yes|no)", lines[1])
-    need(lines[0] == "history 1" and head is not None, f"the history begins with {lines[:2]}")
-    state = State(plan, int(head[1]), int(head[2]), head[3] == "yes")
+    state = opening(plan, lines)
     for number, line in enumerate(lines[2:-1], 1):
         found = ENTRY.fullmatch(line)
         need(found is not None and int(found[1]) == number, f"no entry {number}: {line}")
@@ -328,6 +356,7 @@ def replay(plan: Plan, lines: list[str]) -> State:
         except Wrong as wrong:
             raise Wrong(f"{wrong}: {line}") from None
         need(", ".join(made) == changes, f"{line}: its changes are {made}")
+        state.need_all_alone()
     need(lines[-1] == f"end {len(lines) - 3}", f"the history ends with {lines[-1]}")
     need(state.is_empty_handed(), "the last state isn't empty-handed")
     return state

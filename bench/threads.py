@@ -77,21 +77,24 @@ def compare_random_plans(program: str, folder: pathlib.Path, plans: int) -> None
             words = ["--threads", str(threads), "--max-workers", str(draw.randint(1, threads))]
             words += ["--parallel"] * draw.randint(0, 1)
             status, printed = run(program, folder, "--history", *words)
-            results, _, history = printed.partition(b"history 1\n")
-            if (status, results) != expected:
+            results, history = measure.split_history(printed.decode())
+            if (status, results.encode()) != expected:
                 sys.exit(f"plan {number} with {words} didn't print what one thread prints:\n{(folder / 'plan.toml').read_text()}")
             check_history(program, folder, history)
     print("  each printed what one thread prints, and a lawful history")
 
 
-def check_history(program: str, folder: pathlib.Path, history: bytes) -> None:
-    """The history behind its first line is found lawful, with as many entries as its last line says."""
-    entries = history.split(b"\n")[-2].removeprefix(b"end ")
-    found = subprocess.run(
-        [program, "check", "plan.toml"], cwd=folder, input=b"history 1\n" + history, capture_output=True, timeout=LIMIT
-    )
-    if found.stdout != b"lawful " + entries + b"\n":
-        sys.exit(f"a history is found {found.stdout!r}:\n{(folder / 'plan.toml').read_text()}{history.decode()}")
+def verdict(program: str, folder: pathlib.Path, history: str) -> str:
+    """What `check` says of a history."""
+    call = [program, "check", "plan.toml"]
+    return subprocess.run(call, cwd=folder, input=history, capture_output=True, text=True, timeout=LIMIT).stdout
+
+
+def check_history(program: str, folder: pathlib.Path, history: str) -> None:
+    """The history is found lawful, with as many entries as its last line says."""
+    found = verdict(program, folder, history)
+    if found != f"lawful {history.splitlines()[-1].removeprefix('end ')}\n":
+        sys.exit(f"a history is found {found!r}:\n{(folder / 'plan.toml').read_text()}{history}")
 
 
 def contended_plan() -> str:

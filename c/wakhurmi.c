@@ -1,19 +1,23 @@
 /* The part that waits, which no proof covers. Every change of a service is a call of the proved library; such a call never waits.
  *
- * No wake-up is lost. Who finds that it has to wait takes the mutex, counts itself among the sleepers, and then looks again; only if
- * it still has to wait does it sleep, and waiting lets the mutex go. Who made an entry that can let others go on, as the proved
- * part says of each entry, looks afterwards whether there are sleepers, and if so takes the mutex and wakes all. The count and the
- * word by which the proved part takes its book are sequentially consistent. So either the entry came before the sleeper's second
- * look, which then saw it, or the count came before the entry, and whoever made it sees a sleeper. It gets the mutex only once that
- * one sleeps. A stop is made in the same way, and wakes always. That other entries let nobody go on is proved (`waits_for_news`). */
+ * A call that finds another worker inside looks again after a pause or a short nap. Nobody wakes it, so there is no wake-up to lose.
+ *
+ * A call that has to wait for what others have sleeps, and no wake-up of it is lost. It counts itself among the sleepers, reads the number
+ * of the news, and then looks again; only if it still has to wait does it sleep, and only while the number is the same. Who made
+ * an entry that can let others go on, as the proved part says of each entry, looks afterwards whether there are sleepers, and if so
+ * changes the number and wakes all. The count, the number, and the word by which the proved part takes its book are sequentially
+ * consistent. So either the entry came before the sleeper's second look, which then saw it; or the count came before the entry, and
+ * whoever made it sees a sleeper and changes the number after the sleeper has read it. The number changes under the mutex, under which
+ * the sleeper compares it, and waiting lets the mutex go. A stop is made in the same way, and wakes always. That other entries let
+ * nobody go on is proved (`waits_for_news`). */
 #define _GNU_SOURCE
 #include "wakhurmi.h"
 #include <pthread.h>
-#include <sched.h>
 #include <stdatomic.h>
 #include <stdbool.h>
 #include <stdlib.h>
 #include <string.h>
+#include <time.h>
 
 /* What the proved library exports. A handle is emptied and filled by its calls alone. An empty one is all zeros. */
 typedef struct {
@@ -43,14 +47,20 @@ uint32_t wakhurmi_c_history(handle *book, uint64_t part, uint8_t *buffer, size_t
 uint32_t wakhurmi_c_close_book(handle *book);
 
 #define MAX_WORKERS 32
-/* How often a call looks again at once where another worker is inside, before it lets other threads run. */
-#define SPINS 100
+/* A worker is inside for less than a microsecond, or for some where the system has to give its history new memory. So a call that finds
+ * it there pauses before it looks again, each time twice as long, and after so many looks it naps before each. Naps come where the
+ * worker inside doesn't get a processor, and where workers do little between their calls. There a call that looked again at once would
+ * take the book's cache lines from the worker inside, and each would slow the other: so one worker makes many calls, and then the
+ * next one does. Both lengths are nanoseconds. */
+#define LOOKS 8
+#define FIRST_PAUSE 150
+#define NAP 50000
 #define SHORT_LINE 1024
 
 struct wakhurmi_service {
     pthread_mutex_t mutex;
     pthread_cond_t freed;
-    atomic_uint sleepers;
+    atomic_uint sleepers, news;
     uint32_t count;
     handle book;
     /* Each in a cache line of its own, since each call writes its worker's. */
@@ -90,11 +100,26 @@ IN_EACH_CALL told call_once(handle *worker, request asked) {
     }
 }
 
-static inline void wait_a_moment(unsigned *looks) {
-    if (++*looks % SPINS == 0) sched_yield();
+static void pause_for(long nanoseconds) {
+    struct timespec begin, now;
+    clock_gettime(CLOCK_MONOTONIC, &begin);
+    do {
 #if defined(__x86_64__)
-    else __builtin_ia32_pause();
+        __builtin_ia32_pause();
+#elif defined(__aarch64__)
+        __asm__ volatile("yield");
 #endif
+        clock_gettime(CLOCK_MONOTONIC, &now);
+    } while ((now.tv_sec - begin.tv_sec) * 1000000000L + now.tv_nsec - begin.tv_nsec < nanoseconds);
+}
+
+/* `looks` is how many were in vain. */
+static __attribute__((noinline, cold)) void wait_a_moment(unsigned looks) {
+    if (looks < LOOKS) {
+        pause_for((long)FIRST_PAUSE << (looks - 1));
+    } else {
+        nanosleep(&(struct timespec){.tv_nsec = NAP}, NULL);
+    }
 }
 
 /* One look, repeated while another worker is inside. */
@@ -105,28 +130,36 @@ IN_EACH_CALL told look(handle *worker, request asked) {
         told said = call_once(worker, asked);
         go_out();
         if (said.answer != AGAIN) return said;
-        wait_a_moment(&looks);
+        wait_a_moment(++looks);
     }
 }
 
 static __attribute__((noinline)) void wake(wakhurmi_service *service) {
     pthread_mutex_lock(&service->mutex);
+    atomic_fetch_add(&service->news, 1);
     pthread_cond_broadcast(&service->freed);
     pthread_mutex_unlock(&service->mutex);
 }
 
-/* Sleeps until the deed can be done, or can't for another reason than that others have what it takes. */
-static __attribute__((noinline, cold)) told sleep_until_done(wakhurmi_service *service, handle *worker, request asked) {
+static void sleep_until_news(wakhurmi_service *service, unsigned known) {
     pthread_mutex_lock(&service->mutex);
-    atomic_fetch_add(&service->sleepers, 1);
-    told said = look(worker, asked);
-    while (said.answer == WAKHURMI_BUSY) {
-        pthread_cond_wait(&service->freed, &service->mutex);
-        said = look(worker, asked);
-    }
-    atomic_fetch_sub(&service->sleepers, 1);
+    while (atomic_load(&service->news) == known) pthread_cond_wait(&service->freed, &service->mutex);
     pthread_mutex_unlock(&service->mutex);
-    return said;
+}
+
+/* Sleeps until the deed can be done, or can't for another reason than that others have what it takes. No look is made under the mutex,
+ * so whoever wakes never waits for one. */
+static __attribute__((noinline, cold)) told sleep_until_done(wakhurmi_service *service, handle *worker, request asked) {
+    atomic_fetch_add(&service->sleepers, 1);
+    for (;;) {
+        unsigned known = atomic_load(&service->news);
+        told said = look(worker, asked);
+        if (said.answer != WAKHURMI_BUSY) {
+            atomic_fetch_sub(&service->sleepers, 1);
+            return said;
+        }
+        sleep_until_news(service, known);
+    }
 }
 
 IN_EACH_CALL wakhurmi_answer perform(wakhurmi_service *service, uint32_t worker, request asked) {
@@ -184,7 +217,7 @@ wakhurmi_answer wakhurmi_leases_out(wakhurmi_service *service, uint32_t worker, 
         uint32_t answer = wakhurmi_c_leases_out(own, leases);
         go_out();
         if (answer != AGAIN) return (wakhurmi_answer)answer;
-        wait_a_moment(&looks);
+        wait_a_moment(++looks);
     }
 }
 

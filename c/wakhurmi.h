@@ -15,6 +15,9 @@
  * valid for what is read or written there; `locks` may be null where `count` is 0. No call is made from a signal handler, or in the
  * child of a fork without an exec. Numbers may be any: each is tested.
  *
+ * Calls of several threads may meet inside the service. Then all but one pause, and after some 20 microseconds each naps, for 50 or more at a
+ * time. No comment below calls that waiting.
+ *
  * A worker's place. It has nothing, or a lease with or without locks, or it is in a blocking section. A call that doesn't fit its
  * worker's place answers WAKHURMI_MISUSED. */
 #ifndef WAKHURMI_H

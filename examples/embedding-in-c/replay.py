@@ -19,8 +19,8 @@ def demand(holds: bool, what: str) -> None:
 
 
 class State:
-    def __init__(self, workers: int, most: int) -> None:
-        self.workers, self.most = workers, most
+    def __init__(self, workers: int, most: int, locks: int) -> None:
+        self.workers, self.most, self.locks = workers, most, locks
         self.leased: set[int] = set()
         self.blocked: set[int] = set()
         self.owners: dict[int, int] = {}
@@ -31,6 +31,7 @@ class State:
         getattr(self, "on_" + word)(worker, *map(int, numbers))
 
     def on_lock(self, worker: int, lock: int) -> None:
+        demand(lock < self.locks, f"there is no lock {lock}")
         demand(lock not in self.owners and worker not in self.blocked, f"lock {lock} is taken")
         self.owners[lock] = worker
 
@@ -67,8 +68,8 @@ class State:
 
 
 def replay(lines: list[str]) -> int:
-    demand(lines[0] == "history 1", "no history stands there")
-    head = re.fullmatch(r"workers (\d+) max (\d+) parallel yes", lines[1])
+    demand(lines[0] == "history 2", "no history stands there")
+    head = re.fullmatch(r"workers (\d+) max (\d+) parallel yes locks (\d+)", lines[1])
     demand(head is not None, "the second line isn't a head")
     state = State(*map(int, head.groups()))
     for number, line in enumerate(lines[2:-1], 1):

@@ -2,12 +2,13 @@
 use Rattle.std.proofs.Common.{◌≡◌, ℕ, ◌<◌, ◌≤◌, Result, Ok, Err, arith, Bool, true, false, cond, not, ◌&&◌, ◌||◌, List, [], ◌∷◌, ◌++◌, length, refl, sym, ap, ◌∙◌, subst}
 use Rattle.std.specs.Prelude.{nat_lt, is_none}
 use Rattle.std.specs.List.{list_all}
-use Rattle.std.proofs.lemmas.Bool.{and_from, eq-eqb, false≢true}
+use Rattle.std.proofs.lemmas.Bool.{and_from, eq-eqb, false≢true, not_from_false}
 use Rattle.std.proofs.lemmas.List.{append-nil, append_assoc}
+use Rattle.resource_lock.proofs.lemmas.Conflicts.{free_for_all, free_of_owner}
 use Rattle.resource_lock.specs.Change.{can, can_all, holding_after, make, make_all, same_mark}
 use Rattle.resource_lock.specs.GraphView.{GraphView, task_of}
 use Rattle.resource_lock.specs.Ranges.{actions_of, units_of}
-use Rattle.resource_lock.specs.StateView.{Holding, StateView, empty_holding, holding_of, is_idle, is_parked, leases_out, mark_of, runs_by, runs_unit, stands_in}
+use Rattle.resource_lock.specs.StateView.{Holding, StateView, empty_holding, holding_of, is_idle, is_parked, kept_from, leases_out, mark_of, owner_of, runs_by, runs_unit, stands_in}
 use Rattle.resource_lock.specs.declared.changes.Change.{Change}
 use Rattle.resource_lock.specs.declared.changes.Change.TheVariants.{Lock, Unlock, Take, Give, Move}
 use Rattle.resource_lock.specs.declared.ids.LockId.{LockId}
@@ -47,7 +48,8 @@ start_enabled g s w t idle nothing begin =
     let l : LockId = (task_of g t).lock in
     let left : nat_lt (leases_out s) s.max_leases ≡ true = sym (ap (λ (h : Holding). h.lease || nat_lt (leases_out s) s.max_leases) nothing) ∙ begin.lease in
     let holds : condition g s w (Start t) ≡ true = λ i. same_mark (begin.start.waits i) Waiting && begin.start.passed i && idle i in
-    let locks : can s w (Lock l) ≡ true = λ i. is_none (begin.start.free i) && not (stands_in l (nothing i).parked) in
+    let open' : not (kept_from s w l) ≡ true = not_from_false (kept_from s w l) (free_for_all s w l begin.start.free) in
+    let locks : can s w (Lock l) ≡ true = and_from _ _ (and_from (is_none (owner_of s l)) (not (kept_from s w l)) (free_of_owner s l begin.start.free) open') (ap (λ (h : Holding). not (stands_in l h.parked)) nothing) in
     let takes : can (make s w (Lock l)) w Take ≡ true = λ i. not (nothing i).lease && not (nothing i).blocked && left i in
     let moves : can (make_all s w (Lock l ∷ Take ∷ [])) w (Move (TaskOf t) Waiting (Running w)) ≡ true = λ i. same_mark (begin.start.waits i) Waiting && true && true && eq-eqb w.0 w.0 refl i in
     and_from _ _ holds (and_from _ _ locks (and_from _ _ takes (and_from _ _ moves refl)))

@@ -37,7 +37,7 @@ abbrev pub ShowsEnded : ℕ → Sight → Sight → Type 0
 ShowsEnded t old new = Shows (locks_on_end (lease_shown old) (task_of old.seen.graph t).lock (locks_shown old)) false
     (without_member mark_before (TaskOf t) (claimed_shown old)) (parked_shown old) old new
 
--- the task isn't Waiting, one that it comes after hasn't passed, its lock is owned, or no lease is free
+-- the task isn't Waiting, one that it comes after hasn't passed, somebody owns a lock that conflicts with its own, or no lease is free
 abbrev pub CannotStart : ℕ → GraphView → WorkerId → StateView → Type 0
 CannotStart t g w s = ¬ CanBegin g w s t
 

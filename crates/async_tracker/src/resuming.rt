@@ -15,7 +15,7 @@ ghost use Rattle.worker_choices.specs.NextSteps.{first_open};
 
 use crate::open_items::FirstOpen;
 use crate::parked::Parked;
-use coordination::{Coordination, Halt, Offers, Pass};
+use coordination::{Coordination, Halt, Keeper, Offers, Pass};
 use lock_transforms::kinds::Resume;
 use resource_lock::WorkerId;
 use std::sync::Wait;
@@ -34,12 +34,12 @@ pub enum Held {
 /// Goes on after the items of the action have ended: in one entry the worker takes again the lock and
 /// the lease that it gave back, as the action's retention says.
 ///
-/// It answers `StillWaiting` exactly where an item hasn't ended. Else it waits while another worker
-/// owns the lock or no lease is free. After an error the pass shows what it showed, and the parked
+/// It answers `StillWaiting` exactly where an item hasn't ended. Else it waits while the worker is kept
+/// from the lock or no lease is free. After an error the pass shows what it showed, and the parked
 /// value comes back as it was.
-pub fn resume<R: Wait, O: Offers>(
+pub fn resume<R: Wait, O: Offers, K: Keeper>(
     rt: &R,
-    service: &Coordination<O>,
+    service: &Coordination<O, K>,
     pass: &mut Pass,
     parked: Parked,
 ) -> Result<(), Held>
@@ -69,9 +69,9 @@ pub fn resume<R: Wait, O: Offers>(
 }
 
 // The first item of an action that hasn't ended.
-fn ask_first_open<R: Wait, O: Offers>(
+fn ask_first_open<R: Wait, O: Offers, K: Keeper>(
     rt: &R,
-    service: &Coordination<O>,
+    service: &Coordination<O, K>,
     pass: &mut Pass,
     action: u32,
 ) -> Option<u32>
@@ -87,9 +87,9 @@ fn ask_first_open<R: Wait, O: Offers>(
 }
 
 // Makes the entry, once the pass has seen that all items have ended: so it is in every later state.
-fn go_on<R: Wait, O: Offers>(
+fn go_on<R: Wait, O: Offers, K: Keeper>(
     rt: &R,
-    service: &Coordination<O>,
+    service: &Coordination<O, K>,
     pass: &mut Pass,
     parked: &Parked,
 ) -> Result<(), Halt>

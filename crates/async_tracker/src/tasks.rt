@@ -8,7 +8,7 @@ ghost use Rattle.coordination.specs.Holds.{HoldsNothing};
 ghost use Rattle.coordination.specs.Shown.{ShowsTheSame};
 ghost use Rattle.async_tracker.specs.Tasks.{CannotEnd, CannotSkip, CannotStart, MayEnd, ShowsEnded, ShowsStarted};
 
-use coordination::{Coordination, Halt, Offers, Pass};
+use coordination::{Coordination, Halt, Keeper, Offers, Pass};
 use lock_transforms::kinds::{End, Skip, Start};
 use std::alloc::AllocError;
 use std::sync::Wait;
@@ -16,12 +16,12 @@ use std::sync::Wait;
 /// Starts a task, in one entry: a worker that has nothing takes the task's lock and a lease.
 ///
 /// False, with a failed entry, says that it couldn't be started: it isn't Waiting, a task that it
-/// comes after hasn't passed, its lock is owned, or no lease is free. The call waits for the state
+/// comes after hasn't passed, somebody owns a lock that conflicts with its own, or no lease is free. The call waits for the state
 /// lock alone, and fails for want of memory alone. After false and after an error the pass shows
 /// what it showed.
-pub fn start_task<R: Wait, O: Offers>(
+pub fn start_task<R: Wait, O: Offers, K: Keeper>(
     rt: &R,
-    service: &Coordination<O>,
+    service: &Coordination<O, K>,
     pass: &mut Pass,
     task: u32,
 ) -> Result<bool, AllocError>
@@ -48,9 +48,9 @@ pub fn start_task<R: Wait, O: Offers>(
 /// comes after failed or was skipped, or one of its marks isn't Waiting. The call waits for the state
 /// lock alone, and fails for want of memory alone. The pass shows what it showed, whatever the call
 /// answers.
-pub fn skip_task<R: Wait, O: Offers>(
+pub fn skip_task<R: Wait, O: Offers, K: Keeper>(
     rt: &R,
-    service: &Coordination<O>,
+    service: &Coordination<O, K>,
     pass: &mut Pass,
     task: u32,
 ) -> Result<bool, AllocError>
@@ -75,9 +75,9 @@ pub fn skip_task<R: Wait, O: Offers>(
 ///
 /// It waits only where an action of the task neither has passed nor never ran, or where one of the
 /// changes can't be made. After an error the pass shows what it showed.
-pub fn end_task<R: Wait, O: Offers>(
+pub fn end_task<R: Wait, O: Offers, K: Keeper>(
     rt: &R,
-    service: &Coordination<O>,
+    service: &Coordination<O, K>,
     pass: &mut Pass,
     task: u32,
 ) -> Result<(), Halt>

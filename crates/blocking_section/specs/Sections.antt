@@ -109,6 +109,6 @@ pub record HasTakenUp (unit : Option ℕ) (old new : Sight) : Type 0 where
   pub locks : (l : LockId) → stands_in l (locks_shown new) ≡ (stands_in l (parked_shown old) || stands_in l (locks_shown old))
   pub claimed : claimed_shown new ≡ without_unit unit (claimed_shown old)
 
--- another worker owns a lock that the worker has parked, or no lease is free
+-- the worker is kept from a lock that it has parked, or no lease is free
 abbrev pub CanNotTakeUp : GraphView → WorkerId → StateView → Type 0
 CanNotTakeUp g w s = can_take_all s w (holding_of s w).parked ≡ false

@@ -9,7 +9,7 @@ ghost use Rattle.blocking_section.specs.BlockedView.{BlockedView};
 ghost use Rattle.blocking_section.specs.Sections.{CanNotTakeUp, FitsUnit, HasTakenUp, IsGivenBackBy, closed_with};
 
 use crate::blocked::Blocked;
-use coordination::{Coordination, Halt, Offers, Pass};
+use coordination::{Coordination, Halt, Keeper, Offers, Pass};
 use item_actions::Outcome;
 use lock_transforms::Closed;
 use lock_transforms::kinds::Unblock;
@@ -29,11 +29,11 @@ pub enum StillBlocked {
 /// the last to the first, and then a lease. Where the section was for a unit, this ends with the
 /// outcome.
 ///
-/// It waits while another worker owns one of the locks or no lease is free. After an error the pass
+/// It waits while the worker is kept from one of the locks or no lease is free. After an error the pass
 /// shows what it showed, and what was given back comes back as it was.
-pub fn leave<R: Wait, O: Offers>(
+pub fn leave<R: Wait, O: Offers, K: Keeper>(
     rt: &R,
-    service: &Coordination<O>,
+    service: &Coordination<O, K>,
     pass: &mut Pass,
     blocked: Blocked,
     outcome: Option<Outcome>,

@@ -74,8 +74,8 @@ fn book<R: Abort>(rt: &R, alloc: Global) -> Result<Box<Book>, AllocError>
 {
     let tasks = Vec::new(alloc);
     let actions = Vec::new(alloc);
-    assert!(rt; Graph::fits(0, 1, 1, &tasks, &actions));
-    let graph = Graph::new(0, 1, 1, tasks, actions);
+    assert!(rt; Graph::fits(0, None, 1, 1, &tasks, &actions));
+    let graph = Graph::new(0, None, 1, 1, tasks, actions);
     Ok(Box::new(alloc, Book::opening(alloc, graph, 0, 0)?)?)
 }
 

@@ -13,10 +13,10 @@ use std::alloc::Global;
 fn book_of(alloc: Global, workers: u32) -> Result<Box<Book>>
     ensures { IfOk result (λ book. book.value.state ≡ opening_of book.value.graph) }
 {
-    if !Graph::fits(0, workers, workers, &[], &[]) {
+    if !Graph::fits(0, None, workers, workers, &[], &[]) {
         bail!("there are too many workers");
     }
-    let graph = Graph::new(0, workers, workers, Vec::new(alloc), Vec::new(alloc));
+    let graph = Graph::new(0, None, workers, workers, Vec::new(alloc), Vec::new(alloc));
     Ok(Box::new(alloc, Book::opening(alloc, graph, 0, 0)?)?)
 }
 

@@ -16,3 +16,4 @@ mod Ranks
 mod Seated
 mod SiteUnits
 mod Tallied
+mod Watched

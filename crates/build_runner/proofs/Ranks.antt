@@ -1,10 +1,11 @@
 -- The tasks of a plan's graph have ranks.
-use Rattle.std.proofs.Common.{◌≡◌, ℕ, zero, suc, ◌+◌, ◌<◌, Bool, List, [], ◌∷◌, length, get_or, map, None, refl, sym, ◌∙◌, ap, subst, arith}
+use Rattle.std.proofs.Common.{◌≡◌, ℕ, zero, suc, ◌+◌, ◌<◌, Bool, false, List, [], ◌∷◌, length, get_or, map, None, refl, sym, ◌∙◌, ap, subst, arith}
 use Rattle.std.specs.List.{All}
 use Rattle.std.proofs.lemmas.List.{length-map}
 use Rattle.resource_lock.specs.GraphView.{GraphView, GraphTaskView, no_task}
+use Rattle.resource_lock.specs.declared.ids.LockId.{LockId}
 use Rattle.plan_reader.specs.PlanView.{PlanTaskView, PlanView}
-use Rattle.plan_reader.specs.Graph.{graph_of, tasks_from}
+use Rattle.plan_reader.specs.Graph.{all_projects_lock, graph_of, task_lock, tasks_from}
 use Rattle.plan_reader.specs.IsPlan.{IsPlan, dependencies}
 use Rattle.history_laws.specs.Outcomes.{AreRanks}
 use Rattle.task_ranks.specs.Rank.{Dependencies, InRange, IsFirstCycle, after}
@@ -13,9 +14,9 @@ use Rattle.task_ranks.specs.Numbering.{IsNumbering}
 abbrev afters_in : List GraphTaskView → Dependencies
 afters_in ts = map (λ t. t.after) ts
 
-afters_from : (parallel : Bool) (n : ℕ) (ts : List PlanTaskView) → afters_in (tasks_from parallel n ts) ≡ dependencies ts
-afters_from parallel n [] = refl
-afters_from parallel n (t ∷ ts) = ap (λ rest. t.after ∷ rest) (afters_from parallel (n + length t.actions) ts)
+afters_from : (lock : PlanTaskView → LockId) (n : ℕ) (ts : List PlanTaskView) → afters_in (tasks_from lock n ts) ≡ dependencies ts
+afters_from lock n [] = refl
+afters_from lock n (t ∷ ts) = ap (λ rest. t.after ∷ rest) (afters_from lock (n + length t.actions) ts)
 
 after_in : (ts : List GraphTaskView) (t : ℕ) → after (afters_in ts) t ≡ (get_or ts t no_task).after
 after_in [] t = refl
@@ -25,7 +26,7 @@ after_in (x ∷ ts) (suc t) = after_in ts t
 module _ (plan : PlanView) (g : GraphView) (workers leases : ℕ) (parallel : Bool) (is : g ≡ graph_of plan workers leases parallel) where
   -- the graph's tasks come after the same tasks as the plan's
   same_afters : afters_in g.tasks ≡ dependencies plan.tasks
-  same_afters = ap (λ (o : GraphView). afters_in o.tasks) is ∙ afters_from parallel 0 plan.tasks
+  same_afters = ap (λ (o : GraphView). afters_in o.tasks) is ∙ afters_from (task_lock (all_projects_lock plan parallel) parallel) 0 plan.tasks
 
   pub task_count : length g.tasks ≡ length plan.tasks
   task_count = sym (length-map g.tasks (λ (t : GraphTaskView). t.after)) ∙ (ap (λ (d : Dependencies). length d) same_afters ∙ length-map plan.tasks (λ (t : PlanTaskView). t.after))
@@ -37,7 +38,7 @@ pub afters_count : (plan : PlanView) → length (dependencies plan.tasks) ≡ le
 afters_count plan = length-map plan.tasks (λ (t : PlanTaskView). t.after)
 
 abbrev no_plan_task : PlanTaskView
-no_plan_task = record { name = []; project = 0; after = []; actions = [] }
+no_plan_task = record { name = []; project = 0; after = []; all_projects = false; actions = [] }
 
 after_of : (ts : List PlanTaskView) (t : ℕ) → after (dependencies ts) t ≡ (get_or ts t no_plan_task).after
 after_of [] t = refl

@@ -11,5 +11,6 @@ pub mod Points
 pub mod Worked
 pub mod Team
 pub mod Hands
+pub mod Watching
 pub mod Prepared
 pub mod Run

@@ -18,7 +18,8 @@ sent_view sends sent desk = record { count = sends desk; requests = sent desk }
 abbrev pub SentForWork : Option RequirementsView → Option ItemAction → List ℕ → Closed → SentView → SentView → Type 0
 SentForWork None action file d old new = new ≡ old
 SentForWork (Some asked) None file d old new = new ≡ old
-SentForWork (Some asked) (Some action) file d old new = Sends asked old new (record { unit = d.unit; action = action; file = file; keep = Some asked.keep }) d.outcome
+SentForWork (Some asked) (Some action) file d old new =
+    Sends asked old new (record { unit = d.unit; action = action; file = file; keep = Some asked.keep }) d.outcome
 
 abbrev pub SentForUnit : Option PlannedUnit → Closed → SentView → SentView → Type 0
 SentForUnit None d old new = new ≡ old

@@ -4,11 +4,11 @@ ghost use Rattle.daemon_manager.specs.Counts.{failures, reservations};
 ghost use Rattle.daemon_manager.specs.Events.{NoneIdle, IsLegal};
 ghost use Rattle.build_runner.specs.Desks.{desk_view};
 
-use crate::queue::QueuePlace;
-use coordination::Coordination;
+use crate::prepared::RunService;
 use daemon_desk::Desk;
 use daemon_manager::{CountedPool, Event, Tallies};
 use item_work::PoolLock;
+use std::sync::Wait;
 use std::sync::ledger::Ledger;
 
 // Stops the idle daemons. All are told before the first is waited for, so that they end side by side. They are told in the order of
@@ -26,8 +26,8 @@ fn stop_idle<D: Desk, U: Ledger, F: Ledger>(pool: &mut CountedPool<D::Link, U, F
 
 /// Stops a daemon that is one too many, if there is one. The service counts on this worker to come again at once, and so wakes nobody
 /// for what the worker left behind. It doesn't come while it waits for the daemon's end, so the others are woken before.
-pub(crate) fn stop_spare<D: Desk>(
-    service: &Coordination<QueuePlace>,
+pub(crate) fn stop_spare<R: Wait, D: Desk>(
+    service: &RunService<'_, R>,
     desk: &mut D,
     spare: Option<D::Link>,
 )

@@ -22,8 +22,8 @@ use std::sync::Wait;
 use std::sync::ledger::Ledger;
 
 // Reads the file of a fetch, by the fetch's number, and gives the number of its bytes. This sends nothing.
-fn read_fetch<D: Desk, G, L: Linked, U: Ledger, F: Ledger>(
-    site: &Site<'_, G, L, U, F>,
+fn read_fetch<R: Wait, D: Desk, G, L: Linked, U: Ledger, F: Ledger>(
+    site: &Site<'_, '_, R, G, L, U, F>,
     desk: &mut D,
     unit: u32,
 ) -> Outcome
@@ -37,7 +37,7 @@ fn read_fetch<D: Desk, G, L: Linked, U: Ledger, F: Ledger>(
 // Gives back the lease and the lock round the reading of a fetch of the worker's task.
 fn enter_for<R: Wait, G, L: Linked, U: Ledger, F: Ledger>(
     rt: &R,
-    site: &Site<'_, G, L, U, F>,
+    site: &Site<'_, '_, R, G, L, U, F>,
     pass: &mut Pass,
     task: u32,
     unit: u32,
@@ -59,7 +59,7 @@ fn enter_for<R: Wait, G, L: Linked, U: Ledger, F: Ledger>(
 // Takes the lease and the lock again, and closes the fetch with what it gave.
 fn leave_with<R: Wait, G, L: Linked, U: Ledger, F: Ledger>(
     rt: &R,
-    site: &Site<'_, G, L, U, F>,
+    site: &Site<'_, '_, R, G, L, U, F>,
     pass: &mut Pass,
     blocked: Blocked,
     closed: Closed,
@@ -86,7 +86,7 @@ fn leave_with<R: Wait, G, L: Linked, U: Ledger, F: Ledger>(
 /// The worker has both again then. It fails for want of memory, and where the service was stopped.
 pub(crate) fn fetch<R: Wait, D: Desk, G, L: Linked, U: Ledger, F: Ledger>(
     rt: &R,
-    site: &Site<'_, G, L, U, F>,
+    site: &Site<'_, '_, R, G, L, U, F>,
     pass: &mut Pass,
     desk: &mut D,
     task: u32,

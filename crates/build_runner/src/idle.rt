@@ -7,13 +7,14 @@ ghost use Rattle.build_runner.specs.Choices.{IsThere};
 ghost use Rattle.build_runner.specs.Kept.{HasClosed};
 ghost use Rattle.build_runner.specs.Points.{HasFinishedWork};
 ghost use Rattle.build_runner.specs.Site.{IsAt};
+ghost use Rattle.build_runner.specs.Watching.{IsWatched};
 ghost use Rattle.item_work.specs.Tallying.{ReservesForEach};
 ghost use Rattle.build_runner.specs.Desks.{desk_view};
 ghost use Rattle.build_runner.specs.Steps.{Steps};
 
 use crate::choices::WhatIsNext;
-use crate::hands::Hand;
 use crate::items::help_if_found;
+use crate::kits::Kit;
 use crate::site::Site;
 use crate::tasks::run_task;
 use async_tracker::skip_task;
@@ -29,7 +30,7 @@ use worker_choices::Choice;
 // Skips a task, unless it can't be skipped any more.
 fn skip<R: Wait, G, L: Linked, U: Ledger, F: Ledger>(
     rt: &R,
-    site: &Site<'_, G, L, U, F>,
+    site: &Site<'_, '_, R, G, L, U, F>,
     pass: &mut Pass,
     task: u32,
 ) -> Result<(), Halt>
@@ -49,7 +50,7 @@ fn skip<R: Wait, G, L: Linked, U: Ledger, F: Ledger>(
 // Asks what is next.
 fn choose<R: Wait, G, L: Linked, U: Ledger, F: Ledger>(
     rt: &R,
-    site: &Site<'_, G, L, U, F>,
+    site: &Site<'_, '_, R, G, L, U, F>,
     pass: &mut Pass,
 ) -> Result<Choice, Halt>
     requires at { IsAt site.now pass.old }
@@ -64,25 +65,27 @@ fn choose<R: Wait, G, L: Linked, U: Ledger, F: Ledger>(
 // Does what an idle worker chose. Where it finishes there is nothing to do.
 fn carry_out<R: Wait, D: Desk, G: Gate, U: Ledger, F: Ledger>(
     rt: &R,
-    site: &Site<'_, G, D::Link, U, F>,
+    site: &Site<'_, '_, R, G, D::Link, U, F>,
     pass: &mut Pass,
     desk: &mut D,
     mine: &mut Tally<U, F>,
-    hand: &mut Hand,
+    kit: &mut Kit,
     choice: Choice,
 ) -> Result<(), Halt>
     requires at { IsAt site.now pass.old }
     requires rests { HoldsNothing pass.old.sight }
     requires there { IsThere pass.old.sight choice }
+    requires watched { IsWatched site.now kit.old }
     ensures step { Steps site.now (desk_view D.files D.faults D.sends D.sent) desk.old desk.new pass.old pass.new (is_ok result) }
     ensures rests { OnOk result (HoldsNothing pass.new.sight) }
     ensures reserved { ReservesForEach (D.sends desk.old) (D.sends desk.new) mine.old mine.new }
     ensures failed { OnOk result (FailsForEach pass.old.sight pass.new.sight mine.old mine.new) }
+    ensures watched { IsWatched site.now kit.new }
 {
     match choice {
-        Choice::Pop => help_if_found(rt, site, pass, desk, mine, hand),
+        Choice::Pop => help_if_found(rt, site, pass, desk, mine, kit),
         Choice::Skip(task) => skip(rt, site, pass, task),
-        Choice::Start(task) => run_task(rt, site, pass, desk, mine, hand, task),
+        Choice::Start(task) => run_task(rt, site, pass, desk, mine, kit, task),
         Choice::Finish => Ok(()),
     }
 }
@@ -92,25 +95,27 @@ fn carry_out<R: Wait, D: Desk, G: Gate, U: Ledger, F: Ledger>(
 /// The worker has nothing then. It fails for want of memory, and where the service was stopped.
 pub(crate) fn work_to_the_end<R: Wait, D: Desk, G: Gate, U: Ledger, F: Ledger>(
     rt: &R,
-    site: &Site<'_, G, D::Link, U, F>,
+    site: &Site<'_, '_, R, G, D::Link, U, F>,
     pass: &mut Pass,
     desk: &mut D,
     mine: &mut Tally<U, F>,
-    hand: &mut Hand,
+    kit: &mut Kit,
 ) -> Result<(), Halt>
     requires at { IsAt site.now pass.old }
     requires rests { HoldsNothing pass.old.sight }
+    requires watched { IsWatched site.now kit.old }
     ensures step { Steps site.now (desk_view D.files D.faults D.sends D.sent) desk.old desk.new pass.old pass.new (is_ok result) }
     ensures finished { OnOk result (HasFinishedWork pass.new.sight) }
     ensures reserved { ReservesForEach (D.sends desk.old) (D.sends desk.new) mine.old mine.new }
     ensures failed { OnOk result (FailsForEach pass.old.sight pass.new.sight mine.old mine.new) }
+    ensures watched { IsWatched site.now kit.new }
 {
     for _ in rt.forever() {
         let choice = choose(rt, site, pass)?;
         if let Choice::Finish = choice {
             return Ok(());
         }
-        carry_out(rt, site, pass, desk, mine, hand, choice)?;
+        carry_out(rt, site, pass, desk, mine, kit, choice)?;
     }
     unreachable!()
 }

@@ -8,12 +8,13 @@ ghost use Rattle.build_runner.specs.Failing.{FailsForEach};
 ghost use Rattle.build_runner.specs.Kept.{HasClosed};
 ghost use Rattle.build_runner.specs.Points.{CanHelp};
 ghost use Rattle.build_runner.specs.Site.{IsAt};
+ghost use Rattle.build_runner.specs.Watching.{IsWatched};
 ghost use Rattle.item_work.specs.Tallying.{ReservesForEach, one_if_unreal};
 ghost use Rattle.build_runner.specs.Desks.{desk_view};
 ghost use Rattle.build_runner.specs.Steps.{HasRun, Steps};
 
 use crate::daemons::stop_spare;
-use crate::hands::Hand;
+use crate::kits::Kit;
 use crate::site::Site;
 use async_tracker::{claim, close, closing_undoes_claiming};
 use coordination::{Halt, Pass};
@@ -30,7 +31,7 @@ use std::sync::ledger::Ledger;
 // Runs an item that the worker has claimed, and says what it gives. A daemon that is one too many comes with it.
 fn run_claimed<R: Wait, D: Desk, G: Gate, U: Ledger, F: Ledger>(
     rt: &R,
-    site: &Site<'_, G, D::Link, U, F>,
+    site: &Site<'_, '_, R, G, D::Link, U, F>,
     pass: &Pass,
     desk: &mut D,
     mine: &mut Tally<U, F>,
@@ -54,7 +55,7 @@ fn run_claimed<R: Wait, D: Desk, G: Gate, U: Ledger, F: Ledger>(
 // Claims an item. False says that it isn't queued any more.
 fn claim_item<R: Wait, G, L: Linked, U: Ledger, F: Ledger>(
     rt: &R,
-    site: &Site<'_, G, L, U, F>,
+    site: &Site<'_, '_, R, G, L, U, F>,
     pass: &mut Pass,
     unit: u32,
 ) -> Result<bool, Halt>
@@ -72,7 +73,7 @@ fn claim_item<R: Wait, G, L: Linked, U: Ledger, F: Ledger>(
 // Closes an item that the worker has claimed.
 fn close_item<R: Wait, G, L: Linked, U: Ledger, F: Ledger>(
     rt: &R,
-    site: &Site<'_, G, L, U, F>,
+    site: &Site<'_, '_, R, G, L, U, F>,
     pass: &mut Pass,
     closed: Closed,
 ) -> Result<(), Halt>
@@ -92,27 +93,33 @@ fn close_item<R: Wait, G, L: Linked, U: Ledger, F: Ledger>(
     }
 }
 
-// Runs an item that the worker has claimed, and closes it with what it gives. A daemon that is one too many is stopped behind that,
-// also where the close failed: while its end is waited for, the item is over, and no lease is kept.
+// Runs an item that the worker has claimed, closes it with what it gives, and notes what a view shows then. A daemon that is one too
+// many is stopped behind that, also where the close failed: while its end is waited for, the item is over, and no lease is kept.
 fn run_and_close<R: Wait, D: Desk, G: Gate, U: Ledger, F: Ledger>(
     rt: &R,
-    site: &Site<'_, G, D::Link, U, F>,
+    site: &Site<'_, '_, R, G, D::Link, U, F>,
     pass: &mut Pass,
     desk: &mut D,
     mine: &mut Tally<U, F>,
+    kit: &mut Kit,
     unit: u32,
 ) -> Result<(), Halt>
     requires at { IsAt site.now pass.old }
     requires item { IsItemHere site.now.graph unit }
     requires claimed { Contains (claimed_shown pass.old.sight) (ids.Unit unit) }
     requires lease { lease_shown pass.old.sight ≡ true }
+    requires watched { IsWatched site.now kit.old }
     ensures step { Steps site.now (desk_view D.files D.faults D.sends D.sent) desk.old desk.new pass.old pass.new (is_ok result) }
     ensures shows { OnOk result (ShowsClosed unit pass.old.sight pass.new.sight) }
     ensures reserved { ReservesForEach (D.sends desk.old) (D.sends desk.new) mine.old mine.new }
     ensures failed { OnOk result (FailsForEach pass.old.sight pass.new.sight mine.old mine.new) }
+    ensures watched { IsWatched site.now kit.new }
 {
     let Ran { outcome, spare } = run_claimed(rt, site, pass, desk, mine, unit);
     let closed = close_item(rt, site, pass, Closed { unit, outcome });
+    if closed.is_ok() {
+        kit.watch(pass, unit);
+    }
     stop_spare(site.service, desk, spare);
     closed
 }
@@ -122,23 +129,26 @@ fn run_and_close<R: Wait, D: Desk, G: Gate, U: Ledger, F: Ledger>(
 // The pass then shows what it showed. It fails for want of memory, and where the service was stopped.
 fn help<R: Wait, D: Desk, G: Gate, U: Ledger, F: Ledger>(
     rt: &R,
-    site: &Site<'_, G, D::Link, U, F>,
+    site: &Site<'_, '_, R, G, D::Link, U, F>,
     pass: &mut Pass,
     desk: &mut D,
     mine: &mut Tally<U, F>,
+    kit: &mut Kit,
     unit: u32,
 ) -> Result<(), Halt>
     requires at { IsAt site.now pass.old }
     requires item { IsItemHere site.now.graph unit }
     requires helps { CanHelp pass.old.sight }
+    requires watched { IsWatched site.now kit.old }
     ensures step { Steps site.now (desk_view D.files D.faults D.sends D.sent) desk.old desk.new pass.old pass.new (is_ok result) }
     ensures shows { OnOk result (ShowsTheSame pass.old.sight pass.new.sight) }
     ensures reserved { ReservesForEach (D.sends desk.old) (D.sends desk.new) mine.old mine.new }
     ensures failed { OnOk result (FailsForEach pass.old.sight pass.new.sight mine.old mine.new) }
+    ensures watched { IsWatched site.now kit.new }
 {
     closing_undoes_claiming();
     if claim_item(rt, site, pass, unit)? {
-        run_and_close(rt, site, pass, desk, mine, unit)
+        run_and_close(rt, site, pass, desk, mine, kit, unit)
     } else {
         Ok(())
     }
@@ -150,21 +160,23 @@ fn help<R: Wait, D: Desk, G: Gate, U: Ledger, F: Ledger>(
 /// The pass then shows what it showed. It fails for want of memory, and where the service was stopped.
 pub(crate) fn help_if_found<R: Wait, D: Desk, G: Gate, U: Ledger, F: Ledger>(
     rt: &R,
-    site: &Site<'_, G, D::Link, U, F>,
+    site: &Site<'_, '_, R, G, D::Link, U, F>,
     pass: &mut Pass,
     desk: &mut D,
     mine: &mut Tally<U, F>,
-    hand: &mut Hand,
+    kit: &mut Kit,
 ) -> Result<(), Halt>
     requires at { IsAt site.now pass.old }
     requires helps { CanHelp pass.old.sight }
+    requires watched { IsWatched site.now kit.old }
     ensures step { Steps site.now (desk_view D.files D.faults D.sends D.sent) desk.old desk.new pass.old pass.new (is_ok result) }
     ensures shows { OnOk result (ShowsTheSame pass.old.sight pass.new.sight) }
     ensures reserved { ReservesForEach (D.sends desk.old) (D.sends desk.new) mine.old mine.new }
     ensures failed { OnOk result (FailsForEach pass.old.sight pass.new.sight mine.old mine.new) }
+    ensures watched { IsWatched site.now kit.new }
 {
-    match hand.next_unit(rt) {
-        Some(unit) if site.is_item(unit) => help(rt, site, pass, desk, mine, unit),
+    match kit.hand.next_unit(rt) {
+        Some(unit) if site.is_item(unit) => help(rt, site, pass, desk, mine, kit, unit),
         Some(_) | None => Ok(()),
     }
 }

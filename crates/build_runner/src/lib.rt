@@ -9,6 +9,7 @@ mod fetching;
 mod hands;
 mod idle;
 mod items;
+mod kits;
 mod options;
 mod parked;
 mod prepared;
@@ -18,6 +19,7 @@ mod runs;
 mod site;
 mod tasks;
 mod team;
+mod watching;
 
 pub use options::RunOptions;
 pub use run_end::RunEnd;

@@ -8,4 +8,6 @@ pub struct RunOptions {
     pub max_leases: u32,
     /// Whether each project has a lock of its own. Without it all share one.
     pub parallel: bool,
+    /// Whether the workers look at the history while they run.
+    pub watch: bool,
 }

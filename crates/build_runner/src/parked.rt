@@ -11,13 +11,14 @@ ghost use Rattle.build_runner.specs.Failing.{FailsForEach};
 ghost use Rattle.build_runner.specs.Parked.{IsNextParked};
 ghost use Rattle.build_runner.specs.Points.{CanHelp};
 ghost use Rattle.build_runner.specs.Site.{IsAt};
+ghost use Rattle.build_runner.specs.Watching.{IsWatched};
 ghost use Rattle.item_work.specs.Tallying.{ReservesForEach};
 ghost use Rattle.build_runner.specs.Desks.{desk_view};
 ghost use Rattle.build_runner.specs.Steps.{Steps};
 
 use crate::failed_units::has_failed;
-use crate::hands::Hand;
 use crate::items::help_if_found;
+use crate::kits::Kit;
 use crate::site::Site;
 use async_tracker::{Held, Parked, resume};
 use coordination::{Halt, Pass, Question};
@@ -82,31 +83,33 @@ impl Question for WhatIsNextParked {
 // Runs items until those of the action have ended. It says whether a unit of the action has failed.
 fn help_until_over<R: Wait, D: Desk, G: Gate, U: Ledger, F: Ledger>(
     rt: &R,
-    site: &Site<'_, G, D::Link, U, F>,
+    site: &Site<'_, '_, R, G, D::Link, U, F>,
     pass: &mut Pass,
     desk: &mut D,
     mine: &mut Tally<U, F>,
-    hand: &mut Hand,
+    kit: &mut Kit,
     action: u32,
 ) -> Result<bool, Halt>
     requires at { IsAt site.now pass.old }
     requires in_range { action < length site.now.graph.actions }
     requires helps { CanHelp pass.old.sight }
+    requires watched { IsWatched site.now kit.old }
     ensures step { Steps site.now (desk_view D.files D.faults D.sends D.sent) desk.old desk.new pass.old pass.new (is_ok result) }
     ensures shows { OnOk result (ShowsTheSame pass.old.sight pass.new.sight) }
     ensures sound { OnOk result (IsSoundBook pass.new.sight.seen) }
     ensures over { OnOk result (first_open pass.new.sight.seen.graph pass.new.sight.seen.state action ≡ None) }
     ensures reserved { ReservesForEach (D.sends desk.old) (D.sends desk.new) mine.old mine.new }
     ensures failed { OnOk result (FailsForEach pass.old.sight pass.new.sight mine.old mine.new) }
+    ensures watched { IsWatched site.now kit.new }
 {
     for _ in rt.forever() {
-        let own = hand.has_own();
+        let own = kit.hand.has_own();
         match site
             .service
             .ask(rt, pass, &WhatIsNextParked { action, own })?
         {
             ParkedChoice::Resume(failed) => return Ok(failed),
-            ParkedChoice::Pop => help_if_found(rt, site, pass, desk, mine, hand)?,
+            ParkedChoice::Pop => help_if_found(rt, site, pass, desk, mine, kit)?,
         }
     }
     unreachable!()
@@ -116,24 +119,26 @@ fn help_until_over<R: Wait, D: Desk, G: Gate, U: Ledger, F: Ledger>(
 /// has failed.
 pub(crate) fn wait_for_items<R: Wait, D: Desk, G: Gate, U: Ledger, F: Ledger>(
     rt: &R,
-    site: &Site<'_, G, D::Link, U, F>,
+    site: &Site<'_, '_, R, G, D::Link, U, F>,
     pass: &mut Pass,
     desk: &mut D,
     mine: &mut Tally<U, F>,
-    hand: &mut Hand,
+    kit: &mut Kit,
     parked: Parked,
 ) -> Result<bool, Halt>
     requires at { IsAt site.now pass.old }
     requires in_range { parked.action < length site.now.graph.actions }
     requires own { IsParkedBy pass.old.sight parked }
     requires helps { CanHelp pass.old.sight }
+    requires watched { IsWatched site.now kit.old }
     ensures step { Steps site.now (desk_view D.files D.faults D.sends D.sent) desk.old desk.new pass.old pass.new (is_ok result) }
     ensures shows { OnOk result (ShowsResumed (action_of site.now.graph parked.action).retention
         (lock_with site.now.graph parked.action) parked.action pass.old.sight pass.new.sight) }
     ensures reserved { ReservesForEach (D.sends desk.old) (D.sends desk.new) mine.old mine.new }
     ensures failed { OnOk result (FailsForEach pass.old.sight pass.new.sight mine.old mine.new) }
+    ensures watched { IsWatched site.now kit.new }
 {
-    let failed = help_until_over(rt, site, pass, desk, mine, hand, parked.action())?;
+    let failed = help_until_over(rt, site, pass, desk, mine, kit, parked.action())?;
     match resume(rt, site.service, pass, parked) {
         Ok(()) => Ok(failed),
         Err(Held::StillWaiting(_, _)) => unreachable!(),

@@ -1,23 +1,39 @@
 //! What a run takes memory for, before any desk moves.
-ghost use Rattle.std.specs.Prelude.{◌≡◌, ◌≤◌, [], All, IfOk, length, map, vec_capacity};
+ghost use Rattle.std.specs.Prelude.{◌≡◌, ◌≤◌, [], All, IfOk, IfSome, Option, Some, length, map, vec_capacity};
+ghost use Rattle.logbook.specs.Pages.{Book as Ledger};
 ghost use Rattle.resource_lock.specs.Opening.{opening_of};
 ghost use Rattle.resource_lock.specs.declared.limits.TheConstants.{MAX_LEASES, MAX_WORKERS};
-ghost use Rattle.coordination.specs.Sights.{workers_from};
+ghost use Rattle.coordination.specs.Passes.{ServiceId};
 ghost use Rattle.plan_reader.specs.Graph.{graph_of};
 ghost use Rattle.build_runner.specs.Prepared.{IsOpenedOn, IsPrepared};
-ghost use Rattle.build_runner.specs.Team.{CanWork};
+ghost use Rattle.build_runner.specs.Watching.{IsWatchedBy};
+ghost use Rattle.plan_reader.specs.Units.{unit_view};
 
 use crate::hands::Hand;
+use crate::kits::Kit;
 use crate::options::RunOptions;
 use crate::queue::{Queue, QueuePlace};
 use crate::team::Worker;
-use coordination::{Coordination, Opened, Pass, openings_are_at_rest};
+use coordination::{Coordination, OpenedWithViews, Pass, ShownService, openings_are_at_rest};
+use history_views::View;
 use lock_journal::Book;
 use lock_transforms::kinds::MAX_CHANGES;
 use plan_reader::{Plan, UnitWork, units_of};
 use resource_lock::Graph;
+use run_watch::Watcher;
 use std::alloc::{AllocError, Global};
+use std::sync::Wait;
 use std::sync::ledger::Ledger;
+
+/// The service of a run.
+pub(crate) type RunService<'a, R> = ShownService<QueuePlace, &'a R>;
+
+/// The service of a run, with a pass for each worker.
+#[derive(Drop)]
+pub(crate) struct OpenedRun<'a, R: Wait> {
+    pub service: RunService<'a, R>,
+    pub passes: Vec<Pass>,
+}
 
 /// The entries of a task, beside those of its actions: start and end, or skip alone.
 const ENTRIES_A_TASK: u64 = 2;
@@ -69,21 +85,25 @@ fn open_book(alloc: Global, graph: Graph) -> Result<Book, AllocError>
     Book::opening(alloc, graph, entries, changes)
 }
 
-// The service over a book of the graph, with a pass for each worker.
-fn open_service(
+// The service over a book of the graph, with a pass for each worker, and so many views.
+fn open_service<'a, R: Wait>(
+    rt: &'a R,
     alloc: Global,
     graph: Graph,
     place: QueuePlace,
-) -> Result<Opened<QueuePlace>, AllocError>
-    ensures graph { IfOk result (λ opened. opened.service.book.graph ≡ graph) }
-    ensures passes { IfOk result (λ opened. length opened.passes.items ≡ graph.workers) }
-    ensures ready { IfOk result (λ opened. All (CanWork opened.service graph) opened.passes.items) }
-    ensures untouched { IfOk result (λ opened. All (λ p. p.sight.seen.history ≡ []) opened.passes.items) }
-    ensures workers { IfOk result (λ opened. map (λ p. p.sight.worker.0) opened.passes.items ≡ workers_from 0 graph.workers) }
+    views: u32,
+) -> Result<(OpenedRun<'a, R>, Vec<View>), AllocError>
+    ensures opened { IfOk result (λ made. IsOpenedOn graph made.0.service made.0.passes.items) }
+    ensures views { IfOk result (λ made. All (λ v. made.0.service.service.ledger ≡ Some v.ledger) made.1.items) }
 {
     openings_are_at_rest();
     let book = boxed(alloc, open_book(alloc, graph)?)?;
-    Coordination::open_with(alloc, book, place)
+    let OpenedWithViews {
+        service,
+        passes,
+        views,
+    } = Coordination::open_with_views(alloc, rt, book, place, views)?;
+    Ok((OpenedRun { service, passes }, views))
 }
 
 // The graph of the plan, as the options have it.
@@ -97,22 +117,26 @@ fn graph_of(alloc: Global, plan: &Plan, options: &RunOptions) -> Result<Graph, A
     plan.graph(alloc, options.workers, options.max_leases, options.parallel)
 }
 
-// The service over a book of the plan's graph, in a box.
-fn open_for(
+// The service over a book of the plan's graph, in a box, and a view for each worker where the run is watched.
+fn open_for<'a, R: Wait>(
+    rt: &'a R,
     alloc: Global,
     plan: &Plan,
     options: &RunOptions,
     place: QueuePlace,
-) -> Result<Box<Opened<QueuePlace>>, AllocError>
+) -> Result<(Box<OpenedRun<'a, R>>, Vec<View>), AllocError>
     requires some_worker { 1 ≤ options.now.workers }
     requires few_workers { options.now.workers ≤ MAX_WORKERS }
     requires some_lease { 1 ≤ options.now.max_leases }
     requires few_leases { options.now.max_leases ≤ MAX_LEASES }
-    ensures { IfOk result (λ opened. IsOpenedOn (graph_of plan.now options.now.workers options.now.max_leases options.now.parallel) opened.value) }
+    ensures opened { IfOk result (λ made. IsOpenedOn (graph_of plan.now options.now.workers options.now.max_leases options.now.parallel)
+        made.0.value.service made.0.value.passes.items) }
+    ensures views { IfOk result (λ made. All (λ v. made.0.value.service.service.ledger ≡ Some v.ledger) made.1.items) }
 {
     let graph = graph_of(alloc, plan, options)?;
-    let opened = open_service(alloc, graph, place)?;
-    boxed(alloc, opened)
+    let count = if options.watch { options.workers } else { 0 };
+    let (opened, views) = open_service(rt, alloc, graph, place, count)?;
+    Ok((boxed(alloc, opened)?, views))
 }
 
 // How many items the graph has, up to the largest number.
@@ -140,31 +164,55 @@ pub(crate) fn open_queue(
     Queue::new(alloc, options.workers, items_in(&graph))
 }
 
+// A kit for each hand, with a view as long as there are views, and with room for looks at so many units.
+fn kits_of(
+    alloc: Global,
+    hands: Vec<Hand>,
+    mut views: Vec<View>,
+    units: u32,
+) -> Result<Vec<Kit>, AllocError>
+    ensures len { IfOk result (λ kits. length kits.items ≡ length hands.items) }
+    ensures watched { (service : ServiceId) → All (λ v. service.ledger ≡ Some v.ledger) views.items
+        → IfOk result (λ kits. All (IsWatchedBy service) kits.items) }
+{
+    let mut kits = Vec::with_capacity(alloc, hands.len())?;
+    for hand in hands {
+        let watcher = watcher_of(alloc, views.pop(), units)?;
+        kits.push_reserved(Kit { hand, watcher });
+    }
+    Ok(kits)
+}
+
+// A watcher over a view, if there is one.
+fn watcher_of(alloc: Global, view: Option<View>, units: u32) -> Result<Option<Watcher>, AllocError>
+    ensures { (ledger : Option Ledger) → IfSome view (λ v. ledger ≡ Some v.ledger)
+        → IfOk result (λ made. IfSome made (λ w. ledger ≡ Some w)) }
+{
+    match view {
+        Some(view) => Ok(Some(Watcher::new(alloc, view, units)?)),
+        None => Ok(None),
+    }
+}
+
 /// Room for the workers, and for the passes and desks that they leave.
 #[derive(Drop)]
 pub(crate) struct Room<D, U: Ledger, F: Ledger> {
     pub team: Vec<Worker<D, U, F>>,
-    /// The workers' hands at the tickets.
-    pub hands: Vec<Hand>,
     pub passes: Vec<Pass>,
     pub desks: Vec<D>,
+    /// Room for the kits that they leave.
+    pub left: Vec<Kit>,
 }
 
 impl<D: Drop, U: Ledger, F: Ledger> Room<D, U, F> {
     /// Room for so many workers, and for all desks.
-    pub fn new(
-        alloc: Global,
-        workers: usize,
-        desks: usize,
-        hands: Vec<Hand>,
-    ) -> Result<Room<D, U, F>, AllocError>
-        ensures hands { IfOk result (λ room. room.hands.items ≡ hands.items) }
-        ensures empty { IfOk result (λ room. (room.team.items ≡ []) × (room.passes.items ≡ []) × (room.desks.items ≡ [])) }
-        ensures workers { IfOk result (λ room. (workers ≤ vec_capacity room.team) × (workers ≤ vec_capacity room.passes)) }
+    pub fn new(alloc: Global, workers: usize, desks: usize) -> Result<Room<D, U, F>, AllocError>
+        ensures empty { IfOk result (λ room. (room.team.items ≡ []) × (room.passes.items ≡ []) × (room.desks.items ≡ []) × (room.left.items ≡ [])) }
+        ensures workers { IfOk result (λ room. (workers ≤ vec_capacity room.team) × (workers ≤ vec_capacity room.passes) × (workers ≤ vec_capacity room.left)) }
         ensures desks { IfOk result (λ room. desks ≤ vec_capacity room.desks) }
     {
         Ok(Room {
-            hands,
+            left: Vec::with_capacity(alloc, workers)?,
             team: Vec::with_capacity(alloc, workers)?,
             passes: Vec::with_capacity(alloc, workers)?,
             desks: Vec::with_capacity(alloc, desks)?,
@@ -174,36 +222,45 @@ impl<D: Drop, U: Ledger, F: Ledger> Room<D, U, F> {
 
 /// What a run has before it begins.
 #[derive(Drop)]
-pub(crate) struct Prepared<'a> {
+pub(crate) struct Prepared<'a, 'r, R: Wait> {
     /// The graph of the plan.
     pub graph: Graph,
     /// The units by their numbers.
     pub units: Vec<UnitWork<'a>>,
-    /// The service, over a book of that graph, and a pass for each worker.
-    pub opened: Box<Opened<QueuePlace>>,
+    /// The service, over a book of that graph, with a pass for each worker.
+    pub opened: Box<OpenedRun<'r, R>>,
+    /// A kit for each worker, with a view of the service where the run is watched.
+    pub kits: Vec<Kit>,
 }
 
-impl<'a> Prepared<'a> {
+impl<'a, 'r, R: Wait> Prepared<'a, 'r, R> {
     /// What a run of the plan needs. It fails for want of memory.
     pub fn new(
+        rt: &'r R,
         alloc: Global,
         plan: &'a Plan,
         options: &RunOptions,
         place: QueuePlace,
-    ) -> Result<Prepared<'a>, AllocError>
+        hands: Vec<Hand>,
+    ) -> Result<Prepared<'a, 'r, R>, AllocError>
         requires some_worker { 1 ≤ options.now.workers }
         requires few_workers { options.now.workers ≤ MAX_WORKERS }
         requires some_lease { 1 ≤ options.now.max_leases }
         requires few_leases { options.now.max_leases ≤ MAX_LEASES }
-        ensures { IfOk result (IsPrepared plan.now options.now) }
+        ensures prepared { IfOk result (λ p. IsPrepared plan.now options.now p.graph (map unit_view p.units.items) p.opened.value.service
+            p.opened.value.passes.items) }
+        ensures kits { IfOk result (λ p. length p.kits.items ≡ length hands.items) }
+        ensures watched { IfOk result (λ p. All (IsWatchedBy p.opened.value.service.service) p.kits.items) }
     {
-        let opened = open_for(alloc, plan, options, place)?;
+        let (opened, views) = open_for(rt, alloc, plan, options, place)?;
         let units = units_of(alloc, plan)?;
         let graph = graph_of(alloc, plan, options)?;
+        let kits = kits_of(alloc, hands, views, graph.units())?;
         Ok(Prepared {
             graph,
             units,
             opened,
+            kits,
         })
     }
 }

@@ -1,6 +1,7 @@
 //! The end of a run.
 use daemon_manager::Event;
 use lock_journal::Book;
+use run_watch::Watch;
 
 /// What a run leaves.
 #[derive(Drop)]
@@ -9,4 +10,6 @@ pub struct RunEnd {
     pub book: Box<Book>,
     /// All that happened to its daemons, in this order. None of them is idle any more.
     pub events: Vec<Event>,
+    /// What was seen once each item was closed, by rising unit, where the run was watched. Else it is empty.
+    pub watch: Vec<Watch>,
 }

@@ -5,6 +5,7 @@ ghost use Rattle.resource_lock.specs.declared.limits.TheConstants.{MAX_LEASES, M
 ghost use Rattle.daemon_manager.specs.Counts.{failures, reservations};
 ghost use Rattle.daemon_manager.specs.Events.{NoneIdle, IsLegal};
 ghost use Rattle.history_laws.specs.ClosedBy.{closed_by};
+ghost use Rattle.history_views.specs.Growing.{IsLater};
 ghost use Rattle.coordination.specs.Passes.{PassView};
 ghost use Rattle.coordination.specs.Sights.{workers_from};
 ghost use Rattle.plan_reader.specs.Graph.{graph_of};
@@ -13,16 +14,19 @@ ghost use Rattle.build_runner.specs.Desks.{AreAlike, DeskView, desk_view, desks_
 ghost use Rattle.build_runner.specs.Failing.{unreal_of, unreal_seen};
 ghost use Rattle.build_runner.specs.Run.{IsRunOf, WasBrokenOff};
 ghost use Rattle.build_runner.specs.Team.{CanWork};
+ghost use Rattle.build_runner.specs.Watching.{IsWatched, IsWatchedRun};
 ghost use Rattle.build_runner.specs.Worked.{HasComeToTheEnd, HasWorked, WasThere};
 
 use crate::daemons::close_pool;
+use crate::kits::Kit;
 use crate::options::RunOptions;
-use crate::prepared::{Prepared, Room, open_queue};
-use crate::queue::{Queue, QueuePlace};
+use crate::prepared::{OpenedRun, Prepared, Room, open_queue};
+use crate::queue::Queue;
 use crate::run_end::RunEnd;
 use crate::site::Site;
 use crate::team::{Worker, all_ended, part, seat, work};
-use coordination::{Opened, Pass};
+use crate::watching::{board_of, room_for, watches_of};
+use coordination::Pass;
 use daemon_desk::Desk;
 use daemon_manager::{CountedPool, Pool, Tallies};
 use file_access::Gate;
@@ -33,6 +37,7 @@ use history_laws::{
 use item_work::PoolLock;
 use lock_journal::Book;
 use plan_reader::Plan;
+use run_watch::Watch;
 use std::alloc::{AllocError, Global};
 use std::marker::Brand;
 use std::mem;
@@ -42,22 +47,28 @@ use std::thread::Threads;
 use task_ranks::ranks_give_a_numbering;
 
 // Takes the book out of the service for good.
-fn close_service(opened: Box<Opened<QueuePlace>>, plan: &Plan, options: &RunOptions) -> Box<Book>
+fn close_service<R: Wait>(
+    opened: Box<OpenedRun<'_, R>>,
+    plan: &Plan,
+    options: &RunOptions,
+) -> Box<Book>
     requires service { All (λ p. p.service ≡ opened.value.service.service) opened.value.passes.items }
     requires workers { map (λ p. p.sight.worker.0) opened.value.passes.items ≡ workers_from 0 options.now.workers }
     requires some { 1 ≤ options.now.workers }
     requires graph { opened.value.service.book.graph ≡ graph_of plan.now options.now.workers options.now.max_leases options.now.parallel }
     ensures run { (before after : ℕ → DeskView)
         → ((i : ℕ) (p : PassView) → i < options.now.workers
-        → HasComeToTheEnd (known_by options.now.workers before) (plan_units plan.now) (before i) (after i) (get_or opened.value.passes.items i p))
+        → HasComeToTheEnd (known_by options.now.workers before) (plan_units plan.now) (before i) (after i) (get_or opened.entry.value.passes.items i p))
         → IsRunOf plan.now options.now before after result.value }
     ensures broken_off { (before after : ℕ → DeskView)
         → ((i : ℕ) (p : PassView) → i < options.now.workers
-        → WasThere (plan_units plan.now) (before i) (after i) (get_or opened.value.passes.items i p))
+        → WasThere (plan_units plan.now) (before i) (after i) (get_or opened.entry.value.passes.items i p))
         → WasBrokenOff plan.now options.now before after }
+    ensures graph { result.value.graph ≡ graph_of plan.now options.now.workers options.now.max_leases options.now.parallel }
+    ensures later { All (λ p. IsLater p.sight.seen result.value) opened.entry.value.passes.items }
     ensures closings { (i : ℕ) (p : PassView) → i < options.now.workers
         → closed_by (record { 0 = i }) result.value.history
-        ≡ closed_by (get_or opened.value.passes.items i p).sight.worker (get_or opened.value.passes.items i p).sight.seen.history }
+        ≡ closed_by (get_or opened.entry.value.passes.items i p).sight.worker (get_or opened.entry.value.passes.items i p).sight.seen.history }
 {
     // Where each task has a rank, they can be numbered so that each stands behind those that it
     // comes after. What is said of the whole run follows from these laws of every lawful history.
@@ -67,7 +78,7 @@ fn close_service(opened: Box<Opened<QueuePlace>>, plan: &Plan, options: &RunOpti
     honest_workers_give_the_answers();
     lawful_histories_lead_to_good_states();
     let _ = plan.tasks();
-    let Opened { service, passes } = Box::into_inner(opened);
+    let OpenedRun { service, passes } = Box::into_inner(opened);
     let book = service.finish(passes);
     let _ = book.graph();
     let _ = book.state();
@@ -84,19 +95,22 @@ fn run_team<
     F: Ledger + Send + Sync,
 >(
     rt: &R,
-    site: &Site<'_, G, D::Link, U, F>,
+    site: &Site<'_, '_, R, G, D::Link, U, F>,
     passes: &mut Vec<Pass>,
     desks: &mut Vec<D>,
     tallies: &mut Tallies<U, F>,
+    kits: &mut Vec<Kit>,
     room: Room<D, U, F>,
 ) -> bool
     requires same { vec_len passes.old ≡ vec_len desks.old }
-    requires hands { length room.hands.items ≡ vec_len desks.old }
-    requires empty { (room.team.items ≡ []) × (room.passes.items ≡ []) × (room.desks.items ≡ []) }
-    requires room { (vec_len desks.old ≤ vec_capacity room.team) × (vec_len desks.old ≤ vec_capacity room.passes)
+    requires kits { length kits.old.items ≡ vec_len desks.old }
+    requires watched { All (IsWatched site.now) kits.old.items }
+    requires empty { (room.team.items ≡ []) × (room.passes.items ≡ []) × (room.desks.items ≡ []) × (room.left.items ≡ []) }
+    requires room { (vec_len desks.old ≤ vec_capacity room.team) × (vec_len desks.old ≤ vec_capacity room.passes) × (vec_len desks.old ≤ vec_capacity room.left)
         × (vec_len desks.old ≤ vec_capacity room.desks) }
     requires parts { vec_len desks.old < tallies.old.parts }
     requires ready { All (CanWork site.now.service site.now.graph) passes.old.items }
+    ensures watched { All (IsWatched site.now) kits.new.items }
     ensures passes { length passes.new.items ≡ vec_len desks.old }
     ensures desks { length desks.new.items ≡ vec_len desks.old }
     ensures capacity { vec_capacity desks.new ≡ vec_capacity room.desks }
@@ -109,20 +123,20 @@ fn run_team<
 {
     let Room {
         mut team,
-        hands,
         passes: left,
         desks: back,
+        left: used,
     } = room;
     seat(
         mem::replace(passes, left),
         mem::replace(desks, back),
-        hands,
+        mem::replace(kits, used),
         tallies,
         &mut team,
     );
     work(rt, site, team.as_mut_slice());
     let ended = all_ended(team.as_slice());
-    part(team, passes, desks, tallies);
+    part(team, passes, desks, kits, tallies);
     ended
 }
 
@@ -153,7 +167,7 @@ fn run_book<
     tallies: &mut Tallies<U, F>,
     desks: &mut Vec<D>,
     gate: &G,
-) -> Result<Box<Book>, AllocError>
+) -> Result<(Box<Book>, Vec<Watch>), AllocError>
     requires some_worker { 1 ≤ options.now.workers }
     requires few_workers { options.now.workers ≤ MAX_WORKERS }
     requires some_lease { 1 ≤ options.now.max_leases }
@@ -165,28 +179,31 @@ fn run_book<
     ensures files { (i : ℕ) (d : D) → D.files (get_or desks.new.items i d) ≡ D.files (get_or desks.old.items i d) }
     ensures counts { (i : ℕ) (d : D) → D.faults (get_or desks.old.items i d) ≤ D.faults (get_or desks.new.items i d) }
     ensures rest { drop options.now.workers desks.new.items ≡ drop options.now.workers desks.old.items }
-    ensures run { (d : D) → IfOk result (λ book. IsRunOf plan.now options.now
+    ensures run { (d : D) → IfOk result (λ ran. IsRunOf plan.now options.now
         (desks_view (desk_view D.files D.faults D.sends D.sent) desks.old.items d)
-        (desks_view (desk_view D.files D.faults D.sends D.sent) desks.new.items d) book.value) }
+        (desks_view (desk_view D.files D.faults D.sends D.sent) desks.new.items d) ran.0.value) }
+    ensures watch { IfOk result (λ ran. IsWatchedRun options.now ran.0.value ran.1.items) }
     ensures broken_off { (d : D) → OnErr result (WasBrokenOff plan.now options.now
         (desks_view (desk_view D.files D.faults D.sends D.sent) desks.old.items d)
         (desks_view (desk_view D.files D.faults D.sends D.sent) desks.new.items d)) }
     ensures parts { tallies.new.parts ≡ tallies.old.parts }
     ensures reserved { sum_by D.sends desks.new.items + tallies.old.reserved ≤ sum_by D.sends desks.old.items + tallies.new.reserved }
-    ensures failed { IfOk result (λ book. tallies.new.failed ≤ tallies.old.failed + unreal_of options.now.workers book.value.history) }
+    ensures failed { IfOk result (λ ran. tallies.new.failed ≤ tallies.old.failed + unreal_of options.now.workers ran.0.value.history) }
 {
     let Queue { place, hands } = open_queue(alloc, plan, options)?;
     let Prepared {
         graph,
         units,
         mut opened,
-    } = Prepared::new(alloc, plan, options, place)?;
-    let room = Room::new(alloc, options.workers as usize, desks.len(), hands)?;
+        mut kits,
+    } = Prepared::new(rt, alloc, plan, options, place, hands)?;
+    let looks = room_for(alloc, options.watch, graph.units())?;
+    let room = Room::new(alloc, options.workers as usize, desks.len())?;
     let rest = desks.split_off(options.workers as usize)?;
     // That the units' files have their form and that the graph fits, their types say.
     let _ = plan.tasks();
     let _ = graph.tasks();
-    let parts: &mut Opened<QueuePlace> = &mut opened;
+    let parts: &mut OpenedRun<'_, R> = &mut opened;
     let site = Site {
         service: &parts.service,
         graph: &graph,
@@ -195,10 +212,24 @@ fn run_book<
         gate,
         alloc,
     };
-    let ended = run_team(rt, &site, &mut parts.passes, desks, tallies, room);
+    let ended = run_team(
+        rt,
+        &site,
+        &mut parts.passes,
+        desks,
+        tallies,
+        &mut kits,
+        room,
+    );
     put_behind(desks, rest);
+    let board = board_of(&parts.passes, kits, looks);
     let book = close_service(opened, plan, options);
-    if ended { Ok(book) } else { Err(AllocError) }
+    if ended {
+        let watch = watches_of(alloc, board, &book);
+        Ok((book, watch))
+    } else {
+        Err(AllocError)
+    }
 }
 
 // Runs a plan, and counts what happens to the daemons in these ledgers, which have a part for each worker and one more.
@@ -238,6 +269,7 @@ fn run_counted<
     ensures broken_off { (d : D) → OnErr result (WasBrokenOff plan.now options.now
         (desks_view (desk_view D.files D.faults D.sends D.sent) desks.old.items d)
         (desks_view (desk_view D.files D.faults D.sends D.sent) desks.new.items d)) }
+    ensures watch { IfOk result (λ end. IsWatchedRun options.now end.book.value end.watch.items) }
     ensures legal { IfOk result (λ end. IsLegal end.events.items) }
     ensures none_idle { IfOk result (λ end. NoneIdle end.events.items) }
     ensures reserved { IfOk result (λ end. sum_by D.sends desks.new.items ≤ sum_by D.sends desks.old.items + reservations end.events.items) }
@@ -246,11 +278,13 @@ fn run_counted<
     let pool = Pool::new(alloc)?;
     let (pool, mut tallies) = CountedPool::<D::Link, U, F>::new(pool, reserved, failed);
     let pool = Mutex::new(pool);
-    let book = run_book(rt, alloc, plan, options, &pool, &mut tallies, desks, gate);
+    let ran = run_book(rt, alloc, plan, options, &pool, &mut tallies, desks, gate);
     let events = close_pool(pool, tallies, desks);
+    let (book, watch) = ran?;
     Ok(RunEnd {
-        book: book?,
+        book,
         events,
+        watch,
     })
 }
 
@@ -273,6 +307,10 @@ fn run_counted<
 /// ended are stopped through the first desk, also after an error, so none is idle then. At least as many
 /// daemons were reserved as requests were sent: each request had its reservation. No more daemons failed
 /// than its workers closed units with `Fault` or `NoMemory`.
+///
+/// Where the options say so, each worker has a view of the history. It looks after each item that it has closed, having learnt from
+/// its pass. Beside the book stands what was seen then, by rising unit, one for each item that was closed: so many entries of the
+/// book, the one that closed the item among them, and the leases that were out after them. Else nothing is seen.
 ///
 /// It fails for want of memory alone, of the run or of any of its entries. The desks have then read some
 /// of the files, and what had run is lost. Each desk sent the requests of the units that its worker closed,
@@ -301,6 +339,7 @@ pub fn run_plan<R: Threads + Wait + Sync, D: Desk + Send + Drop, G: Gate + Sync>
     ensures broken_off { (d : D) → OnErr result (WasBrokenOff plan.now options.now
         (desks_view (desk_view D.files D.faults D.sends D.sent) desks.old.items d)
         (desks_view (desk_view D.files D.faults D.sends D.sent) desks.new.items d)) }
+    ensures watch { IfOk result (λ end. IsWatchedRun options.now end.book.value end.watch.items) }
     ensures legal { IfOk result (λ end. IsLegal end.events.items) }
     ensures none_idle { IfOk result (λ end. NoneIdle end.events.items) }
     ensures reserved { IfOk result (λ end. sum_by D.sends desks.new.items ≤ sum_by D.sends desks.old.items + reservations end.events.items) }

@@ -8,8 +8,7 @@ ghost use Rattle.async_tracker.specs.Shows.{IsItemHere};
 ghost use Rattle.plan_reader.specs.PlanView.{work_view};
 ghost use Rattle.plan_reader.specs.Units.{fetch_unit, item_unit};
 
-use crate::queue::QueuePlace;
-use coordination::Coordination;
+use crate::prepared::RunService;
 use daemon_requirements::{Linked, Work};
 use item_actions::Text;
 use item_work::PoolLock;
@@ -18,13 +17,14 @@ use resource_lock::{Graph, GraphAction};
 use std::alloc::Global;
 use std::marker::Model;
 use std::ops::Range;
+use std::sync::Wait;
 use std::sync::ledger::Ledger;
 
 /// What the workers of a run share. The units are those of the graph.
 #[derive(Drop)]
-pub(crate) struct Site<'a, G, L: Linked, U: Ledger, F: Ledger> {
+pub(crate) struct Site<'a, 'r, R: Wait, G, L: Linked, U: Ledger, F: Ledger> {
     /// The state lock.
-    pub service: &'a Coordination<QueuePlace>,
+    pub service: &'a RunService<'r, R>,
     /// The graph of the plan.
     pub graph: &'a Graph,
     /// The units by their numbers.
@@ -37,7 +37,7 @@ pub(crate) struct Site<'a, G, L: Linked, U: Ledger, F: Ledger> {
     pub alloc: Global,
 }
 
-impl<'a, G, L: Linked, U: Ledger, F: Ledger> Model for Site<'a, G, L, U, F> {
+impl<'a, 'r, R: Wait, G, L: Linked, U: Ledger, F: Ledger> Model for Site<'a, 'r, R, G, L, U, F> {
     ghost use Rattle.std.specs.Prelude.{map};
     ghost use Rattle.build_runner.specs.Site.{SiteView};
 
@@ -51,7 +51,7 @@ impl<'a, G, L: Linked, U: Ledger, F: Ledger> Model for Site<'a, G, L, U, F> {
     ghost invariant = { λ s. AreUnitsOf s.graph.now (map unit_view s.units.now) };
 }
 
-impl<'a, G, L: Linked, U: Ledger, F: Ledger> Site<'a, G, L, U, F> {
+impl<'a, 'r, R: Wait, G, L: Linked, U: Ledger, F: Ledger> Site<'a, 'r, R, G, L, U, F> {
     /// The actions of a task, by number.
     pub fn actions_of(&self, task: u32) -> Range<u32>
         requires { task < length self.now.graph.tasks }

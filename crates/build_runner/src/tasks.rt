@@ -9,12 +9,13 @@ ghost use Rattle.build_runner.specs.Failing.{FailsForEach};
 ghost use Rattle.build_runner.specs.Kept.{HasClosed};
 ghost use Rattle.build_runner.specs.Points.{CanHelp, IsInTask, RunsTask};
 ghost use Rattle.build_runner.specs.Site.{IsAt};
+ghost use Rattle.build_runner.specs.Watching.{IsWatched};
 ghost use Rattle.item_work.specs.Tallying.{ReservesForEach};
 ghost use Rattle.build_runner.specs.Desks.{desk_view};
 ghost use Rattle.build_runner.specs.Steps.{Steps};
 
 use crate::fetching::fetch;
-use crate::hands::Hand;
+use crate::kits::Kit;
 use crate::parked::wait_for_items;
 use crate::site::Site;
 use async_tracker::{Parked, end_task, park, start_task, submit};
@@ -30,7 +31,7 @@ use std::sync::ledger::Ledger;
 // Reads the file that an action fetches, if it has a fetch.
 fn fetch_first<R: Wait, D: Desk, G, U: Ledger, F: Ledger>(
     rt: &R,
-    site: &Site<'_, G, D::Link, U, F>,
+    site: &Site<'_, '_, R, G, D::Link, U, F>,
     pass: &mut Pass,
     desk: &mut D,
     task: u32,
@@ -55,9 +56,9 @@ fn fetch_first<R: Wait, D: Desk, G, U: Ledger, F: Ledger>(
 // Queues the items of an action of the worker's task, pushes their tickets, and parks.
 fn queue_items<R: Wait, G, L: Linked, U: Ledger, F: Ledger>(
     rt: &R,
-    site: &Site<'_, G, L, U, F>,
+    site: &Site<'_, '_, R, G, L, U, F>,
     pass: &mut Pass,
-    hand: &mut Hand,
+    kit: &mut Kit,
     task: u32,
     action: u32,
 ) -> Result<Parked, Halt>
@@ -65,6 +66,7 @@ fn queue_items<R: Wait, G, L: Linked, U: Ledger, F: Ledger>(
     requires task { task < length site.now.graph.tasks }
     requires action { IsActionOf site.now.graph task action }
     requires runs { RunsTask task pass.old.sight }
+    requires watched { IsWatched site.now kit.old }
     ensures service { pass.new.service ≡ pass.old.service }
     ensures closed { HasClosed [] pass.old.sight pass.new.sight }
     ensures action { IfOk result (λ parked. parked.action ≡ action) }
@@ -74,11 +76,12 @@ fn queue_items<R: Wait, G, L: Linked, U: Ledger, F: Ledger>(
     ensures helps { OnOk result (CanHelp pass.new.sight) }
     ensures shows { OnOk result (ShowsParked (action_of site.now.graph action).retention
         (lock_with site.now.graph action) action pass.old.sight pass.new.sight) }
+    ensures watched { IsWatched site.now kit.new }
 {
     let found = site.action_of(task, action);
     submit(rt, site.service, pass, action)?;
     let first = found.first_unit + u32::from(found.fetch);
-    hand.queue(rt, first..first + found.items);
+    kit.hand.queue(rt, first..first + found.items);
     park(rt, site.service, pass, action)
 }
 
@@ -87,11 +90,11 @@ fn queue_items<R: Wait, G, L: Linked, U: Ledger, F: Ledger>(
 // the worker has its lease again.
 fn run_action<R: Wait, D: Desk, G: Gate, U: Ledger, F: Ledger>(
     rt: &R,
-    site: &Site<'_, G, D::Link, U, F>,
+    site: &Site<'_, '_, R, G, D::Link, U, F>,
     pass: &mut Pass,
     desk: &mut D,
     mine: &mut Tally<U, F>,
-    hand: &mut Hand,
+    kit: &mut Kit,
     task: u32,
     action: u32,
 ) -> Result<bool, Halt>
@@ -99,39 +102,43 @@ fn run_action<R: Wait, D: Desk, G: Gate, U: Ledger, F: Ledger>(
     requires task { task < length site.now.graph.tasks }
     requires action { IsActionOf site.now.graph task action }
     requires runs { RunsTask task pass.old.sight }
+    requires watched { IsWatched site.now kit.old }
     ensures step { Steps site.now (desk_view D.files D.faults D.sends D.sent) desk.old desk.new pass.old pass.new (is_ok result) }
     ensures goes_on { result ≡ Ok true → RunsTask task pass.new.sight }
     ensures in_task { OnOk result (IsInTask task pass.new.sight) }
     ensures reserved { ReservesForEach (D.sends desk.old) (D.sends desk.new) mine.old mine.new }
     ensures failed { OnOk result (FailsForEach pass.old.sight pass.new.sight mine.old mine.new) }
+    ensures watched { IsWatched site.now kit.new }
 {
     fetch_first(rt, site, pass, desk, task, action)?;
-    let parked = queue_items(rt, site, pass, hand, task, action)?;
-    let failed = wait_for_items(rt, site, pass, desk, mine, hand, parked)?;
+    let parked = queue_items(rt, site, pass, kit, task, action)?;
+    let failed = wait_for_items(rt, site, pass, desk, mine, kit, parked)?;
     Ok(!failed && pass.has_lease())
 }
 
 // Runs the actions of the worker's task, up to the first with a unit that failed.
 fn run_actions<R: Wait, D: Desk, G: Gate, U: Ledger, F: Ledger>(
     rt: &R,
-    site: &Site<'_, G, D::Link, U, F>,
+    site: &Site<'_, '_, R, G, D::Link, U, F>,
     pass: &mut Pass,
     desk: &mut D,
     mine: &mut Tally<U, F>,
-    hand: &mut Hand,
+    kit: &mut Kit,
     task: u32,
 ) -> Result<(), Halt>
     requires at { IsAt site.now pass.old }
     requires task { task < length site.now.graph.tasks }
     requires runs { RunsTask task pass.old.sight }
+    requires watched { IsWatched site.now kit.old }
     ensures step { Steps site.now (desk_view D.files D.faults D.sends D.sent) desk.old desk.new pass.old pass.new (is_ok result) }
     ensures in_task { OnOk result (IsInTask task pass.new.sight) }
     ensures reserved { ReservesForEach (D.sends desk.old) (D.sends desk.new) mine.old mine.new }
     ensures failed { OnOk result (FailsForEach pass.old.sight pass.new.sight mine.old mine.new) }
+    ensures watched { IsWatched site.now kit.new }
 {
     let Range { start, end } = site.actions_of(task);
     for action in start..end {
-        if !run_action(rt, site, pass, desk, mine, hand, task, action)? {
+        if !run_action(rt, site, pass, desk, mine, kit, task, action)? {
             return Ok(());
         }
     }
@@ -141,7 +148,7 @@ fn run_actions<R: Wait, D: Desk, G: Gate, U: Ledger, F: Ledger>(
 // Ends the worker's task, which gives back what the worker has.
 fn end<R: Wait, G, L: Linked, U: Ledger, F: Ledger>(
     rt: &R,
-    site: &Site<'_, G, L, U, F>,
+    site: &Site<'_, '_, R, G, L, U, F>,
     pass: &mut Pass,
     task: u32,
 ) -> Result<(), Halt>
@@ -160,32 +167,34 @@ fn end<R: Wait, G, L: Linked, U: Ledger, F: Ledger>(
 /// The worker has nothing then. It fails for want of memory, and where the service was stopped.
 pub(crate) fn run_task<R: Wait, D: Desk, G: Gate, U: Ledger, F: Ledger>(
     rt: &R,
-    site: &Site<'_, G, D::Link, U, F>,
+    site: &Site<'_, '_, R, G, D::Link, U, F>,
     pass: &mut Pass,
     desk: &mut D,
     mine: &mut Tally<U, F>,
-    hand: &mut Hand,
+    kit: &mut Kit,
     task: u32,
 ) -> Result<(), Halt>
     requires at { IsAt site.now pass.old }
     requires task { task < length site.now.graph.tasks }
     requires rests { HoldsNothing pass.old.sight }
+    requires watched { IsWatched site.now kit.old }
     ensures step { Steps site.now (desk_view D.files D.faults D.sends D.sent) desk.old desk.new pass.old pass.new (is_ok result) }
     ensures rests { OnOk result (HoldsNothing pass.new.sight) }
     ensures reserved { ReservesForEach (D.sends desk.old) (D.sends desk.new) mine.old mine.new }
     ensures failed { OnOk result (FailsForEach pass.old.sight pass.new.sight mine.old mine.new) }
+    ensures watched { IsWatched site.now kit.new }
 {
     if !start(rt, site, pass, task)? {
         return Ok(());
     }
-    run_actions(rt, site, pass, desk, mine, hand, task)?;
+    run_actions(rt, site, pass, desk, mine, kit, task)?;
     end(rt, site, pass, task)
 }
 
 // Starts a task. False says that it can't be started any more.
 fn start<R: Wait, G, L: Linked, U: Ledger, F: Ledger>(
     rt: &R,
-    site: &Site<'_, G, L, U, F>,
+    site: &Site<'_, '_, R, G, L, U, F>,
     pass: &mut Pass,
     task: u32,
 ) -> Result<bool, Halt>

@@ -43,7 +43,8 @@ unfoldable pub run_app : App
 run_app = with_rules (bare_app (codes "run")) (
     required_rule (codes "PLAN")
     ∷ option_rule (codes "max-workers") ∷ option_rule (codes "threads")
-    ∷ flag_rule (codes "parallel") ∷ flag_rule (codes "history") ∷ flag_rule (codes "daemons") ∷ flag_rule (codes "summary") ∷ [])
+    ∷ flag_rule (codes "parallel") ∷ flag_rule (codes "history") ∷ flag_rule (codes "daemons")
+    ∷ flag_rule (codes "watch") ∷ flag_rule (codes "summary") ∷ [])
 
 unfoldable pub check_app : App
 check_app = with_rules (bare_app (codes "check")) (required_rule (codes "PLAN") ∷ [])

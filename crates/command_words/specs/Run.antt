@@ -27,6 +27,7 @@ asked rows max_leases threads = record {
   parallel = is_on (codes "parallel") rows;
   history = is_on (codes "history") rows;
   daemons = is_on (codes "daemons") rows;
+  watch = is_on (codes "watch") rows;
   summary = is_on (codes "summary") rows;
 }
 

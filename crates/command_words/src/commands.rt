@@ -35,6 +35,8 @@ pub struct RunWords {
     pub history: bool,
     /// Whether what happened to the daemons is printed.
     pub daemons: bool,
+    /// Whether the workers look at the history while they run, and what they saw is printed.
+    pub watch: bool,
     /// Whether of the results the summary alone is printed.
     pub summary: bool,
 }

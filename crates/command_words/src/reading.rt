@@ -97,7 +97,7 @@ fn named(alloc: Global, name: &str, rest: &[Text]) -> Result<Command, WordsFail>
 ///
 /// The first word is the command's name, `run`, `worker`, `check`, `again` or `make`. Behind `run` stand the name of the
 /// plan's file and, in any order, `--max-workers` and `--threads` with a number each, `--parallel`, `--history`,
-/// `--daemons` and `--summary`. What stands behind `worker` isn't looked at. Behind `check` and behind `again` stands
+/// `--daemons`, `--watch` and `--summary`. What stands behind `worker` isn't looked at. Behind `check` and behind `again` stands
 /// the name of the plan's file alone. Behind `make` stand a number below 2^64, with 1 to 20 digits, and the name of a
 /// file. NoCommand comes exactly where the words are none.
 pub fn read_command(alloc: Global, words: &[Text]) -> Result<Command, WordsFail>

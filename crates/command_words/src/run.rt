@@ -72,6 +72,7 @@ fn run_words(alloc: Global, matches: &ArgMatches<'_>) -> Result<RunWords, WordsF
         parallel: is_on(matches, "parallel"),
         history: is_on(matches, "history"),
         daemons: is_on(matches, "daemons"),
+        watch: is_on(matches, "watch"),
         summary: is_on(matches, "summary"),
     })
 }
@@ -89,6 +90,7 @@ pub(crate) fn read_run(alloc: Global, words: &[&str]) -> Result<RunWords, WordsF
         Parameter::Flag("parallel"),
         Parameter::Flag("history"),
         Parameter::Flag("daemons"),
+        Parameter::Flag("watch"),
         Parameter::Flag("summary"),
     ];
     let matches = matches_of(alloc, "run", &parameters, words)?;

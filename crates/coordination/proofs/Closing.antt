@@ -13,18 +13,21 @@ use Rattle.coordination.specs.declared.rule.Sight.{Sight}
 use Rattle.coordination.specs.declared.rule.SeatView.{SeatView}
 use Rattle.coordination.specs.Agrees.{Agrees, IsSoundBook}
 use Rattle.coordination.specs.Passes.{PassView}
+use Rattle.logbook.specs.Pages.{Book as Ledger}
+use Rattle.coordination.specs.Kept.{KeptView, kept}
 use Rattle.coordination.specs.Rule.{OutFits, home_of, Orderly}
 use Rattle.coordination.specs.Sights.{sight, all_of, no_book, sights_from, workers_from}
 use Rattle.coordination.proofs.Moves.{S}
 
 -- what the last state says of each worker, and of the slot
-pub record Closes (g : GraphView) (ss : List Sight) (xs : List BookView) : Type 0 where
+pub record Closes (g : GraphView) (ss : List Sight) (xs : List KeptView) : Type 0 where
   pub book : BookView
+  pub ledger : Option Ledger
   pub mark : ℕ
   pub named : mark ≤ g.workers
   pub graph : book.graph ≡ g
   pub sound : IsSoundBook book
-  pub slot : get_elem? xs 0 ≡ some book
+  pub slot : get_elem? xs 0 ≡ some (kept book ledger)
   pub agrees : All (λ s. Agrees s.worker s.seen book) ss
   pub stops : All (λ s. mark ≡ suc s.worker.0 → s.stopped ≡ true) ss
   pub stopped_by : All (λ s. (w : WorkerId) → s.stopped_by ≡ Some w → mark ≡ suc w.0) ss
@@ -54,21 +57,22 @@ there_is ss n w all low =
     let inside : w < length ss = omega arith in
     (inside, λ d. sym (get_or-map (λ (s : Sight). s.worker.0) ss w d 0 inside) ∙ (ap (λ (l : List ℕ). get_or l w 0) all ∙ (workers_at 0 n w 0 low ∙ omega arith)))
 
-closing : (g : GraphView) (id : ℕ) (ss : List Sight) (xs : List BookView) → map (λ s. s.worker.0) ss ≡ workers_from 0 g.workers → (s : S) (o : Orderly g s) → get_elem? s.views id ≡ some (all_of ss)
-    → ((k : ℕ) (y : BookView) → get_elem? s.homes k ≡ some (some y) → get_elem? xs k ≡ some y) → (holder : Option ℕ) → o.holder ≡ holder → Closes g ss xs
-closing g id ss xs all s o at keeps None is =
-    let mine = (o.fits id (all_of ss) at).0 in record {
+closing : (g : GraphView) (l : Option Ledger) (id : ℕ) (ss : List Sight) (xs : List KeptView) → map (λ s. s.worker.0) ss ≡ workers_from 0 g.workers → (s : S) (o : Orderly g s) → get_elem? s.views id ≡ some (all_of l ss)
+    → ((k : ℕ) (y : KeptView) → get_elem? s.homes k ≡ some (some y) → get_elem? xs k ≡ some y) → (holder : Option ℕ) → o.holder ≡ holder → Closes g ss xs
+closing g l id ss xs all s o at keeps None is =
+    let mine = (o.fits id (all_of l ss) at).0 in record {
       book = o.book;
+      ledger = o.ledger;
       mark = o.mark;
       named = o.named;
       graph = o.graph;
       sound = o.sound;
-      slot = keeps 0 o.book (o.home ∙ ap (λ (k : Option ℕ). some (home_of k o.book)) is);
+      slot = keeps 0 (kept o.book o.ledger) (o.home ∙ ap (λ (k : Option ℕ). some (home_of k (kept o.book o.ledger))) is);
       agrees = λ k d h. (mine k d h).agrees;
       stops = λ k d h. (mine k d h).stops;
       stopped_by = λ k d h. (mine k d h).stopped_by;
     }
-closing g id ss xs all s o at keeps (Some k) is =
+closing g l id ss xs all s o at keeps (Some k) is =
     let u = some_at s.views k (o.inside k is) in
     let f = o.fits k u.0 u.1 in
     let out : OutFits (Some k) o.book k u.0 = subst (λ (j : Option ℕ). OutFits j o.book k u.0) is f.1 in
@@ -77,14 +81,14 @@ closing g id ss xs all s o at keeps (Some k) is =
     let fit = f.0 0 d some_sight in
     let w : ℕ = (get_or u.0.sights 0 d).worker.0 in
     let mine = there_is ss g.workers w all fit.known in
-    let fit' = (o.fits id (all_of ss) at).0 w d mine.0 in
+    let fit' = (o.fits id (all_of l ss) at).0 w d mine.0 in
     let same : id ≡ k = sym fit'.seated ∙ (ap o.owner (mine.1 d) ∙ fit.seated) in
-    let holds : OutFits (Some k) o.book id (all_of ss) = subst (λ (j : Option ℕ). OutFits j o.book id (all_of ss)) is (o.fits id (all_of ss) at).1 in
+    let holds : OutFits (Some k) o.book id (all_of l ss) = subst (λ (j : Option ℕ). OutFits j o.book id (all_of l ss)) is (o.fits id (all_of l ss) at).1 in
     let not : None ≡ Some o.book = (holds.0 same).0 in absurd (cc)
 
-pub closes : (g : GraphView) (id : ℕ) (v : SeatView) (ss : List Sight) (ws : List ℕ) (xs : List BookView) → v ≡ all_of ss → map (λ s. s.worker.0) ss ≡ workers_from 0 g.workers → Final (Seen (Orderly g) id v) ws xs
+pub closes : (g : GraphView) (l : Option Ledger) (id : ℕ) (v : SeatView) (ss : List Sight) (ws : List ℕ) (xs : List KeptView) → v ≡ all_of l ss → map (λ s. s.worker.0) ss ≡ workers_from 0 g.workers → Final (Seen (Orderly g) id v) ws xs
     → Closes g ss xs
-closes g id v ss ws xs is all f = closing g id ss xs all f.0 f.1.0 (f.1.1 ∙ ap some is) f.4 f.1.0.holder refl
+closes g l id v ss ws xs is all f = closing g l id ss xs all f.0 f.1.0 (f.1.1 ∙ ap some is) f.4 f.1.0.holder refl
 
 -- the same of the passes
 pub workers_all : (ps : List PassView) → map (λ s. s.worker.0) (map (λ p. p.sight) ps) ≡ map (λ p. p.sight.worker.0) ps
@@ -114,9 +118,9 @@ of_passes P ps all k d h = let f : PassView → Sight = λ p. p.sight in let lon
     at zero (p ∷ ps) d = refl
     at (suc k) (p ∷ ps) d = at k ps d
 
-module _ (g : GraphView) (ps : List PassView) (xs : List BookView) (result : BookView) (z : Closes g (map (λ p. p.sight) ps) xs) (took : get_elem? xs 0 ≡ some result) where
+module _ (g : GraphView) (ps : List PassView) (xs : List KeptView) (left : KeptView) (result : BookView) (z : Closes g (map (λ p. p.sight) ps) xs) (took : get_elem? xs 0 ≡ some left) (is : result ≡ left.book) where
   same : z.book ≡ result
-  same = some-injective z.book result (sym z.slot ∙ took)
+  same = ap (λ (x : KeptView). x.book) (some-injective (kept z.book z.ledger) left (sym z.slot ∙ took)) ∙ sym is
 
   pub graph_is : result.graph ≡ g
   graph_is = sym (ap (λ (b : BookView). b.graph) same) ∙ z.graph
@@ -135,7 +139,7 @@ worker_at ps n all k d within =
     sym (get_or-map f ps k d 0 within) ∙ (ap (λ (l : List ℕ). get_or l k 0) all ∙ (workers_at 0 n k 0 low ∙ omega arith))
 
 -- whoever a pass heard of is a worker with a pass, which has stopped the service
-pub passes_stopped : (g : GraphView) (ps : List PassView) (xs : List BookView) → map (λ p. p.sight.worker.0) ps ≡ workers_from 0 g.workers → Closes g (map (λ p. p.sight) ps) xs
+pub passes_stopped : (g : GraphView) (ps : List PassView) (xs : List KeptView) → map (λ p. p.sight.worker.0) ps ≡ workers_from 0 g.workers → Closes g (map (λ p. p.sight) ps) xs
     → All (λ p. (by : WorkerId) → p.sight.stopped_by ≡ Some by → Any (λ q. (q.sight.worker ≡ by) × (q.sight.stopped ≡ true)) ps) ps
 passes_stopped g ps xs all z = λ k d h by heard.
     let mark : z.mark ≡ suc by.0 = of_passes (λ (s : Sight). (w : WorkerId) → s.stopped_by ≡ Some w → z.mark ≡ suc w.0) ps z.stopped_by k d h by heard in

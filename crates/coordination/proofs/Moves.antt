@@ -17,11 +17,13 @@ use Rattle.coordination.specs.declared.rule.Sight.{Sight}
 use Rattle.coordination.specs.declared.rule.SeatView.{SeatView}
 use Rattle.coordination.specs.Sights.{seeing, stopping, hearing, one, holding}
 use Rattle.coordination.specs.Agrees.{Agrees, IsSoundBook}
+use Rattle.logbook.specs.Pages.{Book as Ledger}
+use Rattle.coordination.specs.Kept.{KeptView, kept}
 use Rattle.coordination.specs.Rule.{AddsOwn, FitsSight, OutFits, busy_of, home_of, Orderly, taken, put_back, stopped_at, heard, marked}
 use Rattle.coordination.proofs.lemmas.Growing.{goes_on, agrees_self, agrees_then}
 
 abbrev pub S : Type 0
-S = State BookView SeatView
+S = State KeptView SeatView
 
 -- a fact of each seat, after the view of one has changed
 pub set_views : (P : ℕ → SeatView → Type 0) (views : List SeatView) (id : ℕ) (w : SeatView) → ((j : ℕ) (u : SeatView) → j ≢ id → get_elem? views j ≡ some u → P j u) → P id w
@@ -56,6 +58,7 @@ same_views : (g : GraphView) (s : S) (o : Orderly g s) (ws : List ℕ) (id : ℕ
     → Orderly g (record { words = ws; homes = s.homes; views = set s.views id v })
 same_views g s o ws id v at wide first second = record {
   book = o.book;
+  ledger = o.ledger;
   mark = o.mark;
   owner = o.owner;
   holder = o.holder;
@@ -70,21 +73,24 @@ same_views g s o ws id v at wide first second = record {
   home = o.home;
   inside = λ j e. let p = o.inside j e in let long = length-set s.views id v in omega arith;
   fits = λ j u e. o.fits j u (subst (λ l. get_elem? l j ≡ some u) (set_again s.views id v at) e);
+  known = λ j u e. o.known j u (subst (λ l. get_elem? l j ≡ some u) (set_again s.views id v at) e);
 }
 
-takes_at : (g : GraphView) (slots id : ℕ) (h : Sight) (s : S) (o : Orderly g s) (holder : Option ℕ) → o.holder ≡ holder → get_elem? s.views id ≡ some (one h)
-    → (w : SeatView) × (a : Act BookView) × Valid s.homes [] a × Orderly g (stepped s 0 1 id [] w a) × taken (step slots 0 1 0 none) (one h, []) (get_or s.words 0 0) (w, carried_after [] a)
-takes_at g slots id h s o None is at =
-    let mine = o.fits id (one h) at in
+takes_at : (g : GraphView) (l : Option Ledger) (slots id : ℕ) (h : Sight) (s : S) (o : Orderly g s) (holder : Option ℕ) → o.holder ≡ holder → get_elem? s.views id ≡ some (one l h)
+    → (w : SeatView) × (a : Act KeptView) × Valid s.homes [] a × Orderly g (stepped s 0 1 id [] w a) × taken (step slots 0 1 0 none) (one l h, []) (get_or s.words 0 0) (w, carried_after [] a)
+takes_at g l slots id h s o None is at =
+    let mine = o.fits id (one l h) at in
     let fit : FitsSight g.workers o.mark o.book o.owner id h = All-head (FitsSight g.workers o.mark o.book o.owner id) h [] mine.0 in
     let free : get_or s.words 0 0 ≡ 0 = o.busy ∙ ap busy_of is in
-    let home : get_elem? s.homes 0 ≡ some (some o.book) = o.home ∙ ap (λ (k : Option ℕ). some (home_of k o.book)) is in
+    let same : o.ledger ≡ l = sym (o.known id (one l h) at (omega arith)) in
+    let home : get_elem? s.homes 0 ≡ some (some (kept o.book l)) = o.home ∙ (ap (λ (k : Option ℕ). some (home_of k (kept o.book o.ledger))) is ∙ ap (λ (x : Option Ledger). some (some (kept o.book x))) same) in
     let new : Sight = seeing h o.book in (
-      holding new,
-      takes 0 o.book,
+      holding l new,
+      takes 0 (kept o.book l),
       home,
       record {
         book = o.book;
+        ledger = o.ledger;
         mark = o.mark;
         owner = o.owner;
         holder = Some id;
@@ -97,27 +103,28 @@ takes_at g slots id h s o None is at =
         named = o.named;
         small = o.small;
         home = set_here s.homes 0 none (let p = o.deep in omega arith);
-        inside = inside_of s.views id (holding new) (there s.views id (one h) at);
-        fits = set_views (λ j u. All (FitsSight g.workers o.mark o.book o.owner j) u.sights × OutFits (Some id) o.book j u) s.views id (holding new)
+        inside = inside_of s.views id (holding l new) (there s.views id (one l h) at);
+        fits = set_views (λ j u. All (FitsSight g.workers o.mark o.book o.owner j) u.sights × OutFits (Some id) o.book j u) s.views id (holding l new)
             (λ j u apart e. ((o.fits j u e).0, ((λ same. absurd (apart same)), (λ _. subst (λ (k : Option ℕ). OutFits k o.book j u) is (o.fits j u e).1)))) (
               alone g.workers o.mark o.book o.owner id new (record { known = fit.known; agrees = agrees_self h.worker o.book; seated = fit.seated; stopped = fit.stopped; stops = fit.stops; stopped_by = fit.stopped_by }),
               ((λ _. (refl, omega arith)), (λ ne. absurd (ne refl))),
             );
+        known = set_views (λ j u. 0 < length u.sights → u.ledger ≡ o.ledger) s.views id (holding l new) (λ j u apart e. o.known j u e) (λ _. sym same);
       },
       ((λ _. record { book = o.book; found = record { agrees = fit.agrees; sound = o.sound; known = subst (λ (x : GraphView). h.worker.0 < x.workers) (sym o.graph) fit.known }; is = refl }), (λ ne. absurd (ne free))),
     )
-takes_at g slots id h s o (Some k) is at =
+takes_at g l slots id h s o (Some k) is at =
     let out : get_or s.words 0 0 ≡ 1 = o.busy ∙ ap busy_of is in (
-      one h,
+      one l h,
       keeps,
       tt,
-      same_views g s o (set s.words 0 1) id (one h) at (length-set s.words 0 1 ∙ o.wide) (get_or-set_same s.words 0 1 0 (let p = o.wide in omega arith) ∙ sym out)
+      same_views g s o (set s.words 0 1) id (one l h) at (length-set s.words 0 1 ∙ o.wide) (get_or-set_same s.words 0 1 0 (let p = o.wide in omega arith) ∙ sym out)
           (get_or-set_other s.words 0 1 1 0 (λ (e : 1 ≡ 0). absurd (omega arith))),
       ((λ free. absurd (omega arith)), (λ _. refl)),
     )
 
-pub takes_it : (g : GraphView) (slots id : ℕ) (h : Sight) → Allows (Orderly g) slots id (one h, []) 0 (λ _. 1) (taken (step slots 0 1 0 none) (one h, []))
-takes_it g slots id h s o deep at small = takes_at g slots id h s o o.holder refl at
+pub takes_it : (g : GraphView) (l : Option Ledger) (slots id : ℕ) (h : Sight) → Allows (Orderly g) slots id (one l h, []) 0 (λ _. 1) (taken (step slots 0 1 0 none) (one l h, []))
+takes_it g l slots id h s o deep at small = takes_at g l slots id h s o o.holder refl at
 
 -- what the seat that holds the journal knows of the rule
 pub record Held (g : GraphView) (id : ℕ) (h : Sight) (s : S) (o : Orderly g s) : Type 0 where
@@ -125,47 +132,49 @@ pub record Held (g : GraphView) (id : ℕ) (h : Sight) (s : S) (o : Orderly g s)
   pub book_is : o.book ≡ h.seen
   pub fit : FitsSight g.workers o.mark o.book o.owner id h
 
-held_at : (g : GraphView) (id : ℕ) (h : Sight) (s : S) (o : Orderly g s) (holder : Option ℕ) → o.holder ≡ holder → get_elem? s.views id ≡ some (holding h) → Held g id h s o
-held_at g id h s o None is at = let out : OutFits None o.book id (holding h) = subst (λ (k : Option ℕ). OutFits k o.book id (holding h)) is (o.fits id (holding h) at).1 in absurd (cc)
-held_at g id h s o (Some k) is at =
-    let f = o.fits id (holding h) at in
-    let out : OutFits (Some k) o.book id (holding h) = subst (λ (k : Option ℕ). OutFits k o.book id (holding h)) is f.1 in
+held_at : (g : GraphView) (l : Option Ledger) (id : ℕ) (h : Sight) (s : S) (o : Orderly g s) (holder : Option ℕ) → o.holder ≡ holder → get_elem? s.views id ≡ some (holding l h) → Held g id h s o
+held_at g l id h s o None is at = let out : OutFits None o.book id (holding l h) = subst (λ (k : Option ℕ). OutFits k o.book id (holding l h)) is (o.fits id (holding l h) at).1 in absurd (cc)
+held_at g l id h s o (Some k) is at =
+    let f = o.fits id (holding l h) at in
+    let out : OutFits (Some k) o.book id (holding l h) = subst (λ (k : Option ℕ). OutFits k o.book id (holding l h)) is f.1 in
     dite (ℕ_discrete id k)
     (λ same. let found : Some h.seen ≡ Some o.book = (out.0 same).0 in record { is = is ∙ ap Some (sym same); book_is = cc; fit = All-head (FitsSight g.workers o.mark o.book o.owner id) h [] f.0 })
     (λ apart. let not : Some h.seen ≡ None = out.1 apart in absurd (cc))
 
-pub holds_it : (g : GraphView) (id : ℕ) (h : Sight) (s : S) (o : Orderly g s) → get_elem? s.views id ≡ some (holding h) → Held g id h s o
-holds_it g id h s o at = held_at g id h s o o.holder refl at
+pub holds_it : (g : GraphView) (l : Option Ledger) (id : ℕ) (h : Sight) (s : S) (o : Orderly g s) → get_elem? s.views id ≡ some (holding l h) → Held g id h s o
+holds_it g l id h s o at = held_at g l id h s o o.holder refl at
 
-pub puts_it : (g : GraphView) (slots id : ℕ) (h : Sight) (book : BookView) → AddsOwn h book
-    → Allows (Orderly g) slots id (holding h, (0, book) ∷ []) 0 (λ _. 0) (λ _. put_back (step slots 0 0 0 none) (holding h, (0, book) ∷ []) 0)
-puts_it g slots id h book adds s o deep at small =
-    let q = holds_it g id h s o at in
+pub puts_it : (g : GraphView) (l : Option Ledger) (slots id : ℕ) (h : Sight) (book : BookView) → AddsOwn h book
+    → Allows (Orderly g) slots id (holding l h, (0, kept book l) ∷ []) 0 (λ _. 0) (λ _. put_back (step slots 0 0 0 none) (holding l h, (0, kept book l) ∷ []) 0)
+puts_it g l slots id h book adds s o deep at small =
+    let q = holds_it g l id h s o at in
     let new : Sight = seeing h book in
+    let same : l ≡ o.ledger = o.known id (holding l h) at (omega arith) in
     let sound : IsSoundBook book = adds.sound (subst IsSoundBook q.book_is o.sound) in
     let graph : book.graph ≡ o.book.graph = adds.graph ∙ sym (ap (λ (b : BookView). b.graph) q.book_is) in
     let history : book.history ≡ o.book.history ++ adds.more = adds.history ∙ sym (ap (λ (b : BookView). b.history ++ adds.more) q.book_is) in
     let other : (k : Sight) → k.worker.0 ≢ h.worker.0 → Agrees k.worker k.seen o.book → Agrees k.worker k.seen book =
     λ k ne a. agrees_then k.worker k.seen o.book book a (goes_on k.worker o.book book adds.more o.sound sound graph history (adds.own k.worker ne)) in (
-      one new,
+      one l new,
       gives,
       tt,
       record {
         book = book;
+        ledger = o.ledger;
         mark = o.mark;
         owner = o.owner;
         holder = None;
         graph = graph ∙ o.graph;
         sound = sound;
         wide = length-set s.words 0 0 ∙ o.wide;
-        deep = length-set s.homes 0 (some book) ∙ o.deep;
+        deep = length-set s.homes 0 (some (kept book l)) ∙ o.deep;
         busy = get_or-set_same s.words 0 0 0 (let p = o.wide in omega arith);
         mark_is = get_or-set_other s.words 0 1 0 0 (λ (e : 1 ≡ 0). absurd (omega arith)) ∙ o.mark_is;
         named = o.named;
         small = o.small;
-        home = set_here s.homes 0 (some book) (let p = o.deep in omega arith);
+        home = set_here s.homes 0 (some (kept book l)) (let p = o.deep in omega arith) ∙ ap (λ (x : Option Ledger). some (some (kept book x))) same;
         inside = λ k e. absurd (cc);
-        fits = set_views (λ j u. All (FitsSight g.workers o.mark book o.owner j) u.sights × OutFits None book j u) s.views id (one new)
+        fits = set_views (λ j u. All (FitsSight g.workers o.mark book o.owner j) u.sights × OutFits None book j u) s.views id (one l new)
             (λ j u apart e. let f = o.fits j u e in (
               All-weaker (FitsSight g.workers o.mark o.book o.owner j) (FitsSight g.workers o.mark book o.owner j)
                   (λ k fit. record {
@@ -180,15 +189,17 @@ puts_it g slots id h book adds s o deep at small =
               (subst (λ (k : Option ℕ). OutFits k o.book j u) q.is f.1).1 apart,
             ))
             (alone g.workers o.mark book o.owner id new (record { known = q.fit.known; agrees = agrees_self h.worker book; seated = q.fit.seated; stopped = q.fit.stopped; stops = q.fit.stops; stopped_by = q.fit.stopped_by }), refl);
+        known = set_views (λ j u. 0 < length u.sights → u.ledger ≡ o.ledger) s.views id (one l new) (λ j u apart e. o.known j u e) (λ _. same);
       },
       refl,
     )
 
 -- a worker that holds nothing changes its own word on the stop, and the mark
-marks : (g : GraphView) (s : S) (o : Orderly g s) (mark id : ℕ) (h h' : Sight) → get_elem? s.views id ≡ some (one h) → mark ≤ g.workers → FitsSight g.workers mark o.book o.owner id h'
-    → ((j : ℕ) (k : Sight) → j ≢ id → FitsSight g.workers o.mark o.book o.owner j k → FitsSight g.workers mark o.book o.owner j k) → Orderly g (stepped s 1 mark id [] (one h') keeps)
-marks g s o mark id h h' at named mine others = record {
+marks : (g : GraphView) (l : Option Ledger) (s : S) (o : Orderly g s) (mark id : ℕ) (h h' : Sight) → get_elem? s.views id ≡ some (one l h) → mark ≤ g.workers → FitsSight g.workers mark o.book o.owner id h'
+    → ((j : ℕ) (k : Sight) → j ≢ id → FitsSight g.workers o.mark o.book o.owner j k → FitsSight g.workers mark o.book o.owner j k) → Orderly g (stepped s 1 mark id [] (one l h') keeps)
+marks g l s o mark id h h' at named mine others = record {
   book = o.book;
+  ledger = o.ledger;
   mark = mark;
   owner = o.owner;
   holder = o.holder;
@@ -201,56 +212,57 @@ marks g s o mark id h h' at named mine others = record {
   named = named;
   small = o.small;
   home = o.home;
-  inside = λ j e. let p = o.inside j e in let long = length-set s.views id (one h') in omega arith;
-  fits = set_views (λ j u. All (FitsSight g.workers mark o.book o.owner j) u.sights × OutFits o.holder o.book j u) s.views id (one h')
+  inside = λ j e. let p = o.inside j e in let long = length-set s.views id (one l h') in omega arith;
+  fits = set_views (λ j u. All (FitsSight g.workers mark o.book o.owner j) u.sights × OutFits o.holder o.book j u) s.views id (one l h')
       (λ j u apart e. let f = o.fits j u e in (All-weaker (FitsSight g.workers o.mark o.book o.owner j) (FitsSight g.workers mark o.book o.owner j) (λ k fit. others j k apart fit) u.sights f.0, f.1))
-      (alone g.workers mark o.book o.owner id h' mine, still o.holder (o.fits id (one h) at).1);
+      (alone g.workers mark o.book o.owner id h' mine, still o.holder (o.fits id (one l h) at).1);
+  known = set_views (λ j u. 0 < length u.sights → u.ledger ≡ o.ledger) s.views id (one l h') (λ j u apart e. o.known j u e) (λ _. o.known id (one l h) at (omega arith));
 }
   where
-    still : (k : Option ℕ) → OutFits k o.book id (one h) → OutFits k o.book id (one h')
+    still : (k : Option ℕ) → OutFits k o.book id (one l h) → OutFits k o.book id (one l h')
     still None f = f
     still (Some k) f = ((λ e. ((f.0 e).0, omega arith)), f.1)
 
-fits_at : (g : GraphView) (s : S) (o : Orderly g s) (id : ℕ) (h : Sight) → get_elem? s.views id ≡ some (one h) → FitsSight g.workers o.mark o.book o.owner id h
-fits_at g s o id h at = All-head (FitsSight g.workers o.mark o.book o.owner id) h [] (o.fits id (one h) at).0
+fits_at : (g : GraphView) (l : Option Ledger) (s : S) (o : Orderly g s) (id : ℕ) (h : Sight) → get_elem? s.views id ≡ some (one l h) → FitsSight g.workers o.mark o.book o.owner id h
+fits_at g l s o id h at = All-head (FitsSight g.workers o.mark o.book o.owner id) h [] (o.fits id (one l h) at).0
 
 hears : (n mark : ℕ) (book : BookView) (owner : ℕ → ℕ) (id : ℕ) (h : Sight) (w : WorkerId) → mark ≡ suc w.0 → FitsSight n mark book owner id h → FitsSight n mark book owner id (hearing h w)
 hears n mark book owner id h w is fit = record { known = fit.known; agrees = fit.agrees; seated = fit.seated; stopped = fit.stopped; stops = fit.stops; stopped_by = λ x (e : Some w ≡ Some x). let same : w ≡ x = cc in is ∙ ap (λ (v : WorkerId). suc v.0) same }
 
 -- somebody has stopped the service before
-hears_it : (g : GraphView) (s : S) (o : Orderly g s) (id : ℕ) (h : Sight) → get_elem? s.views id ≡ some (one h) → get_or s.words 1 0 ≢ 0
-    → Orderly g (stepped s 1 (get_or s.words 1 0) id [] (one (hearing h (marked (get_or s.words 1 0)))) keeps)
-hears_it g s o id h at was =
+hears_it : (g : GraphView) (l : Option Ledger) (s : S) (o : Orderly g s) (id : ℕ) (h : Sight) → get_elem? s.views id ≡ some (one l h) → get_or s.words 1 0 ≢ 0
+    → Orderly g (stepped s 1 (get_or s.words 1 0) id [] (one l (hearing h (marked (get_or s.words 1 0)))) keeps)
+hears_it g l s o id h at was =
     let x : ℕ = get_or s.words 1 0 in
     let is : o.mark ≡ x = sym o.mark_is in
     let next : o.mark ≡ suc (x - 1) = omega arith in
-    subst (λ m. Orderly g (stepped s 1 m id [] (one (hearing h (marked x))) keeps)) is
-    (marks g s o o.mark id h (hearing h (marked x)) at o.named (hears g.workers o.mark o.book o.owner id h (marked x) next (fits_at g s o id h at)) (λ j k _ fit. fit))
+    subst (λ m. Orderly g (stepped s 1 m id [] (one l (hearing h (marked x))) keeps)) is
+    (marks g l s o o.mark id h (hearing h (marked x)) at o.named (hears g.workers o.mark o.book o.owner id h (marked x) next (fits_at g l s o id h at)) (λ j k _ fit. fit))
 
 -- the mark fits its word, and names a worker where it isn't 0
 little_mark : (g : GraphView) (s : S) (o : Orderly g s) → get_or s.words 1 0 < 2 ^ 32
 little_mark g s o = let is : get_or s.words 1 0 ≡ o.mark = o.mark_is in let p = o.named in let q = o.small in omega arith
 
-stopper_of : (g : GraphView) (s : S) (o : Orderly g s) (id : ℕ) (h : Sight) → get_elem? s.views id ≡ some (one h) → get_or s.words 1 0 ≢ 0 → (marked (get_or s.words 1 0)).0 < h.seen.graph.workers
-stopper_of g s o id h at was =
+stopper_of : (g : GraphView) (l : Option Ledger) (s : S) (o : Orderly g s) (id : ℕ) (h : Sight) → get_elem? s.views id ≡ some (one l h) → get_or s.words 1 0 ≢ 0 → (marked (get_or s.words 1 0)).0 < h.seen.graph.workers
+stopper_of g l s o id h at was =
     let x : ℕ = get_or s.words 1 0 in
     let is : x ≡ o.mark = o.mark_is in
     let low : x - 1 < g.workers = let p = o.named in omega arith in
-    subst (λ (y : GraphView). x - 1 < y.workers) (sym o.graph ∙ (fits_at g s o id h at).agrees.graph) low
+    subst (λ (y : GraphView). x - 1 < y.workers) (sym o.graph ∙ (fits_at g l s o id h at).agrees.graph) low
 
-pub stops_it : (g : GraphView) (slots id : ℕ) (h : Sight) → Allows (Orderly g) slots id (one h, []) 1 (λ x. either (eqb x 0) (h.worker.0 + 1) x) (stopped_at (step slots 1 0 (h.worker.0 + 1) none) (one h, []))
-stops_it g slots id h s o deep at small =
+pub stops_it : (g : GraphView) (l : Option Ledger) (slots id : ℕ) (h : Sight) → Allows (Orderly g) slots id (one l h, []) 1 (λ x. either (eqb x 0) (h.worker.0 + 1) x) (stopped_at (step slots 1 0 (h.worker.0 + 1) none) (one l h, []))
+stops_it g l slots id h s o deep at small =
     let x : ℕ = get_or s.words 1 0 in
-    let fit = fits_at g s o id h at in
+    let fit = fits_at g l s o id h at in
     let little = little_mark g s o in
     dite (ℕ_discrete x 0)
     (λ none_yet.
     let free : o.mark ≡ 0 = sym o.mark_is ∙ none_yet in (
-      one (stopping h),
+      one l (stopping h),
       keeps,
       tt,
-      subst (λ b. Orderly g (stepped s 1 (either b (h.worker.0 + 1) x) id [] (one (stopping h)) keeps)) (sym (eq-eqb x 0 none_yet))
-          (marks g s o (h.worker.0 + 1) id h (stopping h) at (let p = fit.known in omega arith)
+      subst (λ b. Orderly g (stepped s 1 (either b (h.worker.0 + 1) x) id [] (one l (stopping h)) keeps)) (sym (eq-eqb x 0 none_yet))
+          (marks g l s o (h.worker.0 + 1) id h (stopping h) at (let p = fit.known in omega arith)
           (record { known = fit.known; agrees = fit.agrees; seated = fit.seated; stopped = λ _. omega arith; stops = λ _. refl; stopped_by = λ w e. let f = fit.stopped_by w e in absurd (omega arith) })
           (λ j k apart f. record {
             known = f.known;
@@ -263,24 +275,24 @@ stops_it g slots id h s o deep at small =
       (little, (λ _. refl), (λ ne. absurd (ne none_yet))),
     ))
     (λ was. (
-      one (hearing h (marked x)),
+      one l (hearing h (marked x)),
       keeps,
       tt,
-      subst (λ b. Orderly g (stepped s 1 (either b (h.worker.0 + 1) x) id [] (one (hearing h (marked x))) keeps)) (sym (ne_eqb x 0 was)) (hears_it g s o id h at was),
-      (little, (λ e. absurd (was e)), (λ _. record { stopper = stopper_of g s o id h at was; is = refl })),
+      subst (λ b. Orderly g (stepped s 1 (either b (h.worker.0 + 1) x) id [] (one l (hearing h (marked x))) keeps)) (sym (ne_eqb x 0 was)) (hears_it g l s o id h at was),
+      (little, (λ e. absurd (was e)), (λ _. record { stopper = stopper_of g l s o id h at was; is = refl })),
     ))
 
-pub looks_it : (g : GraphView) (slots id : ℕ) (h : Sight) → Allows (Orderly g) slots id (one h, []) 1 (λ x. x) (heard (step slots 1 0 0 none) (one h, []))
-looks_it g slots id h s o deep at small =
+pub looks_it : (g : GraphView) (l : Option Ledger) (slots id : ℕ) (h : Sight) → Allows (Orderly g) slots id (one l h, []) 1 (λ x. x) (heard (step slots 1 0 0 none) (one l h, []))
+looks_it g l slots id h s o deep at small =
     let x : ℕ = get_or s.words 1 0 in
     let little = little_mark g s o in
     dite (ℕ_discrete x 0)
     (λ none_yet. (
-      one h,
+      one l h,
       keeps,
       tt,
-      same_views g s o (set s.words 1 x) id (one h) at (length-set s.words 1 x ∙ o.wide) (get_or-set_other s.words 1 0 x 0 (λ (e : 0 ≡ 1). absurd (omega arith)))
+      same_views g s o (set s.words 1 x) id (one l h) at (length-set s.words 1 x ∙ o.wide) (get_or-set_other s.words 1 0 x 0 (λ (e : 0 ≡ 1). absurd (omega arith)))
           (get_or-set_same s.words 1 x 0 (let p = o.wide in omega arith)),
       (little, (λ _. refl), (λ ne. absurd (ne none_yet))),
     ))
-    (λ was. (one (hearing h (marked x)), keeps, tt, hears_it g s o id h at was, (little, (λ e. absurd (was e)), (λ _. record { stopper = stopper_of g s o id h at was; is = refl }))))
+    (λ was. (one l (hearing h (marked x)), keeps, tt, hears_it g l s o id h at was, (little, (λ e. absurd (was e)), (λ _. record { stopper = stopper_of g l s o id h at was; is = refl }))))

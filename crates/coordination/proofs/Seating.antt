@@ -12,6 +12,8 @@ use Rattle.coordination.specs.declared.rule.Sight.{Sight}
 use Rattle.coordination.specs.declared.rule.SeatView.{SeatView}
 use Rattle.coordination.specs.Sights.{sight, all_of, nobody, sights_from, starting}
 use Rattle.coordination.specs.Agrees.{IsSoundBook}
+use Rattle.logbook.specs.Pages.{Book as Ledger}
+use Rattle.coordination.specs.Kept.{KeptView}
 use Rattle.coordination.specs.Rule.{FitsSight, OutFits, Orderly, M, both_sights}
 use Rattle.coordination.proofs.lemmas.Growing.{agrees_self}
 use Rattle.coordination.proofs.Moves.{set_views, more_views}
@@ -28,10 +30,12 @@ fresh n w (suc k) book room =
     (record { known = omega arith; agrees = agrees_self (record { 0 = w }) book; seated = refl; stopped = λ e. absurd (cc); stops = λ e. absurd (omega arith); stopped_by = λ x e. absurd (cc) })
     (fresh n (suc w) k book (omega arith))
 
-pub begins : (book : BookView) → IsSoundBook book → book.graph.workers < 2 ^ 32 → Orderly book.graph (opening (0 ∷ 0 ∷ []) (book ∷ []) (starting book))
-begins book sound small =
+pub begins : (x : KeptView) → IsSoundBook x.book → x.book.graph.workers < 2 ^ 32 → Orderly x.book.graph (opening (0 ∷ 0 ∷ []) (x ∷ []) (starting x))
+begins x sound small =
+    let book : BookView = x.book in
     let n : ℕ = book.graph.workers in record {
       book = book;
+      ledger = x.ledger;
       mark = 0;
       owner = λ _. 0;
       holder = None;
@@ -45,7 +49,8 @@ begins book sound small =
       small = small;
       home = refl;
       inside = λ k e. absurd (cc);
-      fits = more_views (λ j u. All (FitsSight n 0 book (λ _. 0) j) u.sights × OutFits None book j u) [] (starting book) (λ j u e. absurd (some-ne-none u (sym e))) (fresh n 0 n book (omega arith), refl);
+      fits = more_views (λ j u. All (FitsSight n 0 book (λ _. 0) j) u.sights × OutFits None book j u) [] (starting x) (λ j u e. absurd (some-ne-none u (sym e))) (fresh n 0 n book (omega arith), refl);
+      known = more_views (λ j u. 0 < length u.sights → u.ledger ≡ x.ledger) [] (starting x) (λ j u e. absurd (some-ne-none u (sym e))) (λ _. refl);
     }
 
 out_nobody : (holder : Option ℕ) (book : BookView) (j : ℕ) (v : SeatView) → v.out ≡ None → ((k : ℕ) → holder ≡ Some k → j ≢ k) → OutFits holder book j v
@@ -57,6 +62,7 @@ sits_it g slots s o deep small = (
   nobody,
   record {
     book = o.book;
+    ledger = o.ledger;
     mark = o.mark;
     owner = o.owner;
     holder = o.holder;
@@ -72,6 +78,7 @@ sits_it g slots s o deep small = (
     inside = λ k e. let p = o.inside k e in let long = length-append s.views (nobody ∷ []) in omega arith;
     fits = more_views (λ j u. All (FitsSight g.workers o.mark o.book o.owner j) u.sights × OutFits o.holder o.book j u) s.views nobody o.fits
         (All-nil (FitsSight g.workers o.mark o.book o.owner (length s.views)), out_nobody o.holder o.book (length s.views) nobody refl (λ k is e. let p = o.inside k is in omega arith));
+    known = more_views (λ j u. 0 < length u.sights → u.ledger ≡ o.ledger) s.views nobody o.known (λ has. absurd (omega arith));
   },
   refl,
 )
@@ -81,25 +88,28 @@ later : (w m x : ℕ) (book : BookView) → x < w → All (λ h. x < h.worker.0)
 later w zero x book low = All-nil (λ h. x < h.worker.0)
 later w (suc m) x book low = All-cons (λ h. x < h.worker.0) (sight w book) (sights_from (suc w) m book) low (later (suc w) m x book (omega arith))
 
-out_less : (holder : Option ℕ) (book : BookView) (j : ℕ) (hs ks : List Sight) → OutFits holder book j (all_of hs) → OutFits holder book j (all_of ks)
-out_less None book j hs ks f = refl
-out_less (Some k) book j hs ks f = ((λ e. let not = (f.0 e).0 in absurd (cc)), (λ _. refl))
+out_less : (l : Option Ledger) (holder : Option ℕ) (book : BookView) (j : ℕ) (hs ks : List Sight) → OutFits holder book j (all_of l hs) → OutFits holder book j (all_of l ks)
+out_less l None book j hs ks f = refl
+out_less l (Some k) book j hs ks f = ((λ e. let not = (f.0 e).0 in absurd (cc)), (λ _. refl))
 
-pub splits_it : (g : GraphView) (id w m : ℕ) (book : BookView)
-    → Splits (Orderly g) id (all_of (sights_from w (suc m) book)) (all_of (sights_from (suc w) m book)) (all_of (sight w book ∷ []))
-splits_it g id w m book s o at =
-    let left : SeatView = all_of (sights_from (suc w) m book) in
-    let right : SeatView = all_of (sight w book ∷ []) in
+pub splits_it : (g : GraphView) (l : Option Ledger) (id w m : ℕ) (book : BookView)
+    → Splits (Orderly g) id (all_of l (sights_from w (suc m) book)) (all_of l (sights_from (suc w) m book)) (all_of l (sight w book ∷ []))
+splits_it g l id w m book s o at =
+    let left : SeatView = all_of l (sights_from (suc w) m book) in
+    let right : SeatView = all_of l (sight w book ∷ []) in
     let new : ℕ = length (set s.views id left) in
     let owner : ℕ → ℕ = λ x. cond (eqb x w) new (o.owner x) in
-    let mine = o.fits id (all_of (sights_from w (suc m) book)) at in
+    let mine = o.fits id (all_of l (sights_from w (suc m) book)) at in
     let first : FitsSight g.workers o.mark o.book o.owner id (sight w book) = All-head (FitsSight g.workers o.mark o.book o.owner id) (sight w book) (sights_from (suc w) m book) mine.0 in
     let rest = All-tail (FitsSight g.workers o.mark o.book o.owner id) (sight w book) (sights_from (suc w) m book) mine.0 in
     let others = later (suc w) m w book (omega arith) in
     let away : (x : ℕ) → x ≢ w → owner x ≡ o.owner x = λ x ne. ap (λ b. cond b new (o.owner x)) (ne_eqb x w ne) in
     let here : owner w ≡ new = ap (λ b. cond b new (o.owner w)) (eq-eqb w w refl) in
+    let K : ℕ → SeatView → Type 0 = λ j u. 0 < length u.sights → u.ledger ≡ o.ledger in
+    let told : l ≡ o.ledger = o.known id (all_of l (sights_from w (suc m) book)) at (omega arith) in
     let P : ℕ → SeatView → Type 0 = λ j u. All (FitsSight g.workers o.mark o.book owner j) u.sights × OutFits o.holder o.book j u in record {
       book = o.book;
+      ledger = o.ledger;
       mark = o.mark;
       owner = owner;
       holder = o.holder;
@@ -122,11 +132,12 @@ splits_it g id w m book s o at =
           )) (
             (λ k d h. let fit = rest k d h in reseat g.workers o.mark o.book o.owner owner id id (get_or (sights_from (suc w) m book) k d) fit
                 (away (get_or (sights_from (suc w) m book) k d).worker.0 (λ same. let big = others k d h in absurd (omega arith)) ∙ fit.seated)),
-            out_less o.holder o.book id (sights_from w (suc m) book) (sights_from (suc w) m book) mine.1,
+            out_less l o.holder o.book id (sights_from w (suc m) book) (sights_from (suc w) m book) mine.1,
           )) (
             All-cons (FitsSight g.workers o.mark o.book owner new) (sight w book) [] (reseat g.workers o.mark o.book o.owner owner id new (sight w book) first here) (All-nil (FitsSight g.workers o.mark o.book owner new)),
             out_nobody o.holder o.book new right refl (λ k is e. let p = o.inside k is in let same = length-set s.views id left in omega arith),
           );
+      known = more_views K (set s.views id left) right (set_views K s.views id left (λ j u apart e. o.known j u e) (λ _. told)) (λ _. told);
     }
 
 out_both : (holder : Option ℕ) (book : BookView) (j : ℕ) (v w : SeatView) → OutFits holder book j v → OutFits holder book j (both_sights v w)
@@ -137,8 +148,8 @@ out_not : (holder : Option ℕ) (book : BookView) (j : ℕ) (w : SeatView) → w
 out_not None book j w not f = refl
 out_not (Some k) book j w not f = ((λ e. let g = (f.0 e).0 in absurd (cc)), (λ _. refl))
 
-pub joins_it : (g : GraphView) (id other : ℕ) (v w : SeatView) → w.out ≡ None → Joins (Orderly g) id v other w (both_sights v w) nobody
-joins_it g id other v w not s o at apart at_other =
+pub joins_it : (g : GraphView) (id other : ℕ) (v w : SeatView) → w.out ≡ None → 0 < length w.sights → Joins (Orderly g) id v other w (both_sights v w) nobody
+joins_it g id other v w not has s o at apart at_other =
     let both : SeatView = both_sights v w in
     let owner : ℕ → ℕ = λ x. cond (eqb (o.owner x) other) id (o.owner x) in
     let theirs : get_elem? s.views other ≡ some w = ⊎_elim (λ (t : (other ≡ id) × (both ≡ w)). absurd (apart t.0)) (λ (t : (other ≢ id) × (get_elem? s.views other ≡ some w)). t.1) (at_set s.views id other both w at_other) in
@@ -155,8 +166,10 @@ joins_it g id other v w not s o at apart at_other =
           (All-weaker (FitsSight g.workers o.mark o.book o.owner id) (FitsSight g.workers o.mark o.book owner id) (λ k fit. reseat g.workers o.mark o.book o.owner owner id id k fit (stay k.worker.0 id fit.seated ne)) v.sights f.0)
           (All-weaker (FitsSight g.workers o.mark o.book o.owner other) (FitsSight g.workers o.mark o.book owner id) (λ k fit. reseat g.workers o.mark o.book o.owner owner other id k fit (move k.worker.0 fit.seated)) w.sights their.0),
       out_both o.holder o.book id v w f.1,
-    )) in record {
+    )) in
+    let K : ℕ → SeatView → Type 0 = λ j u. 0 < length u.sights → u.ledger ≡ o.ledger in record {
       book = o.book;
+      ledger = o.ledger;
       mark = o.mark;
       owner = owner;
       holder = o.holder;
@@ -171,4 +184,5 @@ joins_it g id other v w not s o at apart at_other =
       home = o.home;
       inside = λ k e. let p = o.inside k e in let one = length-set s.views id both in let two = length-set (set s.views id both) other nobody in omega arith;
       fits = set_views P (set s.views id both) other nobody (λ j u ne e. inner j u e ne) (All-nil (FitsSight g.workers o.mark o.book owner other), out_not o.holder o.book other w not their.1);
+      known = set_views K (set s.views id both) other nobody (λ j u ne e. set_views K s.views id both (λ i x far f. o.known i x f) (λ _. o.known other w theirs has) j u e) (λ none. absurd (omega arith));
     }

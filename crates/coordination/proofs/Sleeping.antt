@@ -1,5 +1,5 @@
 -- Who sleeps, who looks, and what is so of both after somebody was woken.
-use Rattle.std.proofs.Common.{◌≡◌, ◌<◌, inl, inr, ℕ, Bool, List, Option, Some, count_by, refl, ap, arith}
+use Rattle.std.proofs.Common.{◌≡◌, ◌<◌, inl, inr, ℕ, Bool, List, Some, refl, ap, arith}
 use Rattle.std.specs.Prelude.{length, replicate, set, slice_get}
 use Rattle.std.proofs.lemmas.List.{get_or-replicate, length-replicate}
 use Rattle.std.proofs.lemmas.Option.{get_or_from_slice_get, slice_get_within}

@@ -6,7 +6,8 @@ use Rattle.resource_lock.specs.GraphView.{GraphView}
 use Rattle.resource_lock.specs.StateView.{StateView}
 use Rattle.lock_transforms.specs.Allowed.{Allowed, Lawful}
 use Rattle.lock_transforms.specs.Entry.{Entry, effect, entry, replay}
-use Rattle.lock_journal.specs.BookView.{BookView, SameBook}
+use Rattle.lock_journal.specs.BookView.{BookView}
+use Rattle.history_views.specs.ShownBooks.{IsUnchanged}
 use Rattle.lock_journal.specs.Ran.{FinishesIn, FailsIn, IsToRetry}
 use Rattle.lock_transforms.specs.declared.entries.Kind.{Kind}
 use Rattle.lock_transforms.specs.declared.transforms.Disposition.{Disposition}
@@ -24,7 +25,7 @@ use Rattle.coordination.proofs.PassSteps.{part_on, room_on}
 -- the four clauses of the call together
 pub ran_of : {E : Type 0} (kind : Kind) (makes : Making) (fails retries : Cause) (w : WorkerId) (old new : BookView) (r : Result Disposition E)
     → (r ≡ Ok Finished → (changes : List Change) × FinishesIn makes old new w kind changes) → (r ≡ Ok Failed → FailsIn fails old new w kind) → (r ≡ Ok Retry → IsToRetry retries old new w)
-    → ((e : E) → r ≡ Err e → SameBook old new) → Ran kind makes fails retries w old new r
+    → ((e : E) → r ≡ Err e → IsUnchanged old new) → Ran kind makes fails retries w old new r
 ran_of kind makes fails retries w old new (Ok Finished) a b c d = a refl
 ran_of kind makes fails retries w old new (Ok Failed) a b c d = b refl
 ran_of kind makes fails retries w old new (Ok Retry) a b c d = c refl
@@ -113,10 +114,10 @@ module _ {E : Type 0} (kind : Kind) (makes : Making) (fails retries : Cause) (r 
   owns = subst (λ (k : Sight). AddsOwn k (carried_book m''.1)) (sym (taken_sight m m' m'' t same)) adds
 
   -- the view afterwards
-  pub after : (n : M) → n ≡ (one (seeing (sight_of m''.0) (carried_book m''.1)), []) → sight_of n.0 ≡ seeing (sight_of m.0) (carried_book m''.1)
+  pub after : (n : M) → n ≡ (one m''.0.ledger (seeing (sight_of m''.0) (carried_book m''.1)), []) → sight_of n.0 ≡ seeing (sight_of m.0) (carried_book m''.1)
   after n back = ap (λ (x : M). sight_of x.0) back ∙ ap (λ (k : Sight). seeing k (carried_book m''.1)) (taken_sight m m' m'' t same)
 
-  pub attempted : (n : M) → n ≡ (one (seeing (sight_of m''.0) (carried_book m''.1)), []) → Attempted kind makes fails retries (sight_of m.0) (sight_of n.0) r
+  pub attempted : (n : M) → n ≡ (one m''.0.ledger (seeing (sight_of m''.0) (carried_book m''.1)), []) → Attempted kind makes fails retries (sight_of m.0) (sight_of n.0) r
   attempted n back = record { before = t.book; after = carried_book m''.1; found = t.found; graph = same_graph; ran = found; left = adds.sound t.found.sound; is = after n back }
 
 -- the same of a question
@@ -129,8 +130,8 @@ module _ {A : Type 0} (answers : WorkerId → BookView → A → Type 0) (waits 
   keeps = subst (λ (p : Sight × BookView). AddsOwn p.0 p.1) (λ i. (sym (taken_sight m m' m'' t (ap (λ (x : M). x.0) same)) i, sym book_is i))
       (record { more = []; graph = refl; history = sym (append-nil t.book.history); own = λ w ne. tt; sound = λ s. s })
 
-  pub after_ask : (n : M) → n ≡ (one (seeing (sight_of m''.0) (carried_book m''.1)), []) → sight_of n.0 ≡ seeing (sight_of m.0) t.book
+  pub after_ask : (n : M) → n ≡ (one m''.0.ledger (seeing (sight_of m''.0) (carried_book m''.1)), []) → sight_of n.0 ≡ seeing (sight_of m.0) t.book
   after_ask n back = ap (λ (x : M). sight_of x.0) back ∙ (λ i. seeing (taken_sight m m' m'' t (ap (λ (x : M). x.0) same) i) (book_is i))
 
-  pub asked : Answers answers waits worker (carried_book m'.1) r → (n : M) → n ≡ (one (seeing (sight_of m''.0) (carried_book m''.1)), []) → Asked answers waits (sight_of m.0) (sight_of n.0) r
+  pub asked : Answers answers waits worker (carried_book m'.1) r → (n : M) → n ≡ (one m''.0.ledger (seeing (sight_of m''.0) (carried_book m''.1)), []) → Asked answers waits (sight_of m.0) (sight_of n.0) r
   asked a n back = record { book = t.book; found = t.found; answer = subst (λ (p : WorkerId × BookView). Answers answers waits p.0 p.1 r) (λ i. (is i, taken_book m m' t i)) a; is = after_ask n back }

@@ -4,7 +4,8 @@ use Rattle.resource_lock.specs.GraphView.{GraphView}
 use Rattle.resource_lock.specs.StateView.{StateView}
 use Rattle.resource_lock.specs.declared.ids.WorkerId.{WorkerId}
 use Rattle.resource_lock.specs.declared.changes.Change.{Change}
-use Rattle.lock_journal.specs.BookView.{BookView, SameBook}
+use Rattle.lock_journal.specs.BookView.{BookView}
+use Rattle.history_views.specs.ShownBooks.{IsUnchanged}
 use Rattle.lock_journal.specs.Ran.{FinishesIn, FailsIn, IsToRetry}
 use Rattle.lock_transforms.specs.declared.entries.Kind.{Kind}
 use Rattle.lock_transforms.specs.declared.transforms.Disposition.{Disposition}
@@ -31,7 +32,7 @@ abbrev pub Ran : {E : Type 0} → Kind → Making → Cause → Cause → Worker
 Ran kind makes fails retries w old new (Ok Finished) = (changes : List Change) × FinishesIn makes old new w kind changes
 Ran kind makes fails retries w old new (Ok Failed) = FailsIn fails old new w kind
 Ran kind makes fails retries w old new (Ok Retry) = IsToRetry retries old new w
-Ran kind makes fails retries w old new (Err e) = SameBook old new
+Ran kind makes fails retries w old new (Err e) = IsUnchanged old new
 
 -- The transform was run on the old book and left the new one, the worker's part followed, and the hold ended.
 pub record HasRun {E : Type 0} (kind : Kind) (makes : Making) (fails retries : Cause) (w : WorkerId) (old new : BookView)

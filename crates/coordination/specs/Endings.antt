@@ -1,5 +1,5 @@
 -- What the end of a hold of the state lock leaves: who sleeps, who looks and who is woken.
-use Rattle.std.specs.Prelude.{◌≡◌, ◌<◌, ◌⊎◌, ◌&&◌, not, ℕ, Bool, true, false, List, Option, None, Some, Result, Ok, Err, All}
+use Rattle.std.specs.Prelude.{◌≡◌, ◌<◌, ◌⊎◌, ◌&&◌, not, Bool, true, false, List, Option, None, Some, Result, Ok, Err, All}
 use Rattle.std.specs.Prelude.{length, replicate, set, slice_get}
 use Rattle.resource_lock.specs.declared.ids.WorkerId.{WorkerId}
 use Rattle.lock_journal.specs.BookView.{BookView}

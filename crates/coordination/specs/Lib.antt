@@ -2,6 +2,7 @@ pub mod Shown
 pub mod Lasts
 pub mod Agrees
 pub mod Holds
+pub mod Kept
 pub mod Sights
 pub mod Rule
 pub mod Attempts

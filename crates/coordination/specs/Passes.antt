@@ -1,27 +1,46 @@
 -- A pass and a service, as contracts see them.
-use Rattle.std.specs.Prelude.{◌≡◌, []}
+use Rattle.std.specs.Prelude.{◌≡◌, List, [], ◌∷◌, Option}
+use Rattle.logbook.specs.Pages.{Book as Ledger}
 use Rattle.atomic_table.specs.Seated.{TableId}
 use Rattle.resource_lock.specs.declared.ids.WorkerId.{WorkerId}
 use Rattle.lock_journal.specs.BookView.{BookView}
 use Rattle.coordination.specs.declared.rule.Sight.{Sight}
 use Rattle.coordination.specs.Parts.{HasListRoom, IsPartOf, marks_of}
 use Rattle.coordination.specs.declared.parts.Part.{Part}
-use Rattle.coordination.specs.Sights.{one, sight_of}
+use Rattle.coordination.specs.declared.rule.SeatView.{SeatView}
+use Rattle.history_views.specs.ShownBooks.{IsTold}
+use Rattle.coordination.specs.Sights.{nobody, one, sight_of}
 use Rattle.coordination.specs.Rule.{M}
+use Rattle.history_views.specs.Growing.{ReachView}
+
+-- which service it is, and the ledger that shows its history, if one does
+pub record ServiceId : Type 0 where
+  pub table : TableId
+  pub ledger : Option Ledger
 
 -- which service it is of, and what its worker has seen
 pub record PassView : Type 0 where
-  pub service : TableId
+  pub service : ServiceId
   pub sight : Sight
 
--- how the fields of a pass are tied
-pub record IsPass (worker : WorkerId) (part : Part) (me : M) : Type 0 where
-  pub lone : me ≡ (one (sight_of me.0), [])
+-- what a badge shows that is one
+abbrev pub view_in : List SeatView → SeatView
+view_in [] = nobody
+view_in (v ∷ vs) = v
+
+-- the seat that a badge becomes
+abbrev pub me_in : List SeatView → M
+me_in views = (view_in views, [])
+
+-- how the fields of a pass are tied to its seat
+pub record IsPass (worker : WorkerId) (part : Part) (reach : Option ReachView) (me : M) : Type 0 where
+  pub lone : me ≡ (one me.0.ledger (sight_of me.0), [])
   pub worker_is : worker ≡ (sight_of me.0).worker
   pub part_is : IsPartOf (sight_of me.0).seen (sight_of me.0).worker part
   pub room : HasListRoom (sight_of me.0).seen.graph.locks (marks_of (sight_of me.0).seen.graph) part
+  pub told : IsTold me.0.ledger reach (sight_of me.0).seen
 
 -- which one it is, and the book that it was opened with
 pub record CoordinationView : Type 0 where
-  pub service : TableId
+  pub service : ServiceId
   pub book : BookView

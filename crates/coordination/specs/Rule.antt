@@ -15,7 +15,9 @@ use Rattle.history_laws.specs.Own.{NoneOf}
 use Rattle.coordination.specs.declared.rule.Sight.{Sight}
 use Rattle.coordination.specs.declared.rule.SeatView.{SeatView}
 use Rattle.coordination.specs.Agrees.{Agrees, Finds, IsSoundBook}
+use Rattle.coordination.specs.Kept.{KeptView, kept}
 use Rattle.coordination.specs.Sights.{seeing, stopping, hearing, one, holding, all_of, no_book, sight_of}
+use Rattle.logbook.specs.Pages.{Book as Ledger}
 
 -- what is so of each worker of the view at a seat
 pub record FitsSight (n mark : ℕ) (book : BookView) (owner : ℕ → ℕ) (seat : ℕ) (s : Sight) : Type 0 where
@@ -34,14 +36,15 @@ abbrev pub busy_of : Option ℕ → ℕ
 busy_of None = 0
 busy_of (Some k) = 1
 
-abbrev pub home_of : Option ℕ → BookView → maybe.Option BookView
-home_of None book = some book
-home_of (Some k) book = none
+abbrev pub home_of : Option ℕ → KeptView → maybe.Option KeptView
+home_of None x = some x
+home_of (Some k) x = none
 
--- One sound book of the graph, with which each worker's sight agrees. Each worker sits at one seat, and one seat at
--- most holds the book. The mark names a worker, or nobody.
-pub record Orderly (g : GraphView) (s : State BookView SeatView) : Type 0 where
+-- One sound book of the graph, with which each worker's sight agrees. Each worker sits at one seat, which knows the ledger, and one
+-- seat at most holds the book. The mark names a worker, or nobody.
+pub record Orderly (g : GraphView) (s : State KeptView SeatView) : Type 0 where
   pub book : BookView
+  pub ledger : Option Ledger
   pub mark : ℕ
   pub owner : ℕ → ℕ
   pub holder : Option ℕ
@@ -53,29 +56,30 @@ pub record Orderly (g : GraphView) (s : State BookView SeatView) : Type 0 where
   pub mark_is : slice_index s.words 1 ≡ mark
   pub named : mark ≤ g.workers
   pub small : g.workers < 2 ^ 32
-  pub home : get_elem? s.homes 0 ≡ some (home_of holder book)
+  pub home : get_elem? s.homes 0 ≡ some (home_of holder (kept book ledger))
   pub inside : (k : ℕ) → holder ≡ Some k → k < length s.views
   pub fits : (j : ℕ) (v : SeatView) → get_elem? s.views j ≡ some v → All (FitsSight g.workers mark book owner j) v.sights × OutFits holder book j v
+  pub known : (j : ℕ) (v : SeatView) → get_elem? s.views j ≡ some v → 0 < length v.sights → v.ledger ≡ ledger
 
 abbrev pub M : Type 0
-M = Me BookView SeatView
+M = Me KeptView SeatView
 
 -- The book was found and taken.
 pub record Taken (m m' : M) : Type 0 where
   pub book : BookView
   pub found : Finds (sight_of m.0).worker (sight_of m.0).seen book
-  pub is : m' ≡ (holding (seeing (sight_of m.0) book), (0, book) ∷ [])
+  pub is : m' ≡ (holding m.0.ledger (seeing (sight_of m.0) book), (0, kept book m.0.ledger) ∷ [])
 
-abbrev pub taken : Step BookView → M → ℕ → M → Type 0
+abbrev pub taken : Step KeptView → M → ℕ → M → Type 0
 taken st m r m' = (r ≡ 0 → Taken m m') × (r ≢ 0 → m' ≡ m)
 
-abbrev pub carried_book : List (ℕ × BookView) → BookView
+abbrev pub carried_book : List (ℕ × KeptView) → BookView
 carried_book [] = no_book
-carried_book (x ∷ xs) = x.1
+carried_book (x ∷ xs) = x.1.book
 
 -- the book went back, and the worker has seen it
-abbrev pub put_back : Step BookView → M → ℕ → M → Type 0
-put_back st m r m' = m' ≡ (one (seeing (sight_of m.0) (carried_book m.1)), [])
+abbrev pub put_back : Step KeptView → M → ℕ → M → Type 0
+put_back st m r m' = m' ≡ (one m.0.ledger (seeing (sight_of m.0) (carried_book m.1)), [])
 
 -- the worker that a mark names
 abbrev pub marked : ℕ → WorkerId
@@ -84,14 +88,14 @@ marked r = record { 0 = r - 1 }
 -- the worker hears which worker has stopped the service
 pub record Hears (m : M) (by : WorkerId) (m' : M) : Type 0 where
   pub stopper : by.0 < (sight_of m.0).seen.graph.workers
-  pub is : m' ≡ (one (hearing (sight_of m.0) by), [])
+  pub is : m' ≡ (one m.0.ledger (hearing (sight_of m.0) by), [])
 
 -- the worker has stopped the service, or hears who did
-abbrev pub stopped_at : Step BookView → M → ℕ → M → Type 0
-stopped_at st m r m' = (r < 2 ^ 32) × (r ≡ 0 → m' ≡ (one (stopping (sight_of m.0)), [])) × (r ≢ 0 → Hears m (marked r) m')
+abbrev pub stopped_at : Step KeptView → M → ℕ → M → Type 0
+stopped_at st m r m' = (r < 2 ^ 32) × (r ≡ 0 → m' ≡ (one m.0.ledger (stopping (sight_of m.0)), [])) × (r ≢ 0 → Hears m (marked r) m')
 
 -- the worker hears who has stopped the service, if somebody has
-abbrev pub heard : Step BookView → M → ℕ → M → Type 0
+abbrev pub heard : Step KeptView → M → ℕ → M → Type 0
 heard st m r m' = (r < 2 ^ 32) × (r ≡ 0 → m' ≡ m) × (r ≢ 0 → Hears m (marked r) m')
 
 abbrev pub heads : List Sight → List Sight
@@ -103,13 +107,13 @@ tails [] = []
 tails (s ∷ ss) = ss
 
 abbrev pub first_sight : SeatView → SeatView
-first_sight v = all_of (heads v.sights)
+first_sight v = all_of v.ledger (heads v.sights)
 
 abbrev pub other_sights : SeatView → SeatView
-other_sights v = record { sights = tails v.sights; out = v.out }
+other_sights v = record { sights = tails v.sights; out = v.out; ledger = v.ledger }
 
 abbrev pub both_sights : SeatView → SeatView → SeatView
-both_sights v w = record { sights = v.sights ++ w.sights; out = v.out }
+both_sights v w = record { sights = v.sights ++ w.sights; out = v.out; ledger = w.ledger }
 
 -- Only the worker's own entries were added to the book that it saw, of the same graph, and the book is still sound.
 pub record AddsOwn (s : Sight) (book : BookView) : Type 0 where

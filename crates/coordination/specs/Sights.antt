@@ -1,11 +1,13 @@
 -- What workers have seen of the one book.
-use Rattle.std.specs.Prelude.{ℕ, zero, suc, false, true, List, [], ◌∷◌, Some, None}
+use Rattle.std.specs.Prelude.{ℕ, zero, suc, false, true, List, [], ◌∷◌, Option, Some, None}
+use Rattle.logbook.specs.Pages.{Book as Ledger}
 use Rattle.resource_lock.specs.GraphView.{GraphView}
 use Rattle.resource_lock.specs.Opening.{opening_of}
 use Rattle.resource_lock.specs.declared.ids.WorkerId.{WorkerId}
 use Rattle.lock_journal.specs.BookView.{BookView}
 use Rattle.coordination.specs.declared.rule.Sight.{Sight}
 use Rattle.coordination.specs.declared.rule.SeatView.{SeatView}
+use Rattle.coordination.specs.Kept.{KeptView}
 
 abbrev pub sight : ℕ → BookView → Sight
 sight w book = record { worker = record { 0 = w }; seen = book; stopped = false; stopped_by = None }
@@ -23,31 +25,31 @@ abbrev pub hearing : Sight → WorkerId → Sight
 hearing s w = record { worker = s.worker; seen = s.seen; stopped = s.stopped; stopped_by = Some w }
 
 -- a seat of one worker, which holds nothing
-abbrev pub one : Sight → SeatView
-one s = record { sights = s ∷ []; out = None }
+abbrev pub one : Option Ledger → Sight → SeatView
+one l s = record { sights = s ∷ []; out = None; ledger = l }
 
 -- the same while it holds the book
-abbrev pub holding : Sight → SeatView
-holding s = record { sights = s ∷ []; out = Some s.seen }
+abbrev pub holding : Option Ledger → Sight → SeatView
+holding l s = record { sights = s ∷ []; out = Some s.seen; ledger = l }
 
 -- a seat without a worker
 abbrev pub nobody : SeatView
-nobody = record { sights = []; out = None }
+nobody = record { sights = []; out = None; ledger = None }
 
 -- a seat with several workers, which holds nothing
-abbrev pub all_of : List Sight → SeatView
-all_of ss = record { sights = ss; out = None }
+abbrev pub all_of : Option Ledger → List Sight → SeatView
+all_of l ss = record { sights = ss; out = None; ledger = l }
 
 -- the first sights of so many workers, from w on
 abbrev pub sights_from : ℕ → ℕ → BookView → List Sight
 sights_from w zero book = []
 sights_from w (suc n) book = sight w book ∷ sights_from (suc w) n book
 
-abbrev pub starting : BookView → SeatView
-starting book = all_of (sights_from 0 book.graph.workers book)
+abbrev pub starting : KeptView → SeatView
+starting kept = all_of kept.ledger (sights_from 0 kept.book.graph.workers kept.book)
 
 abbrev pub no_graph : GraphView
-no_graph = record { locks = 0; workers = 0; max_leases = 0; units = 0; tasks = []; actions = [] }
+no_graph = record { locks = 0; all = None; workers = 0; max_leases = 0; units = 0; tasks = []; actions = [] }
 
 abbrev pub no_book : BookView
 no_book = record { graph = no_graph; state = opening_of no_graph; history = []; spare_entries = 0; spare_changes = 0 }

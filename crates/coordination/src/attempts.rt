@@ -1,16 +1,22 @@
 //! One try under the lock, and the stop mark. Nothing here waits.
-ghost use Rattle.std.specs.Prelude.{◌≡◌, ◌<◌, IfNone, IfSome, false};
+ghost use Rattle.std.specs.Prelude.{◌≡◌, ◌<◌, IfNone, IfSome, false, true};
 ghost use Rattle.coordination.specs.Attempts.{Asked, Attempted};
 ghost use Rattle.coordination.specs.Calls.{HasStopped};
 ghost use Rattle.coordination.specs.Endings.{EndsHold, LeavesHold, has_entered, stance_after, stance_asking};
-ghost use Rattle.coordination.specs.Sights.{hearing};
+ghost use Rattle.coordination.specs.Passes.{IsPass};
+ghost use Rattle.coordination.specs.Sights.{hearing, sight_of};
 ghost use Rattle.coordination.specs.Tries.{HasTried, IsReplied};
 
 use crate::halts::Halt;
-use crate::passes::Pass;
+use crate::keepers::{Keeper, Kept};
+use crate::parts::Part;
+use crate::passes::{Pass, seat_of};
 use crate::questions::Question;
+use crate::rule::SeatView;
 use crate::sleepers::{Sleepers, Wakes};
 use crate::slots::Slot;
+use atomic_table::Seat;
+use history_views::Reach;
 use lock_transforms::{Disposition, Transform};
 use resource_lock::WorkerId;
 use std::alloc::AllocError;
@@ -35,7 +41,7 @@ pub enum Reply<A> {
     Again,
 }
 
-impl Slot {
+impl<K: Keeper> Slot<K> {
     /// Runs the transform once, ends the hold, and hears who has stopped the service where the transform asks to be run
     /// again. It answers Again too where another pass has the book: then the pass is as before, and nobody is woken.
     #[inline]
@@ -45,7 +51,7 @@ impl Slot {
         transform: &T,
         sleepers: &mut Sleepers,
     ) -> (Tried, Wakes)
-        requires { pass.old.service ≡ self.now.table.shared.table_id }
+        requires { pass.old.service.table ≡ self.now.table.shared.table_id }
         ensures same { pass.new.service ≡ pass.old.service }
         ensures tried { HasTried (T.kind_of transform.now) (T.makes transform.now) (T.fails_on transform.now)
             (T.retries_on transform.now) pass.old.sight pass.new.sight result.0 }
@@ -72,7 +78,7 @@ impl Slot {
         question: &Q,
         sleepers: &mut Sleepers,
     ) -> (Reply<Q::Answer>, Wakes)
-        requires { pass.old.service ≡ self.now.table.shared.table_id }
+        requires { pass.old.service.table ≡ self.now.table.shared.table_id }
         ensures same { pass.new.service ≡ pass.old.service }
         ensures replied { IsReplied (Q.answers question.now) (Q.waits_on question.now) pass.old.sight pass.new.sight result.0 }
         ensures ends { LeavesHold pass.new.sight.seen pass.new.sight.worker sleepers.old sleepers.new result.1 }
@@ -97,7 +103,7 @@ impl Slot {
         transform: &T,
         sleepers: &mut Sleepers,
     ) -> Option<(Result<Disposition, AllocError>, Wakes)>
-        requires { pass.old.service ≡ self.now.table.shared.table_id }
+        requires { pass.old.service.table ≡ self.now.table.shared.table_id }
         ensures same { pass.new.service ≡ pass.old.service }
         ensures none { IfNone result ((pass.new.sight ≡ pass.old.sight) × (sleepers.new ≡ sleepers.old)) }
         ensures some { IfSome result (λ r. Attempted (T.kind_of transform.now) (T.makes transform.now) (T.fails_on transform.now)
@@ -105,17 +111,47 @@ impl Slot {
         ensures ends { IfSome result (λ r. EndsHold pass.new.sight.seen pass.new.sight.worker
             (stance_after sleepers.old.promised (T.kind_of transform.now) r.0) (has_entered r.0) sleepers.old sleepers.new r.1) }
     {
-        if !self.try_take(&mut pass.seat) {
-            return None;
-        }
-        let (ran, wakes) = self.run(
-            &mut pass.seat,
+        let mut seat = seat_of(&mut pass.badge);
+        let ended = self.attempt_at(
+            &mut seat,
             pass.worker,
             &mut pass.part,
+            &mut pass.reach,
             transform,
             sleepers,
         );
-        self.put_back(&mut pass.seat);
+        pass.badge = seat.into_badge();
+        ended
+    }
+
+    // The same at the seat of a pass.
+    #[inline]
+    fn attempt_at<T: Transform>(
+        &self,
+        seat: &mut Seat<Kept<K>, SeatView>,
+        worker: WorkerId,
+        part: &mut Part,
+        reach: &mut Option<Reach>,
+        transform: &T,
+        sleepers: &mut Sleepers,
+    ) -> Option<(Result<Disposition, AllocError>, Wakes)>
+        requires id { seat.old.table_id ≡ self.now.table.shared.table_id }
+        requires pass { IsPass worker part.old reach.old seat.old.me }
+        ensures same { (seat.new.table_id ≡ seat.old.table_id) × (seat.new.me.0.ledger ≡ seat.old.me.0.ledger) }
+        ensures pass { IsPass worker part.new reach.new seat.new.me }
+        ensures stop { ((sight_of seat.new.me.0).stopped ≡ (sight_of seat.old.me.0).stopped)
+            × ((sight_of seat.new.me.0).stopped_by ≡ (sight_of seat.old.me.0).stopped_by) }
+        ensures none { IfNone result ((seat.new.me ≡ seat.old.me) × (sleepers.new ≡ sleepers.old)) }
+        ensures some { IfSome result (λ r. Attempted (T.kind_of transform.now) (T.makes transform.now) (T.fails_on transform.now)
+            (T.retries_on transform.now) (sight_of seat.old.me.0) (sight_of seat.new.me.0) r.0) }
+        ensures ends { IfSome result (λ r. EndsHold (sight_of seat.new.me.0).seen (sight_of seat.new.me.0).worker
+            (stance_after sleepers.old.promised (T.kind_of transform.now) r.0) (has_entered r.0) sleepers.old sleepers.new r.1) }
+    {
+        if !self.try_take(seat) {
+            return None;
+        }
+        let (ran, wakes) = self.run(seat, worker, part, reach, transform, sleepers);
+        self.put_back(seat);
         Some((ran, wakes))
     }
 
@@ -126,41 +162,83 @@ impl Slot {
         question: &Q,
         sleepers: &mut Sleepers,
     ) -> Option<(Option<Q::Answer>, Wakes)>
-        requires { pass.old.service ≡ self.now.table.shared.table_id }
+        requires { pass.old.service.table ≡ self.now.table.shared.table_id }
         ensures same { pass.new.service ≡ pass.old.service }
         ensures none { IfNone result ((pass.new.sight ≡ pass.old.sight) × (sleepers.new ≡ sleepers.old)) }
         ensures some { IfSome result (λ r. Asked (Q.answers question.now) (Q.waits_on question.now) pass.old.sight pass.new.sight r.0) }
         ensures ends { IfSome result (λ r. EndsHold pass.new.sight.seen pass.new.sight.worker
             (stance_asking sleepers.old.promised (Q.awaits question.now) r.0) false sleepers.old sleepers.new r.1) }
     {
-        if !self.try_take(&mut pass.seat) {
+        let mut seat = seat_of(&mut pass.badge);
+        let asked = self.ask_at(
+            &mut seat,
+            pass.worker,
+            &pass.part,
+            &mut pass.reach,
+            question,
+            sleepers,
+        );
+        pass.badge = seat.into_badge();
+        asked
+    }
+
+    // The same at the seat of a pass.
+    #[inline]
+    fn ask_at<Q: Question>(
+        &self,
+        seat: &mut Seat<Kept<K>, SeatView>,
+        worker: WorkerId,
+        part: &Part,
+        reach: &mut Option<Reach>,
+        question: &Q,
+        sleepers: &mut Sleepers,
+    ) -> Option<(Option<Q::Answer>, Wakes)>
+        requires id { seat.old.table_id ≡ self.now.table.shared.table_id }
+        requires pass { IsPass worker part.now reach.old seat.old.me }
+        ensures same { (seat.new.table_id ≡ seat.old.table_id) × (seat.new.me.0.ledger ≡ seat.old.me.0.ledger) }
+        ensures pass { IsPass worker part.now reach.new seat.new.me }
+        ensures stop { ((sight_of seat.new.me.0).stopped ≡ (sight_of seat.old.me.0).stopped)
+            × ((sight_of seat.new.me.0).stopped_by ≡ (sight_of seat.old.me.0).stopped_by) }
+        ensures none { IfNone result ((seat.new.me ≡ seat.old.me) × (sleepers.new ≡ sleepers.old)) }
+        ensures some { IfSome result (λ r. Asked (Q.answers question.now) (Q.waits_on question.now)
+            (sight_of seat.old.me.0) (sight_of seat.new.me.0) r.0) }
+        ensures ends { IfSome result (λ r. EndsHold (sight_of seat.new.me.0).seen (sight_of seat.new.me.0).worker
+            (stance_asking sleepers.old.promised (Q.awaits question.now) r.0) false sleepers.old sleepers.new r.1) }
+    {
+        if !self.try_take(seat) {
             return None;
         }
-        let (answer, wakes) = self.ask_book(&mut pass.seat, pass.worker, question, sleepers);
-        self.put_back(&mut pass.seat);
+        let (answer, wakes) = self.ask_book(seat, worker, reach, question, sleepers);
+        self.put_back(seat);
         Some((answer, wakes))
     }
 
     /// Has the pass hear who has stopped the service. None says that nobody has.
     pub fn hear(&self, pass: &mut Pass) -> Option<WorkerId>
-        requires { pass.old.service ≡ self.now.table.shared.table_id }
+        requires { pass.old.service.table ≡ self.now.table.shared.table_id }
         ensures same { pass.new.service ≡ pass.old.service }
         ensures none { IfNone result (pass.new.sight ≡ pass.old.sight) }
         ensures some { IfSome result (λ by. pass.new.sight ≡ hearing pass.old.sight by) }
         ensures stopper { IfSome result (λ by. by.0 < pass.old.sight.seen.graph.workers) }
     {
-        let by = self.marked(&mut pass.seat)?;
+        let mut seat = seat_of(&mut pass.badge);
+        let found = self.marked(&mut seat);
+        pass.badge = seat.into_badge();
+        let by = found?;
         pass.stopped_by = Some(by);
         Some(by)
     }
 
     /// Stops the service with this pass. Where it was stopped before, the pass shows by whom.
     pub fn stop(&self, pass: &mut Pass)
-        requires { pass.old.service ≡ self.now.table.shared.table_id }
+        requires { pass.old.service.table ≡ self.now.table.shared.table_id }
         ensures same { pass.new.service ≡ pass.old.service }
         ensures stopped { HasStopped pass.old.sight pass.new.sight }
     {
-        match self.mark(&mut pass.seat, pass.worker) {
+        let mut seat = seat_of(&mut pass.badge);
+        let found = self.mark(&mut seat, pass.worker);
+        pass.badge = seat.into_badge();
+        match found {
             None => pass.stopped = true,
             Some(by) => pass.stopped_by = Some(by),
         }

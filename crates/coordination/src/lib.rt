@@ -4,6 +4,7 @@
 mod attempts;
 mod boxed_books;
 mod halts;
+mod keepers;
 mod lasts;
 mod laws;
 mod offers;
@@ -15,11 +16,14 @@ mod rising;
 mod rule;
 mod seats;
 mod services;
+mod shown_services;
 mod sleepers;
 mod slots;
 mod stances;
 
+pub use boxed_books::BoxedBook;
 pub use halts::Halt;
+pub use keepers::Keeper;
 pub use laws::{
     openings_are_at_rest, sound_books_have_good_states, used_passes_have_their_numbers,
 };
@@ -28,5 +32,6 @@ pub use passes::Pass;
 pub use questions::Question;
 pub use rule::Sight;
 pub use services::{Coordination, Opened};
+pub use shown_services::{OpenedWithViews, ShownService};
 pub use sleepers::{Sleepers, Wakes};
 pub use slots::Slot;

@@ -1,18 +1,21 @@
 //! What a service takes memory for, beside its table.
 ghost use Rattle.std.specs.Prelude.{◌≡◌, ◌<◌, ◌≤◌, ◌^◌, [], All, IfOk, length, map, vec_capacity};
 ghost use Rattle.resource_lock.specs.AtRest.{IsAtRest};
+ghost use Rattle.history_views.specs.ShownBooks.{IsTold};
 ghost use Rattle.coordination.specs.Parts.{ArePartsFrom};
 ghost use Rattle.coordination.specs.Sights.{sights_from, starting, workers_from};
 
 use crate::boxed_books::BoxedBook;
+use crate::keepers::{Keeper, Kept};
 use crate::lasts::last_number;
 use crate::parts::{Part, Room};
 use crate::passes::Pass;
 use crate::rule::SeatView;
-use crate::services::{Opened, service_of};
+use crate::services::{Coordination, service_of};
 use crate::sleepers::Sleepers;
 use crate::slots::Slot;
 use atomic_table::Seat;
+use history_views::Reach;
 use lock_journal::Book;
 use resource_lock::WorkerId;
 use std::alloc::{AllocError, Global};
@@ -51,27 +54,35 @@ impl Stock {
 
     /// The service over the slot, and its passes by the numbers of their workers, whose seats are cut off this one. It takes no
     /// memory.
-    pub fn open<O>(self, slot: Slot, seat: Seat<BoxedBook, SeatView>, offers: O) -> Opened<O>
+    pub fn open<O, K: Keeper>(
+        self,
+        slot: Slot<K>,
+        seat: Seat<Kept<K>, SeatView>,
+        told: &Option<Reach>,
+        offers: O,
+    ) -> (Coordination<O, K>, Vec<Pass>)
         requires id { seat.table_id ≡ slot.table.shared.table_id }
-        requires view { seat.me ≡ (starting slot.table.shared.key.book.value, []) }
-        requires few { slot.table.shared.key.book.value.graph.workers < 2 ^ 32 }
-        requires len { length self.parts.items ≡ slot.table.shared.key.book.value.graph.workers }
-        requires parts { ArePartsFrom 0 slot.table.shared.key.book.value self.parts.items }
+        requires view { seat.me ≡ (starting slot.table.shared.key.kept.value, []) }
+        requires told { IsTold slot.table.shared.key.kept.value.ledger told.now slot.table.shared.key.kept.value.book }
+        requires few { slot.table.shared.key.kept.value.book.graph.workers < 2 ^ 32 }
+        requires len { length self.parts.items ≡ slot.table.shared.key.kept.value.book.graph.workers }
+        requires parts { ArePartsFrom 0 slot.table.shared.key.kept.value.book self.parts.items }
         requires empty { self.passes.items ≡ [] }
         requires room { length self.parts.items ≤ vec_capacity self.passes }
-        ensures book { result.service.book ≡ slot.table.shared.key.book.value }
-        ensures passes { map (λ p. p.sight) result.passes.items
-            ≡ sights_from 0 slot.table.shared.key.book.value.graph.workers slot.table.shared.key.book.value }
-        ensures service { All (λ p. p.service ≡ result.service.service) result.passes.items }
+        ensures book { result.0.book ≡ slot.table.shared.key.kept.value.book }
+        ensures ledger { result.0.service.ledger ≡ slot.table.shared.key.kept.value.ledger }
+        ensures passes { map (λ p. p.sight) result.1.items
+            ≡ sights_from 0 slot.table.shared.key.kept.value.book.graph.workers slot.table.shared.key.kept.value.book }
+        ensures service { All (λ p. p.service ≡ result.0.service) result.1.items }
     {
         let Stock {
             parts,
             passes,
             waiting,
         } = self;
-        let passes = slot.seated(seat, parts, passes);
+        let passes = slot.seated(seat, told, parts, passes);
         let service = service_of(slot, waiting, offers);
-        Opened { service, passes }
+        (service, passes)
     }
 }
 
@@ -80,16 +91,16 @@ impl Slot {
     /// graph in order. Each has seen this book. It fails for want of memory alone.
     pub fn opening(alloc: Global, book: Box<Book>) -> Result<(Slot, Vec<Pass>), AllocError>
         requires { IsAtRest book.value.state }
-        ensures book { IfOk result (λ opened. opened.0.table.shared.key.book.value ≡ book.value) }
+        ensures book { IfOk result (λ opened. opened.0.table.shared.key.kept.value.book ≡ book.value) }
         ensures passes { IfOk result (λ opened. map (λ p. p.sight) opened.1.items ≡ sights_from 0 book.value.graph.workers book.value) }
         ensures workers { IfOk result (λ opened. map (λ p. p.sight.worker.0) opened.1.items ≡ workers_from 0 book.value.graph.workers) }
-        ensures service { IfOk result (λ opened. All (λ p. p.service ≡ opened.0.table.shared.table_id) opened.1.items) }
+        ensures service { IfOk result (λ opened. All (λ p. p.service.table ≡ opened.0.table.shared.table_id) opened.1.items) }
         ensures seen { IfOk result (λ opened. All (λ p. p.sight.seen ≡ book.value) opened.1.items) }
     {
         let parts = parts_of(alloc, &book)?;
         let passes = Vec::with_capacity(alloc, parts.len())?;
-        let (slot, seat) = Slot::new(alloc, book)?;
-        let passes = slot.seated(seat, parts, passes);
+        let (slot, seat) = Slot::new(alloc, BoxedBook { inner: book })?;
+        let passes = slot.seated(seat, &None, parts, passes);
         Ok((slot, passes))
     }
 }

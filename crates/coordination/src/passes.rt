@@ -1,14 +1,18 @@
 //! A worker's pass: what it has, and what it has seen of the book.
-ghost use Rattle.std.specs.Prelude.{◌≡◌};
+ghost use Rattle.std.specs.Prelude.{◌≡◌, ◌∷◌, [], Some};
+ghost use Rattle.history_views.specs.Growing.{Exceeds, IsLater, last_book};
 ghost use Rattle.coordination.specs.Lasts.{last_of};
+ghost use Rattle.coordination.specs.Passes.{me_in, view_in};
 ghost use Rattle.coordination.specs.Shown.{blocked_shown, claimed_shown, lease_shown, locks_shown, parked_shown};
 
-use crate::boxed_books::BoxedBook;
+use crate::keepers::{Keeper, Kept};
 use crate::parts::Part;
 use crate::rule::SeatView;
-use atomic_table::Seat;
+use atomic_table::{Badge, Seat};
+use history_views::{Reach, View};
 use resource_lock::{LockId, MarkId, WorkerId};
 use std::marker::Model;
+use std::mem;
 
 /// A worker's part of a service. What it shows agrees with the book whenever the state is locked.
 #[derive(Drop)]
@@ -19,20 +23,25 @@ pub struct Pass {
     pub(crate) stopped_by: Option<WorkerId>,
     // Whether the worker has promised to come again at once.
     pub(crate) promised: bool,
-    pub(crate) seat: Seat<BoxedBook, SeatView>,
+    // How far the history had come when the worker's last call let go of the book, where views are shown it.
+    pub(crate) reach: Option<Reach>,
+    pub(crate) badge: Badge<SeatView>,
 }
 
 impl Model for Pass {
-    ghost use Rattle.std.specs.Prelude.{◌≡◌};
+    ghost use Rattle.std.specs.Prelude.{◌≡◌, ◌∷◌, []};
     ghost use Rattle.coordination.specs.Sights.{sight_of};
-    ghost use Rattle.coordination.specs.Passes.{PassView, IsPass};
+    ghost use Rattle.coordination.specs.Passes.{PassView, IsPass, me_in, view_in};
 
     ghost Value = { PassView };
 
-    ghost view = { λ p. record { service = p.seat.table_id; sight = sight_of p.seat.me.0 } };
+    ghost view = { λ p. record {
+      service = record { table = p.badge.table_id; ledger = (view_in p.badge.views).ledger };
+      sight = sight_of (view_in p.badge.views);
+    } };
 
-    ghost invariant = { λ p. IsPass p.worker p.part p.seat.me × (p.stopped ≡ (sight_of p.seat.me.0).stopped)
-        × (p.stopped_by ≡ (sight_of p.seat.me.0).stopped_by) };
+    ghost invariant = { λ p. IsPass p.worker p.part p.reach (me_in p.badge.views) × (p.stopped ≡ (sight_of (view_in p.badge.views)).stopped)
+        × (p.stopped_by ≡ (sight_of (view_in p.badge.views)).stopped_by) × (p.badge.views ≡ view_in p.badge.views ∷ []) };
 }
 
 impl Pass {
@@ -110,4 +119,28 @@ impl Pass {
     {
         self.stopped_by
     }
+
+    /// Has a view of the service learn what this pass was told when the worker's last call let go of the book. From now on the
+    /// view shows no less. The pass stays as it is, so other views may learn the same from it.
+    pub fn teach(&self, view: &mut View)
+        requires { self.now.service.ledger ≡ Some view.old.ledger }
+        ensures ledger { view.new.ledger ≡ view.old.ledger }
+        ensures grows { Exceeds view.old view.new }
+        ensures learnt { IsLater self.now.sight.seen (last_book view.new.log) }
+    {
+        match &self.reach {
+            Some(reach) => view.learn(reach),
+            None => unreachable!(),
+        }
+    }
+}
+
+// The seat that a badge stands for. The badge is left as none.
+#[inline]
+pub(crate) fn seat_of<K: Keeper>(badge: &mut Badge<SeatView>) -> Seat<Kept<K>, SeatView>
+    requires { badge.old.views ≡ view_in badge.old.views ∷ [] }
+    ensures table { result.table_id ≡ badge.old.table_id }
+    ensures view { result.me ≡ me_in badge.old.views }
+{
+    mem::replace(badge, Badge::blank()).into_seat()
 }

@@ -2,7 +2,7 @@
 ghost use Rattle.coordination.specs.Sights.{nobody, starting};
 ghost use Rattle.coordination.specs.Rule.{Orderly, taken, put_back, stopped_at, heard, first_sight, other_sights, both_sights};
 
-use crate::boxed_books::BoxedBook;
+use crate::keepers::{Keeper, Kept, LedgerName};
 use atomic_table::{Join, Play, Split, TableRule};
 use lock_journal::Book;
 use resource_lock::WorkerId;
@@ -28,55 +28,57 @@ pub struct SeatView {
     pub sights: LinkedList<Sight>,
     /// The book that was taken out.
     pub out: Option<Book>,
+    /// The ledger that shows the history of the book, if one does.
+    pub ledger: Option<LedgerName>,
 }
 
 /// What a service is opened with.
 #[derive(Drop)]
-pub struct OpenedWith {
-    pub book: Snapshot<Book>,
+pub struct OpenedWith<K: Keeper> {
+    pub kept: Snapshot<Kept<K>>,
 }
 
 /// The rule of the table.
 pub struct Order;
 
-impl TableRule<BoxedBook, SeatView, OpenedWith> for Order {
-    ghost holds = { λ key. Orderly key.book.value.graph };
+impl<K: Keeper> TableRule<Kept<K>, SeatView, OpenedWith<K>> for Order {
+    ghost holds = { λ key. Orderly key.kept.value.book.graph };
 
-    ghost first = { λ key. starting key.book.value };
+    ghost first = { λ key. starting key.kept.value };
 }
 
 /// Takes the book out of its slot, or finds the slot empty.
 pub struct Take;
 
-impl Play<BoxedBook, SeatView> for Take {
+impl<K: Keeper> Play<Kept<K>, SeatView> for Take {
     ghost then = { taken };
 }
 
 /// Puts the book back.
 pub struct PutBack;
 
-impl Play<BoxedBook, SeatView> for PutBack {
+impl<K: Keeper> Play<Kept<K>, SeatView> for PutBack {
     ghost then = { put_back };
 }
 
 /// Marks the service as stopped, or finds it marked.
 pub struct Stop;
 
-impl Play<BoxedBook, SeatView> for Stop {
+impl<K: Keeper> Play<Kept<K>, SeatView> for Stop {
     ghost then = { stopped_at };
 }
 
 /// Reads the stop mark.
 pub struct Hear;
 
-impl Play<BoxedBook, SeatView> for Hear {
+impl<K: Keeper> Play<Kept<K>, SeatView> for Hear {
     ghost then = { heard };
 }
 
 /// Makes a seat without a worker.
 pub struct Sit;
 
-impl Play<BoxedBook, SeatView> for Sit {
+impl<K: Keeper> Play<Kept<K>, SeatView> for Sit {
     ghost use Rattle.std.specs.Prelude.{◌≡◌, []};
 
     ghost then = { λ st m r n. n ≡ (nobody, []) };

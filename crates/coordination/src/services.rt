@@ -9,7 +9,9 @@ ghost use Rattle.coordination.specs.Sights.{sights_from, workers_from};
 ghost use Rattle.coordination.specs.Together.{ComeTo};
 
 use crate::attempts::{Reply, Tried};
+use crate::boxed_books::BoxedBook;
 use crate::halts::Halt;
+use crate::keepers::Keeper;
 use crate::offers::Offers;
 use crate::openings::{Stock, Waiting};
 use crate::passes::Pass;
@@ -53,8 +55,8 @@ impl<O: Offers> Guarded<O> {
 ///
 /// Whoever looks at the book, or changes it, has the state lock, and so has who falls asleep.
 #[derive(Drop)]
-pub struct Coordination<O = ()> {
-    slot: Slot,
+pub struct Coordination<O = (), K: Keeper = BoxedBook> {
+    slot: Slot<K>,
     state_lock: Mutex<Guarded<O>>,
     // Questions wait for this that wait for any entry.
     entered: Condvar,
@@ -64,12 +66,15 @@ pub struct Coordination<O = ()> {
     freed: Condvar,
 }
 
-impl<O> Model for Coordination<O> {
+impl<O, K: Keeper> Model for Coordination<O, K> {
     ghost use Rattle.coordination.specs.Passes.{CoordinationView};
 
     ghost Value = { CoordinationView };
 
-    ghost view = { λ c. record { service = c.slot.table.shared.table_id; book = c.slot.table.shared.key.book.value } };
+    ghost view = { λ c. record {
+      service = record { table = c.slot.table.shared.table_id; ledger = c.slot.table.shared.key.kept.value.ledger };
+      book = c.slot.table.shared.key.kept.value.book;
+    } };
 }
 
 /// A service that was opened, with a pass for each worker in order.
@@ -112,10 +117,13 @@ impl<O: Offers> Coordination<O> {
         ensures rest { IfOk result (λ opened. All (λ p. HoldsNothing p.sight) opened.passes.items) }
     {
         let stock = Stock::of(alloc, &book)?;
-        let (slot, seat) = Slot::new(alloc, book)?;
-        Ok(stock.open(slot, seat, offers))
+        let (slot, seat) = Slot::new(alloc, BoxedBook { inner: book })?;
+        let (service, passes) = stock.open(slot, seat, &None, offers);
+        Ok(Opened { service, passes })
     }
+}
 
+impl<O: Offers, K: Keeper> Coordination<O, K> {
     /// Gets the state lock and runs the transform.
     ///
     /// True means that it finished, and false that it failed. Where it asks to be run again, the call
@@ -329,9 +337,13 @@ impl<O: Offers> Coordination<O> {
 }
 
 /// The service over a slot.
-pub(crate) fn service_of<O>(slot: Slot, waiting: Waiting, offers: O) -> Coordination<O>
-    ensures service { result.service ≡ slot.table.shared.table_id }
-    ensures book { result.book ≡ slot.table.shared.key.book.value }
+pub(crate) fn service_of<O, K: Keeper>(
+    slot: Slot<K>,
+    waiting: Waiting,
+    offers: O,
+) -> Coordination<O, K>
+    ensures service { result.service ≡ record { table = slot.table.shared.table_id; ledger = slot.table.shared.key.kept.value.ledger } }
+    ensures book { result.book ≡ slot.table.shared.key.kept.value.book }
 {
     let Waiting { sleepers, own } = waiting;
     Coordination {

@@ -18,11 +18,22 @@ short_request body short = sym (cond-true _ _ _ (lt-ltb _ _ short))
 pub short_reply : (body : List ℕ) → length body < 4 → None ≡ reply_of body
 short_reply body short = sym (cond-true _ _ _ (lt-ltb _ _ short))
 
-pub short_request_in_mode : (body : List ℕ) → length body < 4 → None ≡ request_in_mode_of body
-short_request_in_mode body short = sym (cond-true _ _ _ (lt-ltb _ _ short))
+-- too few bytes for a unit and a mode
+pub short_request_in_mode : (body : List ℕ) → length body < 5 → None ≡ request_in_mode_of body
+short_request_in_mode [] short = refl
+short_request_in_mode (a ∷ []) short = refl
+short_request_in_mode (a ∷ b ∷ []) short = refl
+short_request_in_mode (a ∷ b ∷ c ∷ []) short = refl
+short_request_in_mode (a ∷ b ∷ c ∷ d ∷ []) short = refl
+short_request_in_mode (a ∷ b ∷ c ∷ d ∷ e ∷ after) short = absurd (omega (arith, short))
 
-pub short_reply_in_mode : (body : List ℕ) → length body < 4 → None ≡ reply_in_mode_of body
-short_reply_in_mode body short = sym (cond-true _ _ _ (lt-ltb _ _ short))
+pub short_reply_in_mode : (body : List ℕ) → length body < 5 → None ≡ reply_in_mode_of body
+short_reply_in_mode [] short = refl
+short_reply_in_mode (a ∷ []) short = refl
+short_reply_in_mode (a ∷ b ∷ []) short = refl
+short_reply_in_mode (a ∷ b ∷ c ∷ []) short = refl
+short_reply_in_mode (a ∷ b ∷ c ∷ d ∷ []) short = refl
+short_reply_in_mode (a ∷ b ∷ c ∷ d ∷ e ∷ after) short = absurd (omega (arith, short))
 
 -- the unit of a request, and what follows it
 pub long_request : (unit : ℕ) (body : List ℕ) → 4 ≤ length body → unit ≡ from_be_bytes w32 (take 4 body)

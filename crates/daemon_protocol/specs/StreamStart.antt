@@ -4,7 +4,8 @@ use Rattle.std.specs.Prelude.{◌||◌, Bool, nat_lt, if◌then◌else◌}
 use Rattle.std.specs.Int.{w32, from_be_bytes}
 use Rattle.daemon_protocol.specs.Bodies.{frame_of}
 use Rattle.daemon_protocol.specs.declared.frames.Frame.{Frame}
-use Rattle.daemon_protocol.specs.declared.limits.TheConstants.{HEAD_BYTES, MAX_BODY_BYTES, REPLY_TAG, REQUEST_TAG, STOP_TAG, REPLY_IN_MODE_TAG, REQUEST_IN_MODE_TAG}
+use Rattle.daemon_protocol.specs.declared.limits.TheConstants.{HEAD_BYTES, MAX_BODY_BYTES, REPLY_TAG, REQUEST_TAG, STOP_TAG}
+use Rattle.daemon_protocol.specs.declared.limits.TheConstants.{REPLY_IN_MODE_TAG, REQUEST_IN_MODE_TAG}
 use Rattle.daemon_protocol.specs.declared.starts.Head.{Head}
 use Rattle.daemon_protocol.specs.declared.starts.Head.TheVariants as heads
 use Rattle.daemon_protocol.specs.declared.starts.Flaw.TheVariants.{Tag, Length, Field}

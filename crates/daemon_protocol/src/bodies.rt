@@ -40,7 +40,7 @@ pub(crate) fn request_of(alloc: Global, body: &[u8]) -> Result<Option<Frame>, Al
 pub(crate) fn request_in_mode_of(alloc: Global, body: &[u8]) -> Result<Option<Frame>, AllocError>
     ensures { IfOk result (λ f. f ≡ request_in_mode_of body.now) }
 {
-    if body.len() < 4 {
+    if body.len() < 5 {
         return Ok(None);
     }
     let (unit, bytes) = (number_of(&body[..4]), &body[4..]);
@@ -176,7 +176,7 @@ pub(crate) fn reply_of(body: &[u8]) -> Option<Frame>
 pub(crate) fn reply_in_mode_of(body: &[u8]) -> Option<Frame>
     ensures { result ≡ reply_in_mode_of body.now }
 {
-    if body.len() < 4 {
+    if body.len() < 5 {
         return None;
     }
     let (unit, bytes) = (number_of(&body[..4]), &body[4..]);

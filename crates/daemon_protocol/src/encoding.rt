@@ -1,7 +1,7 @@
-ghost use Rattle.std.specs.Prelude.{◌≡◌, ◌≤◌, ◌++◌, ◌∷◌, [], length, IfOk, OnOk};
+ghost use Rattle.std.specs.Prelude.{◌≡◌, ◌≤◌, ◌++◌, ◌∷◌, [], length, IfOk, OnOk, Some};
 ghost use Rattle.daemon_protocol.specs.declared.frames.Frame.TheVariants as frames;
 ghost use Rattle.std.specs.Int.{w32, to_be_bytes};
-ghost use Rattle.daemon_protocol.specs.Spelling.{mode_bytes, action_bytes, outcome_bytes, body, request_tag, reply_tag, tag, spelling};
+ghost use Rattle.daemon_protocol.specs.Spelling.{mode_bytes, action_bytes, outcome_bytes, body, spelling};
 ghost use Rattle.daemon_protocol.specs.Spelling.{IsValid, ActionFits, OutcomeFits, FrameFits};
 
 use crate::frames::{Frame, Reply, Request};
@@ -32,8 +32,11 @@ fn push_frame(bytes: &mut Vec<u8>, frame: &Frame, len: usize) -> Result<(), Allo
     ensures bytes { OnOk result (bytes.new.items ≡ bytes.old.items ++ spelling frame.now) }
     ensures fits { OnOk result (FrameFits frame.now) }
 {
-    push_tagged(bytes, tag_of(frame), &(len as u32).to_be_bytes())?;
-    push_body(bytes, frame)
+    match frame {
+        Frame::Request(request) => push_request(bytes, request, len as u32),
+        Frame::Reply(reply) => push_reply(bytes, reply, len as u32),
+        Frame::Stop => push_tagged(bytes, STOP_TAG, &(len as u32).to_be_bytes()),
+    }
 }
 
 // Puts a byte and what follows it behind the bytes.
@@ -42,23 +45,6 @@ fn push_tagged(bytes: &mut Vec<u8>, tag: u8, after: &[u8]) -> Result<(), AllocEr
 {
     bytes.push(tag)?;
     bytes.extend_from_slice(after)
-}
-
-// The tag of a frame.
-fn tag_of(frame: &Frame) -> u8
-    ensures { result ≡ tag frame.now }
-{
-    match frame {
-        Frame::Request(request) => match request.keep {
-            None => REQUEST_TAG,
-            Some(_) => REQUEST_IN_MODE_TAG,
-        },
-        Frame::Reply(reply) => match reply.keep {
-            None => REPLY_TAG,
-            Some(_) => REPLY_IN_MODE_TAG,
-        },
-        Frame::Stop => STOP_TAG,
-    }
 }
 
 // How many bytes a frame's body has.
@@ -111,50 +97,62 @@ fn outcome_len(outcome: Outcome) -> usize
     }
 }
 
-// Adds the body of a frame.
-fn push_body(bytes: &mut Vec<u8>, frame: &Frame) -> Result<(), AllocError>
-    requires { IsValid frame.now }
-    ensures bytes { OnOk result (bytes.new.items ≡ bytes.old.items ++ body frame.now) }
-    ensures fits { OnOk result (FrameFits frame.now) }
-{
-    match frame {
-        Frame::Request(request) => push_request(bytes, request),
-        Frame::Reply(reply) => push_reply(bytes, reply),
-        Frame::Stop => Ok(()),
-    }
-}
-
-// Adds the body of a request.
-fn push_request(bytes: &mut Vec<u8>, request: &Request) -> Result<(), AllocError>
-    requires { IsValid (frames.Request request.now) }
-    ensures bytes { OnOk result (bytes.new.items ≡ bytes.old.items ++ body (frames.Request request.now)) }
+// Adds a request's frame, whose body has this length.
+fn push_request(bytes: &mut Vec<u8>, request: &Request, len: u32) -> Result<(), AllocError>
+    requires valid { IsValid (frames.Request request.now) }
+    requires len { len ≡ length (body (frames.Request request.now)) }
+    ensures bytes { OnOk result (bytes.new.items ≡ bytes.old.items ++ spelling (frames.Request request.now)) }
     ensures fits { OnOk result (FrameFits (frames.Request request.now)) }
 {
+    match request.keep {
+        Some(mode) => push_start_in_mode(bytes, REQUEST_IN_MODE_TAG, len, request.unit, mode)?,
+        None => push_start(bytes, REQUEST_TAG, len, request.unit)?,
+    }
     let file = request.file.bytes();
-    push_unit(bytes, request.unit, request.keep)?;
     push_action(bytes, &request.action)?;
     bytes.extend_from_slice(&(file.len() as u16).to_be_bytes())?;
     bytes.extend_from_slice(file)
 }
 
-// Adds the body of a reply.
-fn push_reply(bytes: &mut Vec<u8>, reply: &Reply) -> Result<(), AllocError>
-    ensures bytes { OnOk result (bytes.new.items ≡ bytes.old.items ++ body (frames.Reply reply.now)) }
+// Adds a reply's frame, whose body has this length.
+fn push_reply(bytes: &mut Vec<u8>, reply: &Reply, len: u32) -> Result<(), AllocError>
+    requires len { len ≡ length (body (frames.Reply reply.now)) }
+    ensures bytes { OnOk result (bytes.new.items ≡ bytes.old.items ++ spelling (frames.Reply reply.now)) }
     ensures fits { OnOk result (FrameFits (frames.Reply reply.now)) }
 {
-    push_unit(bytes, reply.unit, reply.keep)?;
+    match reply.keep {
+        Some(mode) => push_start_in_mode(bytes, REPLY_IN_MODE_TAG, len, reply.unit, mode)?,
+        None => push_start(bytes, REPLY_TAG, len, reply.unit)?,
+    }
     push_outcome(bytes, &reply.outcome)
 }
 
-// Adds a unit, and the mode behind it, where there is one.
-fn push_unit(bytes: &mut Vec<u8>, unit: u32, keep: Option<KeepAlive>) -> Result<(), AllocError>
-    ensures { OnOk result (bytes.new.items ≡ bytes.old.items ++ (to_be_bytes w32 unit ++ mode_bytes keep)) }
+// Adds the start of a frame without a mode: its tag, the length of its body, and its unit.
+#[inline(always)]
+fn push_start(bytes: &mut Vec<u8>, tag: u8, len: u32, unit: u32) -> Result<(), AllocError>
+    ensures { OnOk result (bytes.new.items ≡ bytes.old.items ++ tag ∷ (to_be_bytes w32 len ++ to_be_bytes w32 unit)) }
 {
-    let [a, b, c, d] = unit.to_be_bytes();
-    match keep {
-        None => bytes.extend_from_slice(&[a, b, c, d]),
-        Some(KeepAlive::Session) => bytes.extend_from_slice(&[a, b, c, d, 1]),
-        Some(KeepAlive::Daemon) => bytes.extend_from_slice(&[a, b, c, d, 2]),
+    let [a, b, c, d] = len.to_be_bytes();
+    let [e, f, g, h] = unit.to_be_bytes();
+    bytes.extend_from_slice(&[tag, a, b, c, d, e, f, g, h])
+}
+
+// Adds the start of a frame in a mode: its tag, the length of its body, its unit, and its mode.
+#[inline(always)]
+fn push_start_in_mode(
+    bytes: &mut Vec<u8>,
+    tag: u8,
+    len: u32,
+    unit: u32,
+    mode: KeepAlive,
+) -> Result<(), AllocError>
+    ensures { OnOk result (bytes.new.items ≡ bytes.old.items ++ tag ∷ (to_be_bytes w32 len ++ (to_be_bytes w32 unit ++ mode_bytes (Some mode)))) }
+{
+    let [a, b, c, d] = len.to_be_bytes();
+    let [e, f, g, h] = unit.to_be_bytes();
+    match mode {
+        KeepAlive::Session => bytes.extend_from_slice(&[tag, a, b, c, d, e, f, g, h, 1]),
+        KeepAlive::Daemon => bytes.extend_from_slice(&[tag, a, b, c, d, e, f, g, h, 2]),
     }
 }
 

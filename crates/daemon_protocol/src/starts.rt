@@ -1,8 +1,8 @@
 //! What stands at the start of bytes.
 ghost use Rattle.std.specs.Prelude.{◌≡◌, ◌<◌, ◌≤◌, ◌+◌, ◌^◌, ◌++◌, ℕ, List, length, IfOk};
-ghost use Rattle.daemon_protocol.specs.StreamStart.{look, lacking, is_tag, look_tag, look_length, look_body, look_field, start_of, FitsBehind};
+ghost use Rattle.daemon_protocol.specs.StreamStart.{look, lacking, look_tag, look_length, look_body, look_field, start_of, FitsBehind};
 ghost use Rattle.daemon_protocol.specs.declared.frames.Frame.{Frame};
-ghost use Rattle.daemon_protocol.specs.declared.limits.TheConstants.{MAX_FRAME_BYTES};
+ghost use Rattle.daemon_protocol.specs.declared.limits.TheConstants.{MAX_FRAME_BYTES, REQUEST_IN_MODE_TAG};
 ghost use Rattle.daemon_protocol.specs.declared.starts.StreamStart.TheVariants.{Unfinished, Whole};
 
 use crate::bodies::{frame_of, number_of};
@@ -71,29 +71,37 @@ pub(crate) fn head_of(bytes: &[u8]) -> Head<'_>
     }
 }
 
-// The head of a frame with this tag, by the bytes behind the tag.
+// The head of a frame with this tag, by the bytes behind the tag. The tags with a mode are told apart first and by
+// themselves: runs send no others, and so each of them is decoded with no look at the tags without a mode.
 #[inline(always)]
 fn head_of_tag(tag: u8, bytes: &[u8]) -> Head<'_>
     ensures start { start_of result ≡ look_tag tag bytes.now }
     ensures fits { FitsBehind 4 result (length bytes.now) }
 {
-    if is_tag(tag) {
+    if REQUEST_IN_MODE_TAG <= tag {
+        return head_in_mode(tag, bytes);
+    }
+    if tag == REQUEST_TAG || tag == REPLY_TAG || tag == STOP_TAG {
         head_of_length(tag, bytes)
     } else {
         Head::Refused(Flaw::Tag)
     }
 }
 
-// Whether a frame begins with this byte.
+// The head of a frame with this tag, which is none of those without a mode.
 #[inline(always)]
-fn is_tag(byte: u8) -> bool
-    ensures { result ≡ is_tag byte }
+fn head_in_mode(tag: u8, bytes: &[u8]) -> Head<'_>
+    requires { REQUEST_IN_MODE_TAG ≤ tag }
+    ensures start { start_of result ≡ look_tag tag bytes.now }
+    ensures fits { FitsBehind 4 result (length bytes.now) }
 {
-    byte == REQUEST_TAG
-        || byte == REPLY_TAG
-        || byte == STOP_TAG
-        || byte == REQUEST_IN_MODE_TAG
-        || byte == REPLY_IN_MODE_TAG
+    if tag == REQUEST_IN_MODE_TAG {
+        head_of_length(REQUEST_IN_MODE_TAG, bytes)
+    } else if tag == REPLY_IN_MODE_TAG {
+        head_of_length(REPLY_IN_MODE_TAG, bytes)
+    } else {
+        Head::Refused(Flaw::Tag)
+    }
 }
 
 // The head of a frame with a right tag, by the bytes behind it, which begin with the body's length.

@@ -63,6 +63,7 @@ impl HeldFields {
         };
         Ok(HeldFields { held })
     }
+
     /// Equal fields. Those that are shared take no memory: the copy shares them too. The error is want of memory alone.
     pub(crate) fn copy(&self, alloc: Global) -> Result<HeldFields, AllocError>
         ensures { IfOk result (λ copy. requirements_view copy ≡ requirements_view self.now) }

@@ -44,8 +44,8 @@ fn graph(rt: &impl Abort, alloc: Global) -> Result<Graph, AllocError> {
     let mut tasks = Vec::new(alloc);
     tasks.push(task)?;
     let actions = [action].to_vec(alloc)?;
-    assert!(rt; Graph::fits(1, WORKERS, WORKERS, &tasks, &actions));
-    Ok(Graph::new(1, WORKERS, WORKERS, tasks, actions))
+    assert!(rt; Graph::fits(1, None, WORKERS, WORKERS, &tasks, &actions));
+    Ok(Graph::new(1, None, WORKERS, WORKERS, tasks, actions))
 }
 
 fn book(rt: &impl Abort, alloc: Global) -> Result<Box<Book>, AllocError>

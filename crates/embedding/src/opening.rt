@@ -15,11 +15,12 @@ fn book_of(alloc: Global, workers: u32, max_leases: u32) -> Result<Box<Book>>
     ensures locks { IfOk result (λ book. book.value.graph.locks ≡ workers) }
     ensures state { IfOk result (λ book. book.value.state ≡ opening_of book.value.graph) }
 {
-    if !Graph::fits(workers, workers, max_leases, &[], &[]) {
+    if !Graph::fits(workers, None, workers, max_leases, &[], &[]) {
         bail!("there are too many workers or leases");
     }
     let graph = Graph::new(
         workers,
+        None,
         workers,
         max_leases,
         Vec::new(alloc),

@@ -34,9 +34,29 @@ static HISTORIES: [(&[u8], Checked); 4] = [
     ),
 ];
 
-// What is answered of a history of one worker.
-fn answer(alloc: Global, plan: &Plan, lines: &[u8]) -> Result<Checked, Fail> {
-    let mut text = Vec::from_slice(alloc, b"history 1\nworkers 1 max 1 parallel no\n")?;
+/// Heads of one worker's histories, and what is answered where two lawful entries stand behind them: the plan's graph has two locks.
+static HEADS: [(&[u8], Checked); 4] = [
+    (
+        b"history 1\nworkers 1 max 1 parallel no\n",
+        Checked::Lawful(2),
+    ),
+    (
+        b"history 2\nworkers 1 max 1 parallel no locks 2\n",
+        Checked::Lawful(2),
+    ),
+    (
+        b"history 2\nworkers 1 max 1 parallel no locks 1\n",
+        Checked::NotLawful(0),
+    ),
+    (
+        b"history 2\nworkers 1 max 1 parallel no locks 3\n",
+        Checked::NotLawful(0),
+    ),
+];
+
+// What is answered of a history.
+fn answer(alloc: Global, plan: &Plan, head: &[u8], lines: &[u8]) -> Result<Checked, Fail> {
+    let mut text = Vec::from_slice(alloc, head)?;
     text.extend_from_slice(lines)?;
     let history = read_history(alloc, &text)?;
     Ok(check(alloc, plan, &history)?)
@@ -46,7 +66,16 @@ fn answer(alloc: Global, plan: &Plan, lines: &[u8]) -> Result<Checked, Fail> {
 fn whole_histories(rt: HostRuntime) -> Result<(), Fail> {
     let plan = read_plan(rt.alloc(), PLAN)?;
     for (lines, checked) in HISTORIES {
-        assert!(rt; answer(rt.alloc(), &plan, lines)? == checked);
+        assert!(rt; answer(rt.alloc(), &plan, HEADS[0].0, lines)? == checked);
+    }
+    Ok(())
+}
+
+#[test]
+fn numbers_of_locks(rt: HostRuntime) -> Result<(), Fail> {
+    let plan = read_plan(rt.alloc(), PLAN)?;
+    for (head, checked) in HEADS {
+        assert!(rt; answer(rt.alloc(), &plan, head, HISTORIES[1].0)? == checked);
     }
     Ok(())
 }

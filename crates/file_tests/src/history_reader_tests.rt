@@ -35,6 +35,40 @@ fn lines_behind_the_end(rt: HostRuntime) -> Result<(), Fail> {
     Ok(())
 }
 
+/// Heads with the number of locks that they say or none, and lines that are no heads.
+static HEADS: [(&[u8], Option<Option<u32>>); 8] = [
+    (b"history 1\nworkers 1 max 1 parallel no\n", Some(None)),
+    (
+        b"history 2\nworkers 1 max 1 parallel no locks 0\n",
+        Some(Some(0)),
+    ),
+    (
+        b"history 2\nworkers 1 max 1 parallel no locks 4294967295\n",
+        Some(Some(4_294_967_295)),
+    ),
+    (
+        b"history 2\nworkers 1 max 1 parallel no locks 4294967296\n",
+        None,
+    ),
+    (b"history 2\nworkers 1 max 1 parallel no locks 02\n", None),
+    (b"history 2\nworkers 1 max 1 parallel no\n", None),
+    (b"history 1\nworkers 1 max 1 parallel no locks 2\n", None),
+    (b"history 3\nworkers 1 max 1 parallel no locks 2\n", None),
+];
+
+#[test]
+fn heads_of_both_versions(rt: HostRuntime) -> Result<(), Fail> {
+    for (head, locks) in HEADS {
+        let mut text = Vec::from_slice(rt.alloc(), head)?;
+        text.extend_from_slice(b"end 0\n")?;
+        match locks {
+            Some(locks) => assert!(rt; read_history(rt.alloc(), &text)?.locks == locks),
+            None => assert!(rt; stop_of(rt.alloc(), &text)? == Some(0)),
+        }
+    }
+    Ok(())
+}
+
 /// A line, and the entry that it tells.
 type Told = (&'static [u8], u32, Kind, Option<&'static [Change]>);
 

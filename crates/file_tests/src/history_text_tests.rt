@@ -111,8 +111,8 @@ static TEXT: &[u8] = b"task t failed\n\
     tasks: 0 passed, 1 failed, 0 skipped\n\
     units: 0 passed, 2 failed, 0 skipped\n\
     total: 0\n\
-    history 1\n\
-    workers 32 max 4 parallel yes\n\
+    history 2\n\
+    workers 32 max 4 parallel yes locks 2\n\
     1 w1 acquire | lock 0, take\n\
     2 w1 acquire | nothing\n\
     3 w31 acquire | failed\n\

@@ -123,6 +123,15 @@ fn fault_words(answer: &Answer, least: u64) -> &'static str {
     }
 }
 
+// Prints how many items the run closed, where what its workers saw is as its history says.
+fn print_watches(rt: &HostRuntime, answer: &Answer) -> Result<()> {
+    match answer.watches {
+        Some(count) => println!(rt; "status {}, {count} watches hold", answer.status)?,
+        None => println!(rt; "what was seen isn't as the history says")?,
+    }
+    Ok(())
+}
+
 // Whether one of the files has this name.
 fn names_file(files: &[FileEntry], name: &Text) -> bool {
     files.iter().any(|file| file.name.as_str() == name.as_str())
@@ -200,6 +209,9 @@ pub(crate) fn run_once<T: Threads + Wait + Sync>(
     let alloc = rt.alloc();
     let mut out = sink_of(alloc, case, 0)?;
     let answer = answer_to(threads, alloc, case, 0, &mut out)?;
+    if case.has("watched") {
+        return print_watches(rt, &answer);
+    }
     if case.has("faults") {
         println!(rt; "{}", fault_words(&answer, case.limits.least_faults))?;
         return Ok(());

@@ -7,6 +7,7 @@ ghost use Rattle.leases_cli.specs.declared.top.TheConstants.{DESKS};
 use crate::cases::Case;
 use crate::each::Each;
 use crate::pieces::InPieces;
+use crate::watches::watches_held;
 use anyhow::Result;
 use daemon_desk::{Lie, MemoryDesk};
 use file_access::{FileEntry, FileMap, MeetingGate, MemorySink, MemorySource, Source};
@@ -161,6 +162,8 @@ pub(crate) struct Answer {
     pub(crate) sent: u64,
     /// Whether two items ran at once, where the case asks for that.
     pub(crate) met: bool,
+    /// How many items the run closed, where what its workers saw holds.
+    pub(crate) watches: Option<u64>,
 }
 
 // How many entries of the book finished.
@@ -255,6 +258,7 @@ fn answer_of(
         left: bytes_left(input),
         sent: requests(desks),
         met: gate.met(),
+        watches: watches_held(ended),
     }
 }
 

@@ -111,6 +111,8 @@ impl<'a> Case<'a> {
 /// - `left`: how many bytes of the input were left is printed, up to 64. `sent`: how many requests the desks sent.
 ///   `graph`: how many workers, leases and locks the run had.
 /// - `faults N`: it is only printed whether calls of the desks failed, N at least, and as many units met a fault.
+/// - `watched`: it is only printed whether what the workers of the run saw is as its history says, which is gone through for each of
+///   them.
 /// - `each ..`: there is a call for each change of the input or each failure, as `each.rt` says. Of calls in a row that
 ///   wrote the same, what they wrote is printed once.
 pub(crate) fn case_of<'a>(alloc: Global, sections: &'a [Section<'a>]) -> Result<Case<'a>> {

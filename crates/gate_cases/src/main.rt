@@ -13,6 +13,7 @@ mod lines;
 mod pieces;
 mod rows;
 mod sections;
+mod watches;
 
 use crate::answers::run_once;
 use crate::cases::{Case, case_of};

@@ -3,9 +3,9 @@ use anyhow::{Result, anyhow};
 use std::alloc::Global;
 
 /// The kinds of sections.
-static KINDS: [&str; 19] = [
+static KINDS: [&str; 20] = [
     "words", "word", "file", "bytes", "times", "fill", "input", "empty", "fail", "lie", "room",
-    "pieces", "meet", "digest", "left", "sent", "graph", "faults", "each",
+    "pieces", "meet", "digest", "left", "sent", "graph", "faults", "watched", "each",
 ];
 
 /// A section: its kind, which is the first word of its head, the rest of its head, and its other lines.

@@ -31,18 +31,21 @@ all_admitted g all front [] is refused lawful = sym (is ∙ append-nil front)
 all_admitted g all front (e ∷ behind) is refused lawful = absurd (refused (allowed_behind g (opening_of g) front e behind (subst (Lawful g) is lawful)))
 
 module _ (p : PlanView) (h : HistoryView) (c : CheckView) (check : IsCheckOf p h c) where
-  finished : (answer : Checked) (a : Admitted) → IsVerdict c.graph h.entries answer → IsFinish c answer a → IsAdmission c.graph h.entries a
+  finished : (answer : Checked) (a : Admitted) → IsVerdict c.graph h.locks h.entries answer → IsFinish c answer a → IsAdmission c.graph h.locks h.entries a
   finished (checked.Lawful n) a verdict finish =
-      subst (IsAdmission c.graph h.entries) (sym finish.1) (record {
-        graph = finish.2;
-        entries = subst (λ (k : Option (List Entry)). IfSome k (λ es. es ≡ check.front)) finish.3 check.kept
-            ∙ all_admitted c.graph h.entries check.front check.behind check.entries check.refused verdict.0;
-        lawful = verdict.0;
-      })
-  finished (checked.NotLawful n) a verdict finish = subst (IsAdmission c.graph h.entries) (sym finish) verdict
+      subst (IsAdmission c.graph h.locks h.entries) (sym finish.1) (
+        verdict.0,
+        record {
+          graph = finish.2;
+          entries = subst (λ (k : Option (List Entry)). IfSome k (λ es. es ≡ check.front)) finish.3 check.kept
+              ∙ all_admitted c.graph h.entries check.front check.behind check.entries check.refused verdict.1;
+          lawful = verdict.1;
+        },
+      )
+  finished (checked.NotLawful n) a verdict finish = subst (IsAdmission c.graph h.locks h.entries) (sym finish) verdict
 
-  pub finished_whole : (answer : Checked) (a : Admitted) → IsVerdict c.graph h.entries answer → IsFinish c answer a → IsAdmissionOf p h a
-  finished_whole answer a verdict finish = subst (λ (g : GraphView). IsAdmission g h.entries a) check.graph (finished answer a verdict finish)
+  pub finished_whole : (answer : Checked) (a : Admitted) → IsVerdict c.graph h.locks h.entries answer → IsFinish c answer a → IsAdmissionOf p h a
+  finished_whole answer a verdict finish = subst (λ (g : GraphView). IsAdmission g h.locks h.entries a) check.graph (finished answer a verdict finish)
 
 -- the answer without the book
 told : (c : CheckView) (answer : Checked) (a : Admitted) → IsFinish c answer a → (n : ℕ) → answer ≡ checked.NotLawful n → checked_of a ≡ checked.NotLawful n
@@ -60,7 +63,7 @@ pub checked_input : (p : PlanView) (start now : SourceView) (c : CheckView) (r :
 checked_input p start now c (Ok a) (came, takes, inl ended, just) = (
   came,
   takes,
-  inl (record { history = ended.history; names = ended.names; verdict = subst (λ (g : GraphView). IsVerdict g ended.history.entries a) ended.check.graph ended.verdict }),
+  inl (record { history = ended.history; names = ended.names; verdict = subst (λ (g : GraphView). IsVerdict g ended.history.locks ended.history.entries a) ended.check.graph ended.verdict }),
   just,
 )
 checked_input p start now c (Ok a) (came, takes, inr broken, just) = (came, takes, inr broken, just)

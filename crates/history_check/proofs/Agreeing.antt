@@ -15,9 +15,9 @@ use Rattle.history_check.specs.declared.inputs.TheConstants.{MAX_INPUT_BYTES}
 use Rattle.history_check.proofs.Given.{first_bytes}
 use Rattle.history_check.proofs.OneAnswer.{one_verdict, one_answer}
 
-pub same_by_lines : (p : PlanView) (h : HistoryView) (c : CheckView) (whole by_line : Checked) → IsAnswerTo p h whole → IsCheckOf p h c → IsVerdict c.graph h.entries by_line → whole ≡ by_line
+pub same_by_lines : (p : PlanView) (h : HistoryView) (c : CheckView) (whole by_line : Checked) → IsAnswerTo p h whole → IsCheckOf p h c → IsVerdict c.graph h.locks h.entries by_line → whole ≡ by_line
 same_by_lines p h c whole by_line answer is verdict =
-    one_verdict (graph_of p h.workers h.max h.parallel) h.entries whole by_line answer (subst (λ (g : GraphView). IsVerdict g h.entries by_line) is.graph verdict)
+    one_verdict (graph_of p h.workers h.max h.parallel) h.locks h.entries whole by_line answer (subst (λ (g : GraphView). IsVerdict g h.locks h.entries by_line) is.graph verdict)
 
 same_of_bytes : (p : PlanView) (h : HistoryView) (bytes more came : List ℕ) (left : Option (List ℕ)) (whole by_line : Checked) → IsAnswerTo p h whole → Names bytes h → length bytes ≤ MAX_INPUT_BYTES → length came ≤ MAX_INPUT_BYTES
     → Consumes (Some (bytes ++ more)) left came → IsAnswer p came (all_given came left) by_line → whole ≡ by_line

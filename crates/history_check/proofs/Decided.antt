@@ -6,11 +6,11 @@ use Rattle.std.proofs.lemmas.List.Folds.{list_all-append}
 use borrow.Author.Tests.{ltb-true, ltb-false}
 use Rattle.history_text.specs.Text.{numbered, entry_text}
 use Rattle.history_reader.specs.HistoryView.{HistoryView}
-use Rattle.history_reader.specs.Lines.{is_unbroken, IsLine, IsWrongAfter, first_line, second_line, next_number}
+use Rattle.history_reader.specs.Lines.{is_unbroken, IsLine, IsWrongAfter, first_line, second_line, version_of, next_number}
 use Rattle.history_reader.specs.Grammar.{HistoryFits, head_of, lines_of}
 use Rattle.history_reader.proofs.lemmas.Splits.{same_line}
 use Rattle.history_reader.proofs.lemmas.LineLaws.{entry_line, first_is_line, second_is_line}
-use Rattle.history_reader.proofs.lemmas.TextLaws.{NoEntryAt, same_from}
+use Rattle.history_reader.proofs.lemmas.TextLaws.{NoEntryAt, head_parts, same_from}
 use Rattle.history_check.specs.Naming.{ArePassedOver}
 use Rattle.history_check.specs.Checking.{IsFront, IsUndecided, IsJustDecided}
 use Rattle.history_check.specs.declared.lines.TheConstants.{MAX_PIECE}
@@ -24,20 +24,22 @@ no_line_in text line more unbroken whole is =
 
 starts_there : (front piece : List ℕ) → IsFront front → is_unbroken piece ≡ true → Starts (front ++ piece)
 starts_there front piece (inl none) unbroken = inr (ap is_unbroken (ap (λ bs. bs ++ piece) none) ∙ unbroken)
-starts_there front piece (inr (inl first)) unbroken = inl (record { more = piece; is = ap (λ bs. bs ++ piece) first })
+starts_there front piece (inr (inl first)) unbroken = inl (record { version = first.0; more = piece; is = ap (λ bs. bs ++ piece) first.1 })
 starts_there front piece (inr (inr k)) unbroken = subst Starts (ap (λ bs. bs ++ piece) (sym k.2)) (inl (begins_first k.0 piece))
 
 -- behind the lines of a history stands no piece where a wrong line is
 no_piece : (h : HistoryView) (front piece line more : List ℕ) → HistoryFits h → IsLine line → IsWrongAfter h line → IsFront front → is_unbroken piece ≡ true → front ++ piece ≡ lines_of h ++ (line ++ more) → ⊥
 no_piece h front piece line more fits whole wrong (inl none) unbroken is =
     let begins = begins_first h (line ++ more) in
-    no_line_in piece first_line begins.more unbroken first_is_line (ap (λ bs. bs ++ piece) (sym none) ∙ (is ∙ begins.is))
+    no_line_in piece (first_line begins.version) begins.more unbroken (first_is_line begins.version) (ap (λ bs. bs ++ piece) (sym none) ∙ (is ∙ begins.is))
 no_piece h front piece line more fits whole wrong (inr (inl first)) unbroken is =
-    let second : List ℕ = second_line h.workers h.max h.parallel in
+    let second : List ℕ = second_line h.workers h.max h.parallel h.locks in
     let rest : List ℕ = numbered entry_text 1 h.entries ++ (line ++ more) in
-    let begins : lines_of h ++ (line ++ more) ≡ first_line ++ (second ++ rest) = append_assoc (head_of h) (numbered entry_text 1 h.entries) (line ++ more) in
-    no_line_in piece second rest unbroken (second_is_line h.workers h.max h.parallel)
-    (same_line first_line piece first_line (second ++ rest) (inl first_is_line) first_is_line (ap (λ bs. bs ++ piece) (sym first) ∙ (is ∙ begins))).rest
+    let one : List ℕ = first_line (version_of h.locks) in
+    let begins : lines_of h ++ (line ++ more) ≡ first_line (version_of h.locks) ++ (second_line h.workers h.max h.parallel h.locks ++ (numbered entry_text 1 h.entries ++ (line ++ more))) =
+    append_assoc (head_of h) (numbered entry_text 1 h.entries) (line ++ more) ∙ head_parts h.workers h.max h.parallel h.locks (numbered entry_text 1 h.entries ++ (line ++ more)) in
+    no_line_in piece second rest unbroken (second_is_line h.workers h.max h.parallel h.locks)
+    (same_line (first_line first.0) piece one (second ++ rest) (inl (first_is_line first.0)) (first_is_line (version_of h.locks)) (ap (λ bs. bs ++ piece) (sym first.1) ∙ (is ∙ begins))).rest
 no_piece h front piece line more fits whole wrong (inr (inr k)) unbroken is =
     let none : NoEntryAt (next_number k.0) piece = λ e rest good there. no_line_in piece (entry_text (next_number k.0) e) rest unbroken (entry_line (next_number k.0) e) there in
     let other : NoEntryAt (next_number h) (line ++ more) = λ e rest good there.

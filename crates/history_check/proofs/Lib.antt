@@ -6,6 +6,7 @@ pub mod Steps
 pub mod OneAnswer
 pub mod Given
 pub mod Agreeing
+pub mod PlainGraphs
 pub mod Decided
 pub mod OneByOne
 pub mod EndLines

@@ -1,8 +1,8 @@
 -- The bytes of an input have one answer at most.
-use Rattle.std.proofs.Common.{◌≡◌, ℕ, ◌+◌, suc, true, not, ◌&&◌, nat_eq, List, [], ◌∷◌, ◌++◌, length, codes, refl, sym, ap, subst, ◌∙◌, append_assoc, append-nil, inl, inr, ◌⊎◌}
+use Rattle.std.proofs.Common.{◌≡◌, ℕ, ◌+◌, suc, true, not, ◌&&◌, nat_eq, List, [], ◌∷◌, ◌++◌, length, codes, refl, sym, ap, subst, ◌∙◌, append_assoc, append-nil, inl, inr, ◌⊎◌, Option}
 use Rattle.std.specs.List.{AllByRecursion, concat}
 use Rattle.std.proofs.lemmas.List.Folds.{list_all-append}
-use Rattle.std.proofs.lemmas.Bool.{and_parts, false≢true}
+use Rattle.std.proofs.lemmas.Bool.{and_parts, false≢true, true≢false}
 use Rattle.resource_lock.specs.StateView.{StateView}
 use Rattle.resource_lock.specs.GraphView.{GraphView}
 use Rattle.resource_lock.specs.Opening.{opening_of}
@@ -36,7 +36,8 @@ line_is_broken line whole unbroken =
 
 no_other : (text line more : List ℕ) → Starts text → IsOtherLine line → text ≡ line ++ more → ⊥
 no_other text line more (inl begins) other is =
-    other.other (same_line line more first_line begins.more (inl other.whole) first_is_line (sym is ∙ begins.is)).front
+    other.other begins.version
+    (same_line line more (first_line begins.version) begins.more (inl other.whole) (first_is_line begins.version) (sym is ∙ begins.is)).front
 no_other text line more (inr unbroken) other is =
     let same : text ≡ line = (same_line text [] line more (inr (unbroken, refl)) other.whole (append-nil text ∙ is)).front in
     line_is_broken line other.whole (ap is_unbroken (sym same) ∙ unbroken)
@@ -111,13 +112,21 @@ not_both : (g : GraphView) (es : List Entry) (n : ℕ) → lawful_from g (openin
 not_both g es n lawful first =
     first.refused (allowed_there g (opening_of g) first.before first.entry first.behind (subst (lawful_from g (opening_of g)) first.is lawful))
 
-pub one_verdict : (g : GraphView) (es : List Entry) (a b : Checked) → IsVerdict g es a → IsVerdict g es b → a ≡ b
-one_verdict g es (checked.Lawful m) (checked.Lawful n) a b = ap checked.Lawful (a.1 ∙ sym b.1)
-one_verdict g es (checked.Lawful m) (checked.NotLawful n) a b = absurd (not_both g es n a.0 b)
-one_verdict g es (checked.NotLawful m) (checked.Lawful n) a b = absurd (not_both g es m b.0 a)
-one_verdict g es (checked.NotLawful m) (checked.NotLawful n) a b =
+one_first : (g : GraphView) (es : List Entry) (m n : ℕ) → IsFirstUnlawful g es m → IsFirstUnlawful g es n → checked.NotLawful m ≡ checked.NotLawful n
+one_first g es m n a b =
     let same : length a.before ≡ length b.before = same_place g (opening_of g) a.before a.entry a.behind b.before b.entry b.behind a.lawful a.refused b.lawful b.refused (sym a.is ∙ b.is) in
     ap checked.NotLawful (a.number ∙ (ap (λ n. n + 1) same ∙ sym b.number))
+
+pub one_verdict : (g : GraphView) (locks : Option ℕ) (es : List Entry) (a b : Checked) → IsVerdict g locks es a → IsVerdict g locks es b → a ≡ b
+one_verdict g locks es (checked.Lawful m) (checked.Lawful n) a b = ap checked.Lawful (a.2 ∙ sym b.2)
+one_verdict g locks es (checked.Lawful m) (checked.NotLawful n) a (inl b) = absurd (true≢false (sym b.0 ∙ a.0))
+one_verdict g locks es (checked.Lawful m) (checked.NotLawful n) a (inr b) = absurd (not_both g es n a.1 b.1)
+one_verdict g locks es (checked.NotLawful m) (checked.Lawful n) (inl a) b = absurd (true≢false (sym a.0 ∙ b.0))
+one_verdict g locks es (checked.NotLawful m) (checked.Lawful n) (inr a) b = absurd (not_both g es m b.1 a.1)
+one_verdict g locks es (checked.NotLawful m) (checked.NotLawful n) (inl a) (inl b) = ap checked.NotLawful (a.1 ∙ sym b.1)
+one_verdict g locks es (checked.NotLawful m) (checked.NotLawful n) (inl a) (inr b) = absurd (true≢false (sym a.0 ∙ b.0))
+one_verdict g locks es (checked.NotLawful m) (checked.NotLawful n) (inr a) (inl b) = absurd (true≢false (sym b.0 ∙ a.0))
+one_verdict g locks es (checked.NotLawful m) (checked.NotLawful n) (inr a) (inr b) = one_first g es m n a.1 b.1
 
 -- ---- answers
 
@@ -134,7 +143,7 @@ both_histories p all came more came' more' a b one two x y =
     (behind_names all more x.names one) (behind_names all more' y.names two) in
     let texts : text_of x.history ++ more ≡ text_of y.history ++ more' = ap (λ bs. bs ++ more) (sym x.names.history.is) ∙ (same ∙ ap (λ bs. bs ++ more') y.names.history.is) in
     let equal = same_history x.history y.history more more' x.names.history.fits y.names.history.fits texts in
-    one_verdict (graph_of p y.history.workers y.history.max y.history.parallel) y.history.entries a b (subst (λ h. IsAnswerTo p h a) equal x.verdict) y.verdict
+    one_verdict (graph_of p y.history.workers y.history.max y.history.parallel) y.history.locks y.history.entries a b (subst (λ h. IsAnswerTo p h a) equal x.verdict) y.verdict
 
 history_or_break : (p : PlanView) (all came more : List ℕ) (a b : Checked) → all ≡ came ++ more → AnswersHistory p came a → AnswersBreak all b → ⊥
 history_or_break p all came more a b one x y =

@@ -20,7 +20,7 @@ abbrev pub first_of : ℕ → HistoryView → HistoryView
 first_of n h = record h { entries = take n h.entries }
 
 -- a check of no entry
-pub none_so_far : (p : PlanView) (h : HistoryView) (c : CheckView) → IsFresh (graph_of p h.workers h.max h.parallel) c → IsCheckOf p (first_of 0 h) c
+pub none_so_far : (p : PlanView) (h : HistoryView) (c : CheckView) → IsFresh (graph_of p h.workers h.max h.parallel) h.locks c → IsCheckOf p (first_of 0 h) c
 none_so_far p h c is = fresh_check c refl is
 
 one_more_so_far : (p : PlanView) (h : HistoryView) (n : ℕ) (e : Entry) (old new : CheckView) → n < length h.entries → e ≡ get_or h.entries n e → IsCheckOf p (first_of n h) old → Adds old new e → IsCheckOf p (first_of (n + 1) h) new
@@ -51,5 +51,5 @@ counted_so_far p h n items c same within is =
     is.count ∙ length-take-le n (map entry_read h.entries.items) long
 
 -- what a check answers is the answer to the history that it is of
-pub answered : (p : PlanView) (h : HistoryView) (c : CheckView) (a : Checked) → IsCheckOf p h c → ((q : PlanView) (k : HistoryView) → IsCheckOf q k c → IsVerdict c.graph k.entries a) → IsAnswerTo p h a
-answered p h c a is answers = subst (λ (g : GraphView). IsVerdict g h.entries a) is.graph (answers p h is)
+pub answered : (p : PlanView) (h : HistoryView) (c : CheckView) (a : Checked) → IsCheckOf p h c → ((q : PlanView) (k : HistoryView) → IsCheckOf q k c → IsVerdict c.graph k.locks k.entries a) → IsAnswerTo p h a
+answered p h c a is answers = subst (λ (g : GraphView). IsVerdict g h.locks h.entries a) is.graph (answers p h is)

@@ -1,7 +1,9 @@
 -- How many bytes are left to be read, and how many may be ahead.
-use Rattle.std.proofs.Common.{◌≡◌, ℕ, ◌+◌, ◌^◌, ◌<◌, ◌≤◌, List, ◌++◌, length, length-append, codes, Result, Ok, ap, subst, arith, ◌∙◌, sym}
+use Rattle.std.proofs.Common.{◌≡◌, ℕ, ◌+◌, ◌^◌, ◌<◌, ◌≤◌, List, ◌++◌, length, length-append, codes, Result, Ok, refl, ap, subst, arith, ◌∙◌, sym}
 use Rattle.file_access.specs.SourceView.{SourceView}
 use Rattle.history_text.specs.Text.{end_text}
+use Rattle.history_reader.specs.declared.heads.Version.{Version}
+use Rattle.history_reader.specs.declared.heads.Version.TheVariants.{One, Two}
 use Rattle.history_reader.specs.Lines.{IsLine, first_line}
 use Rattle.history_check.specs.LinesView.{LinesView}
 use Rattle.history_reader.specs.declared.histories.HistoryLine.{HistoryLine}
@@ -26,10 +28,14 @@ line_has_some line whole =
     let long : length (whole.front ++ codes "\n") ≡ length whole.front + 1 = length-append whole.front (codes "\n") in
     omega (arith, ap length whole.is, long)
 
+first_ten : (v : Version) → length (first_line v) ≡ 10
+first_ten One = refl
+first_ten Two = refl
+
 -- behind the first line there is room
-pub room_behind_first : {mid now : SourceView} (was is : LinesView) (text : List ℕ) → TakesNext mid now was is → StaysWithin 16 is → unread was ≤ MAX_INPUT_BYTES → text ≡ is.line → text ≡ first_line → HasBytesLeft 0 is
-room_behind_first was is text next within few same first =
-    let ten : length is.line ≡ 10 = ap length (sym same ∙ first) in
+pub room_behind_first : (v : Version) {mid now : SourceView} (was is : LinesView) (text : List ℕ) → TakesNext mid now was is → StaysWithin 16 is → unread was ≤ MAX_INPUT_BYTES → text ≡ is.line → text ≡ first_line v → HasBytesLeft 0 is
+room_behind_first v was is text next within few same first =
+    let ten : length is.line ≡ 10 = ap length (sym same ∙ first) ∙ first_ten v in
     let behind : length is.line + length is.ahead ≤ 16 = within.line (omega (arith, ten)) in
     record { ahead = omega (arith, behind, ten, shortest_end); entries = omega (arith, less_by_line was is next, few) }
 

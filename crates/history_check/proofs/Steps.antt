@@ -1,15 +1,16 @@
 -- What a line makes of what was taken so far, and of the answer.
-use Rattle.std.proofs.Common.{◌≡◌, ◌≢◌, ℕ, ◌+◌, ◌<◌, ◌≤◌, Bool, true, false, List, [], ◌∷◌, ◌++◌, length, Option, Some, None, Result, Ok, Err, refl, sym, ap, subst, ◌∙◌, append_assoc, append-nil, arith, inl, inr, ◌⊎◌}
+use Rattle.std.proofs.Common.{◌≡◌, ℕ, ◌+◌, ◌<◌, ◌≤◌, Bool, true, false, List, [], ◌∷◌, ◌++◌, length, Option, Some, None, Result, Ok, Err, refl, sym, ap, subst, ◌∙◌, append_assoc, append-nil, arith, inl, inr, ◌⊎◌}
 use Rattle.resource_lock.specs.GraphView.{GraphView}
 use Rattle.file_access.specs.SourceView.{SourceView}
 use Rattle.plan_reader.specs.PlanView.{PlanView}
 use Rattle.history_text.specs.Text.{numbered, entry_text, end_text}
 use Rattle.history_reader.specs.HistoryView.{HistoryView}
-use Rattle.history_reader.specs.Lines.{is_unbroken, IsLine, IsLineBefore, AddsEntry, Ends, StopsIt, IsWrongAfter, Opens, OpensNone, first_line, second_line, next_number}
+use Rattle.history_reader.specs.declared.heads.Version.{Version}
+use Rattle.history_reader.specs.Lines.{is_unbroken, IsLine, IsLineBefore, IsNoFirst, AddsEntry, Ends, StopsIt, IsWrongAfter, Opens, OpensNone, first_line, version_of, next_number}
 use Rattle.history_reader.specs.Grammar.{HistoryFits, StopsInHead, StopsAt, head_of, lines_of}
 use Rattle.history_reader.proofs.lemmas.Splits.{same_line}
 use Rattle.history_reader.proofs.lemmas.LineLaws.{entry_line, end_line}
-use Rattle.history_reader.proofs.lemmas.TextLaws.{first_wrong, second_wrong}
+use Rattle.history_reader.proofs.lemmas.TextLaws.{head_parts, second_of, first_wrong, second_wrong}
 use Rattle.history_reader.proofs.lemmas.ReadLaws.{ReadSoFar, at_start, read_on, read_ended, opened_so_far}
 use Rattle.history_check.specs.LinesView.{LinesView}
 use Rattle.history_check.specs.Taking.{TakesNext, IsCutOff, EndsLine, StaysWithin, LosesPiece}
@@ -37,7 +38,7 @@ in_head text (inl a) = a
 in_head text (inr b) = absurd (let number : 0 ≡ length b.before.entries + 1 = b.number in omega arith)
 
 -- the head lacks: what is behind the lines passed over isn't the first line, and no line
-pub no_head : {start now : SourceView} {is : LinesView} → (so_far : HasTaken start now is ([] ++ is.line)) → IsCutOff now.left is → is.line ≢ first_line → FindsNone start now
+pub no_head : {start now : SourceView} {is : LinesView} → (so_far : HasTaken start now is ([] ++ is.line)) → IsCutOff now.left is → IsNoFirst is.line → FindsNone start now
 no_head {start} {now} {is} so_far cut other =
     let few : length is.ahead < MAX_PIECE = omega (arith, ap length cut.alone) in
     let none : to_come is now.left ≡ [] = cut_off now.left is cut in
@@ -56,32 +57,33 @@ no_head {start} {now} {is} so_far cut other =
     )
 
 -- the second line is wrong or lacks
-pub no_second : {start mid now : SourceView} {was is : LinesView} → HasTaken start mid was first_line → TakesNext mid now was is → IsLine is.line ⊎ IsCutOff now.left is → length is.ahead < MAX_PIECE → OpensNone is.line → FindsNone start now
-no_second {start} {mid} {now} {was} {is} so_far next ends few none =
-    let more = taken_more first_line so_far next in
+pub no_second : (v : Version) {start mid now : SourceView} {was is : LinesView} → HasTaken start mid was (first_line v) → TakesNext mid now was is → IsLine is.line ⊎ IsCutOff now.left is → length is.ahead < MAX_PIECE → OpensNone v is.line → FindsNone start now
+no_second v {start} {mid} {now} {was} {is} so_far next ends few none =
+    let first : List ℕ = first_line v in
+    let more = taken_more (first_line v) so_far next in
     let rest = to_come is now.left in (
-      more.passed ++ ((first_line ++ is.line) ++ is.ahead),
-      came (first_line ++ is.line) more,
+      more.passed ++ ((first_line v ++ is.line) ++ is.ahead),
+      came (first_line v ++ is.line) more,
       record {
         passed = more.passed;
         over = more.over;
-        text = first_line ++ (is.line ++ rest);
-        begins = inl (record { more = is.line ++ rest; is = refl });
-        stops = inl (in_head (first_line ++ (is.line ++ rest)) (second_wrong is.line rest (line_before now.left is ends) none));
-        is = given_behind (first_line ++ is.line) more ∙ ap (λ bs. more.passed ++ bs) (append_assoc first_line is.line rest);
+        text = first ++ (is.line ++ rest);
+        begins = inl (record { version = v; more = is.line ++ rest; is = refl });
+        stops = inl (in_head (first_line v ++ (is.line ++ rest)) (second_wrong v is.line rest (line_before now.left is ends) none));
+        is = given_behind (first_line v ++ is.line) more ∙ ap (λ bs. more.passed ++ bs) (append_assoc (first_line v) is.line rest);
       },
-      just_decided first_line more (inr (inl refl)) ends few,
+      just_decided (first_line v) more (inr (inl (v, refl))) ends few,
     )
 
 -- the head is whole
-pub head_taken : {p : PlanView} {start mid now : SourceView} {was is : LinesView} {h : HistoryView} {c : CheckView} → HasTaken start mid was first_line → TakesNext mid now was is → Opens is.line h → IsCheckOf p h c → IsUnderway p start now is c
-head_taken {p} {start} {mid} {now} {was} {is} {h} {c} so_far next opens check =
-    let opened : ReadSoFar (first_line ++ is.line) h [] = opened_so_far {text = first_line ++ is.line} {first = first_line} {second = is.line} {rest = is.line} {more = []} {h = h} refl refl (sym (append-nil is.line)) opens in
-    let same : first_line ++ is.line ≡ lines_of h = opened.is ∙ append-nil (lines_of h) in
+pub head_taken : (v : Version) {p : PlanView} {start mid now : SourceView} {was is : LinesView} {h : HistoryView} {c : CheckView} → HasTaken start mid was (first_line v) → TakesNext mid now was is → Opens v is.line h → IsCheckOf p h c → IsUnderway p start now is c
+head_taken v {p} {start} {mid} {now} {was} {is} {h} {c} so_far next opens check =
+    let opened : ReadSoFar (first_line v ++ is.line) h [] = opened_so_far v {text = first_line v ++ is.line} {first = first_line v} {second = is.line} {rest = is.line} {more = []} {h = h} refl refl (sym (append-nil is.line)) opens in
+    let same : first_line v ++ is.line ≡ lines_of h = opened.is ∙ append-nil (lines_of h) in
     record {
       history = h;
       fits = opened.fits;
-      taken = subst (HasTaken start now is) same (taken_more first_line so_far next);
+      taken = subst (HasTaken start now is) same (taken_more (first_line v) so_far next);
       check = check;
     }
 
@@ -98,7 +100,7 @@ entry_taken {p} {start} {mid} {now} {was} {is} {c} {d} {k} u next ends added che
     }
 
 -- the end came, and nothing is ahead
-pub end_taken : {p : PlanView} {start mid now : SourceView} {was is : LinesView} {c d : CheckView} {k : HistoryView} (a : Checked) (u : IsUnderway p start mid was c) → TakesNext mid now was is → IsLine is.line ⊎ IsCutOff now.left is → is.ahead ≡ [] → Ends u.history is.line k → IsCheckOf p k d → IsVerdict d.graph k.entries a → AnswersBy p start now d a
+pub end_taken : {p : PlanView} {start mid now : SourceView} {was is : LinesView} {c d : CheckView} {k : HistoryView} (a : Checked) (u : IsUnderway p start mid was c) → TakesNext mid now was is → IsLine is.line ⊎ IsCutOff now.left is → is.ahead ≡ [] → Ends u.history is.line k → IsCheckOf p k d → IsVerdict d.graph k.locks k.entries a → AnswersBy p start now d a
 end_taken {p} {start} {mid} {now} {was} {is} {c} {d} {k} a u next ends none ended check verdict =
     let more = taken_more (lines_of u.history) u.taken next in (
       more.passed ++ ((lines_of u.history ++ is.line) ++ is.ahead),
@@ -133,8 +135,9 @@ broken h line more n fits before number wrong = record {
 
 pub begins_first : (h : HistoryView) (rest : List ℕ) → BeginsHistory (lines_of h ++ rest)
 begins_first h rest = record {
-  more = second_line h.workers h.max h.parallel ++ (numbered entry_text 1 h.entries ++ rest);
-  is = append_assoc (head_of h) (numbered entry_text 1 h.entries) rest;
+  version = version_of h.locks;
+  more = second_of h ++ (numbered entry_text 1 h.entries ++ rest);
+  is = append_assoc (head_of h) (numbered entry_text 1 h.entries) rest ∙ head_parts h.workers h.max h.parallel h.locks (numbered entry_text 1 h.entries ++ rest);
 }
 
 -- the text stops being a history
@@ -204,7 +207,7 @@ none_ahead {h} {k} {is} least count long counted within ended =
     let whole : length is.line + length is.ahead ≤ least = within.line (omega (arith, same, least_is, long)) in
     no_length is.ahead (omega (arith, whole, same, least_is, long))
 
-pub on_end : {p : PlanView} {start mid now : SourceView} {was is : LinesView} {c d : CheckView} (least count : ℕ) (text : List ℕ) (whole : Bool) (a : HistoryLine) (answer : Checked) (u : IsUnderway p start mid was c) → Took least mid now was is whole → least ≡ length (end_text count) → count ≡ c.count → text ≡ is.line → a ≡ lines.End → Goes c d text (one_taken a) → ((p : PlanView) (h : HistoryView) → IsCheckOf p h d → IsVerdict d.graph h.entries answer) → AnswersBy p start now d answer
+pub on_end : {p : PlanView} {start mid now : SourceView} {was is : LinesView} {c d : CheckView} (least count : ℕ) (text : List ℕ) (whole : Bool) (a : HistoryLine) (answer : Checked) (u : IsUnderway p start mid was c) → Took least mid now was is whole → least ≡ length (end_text count) → count ≡ c.count → text ≡ is.line → a ≡ lines.End → Goes c d text (one_taken a) → ((p : PlanView) (h : HistoryView) → IsCheckOf p h d → IsVerdict d.graph h.locks h.entries answer) → AnswersBy p start now d answer
 on_end {p} {start} {mid} {now} {was} {is} {c} {d} least count text whole a answer u took long counted same end goes verdict =
     let next : CheckGoesOn p u.history is.line d (one_taken lines.End) = goes_there p u.history (one_taken a) (one_taken lines.End) same (ap one_taken end) goes u.check in
     end_taken answer u took.0 (ends_either now.left is whole took.1) (none_ahead least count long (counted ∙ u.check.count) took.2 next.1) next.1 next.2 (verdict p next.0 next.2)
@@ -229,20 +232,20 @@ handed_on p start now c is (Err f) fail same fails = subst (Fails start now) (sy
 abbrev opened_to : CheckView → Result CheckView TextFail
 opened_to c = Ok c
 
-pub on_head : {p : PlanView} {start mid now : SourceView} {was is : LinesView} (text : List ℕ) (c : CheckView) → HasTaken start mid was first_line → TakesNext mid now was is → text ≡ is.line → OpensCheck p text (opened_to c) → IsUnderway p start now is c
-on_head {p} {start} {mid} {now} {was} {is} text c so_far next same opened =
-    let opens : Opens is.line opened.0 = subst (λ (t : List ℕ). Opens t opened.0) same opened.1 in
-    head_taken so_far next opens opened.2
+pub on_head : (v : Version) {p : PlanView} {start mid now : SourceView} {was is : LinesView} (text : List ℕ) (c : CheckView) → HasTaken start mid was (first_line v) → TakesNext mid now was is → text ≡ is.line → OpensCheck p v text (opened_to c) → IsUnderway p start now is c
+on_head v {p} {start} {mid} {now} {was} {is} text c so_far next same opened =
+    let opens : Opens v is.line opened.0 = subst (λ (t : List ℕ). Opens v t opened.0) same opened.1 in
+    head_taken v so_far next opens opened.2
 
-pub on_no_head : {start mid now : SourceView} {was is : LinesView} (least : ℕ) (text : List ℕ) (whole : Bool) → HasTaken start mid was first_line → Took least mid now was is whole → least < MAX_PIECE → text ≡ is.line → OpensNone text → FindsNone start now
-on_no_head {start} {mid} {now} {was} {is} least text whole so_far took small same none =
-    no_second so_far took.0 (ends_either now.left is whole took.1) (omega (arith, took.2.ahead, small)) (subst (λ (t : List ℕ). OpensNone t) same none)
+pub on_no_head : (v : Version) {start mid now : SourceView} {was is : LinesView} (least : ℕ) (text : List ℕ) (whole : Bool) → HasTaken start mid was (first_line v) → Took least mid now was is whole → least < MAX_PIECE → text ≡ is.line → OpensNone v text → FindsNone start now
+on_no_head v {start} {mid} {now} {was} {is} least text whole so_far took small same none =
+    no_second v so_far took.0 (ends_either now.left is whole took.1) (omega (arith, took.2.ahead, small)) (subst (λ (t : List ℕ). OpensNone v t) same none)
 
-pub fails_at_head : (start mid now : SourceView) (was : LinesView) (fail : CheckFail) → HasTaken start mid was first_line → LosesPiece mid now was fail → Fails start now fail
-fails_at_head start mid now was fail so_far lost = line_failed start mid now was first_line fail so_far (inr (inl refl)) lost
+pub fails_at_head : (v : Version) (start mid now : SourceView) (was : LinesView) (fail : CheckFail) → HasTaken start mid was (first_line v) → LosesPiece mid now was fail → Fails start now fail
+fails_at_head v start mid now was fail so_far lost = line_failed start mid now was (first_line v) fail so_far (inr (inl (v, refl))) lost
 
-pub no_room_at_head : {start mid now : SourceView} {was is : LinesView} → HasTaken start mid was first_line → TakesNext mid now was is → Fails start now NoMemory
-no_room_at_head so_far next = memory_failed first_line next.piece so_far next.takes
+pub no_room_at_head : (v : Version) {start mid now : SourceView} {was is : LinesView} → HasTaken start mid was (first_line v) → TakesNext mid now was is → Fails start now NoMemory
+no_room_at_head v so_far next = memory_failed (first_line v) next.piece so_far next.takes
 
 pub handed_on_at_head : (p : PlanView) (start now : SourceView) (is : LinesView) (r : Result (Option CheckView) CheckFail) (fail : CheckFail) → IsErrAnd r (λ f. f ≡ fail) → Fails start now fail → TakesHead p start now is r
 handed_on_at_head p start now is (Ok c) fail never fails = absurd never
@@ -250,20 +253,20 @@ handed_on_at_head p start now is (Err f) fail same fails = subst (Fails start no
 
 -- ---- lines before the head
 
-pub first_found : {start mid now : SourceView} {was is : LinesView} (text : List ℕ) → HasTaken start mid was [] → TakesNext mid now was is → text ≡ is.line → text ≡ first_line → HasTaken start now is first_line
-first_found {start} {mid} {now} {was} {is} text so_far next same first =
+pub first_found : (v : Version) {start mid now : SourceView} {was is : LinesView} (text : List ℕ) → HasTaken start mid was [] → TakesNext mid now was is → text ≡ is.line → text ≡ first_line v → HasTaken start now is (first_line v)
+first_found v {start} {mid} {now} {was} {is} text so_far next same first =
     subst (HasTaken start now is) (sym same ∙ first) (taken_more [] so_far next)
 
-pub not_found : {start mid now : SourceView} {was is : LinesView} (text : List ℕ) → HasTaken start mid was [] → TakesNext mid now was is → IsCutOff now.left is → text ≡ is.line → text ≢ first_line → FindsNone start now
-not_found text so_far next cut same other = no_head (taken_more [] so_far next) cut (λ first. other (same ∙ first))
+pub not_found : {start mid now : SourceView} {was is : LinesView} (text : List ℕ) → HasTaken start mid was [] → TakesNext mid now was is → IsCutOff now.left is → text ≡ is.line → IsNoFirst text → FindsNone start now
+not_found text so_far next cut same other = no_head (taken_more [] so_far next) cut (λ v first. other v (same ∙ first))
 
-pub passed_over : {start mid now : SourceView} {was is : LinesView} (text : List ℕ) → HasTaken start mid was [] → TakesNext mid now was is → IsLine is.line → text ≡ is.line → text ≢ first_line → HasTaken start now is []
-passed_over text so_far next whole same other = taken_past (taken_more [] so_far next) (record { whole = whole; other = λ first. other (same ∙ first) })
+pub passed_over : {start mid now : SourceView} {was is : LinesView} (text : List ℕ) → HasTaken start mid was [] → TakesNext mid now was is → IsLine is.line → text ≡ is.line → IsNoFirst text → HasTaken start now is []
+passed_over text so_far next whole same other = taken_past (taken_more [] so_far next) (record { whole = whole; other = λ v first. other v (same ∙ first) })
 
 pub fails_before : (start mid now : SourceView) (was : LinesView) (fail : CheckFail) → HasTaken start mid was [] → LosesPiece mid now was fail → Fails start now fail
 fails_before start mid now was fail so_far lost = line_failed start mid now was [] fail so_far (inl refl) lost
 
-pub handed_on_before : (start now : SourceView) (is : LinesView) (r : Result Bool CheckFail) (fail : CheckFail) → IsErrAnd r (λ f. f ≡ fail) → Fails start now fail → FindsHead start now is r
+pub handed_on_before : (start now : SourceView) (is : LinesView) (r : Result (Option Version) CheckFail) (fail : CheckFail) → IsErrAnd r (λ f. f ≡ fail) → Fails start now fail → FindsHead start now is r
 handed_on_before start now is (Ok found) fail never fails = absurd never
 handed_on_before start now is (Err f) fail same fails = subst (Fails start now) (sym same) fails
 
@@ -282,9 +285,9 @@ handed_on_checked p start now (Err f) fail is fails = subst (Fails start now) (s
 abbrev failed_to : TextFail → Result CheckView TextFail
 failed_to fail = Err fail
 
-pub not_opened : (p : PlanView) {text : List ℕ} (r : Result CheckView TextFail) (fail : TextFail) (n : ℕ) → r ≡ failed_to fail → fail ≡ Stops n → OpensCheck p text r → OpensNone text
-not_opened p {text} r fail n is kind opened =
-    let stops : OpensCheck p text (failed_to (Stops n)) = subst (λ (x : Result CheckView TextFail). OpensCheck p text x) (is ∙ ap failed_to kind) opened in
+pub not_opened : (p : PlanView) (v : Version) {text : List ℕ} (r : Result CheckView TextFail) (fail : TextFail) (n : ℕ) → r ≡ failed_to fail → fail ≡ Stops n → OpensCheck p v text r → OpensNone v text
+not_opened p v {text} r fail n is kind opened =
+    let stops : OpensCheck p v text (failed_to (Stops n)) = subst (λ (x : Result CheckView TextFail). OpensCheck p v text x) (is ∙ ap failed_to kind) opened in
     stops.1
 
 -- ---- the lines behind the head
@@ -303,14 +306,14 @@ shortened was is d r same shortens = subst (λ (x : Option Checked). Shortens wa
 
 -- ---- the whole
 
-abbrev head_gives : Bool → Result Bool CheckFail
+abbrev head_gives : Option Version → Result (Option Version) CheckFail
 head_gives r = Ok r
 
-pub found_none : {p : PlanView} (start now : SourceView) (is : LinesView) (r : Bool) → r ≡ false → FindsHead start now is (head_gives r) → AdmitsInput p start now (admitted.NotLawful 0)
-found_none start now is r same finds = none_found (subst (λ (x : Bool). FindsHead start now is (head_gives x)) same finds)
+pub found_none : {p : PlanView} (start now : SourceView) (is : LinesView) (r : Option Version) → r ≡ None → FindsHead start now is (head_gives r) → AdmitsInput p start now (admitted.NotLawful 0)
+found_none start now is r same finds = none_found (subst (λ (x : Option Version). FindsHead start now is (head_gives x)) same finds)
 
-pub found_some : (start now : SourceView) (is : LinesView) (r : Bool) → r ≡ true → FindsHead start now is (head_gives r) → HasTaken start now is first_line
-found_some start now is r same finds = subst (λ (x : Bool). FindsHead start now is (head_gives x)) same finds
+pub found_some : (start now : SourceView) (is : LinesView) (r : Option Version) (v : Version) → r ≡ Some v → FindsHead start now is (head_gives r) → HasTaken start now is (first_line v)
+found_some start now is r v same finds = subst (λ (x : Option Version). FindsHead start now is (head_gives x)) same finds
 
 abbrev opening_gives : Option CheckView → Result (Option CheckView) CheckFail
 opening_gives r = Ok r
@@ -318,8 +321,8 @@ opening_gives r = Ok r
 pub checked_none : (p : PlanView) (start now : SourceView) (is : LinesView) (r : Option CheckView) → r ≡ None → TakesHead p start now is (opening_gives r) → Answers p start now (checked.NotLawful 0)
 checked_none p start now is r same takes = none_named (subst (λ (x : Option CheckView). TakesHead p start now is (opening_gives x)) same takes)
 
-pub head_none : {p : PlanView} (start now : SourceView) (is : LinesView) (r : Bool) → r ≡ false → FindsHead start now is (head_gives r) → Answers p start now (checked.NotLawful 0)
-head_none start now is r same finds = none_named (subst (λ (x : Bool). FindsHead start now is (head_gives x)) same finds)
+pub head_none : {p : PlanView} (start now : SourceView) (is : LinesView) (r : Option Version) → r ≡ None → FindsHead start now is (head_gives r) → Answers p start now (checked.NotLawful 0)
+head_none start now is r same finds = none_named (subst (λ (x : Option Version). FindsHead start now is (head_gives x)) same finds)
 
 pub opened_none : (p : PlanView) (start now : SourceView) (is : LinesView) (r : Option CheckView) → r ≡ None → TakesHead p start now is (opening_gives r) → AdmitsInput p start now (admitted.NotLawful 0)
 opened_none p start now is r same takes = none_found (subst (λ (x : Option CheckView). TakesHead p start now is (opening_gives x)) same takes)

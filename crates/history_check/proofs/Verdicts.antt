@@ -1,5 +1,5 @@
 -- What the check of a history is, entry by entry.
-use Rattle.std.proofs.Common.{◌≡◌, ◌≢◌, ℕ, ◌+◌, List, [], ◌∷◌, ◌++◌, length, length-append, refl, sym, ap, subst, ◌∙◌, append_assoc, append-nil, arith, Result, Ok, inl, inr, ◌⊎◌}
+use Rattle.std.proofs.Common.{◌≡◌, ◌≢◌, ℕ, ◌+◌, List, [], ◌∷◌, ◌++◌, length, length-append, refl, sym, ap, subst, ◌∙◌, append_assoc, append-nil, arith, Result, Ok, inl, inr, ◌⊎◌, true, false}
 use Rattle.std.proofs.Common.{Option, Some, None}
 use Rattle.std.specs.Prelude.{IfSome, option_map}
 use Rattle.resource_lock.specs.GraphView.{GraphView}
@@ -20,7 +20,7 @@ use Rattle.history_reader.specs.declared.histories.EntryHead.{EntryHead}
 use Rattle.history_reader.specs.declared.lines.LineHead.{LineHead}
 use Rattle.history_reader.specs.declared.lines.LineHead.TheVariants as heads
 use Rattle.history_check.specs.CheckView.{CheckView, BeginsUnlawful, IsCheckOf, IsFresh, AdmitsNext, RefusesEntry, Passes, Stays, Adds}
-use Rattle.history_check.specs.Verdict.{IsFirstUnlawful, IsVerdict}
+use Rattle.history_check.specs.Verdict.{IsFirstUnlawful, IsVerdict, names_other_locks}
 use Rattle.history_check.specs.declared.checks.Checked.TheVariants as checked
 
 none_behind : (all admitted behind : List Entry) → all ≡ admitted ++ behind → length all ≡ length admitted → behind ≡ []
@@ -45,14 +45,21 @@ pub first_unlawful : {p : PlanView} {h : HistoryView} (c : CheckView) (n : ℕ) 
 first_unlawful {p} {h} c n is other number =
     first_behind c.graph h.entries is.front is.behind n is.entries is.refused (λ same. other (is.admitted ∙ (same ∙ sym is.count))) is.lawful (number ∙ ap (λ k. k + 1) is.admitted)
 
--- what is answered where so many were admitted as came, or fewer
-pub answers_lawful : (p : PlanView) (h : HistoryView) (c : CheckView) (n : ℕ) → n ≡ c.admitted → c.admitted ≡ c.count → IsCheckOf p h c → IsVerdict c.graph h.entries (checked.Lawful n)
-answers_lawful p h c n number all is = (all_lawful c is all, number ∙ (all ∙ is.count))
+-- what is answered where so many were admitted as came, or fewer, or where another number of locks is named
+pub answers_lawful : (p : PlanView) (h : HistoryView) (c : CheckView) (n : ℕ) → n ≡ c.admitted → c.admitted ≡ c.count → c.other_locks ≡ false → IsCheckOf p h c → IsVerdict c.graph h.locks h.entries (checked.Lawful n)
+answers_lawful p h c n number all same is = (sym is.other_locks ∙ same, all_lawful c is all, number ∙ (all ∙ is.count))
+
+pub answers_unlawful : (p : PlanView) (h : HistoryView) (c : CheckView) (n : ℕ) → n ≡ c.admitted + 1 → c.admitted ≢ c.count → c.other_locks ≡ false → IsCheckOf p h c → IsVerdict c.graph h.locks h.entries (checked.NotLawful n)
+answers_unlawful p h c n number other same is = inr (sym is.other_locks ∙ same, first_unlawful c n is other number)
+
+pub answers_other : (p : PlanView) (h : HistoryView) (c : CheckView) → c.other_locks ≡ true → IsCheckOf p h c → IsVerdict c.graph h.locks h.entries (checked.NotLawful 0)
+answers_other p h c other is = inl (sym is.other_locks ∙ other, refl)
 
 -- a check of no entry
-pub fresh_check : {p : PlanView} {h : HistoryView} (c : CheckView) → h.entries ≡ [] → IsFresh (graph_of p h.workers h.max h.parallel) c → IsCheckOf p h c
-fresh_check c none fresh = record {
+pub fresh_check : {p : PlanView} {h : HistoryView} (c : CheckView) → h.entries ≡ [] → IsFresh (graph_of p h.workers h.max h.parallel) h.locks c → IsCheckOf p h c
+fresh_check {h = h} c none fresh = record {
   graph = fresh.graph;
+  other_locks = fresh.other_locks ∙ ap (names_other_locks h.locks) (sym fresh.graph);
   count = fresh.count ∙ ap length (sym none);
   front = [];
   behind = [];
@@ -78,13 +85,14 @@ grown : (old : Option (List Entry)) (front : List Entry) (e : Entry) → IfSome 
 grown None front e kept = tt
 grown (Some es) front e kept = ap (λ xs. xs ++ e ∷ []) kept
 
-with_admitted : {p : PlanView} {h : HistoryView} {old new : CheckView} (e : Entry) → IsCheckOf p h old → new.graph ≡ old.graph → new.count ≡ old.count + 1 → AdmitsNext old new e → IsCheckOf p (with_entry h e) new
-with_admitted {p} {h} {old} {new} e is graph count a =
+with_admitted : {p : PlanView} {h : HistoryView} {old new : CheckView} (e : Entry) → IsCheckOf p h old → new.graph ≡ old.graph → new.other_locks ≡ old.other_locks → new.count ≡ old.count + 1 → AdmitsNext old new e → IsCheckOf p (with_entry h e) new
+with_admitted {p} {h} {old} {new} e is graph other count a =
     let more : List Entry = is.front ++ e ∷ [] in
     let allowed : Allowed old.graph (replay old.graph is.front) e = subst (λ (s : StateView). Allowed old.graph s e) is.state a.allowed in
     let lawful : Lawful old.graph more = lawful_from-push old.graph (opening_of old.graph) is.front e is.lawful allowed in
     record {
       graph = graph ∙ is.graph;
+      other_locks = other ∙ (is.other_locks ∙ ap (names_other_locks h.locks) (sym graph));
       count = one_longer h.entries e old.count new.count is.count count;
       front = more;
       behind = [];
@@ -99,10 +107,11 @@ with_admitted {p} {h} {old} {new} e is graph count a =
     }
 
 -- what was admitted before stays, and behind it this stands
-with_behind : {p : PlanView} {h : HistoryView} {old new : CheckView} (e : Entry) (behind : List Entry) (is : IsCheckOf p h old) → new.graph ≡ old.graph → new.count ≡ old.count + 1 → Stays old new
+with_behind : {p : PlanView} {h : HistoryView} {old new : CheckView} (e : Entry) (behind : List Entry) (is : IsCheckOf p h old) → new.graph ≡ old.graph → new.other_locks ≡ old.other_locks → new.count ≡ old.count + 1 → Stays old new
     → (with_entry h e).entries ≡ is.front ++ behind → BeginsUnlawful old.graph is.front behind → IsCheckOf p (with_entry h e) new
-with_behind {p} {h} {old} {new} e behind is graph count stays entries refused = record {
+with_behind {p} {h} {old} {new} e behind is graph other count stays entries refused = record {
   graph = graph ∙ is.graph;
+  other_locks = other ∙ (is.other_locks ∙ ap (names_other_locks h.locks) (sym graph));
   count = one_longer h.entries e old.count new.count is.count count;
   front = is.front;
   behind = behind;
@@ -114,27 +123,27 @@ with_behind {p} {h} {old} {new} e behind is graph count stays entries refused = 
   refused = subst (λ (g : GraphView). BeginsUnlawful g is.front behind) (sym graph) refused;
 }
 
-with_refused : {p : PlanView} {h : HistoryView} {old new : CheckView} (e : Entry) → IsCheckOf p h old → new.graph ≡ old.graph → new.count ≡ old.count + 1 → RefusesEntry old new e → IsCheckOf p (with_entry h e) new
-with_refused {p} {h} {old} {new} e is graph count r =
-    with_behind {new = new} e (e ∷ []) is graph count r.stays (ap (λ es. es ++ e ∷ []) (front_is_all is r.all))
+with_refused : {p : PlanView} {h : HistoryView} {old new : CheckView} (e : Entry) → IsCheckOf p h old → new.graph ≡ old.graph → new.other_locks ≡ old.other_locks → new.count ≡ old.count + 1 → RefusesEntry old new e → IsCheckOf p (with_entry h e) new
+with_refused {p} {h} {old} {new} e is graph other count r =
+    with_behind {new = new} e (e ∷ []) is graph other count r.stays (ap (λ es. es ++ e ∷ []) (front_is_all is r.all))
     (subst (λ (s : StateView). ¬ Allowed old.graph s e) is.state r.refused)
 
-with_passed : {p : PlanView} {h : HistoryView} {old new : CheckView} (e : Entry) → IsCheckOf p h old → new.graph ≡ old.graph → new.count ≡ old.count + 1 → Passes old new → IsCheckOf p (with_entry h e) new
-with_passed {p} {h} {old} {new} e is graph count a =
+with_passed : {p : PlanView} {h : HistoryView} {old new : CheckView} (e : Entry) → IsCheckOf p h old → new.graph ≡ old.graph → new.other_locks ≡ old.other_locks → new.count ≡ old.count + 1 → Passes old new → IsCheckOf p (with_entry h e) new
+with_passed {p} {h} {old} {new} e is graph other count a =
     let some : is.behind ≡ [] → ⊥ = λ none.
     let same : length h.entries ≡ length is.front = ap length (is.entries ∙ (ap (λ es. is.front ++ es) none ∙ append-nil is.front)) in
     omega (arith, same, is.count, is.admitted, a.fewer) in
-    with_behind {new = new} e (is.behind ++ e ∷ []) is graph count a.stays
+    with_behind {new = new} e (is.behind ++ e ∷ []) is graph other count a.stays
     (ap (λ es. es ++ e ∷ []) is.entries ∙ append_assoc is.front is.behind (e ∷ []))
     (behind_some old.graph is.front is.behind e some is.refused)
 
-by_case : {p : PlanView} {h : HistoryView} {old new : CheckView} (e : Entry) → IsCheckOf p h old → new.graph ≡ old.graph → new.count ≡ old.count + 1 → AdmitsNext old new e ⊎ RefusesEntry old new e ⊎ Passes old new → IsCheckOf p (with_entry h e) new
-by_case e is graph count (inl a) = with_admitted e is graph count a
-by_case e is graph count (inr (inl r)) = with_refused e is graph count r
-by_case e is graph count (inr (inr a)) = with_passed e is graph count a
+by_case : {p : PlanView} {h : HistoryView} {old new : CheckView} (e : Entry) → IsCheckOf p h old → new.graph ≡ old.graph → new.other_locks ≡ old.other_locks → new.count ≡ old.count + 1 → AdmitsNext old new e ⊎ RefusesEntry old new e ⊎ Passes old new → IsCheckOf p (with_entry h e) new
+by_case e is graph other count (inl a) = with_admitted e is graph other count a
+by_case e is graph other count (inr (inl r)) = with_refused e is graph other count r
+by_case e is graph other count (inr (inr a)) = with_passed e is graph other count a
 
 pub with_one_more : {p : PlanView} {h : HistoryView} {old new : CheckView} (e : Entry) → IsCheckOf p h old → Adds old new e → IsCheckOf p (with_entry h e) new
-with_one_more e is adds = by_case e is adds.graph adds.count adds.entry
+with_one_more e is adds = by_case e is adds.graph adds.other_locks adds.count adds.entry
 
 -- the line of an entry came
 pub entry_came : {p : PlanView} {h : HistoryView} {old new : CheckView} (count : ℕ) (line : List ℕ) (e : Entry) → count ≡ old.count → IsCheckOf p h old → IsEntryLine count line e → Adds old new e → (k : HistoryView) × AddsEntry h line k × IsCheckOf p k new

@@ -1,5 +1,5 @@
 -- What admitting the entries of a history comes to: the answer of a check, and the book of a lawful history.
-use Rattle.std.specs.Prelude.{ℕ, ◌≡◌, ◌⊎◌, List, length, Some, Result, Ok, Err}
+use Rattle.std.specs.Prelude.{ℕ, ◌≡◌, ◌⊎◌, Option, false, List, length, Some, Result, Ok, Err}
 use Rattle.resource_lock.specs.GraphView.{GraphView}
 use Rattle.lock_journal.specs.BookView.{BookView}
 use Rattle.lock_transforms.specs.Allowed.{Lawful}
@@ -10,7 +10,7 @@ use Rattle.plan_reader.specs.Graph.{graph_of}
 use Rattle.history_reader.specs.HistoryView.{HistoryView}
 use Rattle.history_check.specs.Taking.{Takes}
 use Rattle.history_check.specs.CheckView.{CheckView}
-use Rattle.history_check.specs.Verdict.{IsFirstUnlawful}
+use Rattle.history_check.specs.Verdict.{IsUnlawfulAt, names_other_locks}
 use Rattle.history_check.specs.Naming.{Names}
 use Rattle.history_check.specs.Checking.{AnswersBreak, IsJustDecided, Fails, all_given}
 use Rattle.history_check.specs.declared.admitted.Admitted.{Admitted}
@@ -31,13 +31,13 @@ pub record IsBookOf (g : GraphView) (es : List Entry) (b : BookView) : Type 0 wh
   pub entries : b.history ≡ es
   pub lawful : Lawful g es
 
-abbrev pub IsAdmission : GraphView → List Entry → Admitted → Type 0
-IsAdmission g es (admitted.Lawful b) = IsBookOf g es b
-IsAdmission g es (admitted.NotLawful n) = IsFirstUnlawful g es n
+abbrev pub IsAdmission : GraphView → Option ℕ → List Entry → Admitted → Type 0
+IsAdmission g locks es (admitted.Lawful b) = (names_other_locks locks g ≡ false) × IsBookOf g es b
+IsAdmission g locks es (admitted.NotLawful n) = IsUnlawfulAt g locks es n
 
 -- what the entries of a whole history come to, for a plan
 abbrev pub IsAdmissionOf : PlanView → HistoryView → Admitted → Type 0
-IsAdmissionOf p h a = IsAdmission (graph_of p h.workers h.max h.parallel) h.entries a
+IsAdmissionOf p h a = IsAdmission (graph_of p h.workers h.max h.parallel) h.locks h.entries a
 
 -- the answer, with the book that a check keeps its entries in where they are lawful
 abbrev pub IsFinish : CheckView → Checked → Admitted → Type 0

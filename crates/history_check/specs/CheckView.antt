@@ -1,5 +1,5 @@
 -- A check, as contracts see it, and of which history it is.
-use Rattle.std.specs.Prelude.{ℕ, ◌≡◌, ◌+◌, ◌<◌, ◌⊎◌, List, [], ◌∷◌, ◌++◌, length, Option, IfSome, option_map, Result, Ok, Err}
+use Rattle.std.specs.Prelude.{ℕ, ◌≡◌, ◌+◌, ◌<◌, ◌⊎◌, Bool, List, [], ◌∷◌, ◌++◌, length, Option, IfSome, option_map, Result, Ok, Err}
 use Rattle.resource_lock.specs.GraphView.{GraphView}
 use Rattle.resource_lock.specs.StateView.{StateView}
 use Rattle.resource_lock.specs.Opening.{opening_of}
@@ -13,28 +13,32 @@ use Rattle.history_reader.specs.declared.histories.HistoryLine.{HistoryLine}
 use Rattle.history_reader.specs.declared.histories.HistoryLine.TheVariants as lines
 use Rattle.history_reader.specs.declared.fails.TextFail.{TextFail}
 use Rattle.history_reader.specs.declared.fails.TextFail.TheVariants.{Stops, NoMemory}
+use Rattle.history_reader.specs.declared.heads.Version.{Version}
 use Rattle.history_check.specs.AdmitterView.{AdmitterView}
+use Rattle.history_check.specs.Verdict.{names_other_locks}
 
 -- the graph, the state that the entries before the first that isn't allowed lead to, how many those are, those entries where
--- they are kept, and how many entries came
+-- they are kept, how many entries came, and whether the history names another number of locks than the graph has
 pub record CheckView : Type 0 where
   pub graph : GraphView
   pub state : StateView
   pub admitted : ℕ
   pub kept : Option (List Entry)
   pub count : ℕ
+  pub other_locks : Bool
 
 -- the check whose entries this admitted
-abbrev pub check_of : AdmitterView → ℕ → CheckView
-check_of a count = record { graph = a.graph; state = a.state; admitted = a.entries; kept = a.kept; count = count }
+abbrev pub check_of : AdmitterView → ℕ → Bool → CheckView
+check_of a count other_locks = record { graph = a.graph; state = a.state; admitted = a.entries; kept = a.kept; count = count; other_locks = other_locks }
 
--- a check of no entry
-pub record IsFresh (g : GraphView) (c : CheckView) : Type 0 where
+-- a check of no entry, for a history that names this number of locks or none
+pub record IsFresh (g : GraphView) (locks : Option ℕ) (c : CheckView) : Type 0 where
   pub graph : c.graph ≡ g
   pub state : c.state ≡ opening_of g
   pub admitted : c.admitted ≡ 0
   pub kept : IfSome c.kept (λ es. es ≡ [])
   pub count : c.count ≡ 0
+  pub other_locks : c.other_locks ≡ names_other_locks locks g
 
 -- no entry, or the first of these isn't allowed
 abbrev pub BeginsUnlawful : GraphView → List Entry → List Entry → Type 0
@@ -45,6 +49,7 @@ BeginsUnlawful g admitted (e ∷ es) = ¬ Allowed g (replay g admitted) e
 -- there is none, or one that isn't allowed.
 pub record IsCheckOf (p : PlanView) (h : HistoryView) (c : CheckView) : Type 0 where
   pub graph : c.graph ≡ graph_of p h.workers h.max h.parallel
+  pub other_locks : c.other_locks ≡ names_other_locks h.locks c.graph
   pub count : c.count ≡ length h.entries
   pub front : List Entry
   pub behind : List Entry
@@ -55,10 +60,10 @@ pub record IsCheckOf (p : PlanView) (h : HistoryView) (c : CheckView) : Type 0 w
   pub kept : IfSome c.kept (λ es. es ≡ front)
   pub refused : BeginsUnlawful c.graph front behind
 
-abbrev pub OpensCheck : PlanView → List ℕ → Result CheckView TextFail → Type 0
-OpensCheck p line (Ok c) = (h : HistoryView) × Opens line h × IsCheckOf p h c × (c.count ≡ 0)
-OpensCheck p line (Err (Stops n)) = (n ≡ 0) × OpensNone line
-OpensCheck p line (Err NoMemory) = Unit {0}
+abbrev pub OpensCheck : PlanView → Version → List ℕ → Result CheckView TextFail → Type 0
+OpensCheck p v line (Ok c) = (h : HistoryView) × Opens v line h × IsCheckOf p h c × (c.count ≡ 0)
+OpensCheck p v line (Err (Stops n)) = (n ≡ 0) × OpensNone v line
+OpensCheck p v line (Err NoMemory) = Unit {0}
 
 -- what one more line makes of the history, of which the check then is
 abbrev pub CheckGoesOn : PlanView → HistoryView → List ℕ → CheckView → Result HistoryLine TextFail → Type 0
@@ -98,5 +103,6 @@ pub record Passes (old new : CheckView) : Type 0 where
 -- One more entry came.
 pub record Adds (old new : CheckView) (e : Entry) : Type 0 where
   pub graph : new.graph ≡ old.graph
+  pub other_locks : new.other_locks ≡ old.other_locks
   pub count : new.count ≡ old.count + 1
   pub entry : AdmitsNext old new e ⊎ RefusesEntry old new e ⊎ Passes old new

@@ -7,6 +7,7 @@ use Rattle.file_access.specs.SourceView.{SourceView}
 use Rattle.plan_reader.specs.PlanView.{PlanView}
 use Rattle.history_text.specs.Text.{end_text}
 use Rattle.history_reader.specs.HistoryView.{HistoryView}
+use Rattle.history_reader.specs.declared.heads.Version.{Version}
 use Rattle.history_reader.specs.Lines.{is_unbroken, first_line}
 use Rattle.history_reader.specs.Grammar.{HistoryFits, lines_of}
 use Rattle.history_check.specs.LinesView.{LinesView}
@@ -50,11 +51,11 @@ pub record EndsHistory (p : PlanView) (came : List ℕ) (c : CheckView) (a : Che
   pub history : HistoryView
   pub names : Names came history
   pub check : IsCheckOf p history c
-  pub verdict : IsVerdict c.graph history.entries a
+  pub verdict : IsVerdict c.graph history.locks history.entries a
 
--- nothing, the first line, or the lines so far of a history
+-- nothing, a first line, or the lines so far of a history
 abbrev pub IsFront : List ℕ → Type 0
-IsFront front = (front ≡ []) ⊎ (front ≡ first_line) ⊎ ((h : HistoryView) × HistoryFits h × (front ≡ lines_of h))
+IsFront front = (front ≡ []) ⊎ ((v : Version) × (front ≡ first_line v)) ⊎ ((h : HistoryView) × HistoryFits h × (front ≡ lines_of h))
 
 -- Lines are passed over, a history may have begun, and behind its last line there is no other whole one: nothing is decided.
 pub record IsUndecided (came : List ℕ) : Type 0 where
@@ -117,15 +118,15 @@ pub record HasBytesLeft (count : ℕ) (lines : LinesView) : Type 0 where
 abbrev pub FindsNone : SourceView → SourceView → Type 0
 FindsNone start now = (came : List ℕ) × Takes start now MAX_INPUT_BYTES came × Breaks (all_given came now.left) 0 × IsJustDecided came
 
-abbrev pub FindsHead : SourceView → SourceView → LinesView → Result Bool CheckFail → Type 0
-FindsHead start now lines (Ok true) = HasTaken start now lines first_line
-FindsHead start now lines (Ok false) = FindsNone start now
+abbrev pub FindsHead : SourceView → SourceView → LinesView → Result (Option Version) CheckFail → Type 0
+FindsHead start now lines (Ok (Some v)) = HasTaken start now lines (first_line v)
+FindsHead start now lines (Ok None) = FindsNone start now
 FindsHead start now lines (Err fail) = Fails start now fail
 
 -- where the first line was found, there is room
-abbrev pub FindsRoom : LinesView → Result Bool CheckFail → Type 0
-FindsRoom lines (Ok true) = HasBytesLeft 0 lines
-FindsRoom lines (Ok false) = Unit {0}
+abbrev pub FindsRoom : LinesView → Result (Option Version) CheckFail → Type 0
+FindsRoom lines (Ok (Some v)) = HasBytesLeft 0 lines
+FindsRoom lines (Ok None) = Unit {0}
 FindsRoom lines (Err fail) = Unit {0}
 
 -- The lines of a history were taken, of which the check is.

@@ -1,6 +1,7 @@
 pub mod LinesView
 pub mod Taking
 pub mod Verdict
+pub mod PlainPlans
 pub mod AdmitterView
 pub mod Reached
 pub mod CheckView

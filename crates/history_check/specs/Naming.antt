@@ -5,13 +5,14 @@ use Rattle.lock_transforms.specs.Entry.{Entry}
 use Rattle.history_text.specs.Text.{entry_text, end_text}
 use Rattle.history_text.specs.Fitting.{EntryFits}
 use Rattle.history_reader.specs.HistoryView.{HistoryView}
-use Rattle.history_reader.specs.Lines.{is_unbroken, IsLine, first_line, next_number}
+use Rattle.history_reader.specs.declared.heads.Version.{Version}
+use Rattle.history_reader.specs.Lines.{is_unbroken, IsLine, IsNoFirst, first_line, next_number}
 use Rattle.history_reader.specs.Grammar.{HistoryFits, IsHistoryText, StopsInHead, lines_of}
 
 -- a line that isn't the first of a history
 pub record IsOtherLine (line : List ℕ) : Type 0 where
   pub whole : IsLine line
-  pub other : line ≢ first_line
+  pub other : IsNoFirst line
 
 -- whole lines, none of which is the first of a history
 pub record ArePassedOver (passed : List ℕ) : Type 0 where
@@ -29,8 +30,9 @@ pub record Names (bytes : List ℕ) (h : HistoryView) : Type 0 where
 
 -- the first line of a history is in front
 pub record BeginsHistory (text : List ℕ) : Type 0 where
+  pub version : Version
   pub more : List ℕ
-  pub is : text ≡ first_line ++ more
+  pub is : text ≡ first_line version ++ more
 
 -- The text begins with these lines, but neither the line of one more entry nor the end follows, whatever is behind it.
 pub record BreaksBehind (text : List ℕ) (n : ℕ) : Type 0 where

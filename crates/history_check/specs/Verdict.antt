@@ -1,5 +1,5 @@
 -- What is to be answered of the entries of a history.
-use Rattle.std.specs.Prelude.{ℕ, ◌≡◌, ◌+◌, List, ◌∷◌, ◌++◌, length}
+use Rattle.std.specs.Prelude.{ℕ, ◌≡◌, ◌+◌, ◌⊎◌, nat_eq, not, Bool, true, false, Option, None, Some, List, ◌∷◌, ◌++◌, length}
 use Rattle.resource_lock.specs.GraphView.{GraphView}
 use Rattle.lock_transforms.specs.Entry.{Entry, replay}
 use Rattle.lock_transforms.specs.Allowed.{Allowed, Lawful}
@@ -19,10 +19,19 @@ pub record IsFirstUnlawful (g : GraphView) (es : List Entry) (n : ℕ) : Type 0 
   pub lawful : Lawful g before
   pub refused : ¬ Allowed g (replay g before) entry
 
-abbrev pub IsVerdict : GraphView → List Entry → Checked → Type 0
-IsVerdict g es (checked.Lawful n) = Lawful g es × (n ≡ length es)
-IsVerdict g es (checked.NotLawful n) = IsFirstUnlawful g es n
+-- whether a history that names this number of locks or none names another than the graph has
+abbrev pub names_other_locks : Option ℕ → GraphView → Bool
+names_other_locks None g = false
+names_other_locks (Some l) g = not (nat_eq l g.locks)
+
+-- where the history isn't lawful: 0 where it names another number of locks, and else the number of its first entry that isn't allowed
+abbrev pub IsUnlawfulAt : GraphView → Option ℕ → List Entry → ℕ → Type 0
+IsUnlawfulAt g locks es n = ((names_other_locks locks g ≡ true) × (n ≡ 0)) ⊎ ((names_other_locks locks g ≡ false) × IsFirstUnlawful g es n)
+
+abbrev pub IsVerdict : GraphView → Option ℕ → List Entry → Checked → Type 0
+IsVerdict g locks es (checked.Lawful n) = (names_other_locks locks g ≡ false) × Lawful g es × (n ≡ length es)
+IsVerdict g locks es (checked.NotLawful n) = IsUnlawfulAt g locks es n
 
 -- what is to be answered of a whole history, for a plan
 abbrev pub IsAnswerTo : PlanView → HistoryView → Checked → Type 0
-IsAnswerTo p h a = IsVerdict (graph_of p h.workers h.max h.parallel) h.entries a
+IsAnswerTo p h a = IsVerdict (graph_of p h.workers h.max h.parallel) h.locks h.entries a

@@ -11,7 +11,8 @@ pub enum Admitted {
     /// All entries are lawful, and this is their book.
     Lawful(Book),
     /// The entry of this number is the first that isn't allowed after those before it. Of a text that stops
-    /// being a history it is the number at which it stops.
+    /// being a history it is the number at which it stops. It is 0 where the history names another number of
+    /// locks than the plan's graph has.
     NotLawful(u64),
 }
 

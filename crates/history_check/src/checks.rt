@@ -9,7 +9,9 @@ ghost use Rattle.history_check.specs.Verdict.{IsVerdict};
 use crate::admitted::Admitted;
 use crate::admitters::Admitter;
 use crate::entry_checks::EntryCheck;
-use history_reader::{EntryHead, History, HistoryLine, LineHead, TextFail, read_line_into};
+use history_reader::{
+    EntryHead, History, HistoryLine, LineHead, TextFail, Version, read_line_into,
+};
 use lock_journal::Book;
 use plan_reader::Plan;
 use resource_lock::Change;
@@ -22,7 +24,8 @@ pub enum Checked {
     /// All of so many entries are lawful.
     Lawful(u64),
     /// The entry of this number is the first that isn't allowed after those before it. Of a text that stops
-    /// being a history it is the number at which it stops.
+    /// being a history it is the number at which it stops. It is 0 where the history names another number of
+    /// locks than the plan's graph has.
     NotLawful(u64),
 }
 
@@ -45,11 +48,16 @@ impl<A: Admitter> Model for HistoryCheck<A> {
 
 impl<A: Admitter> HistoryCheck<A> {
     /// A check of a history without entries, by its second line, which comes with its line end. Stops comes exactly
-    /// where the line isn't one, at 0.
-    pub fn opening(alloc: Global, plan: &Plan, line: &[u8]) -> Result<HistoryCheck<A>, TextFail>
-        ensures { OpensCheck plan.now line.now result }
+    /// where the line isn't one of this version, at 0.
+    pub fn opening(
+        alloc: Global,
+        plan: &Plan,
+        version: Version,
+        line: &[u8],
+    ) -> Result<HistoryCheck<A>, TextFail>
+        ensures { OpensCheck plan.now version line.now result }
     {
-        let Some(opened) = History::opening(alloc, line) else {
+        let Some(opened) = History::opening(alloc, version, line) else {
             return Err(TextFail::Stops(0));
         };
         let entries = EntryCheck::opening(
@@ -58,6 +66,7 @@ impl<A: Admitter> HistoryCheck<A> {
             opened.workers,
             opened.max,
             opened.parallel,
+            opened.locks,
         )?;
         Ok(HistoryCheck {
             entries,
@@ -92,7 +101,7 @@ impl<A: Admitter> HistoryCheck<A> {
 
     /// What the check answers of the history so far.
     pub fn answer(&self) -> Checked
-        ensures { (p : PlanView) (h : HistoryView) → IsCheckOf p h self.now → IsVerdict self.now.graph h.entries result }
+        ensures { (p : PlanView) (h : HistoryView) → IsCheckOf p h self.now → IsVerdict self.now.graph h.locks h.entries result }
     {
         self.entries.answer()
     }

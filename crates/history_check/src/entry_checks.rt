@@ -6,7 +6,7 @@ ghost use Rattle.history_text.specs.Fitting.{HeadFits};
 ghost use Rattle.history_reader.specs.HistoryView.{HistoryView};
 ghost use Rattle.history_check.specs.CheckView.{IsCheckOf, IsFresh, Adds};
 ghost use Rattle.history_check.specs.Admitting.{IsFinish};
-ghost use Rattle.history_check.specs.Verdict.{IsVerdict};
+ghost use Rattle.history_check.specs.Verdict.{IsVerdict, names_other_locks};
 
 use crate::admitted::Admitted;
 use crate::admitters::Admitter;
@@ -14,7 +14,7 @@ use crate::checks::Checked;
 use lock_journal::Book;
 use lock_transforms::Kind;
 use plan_reader::Plan;
-use resource_lock::{Change, WorkerId};
+use resource_lock::{Change, Graph, WorkerId};
 use std::alloc::{AllocError, Global};
 use std::marker::Model;
 
@@ -23,6 +23,8 @@ use std::marker::Model;
 pub(crate) struct EntryCheck<A: Admitter> {
     admitter: A,
     count: u64,
+    // Whether the history names another number of locks than the graph has.
+    other_locks: bool,
 }
 
 impl<A: Admitter> Model for EntryCheck<A> {
@@ -31,26 +33,32 @@ impl<A: Admitter> Model for EntryCheck<A> {
 
     ghost Value = { CheckView };
 
-    ghost view = { λ c. check_of (A.seen c.admitter) c.count };
+    ghost view = { λ c. check_of (A.seen c.admitter) c.count c.other_locks };
 
     ghost invariant = { λ c. (A.seen c.admitter).entries ≤ c.count };
 }
 
 impl<A: Admitter> EntryCheck<A> {
-    /// The check of a history without entries, for so many workers and leases.
+    /// The check of a history without entries, for so many workers and leases, that names a number of locks or none.
     pub(crate) fn opening(
         alloc: Global,
         plan: &Plan,
         workers: u32,
         max: u32,
         parallel: bool,
+        locks: Option<u32>,
     ) -> Result<EntryCheck<A>, AllocError>
-        requires { HeadFits workers max }
-        ensures { IfOk result (IsFresh (graph_of plan.now workers max parallel)) }
+        requires { HeadFits workers max locks }
+        ensures { IfOk result (IsFresh (graph_of plan.now workers max parallel) locks) }
     {
         let graph = plan.graph(alloc, workers, max, parallel)?;
+        let other_locks = names_other_locks(locks, &graph);
         let admitter = A::open(alloc, graph)?;
-        Ok(EntryCheck { admitter, count: 0 })
+        Ok(EntryCheck {
+            admitter,
+            count: 0,
+            other_locks,
+        })
     }
 
     /// How many entries came.
@@ -80,10 +88,12 @@ impl<A: Admitter> EntryCheck<A> {
 
     /// What the check answers of the entries so far.
     pub(crate) fn answer(&self) -> Checked
-        ensures { (p : PlanView) (h : HistoryView) → IsCheckOf p h self.now → IsVerdict self.now.graph h.entries result }
+        ensures { (p : PlanView) (h : HistoryView) → IsCheckOf p h self.now → IsVerdict self.now.graph h.locks h.entries result }
     {
         let admitted = self.admitter.admitted();
-        if admitted == self.count {
+        if self.other_locks {
+            Checked::NotLawful(0)
+        } else if admitted == self.count {
             Checked::Lawful(admitted)
         } else {
             Checked::NotLawful(admitted + 1)
@@ -100,5 +110,15 @@ impl EntryCheck<Book> {
             Checked::Lawful(_) => Admitted::Lawful(self.admitter),
             Checked::NotLawful(number) => Admitted::NotLawful(number),
         }
+    }
+}
+
+// Whether a history that names this number of locks or none names another than the graph has.
+fn names_other_locks(locks: Option<u32>, graph: &Graph) -> bool
+    ensures { result ≡ names_other_locks locks graph.now }
+{
+    match locks {
+        Some(locks) => locks != graph.locks(),
+        None => false,
     }
 }

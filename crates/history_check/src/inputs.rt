@@ -14,7 +14,7 @@ use crate::fails::CheckFail;
 use crate::lines::Lines;
 use crate::reached::Reached;
 use file_access::Source;
-use history_reader::{HistoryLine, TextFail, is_first_line};
+use history_reader::{HistoryLine, TextFail, Version, read_version};
 use lock_journal::Book;
 use plan_reader::Plan;
 use std::alloc::Global;
@@ -27,10 +27,11 @@ const LEAST_HISTORY: usize = 16;
 
 /// Checks the history that stands in an input against a plan.
 ///
-/// Lines before the first that is `history 1` are passed over. The text is taken up to its `end` line, and what
+/// Lines before the first that is `history 1` or `history 2` are passed over. The text is taken up to its `end` line, and what
 /// follows is left in the source. A text that isn't at its end after `MAX_INPUT_BYTES`, of which the lines that
 /// are passed over are a part, stops being a history there. NotLawful comes where the text stops being a history,
-/// with the number at which it does, and else where an entry isn't allowed. Whatever is answered, nothing was
+/// with the number at which it does, with 0 where it names another number of locks than the plan's graph has, and else
+/// where an entry isn't allowed. Whatever is answered, nothing was
 /// decided before the last bytes that were taken, at most `MAX_PIECE`.
 pub fn check_input<I: Source>(
     alloc: Global,
@@ -41,10 +42,9 @@ pub fn check_input<I: Source>(
 {
     let mut lines = Lines::new(alloc, MAX_INPUT_BYTES);
     let found = find_head(input, &mut lines)?;
-    if found {
-        check_behind(alloc, plan, input, &mut lines)
-    } else {
-        Ok(Checked::NotLawful(0))
+    match found {
+        Some(version) => check_behind(alloc, plan, version, input, &mut lines),
+        None => Ok(Checked::NotLawful(0)),
     }
 }
 
@@ -58,10 +58,9 @@ pub fn admit_input<I: Source>(
 {
     let mut lines = Lines::new(alloc, MAX_INPUT_BYTES);
     let found = find_head(input, &mut lines)?;
-    if found {
-        admit_behind(alloc, plan, input, &mut lines)
-    } else {
-        Ok(Admitted::NotLawful(0))
+    match found {
+        Some(version) => admit_behind(alloc, plan, version, input, &mut lines),
+        None => Ok(Admitted::NotLawful(0)),
     }
 }
 
@@ -69,13 +68,14 @@ pub fn admit_input<I: Source>(
 fn check_behind<I: Source>(
     alloc: Global,
     plan: &Plan,
+    version: Version,
     input: &mut I,
     lines: &mut Lines,
 ) -> Result<Checked, CheckFail>
     requires { HasBytesLeft 0 lines.old }
-    ensures { (start : SourceView) → HasTaken start (I.seen input.old) lines.old first_line → HasChecked plan.now start (I.seen input.new) result }
+    ensures { (start : SourceView) → HasTaken start (I.seen input.old) lines.old (first_line version) → HasChecked plan.now start (I.seen input.new) result }
 {
-    let opened = open_check::<Reached, I>(alloc, plan, input, lines)?;
+    let opened = open_check::<Reached, I>(alloc, plan, version, input, lines)?;
     match opened {
         None => Ok(Checked::NotLawful(0)),
         Some(mut check) => check_lines(alloc, &mut check, input, lines),
@@ -86,13 +86,14 @@ fn check_behind<I: Source>(
 fn admit_behind<I: Source>(
     alloc: Global,
     plan: &Plan,
+    version: Version,
     input: &mut I,
     lines: &mut Lines,
 ) -> Result<Admitted, CheckFail>
     requires { HasBytesLeft 0 lines.old }
-    ensures { (start : SourceView) → HasTaken start (I.seen input.old) lines.old first_line → HasAdmitted plan.now start (I.seen input.new) result }
+    ensures { (start : SourceView) → HasTaken start (I.seen input.old) lines.old (first_line version) → HasAdmitted plan.now start (I.seen input.new) result }
 {
-    let opened = open_check::<Book, I>(alloc, plan, input, lines)?;
+    let opened = open_check::<Book, I>(alloc, plan, version, input, lines)?;
     match opened {
         None => Ok(Admitted::NotLawful(0)),
         Some(mut check) => {
@@ -102,8 +103,8 @@ fn admit_behind<I: Source>(
     }
 }
 
-// Takes the lines up to the first that is the first of a history, and answers whether there is one.
-fn find_head<I: Source>(input: &mut I, lines: &mut Lines) -> Result<bool, CheckFail>
+// Takes the lines up to the first that is the first of a history, and answers which version it begins, or that there is none.
+fn find_head<I: Source>(input: &mut I, lines: &mut Lines) -> Result<Option<Version>, CheckFail>
     requires none { lines.old.ahead ≡ [] }
     requires room { lines.old.room ≡ MAX_INPUT_BYTES }
     ensures room { FindsRoom lines.new result }
@@ -111,11 +112,11 @@ fn find_head<I: Source>(input: &mut I, lines: &mut Lines) -> Result<bool, CheckF
 {
     loop {
         let is_whole = lines.take_line(input, LEAST_HISTORY)?;
-        if is_first_line(lines.line()) {
-            return Ok(true);
+        if let Some(version) = read_version(lines.line()) {
+            return Ok(Some(version));
         }
         if !is_whole {
-            return Ok(false);
+            return Ok(None);
         }
     }
 }
@@ -124,16 +125,17 @@ fn find_head<I: Source>(input: &mut I, lines: &mut Lines) -> Result<bool, CheckF
 fn open_check<A: Admitter, I: Source>(
     alloc: Global,
     plan: &Plan,
+    version: Version,
     input: &mut I,
     lines: &mut Lines,
 ) -> Result<Option<HistoryCheck<A>>, CheckFail>
     requires { HasBytesLeft 0 lines.old }
     ensures count { OpensWithin lines.new result }
-    ensures head { (start : SourceView) → HasTaken start (I.seen input.old) lines.old first_line
+    ensures head { (start : SourceView) → HasTaken start (I.seen input.old) lines.old (first_line version)
         → TakesHead plan.now start (I.seen input.new) lines.new result }
 {
     lines.take_line(input, end_length(0))?;
-    match HistoryCheck::opening(alloc, plan, lines.line()) {
+    match HistoryCheck::opening(alloc, plan, version, lines.line()) {
         Ok(check) => Ok(Some(check)),
         Err(TextFail::Stops(_)) => Ok(None),
         Err(TextFail::NoMemory) => Err(CheckFail::NoMemory),

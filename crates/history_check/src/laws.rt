@@ -1,6 +1,10 @@
-ghost use Rattle.std.specs.Prelude.{ℕ, ◌≡◌, ◌<◌, ◌≤◌, List, ◌++◌, length, take, Option, Some, Ok};
+ghost use Rattle.std.specs.Prelude.{ℕ, ◌≡◌, ◌<◌, ◌≤◌, ◌↔◌, Bool, List, ◌++◌, length, take, Option, Some, Ok};
 ghost use Rattle.std.specs.Io.KnownBytes.{Consumes};
 ghost use Rattle.file_access.specs.SourceView.{SourceView};
+ghost use Rattle.history_laws.specs.PlainPlans.{NameLocksBelow, WasLawful};
+ghost use Rattle.lock_transforms.specs.Allowed.{Lawful};
+ghost use Rattle.lock_transforms.specs.Entry.{Entry};
+ghost use Rattle.plan_reader.specs.Graph.{graph_of};
 ghost use Rattle.plan_reader.specs.PlanView.{PlanView};
 ghost use Rattle.history_reader.specs.HistoryView.{HistoryView};
 ghost use Rattle.history_reader.specs.Lines.{IsLine, IsWrongAfter};
@@ -11,7 +15,10 @@ ghost use Rattle.history_check.specs.declared.inputs.TheConstants.{MAX_INPUT_BYT
 ghost use Rattle.history_check.specs.declared.lines.TheConstants.{MAX_PIECE};
 ghost use Rattle.history_check.specs.Checking.{HasChecked, IsAnswer, IsJustDecided, all_given};
 ghost use Rattle.history_check.specs.Naming.{ArePassedOver, Names};
+ghost use Rattle.history_check.specs.PlainPlans.{IsPlain, graph_before};
 ghost use Rattle.history_check.specs.Verdict.{IsAnswerTo, IsVerdict};
+
+use history_laws::plain_histories_are_lawful_as_without_all_projects;
 
 /// Of the bytes that may be taken of an input there is one answer at most for a plan.
 pub fn an_input_has_one_answer()
@@ -29,7 +36,7 @@ pub fn the_first_bytes_may_be_taken()
 /// of an input that begins with its text, whatever follows.
 pub fn whole_and_line_by_line_agree()
     ensures lines { (p : PlanView) (h : HistoryView) (c : CheckView) (whole by_line : Checked) → IsAnswerTo p h whole → IsCheckOf p h c
-        → IsVerdict c.graph h.entries by_line → whole ≡ by_line }
+        → IsVerdict c.graph h.locks h.entries by_line → whole ≡ by_line }
     ensures input { (p : PlanView) (h : HistoryView) (bytes more : List ℕ) (old new : SourceView) (whole by_line : Checked)
         → IsAnswerTo p h whole → Names bytes h → length bytes ≤ MAX_INPUT_BYTES → old.left ≡ Some (bytes ++ more)
         → HasChecked p old new (Ok by_line) → whole ≡ by_line }
@@ -40,3 +47,13 @@ pub fn little_is_taken_behind_a_wrong_line()
     ensures { (h : HistoryView) (passed line more : List ℕ) → ArePassedOver passed → HistoryFits h → IsLine line → IsWrongAfter h line
         → IsJustDecided (passed ++ lines_of h ++ line ++ more) → length more < MAX_PIECE }
 {}
+
+/// For a plan in which no task asks for all projects, entries that name no lock but the projects' are lawful exactly where they were
+/// before there was an all-projects lock: by the graph that has none, in which a lock is kept by its owner alone.
+pub fn plain_plans_are_checked_as_before()
+    ensures { (p : PlanView) (workers max_leases : ℕ) (parallel : Bool) (es : List Entry) → IsPlain p
+        → NameLocksBelow (graph_before p workers max_leases parallel).locks es
+        → Lawful (graph_of p workers max_leases parallel) es ↔ WasLawful (graph_before p workers max_leases parallel) es }
+{
+    plain_histories_are_lawful_as_without_all_projects();
+}

@@ -18,8 +18,8 @@ pub use checks::{Checked, HistoryCheck};
 pub use fails::CheckFail;
 pub use inputs::{MAX_INPUT_BYTES, admit_input, check_input};
 pub use laws::{
-    an_input_has_one_answer, little_is_taken_behind_a_wrong_line, the_first_bytes_may_be_taken,
-    whole_and_line_by_line_agree,
+    an_input_has_one_answer, little_is_taken_behind_a_wrong_line,
+    plain_plans_are_checked_as_before, the_first_bytes_may_be_taken, whole_and_line_by_line_agree,
 };
 pub use lines::MAX_PIECE;
 pub use reached::Reached;

@@ -18,7 +18,7 @@ use std::alloc::{AllocError, Global};
 /// Admits the entries of a whole history one by one, as `HistoryCheck` does. It is for 1 to 32 workers and as
 /// many leases, as each history is that was read.
 pub fn admit(alloc: Global, plan: &Plan, history: &History) -> Result<Admitted, AllocError>
-    requires { HeadFits history.now.workers history.now.max }
+    requires { HeadFits history.now.workers history.now.max history.now.locks }
     ensures { IfOk result (IsAdmissionOf plan.now (history_view history.now)) }
 {
     let check = check_entries::<Book>(alloc, plan, history)?;
@@ -28,7 +28,7 @@ pub fn admit(alloc: Global, plan: &Plan, history: &History) -> Result<Admitted, 
 
 /// Checks a whole history against a plan. It is for the same histories.
 pub fn check(alloc: Global, plan: &Plan, history: &History) -> Result<Checked, AllocError>
-    requires { HeadFits history.now.workers history.now.max }
+    requires { HeadFits history.now.workers history.now.max history.now.locks }
     ensures { IfOk result (IsAnswerTo plan.now (history_view history.now)) }
 {
     let check = check_entries::<Reached>(alloc, plan, history)?;
@@ -41,7 +41,7 @@ fn check_entries<A: Admitter>(
     plan: &Plan,
     history: &History,
 ) -> Result<EntryCheck<A>, AllocError>
-    requires { HeadFits history.now.workers history.now.max }
+    requires { HeadFits history.now.workers history.now.max history.now.locks }
     ensures { IfOk result (IsCheckOf plan.now (history_view history.now)) }
 {
     let mut check = EntryCheck::opening(
@@ -50,6 +50,7 @@ fn check_entries<A: Admitter>(
         history.workers,
         history.max,
         history.parallel,
+        history.locks,
     )?;
     for entry in &history.entries {
         check.admit(entry.worker, &entry.kind, entry.changes.as_deref())?;

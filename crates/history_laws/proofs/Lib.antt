@@ -21,3 +21,4 @@ pub mod InTurn
 pub mod WorkedRows
 pub mod ByNumber
 pub mod Queue
+mod PlainPlans

@@ -18,6 +18,7 @@ use Rattle.lock_transforms.specs.Allowed.{Allowed, IsKindOf, IsListOf, Lawful}
 use Rattle.lock_transforms.specs.Entry.{entry}
 use Rattle.lock_transforms.specs.Table.{condition, list_of, is_enabled}
 use Rattle.history_laws.specs.WorkedRows.{one_task, two_tasks, no_tasks, first_run, run_that_reacquires, run_that_releases, run_that_fetches, run_that_fails, locks_by_turns, start_too_early, IsWorkedRun}
+use Rattle.history_laws.specs.WorkedRows.{all_beside_another, all_by_turns, another_beside_all, first_run_of_all, one_task_of_all, two_projects}
 
 one : {X : Type 0} (P : X → Type 0) (x : X) → P x → All P (x ∷ [])
 one P x p = All-cons P x [] p (All-nil P)
@@ -29,6 +30,7 @@ one_task_fits retention fetch items some few = record {
   some_lease = omega arith;
   few_leases = omega arith;
   few_locks = omega arith;
+  all_within = tt;
   few_tasks = omega arith;
   few_units = bounded fetch;
   few_actions = one (λ t. t.actions ≤ 8) _ (omega arith);
@@ -135,6 +137,7 @@ two_tasks_fit = record {
   some_lease = omega arith;
   few_leases = omega arith;
   few_locks = omega arith;
+  all_within = tt;
   few_tasks = omega arith;
   few_units = omega arith;
   few_actions = two (λ t. t.actions ≤ 8) _ _ (omega arith) (omega arith);
@@ -166,3 +169,55 @@ locks_by_turns_lawful =
 
 pub start_too_early_unlawful : Lawful two_tasks start_too_early → ⊥
 start_too_early_unlawful lawful = absurd (cc lawful.0.finished.condition)
+
+one_task_of_all_fits : Fits one_task_of_all
+one_task_of_all_fits = record {
+  some_worker = omega arith;
+  few_workers = omega arith;
+  some_lease = omega arith;
+  few_leases = omega arith;
+  few_locks = omega arith;
+  all_within = omega arith;
+  few_tasks = omega arith;
+  few_units = omega arith;
+  few_actions = one (λ t. t.actions ≤ 8) _ (omega arith);
+  few_after = one (λ t. length t.after ≤ 64) _ (omega arith);
+  locks_within = one (λ t. t.lock.0 < 2) _ (omega arith);
+  after_within = one (λ t. All (λ p. p < 1) t.after) _ (All-nil (λ p. p < 1));
+  actions_follow = (refl, refl);
+  units_follow = (refl, refl);
+  own_task = own;
+  some_item = one (λ a. 0 < a.items) _ (omega arith);
+}
+  where
+    own : (a : ℕ) → a < 1 → IsActionOf one_task_of_all (action_of one_task_of_all a).task a
+    own zero lt = (omega arith, omega arith)
+    own (suc a) lt = absurd (omega arith)
+
+lawful_first_run_of_all : Lawful one_task_of_all first_run_of_all
+lawful_first_run_of_all =
+    both (by_list (omega arith) (omega arith) refl refl (omega arith))
+    (both (by_list (omega arith) (omega arith) refl refl (omega arith))
+    (both (by_list (omega arith) (omega arith) refl refl (omega arith))
+    (both (by_list (omega arith) (omega arith) refl refl (omega arith))
+    (both (by_list (omega arith) (omega arith, λ e. cc e) refl refl (omega arith))
+    (both (by_list (omega arith) (omega arith) refl refl (omega arith))
+    (both (by_list (omega arith) (omega arith) refl refl (omega arith)) tt))))))
+
+pub first_run_of_all_is : IsWorkedRun one_task_of_all first_run_of_all (Passed ∷ []) (Number 3 ∷ [])
+first_run_of_all_is = record { fits = one_task_of_all_fits; lawful = lawful_first_run_of_all; tasks = refl; units = refl; owners = refl }
+
+pub all_by_turns_lawful : Lawful two_projects all_by_turns
+all_by_turns_lawful =
+    both record { worker = omega arith; kind = tt; finished = record { condition = refl; list = refl; named = omega arith; possible = refl } }
+    (both record { worker = omega arith; kind = tt; finished = record { condition = refl; list = refl; named = omega arith; possible = refl } }
+    (both record { worker = omega arith; kind = tt; finished = tt }
+    (both (by_list (omega arith) tt refl refl (omega arith))
+    (both record { worker = omega arith; kind = tt; finished = record { condition = refl; list = refl; named = omega arith; possible = refl } }
+    tt))))
+
+pub all_beside_another_unlawful : Lawful two_projects all_beside_another → ⊥
+all_beside_another_unlawful lawful = absurd (cc lawful.1.0.finished.possible)
+
+pub another_beside_all_unlawful : Lawful two_projects another_beside_all → ⊥
+another_beside_all_unlawful lawful = absurd (cc lawful.1.0.finished.possible)

@@ -9,3 +9,4 @@ pub mod Own
 pub mod WorkedRows
 pub mod ByNumber
 pub mod OwnChanges
+pub mod PlainPlans

@@ -1,5 +1,5 @@
 -- Histories worked out by hand, entry by entry.
-use Rattle.std.specs.Prelude.{ℕ, ◌≡◌, ◌+◌, Bool, false, List, [], ◌∷◌, map, None, Some}
+use Rattle.std.specs.Prelude.{ℕ, ◌≡◌, ◌+◌, Bool, false, List, [], ◌∷◌, map, None, Some, replicate}
 use Rattle.std.specs.List.{range_with_len}
 use Rattle.resource_lock.specs.declared.changes.Change.{Change}
 use Rattle.resource_lock.specs.declared.changes.Change.TheVariants.{Lock, Unlock, Take, Give, Move, Park as ParkLock, Unpark, Enter, Leave}
@@ -22,9 +22,15 @@ use Rattle.lock_transforms.specs.Allowed.{Lawful}
 use Rattle.lock_journal.specs.Closings.{outcome_in}
 use Rattle.lock_transforms.specs.Entry.{Entry, entry, replay}
 
--- the only lock, and two workers
+-- locks and workers by number
 abbrev pub lock_zero : LockId
 lock_zero = record { 0 = 0 }
+
+abbrev pub lock_one : LockId
+lock_one = record { 0 = 1 }
+
+abbrev pub lock_two : LockId
+lock_two = record { 0 = 2 }
 
 abbrev pub worker_zero : WorkerId
 worker_zero = record { 0 = 0 }
@@ -55,6 +61,7 @@ closed u outcome = record { unit = u; outcome = outcome }
 abbrev pub one_task : Retention → Bool → ℕ → GraphView
 one_task retention fetch items = record {
   locks = 1;
+  all = None;
   workers = 1;
   max_leases = 1;
   units = items + fetches fetch;
@@ -66,6 +73,7 @@ one_task retention fetch items = record {
 abbrev pub two_tasks : GraphView
 two_tasks = record {
   locks = 1;
+  all = None;
   workers = 1;
   max_leases = 1;
   units = 2;
@@ -77,7 +85,7 @@ two_tasks = record {
 
 -- two workers, two leases and a lock, and no task
 abbrev pub no_tasks : GraphView
-no_tasks = record { locks = 1; workers = 2; max_leases = 2; units = 0; tasks = []; actions = [] }
+no_tasks = record { locks = 1; all = None; workers = 2; max_leases = 2; units = 0; tasks = []; actions = [] }
 
 -- one item
 abbrev pub first_run : List Entry
@@ -158,10 +166,58 @@ locks_by_turns =
 abbrev pub start_too_early : List Entry
 start_too_early = finished (Start 1) (Lock lock_zero ∷ Take ∷ task 1 Waiting running ∷ []) ∷ []
 
--- The graph fits, the history is lawful, and in the end the tasks have these marks, the units these outcomes, and nobody owns the lock.
+-- the same run of a task that asks for all projects: its lock is the last of two
+abbrev pub one_task_of_all : GraphView
+one_task_of_all = record {
+  locks = 2;
+  all = Some lock_one;
+  workers = 1;
+  max_leases = 1;
+  units = 1;
+  tasks = record { lock = lock_one; after = []; first_action = 0; actions = 1 } ∷ [];
+  actions = record { task = 0; retention = Retain; fetch = false; first_unit = 0; items = 1 } ∷ [];
+}
+
+abbrev pub first_run_of_all : List Entry
+first_run_of_all =
+    finished (Start 0) (Lock lock_one ∷ Take ∷ task 0 Waiting running ∷ [])
+    ∷ finished (Submit 0) (action 0 Waiting Queued ∷ unit 0 Waiting Queued ∷ [])
+    ∷ finished (Park 0) (Give ∷ action 0 Queued running ∷ [])
+    ∷ finished (Claim 0) (Take ∷ unit 0 Queued running ∷ [])
+    ∷ finished (Close (closed 0 (Number 3))) (unit 0 running Passed ∷ Give ∷ [])
+    ∷ finished (Resume 0) (Take ∷ action 0 running Passed ∷ [])
+    ∷ finished (End 0) (task 0 running Passed ∷ Unlock lock_one ∷ Give ∷ [])
+    ∷ []
+
+-- two workers, two leases, the locks of two projects, and the all-projects lock
+abbrev pub two_projects : GraphView
+two_projects = record { locks = 3; all = Some lock_two; workers = 2; max_leases = 2; units = 0; tasks = []; actions = [] }
+
+abbrev pub by_worker_one : List Change → Entry
+by_worker_one changes = entry worker_one Acquire (Some changes)
+
+-- A worker that owns a lock takes the all-projects lock too, gives it back, and another takes a lock then.
+abbrev pub all_by_turns : List Entry
+all_by_turns =
+    finished Acquire (Lock lock_zero ∷ Take ∷ [])
+    ∷ finished Acquire (Lock lock_two ∷ [])
+    ∷ entry worker_one Acquire None
+    ∷ finished HandBack (Unlock lock_zero ∷ Unlock lock_two ∷ Give ∷ [])
+    ∷ by_worker_one (Lock lock_one ∷ Take ∷ [])
+    ∷ []
+
+-- a worker takes the all-projects lock while another owns a lock
+abbrev pub all_beside_another : List Entry
+all_beside_another = finished Acquire (Lock lock_zero ∷ Take ∷ []) ∷ by_worker_one (Lock lock_two ∷ Take ∷ []) ∷ []
+
+-- a worker takes a lock while another owns the all-projects lock
+abbrev pub another_beside_all : List Entry
+another_beside_all = finished Acquire (Lock lock_two ∷ Take ∷ []) ∷ by_worker_one (Lock lock_one ∷ Take ∷ []) ∷ []
+
+-- The graph fits, the history is lawful, and in the end the tasks have these marks, the units these outcomes, and nobody owns a lock.
 pub record IsWorkedRun (g : GraphView) (h : List Entry) (marks : List Mark) (outcomes : List Outcome) : Type 0 where
   pub fits : Fits g
   pub lawful : Lawful g h
   pub tasks : (replay g h).tasks ≡ marks
   pub units : map (outcome_in h) (range_with_len 0 g.units) ≡ outcomes
-  pub owners : (replay g h).owners ≡ None ∷ []
+  pub owners : (replay g h).owners ≡ replicate g.locks None

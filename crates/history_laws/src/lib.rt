@@ -29,11 +29,13 @@ ghost use Rattle.history_laws.specs.Marks.{HasEnded, IsEnded};
 ghost use Rattle.history_laws.specs.Outcomes.{AreRanks, mark_by, task_outcome, task_passes, unit_outcome};
 ghost use Rattle.history_laws.specs.Own.{NamesWorkers, NoneOf, SameFor, claimed};
 ghost use Rattle.history_laws.specs.OwnChanges.{after_all, claimed_after, locks_after};
+ghost use Rattle.history_laws.specs.PlainPlans.{NameLocksBelow, WasLawful, with_all};
 ghost use Rattle.history_laws.specs.Runs.{GivesClosedOutcomes, ComesTo, IsOrderly};
 ghost use Rattle.history_laws.specs.WorkedRows.{IsWorkedRun, first_run, locks_by_turns, no_tasks, one_task, run_that_fails, run_that_fetches};
 ghost use Rattle.history_laws.specs.WorkedRows.{run_that_reacquires, run_that_releases, start_too_early, two_tasks};
+ghost use Rattle.history_laws.specs.WorkedRows.{all_beside_another, all_by_turns, another_beside_all, first_run_of_all, one_task_of_all, two_projects};
 ghost use Rattle.std.specs.List.{All, AllByRecursion, list_all, range_with_len};
-ghost use Rattle.std.specs.Prelude.{List, [], length, map, false, true, ◌+◌, ◌++◌, ◌<◌, ◌≡◌, ◌≢◌, ◌∷◌, ℕ};
+ghost use Rattle.std.specs.Prelude.{List, [], length, map, false, true, ◌+◌, ◌++◌, ◌<◌, ◌↔◌, ◌≡◌, ◌≢◌, ◌∷◌, ℕ};
 
 /// Where a lawful history brought every task to its end, every action and unit has ended too, marks and outcomes are
 /// those of the plan alone, and each task was started or skipped once and each item claimed and closed once.
@@ -147,7 +149,8 @@ pub fn skipping_leaves_later_actions()
         (ActionOf (first + n)) }
 {}
 
-/// Histories worked out by hand: a task with one item, retentions that release the project lock, a fetch, a missing file, and locks taken by turns.
+/// Histories worked out by hand: a task with one item, the same for all projects, retentions that release the project lock, a fetch, a
+/// missing file, and locks taken by turns.
 pub fn worked_histories_are_lawful()
     ensures first_run { IsWorkedRun (one_task Retain false 1) first_run (Passed ∷ []) (Number 3 ∷ []) }
     ensures reacquires { IsWorkedRun (one_task ReleaseAndReacquire false 2) run_that_reacquires (Passed ∷ []) (Number 3 ∷ Number 14 ∷ []) }
@@ -155,6 +158,20 @@ pub fn worked_histories_are_lawful()
     ensures fetches { IsWorkedRun (one_task Retain true 1) run_that_fetches (Passed ∷ []) (Number 14 ∷ Number 3 ∷ []) }
     ensures fails { IsWorkedRun two_tasks run_that_fails (Failed ∷ Skipped ∷ []) (NotThere ∷ NotRun ∷ []) }
     ensures by_turns { Lawful no_tasks locks_by_turns }
+    ensures of_all { IsWorkedRun one_task_of_all first_run_of_all (Passed ∷ []) (Number 3 ∷ []) }
+    ensures all_by_turns { Lawful two_projects all_by_turns }
+{}
+
+/// While a worker owns the all-projects lock no other takes a lock, and none takes it while another owns a lock.
+pub fn owners_of_all_projects_own_alone()
+    ensures beside { Lawful two_projects all_beside_another → ⊥ }
+    ensures another { Lawful two_projects another_beside_all → ⊥ }
+{}
+
+/// Where no entry names the all-projects lock, which is the last of a graph's, the history is lawful exactly where it is by the rule
+/// of the graph without that lock, in which a lock is kept by its owner alone.
+pub fn plain_histories_are_lawful_as_without_all_projects()
+    ensures { (g : GraphView) (h : List Entry) → NameLocksBelow g.locks h → Lawful (with_all g) h ↔ WasLawful g h }
 {}
 
 /// A task can't start before those that it comes after have passed.

@@ -102,5 +102,5 @@ entries_fit g s (e ∷ es) fits belongs lawful fit = (
 pub history_fits : (g : GraphView) (es : List Entry) → Fits g → Lawful g es → All (λ e. IsFitKind e.kind) es → EntriesFit es
 history_fits g es fits lawful fit = entries_fit g (opening_of g) es fits (belongs_opening g) lawful (recursion_from_All (λ e. IsFitKind e.kind) es fit)
 
-pub head_fits : (g : GraphView) → Fits g → HeadFits g.workers g.max_leases
-head_fits g fits = record { some_worker = fits.some_worker; few_workers = omega (arith, fits.few_workers); some_lease = fits.some_lease; few_leases = omega (arith, fits.few_leases) }
+pub head_fits : (g : GraphView) → Fits g → HeadFits g.workers g.max_leases (Some g.locks)
+head_fits g fits = record { some_worker = fits.some_worker; few_workers = omega (arith, fits.few_workers); some_lease = fits.some_lease; few_leases = omega (arith, fits.few_leases); few_locks = omega (arith, fits.few_locks) }

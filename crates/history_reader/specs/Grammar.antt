@@ -10,18 +10,18 @@ use Rattle.history_reader.specs.declared.fails.TextFail.{TextFail}
 use Rattle.history_reader.specs.declared.fails.TextFail.TheVariants.{Stops, NoMemory}
 
 pub record HistoryFits (h : HistoryView) : Type 0 where
-  pub head : HeadFits h.workers h.max
+  pub head : HeadFits h.workers h.max h.locks
   pub entries : EntriesFit h.entries
 
 abbrev pub head_of : HistoryView → List ℕ
-head_of h = head_text h.workers h.max h.parallel
+head_of h = head_text h.workers h.max h.parallel h.locks
 
 -- all lines but the end
 abbrev pub lines_of : HistoryView → List ℕ
 lines_of h = head_of h ++ numbered entry_text 1 h.entries
 
 abbrev pub text_of : HistoryView → List ℕ
-text_of h = history_text h.workers h.max h.parallel h.entries
+text_of h = history_text h.workers h.max h.parallel h.locks h.entries
 
 -- the grammar: a text and its value
 pub record IsHistoryText (text : List ℕ) (h : HistoryView) : Type 0 where
@@ -31,7 +31,7 @@ pub record IsHistoryText (text : List ℕ) (h : HistoryView) : Type 0 where
 -- the text doesn't begin with a head
 pub record StopsInHead (text : List ℕ) (n : ℕ) : Type 0 where
   pub number : n ≡ 0
-  pub no_head : (h : HistoryView) (rest : List ℕ) → HeadFits h.workers h.max → text ≢ head_of h ++ rest
+  pub no_head : (h : HistoryView) (rest : List ℕ) → HeadFits h.workers h.max h.locks → text ≢ head_of h ++ rest
 
 -- the text begins with these lines, but neither the line of one more entry nor exactly the end follows
 pub record StopsBehind (text : List ℕ) (n : ℕ) : Type 0 where

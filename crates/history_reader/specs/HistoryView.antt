@@ -12,6 +12,7 @@ pub record HistoryView : Type 0 where
   pub workers : ℕ
   pub max : ℕ
   pub parallel : Bool
+  pub locks : Option ℕ
   pub entries : List Entry
 
 abbrev pub entry_read : HistoryEntry → Entry
@@ -25,8 +26,8 @@ abbrev pub entry_with : EntryHead → List Change → Entry
 entry_with h changes = entry h.worker h.kind (changes_of h.is_finished changes)
 
 abbrev pub history_view : History → HistoryView
-history_view h = record { workers = h.workers; max = h.max; parallel = h.parallel; entries = map entry_read h.entries.items }
+history_view h = record { workers = h.workers; max = h.max; parallel = h.parallel; locks = h.locks; entries = map entry_read h.entries.items }
 
--- the history of a book
+-- the history of a book, with its graph's number of locks
 abbrev pub book_history : BookView → Bool → HistoryView
-book_history b parallel = record { workers = b.graph.workers; max = b.graph.max_leases; parallel = parallel; entries = b.history }
+book_history b parallel = record { workers = b.graph.workers; max = b.graph.max_leases; parallel = parallel; locks = Some b.graph.locks; entries = b.history }

@@ -1,12 +1,14 @@
 -- Lines: where one ends, and what each of a history's says.
-use Rattle.std.specs.Prelude.{ℕ, ◌≡◌, ◌≢◌, ◌+◌, List, [], ◌∷◌, ◌++◌, length, codes, decimal, Bool, true, not, ◌⊎◌}
+use Rattle.std.specs.Prelude.{ℕ, ◌≡◌, ◌≢◌, ◌+◌, List, [], ◌∷◌, ◌++◌, length, codes, decimal, Option, Some, None, Bool, true, not, ◌⊎◌}
 use Rattle.std.specs.Prelude.{nat_eq, Result, Ok, Err}
 use Rattle.std.specs.List.{list_all}
 use Rattle.lock_transforms.specs.Entry.{Entry}
-use Rattle.history_text.specs.Text.{parallel_text, entry_text, end_text}
+use Rattle.history_text.specs.Text.{parallel_text, locks_text, entry_text, end_text}
 use Rattle.history_text.specs.Fitting.{HeadFits, EntryFits}
 use Rattle.history_reader.specs.HistoryView.{HistoryView}
 use Rattle.history_reader.specs.declared.heads.Settings.{Settings}
+use Rattle.history_reader.specs.declared.heads.Version.{Version}
+use Rattle.history_reader.specs.declared.heads.Version.TheVariants.{One, Two}
 use Rattle.history_reader.specs.declared.fails.ReadFail.{ReadFail}
 use Rattle.history_reader.specs.declared.fails.ReadFail.TheVariants.{Wrong, Memory}
 use Rattle.history_reader.specs.declared.fails.TextFail.{TextFail}
@@ -33,27 +35,40 @@ pub record BeginsWithLine (text line more : List ℕ) : Type 0 where
   pub is : text ≡ line ++ more
   pub line_before : IsLineBefore line more
 
-abbrev pub first_line : List ℕ
-first_line = codes "history 1\n"
+abbrev pub first_line : Version → List ℕ
+first_line One = codes "history 1\n"
+first_line Two = codes "history 2\n"
 
-abbrev pub second_line : ℕ → ℕ → Bool → List ℕ
-second_line workers max_leases parallel = codes "workers " ++ decimal workers ++ codes " max " ++ decimal max_leases
-    ++ codes " parallel " ++ parallel_text parallel ++ codes "\n"
+-- the line is no first line of a history
+abbrev pub IsNoFirst : List ℕ → Type 0
+IsNoFirst line = (v : Version) → line ≢ first_line v
 
--- the second line of a history, which has no entries yet
-pub record Opens (line : List ℕ) (h : HistoryView) : Type 0 where
-  pub spelled : line ≡ second_line h.workers h.max h.parallel
-  pub fits : HeadFits h.workers h.max
+-- a text of version 2 names a number of locks, and one of version 1 none
+abbrev pub version_of : Option ℕ → Version
+version_of None = One
+version_of (Some l) = Two
+
+abbrev pub second_line : ℕ → ℕ → Bool → Option ℕ → List ℕ
+second_line workers max_leases parallel locks = codes "workers " ++ decimal workers ++ codes " max " ++ decimal max_leases
+    ++ codes " parallel " ++ parallel_text parallel ++ locks_text locks ++ codes "\n"
+
+-- the second line of a history of this version, which has no entries yet
+pub record Opens (v : Version) (line : List ℕ) (h : HistoryView) : Type 0 where
+  pub spelled : line ≡ second_line h.workers h.max h.parallel h.locks
+  pub fits : HeadFits h.workers h.max h.locks
+  pub version : version_of h.locks ≡ v
   pub no_entries : h.entries ≡ []
 
--- the line is no second line of a history
-abbrev pub OpensNone : List ℕ → Type 0
-OpensNone line = (workers max_leases : ℕ) (parallel : Bool) → HeadFits workers max_leases → line ≢ second_line workers max_leases parallel
+-- the line is no second line of a history of this version
+abbrev pub OpensNone : Version → List ℕ → Type 0
+OpensNone v line = (workers max_leases : ℕ) (parallel : Bool) (locks : Option ℕ) → HeadFits workers max_leases locks → version_of locks ≡ v
+    → line ≢ second_line workers max_leases parallel locks
 
 -- what the second line says
-pub record IsSaidBy (line : List ℕ) (s : Settings) : Type 0 where
-  pub spelled : line ≡ second_line s.workers s.max s.parallel
-  pub fits : HeadFits s.workers s.max
+pub record IsSaidBy (v : Version) (line : List ℕ) (s : Settings) : Type 0 where
+  pub spelled : line ≡ second_line s.workers s.max s.parallel s.locks
+  pub fits : HeadFits s.workers s.max s.locks
+  pub version : version_of s.locks ≡ v
 
 -- the line is spelled from a value that fits, or from none
 abbrev pub IsReadAs : {X Y : Type 0} → (Y → List ℕ) → (Y → Type 0) → List ℕ → (X → Y) → Result X ReadFail → Type 0

@@ -7,6 +7,8 @@ use Rattle.history_reader.specs.Plain.{Closed, Kind, Start, Skip, Submit, ParkFo
 use Rattle.resource_lock.specs.declared.limits.TheConstants.{MAX_WORKERS}
 use Rattle.lock_transforms.specs.Entry.{Entry}
 use Rattle.history_reader.specs.declared.heads.Settings.{Settings}
+use Rattle.history_reader.specs.declared.heads.Version.{Version}
+use Rattle.history_reader.specs.declared.heads.Version.TheVariants.{One, Two}
 use Rattle.history_reader.specs.declared.fails.ReadFail.{ReadFail}
 use Rattle.history_reader.specs.declared.fails.ReadFail.TheVariants.{Wrong, Memory}
 
@@ -181,8 +183,13 @@ count_at text = number_at (MAX_WORKERS + 1) text >>= λ n. if nat_eq n.0 0 then 
 unfoldable pub parallel_at : List ℕ → Option (Bool × List ℕ)
 parallel_at text = branch (codes "yes") text (plain true) (branch (codes "no") text (plain false) None)
 
-unfoldable pub settings_at : List ℕ → Option (Settings × List ℕ)
-settings_at text =
+-- the number of locks, which a text of version 2 says
+unfoldable pub locks_at : Version → List ℕ → Option (Option ℕ × List ℕ)
+locks_at One text = plain None text
+locks_at Two text = after (codes " locks ") text >>= number_as (λ n. Some n)
+
+unfoldable pub settings_at : Version → List ℕ → Option (Settings × List ℕ)
+settings_at v text =
     after (codes "workers ") text >>= λ r. count_at r >>= λ w. after (codes " max ") w.1 >>= λ r'. count_at r' >>= λ m.
-    after (codes " parallel ") m.1 >>= λ r''. parallel_at r'' >>= λ p. after (codes "\n") p.1 >>= λ rest.
-    Some (record { workers = w.0; max = m.0; parallel = p.0 }, rest)
+    after (codes " parallel ") m.1 >>= λ r''. parallel_at r'' >>= λ p. locks_at v p.1 >>= λ l.
+    after (codes "\n") l.1 >>= λ rest. Some (record { workers = w.0; max = m.0; parallel = p.0; locks = l.0 }, rest)

@@ -4,7 +4,7 @@ ghost use Rattle.history_reader.specs.HistoryView.{history_view};
 ghost use Rattle.history_reader.specs.Lines.{next_number, Opens, OpensNone, TakesLine};
 
 use crate::fails::TextFail;
-use crate::heads::read_settings_line;
+use crate::heads::{Version, read_settings_line};
 use crate::lines::{LineValue, read_line};
 use lock_transforms::Kind;
 use resource_lock::{Change, WorkerId};
@@ -19,6 +19,8 @@ pub struct History {
     pub max: u32,
     /// Whether each project has a lock of its own.
     pub parallel: bool,
+    /// How many locks there are, where the text is of version 2 and so says it.
+    pub locks: Option<u32>,
     /// The entries, in order.
     pub entries: Vec<HistoryEntry>,
 }
@@ -56,16 +58,17 @@ pub enum HistoryLine {
 
 impl History {
     /// A history without entries, by its second line, which comes with its line end. None comes exactly
-    /// where the line isn't one. It takes no memory.
-    pub fn opening(alloc: Global, line: &[u8]) -> Option<History>
-        ensures some { IfSome result (λ h. Opens line.now (history_view h)) }
-        ensures none { IfNone result (OpensNone line.now) }
+    /// where the line isn't one of this version. It takes no memory.
+    pub fn opening(alloc: Global, version: Version, line: &[u8]) -> Option<History>
+        ensures some { IfSome result (λ h. Opens version line.now (history_view h)) }
+        ensures none { IfNone result (OpensNone version line.now) }
     {
-        let settings = read_settings_line(line)?;
+        let settings = read_settings_line(version, line)?;
         Some(History {
             workers: settings.workers,
             max: settings.max,
             parallel: settings.parallel,
+            locks: settings.locks,
             entries: Vec::new(alloc),
         })
     }

@@ -1,8 +1,9 @@
 ghost use Rattle.std.specs.Prelude.{ℕ, ◌≡◌, ◌≢◌, ◌++◌, List, [], Result};
 ghost use Rattle.history_reader.specs.declared.fails.TextFail.{TextFail};
+ghost use Rattle.history_reader.specs.declared.heads.Version.{Version};
 ghost use Rattle.history_reader.specs.declared.histories.History.{History};
 ghost use Rattle.history_reader.specs.HistoryView.{HistoryView};
-ghost use Rattle.history_reader.specs.Lines.{IsLineBefore, IsWrongAfter, OpensNone, first_line, next_number};
+ghost use Rattle.history_reader.specs.Lines.{IsLineBefore, IsNoFirst, IsWrongAfter, OpensNone, first_line, next_number};
 ghost use Rattle.history_reader.specs.Grammar.{HistoryFits, IsHistoryText, IsReadFrom, GivesBack, StopsAt, lines_of, text_of};
 
 /// The grammar: each value of the stated form has exactly one text, and each text has at most one value.
@@ -25,8 +26,8 @@ pub fn texts_stop_at_one_place()
 
 /// What a line says of a text whose lines before it are known, whatever is behind the line.
 pub fn a_line_more()
-    ensures first { (line more : List ℕ) → IsLineBefore line more → line ≢ first_line → StopsAt (line ++ more) 0 }
-    ensures second { (line more : List ℕ) → IsLineBefore line more → OpensNone line → StopsAt (first_line ++ (line ++ more)) 0 }
+    ensures first { (line more : List ℕ) → IsLineBefore line more → IsNoFirst line → StopsAt (line ++ more) 0 }
+    ensures second { (v : Version) (line more : List ℕ) → IsLineBefore line more → OpensNone v line → StopsAt (first_line v ++ (line ++ more)) 0 }
     ensures wrong { (h : HistoryView) (line more : List ℕ) → HistoryFits h → IsLineBefore line more → IsWrongAfter h line
         → StopsAt (lines_of h ++ (line ++ more)) (next_number h) }
     ensures behind { (h : HistoryView) (more : List ℕ) → HistoryFits h → more ≢ [] → StopsAt (text_of h ++ more) (next_number h) }

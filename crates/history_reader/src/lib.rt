@@ -17,7 +17,7 @@ mod tokens;
 
 pub use books::every_book_has_a_text;
 pub use fails::TextFail;
-pub use heads::is_first_line;
+pub use heads::{Version, read_version};
 pub use histories::{EntryHead, History, HistoryEntry, HistoryLine};
 pub use laws::{
     a_line_more, each_value_has_one_text, texts_stop_at_one_place, written_histories_are_read_back,

@@ -3,7 +3,7 @@ ghost use Rattle.history_reader.specs.HistoryView.{history_view};
 ghost use Rattle.history_reader.specs.Grammar.{HistoryFits, IsReadFrom, lines_of};
 
 use crate::fails::TextFail;
-use crate::heads::is_first_line;
+use crate::heads::read_version;
 use crate::histories::{History, HistoryLine};
 use crate::tokens::next_line;
 use std::alloc::Global;
@@ -32,11 +32,11 @@ pub fn read_history(alloc: Global, text: &[u8]) -> Result<History, TextFail>
     ensures { IsReadFrom text.now result }
 {
     let (first, rest) = next_line(text);
-    if !is_first_line(first) {
+    let Some(version) = read_version(first) else {
         return Err(TextFail::Stops(0));
-    }
+    };
     let (second, lines) = next_line(rest);
-    match History::opening(alloc, second) {
+    match History::opening(alloc, version, second) {
         None => Err(TextFail::Stops(0)),
         Some(opened) => read_lines(alloc, opened, lines),
     }

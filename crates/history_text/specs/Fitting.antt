@@ -1,5 +1,5 @@
 -- Which values have a text: of the others the text would not say what they are.
-use Rattle.std.specs.Prelude.{ℕ, ◌≡◌, ◌<◌, ◌≤◌, ◌^◌, List, Option, Some, None}
+use Rattle.std.specs.Prelude.{ℕ, ◌≡◌, ◌<◌, ◌≤◌, ◌^◌, List, Option, Some, None, IfSome}
 use Rattle.std.specs.List.{AllByRecursion}
 use Rattle.item_actions.specs.declared.outcomes.Outcome.{Outcome}
 use Rattle.item_actions.specs.declared.outcomes.Outcome.TheVariants as outcomes
@@ -73,9 +73,10 @@ pub record EntryFits (e : Entry) : Type 0 where
 abbrev pub EntriesFit : List Entry → Type 0
 EntriesFit es = AllByRecursion EntryFits es
 
--- workers and leases, as the head names them
-pub record HeadFits (workers max_leases : ℕ) : Type 0 where
+-- workers, leases and the number of locks or none, as the head names them
+pub record HeadFits (workers max_leases : ℕ) (locks : Option ℕ) : Type 0 where
   pub some_worker : 1 ≤ workers
   pub few_workers : workers ≤ 32
   pub some_lease : 1 ≤ max_leases
   pub few_leases : max_leases ≤ 32
+  pub few_locks : IfSome locks (λ l. l < 2 ^ 32)

@@ -97,12 +97,21 @@ abbrev pub parallel_text : Bool → List ℕ
 parallel_text true = codes "yes"
 parallel_text false = codes "no"
 
-abbrev pub head_text : ℕ → ℕ → Bool → List ℕ
-head_text workers max_leases parallel = codes "history 1\nworkers " ++ decimal workers ++ codes " max " ++ decimal max_leases
-    ++ codes " parallel " ++ parallel_text parallel ++ codes "\n"
+-- the first line: a text of version 2 names a number of locks, and one of version 1 none
+abbrev pub version_text : Option ℕ → List ℕ
+version_text None = codes "history 1\n"
+version_text (Some l) = codes "history 2\n"
+
+abbrev pub locks_text : Option ℕ → List ℕ
+locks_text None = []
+locks_text (Some l) = codes " locks " ++ decimal l
+
+abbrev pub head_text : ℕ → ℕ → Bool → Option ℕ → List ℕ
+head_text workers max_leases parallel locks = version_text locks ++ codes "workers " ++ decimal workers ++ codes " max " ++ decimal max_leases
+    ++ codes " parallel " ++ parallel_text parallel ++ locks_text locks ++ codes "\n"
 
 abbrev pub end_text : ℕ → List ℕ
 end_text count = codes "end " ++ decimal count ++ codes "\n"
 
-abbrev pub history_text : ℕ → ℕ → Bool → List Entry → List ℕ
-history_text workers max_leases parallel es = head_text workers max_leases parallel ++ numbered entry_text 1 es ++ end_text (length es)
+abbrev pub history_text : ℕ → ℕ → Bool → Option ℕ → List Entry → List ℕ
+history_text workers max_leases parallel locks es = head_text workers max_leases parallel locks ++ numbered entry_text 1 es ++ end_text (length es)

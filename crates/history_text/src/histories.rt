@@ -1,4 +1,4 @@
-ghost use Rattle.std.specs.Prelude.{length};
+ghost use Rattle.std.specs.Prelude.{length, Some};
 ghost use Rattle.file_access.specs.PageView.{Adds};
 ghost use Rattle.history_text.specs.Text.{parallel_text, head_text, end_text, history_text};
 
@@ -18,30 +18,39 @@ fn write_parallel<K: Sink>(parallel: bool, page: &mut Page, sink: &mut K)
     }
 }
 
-/// Writes the two lines before the entries.
+/// Writes the two lines before the entries. They are those of version 2, which name how many locks there are.
 pub(crate) fn write_head_lines<K: Sink>(
     workers: u32,
     max_leases: u32,
     parallel: bool,
+    locks: u32,
     page: &mut Page,
     sink: &mut K,
 )
-    ensures { Adds (K.seen sink.old) page.old (K.seen sink.new) page.new (head_text workers max_leases parallel) }
+    ensures { Adds (K.seen sink.old) page.old (K.seen sink.new) page.new (head_text workers max_leases parallel (Some locks)) }
 {
-    write_numbered(b"history 1\nworkers ", workers, page, sink);
+    write_numbered(b"history 2\nworkers ", workers, page, sink);
     write_numbered(b" max ", max_leases, page, sink);
     page.text(sink, b" parallel ");
     write_parallel(parallel, page, sink);
+    write_numbered(b" locks ", locks, page, sink);
     page.text(sink, b"\n");
 }
 
 /// Writes the two lines before a book's entries.
 pub fn write_head<K: Sink>(book: &Book, parallel: bool, page: &mut Page, sink: &mut K)
     ensures { Adds (K.seen sink.old) page.old (K.seen sink.new) page.new
-        (head_text book.now.graph.workers book.now.graph.max_leases parallel) }
+        (head_text book.now.graph.workers book.now.graph.max_leases parallel (Some book.now.graph.locks)) }
 {
     let graph = book.graph();
-    write_head_lines(graph.workers(), graph.max_leases(), parallel, page, sink);
+    write_head_lines(
+        graph.workers(),
+        graph.max_leases(),
+        parallel,
+        graph.locks(),
+        page,
+        sink,
+    );
 }
 
 /// Writes the line behind a book's entries.
@@ -53,11 +62,11 @@ pub fn write_end<K: Sink>(book: &Book, page: &mut Page, sink: &mut K)
     page.text(sink, b"\n");
 }
 
-/// Writes the history text of a book: how many workers there are and how many leases may be out, whether
-/// each project has a lock of its own, and each entry.
+/// Writes the history text of a book, of version 2: how many workers there are and how many leases may be out,
+/// whether each project has a lock of its own, how many locks there are, and each entry.
 pub fn write_history<K: Sink>(book: &Book, parallel: bool, page: &mut Page, sink: &mut K)
     ensures { Adds (K.seen sink.old) page.old (K.seen sink.new) page.new
-        (history_text book.now.graph.workers book.now.graph.max_leases parallel book.now.history) }
+        (history_text book.now.graph.workers book.now.graph.max_leases parallel (Some book.now.graph.locks) book.now.history) }
 {
     write_head(book, parallel, page, sink);
     write_entries(book, page, sink);

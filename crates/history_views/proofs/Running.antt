@@ -1,9 +1,9 @@
 -- A book that is run, and its history, which is shown.
-use Rattle.std.proofs.Common.{◌≡◌, ◌-◌, List, [], ◌∷◌, ◌++◌, length, take, refl, ap, sym, ◌∙◌, arith, length-append}
+use Rattle.std.proofs.Common.{◌≡◌, ◌-◌, Option, None, Some, IfSome, List, [], ◌∷◌, ◌++◌, length, take, refl, ap, sym, ◌∙◌, arith, length-append}
 use Rattle.lock_transforms.specs.Entry.{Entry, replay}
 use Rattle.lock_journal.specs.BookView.{BookView}
-use Rattle.history_views.specs.Growing.{IsLater}
-use Rattle.history_views.specs.ShownBooks.{IsTaken, IsUnchanged, SameHistory}
+use Rattle.history_views.specs.Growing.{IsLater, ReachView, last_book}
+use Rattle.history_views.specs.ShownBooks.{IsOnStage, IsTaken, IsUnchanged, SameHistory}
 
 -- a book with one entry more goes on from what was shown
 pub goes_on : (shown old new : BookView) (e : Entry) → SameHistory shown old → new.graph ≡ old.graph → new.history ≡ old.history ++ e ∷ [] → IsLater shown new
@@ -32,3 +32,12 @@ as_before old mid new e replays graph history taken =
 
 pub still_same : (shown old new : BookView) → SameHistory shown old → new.graph ≡ old.graph → new.history ≡ old.history → SameHistory shown new
 still_same shown old new same graph history = record { graph = graph ∙ same.graph; history = history ∙ same.history }
+
+-- the same where there is a stage, or none
+pub goes_on_stage : (stage : Option ReachView) (old new : BookView) (e : Entry) → IsOnStage stage old → new.graph ≡ old.graph → new.history ≡ old.history ++ e ∷ [] → IfSome stage (λ s. IsLater (last_book s.log) new)
+goes_on_stage None old new e on graph history = tt
+goes_on_stage (Some s) old new e on graph history = goes_on (last_book s.log) old new e on graph history
+
+pub still_on_stage : (stage : Option ReachView) (old new : BookView) → IsOnStage stage old → new.graph ≡ old.graph → new.history ≡ old.history → IsOnStage stage new
+still_on_stage None old new on graph history = tt
+still_on_stage (Some s) old new on graph history = still_same (last_book s.log) old new on graph history

@@ -1,5 +1,5 @@
 -- The ledger of a history, and what is known of it.
-use Rattle.std.specs.Prelude.{ℕ, ◌≡◌, ◌==◌, ◌<◌, ◌≤◌, true, List, [], ◌∷◌, ◌++◌, length, MatchBool}
+use Rattle.std.specs.Prelude.{ℕ, ◌≡◌, ◌==◌, ◌<◌, ◌≤◌, true, List, [], ◌∷◌, ◌++◌, length, None, MatchBool}
 use Rattle.std.specs.List.{All}
 use mathlib.Core.List.{IsPrefix}
 use Rattle.logbook.specs.Pages.{Cell, Step, View, Book, Named}
@@ -16,7 +16,7 @@ pub record IsLater (old new : BookView) : Type 0 where
   pub history : IsPrefix old.history new.history
 
 abbrev pub no_graph : GraphView
-no_graph = record { locks = 0; workers = 0; max_leases = 0; units = 0; tasks = []; actions = [] }
+no_graph = record { locks = 0; all = None; workers = 0; max_leases = 0; units = 0; tasks = []; actions = [] }
 
 abbrev pub no_book : BookView
 no_book = record { graph = no_graph; state = opening_of no_graph; history = []; spare_entries = 0; spare_changes = 0 }

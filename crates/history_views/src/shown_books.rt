@@ -1,10 +1,10 @@
 //! A book whose history can be seen without its lock.
-ghost use Rattle.std.specs.Prelude.{◌≡◌, ◌<◌, ◌-◌, IfOk, OnErr, List, Ok, length, take, true, false};
+ghost use Rattle.std.specs.Prelude.{◌≡◌, ◌<◌, ◌-◌, IfOk, IfSome, IsSome, OnErr, List, Ok, Some, length, take, true, false};
 ghost use Rattle.resource_lock.specs.declared.changes.Change.{Change};
 ghost use Rattle.lock_transforms.specs.Entry.{prefix_state};
 ghost use Rattle.lock_journal.specs.Ran.{FinishesIn, FailsIn, IsToRetry};
 ghost use Rattle.history_views.specs.Growing.{IsLater, last_book};
-ghost use Rattle.history_views.specs.ShownBooks.{IsTaken, IsUnchanged, SameHistory};
+ghost use Rattle.history_views.specs.ShownBooks.{IsOnStage, IsTaken, IsTold, IsUnchanged, SameHistory, ledger_at};
 
 use crate::reaches::Reach;
 use crate::stages::Stage;
@@ -16,37 +16,44 @@ use std::alloc::{AllocError, Global};
 use std::marker::Model;
 use std::sync::Wait;
 
-/// A book with the stage that shows its history. Contracts see the book, and which ledger has its history.
+/// A book with the stage that shows its history, or without one. Contracts see the book, and which ledger has its history, where
+/// it is shown.
 #[derive(Drop)]
 pub struct ShownBook<R: Wait + Drop> {
     book: Box<Book>,
-    stage: Stage<R>,
+    stage: Option<Stage<R>>,
 }
 
 impl<R: Wait + Drop> Model for ShownBook<R> {
-    ghost use Rattle.history_views.specs.Growing.{last_book};
-    ghost use Rattle.history_views.specs.ShownBooks.{SameHistory, ShownView};
+    ghost use Rattle.history_views.specs.ShownBooks.{IsOnStage, ShownView, ledger_at};
 
     ghost Value = { ShownView };
 
-    ghost view = { λ s. record { book = s.book.value; ledger = s.stage.ledger } };
+    ghost view = { λ s. record { book = s.book.value; ledger = ledger_at s.stage } };
 
-    ghost invariant = { λ s. SameHistory (last_book s.stage.log) s.book.value };
+    ghost invariant = { λ s. IsOnStage s.stage s.book.value };
 }
 
 impl<R: Wait + Drop> ShownBook<R> {
-    /// The book, with room for so many views. It fails for want of memory alone.
+    /// The book, with room for so many views. It fails for want of memory alone. Without views there is no stage: nothing is
+    /// shown, and a transform costs what it costs in a book.
     pub fn open(
         alloc: Global,
         rt: R,
         book: Box<Book>,
         views: u32,
     ) -> Result<ShownBook<R>, AllocError>
-        requires { 0 < views }
-        ensures { IfOk result (λ s. s.book ≡ book.value) }
+        ensures book { IfOk result (λ s. s.book ≡ book.value) }
+        ensures shown { IfOk result (λ s. 0 < views → IsSome s.ledger) }
     {
+        if views == 0 {
+            return Ok(ShownBook { book, stage: None });
+        }
         let stage = Stage::open(alloc, rt, &book, views)?;
-        Ok(ShownBook { book, stage })
+        Ok(ShownBook {
+            book,
+            stage: Some(stage),
+        })
     }
 
     /// The book.
@@ -56,25 +63,33 @@ impl<R: Wait + Drop> ShownBook<R> {
         &self.book
     }
 
-    /// How far the history of the book has come.
-    pub fn reach(&self) -> &Reach
-        ensures ledger { result.now.ledger ≡ self.now.ledger }
-        ensures same { SameHistory (last_book result.now.log) self.now.book }
+    /// How far the history of the book has come, where it is shown.
+    #[inline]
+    pub fn reach(&self) -> Option<Reach>
+        ensures { IsTold self.now.ledger result self.now.book }
     {
-        self.stage.reach()
+        match &self.stage {
+            None => None,
+            Some(stage) => Some(stage.reach().again()),
+        }
     }
 
     /// A view, which has seen the history so far. There is one for each that it has room for.
     pub fn view(&mut self) -> Result<View, AllocError>
+        requires { IsSome self.old.ledger }
         ensures same { self.new ≡ self.old }
-        ensures ledger { IfOk result (λ v. v.ledger ≡ self.old.ledger) }
+        ensures ledger { IfOk result (λ v. self.old.ledger ≡ Some v.ledger) }
         ensures seen { IfOk result (λ v. SameHistory (last_book v.log) self.old.book) }
     {
-        self.stage.view()
+        let Some(stage) = &mut self.stage else {
+            unreachable!()
+        };
+        stage.view()
     }
 
     /// Runs a transform for a worker (`Book::run`), and shows its entry. Where there is no memory to show it, the entry is taken
     /// back: graph, state and history are then as before.
+    #[inline]
     pub fn run<T: Transform>(
         &mut self,
         worker: WorkerId,
@@ -113,8 +128,25 @@ impl<R: Wait + Drop> ShownBook<R> {
     }
 }
 
-// Shows the last entry of the book, or takes it back.
-fn show_last<R: Wait + Drop>(book: &mut Book, stage: &mut Stage<R>) -> bool
+// Shows the last entry of the book where there is a stage, or takes it back.
+#[inline]
+fn show_last<R: Wait + Drop>(book: &mut Book, stage: &mut Option<Stage<R>>) -> bool
+    requires some { 0 < length book.old.history }
+    requires later { IfSome stage.old (λ s. IsLater (last_book s.log) book.old) }
+    ensures ledger { ledger_at stage.new ≡ ledger_at stage.old }
+    ensures book { result ≡ true → book.new ≡ book.old }
+    ensures shown { result ≡ true → IsOnStage stage.new book.new }
+    ensures taken { result ≡ false → IsTaken book.old book.new }
+    ensures stage { result ≡ false → stage.new ≡ stage.old }
+{
+    match stage {
+        None => true,
+        Some(stage) => show_on(book, stage),
+    }
+}
+
+// Shows the last entry of the book on the stage, or takes it back.
+fn show_on<R: Wait + Drop>(book: &mut Book, stage: &mut Stage<R>) -> bool
     requires some { 0 < length book.old.history }
     requires later { IsLater (last_book stage.old.log) book.old }
     ensures ledger { stage.new.ledger ≡ stage.old.ledger }

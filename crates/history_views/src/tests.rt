@@ -1,5 +1,5 @@
 //! Views of a book that threads change one at a time.
-ghost use Rattle.std.specs.Prelude.{◌≡◌, ◌<◌, ◌≤◌, ◌+◌, IfOk, length};
+ghost use Rattle.std.specs.Prelude.{◌≡◌, ◌<◌, ◌≤◌, ◌+◌, IfOk, IsSome, Some, length};
 ghost use Rattle.resource_lock.specs.StateView.{leases_out};
 ghost use Rattle.history_views.specs.Growing.{last_book};
 
@@ -43,10 +43,10 @@ fn graph(alloc: Global) -> Result<Option<Graph>, AllocError> {
         first_unit: 0,
         items: 1,
     })?;
-    if !Graph::fits(WORKERS, WORKERS, MAX_LEASES, &tasks, &actions) {
+    if !Graph::fits(WORKERS, None, WORKERS, MAX_LEASES, &tasks, &actions) {
         return Ok(None);
     }
-    Ok(Some(Graph::new(WORKERS, WORKERS, MAX_LEASES, tasks, actions)))
+    Ok(Some(Graph::new(WORKERS, None, WORKERS, MAX_LEASES, tasks, actions)))
 }
 
 /// A book without entries, with room for so many views.
@@ -56,6 +56,7 @@ fn shown<R: Wait + Drop + Abort>(
     views: u32,
 ) -> Result<ShownBook<R>, AllocError>
     requires { 0 < views }
+    ensures { IfOk result (λ s. IsSome s.ledger) }
 {
     let graph = expect(&rt, graph(alloc)?);
     let book = Book::opening(alloc, graph, 0, 0)?;
@@ -100,23 +101,35 @@ fn hand_back<R: Wait + Drop>(
     shown.run(worker, &HandBack)
 }
 
+/// The view learns how far the history of the book has come.
+fn learn<R: Wait + Drop>(view: &mut View, shown: &ShownBook<R>)
+    requires { shown.now.ledger ≡ Some view.old.ledger }
+    ensures ledger { view.new.ledger ≡ view.old.ledger }
+    ensures learnt { length shown.now.book.history ≤ length (last_book view.new.log).history }
+{
+    match shown.reach() {
+        Some(reach) => view.learn(&reach),
+        None => unreachable!(),
+    }
+}
+
 /// What views are shown where nobody else changes the book: one learns, another doesn't.
 fn look_in_turn<R: Wait + Drop>(
     shown: &mut ShownBook<R>,
     first: &mut View,
     second: &mut View,
 ) -> Result<[Extent; 5], AllocError>
-    requires first { first.old.ledger ≡ shown.old.ledger }
+    requires first { shown.old.ledger ≡ Some first.old.ledger }
     ensures ledger { shown.new.ledger ≡ shown.old.ledger }
     ensures second { second.new.ledger ≡ second.old.ledger }
 {
     let opened = first.look();
     take(shown, WorkerId(0))?;
-    first.learn(shown.reach());
+    learn(first, shown);
     let taken = first.look();
     let unasked = second.look();
     hand_back(shown, WorkerId(0))?;
-    first.learn(shown.reach());
+    learn(first, shown);
     let free = first.look();
     let again = first.look();
     Ok([opened, taken, unasked, free, again])
@@ -128,11 +141,11 @@ fn take_and_look<R: Wait + Drop>(
     view: &mut View,
     worker: WorkerId,
 ) -> Result<Extent, AllocError>
-    requires { view.old.ledger ≡ shown.old.ledger }
+    requires { shown.old.ledger ≡ Some view.old.ledger }
     ensures { IfOk result (λ e. length shown.new.book.history ≤ e.entries) }
 {
     take(shown, worker)?;
-    view.learn(shown.reach());
+    learn(view, shown);
     Ok(view.look())
 }
 

@@ -22,3 +22,7 @@ lock_of locks name = option_map (project_lock locks.parallel) (position (bytes_e
 
 abbrev pub lock_count : ProjectLocksView → ℕ
 lock_count locks = project_lock_count locks.parallel (length locks.projects)
+
+-- the all-projects lock, behind those of the projects
+abbrev pub all_lock : ProjectLocksView → LockId
+all_lock locks = record { 0 = lock_count locks }

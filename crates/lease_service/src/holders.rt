@@ -9,7 +9,7 @@ ghost use Rattle.coordination.specs.Shown.{ShowsTheSame, blocked_shown, claimed_
 ghost use Rattle.lease_service.specs.Shows.{MayTake, ShowsGivenBack, ShowsTaken};
 ghost use Rattle.lease_service.specs.declared.holders.Tried.TheVariants.{Got, Busy};
 
-use coordination::{Coordination, Halt, Offers, Pass};
+use coordination::{Coordination, Halt, Keeper, Offers, Pass};
 use lock_transforms::kinds::{Acquire, HandBack, Shortage};
 use resource_lock::LockId;
 use std::alloc::AllocError;
@@ -27,9 +27,9 @@ pub enum Tried {
 /// Takes a lease, where the worker has none, and waits until it can.
 ///
 /// Otherwise as `take_locks` with no locks.
-pub fn run_as_worker<R: Wait, O: Offers>(
+pub fn run_as_worker<R: Wait, O: Offers, K: Keeper>(
     rt: &R,
-    service: &Coordination<O>,
+    service: &Coordination<O, K>,
     pass: &mut Pass,
 ) -> Result<(), Halt>
     requires service { pass.old.service ≡ service.now.service }
@@ -48,12 +48,12 @@ pub fn run_as_worker<R: Wait, O: Offers>(
 /// doesn't own yet, and the lease where it has none. It makes one entry, and waits until it can take
 /// all at once.
 ///
-/// `Stopped` comes only where it had to wait: where another worker owned one of the locks, or the
-/// worker had no lease and as many as may be were out. After it, and after `NoMemory`, the worker has
+/// `Stopped` comes only where it had to wait: where the worker was kept from one of the locks, since
+/// another owned one that conflicts with it, or it had no lease and as many as may be were out. After it, and after `NoMemory`, the worker has
 /// what it had.
-pub fn take_locks<R: Wait, O: Offers>(
+pub fn take_locks<R: Wait, O: Offers, K: Keeper>(
     rt: &R,
-    service: &Coordination<O>,
+    service: &Coordination<O, K>,
     pass: &mut Pass,
     locks: &[LockId],
 ) -> Result<(), Halt>
@@ -79,13 +79,13 @@ pub fn take_locks<R: Wait, O: Offers>(
 }
 
 /// Takes the same as `take_locks`, or answers `Busy` at once, with a failed entry, where it would
-/// have to wait: where another worker owns one of the locks, or the worker has no lease and as many
-/// as may be are out. After `Busy` the worker has what it had.
+/// have to wait: where the worker is kept from one of the locks, or has no lease and as many as may be
+/// are out. After `Busy` the worker has what it had.
 ///
 /// It waits for the state lock alone, and fails for want of memory alone.
-pub fn try_take_locks<R: Wait, O: Offers>(
+pub fn try_take_locks<R: Wait, O: Offers, K: Keeper>(
     rt: &R,
-    service: &Coordination<O>,
+    service: &Coordination<O, K>,
     pass: &mut Pass,
     locks: &[LockId],
 ) -> Result<Tried, AllocError>
@@ -114,9 +114,9 @@ pub fn try_take_locks<R: Wait, O: Offers>(
 ///
 /// It waits for the state lock alone, and fails for want of memory alone. The worker then has what
 /// it had.
-pub fn hand_back<R: Wait, O: Offers>(
+pub fn hand_back<R: Wait, O: Offers, K: Keeper>(
     rt: &R,
-    service: &Coordination<O>,
+    service: &Coordination<O, K>,
     pass: &mut Pass,
 ) -> Result<(), AllocError>
     requires service { pass.old.service ≡ service.now.service }

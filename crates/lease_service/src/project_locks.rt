@@ -2,7 +2,7 @@
 ghost use Rattle.std.specs.Prelude.{◌≡◌, ◌<◌, ◌^◌, IfOk, length};
 ghost use Rattle.std.specs.List.{IsDistinct};
 ghost use Rattle.std.specs.Str.{bytes_eq};
-ghost use Rattle.lease_service.specs.ProjectLocks.{lock_count, lock_of};
+ghost use Rattle.lease_service.specs.ProjectLocks.{all_lock, lock_count, lock_of};
 
 use indexmap::IndexSet;
 use item_actions::Text;
@@ -53,10 +53,17 @@ impl ProjectLocks {
         Some(project_lock(self.parallel, number as u32))
     }
 
-    /// How many locks there are: as many as projects, or one for all.
+    /// How many locks the projects have: as many as projects, or one for all.
     pub fn count(&self) -> u32
         ensures { result ≡ lock_count self.now }
     {
         project_lock_count(self.parallel, self.names.len() as u32)
+    }
+
+    /// The all-projects lock of a graph that has these locks and that one: it stands behind them.
+    pub fn all_lock(&self) -> LockId
+        ensures { result ≡ all_lock self.now }
+    {
+        LockId(self.count())
     }
 }

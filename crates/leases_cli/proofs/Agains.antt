@@ -1,5 +1,5 @@
 -- What is known of a run that was driven again.
-use Rattle.std.proofs.Common.{◌≡◌, ◌≤◌, ◌-◌, ◌^◌, Bool, true, false, nat_lt, ℕ, List, [], ◌∷◌, Option, Some, Result, Ok, Err, refl, sym, ◌∙◌, ap, subst, inl, inr, ◌⊎◌, arith}
+use Rattle.std.proofs.Common.{◌≡◌, ◌≤◌, ◌-◌, ◌^◌, Bool, true, false, nat_lt, ℕ, List, [], ◌∷◌, Option, Result, Ok, Err, refl, ◌∙◌, ap, inl, inr, arith}
 use Rattle.item_actions.specs.Files.{Folder}
 use Rattle.lock_transforms.specs.Entry.{Entry}
 use Rattle.lock_transforms.specs.declared.entries.Closed.{Closed}
@@ -21,23 +21,24 @@ use Rattle.build_runner.proofs.lemmas.SentViews.{same_view}
 -- ---- its files were read; here it isn't told which
 
 module _ (Read : List Closed → Type 0) (p : PlanView) (known : Option Folder) where
-  any_entries : (g : GraphView) (es : List Entry) (a : Again) → IsAgain p g es known Read a → IsAgain p g es known AnyRead a
-  any_entries g es (again.Same b) h = (h.0, h.1, h.2, tt)
-  any_entries g es (again.NotLawful n) h = (h.0, tt)
-  any_entries g es (again.Differs n o) h = (
+  any_entries : (g : GraphView) (locks : Option ℕ) (es : List Entry) (a : Again) → IsAgain p g locks es known Read a → IsAgain p g locks es known AnyRead a
+  any_entries g locks es (again.Same b) h = (h.0, h.1, h.2, h.3, tt)
+  any_entries g locks es (again.NotLawful n) h = (h.0, tt)
+  any_entries g locks es (again.Differs n o) h = (
     h.0,
+    h.1,
     record {
-      before = h.1.before;
-      closed = h.1.closed;
-      there = h.1.there;
-      number = h.1.number;
-      earlier = h.1.earlier;
-      untrue = h.1.untrue;
-      value = h.1.value;
+      before = h.2.before;
+      closed = h.2.closed;
+      there = h.2.there;
+      number = h.2.number;
+      earlier = h.2.earlier;
+      untrue = h.2.untrue;
+      value = h.2.value;
       read = tt;
     },
   )
-  any_entries g es (again.ReadFault u) h = (h.0, record { before = h.1.before; closed = h.1.closed; there = h.1.there; unit = h.1.unit; earlier = h.1.earlier; read = tt })
+  any_entries g locks es (again.ReadFault u) h = (h.0, h.1, record { before = h.2.before; closed = h.2.closed; there = h.2.there; unit = h.2.unit; earlier = h.2.earlier; read = tt })
 
   any_input : (old new : SourceView) (a : Again) → DrivesInput p old new known Read a → DrivesInput p old new known AnyRead a
   any_input old new a (came, takes, inl drives, just) = (
@@ -46,7 +47,7 @@ module _ (Read : List Closed → Type 0) (p : PlanView) (known : Option Folder) 
     inl (record {
       history = drives.history;
       names = drives.names;
-      again = any_entries (graph_of p drives.history.workers drives.history.max drives.history.parallel) drives.history.entries a drives.again;
+      again = any_entries (graph_of p drives.history.workers drives.history.max drives.history.parallel) drives.history.locks drives.history.entries a drives.again;
     }),
     just,
   )
@@ -80,14 +81,14 @@ faults_kept before after (Err fail) same = omega (arith, same)
 -- files were read one after the other
 pub only_read : {F : Type 0} (keeps : F → F → Type 0) (before old new : F) (p : PlanView) (known : Option Folder) (seen seen' : SourceView) (found : Result Again CheckFail) → keeps before old → HasDriven p seen seen' known (ReadsFor keeps old new) found → HasOnlyRead keeps before new
 only_read keeps before old new p known seen seen' (Ok a) first (came, takes, inl drives, just) =
-    let r = reads_of (graph_of p drives.history.workers drives.history.max drives.history.parallel) drives.history.entries a drives.again in
+    let r = reads_of (graph_of p drives.history.workers drives.history.max drives.history.parallel) drives.history.locks drives.history.entries a drives.again in
     (old, first, r.0, r.1)
   where
-    reads_of : (g : GraphView) (es : List Entry) (a : Again) → IsAgain p g es known (ReadsFor keeps old new) a → (ds : List Closed) × ReadsFor keeps old new ds
-    reads_of g es (again.Same b) h = (_, h.3)
-    reads_of g es (again.NotLawful n) h = ([], h.1)
-    reads_of g es (again.Differs n o) h = (_, h.1.read)
-    reads_of g es (again.ReadFault u) h = (_, h.1.read)
+    reads_of : (g : GraphView) (locks : Option ℕ) (es : List Entry) (a : Again) → IsAgain p g locks es known (ReadsFor keeps old new) a → (ds : List Closed) × ReadsFor keeps old new ds
+    reads_of g locks es (again.Same b) h = (_, h.4)
+    reads_of g locks es (again.NotLawful n) h = ([], h.1)
+    reads_of g locks es (again.Differs n o) h = (_, h.2.read)
+    reads_of g locks es (again.ReadFault u) h = (_, h.2.read)
 only_read keeps before old new p known seen seen' (Ok a) first (came, takes, inr none, just) = (old, first, [], none.read)
 only_read keeps before old new p known seen seen' (Err fail) first h = (old, first, h.1.0, h.1.1)
 

@@ -4,6 +4,7 @@ use Rattle.std.proofs.KnownBytes.{Consumes-nil}
 use Rattle.lock_journal.specs.BookView.{BookView}
 use Rattle.file_access.proofs.lemmas.Printing.{wrote_nothing}
 use Rattle.daemon_manager.specs.declared.events.Event.{Event}
+use Rattle.run_watch.specs.declared.boards.Watch.{Watch}
 use Rattle.command_words.specs.Failing.{NoMemoryOr}
 use Rattle.command_words.specs.Reading.{IsBounded}
 use Rattle.command_words.specs.declared.commands.Command.{Command}
@@ -46,20 +47,20 @@ served_nothing o = record {
 }
 
 -- a call that did nothing, for want of memory
-at_no_memory : (command : Option Command) (o : Around) (events : List Event) → Answered command (record { before = o; after = o; status = NoMemory; book = None; events = events })
-at_no_memory None o events = (refl, inl (refl, wrote_nothing o.sink))
-at_no_memory (Some (Run asked)) o events = record { refused = inl (refl, wrote_nothing o.sink); sent = inl (λ i. refl) }
-at_no_memory (Some Worker) o events = (refl, (ends.NoMemory, served_nothing (at_first_desk o), refl))
-at_no_memory (Some (Check name)) o events = (refl, inl (record { source = refl; refused = inl (refl, wrote_nothing o.sink) }))
-at_no_memory (Some (Again name)) o events = (refl, inl (record { source = refl; refused = inl (refl, wrote_nothing o.sink) }))
-at_no_memory (Some (Make asked)) o events = (refl, inl (refl, wrote_nothing o.sink))
+at_no_memory : (command : Option Command) (o : Around) (events : List Event) (watch : List Watch) → Answered command (record { before = o; after = o; status = NoMemory; book = None; events = events; watch = watch })
+at_no_memory None o events watch = (refl, inl (refl, wrote_nothing o.sink))
+at_no_memory (Some (Run asked)) o events watch = record { refused = inl (refl, wrote_nothing o.sink); sent = inl (λ i. refl) }
+at_no_memory (Some Worker) o events watch = (refl, (ends.NoMemory, served_nothing (at_first_desk o), refl))
+at_no_memory (Some (Check name)) o events watch = (refl, inl (record { source = refl; refused = inl (refl, wrote_nothing o.sink) }))
+at_no_memory (Some (Again name)) o events watch = (refl, inl (record { source = refl; refused = inl (refl, wrote_nothing o.sink) }))
+at_no_memory (Some (Make asked)) o events watch = (refl, inl (refl, wrote_nothing o.sink))
 
 -- nothing was done for want of memory
-pub no_memory_answered : (command : Option Command) (o : Around) (status : Status) (book : Option BookView) (events : List Event) → book ≡ None → status ≡ NoMemory
-    → Answered command (record { before = o; after = o; status = status; book = book; events = events })
-no_memory_answered command o status book events without is =
-    subst (λ (b : Option BookView). Answered command (record { before = o; after = o; status = status; book = b; events = events })) (sym without)
-    (subst (λ (s : Status). Answered command (record { before = o; after = o; status = s; book = None; events = events })) (sym is) (at_no_memory command o events))
+pub no_memory_answered : (command : Option Command) (o : Around) (status : Status) (book : Option BookView) (events : List Event) (watch : List Watch) → book ≡ None → status ≡ NoMemory
+    → Answered command (record { before = o; after = o; status = status; book = book; events = events; watch = watch })
+no_memory_answered command o status book events watch without is =
+    subst (λ (b : Option BookView). Answered command (record { before = o; after = o; status = status; book = b; events = events; watch = watch })) (sym without)
+    (subst (λ (s : Status). Answered command (record { before = o; after = o; status = s; book = None; events = events; watch = watch })) (sym is) (at_no_memory command o events watch))
 
 -- one of the desks
 pub some_desk : {D : Type 0} (desks : List D) → 1 ≤ length desks → D

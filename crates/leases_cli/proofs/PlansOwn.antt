@@ -9,11 +9,12 @@ use Rattle.item_actions.specs.declared.outcomes.Outcome.TheVariants as outcomes
 use Rattle.resource_lock.specs.Fits.{Fits}
 use Rattle.resource_lock.specs.GraphView.{GraphView, GraphTaskView, no_task, no_action, task_of}
 use Rattle.resource_lock.specs.Ranges.{actions_of, units_in, units_of}
+use Rattle.resource_lock.specs.declared.ids.LockId.{LockId}
 use Rattle.resource_lock.specs.declared.graphs.GraphAction.{GraphAction}
 use Rattle.lock_journal.specs.BookView.{BookView}
 use Rattle.lock_journal.specs.Closings.{closings, outcome_in}
 use Rattle.lock_transforms.specs.Table.{has_passed}
-use Rattle.plan_reader.specs.Graph.{graph_of, tasks_from}
+use Rattle.plan_reader.specs.Graph.{all_projects_lock, graph_of, task_lock, tasks_from}
 use Rattle.plan_reader.specs.PlanView.{PlanTaskView, PlanView}
 use Rattle.plan_reader.specs.Units.{plan_units, unit_value}
 use Rattle.history_laws.specs.Answers.{answer_by, answers}
@@ -25,7 +26,7 @@ use Rattle.build_runner.specs.declared.options.RunOptions.{RunOptions}
 use Rattle.history_text.specs.Results.{results_text, summary_text, task_marks}
 use Rattle.leases_cli.specs.Answered.{all_pass}
 use Rattle.leases_cli.specs.SameResults.{HasNoTrouble, HaveSameResults}
-use Rattle.leases_cli.proofs.Reports.{ByNumber, UnitsByNumber, comes_to_known, same_pass, task_mark, tasks_in_all}
+use Rattle.leases_cli.proofs.Reports.{ByNumber, UnitsByNumber, comes_to_known, same_pass, task_mark, tasks_in_plan}
 
 -- ---- what each unit gives
 
@@ -54,13 +55,16 @@ record SameTasks (g h : GraphView) : Type 0 where
   tasks : (t : ℕ) → SameTask (task_of g t) (task_of h t)
   actions : g.actions ≡ h.actions
 
-tasks_same : (p q : Bool) (first : ℕ) (ts : List PlanTaskView) (t : ℕ) → SameTask (slice_index_or (tasks_from p first ts) t no_task) (slice_index_or (tasks_from q first ts) t no_task)
+tasks_same : (p q : PlanTaskView → LockId) (first : ℕ) (ts : List PlanTaskView) (t : ℕ) → SameTask (slice_index_or (tasks_from p first ts) t no_task) (slice_index_or (tasks_from q first ts) t no_task)
 tasks_same p q first [] t = record { after = refl; first = refl; actions = refl }
 tasks_same p q first (x ∷ ts) zero = record { after = refl; first = refl; actions = refl }
 tasks_same p q first (x ∷ ts) (suc t) = tasks_same p q (first + length x.actions) ts t
 
 of_plan : (plan : PlanView) (one other : RunOptions) (g h : GraphView) → g ≡ graph_of plan one.workers one.max_leases one.parallel → h ≡ graph_of plan other.workers other.max_leases other.parallel → SameTasks g h
-of_plan plan one other g h e f = rw e (rw f (record { tasks = tasks_same one.parallel other.parallel 0 plan.tasks; actions = refl }))
+of_plan plan one other g h e f = rw e (rw f (record {
+  tasks = tasks_same (task_lock (all_projects_lock plan one.parallel) one.parallel) (task_lock (all_projects_lock plan other.parallel) other.parallel) 0 plan.tasks;
+  actions = refl;
+}))
 
 module _ (g h : GraphView) (same : SameTasks g h) (v w : ℕ → Outcome) (values : (u : ℕ) → v u ≡ w u) where
   action_same : (a : ℕ) → action_passes g v a ≡ action_passes h w a
@@ -108,8 +112,8 @@ same_results units results summary plan one other files before after before' aft
     let w = answers (unit_value plan files) c.history in
     let values : (u : ℕ) → v u ≡ w u = λ u. own_answer (closings b.history u) (unit_value plan files u) (fine u) ∙ sym (own_answer (closings c.history u) (unit_value plan files u) (fine' u)) in
     let same = of_plan plan one other b.graph c.graph run.graph again.graph in
-    let few = ap (λ (o : GraphView). length o.tasks) run.graph ∙ tasks_in_all one.parallel 0 plan.tasks in
-    let few' = ap (λ (o : GraphView). length o.tasks) again.graph ∙ tasks_in_all other.parallel 0 plan.tasks in
+    let few = ap (λ (o : GraphView). length o.tasks) run.graph ∙ tasks_in_plan plan one.parallel in
+    let few' = ap (λ (o : GraphView). length o.tasks) again.graph ∙ tasks_in_plan plan other.parallel in
     let marks : (t : ℕ) → t < length plan.tasks → task_marks b.state t ≡ task_marks c.state t = λ t lt.
     task_mark plan one before after b run (Some files) known t (omega (arith, few, lt))
     ∙ mark_same b.graph c.graph same v w values (depth plan) t

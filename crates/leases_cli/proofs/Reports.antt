@@ -14,13 +14,15 @@ use Rattle.lock_journal.specs.Closings.{last_or, outcome_in}
 use Rattle.lock_transforms.specs.Entry.{Entry}
 use Rattle.lock_journal.specs.BookView.{BookView}
 use Rattle.lock_transforms.specs.Table.{has_passed}
-use Rattle.plan_reader.specs.Graph.{tasks_from}
+use Rattle.resource_lock.specs.declared.ids.LockId.{LockId}
+use Rattle.plan_reader.specs.Graph.{all_projects_lock, task_lock, tasks_from}
 use Rattle.plan_reader.specs.PlanView.{PlanTaskView, PlanView}
 use Rattle.plan_reader.specs.Units.{plan_units}
 use Rattle.history_laws.specs.ByNumber.{outcome_by}
 use Rattle.history_laws.specs.Outcomes.{task_outcome}
 use Rattle.history_laws.specs.Runs.{ComesTo}
 use Rattle.daemon_manager.specs.declared.events.Event.{Event}
+use Rattle.run_watch.specs.declared.boards.Watch.{Watch}
 use Rattle.build_runner.specs.Desks.{DeskView, known_by}
 use Rattle.build_runner.specs.Run.{HasResults, IsRunOf, depth}
 use Rattle.build_runner.specs.declared.options.RunOptions.{RunOptions}
@@ -48,9 +50,12 @@ either_by_number : (summary : Bool) → ByNumber results_text → ByNumber summa
 either_by_number true results summary = summary
 either_by_number false results summary = results
 
-pub tasks_in_all : (parallel : Bool) (first : ℕ) (ts : List PlanTaskView) → length (tasks_from parallel first ts) ≡ length ts
-tasks_in_all parallel first [] = refl
-tasks_in_all parallel first (t ∷ ts) = ap suc (tasks_in_all parallel (first + length t.actions) ts)
+pub tasks_in_all : (lock : PlanTaskView → LockId) (first : ℕ) (ts : List PlanTaskView) → length (tasks_from lock first ts) ≡ length ts
+tasks_in_all lock first [] = refl
+tasks_in_all lock first (t ∷ ts) = ap suc (tasks_in_all lock (first + length t.actions) ts)
+
+pub tasks_in_plan : (plan : PlanView) (parallel : Bool) → length (tasks_from (task_lock (all_projects_lock plan parallel) parallel) 0 plan.tasks) ≡ length plan.tasks
+tasks_in_plan plan parallel = tasks_in_all (task_lock (all_projects_lock plan parallel) parallel) 0 plan.tasks
 
 same_on_range : (f g : ℕ → Bool) (first n : ℕ) → ((t : ℕ) → t < first + n → f t ≡ g t) → list_all f (range_with_len first n) ≡ list_all g (range_with_len first n)
 same_on_range f g first zero h = refl
@@ -63,7 +68,7 @@ comes_to plan None b results = results (outcome_in b.history) (λ u o e. ap (las
 
 module _ (plan : PlanView) (options : RunOptions) (before after : ℕ → DeskView) (b : BookView) (run : IsRunOf plan options before after b) where
   pub tasks_in_graph : length b.graph.tasks ≡ length plan.tasks
-  tasks_in_graph = ap (λ (o : GraphView). length o.tasks) run.graph ∙ tasks_in_all options.parallel 0 plan.tasks
+  tasks_in_graph = ap (λ (o : GraphView). length o.tasks) run.graph ∙ tasks_in_plan plan options.parallel
 
   module _ (known : Option Folder) (is : known_by options.workers before ≡ known) where
     pub comes_to_known : ComesTo b.graph b.history (values_or_closings plan known b.history) (depth plan)
@@ -77,20 +82,21 @@ module _ (plan : PlanView) (options : RunOptions) (before after : ℕ → DeskVi
         same_on_range (λ t. has_passed (mark_of b.state (TaskOf t))) (λ t. has_passed (task_outcome b.graph (values_or_closings plan known b.history) (depth plan) t)) 0 (length b.graph.tasks)
         (λ t lt. ap has_passed (task_mark t (omega arith)))
 
-    pub same_text : (asked : RunWords) (events : List Event) → UnitsByNumber → ByNumber results_text → ByNumber summary_text → Fits b.graph → text_by_book asked plan b events ≡ run_text asked plan known b events
-    same_text asked events units results summary fits =
+    pub same_text : (asked : RunWords) (events : List Event) (watch : List Watch) → UnitsByNumber → ByNumber results_text → ByNumber summary_text → Fits b.graph
+        → text_by_book asked plan b events watch ≡ run_text asked plan known b events watch
+    same_text asked events watch units results summary fits =
         let v = values_or_closings plan known b.history in
-        ap (λ text. text ++ behind_results asked b events)
+        ap (λ text. text ++ behind_results asked b events watch)
         (either_by_number asked.summary results summary plan (task_marks b.state) (task_outcome b.graph v (depth plan)) (outcome_in b.history) (outcome_by b.graph v (depth plan))
         (λ t lt. task_mark t (omega (arith, tasks_in_graph)))
         (λ u lt. units b.graph b.history v (depth plan) u fits comes_to_known (omega (arith, ap (λ (o : GraphView). o.units) run.graph))))
 
 -- what was reported of a run is its answer
 pub reported_answers : (asked : RunWords) (c : Call) (plan : PlanView) (b : BookView) → c.book ≡ Some b → IsNamedRun asked c plan b
-    → IsReported (all_pass plan b.graph (values_or_closings plan (known_files asked c) b.history)) c.before.sink c.after.sink (run_text asked plan (known_files asked c) b c.events) c.status → RunAnswered asked c
+    → IsReported (all_pass plan b.graph (values_or_closings plan (known_files asked c) b.history)) c.before.sink c.after.sink (run_text asked plan (known_files asked c) b c.events c.watch) c.status → RunAnswered asked c
 reported_answers asked c plan b e run reported = subst (EndedWith asked c) (sym e) (by_status c.status reported)
   where
-    by_status : (s : Status) → IsReported (all_pass plan b.graph (values_or_closings plan (known_files asked c) b.history)) c.before.sink c.after.sink (run_text asked plan (known_files asked c) b c.events) s → RunEnded asked c b s
+    by_status : (s : Status) → IsReported (all_pass plan b.graph (values_or_closings plan (known_files asked c) b.history)) c.before.sink c.after.sink (run_text asked plan (known_files asked c) b c.events c.watch) s → RunEnded asked c b s
     by_status Passed r = (plan, run, r)
     by_status TaskFailed r = (plan, run, r)
     by_status SinkFault r = (plan, run, r)

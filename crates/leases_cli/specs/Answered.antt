@@ -22,11 +22,14 @@ use Rattle.history_laws.specs.Outcomes.{task_outcome}
 use Rattle.daemon_manager.specs.Counts.{failures, reservations}
 use Rattle.daemon_manager.specs.Events.{IsLegal, NoneIdle}
 use Rattle.daemon_manager.specs.declared.events.Event.{Event}
+use Rattle.run_watch.specs.declared.boards.Watch.{Watch}
 use Rattle.build_runner.specs.Desks.{DeskView, known_by}
 use Rattle.build_runner.specs.Failing.{unreal_of}
 use Rattle.build_runner.specs.Run.{IsRunOf, WasBrokenOff, depth}
 use Rattle.build_runner.specs.declared.options.RunOptions.{RunOptions}
 use Rattle.history_text.specs.Events.{events_text}
+use Rattle.leases_cli.specs.Watches.{watches_text}
+use Rattle.build_runner.specs.Watching.{IsWatchedRun}
 use Rattle.history_text.specs.Text.{history_text}
 use Rattle.history_text.specs.Results.{results_text, summary_text, task_marks}
 use Rattle.command_words.specs.declared.commands.Command.{Command}
@@ -44,7 +47,7 @@ use Rattle.leases_cli.specs.declared.top.Ended.{Ended}
 use Rattle.leases_cli.specs.declared.status.Status.TheVariants.{Passed, TaskFailed, BadWords, SinkFault}
 
 abbrev pub options_of : RunWords → RunOptions
-options_of run = record { workers = run.threads; max_leases = run.max_leases; parallel = run.parallel }
+options_of run = record { workers = run.threads; max_leases = run.max_leases; parallel = run.parallel; watch = run.watch }
 
 -- how many requests the first n desks have sent
 abbrev pub sent_by_first : ℕ → (ℕ → DeskView) → ℕ
@@ -57,6 +60,8 @@ pub record IsNamedRun (asked : RunWords) (c : Call) (plan : PlanView) (b : BookV
   pub run : IsRunOf plan (options_of asked) c.before.desks c.after.desks b
   pub reserved : sent_by_first asked.threads c.after.desks ≤ sent_by_first asked.threads c.before.desks + reservations c.events
   pub failed : failures c.events ≤ unreal_of asked.threads b.history
+  -- what the workers saw of this book, where it was asked for
+  pub watch : IsWatchedRun (options_of asked) b c.watch
 
 -- What each unit gives, for what is printed: by its file, where the files are known, but for the units that met a fault or
 -- want of memory. Where they aren't known, what its closing entry says.
@@ -78,26 +83,29 @@ abbrev pub results_asked : RunWords → PlanView → (ℕ → Mark) → (ℕ →
 results_asked asked = if asked.summary then summary_text else results_text
 
 abbrev pub history_asked : RunWords → BookView → List ℕ
-history_asked asked b = if asked.history then history_text b.graph.workers b.graph.max_leases asked.parallel b.history else []
+history_asked asked b = if asked.history then history_text b.graph.workers b.graph.max_leases asked.parallel (Some b.graph.locks) b.history else []
 
 abbrev pub events_asked : RunWords → List Event → List ℕ
 events_asked asked events = if asked.daemons then events_text events else []
 
+abbrev pub watches_asked : RunWords → List Watch → List ℕ
+watches_asked asked watch = if asked.watch then watches_text watch else []
+
 -- what follows the results
-abbrev pub behind_results : RunWords → BookView → List Event → List ℕ
-behind_results asked b events = history_asked asked b ++ events_asked asked events
+abbrev pub behind_results : RunWords → BookView → List Event → List Watch → List ℕ
+behind_results asked b events watch = history_asked asked b ++ events_asked asked events ++ watches_asked asked watch
 
 -- by the plan and what its units give
-abbrev pub text_by_plan : RunWords → PlanView → (ℕ → Outcome) → BookView → List Event → List ℕ
-text_by_plan asked plan v b events = results_asked asked plan (task_outcome b.graph v (depth plan))
-    (outcome_by b.graph v (depth plan)) ++ behind_results asked b events
+abbrev pub text_by_plan : RunWords → PlanView → (ℕ → Outcome) → BookView → List Event → List Watch → List ℕ
+text_by_plan asked plan v b events watch = results_asked asked plan (task_outcome b.graph v (depth plan))
+    (outcome_by b.graph v (depth plan)) ++ behind_results asked b events watch
 
 -- the same by what the book says
-abbrev pub text_by_book : RunWords → PlanView → BookView → List Event → List ℕ
-text_by_book asked plan b events = results_asked asked plan (task_marks b.state) (outcome_in b.history) ++ behind_results asked b events
+abbrev pub text_by_book : RunWords → PlanView → BookView → List Event → List Watch → List ℕ
+text_by_book asked plan b events watch = results_asked asked plan (task_marks b.state) (outcome_in b.history) ++ behind_results asked b events watch
 
-abbrev pub run_text : RunWords → PlanView → Option Folder → BookView → List Event → List ℕ
-run_text asked plan known b events = text_by_plan asked plan (values_or_closings plan known b.history) b events
+abbrev pub run_text : RunWords → PlanView → Option Folder → BookView → List Event → List Watch → List ℕ
+run_text asked plan known b events watch = text_by_plan asked plan (values_or_closings plan known b.history) b events watch
 
 -- ---- the answer
 
@@ -108,7 +116,14 @@ book_of (Some b) = Some b.value
 
 -- a call with this answer
 abbrev pub call_of : Around → Around → Ended → Call
-call_of before after end = record { before = before; after = after; status = end.status; book = book_of end.book; events = end.events.items }
+call_of before after end = record {
+  before = before;
+  after = after;
+  status = end.status;
+  book = book_of end.book;
+  events = end.events.items;
+  watch = end.watch.items;
+}
 
 -- the events of a run that ended are legal and leave no daemon idle; where none ended there are none
 abbrev pub AreEventsOf : Option BookView → List Event → Type 0
@@ -126,7 +141,7 @@ OfRun asked c b P = (plan : PlanView) × IsNamedRun asked c plan b × P plan
 -- whether all its tasks pass, and that its text was written
 abbrev pub RunWrote : Bool → RunWords → Call → BookView → PlanView → Type 0
 RunWrote passed asked c b plan = (all_pass plan b.graph (values_or_closings plan (known_files asked c) b.history) ≡ passed)
-    × Wrote c.before.sink c.after.sink (run_text asked plan (known_files asked c) b c.events)
+    × Wrote c.before.sink c.after.sink (run_text asked plan (known_files asked c) b c.events c.watch)
 
 -- How a run ended.
 abbrev pub RunEnded : RunWords → Call → BookView → Status → Type 0
@@ -135,7 +150,7 @@ RunEnded asked c b Passed = OfRun asked c b (RunWrote true asked c b)
 -- some task didn't, and all of the text was written
 RunEnded asked c b TaskFailed = OfRun asked c b (RunWrote false asked c b)
 -- the sink failed, and has the beginning of the text
-RunEnded asked c b SinkFault = OfRun asked c b (λ plan. Broke c.before.sink c.after.sink (run_text asked plan (known_files asked c) b c.events))
+RunEnded asked c b SinkFault = OfRun asked c b (λ plan. Broke c.before.sink c.after.sink (run_text asked plan (known_files asked c) b c.events c.watch))
 RunEnded asked c b _ = ⊥
 
 -- no desk sent anything

@@ -4,6 +4,7 @@ use Rattle.file_access.specs.SinkView.{SinkView}
 use Rattle.file_access.specs.SourceView.{SourceView}
 use Rattle.lock_journal.specs.BookView.{BookView}
 use Rattle.daemon_manager.specs.declared.events.Event.{Event}
+use Rattle.run_watch.specs.declared.boards.Watch.{Watch}
 use Rattle.build_runner.specs.Desks.{DeskView}
 use Rattle.command_words.specs.declared.commands.Command.{Command}
 use Rattle.command_words.specs.declared.commands.Command.TheVariants.{Run, Worker, Check, Again, Make}
@@ -30,6 +31,7 @@ pub record Call : Type 0 where
   pub status : Status
   pub book : Option BookView
   pub events : List Event
+  pub watch : List Watch
 
 -- so many desks a command may use, the first ones: a run has one for each thread
 abbrev pub desks_used : Option Command → ℕ

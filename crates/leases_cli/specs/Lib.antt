@@ -7,6 +7,7 @@ pub mod Worker
 pub mod Check
 pub mod Again
 pub mod Make
+pub mod Watches
 pub mod Answered
 pub mod Complete
 pub mod SameResults

@@ -10,6 +10,7 @@ mod plans;
 mod refusals;
 mod status;
 mod top;
+mod watches;
 mod worker;
 
 pub use again::again_history;

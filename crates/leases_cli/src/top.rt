@@ -21,7 +21,7 @@ ghost use Rattle.leases_cli.specs.declared.status.Status.TheVariants as status;
 ghost use Rattle.leases_cli.specs.declared.top.TheConstants.{DESKS};
 ghost use Rattle.leases_cli.specs.Around.{around, desks_used, takes_input};
 ghost use Rattle.leases_cli.specs.Worker.{HasWorked};
-ghost use Rattle.leases_cli.specs.Answered.{Answered, AreEventsOf, RunAnswered, all_pass, book_of, call_of, events_asked, have_all_passed};
+ghost use Rattle.leases_cli.specs.Answered.{Answered, AreEventsOf, RunAnswered, all_pass, book_of, call_of, events_asked, have_all_passed, watches_asked};
 ghost use Rattle.leases_cli.specs.Answered.{history_asked, options_of, run_text, text_by_book, values_or_closings};
 ghost use Rattle.leases_cli.specs.Again.{HasDrivenHistory};
 ghost use Rattle.leases_cli.specs.Check.{HasCheckedHistory};
@@ -36,6 +36,7 @@ use crate::make::make_plan;
 use crate::plans::read;
 use crate::refusals::{told, told_but_no_memory};
 use crate::status::Status;
+use crate::watches::write_watches;
 use crate::worker::serve_worker;
 use build_runner::{RunEnd, RunOptions, run_plan};
 use command_words::{Command, RunWords, WordsFail, read_command};
@@ -48,6 +49,7 @@ use item_actions::Text;
 use lock_journal::Book;
 use plan_reader::Plan;
 use resource_lock::{MAX_WORKERS, Mark, MarkId, State};
+use run_watch::Watch;
 use std::alloc::Global;
 use std::sync::Wait;
 use std::thread::Threads;
@@ -64,6 +66,9 @@ pub struct Ended {
     pub book: Option<Box<Book>>,
     /// What happened to the run's daemons. They are none where no run ended.
     pub events: Vec<Event>,
+    /// What the run's workers saw once each item was closed, by rising unit, where the words ask for it. Else, and where no run ended, it is
+    /// empty.
+    pub watch: Vec<Watch>,
 }
 
 // The plan of this name by the first desk, or the refusal. No request is sent.
@@ -100,6 +105,15 @@ fn write_events_asked<O: Sink>(asked: &RunWords, events: &[Event], page: &mut Pa
     }
 }
 
+// Writes what the workers of a run saw, where the words ask for it.
+fn write_watches_asked<O: Sink>(asked: &RunWords, watch: &[Watch], page: &mut Page, out: &mut O)
+    ensures { Adds (O.seen out.old) page.old (O.seen out.new) page.new (watches_asked asked.now watch.now) }
+{
+    if asked.watch {
+        write_watches(watch, page, out);
+    }
+}
+
 // Prints what the words ask for of a run.
 fn print_run<O: Sink>(
     asked: &RunWords,
@@ -110,12 +124,13 @@ fn print_run<O: Sink>(
     requires tasks { length end.now.book.value.graph.tasks ≡ length plan.now.tasks }
     requires units { end.now.book.value.graph.units ≡ length (plan_units plan.now) }
     requires ended { HasEnded end.now.book.value.state }
-    ensures { Prints (O.seen out.old) (O.seen out.new) (text_by_book asked.now plan.now end.now.book.value end.now.events.items) result }
+    ensures { Prints (O.seen out.old) (O.seen out.new) (text_by_book asked.now plan.now end.now.book.value end.now.events.items end.now.watch.items) result }
 {
     let mut page = Page::new();
     write_results(plan, &end.book, asked.summary, &mut page, out);
     write_history_asked(asked, &end.book, &mut page, out);
     write_events_asked(asked, &end.events, &mut page, out);
+    write_watches_asked(asked, &end.watch, &mut page, out);
     page.end(out)
 }
 
@@ -143,9 +158,10 @@ fn report<O: Sink>(asked: &RunWords, plan: &Plan, end: RunEnd, out: &mut O) -> E
     requires none_idle { NoneIdle end.events.items }
     ensures book { result.book ≡ Some end.book }
     ensures events { AreEventsOf (book_of result.book) result.events.items }
+    ensures watch { result.book ≡ None → result.watch.items ≡ [] }
     ensures status { IsReported (have_all_passed end.book.value) (O.seen out.old) (O.seen out.new)
-        (text_by_book asked.now plan.now end.book.value result.events.items) result.status }
-    ensures kept { result.events ≡ end.events }
+        (text_by_book asked.now plan.now end.book.value result.events.items result.watch.items) result.status }
+    ensures kept { (result.events ≡ end.events) × (result.watch ≡ end.watch) }
 {
     let passed = all_passed(&end.book);
     let status = match print_run(asked, plan, &end, out) {
@@ -157,6 +173,7 @@ fn report<O: Sink>(asked: &RunWords, plan: &Plan, end: RunEnd, out: &mut O) -> E
         status,
         book: Some(end.book),
         events: end.events,
+        watch: end.watch,
     }
 }
 
@@ -164,12 +181,14 @@ fn report<O: Sink>(asked: &RunWords, plan: &Plan, end: RunEnd, out: &mut O) -> E
 fn without_run(alloc: Global, status: Status) -> Ended
     ensures book { result.book ≡ None }
     ensures events { AreEventsOf (book_of result.book) result.events.items }
+    ensures watch { result.watch.items ≡ [] }
     ensures status { result.status ≡ status }
 {
     Ended {
         status,
         book: None,
         events: Vec::new(alloc),
+        watch: Vec::new(alloc),
     }
 }
 
@@ -177,6 +196,7 @@ fn without_run(alloc: Global, status: Status) -> Ended
 fn refuse<O: Sink>(alloc: Global, refusal: Status, out: &mut O) -> Ended
     ensures book { result.book ≡ None }
     ensures events { AreEventsOf (book_of result.book) result.events.items }
+    ensures watch { result.book ≡ None → result.watch.items ≡ [] }
     ensures status { IsToldAs refusal (O.seen out.old) (O.seen out.new) result.status }
 {
     without_run(alloc, told(refusal, out))
@@ -186,6 +206,7 @@ fn refuse<O: Sink>(alloc: Global, refusal: Status, out: &mut O) -> Ended
 fn refuse_plan<O: Sink>(alloc: Global, refusal: Status, out: &mut O) -> Ended
     ensures book { result.book ≡ None }
     ensures events { AreEventsOf (book_of result.book) result.events.items }
+    ensures watch { result.book ≡ None → result.watch.items ≡ [] }
     ensures no_memory { refusal ≡ status.NoMemory → (result.status ≡ status.NoMemory) × (O.seen out.new ≡ O.seen out.old) }
     ensures told { refusal ≢ status.NoMemory → IsToldAs refusal (O.seen out.old) (O.seen out.new) result.status }
 {
@@ -199,11 +220,12 @@ fn report_run<O: Sink>(asked: &RunWords, plan: &Plan, end: RunEnd, out: &mut O) 
     requires none_idle { NoneIdle end.events.items }
     ensures book { result.book ≡ Some end.book }
     ensures events { AreEventsOf (book_of result.book) result.events.items }
+    ensures watch { result.book ≡ None → result.watch.items ≡ [] }
     ensures status { (before after : ℕ → DeskView) → IsRunOf plan.now (options_of asked.now) before after end.book.value
         → IsReported (all_pass plan.now end.book.value.graph (values_or_closings plan.now (known_by asked.now.threads before) end.book.value.history))
         (O.seen out.old) (O.seen out.new)
-        (run_text asked.now plan.now (known_by asked.now.threads before) end.book.value result.events.items) result.status }
-    ensures kept { result.events ≡ end.events }
+        (run_text asked.now plan.now (known_by asked.now.threads before) end.book.value result.events.items result.watch.items) result.status }
+    ensures kept { (result.events ≡ end.events) × (result.watch ≡ end.watch) }
 {
     let _ = end.book.graph();
     outcomes_go_by_number();
@@ -232,6 +254,7 @@ fn run<R: Threads + Wait + Sync, D: Desk + Send + Drop, G: Gate + Sync, O: Sink>
     ensures unsent { result.book ≡ None → result.status ≢ status.NoMemory → (i : ℕ) (d : D)
         → sent_view D.sends D.sent (get_or desks.new.items i d) ≡ sent_view D.sends D.sent (get_or desks.old.items i d) }
     ensures events { AreEventsOf (book_of result.book) result.events.items }
+    ensures watch { result.book ≡ None → result.watch.items ≡ [] }
     ensures answer { (d : D) (source : SourceView) → RunAnswered asked.now (call_of
         (around source (O.seen out.old) (desks_view (desk_view D.files D.faults D.sends D.sent) desks.old.items d))
         (around source (O.seen out.new) (desks_view (desk_view D.files D.faults D.sends D.sent) desks.new.items d)) result) }
@@ -244,6 +267,7 @@ fn run<R: Threads + Wait + Sync, D: Desk + Send + Drop, G: Gate + Sync, O: Sink>
         workers: asked.threads,
         max_leases: asked.max_leases,
         parallel: asked.parallel,
+        watch: asked.watch,
     };
     match run_plan(rt, alloc, &plan, &options, desks, gate) {
         Ok(end) => report_run(asked, &plan, end, out),
@@ -266,6 +290,7 @@ fn work<F: Files, I: Source, O: Sink>(
     ensures input_count { (I.seen input.old).faults ≤ (I.seen input.new).faults }
     ensures book { result.book ≡ None }
     ensures events { AreEventsOf (book_of result.book) result.events.items }
+    ensures watch { result.book ≡ None → result.watch.items ≡ [] }
     ensures worked { (d : F) → HasWorked
         record {
           source = I.seen input.old;
@@ -303,6 +328,7 @@ fn check<D: Desk, I: Source, O: Sink>(
     ensures input_count { (I.seen input.old).faults ≤ (I.seen input.new).faults }
     ensures book { result.book ≡ None }
     ensures events { AreEventsOf (book_of result.book) result.events.items }
+    ensures watch { result.book ≡ None → result.watch.items ≡ [] }
     ensures checked { (d : D) → HasCheckedHistory plan.now
         record {
           source = I.seen input.old;
@@ -340,6 +366,7 @@ fn again<D: Desk, I: Source, O: Sink>(
     ensures input_count { (I.seen input.old).faults ≤ (I.seen input.new).faults }
     ensures book { result.book ≡ None }
     ensures events { AreEventsOf (book_of result.book) result.events.items }
+    ensures watch { result.book ≡ None → result.watch.items ≡ [] }
     ensures driven { (d : D) → HasDrivenHistory plan.now
         record {
           source = I.seen input.old;
@@ -384,6 +411,7 @@ fn perform<R: Threads + Wait + Sync, D: Desk + Send + Drop, I: Source, G: Gate +
     ensures input { takes_input (Some command.now) ≡ false → I.seen input.new ≡ I.seen input.old }
     ensures input_count { (I.seen input.old).faults ≤ (I.seen input.new).faults }
     ensures events { AreEventsOf (book_of result.book) result.events.items }
+    ensures watch { result.book ≡ None → result.watch.items ≡ [] }
     ensures answer { (d : D) → Answered (Some command.now) (call_of
         (around (I.seen input.old) (O.seen out.old) (desks_view (desk_view D.files D.faults D.sends D.sent) desks.old.items d))
         (around (I.seen input.new) (O.seen out.new) (desks_view (desk_view D.files D.faults D.sends D.sent) desks.new.items d)) result) }
@@ -408,7 +436,8 @@ fn perform<R: Threads + Wait + Sync, D: Desk + Send + Drop, I: Source, G: Gate +
 /// them, and no other request. For an item in a process that is one request, where the item ended with neither `Fault`
 /// nor `NoMemory`, and else at most one: the unit's number, its action and its file, in the keep-alive mode asked for, over a link that
 /// was made for requirements that cover those asked. For any other unit it is none. What the words ask for is written to `out`, with
-/// `--daemons` also what happened to the daemons, which the answer has too. For `worker` the requests that the input
+/// `--daemons` also what happened to the daemons, which the answer has too, and with `--watch` what the threads saw of the history once each
+/// item was closed: so many entries, the one that closed it among them, and the leases out after them. For `worker` the requests that the input
 /// gives are answered on `out` by the files of the first desk. For `check` the plan is read through the first desk, and
 /// the history that the input gives is checked against it; what is found is written to `out`. For `again` the same is
 /// done, and where the history is lawful each outcome is worked out anew by the files of the first desk. No other command
@@ -442,6 +471,7 @@ pub fn leases<R: Threads + Wait + Sync, D: Desk + Send + Drop, I: Source, G: Gat
     ensures input { takes_input (command_of words.now) ≡ false → I.seen input.new ≡ I.seen input.old }
     ensures input_count { (I.seen input.old).faults ≤ (I.seen input.new).faults }
     ensures events { AreEventsOf (book_of result.book) result.events.items }
+    ensures watch { result.book ≡ None → result.watch.items ≡ [] }
     ensures answer { (d : D) → Answered (command_of words.now) (call_of
         (around (I.seen input.old) (O.seen out.old) (desks_view (desk_view D.files D.faults D.sends D.sent) desks.old.items d))
         (around (I.seen input.new) (O.seen out.new) (desks_view (desk_view D.files D.faults D.sends D.sent) desks.new.items d)) result) }

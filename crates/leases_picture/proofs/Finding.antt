@@ -4,11 +4,13 @@ use Rattle.std.proofs.lemmas.Bool.{eqb-true, true≢false}
 use Rattle.std.proofs.lemmas.List.{nil_from_length}
 use Rattle.history_text.specs.Text.{numbered, entry_text, end_text}
 use Rattle.history_reader.specs.HistoryView.{HistoryView}
-use Rattle.history_reader.specs.Lines.{is_unbroken, IsLine, IsLineBefore, BeginsWithLine, AddsEntry, TakesLine, Ends, StopsIt, IsWrongAfter, Opens, OpensNone, first_line, second_line, next_number}
+use Rattle.history_reader.specs.declared.heads.Version.{Version}
+use Rattle.history_reader.specs.declared.heads.Version.TheVariants.{One, Two}
+use Rattle.history_reader.specs.Lines.{is_unbroken, IsLine, IsLineBefore, IsNoFirst, BeginsWithLine, AddsEntry, TakesLine, Ends, StopsIt, IsWrongAfter, Opens, OpensNone, first_line, version_of, next_number}
 use Rattle.history_reader.specs.Grammar.{HistoryFits, StopsInHead, StopsAt, head_of, lines_of, text_of, IsHistoryText}
 use Rattle.history_reader.proofs.lemmas.Splits.{same_line}
 use Rattle.history_reader.proofs.lemmas.LineLaws.{entry_line, end_line}
-use Rattle.history_reader.proofs.lemmas.TextLaws.{first_wrong, second_wrong, text_parts}
+use Rattle.history_reader.proofs.lemmas.TextLaws.{head_parts, second_of, first_wrong, second_wrong, text_parts}
 use Rattle.history_reader.proofs.lemmas.ReadLaws.{ReadSoFar, opened_so_far}
 use Rattle.history_check.specs.Naming.{ArePassedOver, Names, Breaks, BeginsHistory, BreaksBehind}
 use Rattle.history_check.proofs.Passing.{none_passed, one_passed}
@@ -40,7 +42,7 @@ whole_line : {line more : List ℕ} → IsLineBefore line more → more ≢ [] �
 whole_line (inl whole) some = whole
 whole_line (inr last) some = absurd (some last.1)
 
-pub passes_line : {text rest line more : List ℕ} → Passes text rest → BeginsWithLine rest line more → line ≢ first_line → more ≢ [] → Passes text more
+pub passes_line : {text rest line more : List ℕ} → Passes text rest → BeginsWithLine rest line more → IsNoFirst line → more ≢ [] → Passes text more
 passes_line {text} {rest} {line} {more} so_far next other some = record {
   passed = so_far.passed ++ line;
   over = one_passed so_far.passed line so_far.over (record { whole = whole_line next.line_before some; other = other });
@@ -54,8 +56,8 @@ line_shortens {rest} {line} {more} next some =
     let front : length line ≡ length whole.front + 1 = ap length whole.is ∙ length-append whole.front (codes "\n") in
     omega arith
 
-pub head_there : {text rest line more : List ℕ} → Passes text rest → BeginsWithLine rest line more → line ≡ first_line → IsBehindHead text more
-head_there {text} {rest} {line} {more} so_far next first = record {
+pub head_there : (v : Version) {text rest line more : List ℕ} → Passes text rest → BeginsWithLine rest line more → line ≡ first_line v → IsBehindHead v text more
+head_there v {text} {rest} {line} {more} so_far next first = record {
   passed = so_far.passed;
   over = so_far.over;
   is = so_far.is ∙ ap (λ bs. so_far.passed ++ bs) (next.is ∙ ap (λ bs. bs ++ more) first);
@@ -65,11 +67,12 @@ in_head : (text : List ℕ) → StopsAt text 0 → StopsInHead text 0
 in_head text (inl a) = a
 in_head text (inr b) = absurd (let number : 0 ≡ length b.before.entries + 1 = b.number in omega arith)
 
-nothing_first : [] ≡ first_line → ⊥
-nothing_first e = cc
+nothing_first : IsNoFirst []
+nothing_first One e = cc
+nothing_first Two e = cc
 
 -- nothing is behind the last line, which is whole
-no_head_behind : {text rest line : List ℕ} → Passes text rest → rest ≡ line → IsLine line → line ≢ first_line → Breaks text 0
+no_head_behind : {text rest line : List ℕ} → Passes text rest → rest ≡ line → IsLine line → IsNoFirst line → Breaks text 0
 no_head_behind {text} {rest} {line} so_far is whole other = record {
   passed = so_far.passed ++ line;
   over = one_passed so_far.passed line so_far.over (record { whole = whole; other = other });
@@ -80,7 +83,7 @@ no_head_behind {text} {rest} {line} so_far is whole other = record {
 }
 
 -- the last line has no end
-no_head_in : {text rest line : List ℕ} → Passes text rest → rest ≡ line → is_unbroken line ≡ true → line ≢ first_line → Breaks text 0
+no_head_in : {text rest line : List ℕ} → Passes text rest → rest ≡ line → is_unbroken line ≡ true → IsNoFirst line → Breaks text 0
 no_head_in {text} {rest} {line} so_far is unbroken other = record {
   passed = so_far.passed;
   over = so_far.over;
@@ -90,26 +93,26 @@ no_head_in {text} {rest} {line} so_far is unbroken other = record {
   is = so_far.is ∙ ap (λ bs. so_far.passed ++ bs) is;
 }
 
-no_head_either : {text rest line more : List ℕ} → Passes text rest → rest ≡ line → IsLineBefore line more → line ≢ first_line → Breaks text 0
+no_head_either : {text rest line more : List ℕ} → Passes text rest → rest ≡ line → IsLineBefore line more → IsNoFirst line → Breaks text 0
 no_head_either so_far is (inl whole) other = no_head_behind so_far is whole other
 no_head_either so_far is (inr last) other = no_head_in so_far is last.0 other
 
-pub no_head : {text rest line more : List ℕ} → Passes text rest → BeginsWithLine rest line more → line ≢ first_line → more ≡ [] → Breaks text 0
+pub no_head : {text rest line more : List ℕ} → Passes text rest → BeginsWithLine rest line more → IsNoFirst line → more ≡ [] → Breaks text 0
 no_head {text} {rest} {line} {more} so_far next other none =
     no_head_either so_far (next.is ∙ (ap (λ bs. line ++ bs) none ∙ append-nil line)) next.line_before other
 
-pub no_second : {text rest line more : List ℕ} → IsBehindHead text rest → BeginsWithLine rest line more → OpensNone line → Breaks text 0
-no_second {text} {rest} {line} {more} head next none = record {
+pub no_second : (v : Version) {text rest line more : List ℕ} → IsBehindHead v text rest → BeginsWithLine rest line more → OpensNone v line → Breaks text 0
+no_second v {text} {rest} {line} {more} head next none = record {
   passed = head.passed;
   over = head.over;
-  text = first_line ++ (line ++ more);
-  begins = inl (record { more = line ++ more; is = refl });
-  stops = inl (in_head (first_line ++ (line ++ more)) (second_wrong line more next.line_before none));
-  is = head.is ∙ ap (λ bs. head.passed ++ (first_line ++ bs)) next.is;
+  text = first_line v ++ (line ++ more);
+  begins = inl (record { version = v; more = line ++ more; is = refl });
+  stops = inl (in_head (first_line v ++ (line ++ more)) (second_wrong v line more next.line_before none));
+  is = head.is ∙ ap (λ bs. head.passed ++ (first_line v ++ bs)) next.is;
 }
 
-pub opened_there : {text rest line more : List ℕ} {h : HistoryView} → (head : IsBehindHead text rest) → BeginsWithLine rest line more → Opens line h → ReadSoFar (first_line ++ rest) h more
-opened_there {text} {rest} {line} {more} {h} head next opens = opened_so_far {text = first_line ++ rest} {first = first_line} {second = line} {rest = rest} {more = more} {h = h} refl refl next.is opens
+pub opened_there : (v : Version) {text rest line more : List ℕ} {h : HistoryView} → (head : IsBehindHead v text rest) → BeginsWithLine rest line more → Opens v line h → ReadSoFar (first_line v ++ rest) h more
+opened_there v {text} {rest} {line} {more} {h} head next opens = opened_so_far v {text = first_line v ++ rest} {first = first_line v} {second = line} {rest = rest} {more = more} {h = h} refl refl next.is opens
 
 pub ends_there : {text rest line more : List ℕ} {h k : HistoryView} → ReadSoFar text h rest → BeginsWithLine rest line more → Ends h line k → BeginsWith text k
 ends_there {text} {rest} {line} {more} {h} {k} so_far next ended =
@@ -134,8 +137,9 @@ broken h line more n fits before number wrong = record {
 
 begins_first : (h : HistoryView) (rest : List ℕ) → BeginsHistory (lines_of h ++ rest)
 begins_first h rest = record {
-  more = second_line h.workers h.max h.parallel ++ (numbered entry_text 1 h.entries ++ rest);
-  is = append_assoc (head_of h) (numbered entry_text 1 h.entries) rest;
+  version = version_of h.locks;
+  more = second_of h ++ (numbered entry_text 1 h.entries ++ rest);
+  is = append_assoc (head_of h) (numbered entry_text 1 h.entries) rest ∙ head_parts h.workers h.max h.parallel h.locks (numbered entry_text 1 h.entries ++ rest);
 }
 
 pub breaks_there : {text rest line more : List ℕ} {h k : HistoryView} (n : ℕ) → ReadSoFar text h rest → BeginsWithLine rest line more → StopsIt h line k n → BeginsHistory text × BreaksBehind text n
@@ -143,19 +147,19 @@ breaks_there {text} {rest} {line} {more} {h} {k} n so_far next stops =
     let whole : lines_of h ++ (line ++ more) ≡ text = ap (λ bs. lines_of h ++ bs) (sym next.is) ∙ sym so_far.is in
     (subst BeginsHistory whole (begins_first h (line ++ more)), subst (λ t. BreaksBehind t n) whole (broken h line more n so_far.fits next.line_before stops.number stops.wrong))
 
-pub found_there : {text rest : List ℕ} {h : HistoryView} (head : IsBehindHead text rest) → BeginsWith (first_line ++ rest) h → HasHistory text h
-found_there {text} {rest} {h} head begins = record {
+pub found_there : (v : Version) {text rest : List ℕ} {h : HistoryView} (head : IsBehindHead v text rest) → BeginsWith (first_line v ++ rest) h → HasHistory text h
+found_there v {text} {rest} {h} head begins = record {
   named = head.passed ++ text_of h;
   names = record { passed = head.passed; over = head.over; text = text_of h; history = record { fits = begins.fits; is = refl }; is = refl };
   behind = begins.behind;
   is = head.is ∙ (ap (λ bs. head.passed ++ bs) begins.is ∙ sym (append_assoc head.passed (text_of h) begins.behind));
 }
 
-pub broken_there : {text rest : List ℕ} (n : ℕ) (head : IsBehindHead text rest) → BeginsHistory (first_line ++ rest) × BreaksBehind (first_line ++ rest) n → Breaks text n
-broken_there {text} {rest} n head breaks = record {
+pub broken_there : (v : Version) {text rest : List ℕ} (n : ℕ) (head : IsBehindHead v text rest) → BeginsHistory (first_line v ++ rest) × BreaksBehind (first_line v ++ rest) n → Breaks text n
+broken_there v {text} {rest} n head breaks = record {
   passed = head.passed;
   over = head.over;
-  text = first_line ++ rest;
+  text = first_line v ++ rest;
   begins = inl breaks.0;
   stops = inr breaks.1;
   is = head.is;
@@ -184,10 +188,10 @@ pub failed_here : {text rest line more : List ℕ} {h : HistoryView} (k : Histor
 failed_here {text} {rest} {line} {more} {h} k taken fail r so_far next was took is =
     handed_on text k r fail is (stopped_here k fail so_far next (subst (λ (x : Result HistoryLine TextFail). TakesLine h line k x) was took))
 
-pub found_all : {text rest line more : List ℕ} {h : HistoryView} (k : HistoryView) → IsBehindHead text rest → BeginsWithLine rest line more → Opens line h → BeginsWith (lines_of h ++ more) k → HasHistory text k
-found_all {text} {rest} {line} {more} {h} k head next opens begins = found_there head (subst (λ t. BeginsWith t k) (sym (opened_there head next opens).is) begins)
+pub found_all : (v : Version) {text rest line more : List ℕ} {h : HistoryView} (k : HistoryView) → IsBehindHead v text rest → BeginsWithLine rest line more → Opens v line h → BeginsWith (lines_of h ++ more) k → HasHistory text k
+found_all v {text} {rest} {line} {more} {h} k head next opens begins = found_there v head (subst (λ t. BeginsWith t k) (sym (opened_there v head next opens).is) begins)
 
-pub broken_all : {text rest line more : List ℕ} {h : HistoryView} (k : HistoryView) (fail : TextFail) → IsBehindHead text rest → BeginsWithLine rest line more → Opens line h → EndsIn (lines_of h ++ more) k (ended_by fail) → IsFoundIn text (found_by fail)
-broken_all {text} {rest} {line} {more} {h} k (Stops n) head next opens ends =
-    broken_there n head (subst (λ t. BeginsHistory t × BreaksBehind t n) (sym (opened_there head next opens).is) ends)
-broken_all k NoMemory head next opens ends = tt
+pub broken_all : (v : Version) {text rest line more : List ℕ} {h : HistoryView} (k : HistoryView) (fail : TextFail) → IsBehindHead v text rest → BeginsWithLine rest line more → Opens v line h → EndsIn (lines_of h ++ more) k (ended_by fail) → IsFoundIn text (found_by fail)
+broken_all v {text} {rest} {line} {more} {h} k (Stops n) head next opens ends =
+    broken_there v n head (subst (λ t. BeginsHistory t × BreaksBehind t n) (sym (opened_there v head next opens).is) ends)
+broken_all v k NoMemory head next opens ends = tt

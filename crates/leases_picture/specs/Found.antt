@@ -2,17 +2,18 @@
 use Rattle.std.specs.Prelude.{ℕ, ◌≡◌, List, ◌++◌, Result, Ok, Err}
 use Rattle.history_check.specs.Naming.{ArePassedOver, Names, Breaks, BeginsHistory, BreaksBehind}
 use Rattle.history_reader.specs.HistoryView.{HistoryView, history_view}
+use Rattle.history_reader.specs.declared.heads.Version.{Version}
 use Rattle.history_reader.specs.Lines.{first_line}
 use Rattle.history_reader.specs.Grammar.{HistoryFits, text_of}
 use Rattle.history_reader.specs.declared.histories.History.{History}
 use Rattle.history_reader.specs.declared.fails.TextFail.{TextFail}
 use Rattle.history_reader.specs.declared.fails.TextFail.TheVariants.{Stops, NoMemory}
 
--- The text is lines that are passed over, the first line of a history, and the rest.
-pub record IsBehindHead (text rest : List ℕ) : Type 0 where
+-- The text is lines that are passed over, the first line of a history of this version, and the rest.
+pub record IsBehindHead (v : Version) (text rest : List ℕ) : Type 0 where
   pub passed : List ℕ
   pub over : ArePassedOver passed
-  pub is : text ≡ passed ++ (first_line ++ rest)
+  pub is : text ≡ passed ++ (first_line v ++ rest)
 
 -- The text is that of a history, and whatever is behind it.
 pub record BeginsWith (text : List ℕ) (h : HistoryView) : Type 0 where

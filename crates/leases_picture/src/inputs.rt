@@ -5,19 +5,19 @@ ghost use Rattle.history_reader.specs.HistoryView.{history_view};
 ghost use Rattle.history_reader.specs.Grammar.{HistoryFits, lines_of};
 ghost use Rattle.leases_picture.specs.Found.{IsBehindHead, EndsIn, IsFoundIn};
 
-use history_reader::{History, HistoryLine, TextFail, is_first_line, next_line};
+use history_reader::{History, HistoryLine, TextFail, Version, next_line, read_version};
 use std::alloc::Global;
 
-// The text behind the first line that is the first of a history.
-fn behind_head(text: &[u8]) -> Option<&[u8]>
-    ensures some { IfSome result (λ rest. IsBehindHead text.now rest.now) }
+// Which version the first line that is the first of a history begins, and the text behind it.
+fn behind_head(text: &[u8]) -> Option<(Version, &[u8])>
+    ensures some { IfSome result (λ found. IsBehindHead found.0 text.now found.1.now) }
     ensures none { IfNone result (Breaks text.now 0) }
 {
     let mut rest = text;
     loop {
         let (line, more) = next_line(rest);
-        if is_first_line(line) {
-            return Some(more);
+        if let Some(version) = read_version(line) {
+            return Some((version, more));
         }
         if more.is_empty() {
             return None;
@@ -41,17 +41,17 @@ fn take_lines(alloc: Global, history: &mut History, lines: &[u8]) -> Result<(), 
     }
 }
 
-/// The first history of a text. Lines before the first that is `history 1` are passed over, and what stands behind
-/// its `end` line is left alone. Stops comes where the text stops being a history, with the number at which it does,
+/// The first history of a text. Lines before the first that is `history 1` or `history 2` are passed over, and what
+/// stands behind its `end` line is left alone. Stops comes where the text stops being a history, with the number at which it does,
 /// and NoMemory where there was no memory for the entries.
 pub(crate) fn find_history(alloc: Global, text: &[u8]) -> Result<History, TextFail>
     ensures { IsFoundIn text.now result }
 {
-    let Some(rest) = behind_head(text) else {
+    let Some((version, rest)) = behind_head(text) else {
         return Err(TextFail::Stops(0));
     };
     let (second, lines) = next_line(rest);
-    let Some(mut history) = History::opening(alloc, second) else {
+    let Some(mut history) = History::opening(alloc, version, second) else {
         return Err(TextFail::Stops(0));
     };
     match take_lines(alloc, &mut history, lines) {

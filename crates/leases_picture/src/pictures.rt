@@ -13,7 +13,7 @@ use run_picture::{DrawFail, draw};
 use std::alloc::Global;
 
 fn draw_history<K: Sink>(alloc: Global, history: &History, sink: &mut K) -> Status
-    requires { HeadFits history.now.workers history.now.max }
+    requires { HeadFits history.now.workers history.now.max history.now.locks }
     ensures { IsDrawnAs (history_view history.now) (K.seen sink.old) (K.seen sink.new) result }
 {
     match draw(alloc, history, sink) {
@@ -37,8 +37,8 @@ fn draw_text<K: Sink>(alloc: Global, text: Vec<u8>, sink: &mut K) -> Status
     }
 }
 
-/// Draws the history that an input gives. Lines before the first that is `history 1` are passed over, and what stands
-/// behind its `end` line is left alone.
+/// Draws the history that an input gives. Lines before the first that is `history 1` or `history 2` are passed over,
+/// and what stands behind its `end` line is left alone.
 ///
 /// Drawn comes where the picture was written, NoHistory where the text stops being a history, TooLarge where the
 /// history can't be drawn, SourceFault where the input failed. The last three have a line. At SinkFault the beginning

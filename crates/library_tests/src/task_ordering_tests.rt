@@ -248,8 +248,8 @@ fn book_of_two(rt: &impl Abort, alloc: Global) -> Result<Book, AllocError> {
     let mut tasks = Vec::new(alloc);
     tasks.push(task_alone(alloc))?;
     tasks.push(task_alone(alloc))?;
-    assert!(rt; Graph::fits(1, 1, 1, &tasks, &[]));
-    let graph = Graph::new(1, 1, 1, tasks, Vec::new(alloc));
+    assert!(rt; Graph::fits(1, None, 1, 1, &tasks, &[]));
+    let graph = Graph::new(1, None, 1, 1, tasks, Vec::new(alloc));
     Book::opening(alloc, graph, 0, 0)
 }
 

@@ -167,12 +167,12 @@ impl Book {
     }
 
     /// The lowest task that can be started: it waits, each that it comes after has passed, and
-    /// nobody owns its lock.
+    /// nobody owns a lock that conflicts with its own.
     pub fn lowest_to_start(&self) -> Option<u32>
         ensures some { IfSome result (IsLowest (CanStart self.now.graph self.now.state)) }
         ensures none { IfNone result (IsNone (CanStart self.now.graph self.now.state)) }
     {
-        self.ready.first_to_start()
+        self.ready.first_to_start(self.tentative.state())
     }
 
     /// Whether each task has ended.

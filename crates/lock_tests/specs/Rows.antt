@@ -16,6 +16,7 @@ task_view row = record { lock = record { 0 = row.lock }; after = as_list row.aft
 abbrev pub graph_of_rows : Limits → List TaskRow → List GraphAction → GraphView
 graph_of_rows limits rows actions = record {
   locks = limits.locks;
+  all = limits.all;
   workers = limits.workers;
   max_leases = limits.max_leases;
   units = sum_by units_in actions;

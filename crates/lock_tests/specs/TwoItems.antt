@@ -1,5 +1,5 @@
 -- A task with one action of two items, as the worked example runs it.
-use Rattle.std.specs.Prelude.{◌≡◌, false, [], ◌∷◌}
+use Rattle.std.specs.Prelude.{◌≡◌, false, [], ◌∷◌, None}
 use Rattle.resource_lock.specs.GraphView.{GraphView}
 use Rattle.resource_lock.specs.declared.graphs.Retention.{Retention}
 use Rattle.resource_lock.specs.declared.marks.MarkId.TheVariants.{Task as TaskOf, Action as ActionOf}
@@ -13,6 +13,7 @@ use Rattle.async_tracker.specs.Tasks.{MayEnd}
 abbrev pub two_items : Retention → GraphView
 two_items retention = record {
   locks = 1;
+  all = None;
   workers = 2;
   max_leases = 1;
   units = 2;

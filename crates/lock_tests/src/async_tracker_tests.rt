@@ -148,6 +148,7 @@ pub(crate) fn open_task(
 {
     let limits = Limits {
         locks: 1,
+        all: None,
         workers: 2,
         max_leases: 1,
     };

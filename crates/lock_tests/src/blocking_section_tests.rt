@@ -184,6 +184,7 @@ fn steps_aside<R: Wait>(rt: &R, service: &Coordination, pass: &mut Pass) -> bool
 /// Two workers, two locks, and one lease.
 const LIMITS: Limits = Limits {
     locks: 2,
+    all: None,
     workers: 2,
     max_leases: 1,
 };
@@ -264,6 +265,7 @@ fn play<R: Wait + Abort>(rt: &R, service: &Coordination, pass: &mut Pass, stops:
 /// Two workers and one lease.
 const ONE_LEASE: Limits = Limits {
     locks: 0,
+    all: None,
     workers: 2,
     max_leases: 1,
 };

@@ -16,6 +16,7 @@ use std::test::Fail;
 
 const LIMITS: Limits = Limits {
     locks: 2,
+    all: None,
     workers: 2,
     max_leases: 1,
 };

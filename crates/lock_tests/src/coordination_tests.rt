@@ -142,6 +142,7 @@ fn takes_by_a_try<R: Wait>(rt: &R, service: &Coordination, pass: &mut Pass) -> b
 fn a_free_lock_is_taken_by_a_try(rt: HostRuntime) -> Result<(), Fail> {
     let limits = Limits {
         locks: 1,
+        all: None,
         workers: 2,
         max_leases: 2,
     };
@@ -353,6 +354,7 @@ fn open_scene(rt: &impl Abort, alloc: Global, scene: &Scene) -> Result<Box<Opene
     let rows = rows_of(alloc, scene)?;
     let limits = Limits {
         locks: 4,
+        all: None,
         workers: scene.workers,
         max_leases: 8,
     };

@@ -49,6 +49,7 @@ pub fn graph_of(
     assert!(rt;
         Graph::fits(
             limits.locks,
+            limits.all,
             limits.workers,
             limits.max_leases,
             &tasks,
@@ -57,6 +58,7 @@ pub fn graph_of(
     );
     let graph = Graph::new(
         limits.locks,
+        limits.all,
         limits.workers,
         limits.max_leases,
         tasks,

@@ -51,6 +51,7 @@ fn take_and_hand_back<R: Wait + Abort>(
 /// Two workers, three locks, and as many leases as workers.
 const LIMITS: Limits = Limits {
     locks: 3,
+    all: None,
     workers: 2,
     max_leases: 2,
 };

@@ -2,6 +2,8 @@
 #![tactic(auto)]
 
 #[cfg(test)]
+mod all_projects_tests;
+#[cfg(test)]
 mod async_tracker_tests;
 #[cfg(test)]
 mod blocking_section_tests;
@@ -15,6 +17,8 @@ mod entries;
 mod graphs;
 #[cfg(test)]
 mod lease_service_tests;
+#[cfg(test)]
+mod lock_calls;
 #[cfg(test)]
 mod numbers;
 #[cfg(test)]

@@ -17,6 +17,7 @@ const FIRST: WorkerId = WorkerId(0);
 
 const LIMITS: Limits = Limits {
     locks: 1,
+    all: None,
     workers: 1,
     max_leases: 1,
 };
@@ -88,8 +89,8 @@ static STEPS: [Step; 9] = [
 ];
 
 // Whether the index tells these as the lowest.
-fn tells(ready: &ReadyWork, to_skip: Option<u32>, to_start: Option<u32>) -> bool {
-    ready.first_to_skip() == to_skip && ready.first_to_start() == to_start
+fn tells(ready: &ReadyWork, state: &State, to_skip: Option<u32>, to_start: Option<u32>) -> bool {
+    ready.first_to_skip() == to_skip && ready.first_to_start(state) == to_start
 }
 
 // Takes the steps one after another, after the last of which all tasks have ended.
@@ -101,7 +102,7 @@ fn follows_all_steps(graph: &Graph, state: &mut State, ready: &mut ReadyWork) ->
         if ready.all_ended() || !move_mark(graph, state, ready, id, to) {
             return false;
         }
-        if !tells(ready, to_skip, to_start) {
+        if !tells(ready, state, to_skip, to_start) {
             return false;
         }
     }

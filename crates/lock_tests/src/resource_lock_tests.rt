@@ -5,6 +5,7 @@ ghost use Rattle.resource_lock.specs.StateView.{IsWorkerOf, empty_holding};
 ghost use Rattle.lock_tests.specs.Sizes.{HasSizes};
 
 use crate::graphs::{graph_of, tasks_of};
+use crate::lock_calls::{give_back, try_for};
 use crate::rows::{Limits, TaskRow};
 use resource_lock::{
     Change, Graph, GraphAction, LockId, Mark, MarkId, Retention, State, WorkerId,
@@ -16,6 +17,7 @@ use std::test::Fail;
 
 const LIMITS: Limits = Limits {
     locks: 2,
+    all: None,
     workers: 3,
     max_leases: 2,
 };
@@ -114,6 +116,7 @@ fn fits(
     let tasks = tasks_of(alloc, rows)?;
     Ok(Graph::fits(
         limits.locks,
+        limits.all,
         limits.workers,
         limits.max_leases,
         &tasks,
@@ -122,19 +125,21 @@ fn fits(
 }
 
 /// Limits that the tasks and actions don't fit.
-static UNFIT_LIMITS: [(u32, u32, u32); 6] = [
-    (2, 0, 2),
-    (2, 33, 2),
-    (2, 3, 0),
-    (2, 3, 33),
-    (1, 3, 2),
-    (4097, 3, 2),
+static UNFIT_LIMITS: [(u32, Option<LockId>, u32, u32); 7] = [
+    (2, None, 0, 2),
+    (2, None, 33, 2),
+    (2, None, 3, 0),
+    (2, None, 3, 33),
+    (1, None, 3, 2),
+    (4097, None, 3, 2),
+    (2, Some(LockId(2)), 3, 2),
 ];
 
 fn some_limits_fit(alloc: Global) -> Result<bool, AllocError> {
-    for (locks, workers, max_leases) in UNFIT_LIMITS {
+    for (locks, all, workers, max_leases) in UNFIT_LIMITS {
         let limits = Limits {
             locks,
+            all,
             workers,
             max_leases,
         };
@@ -213,10 +218,10 @@ fn is_owned_alone(state: &mut State) -> bool
     requires empty { state.old.holdings ≡ replicate 3 empty_holding }
 {
     let (owner, other, lock) = (WorkerId(0), WorkerId(1), LockId(0));
-    let first = state.try_lock(owner, lock);
-    let again = state.try_lock(owner, lock);
-    let others = state.try_lock(other, lock);
-    state.unlock(other, lock);
+    let first = try_for(state, owner, lock);
+    let again = try_for(state, owner, lock);
+    let others = try_for(state, other, lock);
+    give_back(state, other, lock);
     first && again && !others && state.owner(lock) == Some(owner)
 }
 

@@ -1,9 +1,12 @@
 //! What a test's graph is made of. It stands here without tests too, since the definitions in `specs/` name it.
 
-/// How many locks, workers and leases a graph has.
+use resource_lock::LockId;
+
+/// How many locks, workers and leases a graph has, and which lock is the all-projects lock.
 #[derive(Clone, Copy)]
 pub struct Limits {
     pub locks: u32,
+    pub all: Option<LockId>,
     pub workers: u32,
     pub max_leases: u32,
 }

@@ -1,14 +1,15 @@
 -- A state that lets a worker do no more than another state.
-use Rattle.std.proofs.Common.{◌≡◌, ◌≢◌, ◌≤◌, ◌<◌, ℕ, List, [], ◌∷◌, length, Bool, true, false, not, ◌&&◌, inl, inr, get_or, set, None, Some, Option, refl, sym, ◌∙◌, ap, subst, arith}
+use Rattle.std.proofs.Common.{◌≡◌, ◌≢◌, ◌≤◌, ◌<◌, ℕ, List, [], ◌∷◌, length, Bool, true, false, not, ◌&&◌, ◌||◌, eqb, inl, inr, get_or, set, None, Some, Option, refl, sym, ◌∙◌, ap, subst, arith}
 use Rattle.std.specs.Option.{is_none}
-use Rattle.std.proofs.lemmas.Bool.{and_parts, and_from, cases_eq, cases_lt, eqb-true, ltb-true, lt-ltb, false≢true}
+use Rattle.std.proofs.lemmas.Bool.{and_parts, and_from, both_ways, cases_eq, cases_lt, eqb-true, false_from_ne_true, ltb-true, lt-ltb, false≢true, not-true, not_from_false}
 use Rattle.std.proofs.lemmas.List.{get_or-set_same, get_or-set_other, length-set, set_past}
 use Rattle.resource_lock.proofs.lemmas.Lists.{get_or-set_cases, one_if}
+use Rattle.resource_lock.proofs.lemmas.Conflicts.{kept_exactly}
 use Rattle.resource_lock.proofs.lemmas.Kept.{leases-with_holding}
 use Rattle.resource_lock.proofs.lemmas.Others.{others_keep}
 use Rattle.resource_lock.proofs.lemmas.Runs.{same_shape-make, same_shape-sym, same_shape-trans, worker_along}
 use Rattle.resource_lock.proofs.lemmas.Undo.{holding_now}
-use Rattle.resource_lock.specs.StateView.{StateView, Holding, holding_of, is_owner, owner_of, owns, leases_out, mark_of, has_parked, stands_in, runs_by, IsWorkerOf}
+use Rattle.resource_lock.specs.StateView.{StateView, Holding, holding_of, is_other, is_owner, kept_from, names_lock, owner_of, owns, leases_out, mark_of, has_parked, stands_in, runs_by, IsWorkerOf}
 use Rattle.resource_lock.specs.Change.{same_mark, names_only, stands_last, can, make, can_all, holding_after, with_holding}
 use Rattle.resource_lock.specs.Shape.{SameShape}
 use Rattle.resource_lock.specs.declared.ids.LockId.{LockId}
@@ -123,12 +124,31 @@ no_more_after s v w c within other h quiet =
       marks = marks_after s v w c other h quiet;
     }
 
+-- who is kept from a lock stays so
+
+owned_by_other : (o p : Option WorkerId) (w : WorkerId) → Still (is_none o) (is_none p) → is_owner p w ≡ is_owner o w → is_other o w ≡ true → is_other p w ≡ true
+owned_by_other None p w free own other = absurd (false≢true other)
+owned_by_other (Some u) None w free own other = absurd (false≢true (free refl))
+owned_by_other (Some u) (Some v) w free own other = ap not own ∙ other
+
+pub kept_still : {w : WorkerId} {s t : StateView} → NoMore w s t → (l : LockId) → Still (not (kept_from s w l)) (not (kept_from t w l))
+kept_still {w} {s} {t} n l open' = not_from_false (kept_from s w l) (false_from_ne_true (kept_from s w l) (λ kept.
+    let at = (kept_exactly s w l).0 kept in
+    both_ways (kept_from t w l) (not-true (kept_from t w l) open') ((kept_exactly t w l).1 (record {
+      lock = at.lock;
+      conflicts = ap (λ all. eqb at.lock.0 l.0 || names_lock all at.lock || names_lock all l) (sym n.shape.all) ∙ at.conflicts;
+      owner = owned_by_other (owner_of s at.lock) (owner_of t at.lock) w (n.free at.lock) (n.owns at.lock) at.owner;
+    }))))
+
 -- a change of the worker's own: where it can be made, and what it leaves
 
 pub can_still : {w : WorkerId} {s t : StateView} → NoMore w s t → (c : Change) → Still (can s w c) (can t w c)
 can_still {w} {s} {t} n (Lock l) h =
-    let p = and_parts (is_none (owner_of t l)) (not (has_parked t w l)) h in
-    and_from (is_none (owner_of s l)) (not (has_parked s w l)) (n.free l p.0) (sym (ap (λ (x : Holding). not (stands_in l x.parked)) n.holding) ∙ p.1)
+    let p = and_parts (is_none (owner_of t l) && not (kept_from t w l)) (not (has_parked t w l)) h in
+    let q = and_parts (is_none (owner_of t l)) (not (kept_from t w l)) p.0 in
+    and_from (is_none (owner_of s l) && not (kept_from s w l)) (not (has_parked s w l))
+    (and_from (is_none (owner_of s l)) (not (kept_from s w l)) (n.free l q.0) (kept_still n l q.1))
+    (sym (ap (λ (x : Holding). not (stands_in l x.parked)) n.holding) ∙ p.1)
 can_still {w} {s} {t} n (Unlock l) h = sym (n.owns l) ∙ h
 can_still {w} {s} {t} n Take h =
     let p = and_parts (not (holding_of t w).lease && not (holding_of t w).blocked) _ h in
@@ -179,7 +199,7 @@ with_holding_still {w} {s} {t} n within f =
     let now : holding_of (with_holding s w (f (holding_of s w))) w ≡ f (holding_of s w) = holding_now s w (f (holding_of s w)) within in
     let then : holding_of (with_holding t w (f (holding_of t w))) w ≡ f (holding_of t w) = holding_now t w (f (holding_of t w)) within_t in
     record {
-      shape = record { max_leases = n.shape.max_leases; locks = n.shape.locks; workers = length-set s.holdings w.0 (f (holding_of s w)) ∙ (n.shape.workers ∙ sym (length-set t.holdings w.0 (f (holding_of t w)))); tasks = n.shape.tasks; actions = n.shape.actions; units = n.shape.units };
+      shape = record { max_leases = n.shape.max_leases; all = n.shape.all; locks = n.shape.locks; workers = length-set s.holdings w.0 (f (holding_of s w)) ∙ (n.shape.workers ∙ sym (length-set t.holdings w.0 (f (holding_of t w)))); tasks = n.shape.tasks; actions = n.shape.actions; units = n.shape.units };
       holding = then ∙ (ap f n.holding ∙ sym now);
       owns = n.owns;
       runs = elim [ TaskOf i ↦ n.runs (TaskOf i) | ActionOf i ↦ n.runs (ActionOf i) | UnitOf i ↦ n.runs (UnitOf i) ];

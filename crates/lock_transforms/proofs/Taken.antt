@@ -2,14 +2,16 @@
 use Rattle.std.proofs.Common.{◌≡◌, ℕ, ◌<◌, ◌≤◌, ◌+◌, ◌-◌, length, take, drop, get_or, List, [], ◌∷◌, ◌++◌, map, Bool, true, false, not, cond, ◌&&◌, ◌||◌, ◌⊎◌, leb, ltb, refl, sym, ◌∙◌, ap, subst, arith, Option, None, Some, inl, inr}
 use Rattle.std.specs.Option.{is_none}
 use Rattle.std.specs.List.{All, AllByRecursion, list_all, filter, slice_index_or, count_by}
-use Rattle.std.proofs.lemmas.Bool.{and_parts, and_from, not_from_false, eq-eqb, leb-true, le-leb, lt-ltb, ltb-true, false_from_ne_true, false≢true, cases_Bool}
+use Rattle.std.proofs.lemmas.Bool.{and_parts, and_from, both_ways, not_from_false, eq-eqb, leb-true, le-leb, lt-ltb, ltb-true, false_from_ne_true, false≢true, cases_Bool}
 use Rattle.std.proofs.lemmas.List.{append_assoc, append-nil, length-append, length-take, take_all, take_more, take-append-drop, get_or-set_same, get_or-set_other}
 use Rattle.std.proofs.Math.Bool.{and-true}
 use Rattle.resource_lock.proofs.lemmas.Lists.{get_or-set_cases}
-use Rattle.resource_lock.proofs.lemmas.Undo.{same_lock}
+use Rattle.resource_lock.proofs.lemmas.Alone.{alone_locked, kept_same, own_not_kept}
+use Rattle.resource_lock.proofs.lemmas.Undo.{none_from}
 use Rattle.resource_lock.proofs.lemmas.Runs.{same_shape-make_all, make_all-append, can_all-append}
-use Rattle.resource_lock.specs.StateView.{StateView, Holding, empty_holding, holding_of, owner_of, is_owner, owns, stands_in, has_parked, leases_out, IsLockOf}
+use Rattle.resource_lock.specs.StateView.{StateView, Holding, empty_holding, holding_of, owner_of, is_owner, kept_from, owns, stands_in, has_parked, leases_out, IsLockOf}
 use Rattle.resource_lock.specs.Change.{can, make, make_all, can_all}
+use Rattle.resource_lock.specs.Good.{AllAlone}
 use Rattle.resource_lock.specs.Shape.{SameShape}
 use Rattle.std.proofs.lemmas.List.Elements.{All-from_recursion, recursion_from_All}
 use Rattle.resource_lock.specs.Trying.{can_own, can_lease}
@@ -26,20 +28,21 @@ use Rattle.lock_transforms.specs.Table.{condition, acquires}
 use Rattle.lock_transforms.specs.Taking.{lock_taken, locks_taken, lease_taken, all_taken, can_take_all, rises, acquired, is_open, may_acquire}
 use Rattle.lock_transforms.specs.declared.entries.Kind.TheVariants as kinds
 use Rattle.lock_transforms.specs.GoingOn.{WaitsForNews}
-use Rattle.lock_transforms.proofs.NoMore.{NoMore, Still, no_more_after}
+use Rattle.lock_transforms.proofs.NoMore.{NoMore, Still, kept_still, no_more_after}
+use Rattle.lock_transforms.proofs.lemmas.Locking.{can_lock, cannot_lock, free_lock}
 use Rattle.lock_transforms.proofs.lemmas.Disabled.{all_of_still, and_still, condition_still, or_still, same_still}
 use Rattle.lock_transforms.proofs.Makings.{makes_none, makes_not, makes_one, makes_then, makes_stopped, made_is, worked_from}
 
 -- taking a lock, as far as it can be taken
-pub makes_lock : (t : TentativeView) (l : LockId) → IsLockOf t.state l → has_parked t.state t.worker l ≡ false → 0 < t.room → Makes t (with_lock t l) (lock_taken t.state t.worker l) (can_own t.state t.worker l)
-makes_lock t l within absent room = elim (owner_of t.state l) as (λ o. owner_of t.state l ≡ o → Makes t (cond ((is_none o || is_owner o t.worker) && not (is_owner o t.worker)) (noted t (Lock l)) t) (cond (is_owner o t.worker) [] (Lock l ∷ [])) (is_none o || is_owner o t.worker)) [
-  | None ↦ λ free. makes_one t (Lock l) within (and_from (is_none (owner_of t.state l)) (not (has_parked t.state t.worker l)) (ap is_none free) (not_from_false (has_parked t.state t.worker l) absent)) room
-  | Some v ↦ λ taken. elim (cases_Bool (is_owner (Some v) t.worker)) [
-    | inl own ↦ subst (λ b. Makes t (cond (b && not b) (noted t (Lock l)) t) (cond b [] (Lock l ∷ [])) b) (sym own) (makes_none t)
-    | inr other ↦ subst (λ b. Makes t (cond (b && not b) (noted t (Lock l)) t) (cond b [] (Lock l ∷ [])) b) (sym other)
-        (makes_not t (Lock l) (ap (λ b. b && not (has_parked t.state t.worker l)) (ap is_none taken)))
-  ]
-] refl
+makes_lock_where : (t : TentativeView) (l : LockId) (own kept : Bool) → owns t.state t.worker l ≡ own → kept_from t.state t.worker l ≡ kept → AllAlone t.state → IsLockOf t.state l → has_parked t.state t.worker l ≡ false → 0 < t.room
+    → Makes t (cond (not kept && not own) (noted t (Lock l)) t) (cond own [] (Lock l ∷ [])) (not kept)
+makes_lock_where t l true true is kept alone within absent room = absurd (both_ways (kept_from t.state t.worker l) (own_not_kept t.state t.worker l alone is) kept)
+makes_lock_where t l true false is kept alone within absent room = makes_none t
+makes_lock_where t l false true is kept alone within absent room = makes_not t (Lock l) (cannot_lock t.state t.worker l kept)
+makes_lock_where t l false false is kept alone within absent room = makes_one t (Lock l) within (can_lock t.state t.worker l is kept absent) room
+
+pub makes_lock : (t : TentativeView) (l : LockId) → AllAlone t.state → IsLockOf t.state l → has_parked t.state t.worker l ≡ false → 0 < t.room → Makes t (with_lock t l) (lock_taken t.state t.worker l) (can_own t.state t.worker l)
+makes_lock t l alone within absent room = makes_lock_where t l (owns t.state t.worker l) (kept_from t.state t.worker l) refl refl alone within absent room
 
 -- taking a lease, as far as one can be taken
 pub makes_lease : (t : TentativeView) → (holding_of t.state t.worker).blocked ≡ false → 0 < t.room → Makes t (with_lease t) (lease_taken t.state t.worker) (can_lease t.state t.worker)
@@ -67,34 +70,28 @@ holdings_taken s w (l ∷ ls) =
     ∙ holdings_one s w l
 
 -- a free lock taken changes nothing of which locks the worker can own
-own_same : (s : StateView) (w : WorkerId) (l k : LockId) → owner_of s l ≡ None → can_own (make s w (Lock l)) w k ≡ can_own s w k
-own_same s w l k free = elim (get_or-set_cases s.owners l.0 k.0 (Some w) None) [
-  | inl at ↦ ap (λ o. is_none o || is_owner o w) at.1 ∙ eq-eqb w.0 w.0 refl
-      ∙ sym (ap (λ x. can_own s w x) (same_lock k l at.0) ∙ ap (λ o. is_none o || is_owner o w) free)
-  | inr off ↦ ap (λ o. is_none o || is_owner o w) off
-]
-
 all_own_same : (s : StateView) (w : WorkerId) (l : LockId) (ls : List LockId) → owner_of s l ≡ None → list_all (can_own (make s w (Lock l)) w) ls ≡ list_all (can_own s w) ls
 all_own_same s w l [] free = refl
 all_own_same s w l (k ∷ ks) free =
-    ap (λ b. b && list_all (can_own (make s w (Lock l)) w) ks) (own_same s w l k free)
+    ap (λ b. not b && list_all (can_own (make s w (Lock l)) w) ks) (kept_same s w l k free)
     ∙ ap (λ b. can_own s w k && b) (all_own_same s w l ks free)
 
--- locks that the worker hasn't parked can be taken where no other worker owns one
-can_take_locks : (s : StateView) (w : WorkerId) (ls : List LockId) → AllByRecursion (λ l. has_parked s w l ≡ false) ls → can_all s w (locks_taken s w ls) ≡ list_all (can_own s w) ls
-can_take_locks s w [] absent = refl
-can_take_locks s w (l ∷ ls) absent = elim (owner_of s l) as (λ o. owner_of s l ≡ o → can_all s w (cond (is_owner o w) [] (Lock l ∷ []) ++ locks_taken (make_all s w (cond (is_owner o w) [] (Lock l ∷ []))) w ls) ≡ ((is_none o || is_owner o w) && list_all (can_own s w) ls)) [
-  | None ↦ λ free.
-      let can_lock : can s w (Lock l) ≡ true = and_from (is_none (owner_of s l)) (not (has_parked s w l)) (ap is_none free) (not_from_false (has_parked s w l) absent.0) in
-      ap (λ b. b && can_all (make s w (Lock l)) w (locks_taken (make s w (Lock l)) w ls)) can_lock
-      ∙ can_take_locks (make s w (Lock l)) w ls absent.1
-      ∙ all_own_same s w l ls free
-  | Some v ↦ λ taken. elim (cases_Bool (is_owner (Some v) w)) [
-    | inl own ↦ subst (λ b. can_all s w (cond b [] (Lock l ∷ []) ++ locks_taken (make_all s w (cond b [] (Lock l ∷ []))) w ls) ≡ (b && list_all (can_own s w) ls)) (sym own) (can_take_locks s w ls absent.1)
-    | inr other ↦ subst (λ b. can_all s w (cond b [] (Lock l ∷ []) ++ locks_taken (make_all s w (cond b [] (Lock l ∷ []))) w ls) ≡ (b && list_all (can_own s w) ls)) (sym other)
-        (ap (λ o. is_none o && not (has_parked s w l) && can_all (make s w (Lock l)) w (locks_taken (make s w (Lock l)) w ls)) taken)
-  ]
-] refl
+-- locks that the worker hasn't parked can be taken where it is kept from none of them
+can_take_where : (s : StateView) (w : WorkerId) (l : LockId) (ls : List LockId) (own kept : Bool) → owns s w l ≡ own → kept_from s w l ≡ kept
+    → ((x : StateView) → AllAlone x → AllByRecursion (λ k. has_parked x w k ≡ false) ls → can_all x w (locks_taken x w ls) ≡ list_all (can_own x w) ls)
+    → AllAlone s → AllByRecursion (λ k. has_parked s w k ≡ false) (l ∷ ls)
+    → can_all s w (cond own [] (Lock l ∷ []) ++ locks_taken (make_all s w (cond own [] (Lock l ∷ []))) w ls) ≡ (not kept && list_all (can_own s w) ls)
+can_take_where s w l ls true true is kept rest alone absent = absurd (both_ways (kept_from s w l) (own_not_kept s w l alone is) kept)
+can_take_where s w l ls true false is kept rest alone absent = rest s alone absent.1
+can_take_where s w l ls false true is kept rest alone absent = ap (λ b. b && can_all (make s w (Lock l)) w (locks_taken (make s w (Lock l)) w ls)) (cannot_lock s w l kept)
+can_take_where s w l ls false false is kept rest alone absent =
+    ap (λ b. b && can_all (make s w (Lock l)) w (locks_taken (make s w (Lock l)) w ls)) (can_lock s w l is kept absent.0)
+    ∙ rest (make s w (Lock l)) (alone_locked s w l alone kept) absent.1
+    ∙ all_own_same s w l ls (none_from (owner_of s l) (free_lock s w l is kept))
+
+can_take_locks : (s : StateView) (w : WorkerId) (ls : List LockId) → AllAlone s → AllByRecursion (λ l. has_parked s w l ≡ false) ls → can_all s w (locks_taken s w ls) ≡ list_all (can_own s w) ls
+can_take_locks s w [] alone absent = refl
+can_take_locks s w (l ∷ ls) alone absent = can_take_where s w l ls (owns s w l) (kept_from s w l) refl refl (λ x. can_take_locks x w ls) alone absent
 
 -- a lease can be taken in a state in which the same are out
 can_take_lease : (s t : StateView) (w : WorkerId) → t.holdings ≡ s.holdings → t.max_leases ≡ s.max_leases → (holding_of s w).blocked ≡ false → can_all t w (lease_taken s w) ≡ can_lease s w
@@ -108,10 +105,10 @@ can_take_lease s t w holdings most free =
     ]
 
 -- where all of it can be taken
-pub can_all_taken : (s : StateView) (w : WorkerId) (ls : List LockId) → AllByRecursion (λ l. has_parked s w l ≡ false) ls → (holding_of s w).blocked ≡ false → can_all s w (all_taken s w ls) ≡ can_take_all s w ls
-can_all_taken s w ls absent free =
+pub can_all_taken : (s : StateView) (w : WorkerId) (ls : List LockId) → AllAlone s → AllByRecursion (λ l. has_parked s w l ≡ false) ls → (holding_of s w).blocked ≡ false → can_all s w (all_taken s w ls) ≡ can_take_all s w ls
+can_all_taken s w ls alone absent free =
     can_all-append s w (locks_taken s w ls) (lease_taken s w)
-    ∙ ap (λ b. b && can_all (make_all s w (locks_taken s w ls)) w (lease_taken s w)) (can_take_locks s w ls absent)
+    ∙ ap (λ b. b && can_all (make_all s w (locks_taken s w ls)) w (lease_taken s w)) (can_take_locks s w ls alone absent)
     ∙ ap (λ b. list_all (can_own s w) ls && b) (can_take_lease s (make_all s w (locks_taken s w ls)) w (holdings_taken s w ls) (sym (same_shape-make_all s w (locks_taken s w ls)).max_leases) free)
 
 pub locks_taken-append : (s : StateView) (w : WorkerId) (ls ks : List LockId) → locks_taken s w (ls ++ ks) ≡ locks_taken s w ls ++ locks_taken (make_all s w (locks_taken s w ls)) w ks
@@ -181,9 +178,9 @@ holding_taken {a} {b} ls made =
 
 -- the lock at a place, after those before it
 pub next_lock : {a b c : TentativeView} {taken : Bool} (ls : List LockId) (i : ℕ) (d : LockId) → i < length ls → Makes a b (locks_taken a.state a.worker (take i ls)) true
-    → IsLockOf b.state (get_or ls i d) → has_parked b.state b.worker (get_or ls i d) ≡ false → 0 < b.room
+    → AllAlone b.state → IsLockOf b.state (get_or ls i d) → has_parked b.state b.worker (get_or ls i d) ≡ false → 0 < b.room
     → taken ≡ can_own b.state b.worker (get_or ls i d) → c ≡ with_lock b (get_or ls i d) → Makes a c (locks_taken a.state a.worker (take (i + 1) ls)) taken
-next_lock {a} {b} {c} {taken} ls i d within front named absent room answer is =
+next_lock {a} {b} {c} {taken} ls i d within front alone named absent room answer is =
     let split : locks_taken a.state a.worker (take (i + 1) ls) ≡ locks_taken a.state a.worker (take i ls) ++ lock_taken b.state b.worker (get_or ls i d) =
     ap (locks_taken a.state a.worker) (take_more ls i d within)
     ∙ locks_taken-append a.state a.worker (take i ls) (get_or ls i d ∷ [])
@@ -191,7 +188,7 @@ next_lock {a} {b} {c} {taken} ls i d within front named absent room answer is =
     ∙ ap (λ (s : StateView). lock_taken s a.worker (get_or ls i d)) (sym (front.whole refl).state)
     ∙ ap (λ (w : WorkerId). lock_taken b.state w (get_or ls i d)) (sym front.worker)) in
     let step : Makes b c (lock_taken b.state b.worker (get_or ls i d)) taken = subst (λ (x : TentativeView). Makes b x (lock_taken b.state b.worker (get_or ls i d)) taken) (sym is)
-    (subst (λ x. Makes b (with_lock b (get_or ls i d)) (lock_taken b.state b.worker (get_or ls i d)) x) (sym answer) (makes_lock b (get_or ls i d) named absent room)) in
+    (subst (λ x. Makes b (with_lock b (get_or ls i d)) (lock_taken b.state b.worker (get_or ls i d)) x) (sym answer) (makes_lock b (get_or ls i d) alone named absent room)) in
     subst (λ (cs : List Change). Makes a c cs taken) (sym split) (makes_then front step)
 
 -- there is room for what is left
@@ -239,7 +236,7 @@ acquire_allowed {a} {b} ls fresh worker rising may made =
 
 -- after changes of others that let nobody go on, no more can be taken
 can_own_still : {w : WorkerId} {s t : StateView} → NoMore w s t → (l : LockId) → Still (can_own s w l) (can_own t w l)
-can_own_still n l = or_still _ _ _ _ (n.free l) (same_still (n.owns l))
+can_own_still n l = kept_still n l
 
 can_lease_still : {w : WorkerId} {s t : StateView} → NoMore w s t → Still (can_lease s w) (can_lease t w)
 can_lease_still {w} {s} {t} n = or_still _ _ _ _ (same_still (ap (λ (h : Holding). h.lease) n.holding))

@@ -1,3 +1,4 @@
 pub mod Disabled
+pub mod Locking
 pub mod Waits
 pub mod Within

@@ -27,7 +27,7 @@ lease_taken s w = if (holding_of s w).lease then [] else Take ∷ []
 abbrev pub all_taken : StateView → WorkerId → List LockId → List Change
 all_taken s w ls = locks_taken s w ls ++ lease_taken s w
 
--- no other worker owns one of the locks, and the worker has a lease or fewer than may be are out
+-- the worker is kept from none of the locks, and has a lease or fewer than may be are out
 abbrev pub can_take_all : StateView → WorkerId → List LockId → Bool
 can_take_all s w ls = list_all (can_own s w) ls && can_lease s w
 

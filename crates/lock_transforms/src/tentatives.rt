@@ -96,22 +96,23 @@ impl Tentative {
         self.made.push_reserved(change);
     }
 
-    /// Takes a lock, and answers whether the worker owns it now. Where another worker owns it,
-    /// nothing changes.
+    /// Takes a lock, and answers whether the worker owns it now. Where another worker owns one that
+    /// conflicts with it, nothing changes.
     pub fn lock(&mut self, lock: LockId) -> bool
         requires lock_in_range { IsLockOf self.old.state lock }
         requires not_parked { has_parked self.old.state self.old.worker lock ≡ false }
         requires room { 0 < self.old.room }
         ensures answer { result ≡ can_own self.old.state self.old.worker lock }
         ensures taken { self.new ≡ with_lock self.old lock }
+        ensures good { Good self.old.state }
     {
-        match self.state.owner(lock) {
-            Some(owner) => owner.0 == self.worker.0,
-            None => {
-                self.change(Change::Lock(lock));
-                true
-            }
+        if self.state.kept_from(self.worker, lock) {
+            return false;
         }
+        if self.state.owner(lock).is_none() {
+            self.change(Change::Lock(lock));
+        }
+        true
     }
 
     /// Takes a lease, and answers whether the worker has one now. Where it has none and as many as

@@ -1,10 +1,11 @@
 -- The graph of a plan fits.
-use Rattle.std.proofs.Common.{◌≡◌, ◌⊎◌, ◌+◌, ◌-◌, ◌<◌, ◌≤◌, ℕ, zero, suc, Bool, true, false, List, [], ◌∷◌, ◌++◌, map, length, get_or, Option, None, Some, is_some, refl, ap, sym, subst, ◌∙◌, inl, inr, arith, length-append}
+use Rattle.std.proofs.Common.{◌≡◌, ◌⊎◌, ◌+◌, ◌-◌, ◌<◌, ◌≤◌, ℕ, zero, suc, Bool, true, false, cond, List, [], ◌∷◌, ◌++◌, map, length, get_or, Option, None, Some, is_some, refl, ap, sym, subst, ◌∙◌, inl, inr, arith, length-append}
 use Rattle.std.specs.List.{All, flat_map, sum_by}
 use Rattle.std.proofs.lemmas.Bool.{cases_lt}
 use Rattle.std.proofs.lemmas.List.{length-map, get_or_append_left, get_or-append_right}
 use Rattle.std.proofs.lemmas.List.Elements.{All-nil, All-cons, All-append}
 use Rattle.std.proofs.lemmas.List.Sums.{sum_by-cons, sum_by-append}
+use Rattle.resource_lock.specs.declared.ids.LockId.{LockId}
 use Rattle.resource_lock.specs.declared.graphs.GraphTask.{GraphTask}
 use Rattle.resource_lock.specs.declared.graphs.GraphAction.{GraphAction}
 use Rattle.resource_lock.specs.GraphView.{GraphTaskView, graph_view, no_task, no_action}
@@ -17,29 +18,34 @@ use Rattle.plan_reader.specs.PlanView.{PlanActionView, PlanTaskView, PlanView}
 use Rattle.plan_reader.specs.Units.{fetch_units, item_unit, action_units, task_units, plan_units}
 use Rattle.plan_reader.specs.IsPlan.{IsPlan}
 use Rattle.resource_lock.specs.ProjectLocks.{project_lock, project_lock_count}
-use Rattle.plan_reader.specs.Graph.{tasks_from, actions_from, units_in_all, all_actions_from, graph_of}
+use Rattle.plan_reader.specs.Graph.{all_projects_lock, task_lock, tasks_from, actions_from, units_in_all, all_actions_from, graph_of}
 
 -- ---- tasks
 
-abbrev pub task_outline : Bool → ℕ → PlanTaskView → GraphTaskView
-task_outline parallel first t = record { lock = project_lock parallel t.project; after = t.after; first_action = first; actions = length t.actions }
+abbrev pub task_outline : (PlanTaskView → LockId) → ℕ → PlanTaskView → GraphTaskView
+task_outline lock first t = record { lock = lock t; after = t.after; first_action = first; actions = length t.actions }
 
-each_task : (P : GraphTaskView → Type 0) (parallel : Bool) (first : ℕ) (ts : List PlanTaskView)
-    → ((k : ℕ) (d : PlanTaskView) → k < length ts → (n : ℕ) → P (task_outline parallel n (get_or ts k d))) → All P (tasks_from parallel first ts)
-each_task P parallel first [] each = All-nil P
-each_task P parallel first (t ∷ ts) each =
-    All-cons P (task_outline parallel first t) (tasks_from parallel (first + length t.actions) ts) (each 0 t (omega arith) first)
-    (each_task P parallel (first + length t.actions) ts (λ k d within. each (suc k) d (omega arith)))
+each_task : (P : GraphTaskView → Type 0) (lock : PlanTaskView → LockId) (first : ℕ) (ts : List PlanTaskView)
+    → ((k : ℕ) (d : PlanTaskView) → k < length ts → (n : ℕ) → P (task_outline lock n (get_or ts k d))) → All P (tasks_from lock first ts)
+each_task P lock first [] each = All-nil P
+each_task P lock first (t ∷ ts) each =
+    All-cons P (task_outline lock first t) (tasks_from lock (first + length t.actions) ts) (each 0 t (omega arith) first)
+    (each_task P lock (first + length t.actions) ts (λ k d within. each (suc k) d (omega arith)))
 
-length-tasks_from : (parallel : Bool) (first : ℕ) (ts : List PlanTaskView) → length (tasks_from parallel first ts) ≡ length ts
-length-tasks_from parallel first [] = refl
-length-tasks_from parallel first (t ∷ ts) = ap suc (length-tasks_from parallel (first + length t.actions) ts)
+length-tasks_from : (lock : PlanTaskView → LockId) (first : ℕ) (ts : List PlanTaskView) → length (tasks_from lock first ts) ≡ length ts
+length-tasks_from lock first [] = refl
+length-tasks_from lock first (t ∷ ts) = ap suc (length-tasks_from lock (first + length t.actions) ts)
 
-lock_within : (parallel : Bool) (project projects : ℕ) → project < projects → (project_lock parallel project).0 < project_lock_count parallel projects
-lock_within true project projects within = within
-lock_within false project projects within = omega arith
+project_lock_within : (parallel : Bool) (project projects : ℕ) → project < projects → (project_lock parallel project).0 < project_lock_count parallel projects
+project_lock_within true project projects within = within
+project_lock_within false project projects within = omega arith
 
-few_locks : (parallel : Bool) (projects : ℕ) → projects ≤ MAX_PROJECTS → project_lock_count parallel projects ≤ MAX_LOCKS
+-- a project's lock stands before the all-projects lock, and that is the last
+lock_within : (of_all parallel : Bool) (project projects : ℕ) → project < projects → (cond of_all (record { 0 = project_lock_count parallel projects }) (project_lock parallel project)).0 < project_lock_count parallel projects + 1
+lock_within true parallel project projects within = omega arith
+lock_within false parallel project projects within = omega (arith, project_lock_within parallel project projects within)
+
+pub few_locks : (parallel : Bool) (projects : ℕ) → projects ≤ MAX_PROJECTS → project_lock_count parallel projects + 1 ≤ MAX_LOCKS
 few_locks true projects few = omega (arith, few)
 few_locks false projects few = omega (arith, few)
 
@@ -62,13 +68,13 @@ all_some_items task first (t ∷ ts) some =
     (some_items task first t.actions (some 0 t (omega arith)))
     (all_some_items (task + 1) (first + units_in_all t.actions) ts (λ k d within. some (suc k) d (omega arith)))
 
-actions_follow : (parallel : Bool) (n task first : ℕ) (ts : List PlanTaskView) (stop : ℕ) → n + length (all_actions_from task first ts) ≡ stop
-    → Follow (λ t. t.first_action) (λ t. t.actions) n (tasks_from parallel n ts) stop
-actions_follow parallel n task first [] stop e = omega arith
-actions_follow parallel n task first (t ∷ ts) stop e =
+actions_follow : (lock : PlanTaskView → LockId) (n task first : ℕ) (ts : List PlanTaskView) (stop : ℕ) → n + length (all_actions_from task first ts) ≡ stop
+    → Follow (λ t. t.first_action) (λ t. t.actions) n (tasks_from lock n ts) stop
+actions_follow lock n task first [] stop e = omega arith
+actions_follow lock n task first (t ∷ ts) stop e =
     let both = length-append (actions_from task first t.actions) (all_actions_from (task + 1) (first + units_in_all t.actions) ts) in
     let here = length-actions_from task first t.actions in
-    (refl, actions_follow parallel (n + length t.actions) (task + 1) (first + units_in_all t.actions) ts stop (omega arith))
+    (refl, actions_follow lock (n + length t.actions) (task + 1) (first + units_in_all t.actions) ts stop (omega arith))
 
 -- ---- units
 
@@ -110,24 +116,24 @@ task_of_action task first (x ∷ as') zero within = refl
 task_of_action task first (x ∷ as') (suc a) within = task_of_action task (first + length (action_units x)) as' a (omega arith)
 
 -- the action is one of the first task's, or one of a later one's
-own_or_later : (parallel : Bool) (n task : ℕ) (x : PlanTaskView) (ts : List PlanTaskView) (front back : List GraphAction) (a m t : ℕ) → length front ≡ length x.actions
+own_or_later : (lock : PlanTaskView → LockId) (n task : ℕ) (x : PlanTaskView) (ts : List PlanTaskView) (front back : List GraphAction) (a m t : ℕ) → length front ≡ length x.actions
     → a < length (front ++ back) → m ≡ n + a → (get_or (front ++ back) a no_action).task ≡ t
     → (a < length x.actions → (get_or front a no_action).task ≡ task)
     → ((b : ℕ) → b < length back → m ≡ n + length x.actions + b → (u : ℕ) → (get_or back b no_action).task ≡ u
-    → (task + 1 ≤ u) × ((i : ℕ) → task + 1 + i ≡ u → IsIn (get_or (tasks_from parallel (n + length x.actions) ts) i no_task).first_action (get_or (tasks_from parallel (n + length x.actions) ts) i no_task).actions m))
-    → (task ≤ t) × ((i : ℕ) → task + i ≡ t → IsIn (get_or (tasks_from parallel n (x ∷ ts)) i no_task).first_action (get_or (tasks_from parallel n (x ∷ ts)) i no_task).actions m)
-own_or_later parallel n task x ts front back a m t long within e is own later = at (cases_lt a (length x.actions))
+    → (task + 1 ≤ u) × ((i : ℕ) → task + 1 + i ≡ u → IsIn (get_or (tasks_from lock (n + length x.actions) ts) i no_task).first_action (get_or (tasks_from lock (n + length x.actions) ts) i no_task).actions m))
+    → (task ≤ t) × ((i : ℕ) → task + i ≡ t → IsIn (get_or (tasks_from lock n (x ∷ ts)) i no_task).first_action (get_or (tasks_from lock n (x ∷ ts)) i no_task).actions m)
+own_or_later lock n task x ts front back a m t long within e is own later = at (cases_lt a (length x.actions))
   where
-    mine : a < length x.actions → (i : ℕ) → task + i ≡ t → t ≡ task → IsIn (get_or (tasks_from parallel n (x ∷ ts)) i no_task).first_action (get_or (tasks_from parallel n (x ∷ ts)) i no_task).actions m
+    mine : a < length x.actions → (i : ℕ) → task + i ≡ t → t ≡ task → IsIn (get_or (tasks_from lock n (x ∷ ts)) i no_task).first_action (get_or (tasks_from lock n (x ∷ ts)) i no_task).actions m
     mine lt zero f g = (omega arith, omega arith)
     mine lt (suc i) f g = absurd (omega arith)
 
-    others : ((i : ℕ) → task + 1 + i ≡ t → IsIn (get_or (tasks_from parallel (n + length x.actions) ts) i no_task).first_action (get_or (tasks_from parallel (n + length x.actions) ts) i no_task).actions m) → task + 1 ≤ t
-        → (i : ℕ) → task + i ≡ t → IsIn (get_or (tasks_from parallel n (x ∷ ts)) i no_task).first_action (get_or (tasks_from parallel n (x ∷ ts)) i no_task).actions m
+    others : ((i : ℕ) → task + 1 + i ≡ t → IsIn (get_or (tasks_from lock (n + length x.actions) ts) i no_task).first_action (get_or (tasks_from lock (n + length x.actions) ts) i no_task).actions m) → task + 1 ≤ t
+        → (i : ℕ) → task + i ≡ t → IsIn (get_or (tasks_from lock n (x ∷ ts)) i no_task).first_action (get_or (tasks_from lock n (x ∷ ts)) i no_task).actions m
     others h above zero f = absurd (omega arith)
     others h above (suc i) f = h i (omega arith)
 
-    at : (a < length x.actions) ⊎ (length x.actions ≤ a) → (task ≤ t) × ((i : ℕ) → task + i ≡ t → IsIn (get_or (tasks_from parallel n (x ∷ ts)) i no_task).first_action (get_or (tasks_from parallel n (x ∷ ts)) i no_task).actions m)
+    at : (a < length x.actions) ⊎ (length x.actions ≤ a) → (task ≤ t) × ((i : ℕ) → task + i ≡ t → IsIn (get_or (tasks_from lock n (x ∷ ts)) i no_task).first_action (get_or (tasks_from lock n (x ∷ ts)) i no_task).actions m)
     at (inl lt) =
         let same : t ≡ task = sym is ∙ ap (λ g. g.task) (get_or_append_left front back no_action a (omega arith)) ∙ own lt in
         (omega arith, λ i f. mine lt i f same)
@@ -137,33 +143,34 @@ own_or_later parallel n task x ts front back a m t long within e is own later = 
         (omega (arith, r.0), others r.1 r.0)
 
 -- the task of the a-th action from this task on, and its range from n on
-own_task : (parallel : Bool) (n task first : ℕ) (ts : List PlanTaskView) (a m : ℕ) → a < length (all_actions_from task first ts) → m ≡ n + a
+own_task : (lock : PlanTaskView → LockId) (n task first : ℕ) (ts : List PlanTaskView) (a m : ℕ) → a < length (all_actions_from task first ts) → m ≡ n + a
     → (t : ℕ) → (get_or (all_actions_from task first ts) a no_action).task ≡ t
-    → (task ≤ t) × ((i : ℕ) → task + i ≡ t → IsIn (get_or (tasks_from parallel n ts) i no_task).first_action (get_or (tasks_from parallel n ts) i no_task).actions m)
-own_task parallel n task first [] a m within e t is = absurd (omega arith)
-own_task parallel n task first (x ∷ ts) a m within e t is =
-    own_or_later parallel n task x ts (actions_from task first x.actions) (all_actions_from (task + 1) (first + units_in_all x.actions) ts) a m t (length-actions_from task first x.actions) within e is
+    → (task ≤ t) × ((i : ℕ) → task + i ≡ t → IsIn (get_or (tasks_from lock n ts) i no_task).first_action (get_or (tasks_from lock n ts) i no_task).actions m)
+own_task lock n task first [] a m within e t is = absurd (omega arith)
+own_task lock n task first (x ∷ ts) a m within e t is =
+    own_or_later lock n task x ts (actions_from task first x.actions) (all_actions_from (task + 1) (first + units_in_all x.actions) ts) a m t (length-actions_from task first x.actions) within e is
     (task_of_action task first x.actions a)
-    (λ b lt. own_task parallel (n + length x.actions) (task + 1) (first + units_in_all x.actions) ts b m lt)
+    (λ b lt. own_task lock (n + length x.actions) (task + 1) (first + units_in_all x.actions) ts b m lt)
 
 pub graph_fits : (p : PlanView) (workers max_leases : ℕ) (parallel : Bool) → IsPlan p → 1 ≤ workers → workers ≤ 32 → 1 ≤ max_leases → max_leases ≤ 32 → Fits (graph_of p workers max_leases parallel)
 graph_fits p workers max_leases parallel h some_worker few_workers some_lease few_leases =
-    let tasks : length (tasks_from parallel 0 p.tasks) ≡ length p.tasks = length-tasks_from parallel 0 p.tasks in
+    let tasks : length (tasks_from (task_lock (all_projects_lock p parallel) parallel) 0 p.tasks) ≡ length p.tasks = length-tasks_from (task_lock (all_projects_lock p parallel) parallel) 0 p.tasks in
     record {
       some_worker = some_worker;
       few_workers = few_workers;
       some_lease = some_lease;
       few_leases = few_leases;
       few_locks = few_locks parallel (length p.projects) h.few_projects;
+      all_within = omega arith;
       few_tasks = rw tasks h.few_tasks;
       few_units = h.few_units;
-      few_actions = each_task (λ t. t.actions ≤ MAX_ACTIONS_PER_TASK) parallel 0 p.tasks (λ k d within n. h.few_actions k d within);
-      few_after = each_task (λ t. length t.after ≤ MAX_AFTER) parallel 0 p.tasks (λ k d within n. h.few_after k d within);
-      locks_within = each_task (λ t. t.lock.0 < project_lock_count parallel (length p.projects)) parallel 0 p.tasks (λ k d within n. lock_within parallel _ (length p.projects) (h.project_within k d within));
-      after_within = subst (λ n. All (λ t. All (λ m. m < n) t.after) (tasks_from parallel 0 p.tasks)) (sym tasks) (each_task (λ t. All (λ m. m < length p.tasks) t.after) parallel 0 p.tasks (λ k d within n. h.after_within k d within));
-      actions_follow = actions_follow parallel 0 0 0 p.tasks (length (all_actions_from 0 0 p.tasks)) (omega arith);
+      few_actions = each_task (λ t. t.actions ≤ MAX_ACTIONS_PER_TASK) (task_lock (all_projects_lock p parallel) parallel) 0 p.tasks (λ k d within n. h.few_actions k d within);
+      few_after = each_task (λ t. length t.after ≤ MAX_AFTER) (task_lock (all_projects_lock p parallel) parallel) 0 p.tasks (λ k d within n. h.few_after k d within);
+      locks_within = each_task (λ t. t.lock.0 < project_lock_count parallel (length p.projects) + 1) (task_lock (all_projects_lock p parallel) parallel) 0 p.tasks (λ k d within n. lock_within _ parallel _ (length p.projects) (h.project_within k d within));
+      after_within = subst (λ n. All (λ t. All (λ m. m < n) t.after) (tasks_from (task_lock (all_projects_lock p parallel) parallel) 0 p.tasks)) (sym tasks) (each_task (λ t. All (λ m. m < length p.tasks) t.after) (task_lock (all_projects_lock p parallel) parallel) 0 p.tasks (λ k d within n. h.after_within k d within));
+      actions_follow = actions_follow (task_lock (all_projects_lock p parallel) parallel) 0 0 0 p.tasks (length (all_actions_from 0 0 p.tasks)) (omega arith);
       units_follow = all_units_follow 0 0 p.tasks (length (plan_units p)) (omega arith);
-      own_task = λ a within. (own_task parallel 0 0 0 p.tasks a a within (omega arith) _ refl).1 _ (omega arith);
+      own_task = λ a within. (own_task (task_lock (all_projects_lock p parallel) parallel) 0 0 0 p.tasks a a within (omega arith) _ refl).1 _ (omega arith);
       some_item = all_some_items 0 0 p.tasks h.some_item;
     }
 
@@ -185,9 +192,11 @@ all_units_made task first (t ∷ ts) =
     ∙ sym (length-append (task_units t) (flat_map task_units ts))
 
 -- the parts make the graph
-pub same_graph : (p : PlanView) (workers max_leases locks : ℕ) (parallel : Bool) (tasks : List GraphTask) (actions : List GraphAction)
-    → locks ≡ project_lock_count parallel (length p.projects) → map graph_view tasks ≡ tasks_from parallel 0 p.tasks → actions ≡ all_actions_from 0 0 p.tasks
-    → made_of locks workers max_leases tasks actions ≡ graph_of p workers max_leases parallel
-same_graph p workers max_leases locks parallel tasks actions a b c =
+pub same_graph : (p : PlanView) (workers max_leases locks : ℕ) (all : LockId) (parallel : Bool) (tasks : List GraphTask) (actions : List GraphAction)
+    → all ≡ all_projects_lock p parallel → locks ≡ all.0 + 1 → map graph_view tasks ≡ tasks_from (task_lock all parallel) 0 p.tasks → actions ≡ all_actions_from 0 0 p.tasks
+    → made_of locks (Some all) workers max_leases tasks actions ≡ graph_of p workers max_leases parallel
+same_graph p workers max_leases locks all parallel tasks actions lock a b c =
     let units : sum_by units_in actions ≡ length (plan_units p) = ap (sum_by units_in) c ∙ all_units_made 0 0 p.tasks in
-    λ i. record { locks = a i; workers = workers; max_leases = max_leases; units = units i; tasks = b i; actions = c i }
+    let count : locks ≡ (all_projects_lock p parallel).0 + 1 = a ∙ ap (λ (l : LockId). l.0 + 1) lock in
+    let each : map graph_view tasks ≡ tasks_from (task_lock (all_projects_lock p parallel) parallel) 0 p.tasks = b ∙ ap (λ (l : LockId). tasks_from (task_lock l parallel) 0 p.tasks) lock in
+    λ i. record { locks = count i; all = Some (lock i); workers = workers; max_leases = max_leases; units = units i; tasks = each i; actions = c i }

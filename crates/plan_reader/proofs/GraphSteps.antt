@@ -11,9 +11,8 @@ use Rattle.resource_lock.specs.declared.limits.TheConstants.{MAX_ACTIONS_PER_TAS
 use Rattle.plan_reader.specs.declared.plans.PlanAction.{PlanAction}
 use Rattle.plan_reader.specs.declared.plans.PlanTask.{PlanTask}
 use Rattle.plan_table.specs.Forms.{Text}
-use Rattle.plan_reader.specs.PlanView.{work_view, plan_action_view, plan_task_view}
+use Rattle.plan_reader.specs.PlanView.{PlanTaskView, work_view, plan_action_view, plan_task_view}
 use Rattle.plan_reader.specs.Units.{PlannedUnit, fetch_units, item_unit, action_units, task_units}
-use Rattle.resource_lock.specs.ProjectLocks.{project_lock}
 use Rattle.plan_reader.specs.Graph.{tasks_from, actions_from, units_in_all, all_actions_from}
 use Rattle.plan_reader.proofs.Fitting.{task_outline, units_in_all-task_units}
 
@@ -29,23 +28,23 @@ few_at ts i x within is few =
     let same = get_or-map plan_task_view ts i x (plan_task_view x) within ∙ ap plan_task_view (sym is) in
     rw (length-map x.actions.items plan_action_view) at (subst (λ t. length t.actions ≤ MAX_ACTIONS_PER_TASK) same here)
 
-pub outlined : (parallel : _) (x : PlanTask) (lock : LockId) (after : List ℕ) (first actions : ℕ) → lock ≡ project_lock parallel x.project → after ≡ x.after.items → actions ≡ length x.actions.items
-    → record { lock = lock; after = after; first_action = first; actions = actions } ≡ task_outline parallel first (plan_task_view x)
-outlined parallel x lock after first actions a b c =
+pub outlined : (lock_of : PlanTaskView → LockId) (x : PlanTask) (lock : LockId) (after : List ℕ) (first actions : ℕ) → lock ≡ lock_of (plan_task_view x) → after ≡ x.after.items → actions ≡ length x.actions.items
+    → record { lock = lock; after = after; first_action = first; actions = actions } ≡ task_outline lock_of first (plan_task_view x)
+outlined lock_of x lock after first actions a b c =
     let d : actions ≡ length (map plan_action_view x.actions.items) = c ∙ sym (length-map x.actions.items plan_action_view) in
     λ i. record { lock = a i; after = b i; first_action = first; actions = d i }
 
-pub next_task : (parallel : _) (first : ℕ) (done made all : List GraphTaskView) (ts : List PlanTask) (i : ℕ) (x : PlanTask) → i < length ts → x ≡ get_or ts i x
-    → made ≡ done ++ task_outline parallel first (plan_task_view x) ∷ []
-    → done ++ tasks_from parallel first (map plan_task_view (drop i ts)) ≡ all
-    → made ++ tasks_from parallel (first + length x.actions.items) (map plan_task_view (drop (i + 1) ts)) ≡ all
-next_task parallel first done made all ts i x within is pushed so_far =
-    let o = task_outline parallel first (plan_task_view x) in
+pub next_task : (lock_of : PlanTaskView → LockId) (first : ℕ) (done made all : List GraphTaskView) (ts : List PlanTask) (i : ℕ) (x : PlanTask) → i < length ts → x ≡ get_or ts i x
+    → made ≡ done ++ task_outline lock_of first (plan_task_view x) ∷ []
+    → done ++ tasks_from lock_of first (map plan_task_view (drop i ts)) ≡ all
+    → made ++ tasks_from lock_of (first + length x.actions.items) (map plan_task_view (drop (i + 1) ts)) ≡ all
+next_task lock_of first done made all ts i x within is pushed so_far =
+    let o = task_outline lock_of first (plan_task_view x) in
     let rest = map plan_task_view (drop (i + 1) ts) in
-    ap (λ m. m ++ tasks_from parallel (first + length x.actions.items) rest) pushed
-    ∙ append_assoc done (o ∷ []) (tasks_from parallel (first + length x.actions.items) rest)
-    ∙ ap (λ n. done ++ (o ∷ tasks_from parallel (first + n) rest)) (sym (length-map x.actions.items plan_action_view))
-    ∙ ap (λ ds. done ++ tasks_from parallel first (map plan_task_view ds)) (sym (drop_at ts i x within is))
+    ap (λ m. m ++ tasks_from lock_of (first + length x.actions.items) rest) pushed
+    ∙ append_assoc done (o ∷ []) (tasks_from lock_of (first + length x.actions.items) rest)
+    ∙ ap (λ n. done ++ (o ∷ tasks_from lock_of (first + n) rest)) (sym (length-map x.actions.items plan_action_view))
+    ∙ ap (λ ds. done ++ tasks_from lock_of first (map plan_task_view ds)) (sym (drop_at ts i x within is))
     ∙ so_far
 
 -- ---- the actions of a task

@@ -1,5 +1,5 @@
 -- A plan, without where it lies in memory.
-use Rattle.std.specs.Prelude.{ℕ, List, map, Option, None, Some}
+use Rattle.std.specs.Prelude.{ℕ, Bool, List, map, Option, None, Some}
 use Rattle.resource_lock.specs.declared.graphs.Retention.{Retention}
 use Rattle.item_actions.specs.declared.actions.ItemAction.{ItemAction}
 use Rattle.daemon_requirements.specs.declared.work.Isolation.{Isolation}
@@ -24,6 +24,7 @@ pub record PlanTaskView : Type 0 where
   pub name : List ℕ
   pub project : ℕ
   pub after : List ℕ
+  pub all_projects : Bool
   pub actions : List PlanActionView
 
 pub record PlanView : Type 0 where
@@ -42,7 +43,8 @@ abbrev pub plan_action_view : PlanAction → PlanActionView
 plan_action_view a = record { fetch = a.fetch; retention = a.retention; items = map work_view a.items.items }
 
 abbrev pub plan_task_view : PlanTask → PlanTaskView
-plan_task_view t = record { name = t.name; project = t.project; after = t.after.items; actions = map plan_action_view t.actions.items }
+plan_task_view t =
+    record { name = t.name; project = t.project; after = t.after.items; all_projects = t.all_projects; actions = map plan_action_view t.actions.items }
 
 abbrev pub plan_view : List (List ℕ) → List PlanTask → List RequirementsView → PlanView
 plan_view projects tasks requirements = record { projects = projects; tasks = map plan_task_view tasks; requirements = requirements }

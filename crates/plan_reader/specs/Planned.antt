@@ -16,7 +16,8 @@ use Rattle.resource_lock.specs.Words.{retention_of}
 use Rattle.daemon_requirements.specs.declared.fields.Pair.{Pair}
 use Rattle.daemon_requirements.specs.RequirementsView.{RequirementsView}
 use Rattle.plan_table.specs.Forms.{Text, is_needle}
-use Rattle.plan_table.specs.Keys.{tasks_of, requirements_of, name_of, project_of, actions_of, wait_of, fetch_of, items_of, do_of, file_of, needle_of}
+use Rattle.plan_table.specs.Keys.{tasks_of, requirements_of, name_of, project_of, all_projects_of, actions_of, wait_of, fetch_of, items_of}
+use Rattle.plan_table.specs.Keys.{do_of, file_of, needle_of}
 use Rattle.plan_table.specs.Keys.{isolation_of, requirements_name_of, executable_of, heap_of, args_of, properties_of, variables_of, debug_of, assertions_of}
 use Rattle.plan_table.specs.Keys.{encoding_of, keep_alive_of}
 use Rattle.plan_reader.specs.PlanView.{WorkView, PlanActionView, PlanTaskView, PlanView}
@@ -109,6 +110,7 @@ task_of names profiles t = record {
   name = name_of t;
   project = number_of names.projects (project_of t);
   after = dependency_numbers names.tasks t;
+  all_projects = all_projects_of t;
   actions = map (action_of names profiles) (actions_of t);
 }
 

@@ -3,7 +3,7 @@ use Rattle.std.specs.Prelude.{ℕ, List, [], map}
 use Rattle.toml.specs.Data.{Data}
 use Rattle.daemon_requirements.specs.RequirementsView.{RequirementsView}
 use Rattle.plan_table.specs.Forms.{Text}
-use Rattle.plan_table.specs.Keys.{name_of, project_of, actions_of}
+use Rattle.plan_table.specs.Keys.{name_of, project_of, all_projects_of, actions_of}
 use Rattle.plan_reader.specs.declared.known.Known.{Known}
 use Rattle.plan_reader.specs.NameNumbers.{number_of}
 use Rattle.plan_reader.specs.Names.{NameLists}
@@ -23,5 +23,6 @@ task_after names profiles t after = record {
   name = name_of t;
   project = number_of names.projects (project_of t);
   after = after;
+  all_projects = all_projects_of t;
   actions = map (action_of names profiles) (actions_of t);
 }

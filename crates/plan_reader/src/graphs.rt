@@ -3,18 +3,19 @@ ghost use Rattle.std.specs.Prelude.{◌≡◌, ◌+◌, ◌<◌, ◌≤◌, ◌+
 ghost use Rattle.std.specs.List.{flat_map};
 ghost use Rattle.resource_lock.specs.GraphView.{graph_view};
 ghost use Rattle.resource_lock.specs.ProjectLocks.{project_lock_count};
-ghost use Rattle.resource_lock.specs.declared.limits.TheConstants.{MAX_ACTIONS_PER_TASK, MAX_LEASES, MAX_TASKS, MAX_UNITS, MAX_WORKERS};
+ghost use Rattle.resource_lock.specs.declared.limits.TheConstants.{MAX_ACTIONS_PER_TASK, MAX_LEASES, MAX_LOCKS, MAX_TASKS, MAX_UNITS, MAX_WORKERS};
 ghost use Rattle.plan_reader.specs.PlanView.{plan_action_view, plan_task_view};
 ghost use Rattle.plan_reader.specs.Units.{task_units};
-ghost use Rattle.plan_reader.specs.Graph.{tasks_from, actions_from, units_in_all, all_actions_from, graph_of};
+ghost use Rattle.plan_reader.specs.Graph.{all_projects_lock, task_lock, tasks_from, actions_from, units_in_all, all_actions_from, graph_of};
 
 use crate::plans::{Plan, PlanAction, PlanTask};
-use resource_lock::{Graph, GraphAction, GraphTask, project_lock, project_lock_count};
+use resource_lock::{Graph, GraphAction, GraphTask, LockId, project_lock, project_lock_count};
 use std::alloc::{AllocError, Global};
 
 impl Plan {
     /// The graph of the plan, for so many workers and leases. With `parallel` each project has a lock of
-    /// its own, without it all share one. An error is want of memory.
+    /// its own, without it all share one. Behind these stands the all-projects lock, which the tasks have
+    /// that ask for all projects. An error is want of memory.
     pub fn graph(
         &self,
         alloc: Global,
@@ -28,17 +29,30 @@ impl Plan {
         requires few_leases { max_leases ≤ MAX_LEASES }
         ensures { IfOk result (λ g. g ≡ graph_of self.now workers max_leases parallel) }
     {
-        let tasks = graph_tasks(alloc, self.tasks(), parallel)?;
+        let all = self.all_projects_lock(parallel);
+        let tasks = graph_tasks(alloc, self.tasks(), parallel, all)?;
         let actions = graph_actions(alloc, self.tasks())?;
-        let locks = self.locks(parallel);
-        Ok(Graph::new(locks, workers, max_leases, tasks, actions))
+        let locks = all.0 + 1;
+        Ok(Graph::new(locks, Some(all), workers, max_leases, tasks, actions))
     }
 
-    // How many locks there are.
-    fn locks(&self, parallel: bool) -> u32
-        ensures { result ≡ project_lock_count parallel (length self.now.projects) }
+    // The lock behind those of the projects.
+    fn all_projects_lock(&self, parallel: bool) -> LockId
+        ensures lock { result ≡ all_projects_lock self.now parallel }
+        ensures few { result.0 < MAX_LOCKS }
     {
-        project_lock_count(parallel, self.projects().len() as u32)
+        LockId(project_lock_count(parallel, self.projects().len() as u32))
+    }
+}
+
+// The lock of a task: its project's, or the all-projects lock.
+fn task_lock(task: &PlanTask, parallel: bool, all: LockId) -> LockId
+    ensures { result ≡ task_lock all parallel (plan_task_view task.now) }
+{
+    if task.all_projects {
+        all
+    } else {
+        project_lock(parallel, task.project)
     }
 }
 
@@ -47,17 +61,18 @@ fn graph_tasks(
     alloc: Global,
     tasks: &[PlanTask],
     parallel: bool,
+    all: LockId,
 ) -> Result<Vec<GraphTask>, AllocError>
     requires few_tasks { length tasks.now ≤ MAX_TASKS }
     requires few_actions { All (λ t. length t.actions ≤ MAX_ACTIONS_PER_TASK) (map plan_task_view tasks.now) }
-    ensures { IfOk result (λ made. map graph_view made.items ≡ tasks_from parallel 0 (map plan_task_view tasks.now)) }
+    ensures { IfOk result (λ made. map graph_view made.items ≡ tasks_from (task_lock all parallel) 0 (map plan_task_view tasks.now)) }
 {
     let mut made = Vec::with_capacity(alloc, tasks.len())?;
     let mut first_action = 0;
     for task in tasks {
         let actions = task.actions.len() as u32;
         made.push(GraphTask {
-            lock: project_lock(parallel, task.project),
+            lock: task_lock(task, parallel, all),
             after: task.after.clone()?,
             first_action,
             actions,

@@ -15,8 +15,8 @@ use crate::profiles::default_requirements;
 use daemon_requirements::{Isolation, Requirements, Work};
 use item_actions::{ActionKind, ItemAction, Needle, Text};
 use plan_table::{
-    do_of, isolation_of, name_of, needle_of, project_of, requirements_name_of, take_actions,
-    take_fetch, take_file, take_items, take_name, wait_of,
+    all_projects_of, do_of, isolation_of, name_of, needle_of, project_of, requirements_name_of,
+    take_actions, take_fetch, take_file, take_items, take_name, wait_of,
 };
 use resource_lock::Retention;
 use std::alloc::{AllocError, Global};
@@ -167,6 +167,7 @@ fn task_of(
     Ok(PlanTask {
         project: known.projects.number_of(project_of(&task))?,
         after,
+        all_projects: all_projects_of(&task),
         name: take_name(alloc, &mut task),
         actions: actions_of_task(alloc, known, &mut task)?,
     })

@@ -17,12 +17,14 @@ pub struct PlanAction {
     pub items: Vec<Work>,
 }
 
-/// A task of a project, after other tasks.
+/// A task of a project, after other tasks. It may ask for all projects: while it runs, no other worker
+/// owns a project lock.
 #[derive(Drop)]
 pub struct PlanTask {
     pub name: Text,
     pub project: u32,
     pub after: Vec<u32>,
+    pub all_projects: bool,
     pub actions: Vec<PlanAction>,
 }
 

@@ -32,6 +32,10 @@ project_of d = text_at (codes "project") d
 abbrev pub after_of : Data → List Text
 after_of d = texts_at (codes "after") d
 
+-- whether it asks for all projects
+abbrev pub all_projects_of : Data → Bool
+all_projects_of d = boolean_or false (get (codes "all_projects") d)
+
 abbrev pub actions_of : Data → List Data
 actions_of d = list_at (codes "action") d
 

@@ -41,6 +41,7 @@ rules Task =
     required (codes "name") (One Name)
     ∷ required (codes "project") (One Name)
     ∷ optional (codes "after") (Many Name)
+    ∷ optional (codes "all_projects") Boolean
     ∷ optional (codes "action") Tables
     ∷ []
 rules Action =

@@ -3,8 +3,10 @@ ghost use Rattle.std.specs.Prelude.{string_bytes, ◌≡◌, [], map, option_map
 ghost use Rattle.std.specs.Option.{option_map_or};
 ghost use Rattle.toml.specs.View.{view};
 ghost use Rattle.plan_table.specs.Values.{text_of};
-ghost use Rattle.plan_table.specs.Keys.{projects_of, tasks_of, requirements_of, name_of, project_of, after_of, actions_of, wait_of, fetch_of, items_of, do_of};
-ghost use Rattle.plan_table.specs.Keys.{needle_of, isolation_of, requirements_name_of, heap_of, args_of, properties_of, variables_of, debug_of, assertions_of, keep_alive_of};
+ghost use Rattle.plan_table.specs.Keys.{projects_of, tasks_of, requirements_of, name_of, project_of, after_of, all_projects_of};
+ghost use Rattle.plan_table.specs.Keys.{actions_of, wait_of, fetch_of, items_of, do_of};
+ghost use Rattle.plan_table.specs.Keys.{needle_of, isolation_of, requirements_name_of, heap_of, args_of};
+ghost use Rattle.plan_table.specs.Keys.{properties_of, variables_of, debug_of, assertions_of, keep_alive_of};
 
 use crate::values::{
     boolean_or, integer_or, list_at, optional_text_at, table_of, text_at, text_or,
@@ -53,6 +55,13 @@ pub fn after_of<'a>(task: &'a Value) -> &'a [Value]
     ensures { map (λ v. text_of (view v)) result.now ≡ after_of (view task.entry.now) }
 {
     list_at(task, "after")
+}
+
+/// Whether a task asks for all projects, which it does not by default.
+pub fn all_projects_of(task: &Value) -> bool
+    ensures { result ≡ all_projects_of (view task.now) }
+{
+    boolean_or(task.get("all_projects"), false)
 }
 
 /// The actions of a task.

@@ -18,9 +18,9 @@ mod values;
 
 pub use document::{MAX_PARTS, read_document};
 pub use keys::{
-    actions_of, after_of, args_of, assertions_of, debug_of, do_of, fetch_of, heap_of, isolation_of,
-    items_of, keep_alive_of, name_of, needle_of, project_of, projects_of, properties_of,
-    requirements_name_of, requirements_of, tasks_of, variables_of, wait_of,
+    actions_of, after_of, all_projects_of, args_of, assertions_of, debug_of, do_of, fetch_of,
+    heap_of, isolation_of, items_of, keep_alive_of, name_of, needle_of, project_of, projects_of,
+    properties_of, requirements_name_of, requirements_of, tasks_of, variables_of, wait_of,
 };
 pub use laws::{the_first_place_is_told, the_first_refusal_is_told, what_is_not_refused_is_formed};
 pub use refusals::{Part, Place, PlanFail, PlanRefusal, Which};

@@ -83,10 +83,11 @@ static DOCUMENT_RULES: [KeyRule; 3] = [
 static PROJECT_RULES: [KeyRule; 1] = [rule!(required "name": One(Name))];
 
 // The keys of a task.
-static TASK_RULES: [KeyRule; 4] = [
+static TASK_RULES: [KeyRule; 5] = [
     rule!(required "name": One(Name)),
     rule!(required "project": One(Name)),
     rule!(optional "after": Many(Name)),
+    rule!(optional "all_projects": Boolean),
     rule!(optional "action": Tables),
 ];
 

@@ -1,6 +1,8 @@
 use daemon_requirements::{Isolation, Requirements, Work};
 use item_actions::KeepAlive;
 use plan_reader::*;
+use resource_lock::{Graph, LockId};
+use std::alloc::{AllocError, Global};
 use std::test::Fail;
 
 /// Two items that run in processes, the second of which names no requirements, and a task that comes after others.
@@ -109,5 +111,59 @@ fn items_have_the_requirements_that_they_name(rt: HostRuntime) -> Result<(), Fai
     let plan = read_plan(rt.alloc(), PLAN.as_bytes())?;
     assert!(rt; has_requirements(&plan));
     assert!(rt; has_tasks(&plan));
+    Ok(())
+}
+
+/// Three projects, and a task of the second that asks for all, between two that don't.
+static ALL_PROJECTS: &str = "
+project = [{ name = 'a' }, { name = 'b' }, { name = 'c' }]
+task = [
+{ name = 'first', project = 'a' },
+{ name = 'all', project = 'b', all_projects = true },
+{ name = 'last', project = 'c', all_projects = false },
+]
+";
+
+fn ask_in_turn(plan: &Plan) -> bool {
+    match plan.tasks() {
+        [first, all, last] => {
+            (first.all_projects, all.all_projects, last.all_projects) == (false, true, false)
+                && all.project == 1
+        }
+        _ => false,
+    }
+}
+
+// Whether the graph of the plan has these locks: so many in all, the last of them that of all projects, and
+// each task the lock that is named for it.
+fn has_locks(
+    alloc: Global,
+    plan: &Plan,
+    parallel: bool,
+    expected: [u32; 4],
+) -> Result<bool, AllocError> {
+    let graph = plan.graph(alloc, 2, 1, parallel)?;
+    let [first, all, last, count] = expected;
+    Ok(
+        graph.locks() == count
+            && graph.all() == Some(LockId(count - 1))
+            && has_tasks_of(&graph, &[first, all, last]),
+    )
+}
+
+fn has_tasks_of(graph: &Graph, locks: &[u32]) -> bool {
+    graph
+        .tasks()
+        .iter()
+        .map(|task| task.lock.0)
+        .eq(locks.iter().copied())
+}
+
+#[test]
+fn a_task_that_asks_for_all_projects_has_their_lock(rt: HostRuntime) -> Result<(), Fail> {
+    let plan = read_plan(rt.alloc(), ALL_PROJECTS.as_bytes())?;
+    assert!(rt; ask_in_turn(&plan));
+    assert!(rt; has_locks(rt.alloc(), &plan, true, [0, 3, 2, 4])?);
+    assert!(rt; has_locks(rt.alloc(), &plan, false, [0, 1, 0, 2])?);
     Ok(())
 }

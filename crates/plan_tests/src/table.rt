@@ -77,6 +77,7 @@ fn is_plain_action(action: &Value) -> bool {
 
 fn is_plain_task(task: &Value) -> bool {
     after_of(task).is_empty()
+        && !all_projects_of(task)
         && actions_of(task)
             .first()
             .is_some_and(|action| is_plain_action(action))
@@ -107,6 +108,67 @@ fn absent_keys_have_their_defaults(rt: HostRuntime) -> Result<(), Fail> {
     let document = read_document(rt.alloc(), NO_KEY.as_bytes())?;
     assert!(rt; table_refusal(&document).is_none());
     assert!(rt; is_plain(&document));
+    Ok(())
+}
+
+/// Two tasks that say whether they ask for all projects.
+static SAID: &str = r#"
+task = [
+{ name = "t", project = "p", all_projects = true },
+{ name = "u", project = "p", all_projects = false },
+]
+"#;
+
+fn says_both(document: &Value) -> bool {
+    match tasks_of(document) {
+        [asks, asks_not] => all_projects_of(asks) && !all_projects_of(asks_not),
+        _ => false,
+    }
+}
+
+#[test]
+fn tasks_say_whether_they_ask_for_all_projects(rt: HostRuntime) -> Result<(), Fail> {
+    let document = read_document(rt.alloc(), SAID.as_bytes())?;
+    assert!(rt; table_refusal(&document).is_none());
+    assert!(rt; says_both(&document));
+    Ok(())
+}
+
+/// Keys that ask for all projects by a value of another type.
+static NOT_SAID: [&str; 5] = [
+    "task = [{ name = 't', project = 'p', all_projects = 1 }]",
+    "task = [{ name = 't', project = 'p', all_projects = 'true' }]",
+    "task = [{ name = 't', project = 'p', all_projects = [true] }]",
+    "task = [{ name = 't', project = 'p', all_projects = {} }]",
+    "task = [{ name = 't', project = 'p', all_projects = 1979-05-27 }]",
+];
+
+/// The key in tables that haven't it.
+static NO_KEY_THERE: [&str; 4] = [
+    "all_projects = true",
+    "project = [{ name = 'p', all_projects = true }]",
+    "requirements = [{ name = 'r', all_projects = true }]",
+    "task = [{ name = 't', project = 'p', all-projects = true }]",
+];
+
+fn is_wrong_type(refusal: Option<PlanRefusal>) -> bool {
+    matches!(refusal, Some(PlanRefusal::WrongType(place)) if place.number == 0)
+}
+
+fn is_unknown(refusal: Option<PlanRefusal>) -> bool {
+    matches!(refusal, Some(PlanRefusal::UnknownKey(place)) if place.number == 0)
+}
+
+#[test]
+fn whether_all_projects_are_asked_for_is_a_boolean_of_a_task(rt: HostRuntime) -> Result<(), Fail> {
+    for text in &NOT_SAID {
+        let document = read_document(rt.alloc(), text.as_bytes())?;
+        assert!(rt; is_wrong_type(table_refusal(&document)));
+    }
+    for text in &NO_KEY_THERE {
+        let document = read_document(rt.alloc(), text.as_bytes())?;
+        assert!(rt; is_unknown(table_refusal(&document)));
+    }
     Ok(())
 }
 

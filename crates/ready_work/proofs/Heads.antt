@@ -5,7 +5,7 @@ use Rattle.ready_work.specs.LockOrderView.{lock_at, place_of, start_of, IsPlace}
 use Rattle.ready_work.specs.Lowest.{IsFrom, IsLowest, IsNone}
 use Rattle.ready_work.specs.NumberSetView.{NumberSetView, has, room_of, set_where, IsMember}
 use Rattle.ready_work.specs.Sets.{IsRightAt}
-use Rattle.ready_work.specs.StartableTasksView.{StartableTasksView, IsUnowned, IsWith}
+use Rattle.ready_work.specs.StartableTasksView.{StartableTasksView, IsUnowned, IsUnownedBut, IsWith}
 use Rattle.ready_work.specs.StartableTasks.{startable_tasks_view, tasks_at, AreHeads, HasHeads, IsHead}
 use Rattle.ready_work.specs.declared.startable_tasks.StartableTasks.TheInside.{Inside}
 use Rattle.ready_work.proofs.Sets.{has_where, none_where, nowhere, room_where, same_where}
@@ -214,6 +214,7 @@ first_below p (suc n) = at (first_below p n) (cases_Bool (p n))
 record HeadBefore (locks : List ℕ) (tasks free : NumberSetView) (t : ℕ) : Type 0 where
   head : ℕ
   low : head ≤ t
+  same : lock_at locks head ≡ lock_at locks t
   is : IsHead locks tasks free head
 
 head_before : (locks : List ℕ) (tasks free : NumberSetView) (t : ℕ) → IsMember tasks t → IsMember free (lock_at locks t) → HeadBefore locks tasks free t
@@ -238,6 +239,7 @@ head_before locks tasks free t member open' = at (first_below passes (t + 1))
         record {
           head = found.first;
           low = omega arith;
+          same = w.same;
           is = record {
             lowest = subst (λ l. IsLowest (IsWith locks tasks l) found.first) (sym w.same) (record { is = w; least = λ k lt also. found.least k lt (made k also) });
             unowned = ap (has free) w.same ∙ open';
@@ -259,3 +261,59 @@ no_head all heads are none = record {
       let before = head_before all.locks all.tasks all.free k unowned.is unowned.free in
       none.none before.head ((are before.head).1 before.is);
 }
+
+-- ---- the lowest head with another lock than this one
+
+-- each lock has one head at most
+one_head : (all : StartableTasksView) (heads : NumberSetView) (m n : ℕ) → AreHeads all.locks all.tasks all.free heads → IsMember heads m → IsMember heads n → lock_at all.locks m ≡ lock_at all.locks n → m < n → ⊥
+one_head all heads m n are at there same lt =
+    let first = (are m).0 at in
+    let second = (are n).0 there in
+    second.lowest.least m lt (record { is = first.lowest.is.is; same = same })
+
+-- the first head has another lock
+pub first_other : (all : StartableTasksView) (heads : NumberSetView) (lock n : ℕ) → AreHeads all.locks all.tasks all.free heads → IsLowest (IsMember heads) n → lock_at all.locks n ≢ lock → IsLowest (IsUnownedBut all lock) n
+first_other all heads lock n are low ne =
+    let first = first_head all heads n are low in
+    record { is = record { unowned = first.is; other = ne }; least = λ k lt but. first.least k lt but.unowned }
+
+-- a head that isn't the first is above it
+head_above : (all : StartableTasksView) (heads : NumberSetView) (lock n k : ℕ) → AreHeads all.locks all.tasks all.free heads → IsLowest (IsMember heads) n → lock_at all.locks n ≡ lock → IsUnownedBut all lock k → (h : ℕ) × ((h ≤ k) × IsFrom (n + 1) (IsMember heads) h)
+head_above all heads lock n k are low same but =
+    let before = head_before all.locks all.tasks all.free k but.unowned.is but.unowned.free in
+    let member = (are before.head).1 before.is in
+    (before.head, (before.low, record { past = above before.head member (but_lock before.head before.same) (cases_lt before.head n) (cases_eq before.head n); such = member }))
+  where
+    but_lock : (h : ℕ) → lock_at all.locks h ≡ lock_at all.locks k → lock_at all.locks h ≡ lock → ⊥
+    but_lock h e here = but.other (sym e ∙ here)
+
+    above : (h : ℕ) → IsMember heads h → (lock_at all.locks h ≡ lock → ⊥) → (h < n) ⊎ (n ≤ h) → (h ≡ n) ⊎ (h ≡ n → ⊥) → n + 1 ≤ h
+    above h member ne (inl lt) _ = absurd (low.least h lt member)
+    above h member ne (inr le) (inl e) = absurd (ne (ap (lock_at all.locks) e ∙ same))
+    above h member ne (inr le) (inr other) = omega (arith, le, other)
+
+-- it has this lock, and the next has another
+pub second_other : (all : StartableTasksView) (heads : NumberSetView) (lock n m : ℕ) → AreHeads all.locks all.tasks all.free heads → IsLowest (IsMember heads) n → lock_at all.locks n ≡ lock → IsLowest (IsFrom (n + 1) (IsMember heads)) m → IsLowest (IsUnownedBut all lock) m
+second_other all heads lock n m are low same next = record {
+  is = let head = (are m).0 next.is.such in record {
+    unowned = record { is = head.lowest.is.is; free = head.unowned };
+    other = λ e. one_head all heads n m are low.is next.is.such (same ∙ sym e) (let past = next.is.past in omega arith);
+  };
+  least = λ k lt but.
+      let found = head_above all heads lock n k are low same but in
+      let at_most = found.1.0 in
+      next.least found.0 (omega arith) found.1.1;
+}
+
+-- it is the only one
+pub no_second : (all : StartableTasksView) (heads : NumberSetView) (lock n : ℕ) → AreHeads all.locks all.tasks all.free heads → IsLowest (IsMember heads) n → lock_at all.locks n ≡ lock → IsNone (IsFrom (n + 1) (IsMember heads)) → IsNone (IsUnownedBut all lock)
+no_second all heads lock n are low same none = record {
+  none = λ k but. let found = head_above all heads lock n k are low same but in none.none found.0 found.1.1;
+}
+
+pub no_other : (all : StartableTasksView) (heads : NumberSetView) (lock : ℕ) → AreHeads all.locks all.tasks all.free heads → IsNone (IsMember heads) → IsNone (IsUnownedBut all lock)
+no_other all heads lock are none = record { none = λ k but. (no_head all heads are none).none k but.unowned }
+
+-- a head is a task of the order
+pub head_within : (all : Inside) (n : ℕ) → HasHeads all → IsMember all.heads n → n < length all.order.locks
+head_within all n has member = (stands_in all.order.locks all.places n ((has.heads n).0 member).lowest.is.is).within

@@ -2,7 +2,7 @@
 use Rattle.std.proofs.Common.{◌≡◌, ◌≢◌, ℕ, ◌+◌, ◌-◌, ◌*◌, ◌/◌, ◌^◌, ◌<◌, ◌≤◌, Bool, true, false, not, ◌||◌, eqb, Option, None, Some, List, length, get_or, w64, refl, sym, ◌∙◌, subst, ap, arith, ◌⊎◌, inl, inr}
 use Rattle.std.proofs.lemmas.List.{get_or_past}
 use Rattle.std.proofs.lemmas.List.FromFn.{get_or-map-range_with_len, length-map-range_with_len}
-use Rattle.std.proofs.lemmas.Bool.{cases_eq, cases_lt, eq-eqb, eqb-false, eqb-true, ne_eqb, or_cases, or_parts, false_from_ne_true}
+use Rattle.std.proofs.lemmas.Bool.{cases_eq, cases_lt, eq-eqb, eqb-false, eqb-true, ne_eqb, or_cases, or_parts, false_from_ne_true, true≢false}
 use Rattle.std.specs.Prelude.{IfNone}
 use Rattle.std.specs.Int.{trailing_zeros}
 use Rattle.ready_work.specs.WordBits.{bit_in, HasBit, IsInWord}
@@ -220,3 +220,12 @@ if_none Fact (Some n) is = tt
 pub none_then : {P Q : Type 0} (o : Option ℕ) → (P → Q) → IfNone o P → IfNone o Q
 none_then None next is = next is
 none_then (Some n) next is = tt
+
+-- no number that doesn't fit is a member
+pub none_unfit : (words summary : List ℕ) (from : ℕ) → Summarizes words summary → 2 ^ 32 ≤ from → IsNone (IsFrom from (IsMember (set_in words)))
+none_unfit words summary from is past = record {
+  none = λ k at.
+      let few = is.few in
+      let le = at.past in
+      true≢false (sym at.such ∙ none_where (λ i. eqb (bit_in words i) 1) (64 * length words) k (omega arith));
+}

@@ -2,7 +2,7 @@
 use Rattle.std.specs.Prelude.{ℕ, ◌≡◌, ◌<◌, true, false, None, length}
 use Rattle.std.specs.List.{list_any, list_all}
 use Rattle.resource_lock.specs.GraphView.{GraphView, task_of}
-use Rattle.resource_lock.specs.StateView.{StateView, mark_of, owner_of}
+use Rattle.resource_lock.specs.StateView.{StateView, is_taken, mark_of, owner_of}
 use Rattle.resource_lock.specs.declared.marks.Mark.TheVariants.{Waiting}
 use Rattle.resource_lock.specs.declared.marks.MarkId.TheVariants.{Task as TaskOf, Unit as UnitOf}
 use Rattle.resource_lock.specs.Marks.{has_passed, has_fallen, has_ended}
@@ -29,12 +29,12 @@ pub record IsFree (g : GraphView) (s : StateView) (l : ℕ) : Type 0 where
   pub within : l < g.locks
   pub free : owner_of s (record { 0 = l }) ≡ None
 
--- it waits, each that it comes after has passed, and nobody owns its lock
+-- it waits, each that it comes after has passed, and nobody owns a lock that conflicts with its own
 pub record CanStart (g : GraphView) (s : StateView) (t : ℕ) : Type 0 where
   pub within : t < length g.tasks
   pub waits : mark_of s (TaskOf t) ≡ Waiting
   pub passed : list_all (λ k. has_passed (mark_of s (TaskOf k))) (task_of g t).after ≡ true
-  pub free : owner_of s (task_of g t).lock ≡ None
+  pub free : is_taken s (task_of g t).lock ≡ false
 
 -- the task hasn't ended
 pub record IsUnended (g : GraphView) (s : StateView) (t : ℕ) : Type 0 where

@@ -4,6 +4,7 @@ pub mod NumberSetView
 pub mod NumberSet
 pub mod Sets
 pub mod Choices
+pub mod Closed
 pub mod Table
 pub mod LockOrderView
 pub mod LockOrder

@@ -20,6 +20,11 @@ pub record IsUnowned (all : StartableTasksView) (t : ℕ) : Type 0 where
   pub is : IsMember all.tasks t
   pub free : IsMember all.free (lock_at all.locks t)
 
+-- one with another lock than this one
+pub record IsUnownedBut (all : StartableTasksView) (lock t : ℕ) : Type 0 where
+  pub unowned : IsUnowned all t
+  pub other : lock_at all.locks t ≢ lock
+
 -- The task is one of the startable tasks, or isn't, and all else is as it was.
 pub record PutsTask (old new : StartableTasksView) (task : ℕ) (is_startable : Bool) : Type 0 where
   pub locks : new.locks ≡ old.locks

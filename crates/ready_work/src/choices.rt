@@ -3,6 +3,7 @@ ghost use Rattle.std.specs.Prelude.{◌≡◌, ◌↔◌, ◌<◌, IsTrue, None,
 ghost use Rattle.resource_lock.specs.Marks.{has_ended};
 ghost use Rattle.resource_lock.specs.StateView.{mark_of, owner_of};
 ghost use Rattle.resource_lock.specs.declared.marks.Mark.TheVariants.{Waiting};
+ghost use Rattle.ready_work.specs.Closed.{closed_lock};
 ghost use Rattle.resource_lock.specs.declared.marks.MarkId.TheVariants as ids;
 
 use resource_lock::{LockId, Mark, MarkId, State};
@@ -27,6 +28,13 @@ pub(crate) fn is_startable(mark: Mark, unpassed: u32) -> bool
     ensures { IsTrue result ↔ (mark ≡ Waiting) × (unpassed ≡ 0) }
 {
     mark == Mark::Waiting && unpassed == 0
+}
+
+/// The all-projects lock, where it can't be taken since somebody owns a lock.
+pub(crate) fn closed_lock(state: &State) -> Option<LockId>
+    ensures { result ≡ closed_lock state.now }
+{
+    if state.any_owned() { state.all() } else { None }
 }
 
 /// Whether nobody owns a lock.

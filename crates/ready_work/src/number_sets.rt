@@ -1,5 +1,5 @@
 //! Sets of numbers.
-ghost use Rattle.std.specs.Prelude.{◌≡◌, ◌≢◌, ◌<◌, ◌≤◌, ◌^◌, ℕ, false, not, IfNone, IfOk, IfSome};
+ghost use Rattle.std.specs.Prelude.{◌≡◌, ◌≢◌, ◌+◌, ◌<◌, ◌≤◌, ◌^◌, ℕ, false, not, IfNone, IfOk, IfSome};
 ghost use Rattle.ready_work.specs.Lowest.{IsFrom, IsLowest, IsNone};
 ghost use Rattle.ready_work.specs.NumberSetView.{has, room_of, IsMember};
 
@@ -87,6 +87,19 @@ impl NumberSet {
     {
         let number = self.next_member(from as usize)?;
         Some(number as u32)
+    }
+
+    /// The lowest member above a number.
+    pub(crate) fn next_above(&self, number: u32) -> Option<u32>
+        ensures some { IfSome result (IsLowest (IsFrom (number + 1) (IsMember self.now))) }
+        ensures none { IfNone result (IsNone (IsFrom (number + 1) (IsMember self.now))) }
+    {
+        if number == u32::MAX {
+            // No larger number is a member, by the set's invariant.
+            let _ = &self.members;
+            return None;
+        }
+        self.next_from(number + 1)
     }
 
     // The lowest member that isn't below a number: in the number's own word, or else in the next

@@ -13,7 +13,7 @@ ghost use Rattle.ready_work.specs.ReadyWork.{Follows, IsIndexOf, IsMadeFor, Note
 ghost use Rattle.ready_work.specs.Sets.{IsSetOf, Looks, NoNumber, SameNumbers};
 ghost use Rattle.ready_work.specs.TaskSets.{LooksAt, MovesTasks};
 
-use crate::choices::{is_free, is_open};
+use crate::choices::{closed_lock, is_free, is_open};
 use crate::dependents::all_dependents;
 use crate::number_sets::NumberSet;
 use crate::task_sets::TaskSets;
@@ -76,12 +76,22 @@ impl ReadyWork {
         self.tasks.skippable.first()
     }
 
-    /// The lowest task that can be started: whose marks allow it, and whose lock nobody owns.
-    pub fn first_to_start(&self) -> Option<u32>
-        ensures some { (g : GraphView) (s : StateView) → IsIndexOf g s self.now → IfSome result (IsLowest (CanStart g s)) }
-        ensures none { (g : GraphView) (s : StateView) → IsIndexOf g s self.now → IfNone result (IsNone (CanStart g s)) }
+    /// The lowest task that can be started in the state of this index: whose marks allow it, and of whose
+    /// lock no worker owns one that conflicts with it.
+    ///
+    /// It looks at no lock but the all-projects lock: while that is owned nothing can be started, and
+    /// while another is owned no task with it.
+    pub fn first_to_start(&self, state: &State) -> Option<u32>
+        ensures some { (g : GraphView) → IsIndexOf g state.now self.now → IfSome result (IsLowest (CanStart g state.now)) }
+        ensures none { (g : GraphView) → IsIndexOf g state.now self.now → IfNone result (IsNone (CanStart g state.now)) }
     {
-        self.tasks.startable.first()
+        if state.all_owner().is_some() {
+            return None;
+        }
+        match closed_lock(state) {
+            Some(lock) => self.tasks.startable.first_but(lock.0),
+            None => self.tasks.startable.first(),
+        }
     }
 
     /// Whether each task has ended.

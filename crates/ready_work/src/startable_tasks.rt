@@ -5,7 +5,7 @@ ghost use Rattle.ready_work.specs.LockOrderView.{lock_at};
 ghost use Rattle.ready_work.specs.Lowest.{IsLowest, IsNone};
 ghost use Rattle.ready_work.specs.NumberSetView.{has, room_of};
 ghost use Rattle.ready_work.specs.Sets.{SameNumbers};
-ghost use Rattle.ready_work.specs.StartableTasksView.{IsUnowned, IsWith, PutsTask};
+ghost use Rattle.ready_work.specs.StartableTasksView.{IsUnowned, IsUnownedBut, IsWith, PutsTask};
 ghost use Rattle.ready_work.specs.TaskSets.{HasClosedLocks, HasLocks};
 
 use crate::choices::is_free;
@@ -144,6 +144,19 @@ impl StartableTasks {
         ensures none { IfNone result (IsNone (IsUnowned self.now)) }
     {
         self.heads.first()
+    }
+
+    /// The lowest task whose lock nobody owns, of those with another lock than this one. Each free lock
+    /// has one head, so the first head or the second is the one.
+    pub(crate) fn first_but(&self, lock: u32) -> Option<u32>
+        ensures some { IfSome result (IsLowest (IsUnownedBut self.now lock)) }
+        ensures none { IfNone result (IsNone (IsUnownedBut self.now lock)) }
+    {
+        let first = self.heads.first()?;
+        if self.order.lock(first) != lock {
+            return Some(first);
+        }
+        self.heads.next_above(first)
     }
 
     // The lowest task that has a lock.

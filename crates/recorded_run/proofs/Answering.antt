@@ -1,7 +1,8 @@
 -- What entries that were admitted come to, told of the history that they are of.
-use Rattle.std.proofs.Common.{◌≡◌, ℕ, List, [], Option, Result, Ok, Err, refl, sym, ap, subst, ◌∙◌, inl, inr}
+use Rattle.std.proofs.Common.{◌≡◌, ℕ, true, false, List, [], Option, None, Result, Ok, Err, refl, sym, ap, subst, ◌∙◌, inl, inr}
 use Rattle.std.specs.Prelude.{IsErrAnd}
 use Rattle.std.specs.declared.alloc.AllocError.{AllocError}
+use Rattle.std.proofs.lemmas.Bool.{true≢false}
 use Rattle.item_actions.specs.Files.{Folder}
 use Rattle.item_actions.specs.declared.outcomes.Outcome.{Outcome}
 use Rattle.lock_journal.specs.BookView.{BookView}
@@ -16,6 +17,7 @@ use Rattle.resource_lock.specs.GraphView.{GraphView}
 use Rattle.history_reader.specs.HistoryView.{HistoryView}
 use Rattle.history_check.specs.Admitting.{AdmitsInput, IsAdmission, IsAdmissionOf, checked_of}
 use Rattle.history_check.specs.Checking.{Fails}
+use Rattle.history_check.specs.Verdict.{names_other_locks}
 use Rattle.history_check.specs.declared.admitted.Admitted.{Admitted}
 use Rattle.history_check.specs.declared.admitted.Admitted.TheVariants as admitted
 use Rattle.history_check.specs.declared.checks.Checked.TheVariants as checked
@@ -35,17 +37,17 @@ module _ (p : PlanView) (known : Option Folder) (Read : List Closed → Type 0) 
   no_book n is read = subst (λ (x : Admitted). GoesOn p known Read x (again.NotLawful n)) (sym is) (refl, read)
 
   module _ (b : BookView) (is : a ≡ admitted.Lawful b) (lawful : Lawful b.graph b.history) where
-    goes : (found : Again) → IsAgain p b.graph b.history known Read found → GoesOn p known Read a found
+    goes : (found : Again) → IsAgain p b.graph None b.history known Read found → GoesOn p known Read a found
     goes found h = subst (λ (x : Admitted). GoesOn p known Read x found) (sym is) h
 
     pub same_book : b.state ≡ replay b.graph b.history → AreTrue p known b.history × Read (closings_in b.history) → GoesOn p known Read a (again.Same b)
-    same_book state driven = goes (again.Same b) (record { graph = refl; entries = refl; lawful = lawful }, state, driven.0, driven.1)
+    same_book state driven = goes (again.Same b) (refl, record { graph = refl; entries = refl; lawful = lawful }, state, driven.0, driven.1)
 
     pub differing : (s : Stop) (n : ℕ) (o : Outcome) → s ≡ stop.Differs n o → AreDriven p known b.history Read (Err s) → GoesOn p known Read a (again.Differs n o)
-    differing s n o same driven = goes (again.Differs n o) (lawful, subst (λ (t : Stop). AreDriven p known b.history Read (Err t)) same driven)
+    differing s n o same driven = goes (again.Differs n o) (refl, lawful, subst (λ (t : Stop). AreDriven p known b.history Read (Err t)) same driven)
 
     pub unread : (s : Stop) (u : ℕ) → s ≡ stop.ReadFault u → AreDriven p known b.history Read (Err s) → GoesOn p known Read a (again.ReadFault u)
-    unread s u same driven = goes (again.ReadFault u) (lawful, subst (λ (t : Stop). AreDriven p known b.history Read (Err t)) same driven)
+    unread s u same driven = goes (again.ReadFault u) (refl, lawful, subst (λ (t : Stop). AreDriven p known b.history Read (Err t)) same driven)
 
   pub without_memory : (es : List Entry) (s : Stop) → s ≡ stop.NoMemory → AreDriven p known es Read (Err s) → HasRead Read
   without_memory es s same driven = subst (λ (t : Stop). AreDriven p known es Read (Err t)) same driven
@@ -63,17 +65,26 @@ memory_counted before after s same counted = subst (λ (t : Stop). IsStopCounted
 -- ---- a whole history
 
 pub fits_plan : (p : PlanView) (h : HistoryView) (a : Admitted) → IsAdmissionOf p h a → FitsPlan p a
-fits_plan p h (admitted.Lawful b) is = ap (λ (g : GraphView). g.units) is.graph
+fits_plan p h (admitted.Lawful b) is = ap (λ (g : GraphView). g.units) is.1.graph
 fits_plan p h (admitted.NotLawful n) is = tt
 
 module _ (p : PlanView) (known : Option Folder) (Read : List Closed → Type 0) where
-  by_entries : (g : GraphView) (es : List Entry) (a : Admitted) (found : Again) → IsAdmission g es a → GoesOn p known Read a found → IsAgain p g es known Read found
-  by_entries g es (admitted.Lawful b) found is goes =
-      subst (λ (x : GraphView). IsAgain p x es known Read found) is.graph (subst (λ (xs : List Entry). IsAgain p b.graph xs known Read found) is.entries goes)
-  by_entries g es (admitted.NotLawful n) found is goes = subst (IsAgain p g es known Read) (sym goes.0) (is, goes.1)
+  -- where no other number of locks is named, it is as where none is
+  no_other : (g : GraphView) (locks : Option ℕ) (es : List Entry) (found : Again) → names_other_locks locks g ≡ false → IsAgain p g None es known Read found → IsAgain p g locks es known Read found
+  no_other g locks es (again.Same b) same h = (same, h.1, h.2, h.3, h.4)
+  no_other g locks es (again.NotLawful n) same (inl h, read) = absurd (true≢false (sym h.0))
+  no_other g locks es (again.NotLawful n) same (inr h, read) = (inr (same, h.1), read)
+  no_other g locks es (again.Differs n o) same h = (same, h.1, h.2)
+  no_other g locks es (again.ReadFault u) same h = (same, h.1, h.2)
+
+  by_entries : (g : GraphView) (locks : Option ℕ) (es : List Entry) (a : Admitted) (found : Again) → IsAdmission g locks es a → GoesOn p known Read a found → IsAgain p g locks es known Read found
+  by_entries g locks es (admitted.Lawful b) found is goes =
+      no_other g locks es found is.0
+      (subst (λ (x : GraphView). IsAgain p x None es known Read found) is.1.graph (subst (λ (xs : List Entry). IsAgain p b.graph None xs known Read found) is.1.entries goes))
+  by_entries g locks es (admitted.NotLawful n) found is goes = subst (IsAgain p g locks es known Read) (sym goes.0) (is, goes.1)
 
   pub whole : (h : HistoryView) (a : Admitted) (r : Result Again AllocError) → IsAdmissionOf p h a → HasGoneOn p known Read a r → IsDrivenAgain p h known Read r
-  whole h a (Ok found) is goes = by_entries (graph_of p h.workers h.max h.parallel) h.entries a found is goes
+  whole h a (Ok found) is goes = by_entries (graph_of p h.workers h.max h.parallel) h.locks h.entries a found is goes
   whole h a (Err e) is goes = goes
 
   -- ---- an input
@@ -89,7 +100,7 @@ module _ (p : PlanView) (known : Option Folder) (Read : List Closed → Type 0) 
     inl (record {
       history = admits.history;
       names = admits.names;
-      again = by_entries (graph_of p admits.history.workers admits.history.max admits.history.parallel) admits.history.entries a found admits.admission goes;
+      again = by_entries (graph_of p admits.history.workers admits.history.max admits.history.parallel) admits.history.locks admits.history.entries a found admits.admission goes;
     }),
     just,
   )

@@ -1,5 +1,5 @@
 -- What driving a run again comes to, and which files it reads.
-use Rattle.std.specs.Prelude.{ℕ, ◌≡◌, ◌+◌, ◌⊎◌, List, [], ◌∷◌, ◌++◌, length, Option, Result, Ok, Err}
+use Rattle.std.specs.Prelude.{ℕ, ◌≡◌, ◌+◌, ◌⊎◌, List, [], ◌∷◌, ◌++◌, length, false, Option, None, Result, Ok, Err}
 use Rattle.std.specs.declared.alloc.AllocError.{AllocError}
 use Rattle.item_actions.specs.Files.{Folder}
 use Rattle.item_actions.specs.Value.{IsHonest}
@@ -18,7 +18,7 @@ use Rattle.history_check.specs.Admitting.{IsBookOf}
 use Rattle.history_check.specs.Checking.{Fails, IsJustDecided, all_given}
 use Rattle.history_check.specs.Naming.{Breaks, Names}
 use Rattle.history_check.specs.Taking.{Takes}
-use Rattle.history_check.specs.Verdict.{IsFirstUnlawful}
+use Rattle.history_check.specs.Verdict.{IsUnlawfulAt, names_other_locks}
 use Rattle.history_check.specs.declared.admitted.Admitted.{Admitted}
 use Rattle.history_check.specs.declared.admitted.Admitted.TheVariants as admitted
 use Rattle.history_check.specs.declared.fails.CheckFail.{CheckFail}
@@ -74,16 +74,18 @@ abbrev pub IsAgainCounted : {E : Type 0} → ℕ → ℕ → Result Again E → 
 IsAgainCounted old new (Ok (ReadFault u)) = new ≡ next old
 IsAgainCounted old new _ = new ≡ old
 
--- What a lawful or unlawful list of entries comes to, driven again. The book has exactly the entries, and its state is their replay.
-abbrev pub IsAgain : PlanView → GraphView → List Entry → Option Folder → (List Closed → Type 0) → Again → Type 0
-IsAgain p g es known Read (Same b) = IsBookOf g es b × (b.state ≡ replay g es) × AreTrue p known es × Read (closings_in es)
-IsAgain p g es known Read (NotLawful n) = IsFirstUnlawful g es n × Read []
-IsAgain p g es known Read (Differs n o) = Lawful g es × IsFirstUntrue p known es Read n o
-IsAgain p g es known Read (ReadFault u) = Lawful g es × IsUnread p known es Read u
+-- What a lawful or unlawful list of entries comes to, driven again, where its history names this number of locks or none.
+-- The book has exactly the entries, and its state is their replay.
+abbrev pub IsAgain : PlanView → GraphView → Option ℕ → List Entry → Option Folder → (List Closed → Type 0) → Again → Type 0
+IsAgain p g locks es known Read (Same b) =
+    (names_other_locks locks g ≡ false) × IsBookOf g es b × (b.state ≡ replay g es) × AreTrue p known es × Read (closings_in es)
+IsAgain p g locks es known Read (NotLawful n) = IsUnlawfulAt g locks es n × Read []
+IsAgain p g locks es known Read (Differs n o) = (names_other_locks locks g ≡ false) × Lawful g es × IsFirstUntrue p known es Read n o
+IsAgain p g locks es known Read (ReadFault u) = (names_other_locks locks g ≡ false) × Lawful g es × IsUnread p known es Read u
 
 -- so it is with a whole history, for a plan
 abbrev pub IsAgainOf : PlanView → HistoryView → Option Folder → (List Closed → Type 0) → Again → Type 0
-IsAgainOf p h known Read a = IsAgain p (graph_of p h.workers h.max h.parallel) h.entries known Read a
+IsAgainOf p h known Read a = IsAgain p (graph_of p h.workers h.max h.parallel) h.locks h.entries known Read a
 
 abbrev pub IsDrivenAgain : PlanView → HistoryView → Option Folder → (List Closed → Type 0) → Result Again AllocError → Type 0
 IsDrivenAgain p h known Read (Ok a) = IsAgainOf p h known Read a
@@ -122,7 +124,7 @@ FitsPlan p (admitted.NotLawful n) = Unit {0}
 
 -- what becomes of entries that were admitted: their book stays, and an answer that they aren't lawful too
 abbrev pub GoesOn : PlanView → Option Folder → (List Closed → Type 0) → Admitted → Again → Type 0
-GoesOn p known Read (admitted.Lawful b) a = IsAgain p b.graph b.history known Read a
+GoesOn p known Read (admitted.Lawful b) a = IsAgain p b.graph None b.history known Read a
 GoesOn p known Read (admitted.NotLawful n) a = (a ≡ NotLawful n) × Read []
 
 abbrev pub HasGoneOn : PlanView → Option Folder → (List Closed → Type 0) → Admitted → Result Again AllocError → Type 0

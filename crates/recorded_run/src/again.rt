@@ -20,7 +20,8 @@ pub enum Again {
     /// It is lawful, and each of its entries is true. This is its book, with exactly its entries.
     Same(Book),
     /// The entry of this number is the first that isn't allowed after those before it. Of a text that stops
-    /// being a history it is the number at which it stops. No file was read.
+    /// being a history it is the number at which it stops. It is 0 where the history names another number of
+    /// locks than the plan's graph has. No file was read.
     NotLawful(u64),
     /// It is lawful, but the entry of this number is the first that isn't true. Its unit gives this.
     Differs(u64, Outcome),
@@ -44,7 +45,7 @@ pub fn drive_again<F: Files>(
     history: &History,
     files: &mut F,
 ) -> Result<Again, AllocError>
-    requires { HeadFits history.now.workers history.now.max }
+    requires { HeadFits history.now.workers history.now.max history.now.locks }
     ensures files { F.files files.new ≡ F.files files.old }
     ensures counted { IsAgainCounted (F.faults files.old) (F.faults files.new) result }
     ensures again { IsDrivenAgain plan.now (history_view history.now) (F.files files.old) (ReadsFor F.keeps files.old files.new) result }

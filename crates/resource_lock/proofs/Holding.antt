@@ -1,19 +1,19 @@
 -- What a change of one worker leaves of a `State`, once it is noted in the worker's entry.
-use Rattle.std.proofs.Common.{◌≡◌, ◌<◌, ◌≤◌, ◌+◌, ◌^◌, length, List, map, true, false, not, ◌&&◌, ltb, None, Some, ◌⊎◌, inl, inr, refl, sym, ◌∙◌, ap, subst, arith, get_or, set}
+use Rattle.std.proofs.Common.{◌≡◌, ℕ, ◌<◌, ◌≤◌, ◌+◌, ◌^◌, length, List, map, true, false, not, ◌&&◌, ltb, None, Some, ◌⊎◌, inl, inr, refl, sym, ◌∙◌, ap, subst, arith, get_or, set}
 use Rattle.std.specs.Vec.{vec_capacity}
 use Rattle.std.specs.List.{All}
 use Rattle.std.proofs.lemmas.List.{map-set, get_or-map, length-map, length-set, length_push, set-get_or, get_or-set_same, get_or-set_other, get_or_past}
 use Rattle.std.proofs.lemmas.List.Sums.{count_by-le-length, get_or-le-sum_by}
 use Rattle.std.proofs.lemmas.List.Elements.{All-set}
 use Rattle.std.proofs.lemmas.Bool.{and_parts, not-true, cases_eq}
-use Rattle.resource_lock.proofs.lemmas.Undo.{same_worker, holding_now}
-use Rattle.resource_lock.proofs.lemmas.Lists.{one_if, length-le_from_once}
+use Rattle.resource_lock.proofs.lemmas.Undo.{same_worker, holding_now, owner_from}
+use Rattle.resource_lock.proofs.lemmas.Lists.{one_if, count_by-set, length-le_from_once}
 use Rattle.resource_lock.proofs.lemmas.Kept.{kept, leases-with_holding}
-use Rattle.resource_lock.proofs.lemmas.Counted.{own_counts, other_counts, moves, can_recount}
-use Rattle.resource_lock.specs.StateView.{StateView, Holding, empty_holding, holding_of, is_owner, leases_out, IsWorkerOf}
+use Rattle.resource_lock.proofs.lemmas.Counted.{own_counts, other_counts, moves, can_recount, none_owns}
+use Rattle.resource_lock.specs.StateView.{StateView, Holding, empty_holding, holding_of, is_owned, is_owner, leases_out, owner_of, IsWorkerOf}
 use Rattle.resource_lock.specs.Change.{can, make, holding_after, with_owner, with_mark, NamesOnly}
 use Rattle.resource_lock.specs.Good.{Good}
-use Rattle.resource_lock.specs.Counting.{counts_of, counts_in, no_counts}
+use Rattle.resource_lock.specs.Counting.{counts_of, counts_in, locks_owned, no_counts}
 use Rattle.resource_lock.specs.State.{state_view, IsSound}
 use Rattle.resource_lock.specs.Holdings.{holding_from, counts_after, CanCount, IsAfter}
 use Rattle.resource_lock.specs.declared.ids.LockId.{LockId}
@@ -133,12 +133,43 @@ view_made {a} {s} {w} {c} {v} {h} k noted is =
 leases_made : (s : StateView) (w : WorkerId) (c : Change) → IsWorkerOf s w → leases_out (make s w c) + one_if (holding_of s w).lease ≡ leases_out s + one_if (holding_after (holding_of s w) c).lease
 leases_made s w c worker = omega (arith, ap leases_out (make_is s w c), leases-with_holding s w (holding_after (holding_of s w) c) worker)
 
--- The state that is left, with its leases counted.
+-- how many locks more, and how many fewer, have an owner after a change
+abbrev pub locked_by : Change → ℕ
+locked_by (Lock l) = 1
+locked_by _ = 0
+
+abbrev pub unlocked_by : Change → ℕ
+unlocked_by (Unlock l) = 1
+unlocked_by _ = 0
+
+-- the owned locks after a change
+owned_made : (s : StateView) (w : WorkerId) (c : Change) → NamesOnly s c → can s w c ≡ true → locks_owned (make s w c) + unlocked_by c ≡ locks_owned s + locked_by c
+owned_made s w (Lock l) named h = omega (arith, count_by-set is_owned s.owners l.0 (Some w) None named, ap (λ o. one_if (is_owned o)) (none_owns s w l h))
+owned_made s w (Unlock l) named h = omega (arith, count_by-set is_owned s.owners l.0 None None named, ap (λ o. one_if (is_owned o)) (owner_from (owner_of s l) w h))
+owned_made s w (Move (TaskOf t) from to) named h = refl
+owned_made s w (Move (ActionOf a) from to) named h = refl
+owned_made s w (Move (UnitOf u) from to) named h = refl
+owned_made s w Take named h = refl
+owned_made s w Give named h = refl
+owned_made s w (Park l) named h = refl
+owned_made s w (Unpark l) named h = refl
+owned_made s w Enter named h = refl
+owned_made s w Leave named h = refl
+
+-- there is room to count one more, and one that is given back is counted
+pub one_more_owned : {a : Inside} {s : StateView} {w : WorkerId} {v : Held} (l : LockId) → Reads a s w (Lock l) v → IsSound a → a.owned + 1 < 2 ^ 64
+one_more_owned {a} {s} {w} {v} l r sound = omega (arith, sound.owned, ap locks_owned r.view_is, owned_made s w (Lock l) r.named r.possible, count_by-le-length is_owned (make s w (Lock l)).owners, length-set s.owners l.0 (Some w), owners_fit r)
+
+pub some_owned : {a : Inside} {s : StateView} {w : WorkerId} {v : Held} (l : LockId) → Reads a s w (Unlock l) v → IsSound a → 1 ≤ a.owned
+some_owned {a} {s} {w} {v} l r sound = omega (arith, sound.owned, ap locks_owned r.view_is, owned_made s w (Unlock l) r.named r.possible)
+
+-- The state that is left, with its leases and owned locks counted.
 pub record Leaves (a b : Inside) (s : StateView) (w : WorkerId) (c k : Change) (h : Held) : Type 0 where
   pub is : c ≡ k
   pub held : b.held.items ≡ set a.held.items w.0 h
   pub owners : length b.owners.items ≡ length a.owners.items
   pub view : state_view b ≡ view_after a w h k
+  pub owned : b.owned + unlocked_by k ≡ a.owned + locked_by k
   pub out : b.out + one_if (holding_of s w).lease ≡ a.out + one_if (holding_after (holding_of s w) k).lease
 
 counts_left : {a : Inside} (b : Inside) {s : StateView} {w : WorkerId} {c : Change} {v h : Held} → Noted a s w c v h → b.held.items ≡ set a.held.items w.0 h → state_view b ≡ make s w c → (u : WorkerId) → counts_in b.held.items u ≡ counts_of (state_view b) u
@@ -166,6 +197,7 @@ sound_left {a} {b} {s} {w} {c} {k} {v} {h} noted left =
     record {
       good = subst Good (sym view) (kept s w c noted.reads.worker noted.reads.named (good_read noted.reads noted.sound) noted.reads.possible);
       leases = omega (arith, left.out, ap (λ x. one_if (holding_after (holding_of s w) x).lease) left.is, noted.sound.leases, ap leases_out noted.reads.view_is, leases_made s w c noted.reads.worker, ap leases_out view);
+      owned = omega (arith, left.owned, ap unlocked_by left.is, ap locked_by left.is, noted.sound.owned, ap locks_owned noted.reads.view_is, owned_made s w c noted.reads.named noted.reads.possible, ap locks_owned view);
       counts = counts_left b noted left.held view;
       room = subst (λ (x : List Held). All (λ h. length b.owners.items ≤ vec_capacity h.parked) x) (sym left.held)
           (subst (λ n. All (λ (h : Held). n ≤ vec_capacity h.parked) (set a.held.items w.0 h)) (sym left.owners)
@@ -179,13 +211,14 @@ lease_free s w h = not-true (holding_of s w).lease (and_parts (not (holding_of s
 pub some_out : (s : StateView) (w : WorkerId) → IsWorkerOf s w → can s w Give ≡ true → 1 ≤ leases_out s
 some_out s w worker h = omega (arith, leases_made s w Give worker, ap one_if h)
 
--- A change of the worker's own that touches no lease.
+-- A change of the worker's own that touches no lease and no owner.
 pub record IsQuiet (c : Change) : Type 0 where
   pub rest : (s : StateView) (w : WorkerId) → s ≡ rest_after s w c
   pub lease : (h : Holding) → h.lease ≡ (holding_after h c).lease
+  pub owned : unlocked_by c ≡ locked_by c
 
 pub quiet : (c : Change) → ((l : LockId) × (c ≡ Park l)) ⊎ (((l : LockId) × (c ≡ Unpark l)) ⊎ ((c ≡ Enter) ⊎ (c ≡ Leave))) → IsQuiet c
-quiet c (inl park) = subst IsQuiet (sym park.1) (record { rest = λ s w. refl; lease = λ h. refl })
-quiet c (inr (inl unpark)) = subst IsQuiet (sym unpark.1) (record { rest = λ s w. refl; lease = λ h. refl })
-quiet c (inr (inr (inl enter))) = subst IsQuiet (sym enter) (record { rest = λ s w. refl; lease = λ h. refl })
-quiet c (inr (inr (inr leave))) = subst IsQuiet (sym leave) (record { rest = λ s w. refl; lease = λ h. refl })
+quiet c (inl park) = subst IsQuiet (sym park.1) (record { rest = λ s w. refl; lease = λ h. refl; owned = refl })
+quiet c (inr (inl unpark)) = subst IsQuiet (sym unpark.1) (record { rest = λ s w. refl; lease = λ h. refl; owned = refl })
+quiet c (inr (inr (inl enter))) = subst IsQuiet (sym enter) (record { rest = λ s w. refl; lease = λ h. refl; owned = refl })
+quiet c (inr (inr (inr leave))) = subst IsQuiet (sym leave) (record { rest = λ s w. refl; lease = λ h. refl; owned = refl })

@@ -1,4 +1,6 @@
+pub mod Alone
 pub mod Begins
+pub mod Conflicts
 pub mod Counted
 pub mod Kept
 pub mod Lists

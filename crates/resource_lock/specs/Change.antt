@@ -1,7 +1,7 @@
 -- The table of changes: where each can be made, what it changes, and what undoes it.
 use Rattle.std.specs.Prelude.{◌-◌, ◌==◌, nat_lt, Bool, true, false, not, ◌&&◌, List, [], ◌∷◌, ◌++◌, length, take, Option, None}
 use Rattle.std.specs.Prelude.{Some, is_none, slice_get, slice_set}
-use Rattle.resource_lock.specs.StateView.{StateView, Holding, holding_of, owner_of, owns, leases_out, mark_of, has_parked, IsLockOf, IsMarkOf}
+use Rattle.resource_lock.specs.StateView.{StateView, Holding, holding_of, owner_of, owns, kept_from, leases_out, mark_of, has_parked, IsLockOf, IsMarkOf}
 use Rattle.resource_lock.specs.declared.ids.LockId.{LockId}
 use Rattle.resource_lock.specs.declared.ids.WorkerId.{WorkerId}
 use Rattle.resource_lock.specs.declared.marks.Mark.{Mark}
@@ -40,7 +40,7 @@ without_last locks = take (length locks - 1) locks
 
 -- where worker w can make a change
 abbrev pub can : StateView → WorkerId → Change → Bool
-can s w (Lock l) = is_none (owner_of s l) && not (has_parked s w l)
+can s w (Lock l) = is_none (owner_of s l) && not (kept_from s w l) && not (has_parked s w l)
 can s w (Unlock l) = owns s w l
 can s w Take = not (holding_of s w).lease && not (holding_of s w).blocked && nat_lt (leases_out s) s.max_leases
 can s w Give = (holding_of s w).lease

@@ -1,5 +1,5 @@
 -- Which graphs fit: all numbers are in range and within the limits, and the tasks' actions and the actions' units are ranges one behind the other.
-use Rattle.std.specs.Prelude.{ℕ, ◌≡◌, ◌+◌, ◌<◌, ◌≤◌, List, [], ◌∷◌, length}
+use Rattle.std.specs.Prelude.{ℕ, ◌≡◌, ◌+◌, ◌<◌, ◌≤◌, List, [], ◌∷◌, length, IfSome}
 use Rattle.std.specs.List.{All}
 use Rattle.resource_lock.specs.GraphView.{GraphView, action_of}
 use Rattle.resource_lock.specs.Ranges.{units_in, IsActionOf}
@@ -16,6 +16,7 @@ pub record Fits (g : GraphView) : Type 0 where
   pub some_lease : 1 ≤ g.max_leases
   pub few_leases : g.max_leases ≤ MAX_LEASES
   pub few_locks : g.locks ≤ MAX_LOCKS
+  pub all_within : IfSome g.all (λ l. l.0 < g.locks)
   pub few_tasks : length g.tasks ≤ MAX_TASKS
   pub few_units : g.units ≤ MAX_UNITS
   pub few_actions : All (λ t. t.actions ≤ MAX_ACTIONS_PER_TASK) g.tasks

@@ -1,5 +1,5 @@
 -- A graph, as contracts see it.
-use Rattle.std.specs.Prelude.{ℕ, List, [], false, slice_index_or}
+use Rattle.std.specs.Prelude.{ℕ, List, [], Option, false, slice_index_or}
 use Rattle.resource_lock.specs.declared.ids.LockId.{LockId}
 use Rattle.resource_lock.specs.declared.graphs.Retention.TheVariants.{Retain}
 use Rattle.resource_lock.specs.declared.graphs.GraphTask.{GraphTask}
@@ -14,6 +14,7 @@ pub record GraphTaskView : Type 0 where
 
 pub record GraphView : Type 0 where
   pub locks : ℕ
+  pub all : Option LockId
   pub workers : ℕ
   pub max_leases : ℕ
   pub units : ℕ

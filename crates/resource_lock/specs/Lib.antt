@@ -1,5 +1,6 @@
 pub mod AtRest
 pub mod StateView
+pub mod Conflicts
 pub mod Change
 pub mod Marks
 pub mod Good

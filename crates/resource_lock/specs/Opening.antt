@@ -8,6 +8,7 @@ use Rattle.resource_lock.specs.declared.marks.Mark.TheVariants.{Waiting}
 abbrev pub opening_of : GraphView → StateView
 opening_of g = record {
   max_leases = g.max_leases;
+  all = g.all;
   owners = replicate g.locks None;
   holdings = replicate g.workers empty_holding;
   tasks = replicate (length g.tasks) Waiting;

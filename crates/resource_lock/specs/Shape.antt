@@ -5,6 +5,7 @@ use Rattle.resource_lock.specs.GraphView.{GraphView}
 
 pub record SameShape (s t : StateView) : Type 0 where
   pub max_leases : s.max_leases ≡ t.max_leases
+  pub all : s.all ≡ t.all
   pub locks : length s.owners ≡ length t.owners
   pub workers : length s.holdings ≡ length t.holdings
   pub tasks : length s.tasks ≡ length t.tasks
@@ -14,6 +15,7 @@ pub record SameShape (s t : StateView) : Type 0 where
 -- the state is one of the graph
 pub record BelongsTo (g : GraphView) (s : StateView) : Type 0 where
   pub max_leases : s.max_leases ≡ g.max_leases
+  pub all : s.all ≡ g.all
   pub locks : length s.owners ≡ g.locks
   pub workers : length s.holdings ≡ g.workers
   pub tasks : length s.tasks ≡ length g.tasks

@@ -1,6 +1,6 @@
 -- The state of a graph, as contracts see it, and words to read it by.
 use Rattle.std.specs.Prelude.{ℕ, ◌<◌, length, ◌==◌, Bool, true, false, not, ◌&&◌, ◌||◌, List, [], ◌∷◌, Option, None, Some}
-use Rattle.std.specs.Prelude.{count_by, slice_index_or}
+use Rattle.std.specs.Prelude.{count_by, is_none, slice_index_or}
 use Rattle.std.specs.List.{list_any}
 use Rattle.resource_lock.specs.declared.ids.LockId.{LockId}
 use Rattle.resource_lock.specs.declared.ids.WorkerId.{WorkerId}
@@ -15,9 +15,10 @@ pub record Holding : Type 0 where
   pub parked : List LockId
   pub blocked : Bool
 
--- how many leases may be out, each lock's owner, what each worker has, and each mark
+-- how many leases may be out, the all-projects lock or none, each lock's owner, what each worker has, and each mark
 pub record StateView : Type 0 where
   pub max_leases : ℕ
+  pub all : Option LockId
   pub owners : List (Option WorkerId)
   pub holdings : List Holding
   pub tasks : List Mark
@@ -43,6 +44,44 @@ is_owner (Some v) w = v.0 == w.0
 -- whether a worker owns a lock
 abbrev pub owns : StateView → WorkerId → LockId → Bool
 owns s w l = is_owner (owner_of s l) w
+
+-- whether an owner is another worker
+abbrev pub is_other : Option WorkerId → WorkerId → Bool
+is_other None w = false
+is_other (Some v) w = not (v.0 == w.0)
+
+-- whether a lock is the all-projects lock
+abbrev pub names_lock : Option LockId → LockId → Bool
+names_lock None l = false
+names_lock (Some k) l = k.0 == l.0
+
+abbrev pub is_all : StateView → LockId → Bool
+is_all s l = names_lock s.all l
+
+-- two locks conflict where they are the same or one of them is the all-projects lock
+abbrev pub conflict : StateView → LockId → LockId → Bool
+conflict s k l = k.0 == l.0 || is_all s k || is_all s l
+
+-- the owner of the all-projects lock
+abbrev pub owner_if : StateView → Option LockId → Option WorkerId
+owner_if s None = None
+owner_if s (Some k) = owner_of s k
+
+abbrev pub all_owner : StateView → Option WorkerId
+all_owner s = owner_if s s.all
+
+-- Whether another worker owns a lock that conflicts with this one: the lock, or the all-projects lock, or any lock where this one
+-- is the all-projects lock.
+abbrev pub kept_from : StateView → WorkerId → LockId → Bool
+kept_from s w l = is_other (owner_of s l) w || is_other (all_owner s) w || (is_all s l && list_any (λ o. is_other o w) s.owners)
+
+-- whether somebody owns a lock
+abbrev pub is_owned : Option WorkerId → Bool
+is_owned o = not (is_none o)
+
+-- Whether somebody owns a lock that conflicts with this one.
+abbrev pub is_taken : StateView → LockId → Bool
+is_taken s l = is_owned (owner_of s l) || is_owned (all_owner s) || (is_all s l && list_any is_owned s.owners)
 
 -- how many leases are out
 abbrev pub leases_out : StateView → ℕ

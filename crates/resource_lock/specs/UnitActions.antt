@@ -20,6 +20,7 @@ pub record IsNear (g : GraphView) (u a : ℕ) : Type 0 where
 abbrev pub graph_value : Inside → GraphView
 graph_value g = record {
   locks = g.locks;
+  all = g.all;
   workers = g.workers;
   max_leases = g.max_leases;
   units = g.units;

@@ -5,7 +5,7 @@ use crate::marks::{Mark, MarkId};
 /// A change of the state, made by one worker. It changes what its line says, and nothing else.
 #[derive(Clone, Copy, PartialEq, Eq)]
 pub enum Change {
-    /// The worker becomes the owner of a lock that nobody owns.
+    /// The worker becomes the owner of a lock that nobody owns and from which it isn't kept.
     Lock(LockId),
     /// A lock of the worker has no owner any more.
     Unlock(LockId),

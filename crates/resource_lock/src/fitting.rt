@@ -1,5 +1,5 @@
 //! Which numbers, tasks and actions a graph can be made of.
-ghost use Rattle.std.specs.Prelude.{◌≡◌, ◌≤◌, ◌<◌, ◌↔◌, ℕ, IsTrue, length, map, sum_by, All, slice_index_or};
+ghost use Rattle.std.specs.Prelude.{◌≡◌, ◌≤◌, ◌<◌, ◌↔◌, ℕ, IsTrue, length, map, sum_by, All, IfSome, slice_index_or};
 ghost use Rattle.resource_lock.specs.GraphView.{graph_view, no_action};
 ghost use Rattle.resource_lock.specs.Ranges.{IsIn, units_in};
 ghost use Rattle.resource_lock.specs.Parts.{IsFitTask, IsFitAction};
@@ -8,6 +8,7 @@ ghost use Rattle.resource_lock.specs.Made.{made_of};
 ghost use Rattle.resource_lock.specs.declared.limits.TheConstants.{MAX_LEASES, MAX_LOCKS, MAX_TASKS, MAX_UNITS, MAX_WORKERS};
 
 use crate::graphs::{Graph, GraphAction, GraphTask};
+use crate::ids::LockId;
 use crate::limits::{
     MAX_ACTIONS_PER_TASK, MAX_AFTER, MAX_LEASES, MAX_LOCKS, MAX_TASKS, MAX_UNITS, MAX_WORKERS,
 };
@@ -17,33 +18,45 @@ impl Graph {
     ///
     /// It can where there are 1 to 32 workers, leases from 1 to 32, at most 4,096 locks, 2,048 tasks,
     /// 8 actions a task, 64 tasks in one `after` and 8,192 units; where each lock and each task in an
-    /// `after` is there; where the tasks' actions are ranges that follow one another over all actions,
+    /// `after` is there, and the all-projects lock `all`, if one is given; where the tasks' actions are ranges that follow one another over all actions,
     /// and each action's `task` is the one whose range has it; and where the actions' units are ranges
     /// that follow one another from 0, each with at least one item.
     pub fn fits(
         locks: u32,
+        all: Option<LockId>,
         workers: u32,
         max_leases: u32,
         tasks: &[GraphTask],
         actions: &[GraphAction],
     ) -> bool
-        ensures { IsTrue result ↔ Fits (made_of locks workers max_leases tasks.now actions.now) }
+        ensures { IsTrue result ↔ Fits (made_of locks all workers max_leases tasks.now actions.now) }
     {
-        numbers_fit(locks, workers, max_leases, tasks.len())
+        numbers_fit(locks, all, workers, max_leases, tasks.len())
             && tasks_fit(locks, tasks)
             && ranges_fit(tasks, actions)
     }
 }
 
-// Whether the counts are within the limits.
-fn numbers_fit(locks: u32, workers: u32, max_leases: u32, tasks: usize) -> bool
+// Whether the counts are within the limits, and the all-projects lock is one of the locks.
+fn numbers_fit(locks: u32, all: Option<LockId>, workers: u32, max_leases: u32, tasks: usize) -> bool
     ensures { IsTrue result ↔ ((1 ≤ workers) × (workers ≤ MAX_WORKERS) × (1 ≤ max_leases) × (max_leases ≤ MAX_LEASES)
-        × (locks ≤ MAX_LOCKS) × (tasks ≤ MAX_TASKS)) }
+        × (locks ≤ MAX_LOCKS) × (tasks ≤ MAX_TASKS) × IfSome all (λ l. l.0 < locks)) }
 {
     (1..=MAX_WORKERS).contains(&workers)
         && (1..=MAX_LEASES).contains(&max_leases)
         && locks <= MAX_LOCKS
         && tasks <= MAX_TASKS
+        && lock_fits(locks, all)
+}
+
+// Whether the all-projects lock is one of so many, where there is one.
+fn lock_fits(locks: u32, all: Option<LockId>) -> bool
+    ensures { IsTrue result ↔ IfSome all (λ l. l.0 < locks) }
+{
+    match all {
+        Some(lock) => lock.0 < locks,
+        None => true,
+    }
 }
 
 // Whether each task's lock and the tasks that it comes after are in range, and within the limits.

@@ -95,11 +95,13 @@ impl GraphAction {
     }
 }
 
-/// The locks, workers, leases, tasks, actions and units that a state belongs to. A graph always fits:
+/// The locks, workers, leases, tasks, actions and units that a state belongs to. One of the locks may be
+/// the all-projects lock, which conflicts with each other. A graph always fits:
 /// its numbers are in range and within the limits, and its ranges follow one another.
 #[derive(Drop)]
 pub struct Graph {
     locks: u32,
+    all: Option<LockId>,
     workers: u32,
     max_leases: u32,
     units: u32,
@@ -124,17 +126,19 @@ impl Graph {
     /// The graph that is made of these; `Graph::fits` tests whether one can be. It takes no memory.
     pub fn new(
         locks: u32,
+        all: Option<LockId>,
         workers: u32,
         max_leases: u32,
         tasks: Vec<GraphTask>,
         actions: Vec<GraphAction>,
     ) -> Graph
-        requires { Fits (made_of locks workers max_leases tasks.items actions.items) }
-        ensures { result ≡ made_of locks workers max_leases tasks.items actions.items }
+        requires { Fits (made_of locks all workers max_leases tasks.items actions.items) }
+        ensures { result ≡ made_of locks all workers max_leases tasks.items actions.items }
     {
         let units = unit_count(&actions) as u32;
         Graph {
             locks,
+            all,
             workers,
             max_leases,
             units,
@@ -149,6 +153,13 @@ impl Graph {
         ensures { result ≡ self.now.locks }
     {
         self.locks
+    }
+
+    /// The all-projects lock, if the graph has one: while a worker owns it, no other owns any lock.
+    pub fn all(&self) -> Option<LockId>
+        ensures { result ≡ self.now.all }
+    {
+        self.all
     }
 
     /// How many workers there are, from 1 to 32.

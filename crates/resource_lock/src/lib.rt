@@ -15,7 +15,9 @@ mod states;
 pub use changes::Change;
 pub use graphs::{Graph, GraphAction, GraphTask, Retention};
 pub use ids::{LockId, WorkerId};
-pub use laws::retentions_have_words_of_their_own;
+pub use laws::{
+    owners_of_conflicting_locks_keep_others_from_them, retentions_have_words_of_their_own,
+};
 pub use limits::{
     MAX_ACTIONS_PER_TASK, MAX_AFTER, MAX_LEASES, MAX_LOCKS, MAX_TASKS, MAX_UNITS, MAX_WORKERS,
 };

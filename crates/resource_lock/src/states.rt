@@ -1,11 +1,12 @@
 //! The state: who owns which lock, who has a lease, and how far the work has come.
-use crate::ids::WorkerId;
+use crate::ids::{LockId, WorkerId};
 use held::Held;
 use mark_lists::MarkLists;
 use std::marker::Model;
 
 mod asking;
 mod changing;
+mod conflicts;
 mod held;
 mod mark_lists;
 mod opening;
@@ -17,9 +18,14 @@ mod trying;
 #[derive(Drop)]
 pub struct State {
     max_leases: u32,
+    /// The all-projects lock.
+    all: Option<LockId>,
     owners: Vec<Option<WorkerId>>,
     held: Vec<Held>,
+    /// How many leases are out.
     out: u32,
+    /// How many locks have an owner.
+    owned: usize,
     marks: MarkLists,
 }
 

@@ -1,9 +1,9 @@
 -- Two histories never give one picture.
-use Rattle.std.proofs.Common.{◌≡◌, ℕ, List, ◌∷◌, ◌++◌, Bool, true, false, refl, sym, ap, ◌∙◌, append_assoc, arith, decimal, codes, length, get_or}
+use Rattle.std.proofs.Common.{◌≡◌, ℕ, ◌<◌, ◌^◌, Option, Some, None, IfSome, List, ◌∷◌, ◌++◌, Bool, true, false, refl, sym, ap, ◌∙◌, append_assoc, arith, decimal, codes, length, get_or}
 use Rattle.std.specs.List.{flat_map}
 use Rattle.std.proofs.lemmas.Fmt.{decimal_injective}
 use Rattle.std.proofs.lemmas.List.{append_cancel_left}
-use Rattle.history_text.specs.Text.{parallel_text}
+use Rattle.history_text.specs.Text.{locks_text, parallel_text}
 use Rattle.history_text.specs.Fitting.{HeadFits}
 use Rattle.history_reader.specs.HistoryView.{HistoryView}
 use Rattle.history_reader.specs.Grammar.{HistoryFits}
@@ -68,33 +68,48 @@ same_opening m n r s is =
     let c = same_number m n _ _ refl refl (append_cancel_left (codes "<rect class=\"z\" width=\"1280\" height=\"") _ _ (append_cancel_left (codes "\" font-family=\"DejaVu Sans, Verdana, Arial, sans-serif\">\n") _ _ b.rest)) in
     append_cancel_left (codes "\"/>\n") _ _ c.rest
 
-nested_desc : (a w b m c p d r : List ℕ) → (a ++ w) ++ (b ++ m) ++ c ++ p ++ d ++ r ≡ a ++ (w ++ (b ++ (m ++ (c ++ (p ++ (d ++ r))))))
-nested_desc a w b m c p d r = simp append_assoc
+nested_desc : (a w b m c p k d r : List ℕ) → (a ++ w) ++ (b ++ m) ++ c ++ p ++ k ++ d ++ r ≡ a ++ (w ++ (b ++ (m ++ (c ++ (p ++ (k ++ (d ++ r)))))))
+nested_desc a w b m c p k d r = simp append_assoc
 
-desc_form : (w m : ℕ) (p : Bool) (r : List ℕ) → desc_text w m p ++ r
-    ≡ codes "<desc>workers " ++ (decimal w ++ (codes " max " ++ (decimal m ++ (codes " parallel " ++ (parallel_text p ++ (codes "</desc>\n" ++ r))))))
+desc_form : (w m : ℕ) (p : Bool) (l : Option ℕ) (r : List ℕ) → desc_text w m p l ++ r
+    ≡ codes "<desc>workers " ++ (decimal w ++ (codes " max " ++ (decimal m ++ (codes " parallel " ++ (parallel_text p ++ (locks_text l ++ (codes "</desc>\n" ++ r)))))))
 unfolding desc_text
-desc_form w m p r = nested_desc (codes "<desc>workers ") (decimal w) (codes " max ") (decimal m) (codes " parallel ") (parallel_text p) (codes "</desc>\n") r
+desc_form w m p l r = nested_desc (codes "<desc>workers ") (decimal w) (codes " max ") (decimal m) (codes " parallel ") (parallel_text p) (locks_text l) (codes "</desc>\n") r
 
-same_parallel : (p q : Bool) (r s : List ℕ) → parallel_text p ++ (60 ∷ r) ≡ parallel_text q ++ (60 ∷ s) → p ≡ q
-same_parallel true true r s is = refl
-same_parallel false false r s is = refl
+record SameParallel (p q : Bool) (r s : List ℕ) : Type 0 where
+  parallel : p ≡ q
+  rest : r ≡ s
+
+same_parallel : (p q : Bool) (r s : List ℕ) → parallel_text p ++ r ≡ parallel_text q ++ s → SameParallel p q r s
+same_parallel true true r s is = record { parallel = refl; rest = append_cancel_left (codes "yes") r s is }
+same_parallel false false r s is = record { parallel = refl; rest = append_cancel_left (codes "no") r s is }
 same_parallel true false r s is = absurd (let first : 121 ≡ 110 = ap (λ (l : List ℕ). get_or l 0 0) is in omega (arith, first))
 same_parallel false true r s is = absurd (let first : 110 ≡ 121 = ap (λ (l : List ℕ). get_or l 0 0) is in omega (arith, first))
 
-record SameSettings (w v m n : ℕ) (p q : Bool) : Type 0 where
+-- the number of locks stands in front of a `<`
+same_locks : (l k : Option ℕ) (r s : List ℕ) → IfSome l (λ n. n < 2 ^ 32) → IfSome k (λ n. n < 2 ^ 32) → locks_text l ++ (60 ∷ r) ≡ locks_text k ++ (60 ∷ s) → l ≡ k
+same_locks None None r s a b is = refl
+same_locks (Some l) (Some k) r s a b is =
+    ap (λ n. Some n) (decimal_injective l k (omega (arith, a)) (omega (arith, b)) (same_number l k (60 ∷ r) (60 ∷ s) refl refl (append_cancel_left (codes " locks ") _ _ is)).front)
+same_locks None (Some k) r s a b is = absurd (let first : 60 ≡ 32 = ap (λ (l : List ℕ). get_or l 0 0) is in omega (arith, first))
+same_locks (Some l) None r s a b is = absurd (let first : 32 ≡ 60 = ap (λ (l : List ℕ). get_or l 0 0) is in omega (arith, first))
+
+record SameSettings (w v m n : ℕ) (p q : Bool) (l k : Option ℕ) : Type 0 where
   workers : w ≡ v
   leases : m ≡ n
   parallel : p ≡ q
+  locks : l ≡ k
 
-same_desc : (w v m n : ℕ) (p q : Bool) (r s : List ℕ) → HeadFits w m → HeadFits v n → desc_text w m p ++ r ≡ desc_text v n q ++ s → SameSettings w v m n p q
-same_desc w v m n p q r s a b is =
-    let workers = same_number w v _ _ refl refl (append_cancel_left (codes "<desc>workers ") _ _ (sym (desc_form w m p r) ∙ (is ∙ desc_form v n q s))) in
+same_desc : (w v m n : ℕ) (p q : Bool) (l k : Option ℕ) (r s : List ℕ) → HeadFits w m l → HeadFits v n k → desc_text w m p l ++ r ≡ desc_text v n q k ++ s → SameSettings w v m n p q l k
+same_desc w v m n p q l k r s a b is =
+    let workers = same_number w v _ _ refl refl (append_cancel_left (codes "<desc>workers ") _ _ (sym (desc_form w m p l r) ∙ (is ∙ desc_form v n q k s))) in
     let leases = same_number m n _ _ refl refl (append_cancel_left (codes " max ") _ _ workers.rest) in
+    let parallel = same_parallel p q _ _ (append_cancel_left (codes " parallel ") _ _ leases.rest) in
     record {
       workers = decimal_injective w v (omega (arith, a.few_workers)) (omega (arith, b.few_workers)) workers.front;
       leases = decimal_injective m n (omega (arith, a.few_leases)) (omega (arith, b.few_leases)) leases.front;
-      parallel = same_parallel p q _ _ (append_cancel_left (codes " parallel ") _ _ leases.rest);
+      parallel = parallel.parallel;
+      locks = same_locks l k _ _ a.few_locks b.few_locks parallel.rest;
     }
 
 -- what stands behind the settings
@@ -106,24 +121,25 @@ behind_of h =
 nested_front : (a b c d e f w g h i j : List ℕ) → (a ++ b ++ c ++ d ++ e ++ f) ++ w ++ g ++ h ++ i ++ j ≡ a ++ (b ++ (c ++ (d ++ (e ++ (f ++ (w ++ (g ++ (h ++ (i ++ j)))))))))
 nested_front a b c d e f w g h i j = simp append_assoc
 
-front_form : (h : HistoryView) → picture_text h ≡ opening_text (height_of (parts_in h)) ++ (desc_text h.workers h.max h.parallel ++ behind_of h)
+front_form : (h : HistoryView) → picture_text h ≡ opening_text (height_of (parts_in h)) ++ (desc_text h.workers h.max h.parallel h.locks ++ behind_of h)
 unfolding head_text behind_of
 front_form h =
-    nested_front (opening_text (height_of (parts_in h))) (desc_text h.workers h.max h.parallel) style_text (title_text h.workers h.max (length h.entries))
+    nested_front (opening_text (height_of (parts_in h))) (desc_text h.workers h.max h.parallel h.locks) style_text (title_text h.workers h.max (length h.entries))
     (second_text (totals_of h (levels_of nothing_out h.entries) (spans_of h.entries))) legend_text (whole_in h) (parts_text h (levels_of nothing_out h.entries) (parts_in h))
     (codes "<g>\n") (flat_map (ticks_of h) (parts_in h)) foot
 
-same_settings : (h k : HistoryView) → HistoryFits h → HistoryFits k → picture_text h ≡ picture_text k → SameSettings h.workers k.workers h.max k.max h.parallel k.parallel
+same_settings : (h k : HistoryView) → HistoryFits h → HistoryFits k → picture_text h ≡ picture_text k → SameSettings h.workers k.workers h.max k.max h.parallel k.parallel h.locks k.locks
 same_settings h k a b is =
-    same_desc h.workers k.workers h.max k.max h.parallel k.parallel (behind_of h) (behind_of k) a.head b.head
+    same_desc h.workers k.workers h.max k.max h.parallel k.parallel h.locks k.locks (behind_of h) (behind_of k) a.head b.head
     (same_opening (height_of (parts_in h)) (height_of (parts_in k)) _ _ (sym (front_form h) ∙ (is ∙ front_form k)))
 
-history_is : (h k : HistoryView) → SameSettings h.workers k.workers h.max k.max h.parallel k.parallel → h.entries ≡ k.entries → h ≡ k
+history_is : (h k : HistoryView) → SameSettings h.workers k.workers h.max k.max h.parallel k.parallel h.locks k.locks → h.entries ≡ k.entries → h ≡ k
 history_is h k same es =
-    ap (λ n. record { workers = n; max = h.max; parallel = h.parallel; entries = h.entries }) same.workers
-    ∙ (ap (λ n. record { workers = k.workers; max = n; parallel = h.parallel; entries = h.entries }) same.leases
-    ∙ (ap (λ p. record { workers = k.workers; max = k.max; parallel = p; entries = h.entries }) same.parallel
-    ∙ ap (λ l. record { workers = k.workers; max = k.max; parallel = k.parallel; entries = l }) es))
+    ap (λ n. record { workers = n; max = h.max; parallel = h.parallel; locks = h.locks; entries = h.entries }) same.workers
+    ∙ (ap (λ n. record { workers = k.workers; max = n; parallel = h.parallel; locks = h.locks; entries = h.entries }) same.leases
+    ∙ (ap (λ p. record { workers = k.workers; max = k.max; parallel = p; locks = h.locks; entries = h.entries }) same.parallel
+    ∙ (ap (λ n. record { workers = k.workers; max = k.max; parallel = k.parallel; locks = n; entries = h.entries }) same.locks
+    ∙ ap (λ l. record { workers = k.workers; max = k.max; parallel = k.parallel; locks = k.locks; entries = l }) es)))
 
 pub one_history : (h k : HistoryView) → HistoryFits h → HistoryFits k → picture_text h ≡ picture_text k → h ≡ k
 one_history h k a b is = history_is h k (same_settings h k a b is) (same_entries h k a b is)

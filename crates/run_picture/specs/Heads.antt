@@ -1,6 +1,6 @@
 -- The head of a picture.
-use Rattle.std.specs.Prelude.{ℕ, ◌/◌, ◌%◌, nat_eq, Bool, List, [], ◌++◌, codes, decimal, if◌then◌else◌}
-use Rattle.history_text.specs.Text.{parallel_text}
+use Rattle.std.specs.Prelude.{ℕ, ◌/◌, ◌%◌, nat_eq, Bool, Option, List, [], ◌++◌, codes, decimal, if◌then◌else◌}
+use Rattle.history_text.specs.Text.{locks_text, parallel_text}
 use Rattle.run_picture.specs.Shapes.{number_words}
 use Rattle.run_picture.specs.declared.heads.Totals.{Totals}
 
@@ -15,10 +15,10 @@ opening_text height =
     ++ codes "\" font-family=\"DejaVu Sans, Verdana, Arial, sans-serif\">\n"
     ++ number_words (codes "<rect class=\"z\" width=\"1280\" height=\"") height ++ codes "\"/>\n"
 
-unfoldable pub desc_text : ℕ → ℕ → Bool → List ℕ
-desc_text workers max_leases parallel =
+unfoldable pub desc_text : ℕ → ℕ → Bool → Option ℕ → List ℕ
+desc_text workers max_leases parallel locks =
     number_words (codes "<desc>workers ") workers ++ number_words (codes " max ") max_leases
-    ++ codes " parallel " ++ parallel_text parallel ++ codes "</desc>\n"
+    ++ codes " parallel " ++ parallel_text parallel ++ locks_text locks ++ codes "</desc>\n"
 
 unfoldable pub title_text : ℕ → ℕ → ℕ → List ℕ
 title_text workers max_leases count =

@@ -54,7 +54,7 @@ legend_text = LEGEND.now
 
 unfoldable pub head_text : HistoryView → ℕ → Totals → List ℕ
 head_text h height totals =
-    opening_text height ++ desc_text h.workers h.max h.parallel ++ style_text
+    opening_text height ++ desc_text h.workers h.max h.parallel h.locks ++ style_text
     ++ title_text h.workers h.max (length h.entries) ++ second_text totals ++ legend_text
 
 abbrev pub heading_text : ℕ → Frame → List ℕ

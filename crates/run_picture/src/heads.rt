@@ -1,10 +1,10 @@
 //! The head of a picture.
 ghost use Rattle.std.specs.Prelude.{◌++◌, ◌≡◌, ◌<◌, ◌^◌, codes, decimal};
 ghost use Rattle.file_access.specs.PageView.{Adds};
-ghost use Rattle.history_text.specs.Text.{parallel_text};
+ghost use Rattle.history_text.specs.Text.{locks_text, parallel_text};
 ghost use Rattle.run_picture.specs.Heads.{many_text, title_text, average_text, second_text, opening_text, desc_text};
 
-use crate::shapes::write_number;
+use crate::shapes::{write_number, write_short};
 use file_access::{Page, Sink};
 
 /// Writes a number, and a word that gets an s but for one.
@@ -52,20 +52,31 @@ fn write_yes_no<K: Sink>(parallel: bool, page: &mut Page, sink: &mut K)
     }
 }
 
+// Writes how many locks there are, where the history says it.
+fn write_lock_count<K: Sink>(locks: Option<u32>, page: &mut Page, sink: &mut K)
+    ensures { Adds (K.seen sink.old) page.old (K.seen sink.new) page.new (locks_text locks) }
+{
+    if let Some(locks) = locks {
+        write_short(b" locks ", locks, page, sink);
+    }
+}
+
 /// Writes the settings of the run, for whoever reads the picture aloud.
 pub(crate) fn write_desc<K: Sink>(
     workers: u64,
     max: u64,
     parallel: bool,
+    locks: Option<u32>,
     page: &mut Page,
     sink: &mut K,
 )
-    ensures { Adds (K.seen sink.old) page.old (K.seen sink.new) page.new (desc_text workers max parallel) }
+    ensures { Adds (K.seen sink.old) page.old (K.seen sink.new) page.new (desc_text workers max parallel locks) }
 {
     write_number(b"<desc>workers ", workers, page, sink);
     write_number(b" max ", max, page, sink);
     page.text(sink, b" parallel ");
     write_yes_no(parallel, page, sink);
+    write_lock_count(locks, page, sink);
     page.text(sink, b"</desc>\n");
 }
 

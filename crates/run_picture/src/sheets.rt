@@ -232,11 +232,11 @@ fn write_all_ticks<K: Sink>(history: &History, parts: &[Part], page: &mut Page, 
 /// Writes the settings of a run.
 fn write_settings<K: Sink>(history: &History, page: &mut Page, sink: &mut K)
     ensures { Adds (K.seen sink.old) page.old (K.seen sink.new) page.new
-        (desc_text history.now.workers history.now.max history.now.parallel) }
+        (desc_text history.now.workers history.now.max history.now.parallel history.now.locks) }
 {
     let workers = u64::from(history.workers);
     let max = u64::from(history.max);
-    write_desc(workers, max, history.parallel, page, sink);
+    write_desc(workers, max, history.parallel, history.locks, page, sink);
 }
 
 /// Writes the classes and the patterns.
@@ -418,7 +418,7 @@ fn draw_spans<K: Sink>(
     spans: &[Span],
     sink: &mut K,
 ) -> Result<(), DrawFail>
-    requires fits { HeadFits history.now.workers history.now.max }
+    requires fits { HeadFits history.now.workers history.now.max history.now.locks }
     requires few { length history.now.entries.items < 2 ^ 30 }
     requires levels { levels.now ≡ levels_of nothing_out (map entry_read history.now.entries.items) }
     requires spans { spans.now ≡ spans_of (map entry_read history.now.entries.items) }
@@ -443,7 +443,7 @@ fn draw_spans<K: Sink>(
 /// Draws the picture of a history: a text that is a function of the history.
 #[tactic(auto, using(crate::proofs::Drawing::too_many, crate::proofs::Rising::spans_of_rise))]
 pub fn draw<K: Sink>(alloc: Global, history: &History, sink: &mut K) -> Result<(), DrawFail>
-    requires { HeadFits history.now.workers history.now.max }
+    requires { HeadFits history.now.workers history.now.max history.now.locks }
     ensures { IsDrawn (history_view history.now) (K.seen sink.old) (K.seen sink.new) result }
 {
     if history.entries.len() >= MOST_ENTRIES {

@@ -14,7 +14,7 @@ use Rattle.resource_lock.specs.Opening.{opening_of}
 use Rattle.resource_lock.specs.StateView.{StateView}
 use Rattle.coordination.specs.Holds.{HoldsNothing}
 use Rattle.coordination.specs.declared.rule.Sight.{Sight}
-use Rattle.shared_services.specs.Services.{lock_count}
+use Rattle.shared_services.specs.Takings.{HasTheLocks}
 use Rattle.service_jobs.specs.Worked.{AlwaysOneOfEach, CanRun}
 use Rattle.service_jobs.proofs.Owning.{owns_none_of}
 
@@ -59,7 +59,7 @@ always_push maxima g h e w always last n = at (cases_lt (length h) n)
         subst (λ (es : List Entry). OwnsOneOfEach maxima (replay g es) w) (sym front) last
 
 -- before any entry a worker that has nothing owns no lock
-pub can_run_at_first : (maxima : List ℕ) (s : Sight) → s.seen.graph.locks ≡ lock_count maxima → HoldsNothing s → s.seen.history ≡ [] → s.seen.state ≡ opening_of s.seen.graph → CanRun maxima s
+pub can_run_at_first : (maxima : List ℕ) (s : Sight) → HasTheLocks maxima s.seen.graph → HoldsNothing s → s.seen.history ≡ [] → s.seen.state ≡ opening_of s.seen.graph → CanRun maxima s
 can_run_at_first maxima s locks rests none at_first = record {
   locks = locks;
   rests = rests;

@@ -1,5 +1,5 @@
 -- A whole run, from what each of its workers did and the book that they left.
-use Rattle.std.proofs.Common.{◌≡◌, ◌<◌, ◌≤◌, ◌+◌, ◌-◌, ◌*◌, ◌/◌, ◌^◌, ◌⊎◌, inl, inr, ℕ, zero, suc, List, [], ◌∷◌, ◌++◌, length, get_or, map, drop, take, Option, refl, sym, ap, ◌∙◌, subst, arith}
+use Rattle.std.proofs.Common.{◌≡◌, ◌<◌, ◌≤◌, ◌+◌, ◌-◌, ◌*◌, ◌/◌, ◌^◌, ◌⊎◌, inl, inr, ℕ, zero, suc, List, [], ◌∷◌, ◌++◌, length, get_or, map, drop, take, None, Option, refl, sym, ap, ◌∙◌, subst, arith}
 use Rattle.std.specs.List.{All, AllByRecursion, flat_map}
 use Rattle.std.specs.Prelude.{sum_by}
 use Rattle.std.proofs.Math.Nat.{zero-div, zero-mul}
@@ -73,7 +73,7 @@ entries_sum (p ∷ ps) (l ∷ ls) long each =
 
 module _ {D : Type 0} (maxima : List ℕ) (files : D → Option Folder) (faults : D → ℕ) (jobs : List Job) (n most : ℕ) (old new : List PassView) (before after : List D) (ran : List JobDone) (book : BookView)
     (some : 0 < n) (desks : length before ≡ n) (passes : length old ≡ n) (numbers : map (λ (p : PassView). p.sight.worker.0) new ≡ workers_from 0 n) (fresh : All (λ (p : PassView). p.sight.seen.history ≡ []) old)
-    (graph : book.graph ≡ made_of (lock_count maxima) n most [] []) (agrees : All (λ (p : PassView). Agrees p.sight.worker p.sight.seen book) new) (sound : IsSoundBook book)
+    (graph : book.graph ≡ made_of (lock_count maxima) None n most [] []) (agrees : All (λ (p : PassView). Agrees p.sight.worker p.sight.seen book) new) (sound : IsSoundBook book)
     (r : HaveRun maxima files faults (jobs_of n jobs) old new before after ran) where
   many : length new ≡ n
   many = passes_count new n numbers

@@ -1,5 +1,5 @@
 -- A run of jobs, by its history.
-use Rattle.std.specs.Prelude.{ℕ, ◌≡◌, ◌<◌, ◌≤◌, ◌*◌, List, [], length}
+use Rattle.std.specs.Prelude.{ℕ, ◌≡◌, ◌<◌, ◌≤◌, ◌*◌, List, [], None, length}
 use Rattle.resource_lock.specs.AtRest.{IsAtRest}
 use Rattle.resource_lock.specs.Made.{made_of}
 use Rattle.resource_lock.specs.StateView.{StateView}
@@ -21,7 +21,7 @@ pub record KeepsMaxima (maxima : List ℕ) (s : StateView) : Type 0 where
 -- Jobs were run by so many workers, with so many leases at most, and left this book.
 pub record IsRunOfJobs (maxima : List ℕ) (workers most : ℕ) (jobs : List Job) (book : BookView) (ran : List JobDone) : Type 0 where
   -- the locks are those of the services, and there are no tasks
-  pub graph : book.graph ≡ made_of (lock_count maxima) workers most [] []
+  pub graph : book.graph ≡ made_of (lock_count maxima) None workers most [] []
   pub lawful : Lawful book.graph book.history
   pub replays : book.state ≡ replay book.graph book.history
   -- after any number of entries

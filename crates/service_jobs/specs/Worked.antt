@@ -13,9 +13,8 @@ use Rattle.coordination.specs.Holds.{HoldsNothing}
 use Rattle.coordination.specs.Lasts.{entry_count_of, last_of}
 use Rattle.coordination.specs.declared.rule.Sight.{Sight}
 use Rattle.lease_service.specs.Shows.{ShowsGivenBack}
-use Rattle.shared_services.specs.Services.{lock_count}
 use Rattle.shared_services.specs.Shows.{HasTakenUses}
-use Rattle.shared_services.specs.Takings.{IsShort}
+use Rattle.shared_services.specs.Takings.{HasTheLocks, IsShort}
 use Rattle.service_jobs.specs.Done.{AreApart, IsHonestJob, IsRunIn, OwnsOneOfEach, faults_of}
 use Rattle.service_jobs.specs.OneByOne.{OneByOne}
 use Rattle.service_jobs.specs.declared.jobs.Job.{Job}
@@ -36,7 +35,7 @@ AlwaysOneOfEach maxima g h w = (n : ℕ) → OwnsOneOfEach maxima (prefix_state 
 
 -- The worker has nothing, in a sound book on the locks of the services, and never owned two locks of one service.
 pub record CanRun (maxima : List ℕ) (s : Sight) : Type 0 where
-  pub locks : s.seen.graph.locks ≡ lock_count maxima
+  pub locks : HasTheLocks maxima s.seen.graph
   pub rests : HoldsNothing s
   pub sound : IsSoundBook s.seen
   pub always : AlwaysOneOfEach maxima s.seen.graph s.seen.history s.worker

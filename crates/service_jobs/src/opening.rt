@@ -1,5 +1,5 @@
 //! What a run takes memory for, before any desk moves.
-ghost use Rattle.std.specs.Prelude.{◌≡◌, ◌≤◌, [], All, IfOk, length, map, vec_capacity};
+ghost use Rattle.std.specs.Prelude.{◌≡◌, ◌≤◌, [], All, IfOk, None, length, map, vec_capacity};
 ghost use Rattle.resource_lock.specs.Made.{made_of};
 ghost use Rattle.resource_lock.specs.Opening.{opening_of};
 ghost use Rattle.resource_lock.specs.declared.limits.TheConstants.{MAX_LEASES, MAX_WORKERS};
@@ -22,10 +22,17 @@ fn graph_of(alloc: Global, table: &ServiceTable, workers: u32, max_leases: u32) 
     requires few_workers { workers ≤ MAX_WORKERS }
     requires some_lease { 1 ≤ max_leases }
     requires few_leases { max_leases ≤ MAX_LEASES }
-    ensures { result ≡ made_of (lock_count table.now) workers max_leases [] [] }
+    ensures { result ≡ made_of (lock_count table.now) None workers max_leases [] [] }
 {
     let locks = table.locks();
-    Graph::new(locks, workers, max_leases, Vec::new(alloc), Vec::new(alloc))
+    Graph::new(
+        locks,
+        None,
+        workers,
+        max_leases,
+        Vec::new(alloc),
+        Vec::new(alloc),
+    )
 }
 
 // How many changes the entries of the jobs make: a use is locked and unlocked, and a lease is taken and given.
@@ -63,7 +70,7 @@ pub(crate) fn open(
     requires few_workers { workers ≤ MAX_WORKERS }
     requires some_lease { 1 ≤ max_leases }
     requires few_leases { max_leases ≤ MAX_LEASES }
-    ensures graph { IfOk result (λ opened. opened.value.service.book.graph ≡ made_of (lock_count table.now) workers max_leases [] []) }
+    ensures graph { IfOk result (λ opened. opened.value.service.book.graph ≡ made_of (lock_count table.now) None workers max_leases [] []) }
     ensures len { IfOk result (λ opened. length opened.value.passes.items ≡ workers) }
     ensures workers { IfOk result (λ opened. map (λ p. p.sight.worker.0) opened.value.passes.items ≡ workers_from 0 workers) }
     ensures service { IfOk result (λ opened. All (λ p. p.service ≡ opened.value.service.service) opened.value.passes.items) }

@@ -1,7 +1,7 @@
 //! Services, books on their locks, and the entries of a book.
 ghost use Rattle.std.specs.Prelude.{◌≡◌, [], IfOk};
 ghost use Rattle.resource_lock.specs.Opening.{opening_of};
-ghost use Rattle.shared_services.specs.Services.{lock_count};
+ghost use Rattle.shared_services.specs.Takings.{HasTheLocks};
 
 use lock_journal::Book;
 use resource_lock::{Change, Graph};
@@ -30,13 +30,20 @@ pub fn book_of(
     table: &ServiceTable,
     workers: u32,
 ) -> Result<Box<Book>, AllocError>
-    ensures locks { IfOk result (λ book. book.value.graph.locks ≡ lock_count table.now) }
+    ensures locks { IfOk result (λ book. HasTheLocks table.now book.value.graph) }
     ensures state { IfOk result (λ book. book.value.state ≡ opening_of book.value.graph) }
     ensures history { IfOk result (λ book. book.value.history ≡ []) }
 {
     let locks = table.locks();
-    assert!(rt; Graph::fits(locks, workers, workers, &[], &[]));
-    let graph = Graph::new(locks, workers, workers, Vec::new(alloc), Vec::new(alloc));
+    assert!(rt; Graph::fits(locks, None, workers, workers, &[], &[]));
+    let graph = Graph::new(
+        locks,
+        None,
+        workers,
+        workers,
+        Vec::new(alloc),
+        Vec::new(alloc),
+    );
     Ok(Box::new(alloc, Book::opening(alloc, graph, 0, 0)?)?)
 }
 

@@ -3,7 +3,7 @@ ghost use Rattle.std.specs.Prelude.{◌≡◌, All, IfOk, map};
 ghost use Rattle.resource_lock.specs.Opening.{opening_of};
 ghost use Rattle.coordination.specs.Holds.{HoldsNothing};
 ghost use Rattle.coordination.specs.Sights.{workers_from};
-ghost use Rattle.shared_services.specs.Services.{lock_count};
+ghost use Rattle.shared_services.specs.Takings.{HasTheLocks};
 
 use anyhow::{Result, bail};
 use coordination::{Coordination, Opened, openings_are_at_rest};
@@ -23,20 +23,27 @@ pub(crate) fn connections(alloc: Global, count: u32) -> Result<ServiceTable> {
 
 // A book without entries, for so many workers on the locks of the services.
 fn book_of(alloc: Global, table: &ServiceTable, workers: u32) -> Result<Box<Book>>
-    ensures locks { IfOk result (λ book. book.value.graph.locks ≡ lock_count table.now) }
+    ensures locks { IfOk result (λ book. HasTheLocks table.now book.value.graph) }
     ensures state { IfOk result (λ book. book.value.state ≡ opening_of book.value.graph) }
 {
     let locks = table.locks();
-    if !Graph::fits(locks, workers, workers, &[], &[]) {
+    if !Graph::fits(locks, None, workers, workers, &[], &[]) {
         bail!("there are too many workers");
     }
-    let graph = Graph::new(locks, workers, workers, Vec::new(alloc), Vec::new(alloc));
+    let graph = Graph::new(
+        locks,
+        None,
+        workers,
+        workers,
+        Vec::new(alloc),
+        Vec::new(alloc),
+    );
     Ok(Box::new(alloc, Book::opening(alloc, graph, 0, 0)?)?)
 }
 
 /// A service over such a book, with a pass for each worker.
 pub(crate) fn open(alloc: Global, table: &ServiceTable, workers: u32) -> Result<Box<Opened>>
-    ensures locks { IfOk result (λ opened. All (λ p. p.sight.seen.graph.locks ≡ lock_count table.now) opened.value.passes.items) }
+    ensures locks { IfOk result (λ opened. All (λ p. HasTheLocks table.now p.sight.seen.graph) opened.value.passes.items) }
     ensures rest { IfOk result (λ opened. All (λ p. HoldsNothing p.sight) opened.value.passes.items) }
     ensures workers { IfOk result (λ opened. map (λ p. p.sight.worker.0) opened.value.passes.items
         ≡ workers_from 0 opened.value.service.book.graph.workers) }

@@ -1,7 +1,7 @@
 //! What each worker does in its thread.
 ghost use Rattle.std.specs.Prelude.{◌≡◌, All, map};
 ghost use Rattle.coordination.specs.Holds.{HoldsNothing};
-ghost use Rattle.shared_services.specs.Services.{lock_count};
+ghost use Rattle.shared_services.specs.Takings.{HasTheLocks};
 ghost use Rattle.shared_services.specs.Shows.{MayTakeUses};
 
 use coordination::{Coordination, Halt, Pass, used_passes_have_their_numbers};
@@ -38,7 +38,7 @@ fn query<R: Wait>(
 // Sends a worker's query. Whoever finds no memory stops the others, so that none waits for it.
 fn work<R: Wait>(rt: &R, service: &Coordination, table: &ServiceTable, pass: &mut Pass)
     requires service { pass.old.service ≡ service.now.service }
-    requires locks { pass.old.sight.seen.graph.locks ≡ lock_count table.now }
+    requires locks { HasTheLocks table.now pass.old.sight.seen.graph }
     requires rest { HoldsNothing pass.old.sight }
     ensures service { pass.new.service ≡ pass.old.service }
     ensures worker { pass.new.sight.worker ≡ pass.old.sight.worker }
@@ -60,7 +60,7 @@ pub(crate) fn work_in_threads<R: Threads + Wait + Sync>(
     passes: &mut [Pass],
 )
     requires service { All (λ p. p.service ≡ service.now.service) passes.old }
-    requires locks { All (λ p. p.sight.seen.graph.locks ≡ lock_count table.now) passes.old }
+    requires locks { All (λ p. HasTheLocks table.now p.sight.seen.graph) passes.old }
     requires rest { All (λ p. HoldsNothing p.sight) passes.old }
     ensures service { All (λ p. p.service ≡ service.now.service) passes.new }
     ensures workers { map (λ p. p.sight.worker.0) passes.new ≡ map (λ p. p.sight.worker.0) passes.old }

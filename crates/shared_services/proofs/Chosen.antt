@@ -1,9 +1,9 @@
 -- What the locks that were chosen come to.
 use Rattle.std.proofs.Common.{◌≡◌, ◌<◌, ◌≤◌, ◌+◌, ℕ, zero, suc, Bool, true, false, not, cond, ◌&&◌, ◌||◌, List, [], ◌∷◌, ◌++◌, length, get_or, map, nat_eq, nat_lt, None, Option, is_none, refl, sym, ap, ◌∙◌, arith}
-use Rattle.std.specs.List.{filter, list_all}
+use Rattle.std.specs.List.{filter, list_all, list_any}
 use Rattle.std.proofs.lemmas.Bool.{and_from, and_parts, eqb-true, false≢true, le-leb, lt-ltb, ltb-false}
 use Rattle.resource_lock.specs.GraphView.{GraphView}
-use Rattle.resource_lock.specs.StateView.{StateView, holding_of, is_owner, leases_out, owner_of, owns, runs_any, stands_in}
+use Rattle.resource_lock.specs.StateView.{StateView, all_owner, holding_of, is_all, is_other, is_owner, leases_out, names_lock, owner_if, owner_of, owns, runs_any, stands_in}
 use Rattle.resource_lock.specs.Trying.{can_lease, can_own}
 use Rattle.resource_lock.specs.declared.changes.Change.TheVariants.{Lock, Take}
 use Rattle.resource_lock.specs.declared.ids.LockId.{LockId}
@@ -53,15 +53,17 @@ each_rises maxima asked locks are each = rise_from 0 locks (λ i inside. omega a
 pub one_of_each : {maxima : List ℕ} {s : StateView} {asked : List ℕ} {locks : List LockId} → AreLowestFree maxima s asked locks → AreOneOfEach maxima asked locks
 one_of_each chosen = record { count = chosen.count; of_service = λ i low. (chosen.lowest i low).of_service }
 
-can_own_free : (s : StateView) (w : WorkerId) (l : LockId) → owner_of s l ≡ None → can_own s w l ≡ true
-can_own_free s w l free = ap (λ (o : Option WorkerId). is_none o || is_owner o w) free
+can_own_free : (s : StateView) (w : WorkerId) (l : LockId) → s.all ≡ None → owner_of s l ≡ None → can_own s w l ≡ true
+can_own_free s w l none free =
+    ap (λ (o : Option WorkerId). not (is_other o w || is_other (all_owner s) w || (is_all s l && list_any (λ p. is_other p w) s.owners))) free
+    ∙ ap (λ (all : Option LockId). not (is_other (owner_if s all) w || (names_lock all l && list_any (λ p. is_other p w) s.owners))) none
 
 -- locks that nobody owns can be taken wherever a lease can
-pub can_take_free : (s : StateView) (w : WorkerId) (locks : List LockId) → ((i : ℕ) → i < length locks → owner_of s (get_or locks i no_lock) ≡ None) → can_take_all s w locks ≡ can_lease s w
-can_take_free s w [] free = refl
-can_take_free s w (l ∷ ls) free =
-    let rest : can_take_all s w ls ≡ can_lease s w = can_take_free s w ls (λ i low. free (suc i) (omega (arith, low))) in
-    ap (λ b. (b && list_all (can_own s w) ls) && can_lease s w) (can_own_free s w l (free 0 (omega arith))) ∙ rest
+pub can_take_free : (s : StateView) (w : WorkerId) (locks : List LockId) → s.all ≡ None → ((i : ℕ) → i < length locks → owner_of s (get_or locks i no_lock) ≡ None) → can_take_all s w locks ≡ can_lease s w
+can_take_free s w [] none free = refl
+can_take_free s w (l ∷ ls) none free =
+    let rest : can_take_all s w ls ≡ can_lease s w = can_take_free s w ls none (λ i low. free (suc i) (omega (arith, low))) in
+    ap (λ b. (b && list_all (can_own s w) ls) && can_lease s w) (can_own_free s w l none (free 0 (omega arith))) ∙ rest
 
 none_owned : (s : StateView) (w : WorkerId) (locks : List LockId) → ((i : ℕ) → i < length locks → owner_of s (get_or locks i no_lock) ≡ None) → filter (λ l. not (owns s w l)) locks ≡ locks
 none_owned s w [] free = refl
@@ -123,8 +125,8 @@ pub free_each : {maxima : List ℕ} {s : StateView} {asked : List ℕ} {locks : 
 free_each chosen i inside = (chosen.lowest i (omega (arith, inside, chosen.count))).free
 
 -- where they can't be taken, as many leases as may be are out
-pub short_of_leases : {maxima : List ℕ} {s : StateView} {asked : List ℕ} {locks : List LockId} (w : WorkerId) → HasNothing s w → AreLowestFree maxima s asked locks → can_take_all s w locks ≡ false
+pub short_of_leases : {maxima : List ℕ} {s : StateView} {asked : List ℕ} {locks : List LockId} (w : WorkerId) → s.all ≡ None → HasNothing s w → AreLowestFree maxima s asked locks → can_take_all s w locks ≡ false
     → s.max_leases ≤ leases_out s
-short_of_leases {s = s} {locks = locks} w has chosen short =
-    let lease : can_lease s w ≡ false = sym (can_take_free s w locks (free_each chosen)) ∙ short in
+short_of_leases {s = s} {locks = locks} w none has chosen short =
+    let lease : can_lease s w ≡ false = sym (can_take_free s w locks none (free_each chosen)) ∙ short in
     ltb-false (leases_out s) s.max_leases (sym (ap (λ b. b || nat_lt (leases_out s) s.max_leases) has.lease) ∙ lease)

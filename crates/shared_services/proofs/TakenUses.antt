@@ -79,7 +79,7 @@ nothing_there old book found holding none =
 
 may_there : {maxima asked : List ℕ} {old : Sight} {book : BookView} → MayTakeUses maxima asked old → Finds old.worker old.seen book → MayNotTake maxima book.graph old.worker book.state → ⊥
 may_there {old = old} {book = book} may found not_yet = elim not_yet [
-  | inl locks ↦ locks (ap (λ (g : GraphView). g.locks) found.agrees.graph ∙ may.locks)
+  | inl other ↦ other (ap (λ (g : GraphView). g.locks) found.agrees.graph ∙ may.locks.0, ap (λ (g : GraphView). g.all) found.agrees.graph ∙ may.locks.1)
   | inr busy ↦ false≢true (sym busy ∙ nothing_there old book found may.rests.holding may.rests.claimed)
 ]
 

@@ -5,12 +5,12 @@ use Rattle.coordination.specs.Calls.{HasFinished}
 use Rattle.coordination.specs.Holds.{HoldsNothing}
 use Rattle.coordination.specs.Shown.{Shows}
 use Rattle.coordination.specs.declared.rule.Sight.{Sight}
-use Rattle.shared_services.specs.Services.{AreServices, lock_count}
-use Rattle.shared_services.specs.Takings.{TakesUses}
+use Rattle.shared_services.specs.Services.{AreServices}
+use Rattle.shared_services.specs.Takings.{HasTheLocks, TakesUses}
 
 -- The graph has the locks of the services, the worker has nothing, and what it asks for are services in rising order.
 pub record MayTakeUses (maxima asked : List ℕ) (s : Sight) : Type 0 where
-  pub locks : s.seen.graph.locks ≡ lock_count maxima
+  pub locks : HasTheLocks maxima s.seen.graph
   pub rests : HoldsNothing s
   pub services : AreServices maxima asked
 

@@ -1,5 +1,5 @@
 -- The taking of uses: which changes it makes, and where it can't be done.
-use Rattle.std.specs.Prelude.{ℕ, ◌≡◌, ◌≢◌, ◌≤◌, ◌⊎◌, ◌==◌, Bool, false, not, ◌&&◌, List, [], ◌∷◌, ◌++◌, length, map}
+use Rattle.std.specs.Prelude.{ℕ, ◌≡◌, ◌≤◌, ◌⊎◌, ◌==◌, Bool, false, not, ◌&&◌, List, [], ◌∷◌, ◌++◌, length, map, None}
 use Rattle.std.specs.List.{Any}
 use Rattle.resource_lock.specs.GraphView.{GraphView}
 use Rattle.resource_lock.specs.StateView.{StateView, holding_of, leases_out, runs_any}
@@ -27,6 +27,10 @@ IsShort maxima asked s = Any (λ service. IsFull maxima s service) asked ⊎ (s.
 abbrev pub has_nothing : StateView → WorkerId → Bool
 has_nothing s w = not (holding_of s w).lease && not (holding_of s w).blocked && length (holding_of s w).parked == 0 && not (runs_any s w)
 
+-- the locks of the graph are those of the services, and it has no all-projects lock
+abbrev pub HasTheLocks : List ℕ → GraphView → Type 0
+HasTheLocks maxima g = (g.locks ≡ lock_count maxima) × (g.all ≡ None)
+
 -- the graph has other locks than those of the services, or the worker has something
 abbrev pub MayNotTake : List ℕ → GraphView → WorkerId → StateView → Type 0
-MayNotTake maxima g w s = (g.locks ≢ lock_count maxima) ⊎ (has_nothing s w ≡ false)
+MayNotTake maxima g w s = (¬ HasTheLocks maxima g) ⊎ (has_nothing s w ≡ false)

@@ -1,21 +1,21 @@
 //! The taking of one use of each of several services, and a lease.
-ghost use Rattle.std.specs.Prelude.{◌≡◌, ◌+◌, ◌⊎◌, length};
+ghost use Rattle.std.specs.Prelude.{◌≡◌, ◌↔◌, ◌+◌, ◌⊎◌, IsTrue, length};
 ghost use Rattle.lock_transforms.specs.declared.entries.Kind.TheVariants as kinds;
 ghost use Rattle.lock_transforms.specs.declared.kinds.acquires.Shortage.TheVariants as shortages;
-ghost use Rattle.shared_services.specs.Services.{AreServices};
-ghost use Rattle.shared_services.specs.Takings.{IsShort, MayNotTake, TakesUses, has_nothing};
+ghost use Rattle.shared_services.specs.Services.{AreServices, FitMaxima};
+ghost use Rattle.shared_services.specs.Takings.{HasTheLocks, IsShort, MayNotTake, TakesUses, has_nothing};
 
 use crate::services::{MAX_SERVICES, ServiceTable};
 use lock_transforms::kinds::{Acquire, Shortage};
 use lock_transforms::{Disposition, Kind, Tentative, Transform};
-use resource_lock::LockId;
+use resource_lock::{Graph, LockId};
 
 /// Takes the lowest lock without owner of each of some services, given in strictly rising order, and a lease, for a worker that
 /// has nothing.
 ///
 /// A service may have no lock without owner, or as many leases as may be may be out. It then fails or asks to be run again, as
 /// `shortage` says. It asks to be run again where the worker has something, and where the graph has other locks than those of
-/// the services.
+/// the services, or an all-projects lock.
 #[derive(Clone, Copy)]
 pub struct TakeUses<'a> {
     /// The services.
@@ -47,7 +47,7 @@ impl Transform for TakeUses<'_> {
     }
 
     fn apply(&self, work: &mut Tentative) -> Disposition {
-        if work.graph().locks() != self.table.locks() || !has_nothing(work) {
+        if !has_the_locks(work.graph(), self.table) || !has_nothing(work) {
             return Disposition::Retry;
         }
         let mut chosen = [LockId(0); MAX_SERVICES];
@@ -72,6 +72,14 @@ impl Transform for TakeUses<'_> {
         };
         lease.waits_for_news();
     }
+}
+
+// Whether the locks of the graph are those of the services, and it has no all-projects lock.
+fn has_the_locks(graph: &Graph, table: &ServiceTable) -> bool
+    ensures answer { IsTrue result ↔ HasTheLocks table.now graph.now }
+    ensures fit { FitMaxima table.now }
+{
+    graph.locks() == table.locks() && graph.all().is_none()
 }
 
 // Whether the worker has no lease, isn't blocked, has parked nothing and runs nothing.

@@ -1,5 +1,5 @@
 -- A service that was opened, as its workers see it.
-use Rattle.std.specs.Prelude.{◌≡◌, ℕ, List, [], map, ⊤}
+use Rattle.std.specs.Prelude.{◌≡◌, ℕ, List, [], None, map, ⊤}
 use Rattle.std.specs.List.{All}
 use Rattle.atomic_table.specs.Seated.{TableId}
 use Rattle.lock_journal.specs.BookView.{BookView}
@@ -19,10 +19,10 @@ pub record IsOpened (workers max_leases locks : ℕ) (ps : List PassView) : Type
   pub lock_count : book.graph.locks ≡ locks
   pub history : book.history ≡ []
   pub passes : map (λ p. p.sight) ps ≡ sights_from 0 workers book
-  pub shared : All (λ p. p.service ≡ service) ps
+  pub shared : All (λ p. p.service.table ≡ service) ps
 
 -- Why a service of these numbers isn't opened: no graph of them fits, or memory is wanting.
 abbrev pub WhyUnopened : ℕ → ℕ → ℕ → Answer → Type 0
-WhyUnopened workers max_leases locks BadNumber = Fits (made_of locks workers max_leases [] []) → ⊥
+WhyUnopened workers max_leases locks BadNumber = Fits (made_of locks None workers max_leases [] []) → ⊥
 WhyUnopened workers max_leases locks NoMemory = ⊤
 WhyUnopened workers max_leases locks _ = ⊥

@@ -11,7 +11,7 @@ line_of n (Some e) = entry_text n e
 line_of n None = []
 
 abbrev pub part_text : BookView → ℕ → List ℕ
-part_text book n = if n == 0 then head_text book.graph.workers book.graph.max_leases true
+part_text book n = if n == 0 then head_text book.graph.workers book.graph.max_leases true (Some book.graph.locks)
     else if n - 1 == length book.history then end_text (length book.history)
     else line_of n (slice_get book.history (n - 1))
 

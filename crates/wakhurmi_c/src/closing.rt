@@ -23,7 +23,7 @@ use std::sync::Arc;
 struct Common {
     service: Arc<Slot, Global>,
     workers: u32,
-    ghost workers_are: { workers ≡ (arc_value service).table.shared.key.book.value.graph.workers },
+    ghost workers_are: { workers ≡ (arc_value service).table.shared.key.kept.value.book.graph.workers },
 }
 
 /// The passes of workers, which are taken out of their handles, and what they share.
@@ -36,12 +36,12 @@ struct Gathered {
 /// Takes the workers out of full handles. There is room for their passes.
 fn gather(alloc: Global, handles: &mut [Handle], mut passes: Vec<Pass>) -> Gathered
     requires full { All (λ h. h.full ≡ true) handles.old }
-    requires service { (id : TableId) × All (λ h. h.held.worker.pass.service ≡ id) handles.old }
+    requires service { (id : TableId) × All (λ h. h.held.worker.pass.service.table ≡ id) handles.old }
     requires empty { passes.items ≡ [] }
     requires room { length handles.old ≤ vec_capacity passes }
     ensures emptied { All (λ h. h.full ≡ false) handles.new }
     ensures passes { result.passes.items ≡ map (λ h. h.held.worker.pass) handles.old }
-    ensures service { IfSome result.common (λ c. All (λ p. p.service ≡ (arc_value c.service).table.shared.table_id) result.passes.items) }
+    ensures service { IfSome result.common (λ c. All (λ p. p.service.table ≡ (arc_value c.service).table.shared.table_id) result.passes.items) }
     ensures workers { IfSome result.common (λ c. (n : ℕ) → All (λ h. h.held.worker.workers ≡ n) handles.old → c.workers ≡ n) }
     ensures none { IfNone result.common (length handles.old ≡ 0) }
 {
@@ -79,9 +79,9 @@ fn are_all(passes: &[Pass], workers: u32) -> bool
     true
 }
 
-/// Takes the book out of a service, by the passes of all its workers.
+/// Takes the book out of a service, by the passes of all its workers, or says why they aren't.
 fn close_by(gathered: Gathered) -> Result<Box<Book>, Answer>
-    requires { IfSome gathered.common (λ c. All (λ p. p.service ≡ (arc_value c.service).table.shared.table_id) gathered.passes.items) }
+    requires { IfSome gathered.common (λ c. All (λ p. p.service.table ≡ (arc_value c.service).table.shared.table_id) gathered.passes.items) }
     ensures closed { IfOk result (λ book. (g : GraphView) × IsClosedBy gathered.passes.items g book.value) }
     ensures why { IfErr result (λ answer. (answer ≡ answers.Misused) ⊎ ((answer ≡ answers.BadNumber)
         × IfSome gathered.common (λ c. map (λ p. p.sight.worker.0) gathered.passes.items ≢ workers_from 0 c.workers))) }
@@ -108,7 +108,7 @@ pub extern "C" fn wakhurmi_c_finish(
     handles: &mut [Handle],
     book: &mut BookHandle,
 ) -> u32
-    requires service { (id : TableId) × All (λ h. h.held.worker.pass.service ≡ id) handles.old }
+    requires service { (id : TableId) × All (λ h. h.held.worker.pass.service.table ≡ id) handles.old }
     ensures done { answer_of result ≡ answers.Done → book.new.full ≡ true }
     ensures closed { answer_of result ≡ answers.Done
         → (g : GraphView) × IsClosedBy (map (λ h. h.held.worker.pass) handles.old) g book.new.held.book }

@@ -28,10 +28,17 @@ fn book_of(alloc: Global, workers: u32, max_leases: u32, locks: u32) -> Result<B
     ensures history { IfOk result (λ book. book.value.history ≡ []) }
 {
     openings_are_at_rest();
-    if !Graph::fits(locks, workers, max_leases, &[], &[]) {
+    if !Graph::fits(locks, None, workers, max_leases, &[], &[]) {
         return Err(Answer::BadNumber);
     }
-    let graph = Graph::new(locks, workers, max_leases, Vec::new(alloc), Vec::new(alloc));
+    let graph = Graph::new(
+        locks,
+        None,
+        workers,
+        max_leases,
+        Vec::new(alloc),
+        Vec::new(alloc),
+    );
     let Ok(book) = Book::opening(alloc, graph, 0, 0) else {
         return Err(Answer::NoMemory);
     };
@@ -49,11 +56,11 @@ fn worker_of(
     workers: u32,
     locks: u32,
 ) -> Result<Box<Worker, Global>, AllocError>
-    requires service { pass.service ≡ (arc_value service.now).table.shared.table_id }
-    requires workers { workers ≡ (arc_value service.now).table.shared.key.book.value.graph.workers }
-    requires no_tasks { HasNoTasks (arc_value service.now).table.shared.key.book.value.graph }
-    requires locks { locks ≡ (arc_value service.now).table.shared.key.book.value.graph.locks }
-    requires seen { pass.sight.seen ≡ (arc_value service.now).table.shared.key.book.value }
+    requires service { pass.service.table ≡ (arc_value service.now).table.shared.table_id }
+    requires workers { workers ≡ (arc_value service.now).table.shared.key.kept.value.book.graph.workers }
+    requires no_tasks { HasNoTasks (arc_value service.now).table.shared.key.kept.value.book.graph }
+    requires locks { locks ≡ (arc_value service.now).table.shared.key.kept.value.book.graph.locks }
+    requires seen { pass.sight.seen ≡ (arc_value service.now).table.shared.key.kept.value.book }
     ensures { IfOk result (λ worker. worker.value.pass ≡ pass) }
 {
     let service = Arc::try_clone(service)?;
@@ -77,11 +84,11 @@ fn workers_of(
     workers: u32,
     locks: u32,
 ) -> Result<Vec<Box<Worker, Global>>, AllocError>
-    requires service { All (λ p. p.service ≡ (arc_value service.now).table.shared.table_id) passes.items }
-    requires workers { workers ≡ (arc_value service.now).table.shared.key.book.value.graph.workers }
-    requires no_tasks { HasNoTasks (arc_value service.now).table.shared.key.book.value.graph }
-    requires locks { locks ≡ (arc_value service.now).table.shared.key.book.value.graph.locks }
-    requires seen { All (λ p. p.sight.seen ≡ (arc_value service.now).table.shared.key.book.value) passes.items }
+    requires service { All (λ p. p.service.table ≡ (arc_value service.now).table.shared.table_id) passes.items }
+    requires workers { workers ≡ (arc_value service.now).table.shared.key.kept.value.book.graph.workers }
+    requires no_tasks { HasNoTasks (arc_value service.now).table.shared.key.kept.value.book.graph }
+    requires locks { locks ≡ (arc_value service.now).table.shared.key.kept.value.book.graph.locks }
+    requires seen { All (λ p. p.sight.seen ≡ (arc_value service.now).table.shared.key.kept.value.book) passes.items }
     ensures { IfOk result (λ all. map (λ w. w.value.pass) all.items ≡ passes.items) }
 {
     let mut all = Vec::with_capacity(alloc, passes.len())?;

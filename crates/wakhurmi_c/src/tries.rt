@@ -14,7 +14,7 @@ pub(crate) fn try_once<T: Transform>(
     sleepers: &mut Sleepers,
     transform: &T,
 ) -> Outcome
-    requires { pass.old.service ≡ service.now.table.shared.table_id }
+    requires { pass.old.service.table ≡ service.now.table.shared.table_id }
     ensures service { pass.new.service ≡ pass.old.service }
     ensures graph { pass.new.sight.seen.graph ≡ pass.old.sight.seen.graph }
     ensures left { Leaves (T.kind_of transform.now) (T.makes transform.now) (T.fails_on transform.now) (T.retries_on transform.now)

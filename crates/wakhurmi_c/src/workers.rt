@@ -23,8 +23,8 @@ pub struct Worker {
     pub(crate) asked: Vec<LockId>,
     // Who sleeps is known to C alone. So each entry is asked whether it would wake a transform that sleeps.
     pub(crate) sleepers: Sleepers,
-    ghost own: { pass.service ≡ (arc_value service).table.shared.table_id },
+    ghost own: { pass.service.table ≡ (arc_value service).table.shared.table_id },
     ghost no_tasks: { HasNoTasks pass.sight.seen.graph },
     ghost locks_are: { locks ≡ pass.sight.seen.graph.locks },
-    ghost workers_are: { workers ≡ (arc_value service).table.shared.key.book.value.graph.workers },
+    ghost workers_are: { workers ≡ (arc_value service).table.shared.key.kept.value.book.graph.workers },
 }

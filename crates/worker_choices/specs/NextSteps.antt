@@ -3,7 +3,7 @@ use Rattle.std.specs.Prelude.{ℕ, ◌≡◌, ◌<◌, Bool, true, false, not, �
 use Rattle.std.specs.Prelude.{length, slice_get}
 use Rattle.resource_lock.specs.GraphView.{GraphView, action_of}
 use Rattle.resource_lock.specs.Ranges.{items_of, lock_with}
-use Rattle.resource_lock.specs.StateView.{StateView, mark_of, owner_of}
+use Rattle.resource_lock.specs.StateView.{StateView, kept_from, mark_of, owner_of}
 use Rattle.resource_lock.specs.Trying.{can_lease}
 use Rattle.resource_lock.specs.declared.graphs.Retention.{Retention}
 use Rattle.resource_lock.specs.declared.graphs.Retention.TheVariants.{Retain, Release, ReleaseAndReacquire}
@@ -39,13 +39,13 @@ pub record HasNothingToDo (g : GraphView) (w : WorkerId) (s : StateView) (queued
 abbrev pub first_open : GraphView → StateView → ℕ → Option ℕ
 first_open g s a = find (λ u. not (has_ended (mark_of s (UnitOf u)))) (items_of g a)
 
--- what the retention takes again is free
+-- what the retention takes again can be taken
 abbrev pub can_take_again : Retention → LockId → WorkerId → StateView → Bool
 can_take_again Retain l w s = can_lease s w
 can_take_again Release l w s = true
-can_take_again ReleaseAndReacquire l w s = can_lease s w && is_none (owner_of s l)
+can_take_again ReleaseAndReacquire l w s = can_lease s w && is_none (owner_of s l) && not (kept_from s w l)
 
--- all items of the action have ended, and what the worker takes again is free
+-- all items of the action have ended, and the worker can have what it takes again
 pub record CanGoOn (g : GraphView) (w : WorkerId) (s : StateView) (a : ℕ) : Type 0 where
   pub over : first_open g s a ≡ None
   pub free : can_take_again (action_of g a).retention (lock_with g a) w s ≡ true

@@ -24,7 +24,7 @@ pub enum Choice {
 /// What a parked worker does next.
 #[derive(Clone, Copy)]
 pub enum ParkedChoice {
-    /// It resumes: the items that it waits for have ended, and what it takes again is free.
+    /// It resumes: the items that it waits for have ended, and it can have what it takes again.
     Resume,
     /// It pops a ticket, or takes a unit of its own.
     Pop,

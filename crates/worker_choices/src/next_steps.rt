@@ -1,8 +1,8 @@
 //! What a worker can do next, by the index of the book.
-ghost use Rattle.std.specs.Prelude.{◌≡◌, ◌<◌, ◌↔◌, IfNone, IfSome, IsTrue, None, All, is_none, length};
+ghost use Rattle.std.specs.Prelude.{◌≡◌, ◌<◌, ◌↔◌, ◌&&◌, not, IfNone, IfSome, IsTrue, None, All, is_none, length};
 ghost use Rattle.resource_lock.specs.GraphView.{action_of, task_of};
 ghost use Rattle.resource_lock.specs.Ranges.{lock_with};
-ghost use Rattle.resource_lock.specs.StateView.{owner_of};
+ghost use Rattle.resource_lock.specs.StateView.{kept_from, owner_of};
 ghost use Rattle.resource_lock.specs.Trying.{can_lease};
 ghost use Rattle.ready_work.specs.Lowest.{IsLowest, IsNone};
 ghost use Rattle.history_laws.specs.Marks.{IsEnded};
@@ -79,16 +79,18 @@ fn can_take_again(book: &Book, worker: WorkerId, action: u32) -> bool
         Retention::Retain => lease_is_free(book, worker),
         Retention::Release => true,
         Retention::ReleaseAndReacquire => {
-            lease_is_free(book, worker) && lock_is_free(book, found.task)
+            lease_is_free(book, worker) && lock_is_free(book, worker, found.task)
         }
     }
 }
 
-// Whether nobody owns the lock of a task.
-fn lock_is_free(book: &Book, task: u32) -> bool
+// Whether nobody owns the lock of a task, and the worker isn't kept from it.
+fn lock_is_free(book: &Book, worker: WorkerId, task: u32) -> bool
     requires { task < length book.now.graph.tasks }
-    ensures { result ≡ is_none (owner_of book.now.state (task_of book.now.graph task).lock) }
+    ensures { result ≡ (is_none (owner_of book.now.state (task_of book.now.graph task).lock)
+        && not (kept_from book.now.state worker (task_of book.now.graph task).lock)) }
 {
     let lock = book.graph().tasks()[task as usize].lock;
-    book.state().owner(lock).is_none()
+    let state = book.state();
+    state.owner(lock).is_none() && !state.kept_from(worker, lock)
 }

@@ -2,13 +2,13 @@
 use Rattle.std.proofs.Common.{◌≡◌, ℕ, ◌<◌, Bool, true, false, not, ◌&&◌, ◌||◌, cond, eqb, inl, inr, List, [], ◌∷◌, ◌++◌, length, Option, None, Some, refl, sym, ap, ◌∙◌, subst, arith}
 use Rattle.std.specs.Prelude.{find, is_none, nat_lt}
 use Rattle.std.specs.List.{list_all}
-use Rattle.std.proofs.lemmas.Bool.{and_from, and_parts, cases_lt, eq-eqb, false≢true, false_from_ne_true}
+use Rattle.std.proofs.lemmas.Bool.{and_from, and_parts, cases_lt, eq-eqb, false≢true, false_from_ne_true, not-true}
 use Rattle.std.proofs.lemmas.List.{get_or_past}
 use Rattle.resource_lock.specs.Change.{can, can_all, holding_after, inverse_of, make, same_mark, stands_last, without_last}
 use Rattle.resource_lock.specs.Good.{Good}
 use Rattle.resource_lock.specs.GraphView.{GraphView, action_of}
 use Rattle.resource_lock.specs.Ranges.{items_of, lock_with}
-use Rattle.resource_lock.specs.StateView.{Holding, StateView, has_parked, holding_of, leases_out, mark_of, owner_of, owns, runs_unit, stands_in, IsWorkerOf}
+use Rattle.resource_lock.specs.StateView.{Holding, StateView, has_parked, holding_of, kept_from, leases_out, mark_of, owner_of, owns, runs_unit, stands_in, IsWorkerOf}
 use Rattle.resource_lock.specs.Trying.{can_lease}
 use Rattle.resource_lock.specs.declared.changes.Change.TheVariants.{Lock, Take, Move, Unpark}
 use Rattle.resource_lock.specs.declared.graphs.Retention.{Retention}
@@ -22,6 +22,7 @@ use Rattle.resource_lock.specs.declared.marks.MarkId.TheVariants.{Action as Acti
 use Rattle.resource_lock.proofs.lemmas.Kept.{can_back, leases-with_holding}
 use Rattle.resource_lock.proofs.lemmas.Runs.{worker_from}
 use Rattle.resource_lock.proofs.lemmas.Undo.{last_from}
+use Rattle.lock_transforms.proofs.lemmas.Locking.{free_lock}
 use Rattle.lock_transforms.specs.Allowed.{IsDisabled, IsFixedList}
 use Rattle.lock_journal.specs.BookView.{BookView}
 use Rattle.lock_transforms.specs.Entry.{Entry, replay}
@@ -108,10 +109,6 @@ takes_then s w a lease blocked runs free =
     let some : nat_lt (leases_out s) s.max_leases ≡ true = sym (ap (λ b. b || nat_lt (leases_out s) s.max_leases) lease) ∙ free in
     and_from _ _ (λ i. not (lease i) && not (blocked i) && some i) (passes_on (make s w Take) w a runs)
 
-or_first : (a b : Bool) → b ≡ false → (a || b) ≡ true → a ≡ true
-or_first true b is h = refl
-or_first false b is h = absurd (false≢true (sym is ∙ h))
-
 has_last : (s : StateView) (w : WorkerId) (l : LockId) → stands_last l (holding_of s w).parked ≡ true → has_parked s w l ≡ true
 has_last s w l last = ap (stands_in l) (sym (last_from (holding_of s w).parked l last)) ∙ stands_in-last l (without_last (holding_of s w).parked)
 
@@ -123,8 +120,8 @@ takes_again s w l a waits last free =
     let p = and_parts _ _ free in
     let parked : has_parked s w l ≡ true = has_last s w l last in
     let not_own : owns s w l ≡ false = false_from_ne_true _ (λ own. false≢true (sym (waits.good.parked_not_owned w l own) ∙ parked)) in
-    let can_own : (is_none (owner_of s l) || owns s w l) ≡ true = (and_parts _ _ p.0).0 in
-    let nobody : is_none (owner_of s l) ≡ true = or_first _ _ not_own can_own in
+    let open' : not (kept_from s w l) ≡ true = (and_parts _ _ p.0).0 in
+    let nobody : is_none (owner_of s l) ≡ true = free_lock s w l not_own (not-true (kept_from s w l) open') in
     let back : can one w (inverse_of (Unpark l)) ≡ true = can_back s w (Unpark l) waits.worker (waits.good.parked_locks w l parked) waits.good last in
     let absent : not (has_parked one w l) ≡ true = (and_parts _ _ back).1 in
     let holding : holding_of two w ≡ holding_after (holding_of s w) (Unpark l) = own_holding_all s w (Unpark l ∷ Lock l ∷ []) waits.worker in
@@ -132,7 +129,7 @@ takes_again s w l a waits last free =
     let lease_two : can_lease two w ≡ true = (λ i. (holding i).lease || nat_lt (out i) s.max_leases) ∙ p.1 in
     let then : can_all two w (Take ∷ Move (ActionOf a) (Running w) Passed ∷ []) ≡ true =
     takes_then two w a (ap (λ (h : Holding). h.lease) holding ∙ waits.lease) (ap (λ (h : Holding). h.blocked) holding ∙ waits.blocked) waits.action lease_two in
-    and_from _ _ last (and_from _ _ (and_from _ _ nobody absent) then)
+    and_from _ _ last (and_from _ _ (and_from _ _ (and_from (is_none (owner_of s l)) (not (kept_from s w l)) nobody open') absent) then)
 
 -- what a worker has parked last, by the retention
 abbrev LastBy : Retention → LockId → StateView → WorkerId → Type 0

@@ -2,14 +2,14 @@
 use Rattle.std.proofs.Common.{◌≡◌, ◌≢◌, ℕ, ◌+◌, ◌-◌, ◌<◌, ◌≤◌, length, Bool, true, false, not, ◌&&◌, ◌||◌, cond, eqb, List, [], ◌∷◌, ◌++◌, reverse, None, Some, inl, inr, refl, sym, ap, ◌∙◌, arith}
 use Rattle.std.specs.Prelude.{nat_le, nat_lt, is_none, slice_get}
 use Rattle.std.specs.List.{list_all}
-use Rattle.std.proofs.lemmas.Bool.{and_from, and_parts, cases_Bool, eq-eqb, eqb-true, false≢true, false_from_ne_true, le-ltb, leb-true, lt-ltb, ltb-true, not_from_false, or_right}
+use Rattle.std.proofs.lemmas.Bool.{and_from, and_parts, cases_Bool, eq-eqb, eqb-true, false≢true, false_from_ne_true, le-ltb, leb-true, lt-ltb, ltb-true, not-true, not_from_false, or_right}
 use Rattle.std.proofs.lemmas.List.{get_or-set_other, length_push, get_or_push, reverse-append}
 use Rattle.std.proofs.lemmas.List.Folds.{list_any-append}
 use Rattle.std.proofs.lemmas.Option.{slice_get-get_or}
 use Rattle.resource_lock.specs.Change.{can, can_all, holding_after, is_lock, make, make_all, names_only, same_mark, stands_last, without_last}
 use Rattle.resource_lock.specs.Good.{Good}
 use Rattle.resource_lock.specs.GraphView.{GraphView}
-use Rattle.resource_lock.specs.StateView.{Holding, StateView, each_once, has_parked, holding_of, leases_out, mark_of, owner_of, owns, runs_by, runs_unit, stands_in, IsLockOf, IsWorkerOf}
+use Rattle.resource_lock.specs.StateView.{Holding, StateView, each_once, has_parked, holding_of, kept_from, leases_out, mark_of, owner_of, owns, runs_by, runs_unit, stands_in, IsLockOf, IsWorkerOf}
 use Rattle.resource_lock.specs.Trying.{can_lease, can_own}
 use Rattle.resource_lock.specs.declared.changes.Change.{Change}
 use Rattle.resource_lock.specs.declared.changes.Change.TheVariants.{Lock, Take, Move, Unpark, Leave}
@@ -22,7 +22,9 @@ use Rattle.resource_lock.specs.declared.marks.MarkId.TheVariants.{Unit as UnitOf
 use Rattle.resource_lock.proofs.lemmas.Kept.{kept, leases-with_holding}
 use Rattle.resource_lock.proofs.lemmas.Lists.{each_once-front}
 use Rattle.resource_lock.proofs.lemmas.Runs.{can_all-append, named_along, same_shape-make, same_shape-make_all, worker_along}
-use Rattle.resource_lock.proofs.lemmas.Undo.{holding_now, same_lock, without_last-push}
+use Rattle.resource_lock.proofs.lemmas.Alone.{kept_same}
+use Rattle.resource_lock.proofs.lemmas.Undo.{holding_now, none_from, same_lock, without_last-push}
+use Rattle.lock_transforms.proofs.lemmas.Locking.{free_lock}
 use Rattle.item_actions.specs.declared.outcomes.Outcome.{Outcome}
 use Rattle.item_actions.specs.declared.outcomes.Outcome.TheVariants as outcomes
 use Rattle.lock_transforms.specs.Table.{condition, is_enabled, list_of, mark_from, taken_again, taken_up}
@@ -81,9 +83,10 @@ record IsTakenOn (s : StateView) (w : WorkerId) (l : LockId) (ls : List LockId) 
   good : Good (take_on s w l)
   parked : (holding_of (take_on s w l) w).parked ≡ reverse ls
   free : (k : LockId) → stands_in k ls ≡ true → is_none (owner_of (take_on s w l) k) ≡ true
+  open' : (k : LockId) → stands_in k ls ≡ true → kept_from (take_on s w l) w k ≡ false
 
-takes_on : (s : StateView) (w : WorkerId) (l : LockId) (ls : List LockId) → IsWorkerOf s w → Good s → (holding_of s w).parked ≡ reverse (l ∷ ls) → ((k : LockId) → stands_in k (l ∷ ls) ≡ true → is_none (owner_of s k) ≡ true) → IsTakenOn s w l ls
-takes_on s w l ls worker good parked free =
+takes_on : (s : StateView) (w : WorkerId) (l : LockId) (ls : List LockId) → IsWorkerOf s w → Good s → (holding_of s w).parked ≡ reverse (l ∷ ls) → ((k : LockId) → stands_in k (l ∷ ls) ≡ true → is_none (owner_of s k) ≡ true) → ((k : LockId) → stands_in k (l ∷ ls) ≡ true → kept_from s w k ≡ false) → IsTakenOn s w l ls
+takes_on s w l ls worker good parked free open' =
     let front : (holding_of s w).parked ≡ reverse ls ++ l ∷ [] = parked ∙ reverse-cons l ls in
     let unparks : can s w (Unpark l) ≡ true = ap (stands_last l) front ∙ stands_last-push (reverse ls) l in
     let first : stands_in l (l ∷ ls) ≡ true = ap (λ b. b || stands_in l ls) (eq-eqb l.0 l.0 refl) in
@@ -95,7 +98,9 @@ takes_on s w l ls worker good parked free =
     ap (λ (h : Holding). h.parked) (holding_now s w (holding_after (holding_of s w) (Unpark l)) worker) ∙ (ap without_last front ∙ without_last-push (reverse ls) l) in
     let absent : stands_in l (reverse ls) ≡ false = (each_once-front (reverse ls) l (ap each_once (sym front) ∙ good.parked_once w)).1 in
     let locks : can (make s w (Unpark l)) w (Lock l) ≡ true =
-    and_from (is_none (owner_of s l)) (not (has_parked (make s w (Unpark l)) w l)) (free l first) (not_from_false (has_parked (make s w (Unpark l)) w l) (ap (stands_in l) left ∙ absent)) in
+    and_from (is_none (owner_of s l) && not (kept_from s w l)) (not (has_parked (make s w (Unpark l)) w l))
+    (and_from (is_none (owner_of s l)) (not (kept_from s w l)) (free l first) (not_from_false (kept_from s w l) (open' l first)))
+    (not_from_false (has_parked (make s w (Unpark l)) w l) (ap (stands_in l) left ∙ absent)) in
     record {
       unparks = unparks;
       locks = locks;
@@ -105,14 +110,15 @@ takes_on s w l ls worker good parked free =
       free = λ k stands.
           let apart : k.0 ≢ l.0 = λ same. false≢true (sym absent ∙ (stands_reversed l ls ∙ (ap (λ j. stands_in j ls) (sym (same_lock k l same)) ∙ stands))) in
           ap is_none (get_or-set_other s.owners l.0 k.0 (Some w) None apart) ∙ free k (or_right (eqb l.0 k.0) (stands_in k ls) stands);
+      open' = λ k stands. kept_same (make s w (Unpark l)) w l k (none_from (owner_of s l) (free l first)) ∙ open' k (or_right (eqb l.0 k.0) (stands_in k ls) stands);
     }
 
-can_take_again : (ls : List LockId) (s : StateView) (w : WorkerId) → IsWorkerOf s w → Good s → (holding_of s w).parked ≡ reverse ls → ((k : LockId) → stands_in k ls ≡ true → is_none (owner_of s k) ≡ true) → can_all s w (taken_again ls) ≡ true
-can_take_again [] s w worker good parked free = refl
-can_take_again (l ∷ ls) s w worker good parked free =
-    let on = takes_on s w l ls worker good parked free in
+can_take_again : (ls : List LockId) (s : StateView) (w : WorkerId) → IsWorkerOf s w → Good s → (holding_of s w).parked ≡ reverse ls → ((k : LockId) → stands_in k ls ≡ true → is_none (owner_of s k) ≡ true) → ((k : LockId) → stands_in k ls ≡ true → kept_from s w k ≡ false) → can_all s w (taken_again ls) ≡ true
+can_take_again [] s w worker good parked free open' = refl
+can_take_again (l ∷ ls) s w worker good parked free open' =
+    let on = takes_on s w l ls worker good parked free open' in
     and_from (can s w (Unpark l)) (can_all (make s w (Unpark l)) w (Lock l ∷ taken_again ls)) on.unparks
-    (and_from (can (make s w (Unpark l)) w (Lock l)) (can_all (take_on s w l) w (taken_again ls)) on.locks (can_take_again ls (take_on s w l) w on.worker on.good on.parked on.free))
+    (and_from (can (make s w (Unpark l)) w (Lock l)) (can_all (take_on s w l) w (taken_again ls)) on.locks (can_take_again ls (take_on s w l) w on.worker on.good on.parked on.free on.open'))
 
 -- what is left of it
 after_again : (h : Holding) (ls : List LockId) → h.parked ≡ reverse ls → after_all holding_after h (taken_again ls) ≡ record h { parked = [] }
@@ -204,11 +210,13 @@ can_take_up s w worker good blocked free =
     let worker_now : IsWorkerOf (make s w Leave) w = worker_along s (make s w Leave) w (same_shape-make s w Leave) worker in
     let holding : holding_of (make s w Leave) w ≡ record (holding_of s w) { blocked = false } = holding_now s w (holding_after (holding_of s w) Leave) worker in
     let parked : (holding_of (make s w Leave) w).parked ≡ reverse (reverse (holding_of s w).parked) = ap (λ (h : Holding). h.parked) holding ∙ sym (reverse_twice (holding_of s w).parked) in
+    let there : (k : LockId) → stands_in k (reverse (holding_of s w).parked) ≡ true → has_parked s w k ≡ true = λ k stands. sym (stands_reversed k (holding_of s w).parked) ∙ stands in
+    let open' : (k : LockId) → stands_in k (reverse (holding_of s w).parked) ≡ true → kept_from s w k ≡ false = λ k stands.
+    not-true (kept_from s w k) (all_stand (can_own s w) k (holding_of s w).parked both.0 (there k stands)) in
     let unowned : (k : LockId) → stands_in k (reverse (holding_of s w).parked) ≡ true → is_none (owner_of s k) ≡ true = λ k stands.
-    let there : has_parked s w k ≡ true = sym (stands_reversed k (holding_of s w).parked) ∙ stands in
-    let other : owns s w k ≡ false = false_from_ne_true (owns s w k) (λ own. false≢true (sym (good.parked_not_owned w k own) ∙ there)) in
-    left_of (is_none (owner_of s k)) (owns s w k) other (all_stand (can_own s w) k (holding_of s w).parked both.0 there) in
-    let takes : can_all (make s w Leave) w (taken_again (reverse (holding_of s w).parked)) ≡ true = can_take_again (reverse (holding_of s w).parked) (make s w Leave) w worker_now good_now parked unowned in
+    let other : owns s w k ≡ false = false_from_ne_true (owns s w k) (λ own. false≢true (sym (good.parked_not_owned w k own) ∙ there k stands)) in
+    free_lock s w k other (open' k stands) in
+    let takes : can_all (make s w Leave) w (taken_again (reverse (holding_of s w).parked)) ≡ true = can_take_again (reverse (holding_of s w).parked) (make s w Leave) w worker_now good_now parked unowned open' in
     let later : holding_of (make_all (make s w Leave) w (taken_again (reverse (holding_of s w).parked))) w ≡ record { lease = (holding_of s w).lease; parked = []; blocked = false } =
     own_holding_all (make s w Leave) w (taken_again (reverse (holding_of s w).parked)) worker_now
     ∙ (after_again (holding_of (make s w Leave) w) (reverse (holding_of s w).parked) parked ∙ ap (λ (h : Holding). record h { parked = [] }) holding) in
@@ -221,10 +229,6 @@ can_take_up s w worker good blocked free =
     and_from (holding_of s w).blocked (can_all (make s w Leave) w (taken_again (reverse (holding_of s w).parked) ++ Take ∷ [])) blocked
     (can_all-append (make s w Leave) w (taken_again (reverse (holding_of s w).parked)) (Take ∷ [])
     ∙ and_from _ _ takes (and_from _ true leases refl))
-  where
-    left_of : (a b : Bool) → b ≡ false → (a || b) ≡ true → a ≡ true
-    left_of true b is h = refl
-    left_of false b is h = absurd (false≢true (sym is ∙ h))
 
 ends : (w : WorkerId) (o : Outcome) → (same_mark (Running w) (mark_from o) ≡ false) × (names_only (mark_from o) w ≡ true)
 ends w (outcomes.Number n) = (refl, refl)

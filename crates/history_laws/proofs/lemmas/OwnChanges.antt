@@ -2,7 +2,7 @@
 use Rattle.std.proofs.Common.{◌≡◌, ℕ, zero, suc, ◌+◌, ◌<◌, length, Bool, true, false, not, cond, ltb, lt-ltb, List, [], ◌∷◌, ◌++◌, map, get_or, set, Option, None, Some, refl, sym, ap, ◌∙◌, arith, append-nil}
 use Rattle.std.proofs.lemmas.Bool.{and_parts, eq-eqb, le-ltb}
 use Rattle.resource_lock.specs.Change.{can, can_all, make, make_all, holding_after, same_mark, names_only, NamesOnly}
-use Rattle.resource_lock.specs.StateView.{Holding, StateView, holding_of, has_parked, is_owner, owner_of, mark_of, runs_by, IsWorkerOf}
+use Rattle.resource_lock.specs.StateView.{Holding, StateView, holding_of, is_owner, owner_of, mark_of, runs_by, IsWorkerOf}
 use Rattle.resource_lock.specs.declared.changes.Change.{Change}
 use Rattle.resource_lock.specs.declared.changes.Change.TheVariants.{Lock, Unlock, Take, Give, Move, Park, Unpark, Enter, Leave}
 use Rattle.resource_lock.specs.declared.ids.LockId.{LockId}
@@ -12,9 +12,9 @@ use Rattle.resource_lock.specs.declared.marks.Mark.TheVariants.{Waiting}
 use Rattle.resource_lock.specs.declared.marks.MarkId.{MarkId}
 use Rattle.resource_lock.specs.declared.marks.MarkId.TheVariants.{Task as TaskOf, Action as ActionOf, Unit as UnitOf}
 use Rattle.std.specs.List.{AllByRecursion}
-use Rattle.resource_lock.proofs.lemmas.Counted.{moves}
+use Rattle.resource_lock.proofs.lemmas.Counted.{moves, none_owns}
 use Rattle.resource_lock.proofs.lemmas.Runs.{all_named_along, same_shape-make, worker_along}
-use Rattle.resource_lock.proofs.lemmas.Undo.{none_from, holding_now}
+use Rattle.resource_lock.proofs.lemmas.Undo.{holding_now}
 use Rattle.lock_transforms.specs.Table.{owned_from, owned}
 use Rattle.history_laws.specs.Own.{action_at, claimed, marks_in, places_from, task_at, unit_at}
 use Rattle.history_laws.specs.OwnChanges.{after_all, claimed_after, locks_after, lock_before, mark_before, with_if, with_member, without_if, without_member}
@@ -240,7 +240,7 @@ pub own_locks : (s : StateView) (w : WorkerId) (c : Change) → NamesOnly s c �
 own_locks s w (Lock l) named h =
     let mine : Option WorkerId → Bool = λ o. is_owner o w in
     let ps = places_from mine 0 s.owners in
-    let free : is_owner (owner_of s l) w ≡ false = ap mine (none_from (owner_of s l) (and_parts _ (not (has_parked s w l)) h).0) in
+    let free : is_owner (owner_of s l) w ≡ false = ap mine (none_owns s w l h) in
     owned_places 0 (set s.owners l.0 (Some w)) w
     ∙ (ap (map lock_at) (come_first mine (Some w) None l.0 s.owners named free (eq-eqb w.0 w.0 refl))
     ∙ (sym (more_last lock_before lock_at l.0 ps (λ j. refl)) ∙ ap (λ (ls : List LockId). with_member lock_before l ls) (sym (owned_places 0 s.owners w))))

@@ -4,8 +4,10 @@ use Rattle.std.specs.Fmt.{digit_glyph}
 use Rattle.std.specs.List.{flat_map}
 use Rattle.std.proofs.lemmas.Bool.{and_from, ne_eqb}
 use Rattle.lock_transforms.specs.Entry.{Entry}
-use Rattle.history_text.specs.Text.{mark_text, id_text, change_text, further_text, changes_text, effect_text, hex_text, value_behind, outcome_text, closed_text, kind_text, entry_text, parallel_text, end_text}
+use Rattle.history_text.specs.Text.{mark_text, id_text, change_text, further_text, changes_text, effect_text, hex_text, value_behind, outcome_text, closed_text, kind_text, entry_text, parallel_text, locks_text, end_text}
 use Rattle.history_reader.specs.Plain.{MarkId, TaskOf, ActionOf, UnitOf, Mark, Waiting, Queued, Running, Passed, Failed, Skipped, Change, Lock, Unlock, Take, Give, Move, Park, Unpark, Enter, Leave, Outcome, Number, Digest, NotThere, TooLong, Fault, NoMemory, NotRun, Closed, Kind, Start, Skip, Submit, ParkFor, Resume, Claim, Close, Block, Unblock, End, Acquire, HandBack}
+use Rattle.history_reader.specs.declared.heads.Version.{Version}
+use Rattle.history_reader.specs.declared.heads.Version.TheVariants.{One, Two}
 use Rattle.history_reader.specs.Lines.{is_unbroken, IsLine, first_line, second_line}
 use Rattle.history_reader.proofs.Digits.{all_of_decimal}
 use Rattle.history_reader.proofs.lemmas.Splits.{joined}
@@ -108,22 +110,29 @@ entry_line n e =
 pub end_line : (n : ℕ) → IsLine (end_text n)
 end_line n = record { front = codes "end " ++ decimal n; unbroken = behind_word (codes "end ") n refl; is = refl }
 
-pub first_is_line : IsLine first_line
-first_is_line = record { front = codes "history 1"; unbroken = refl; is = refl }
+pub first_is_line : (v : Version) → IsLine (first_line v)
+first_is_line One = record { front = codes "history 1"; unbroken = refl; is = refl }
+first_is_line Two = record { front = codes "history 2"; unbroken = refl; is = refl }
 
 parallel_unbroken : (p : Bool) → is_unbroken (parallel_text p) ≡ true
 parallel_unbroken true = refl
 parallel_unbroken false = refl
 
-pub second_is_line : (w m : ℕ) (p : Bool) → IsLine (second_line w m p)
-second_is_line w m p =
+locks_unbroken : (locks : Option ℕ) → is_unbroken (locks_text locks) ≡ true
+locks_unbroken None = refl
+locks_unbroken (Some l) = behind_word (codes " locks ") l refl
+
+pub second_is_line : (w m : ℕ) (p : Bool) (locks : Option ℕ) → IsLine (second_line w m p locks)
+second_is_line w m p locks =
     let workers : List ℕ = codes "workers " ++ decimal w in
     let leases : List ℕ = workers ++ codes " max " ++ decimal m in
+    let parallel : List ℕ = leases ++ codes " parallel " ++ parallel_text p in
     record {
-      front = codes "workers " ++ decimal w ++ codes " max " ++ decimal m ++ codes " parallel " ++ parallel_text p;
+      front = codes "workers " ++ decimal w ++ codes " max " ++ decimal m ++ codes " parallel " ++ parallel_text p ++ locks_text locks;
       unbroken =
-          joined (leases ++ codes " parallel ") (parallel_text p) (joined leases (codes " parallel ")
+          joined parallel (locks_text locks)
+          (joined (leases ++ codes " parallel ") (parallel_text p) (joined leases (codes " parallel ")
           (joined (workers ++ codes " max ") (decimal m) (joined workers (codes " max ") (behind_word (codes "workers ") w refl) refl) (number_unbroken m))
-          refl) (parallel_unbroken p);
+          refl) (parallel_unbroken p)) (locks_unbroken locks);
       is = refl;
     }

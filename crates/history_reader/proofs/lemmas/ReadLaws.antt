@@ -6,15 +6,16 @@ use Rattle.history_text.specs.Fitting.{EntryFits, EntriesFit}
 use Rattle.history_text.proofs.lemmas.Numbering.{numbered-append}
 use Rattle.history_reader.specs.declared.histories.History.{History}
 use Rattle.history_reader.specs.declared.fails.TextFail.{TextFail}
+use Rattle.history_reader.specs.declared.heads.Version.{Version}
 use Rattle.history_reader.specs.declared.fails.TextFail.TheVariants.{Stops, NoMemory}
 use Rattle.history_reader.specs.declared.histories.HistoryLine.{HistoryLine}
 use Rattle.history_reader.specs.declared.histories.HistoryLine.TheVariants as lines
 use Rattle.std.specs.Prelude.{IsErrAnd}
 use Rattle.history_reader.specs.HistoryView.{HistoryView, history_view}
-use Rattle.history_reader.specs.Lines.{BeginsWithLine, Opens, OpensNone, AddsEntry, Ends, StopsIt, TakesLine, first_line, second_line, next_number}
+use Rattle.history_reader.specs.Lines.{BeginsWithLine, IsNoFirst, Opens, OpensNone, AddsEntry, Ends, StopsIt, TakesLine, first_line, next_number}
 use Rattle.history_reader.specs.Grammar.{HistoryFits, IsHistoryText, StopsAt, IsReadFrom, GivesBack, head_of, lines_of, text_of}
 use Rattle.history_reader.proofs.lemmas.LineLaws.{entry_line}
-use Rattle.history_reader.proofs.lemmas.TextLaws.{text_parts, one_value, no_history, first_wrong, second_wrong, line_wrong, behind_end}
+use Rattle.history_reader.proofs.lemmas.TextLaws.{text_parts, head_parts, second_of, one_value, no_history, first_wrong, second_wrong, line_wrong, behind_end}
 
 -- the text is the lines of a history so far, and the rest
 pub record ReadSoFar (text : List ℕ) (h : HistoryView) (rest : List ℕ) : Type 0 where
@@ -75,27 +76,28 @@ shorter {rest} {line} {more} {h} {k} next added =
     let some : length line ≡ length whole.front + 1 = ap length (added.spelled ∙ whole.is) ∙ length-append whole.front (codes "\n") in
     omega arith
 
-pub opened_so_far : {text first second rest more : List ℕ} {h : HistoryView} → text ≡ first ++ rest → first ≡ first_line → rest ≡ second ++ more → Opens second h → ReadSoFar text h more
-opened_so_far {text} {first} {second} {rest} {more} {h} is one two opens =
-    let whole : text ≡ first_line ++ (second_line h.workers h.max h.parallel ++ more) = is ∙ (ap (λ l. l ++ rest) one ∙ ap (λ l. first_line ++ l) (two ∙ ap (λ l. l ++ more) opens.spelled)) in
-    let none : lines_of h ≡ head_of h = ap (λ es. head_of h ++ numbered entry_text 1 es) opens.no_entries ∙ append-nil (head_of h) in
+pub opened_so_far : (v : Version) {text first second rest more : List ℕ} {h : HistoryView} → text ≡ first ++ rest → first ≡ first_line v → rest ≡ second ++ more → Opens v second h → ReadSoFar text h more
+opened_so_far v {text} {first} {second} {rest} {more} {h} is one two opens =
+    let whole : text ≡ first_line v ++ (second_of h ++ more) = is ∙ (ap (λ l. l ++ rest) one ∙ ap (λ l. first_line v ++ l) (two ∙ ap (λ l. l ++ more) opens.spelled)) in
+    let head : text ≡ head_of h ++ more =
+    whole ∙ (ap (λ u. first_line u ++ (second_of h ++ more)) (sym opens.version) ∙ sym (head_parts h.workers h.max h.parallel h.locks more)) in
     record {
       fits = record { head = opens.fits; entries = subst EntriesFit (sym opens.no_entries) tt };
-      is = whole ∙ ap (λ l. l ++ more) (sym none);
+      is = head ∙ ap (λ l. l ++ more) (sym (append-nil (head_of h)) ∙ ap (λ es. head_of h ++ numbered entry_text 1 es) (sym opens.no_entries));
     }
 
-pub no_first : {text first rest : List ℕ} → BeginsWithLine text first rest → (first ≡ first_line → ⊥) → StopsAt text 0
+pub no_first : {text first rest : List ℕ} → BeginsWithLine text first rest → IsNoFirst first → StopsAt text 0
 no_first {text} {first} {rest} next other = subst (λ (t : List ℕ). StopsAt t 0) (sym next.is) (first_wrong first rest next.line_before other)
 
-pub no_second : {text first rest second more : List ℕ} → BeginsWithLine text first rest → first ≡ first_line → BeginsWithLine rest second more → OpensNone second → StopsAt text 0
-no_second {text} {first} {rest} {second} {more} next is behind none =
-    let whole : first_line ++ (second ++ more) ≡ text = sym (next.is ∙ (ap (λ l. l ++ rest) is ∙ ap (λ l. first_line ++ l) behind.is)) in
-    subst (λ (t : List ℕ). StopsAt t 0) whole (second_wrong second more behind.line_before none)
+pub no_second : (v : Version) {text first rest second more : List ℕ} → BeginsWithLine text first rest → first ≡ first_line v → BeginsWithLine rest second more → OpensNone v second → StopsAt text 0
+no_second v {text} {first} {rest} {second} {more} next is behind none =
+    let whole : first_line v ++ (second ++ more) ≡ text = sym (next.is ∙ (ap (λ l. l ++ rest) is ∙ ap (λ l. first_line v ++ l) behind.is)) in
+    subst (λ (t : List ℕ). StopsAt t 0) whole (second_wrong v second more behind.line_before none)
 
-pub opened : {text first rest second more : List ℕ} {h : HistoryView} → BeginsWithLine text first rest → first ≡ first_line → BeginsWithLine rest second more → Opens second h → ReadSoFar text h more
-opened next is behind opens = opened_so_far next.is is behind.is opens
+pub opened : (v : Version) {text first rest second more : List ℕ} {h : HistoryView} → BeginsWithLine text first rest → first ≡ first_line v → BeginsWithLine rest second more → Opens v second h → ReadSoFar text h more
+opened v next is behind opens = opened_so_far v next.is is behind.is opens
 
-pub opened_fits : {line : List ℕ} {h : HistoryView} → Opens line h → HistoryFits h
+pub opened_fits : {v : Version} {line : List ℕ} {h : HistoryView} → Opens v line h → HistoryFits h
 opened_fits opens = record { head = opens.fits; entries = subst EntriesFit (sym opens.no_entries) tt }
 
 pub read_opened : {text more : List ℕ} {h : HistoryView} (r : Result History TextFail) → ReadSoFar text h more → IsReadFrom (lines_of h ++ more) r → IsReadFrom text r

@@ -1,12 +1,15 @@
 -- The laws of whole texts: a text has one value, or one place at which it stops.
-use Rattle.std.proofs.Common.{◌≡◌, ◌≢◌, ℕ, ◌+◌, ◌<◌, ◌≤◌, suc, zero, List, [], ◌∷◌, ◌++◌, length, Option, Some, None, Bool, refl, sym, ap, subst, ◌∙◌, append_assoc, append-nil, arith, codes, inl, inr, ◌⊎◌}
+use Rattle.std.proofs.Common.{◌≡◌, ◌≢◌, ℕ, ◌+◌, ◌<◌, ◌≤◌, suc, zero, List, [], ◌∷◌, ◌++◌, length, get_or, nat_eq, Option, Some, None, Bool, refl, sym, ap, subst, ◌∙◌, append_assoc, append-nil, arith, codes, inl, inr, ◌⊎◌}
+use Rattle.std.proofs.lemmas.Bool.{true≢false}
 use Rattle.lock_transforms.specs.Entry.{Entry}
 use Rattle.history_text.specs.Text.{numbered, head_text, entry_text, end_text}
 use Rattle.history_text.specs.Fitting.{HeadFits, EntryFits, EntriesFit}
 use Rattle.history_reader.specs.declared.heads.Settings.{Settings}
+use Rattle.history_reader.specs.declared.heads.Version.{Version}
+use Rattle.history_reader.specs.declared.heads.Version.TheVariants.{One, Two}
 use Rattle.history_reader.specs.HistoryView.{HistoryView}
 use Rattle.history_reader.specs.Reading.{after, entry_at, settings_at}
-use Rattle.history_reader.specs.Lines.{IsLineBefore, IsWrongAfter, OpensNone, first_line, second_line, next_number}
+use Rattle.history_reader.specs.Lines.{IsLineBefore, IsNoFirst, IsWrongAfter, OpensNone, first_line, second_line, version_of, next_number}
 use Rattle.history_reader.specs.Grammar.{HistoryFits, IsHistoryText, StopsInHead, StopsBehind, StopsAt, head_of, lines_of, text_of}
 use Rattle.history_reader.proofs.Words.{some_is, none_some, after_again}
 use Rattle.history_reader.proofs.lemmas.Splits.{SameParts, same_line}
@@ -48,16 +51,39 @@ same_lines n (e ∷ es) (f ∷ fs) r s a b no_r no_s is =
     let more = same_lines (n + 1) es fs r s a.1 b.1 (subst (λ (k : ℕ). NoEntryAt k r) left no_r) (subst (λ (k : ℕ). NoEntryAt k s) right no_s) one.rest in
     record { value = ap (λ x. x ∷ es) one.value ∙ ap (λ l. f ∷ l) more.value; rest = more.rest }
 
-pub head_parts : (w m : ℕ) (p : Bool) (rest : List ℕ) → head_text w m p ++ rest ≡ first_line ++ (second_line w m p ++ rest)
-head_parts w m p rest = refl
+pub head_parts : (w m : ℕ) (p : Bool) (l : Option ℕ) (rest : List ℕ) → head_text w m p l ++ rest ≡ first_line (version_of l) ++ (second_line w m p l ++ rest)
+head_parts w m p None rest = refl
+head_parts w m p (Some l) rest = refl
 
-second_of_head : (text rest : List ℕ) (h : HistoryView) → first_line ++ text ≡ head_of h ++ rest → text ≡ second_line h.workers h.max h.parallel ++ rest
-second_of_head text rest h is = some_is (sym (after_again first_line text) ∙ (ap (after first_line) is ∙ after_again first_line (second_line h.workers h.max h.parallel ++ rest)))
+abbrev pub second_of : HistoryView → List ℕ
+second_of h = second_line h.workers h.max h.parallel h.locks
 
-same_head : (h k : HistoryView) (r s : List ℕ) → HeadFits h.workers h.max → HeadFits k.workers k.max → head_of h ++ r ≡ head_of k ++ s → SameRead (said h.workers h.max h.parallel) (said k.workers k.max k.parallel) r s
+-- the first lines of the versions differ in their ninth byte
+pub same_version : (v u : Version) → first_line v ≡ first_line u → v ≡ u
+same_version One One is = refl
+same_version One Two is = absurd (true≢false (ap (λ l. nat_eq (get_or l 8 0) 49) is))
+same_version Two One is = absurd (true≢false (ap (λ l. nat_eq (get_or l 8 0) 50) is))
+same_version Two Two is = refl
+
+-- the version is the history's, and its second line and this rest follow
+pub record SecondOf (v : Version) (text rest : List ℕ) (h : HistoryView) : Type 0 where
+  pub version : version_of h.locks ≡ v
+  pub behind : text ≡ second_of h ++ rest
+
+pub second_of_head : (v : Version) (text rest : List ℕ) (h : HistoryView) → first_line v ++ text ≡ head_of h ++ rest → SecondOf v text rest h
+second_of_head v text rest h is =
+    let parts = same_line (first_line v) text (first_line (version_of h.locks)) (second_of h ++ rest) (inl (first_is_line v)) (first_is_line (version_of h.locks)) (is ∙ head_parts h.workers h.max h.parallel h.locks rest) in
+    record { version = sym (same_version v (version_of h.locks) parts.front); behind = parts.rest }
+
+abbrev said_by : HistoryView → Settings
+said_by h = said h.workers h.max h.parallel h.locks
+
+same_head : (h k : HistoryView) (r s : List ℕ) → HeadFits h.workers h.max h.locks → HeadFits k.workers k.max k.locks → head_of h ++ r ≡ head_of k ++ s → SameRead (said_by h) (said_by k) r s
 same_head h k r s a b is =
-    let second : second_line h.workers h.max h.parallel ++ r ≡ second_line k.workers k.max k.parallel ++ s = second_of_head (second_line h.workers h.max h.parallel ++ r) s k is in
-    pair_is (sym (settings_again h.workers h.max h.parallel r a) ∙ (ap settings_at second ∙ settings_again k.workers k.max k.parallel s b))
+    let second = second_of_head (version_of h.locks) (second_of h ++ r) s k (sym (head_parts h.workers h.max h.parallel h.locks r) ∙ is) in
+    pair_is (sym (settings_again h.workers h.max h.parallel h.locks r a)
+    ∙ (ap (settings_at (version_of h.locks)) second.behind
+    ∙ (ap (λ v. settings_at v (second_of k ++ s)) (sym second.version) ∙ settings_again k.workers k.max k.parallel k.locks s b)))
 
 pub no_entry_at_end : (n m : ℕ) (more : List ℕ) → NoEntryAt n (end_text m ++ more)
 no_entry_at_end n m more e rest fits is = none_some (sym (end_is_no_entry n m more) ∙ (ap (entry_at n) is ∙ entry_again n e rest fits))
@@ -71,7 +97,7 @@ pub record SameLines (h k : HistoryView) (r s : List ℕ) : Type 0 where
   pub rest : r ≡ s
 
 abbrev put : Settings → List Entry → HistoryView
-put s es = record { workers = s.workers; max = s.max; parallel = s.parallel; entries = es }
+put s es = record { workers = s.workers; max = s.max; parallel = s.parallel; locks = s.locks; entries = es }
 
 pub same_from : (h k : HistoryView) (r s : List ℕ) → HistoryFits h → HistoryFits k → NoEntryAt (next_number h) r → NoEntryAt (next_number k) s → lines_of h ++ r ≡ lines_of k ++ s → SameLines h k r s
 same_from h k r s a b no_r no_s is =
@@ -80,7 +106,7 @@ same_from h k r s a b no_r no_s is =
     let left : length h.entries + 1 ≡ 1 + length h.entries = omega arith in
     let right : length k.entries + 1 ≡ 1 + length k.entries = omega arith in
     let lines = same_lines 1 h.entries k.entries r s a.entries b.entries (subst (λ (n : ℕ). NoEntryAt n r) left no_r) (subst (λ (n : ℕ). NoEntryAt n s) right no_s) heads.rest in
-    record { history = ap (λ x. put x h.entries) heads.value ∙ ap (put (said k.workers k.max k.parallel)) lines.value; rest = lines.rest }
+    record { history = ap (λ x. put x h.entries) heads.value ∙ ap (put (said_by k)) lines.value; rest = lines.rest }
 
 pub text_parts : (h : HistoryView) → text_of h ≡ lines_of h ++ end_text (length h.entries)
 text_parts h = refl
@@ -109,18 +135,20 @@ no_history text n h (inr a) b =
     let same = same_from a.before h a.rest (end_text (length h.entries)) a.fits b.fits (no_entry_behind text n a) (no_entry_is_end (next_number h) (length h.entries)) (sym a.is ∙ (b.is ∙ text_parts h)) in
     a.no_end (same.rest ∙ ap (λ k. end_text (length k.entries)) (sym same.history))
 
-pub first_wrong : (line more : List ℕ) → IsLineBefore line more → line ≢ first_line → StopsAt (line ++ more) 0
+pub first_wrong : (line more : List ℕ) → IsLineBefore line more → IsNoFirst line → StopsAt (line ++ more) 0
 first_wrong line more before other = inl (record {
   number = refl;
   no_head = λ h rest fits is.
-      other (same_line line more first_line (second_line h.workers h.max h.parallel ++ rest) before first_is_line is).front;
+      other (version_of h.locks) (same_line line more (first_line (version_of h.locks)) (second_of h ++ rest) before (first_is_line (version_of h.locks))
+      (is ∙ head_parts h.workers h.max h.parallel h.locks rest)).front;
 })
 
-pub second_wrong : (line more : List ℕ) → IsLineBefore line more → OpensNone line → StopsAt (first_line ++ (line ++ more)) 0
-second_wrong line more before other = inl (record {
+pub second_wrong : (v : Version) (line more : List ℕ) → IsLineBefore line more → OpensNone v line → StopsAt (first_line v ++ (line ++ more)) 0
+second_wrong v line more before other = inl (record {
   number = refl;
   no_head = λ h rest fits is.
-      other h.workers h.max h.parallel fits (same_line line more (second_line h.workers h.max h.parallel) rest before (second_is_line h.workers h.max h.parallel) (second_of_head (line ++ more) rest h is)).front;
+      let second = second_of_head v (line ++ more) rest h is in
+      other h.workers h.max h.parallel h.locks fits second.version (same_line line more (second_of h) rest before (second_is_line h.workers h.max h.parallel h.locks) second.behind).front;
 })
 
 pub line_wrong : (h : HistoryView) (line more : List ℕ) → HistoryFits h → IsLineBefore line more → IsWrongAfter h line → StopsAt (lines_of h ++ (line ++ more)) (next_number h)

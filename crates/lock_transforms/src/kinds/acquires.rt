@@ -24,10 +24,9 @@ pub enum Shortage {
 /// Takes locks, given in strictly rising order, and a lease: those of the locks that the worker
 /// doesn't own yet, and the lease where it has none. A worker that has them all makes no change.
 ///
-/// Another worker may own one of the locks, or the worker may have no lease while as many as may be
-/// are out. It then fails or asks to be run again, as `shortage` says. It asks to be run again where
-/// the worker is blocked or runs anything, where it has parked one of the locks, and where the graph
-/// has no such lock.
+/// The worker may be kept from one of the locks, or have no lease while as many as may be are out. It then fails or
+/// asks to be run again, as `shortage` says. It asks to be run again where the worker is blocked or runs anything,
+/// where it has parked one of the locks, and where the graph has no such lock.
 #[derive(Clone, Copy)]
 pub struct Acquire<'a> {
     /// The locks.

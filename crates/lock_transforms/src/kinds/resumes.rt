@@ -22,8 +22,8 @@ use resource_lock::{Change, Graph, LockId, Mark, MarkId, Retention, State, Worke
 /// Passed.
 ///
 /// It never fails. It asks to be run again where the worker isn't parked on the action, has a lease
-/// or runs a unit, where an item hasn't ended, where the lock is owned or no lease is free, and
-/// where the graph has no such action.
+/// or runs a unit, where an item hasn't ended, where the lock is owned or the worker is kept from it, where
+/// no lease is free, and where the graph has no such action.
 #[derive(Clone, Copy)]
 pub struct Resume {
     /// The action's number.

@@ -15,8 +15,8 @@ use resource_lock::{Change, Graph, Mark, MarkId, State, WorkerId};
 /// Starts a task that is Waiting and comes after passed tasks only: the worker takes the task's lock
 /// and a lease, and the task's mark becomes Running.
 ///
-/// It fails where the task isn't such a one, where the worker isn't idle, and where the lock is
-/// owned or no lease is free. It asks to be run again only where the graph has no such task.
+/// It fails where the task isn't such a one, where the worker isn't idle, and where somebody owns a lock
+/// that conflicts with the task's, or no lease is free. It asks to be run again only where the graph has no such task.
 #[derive(Clone, Copy)]
 pub struct Start {
     /// The task's number.

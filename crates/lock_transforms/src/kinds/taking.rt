@@ -10,8 +10,8 @@ use resource_lock::LockId;
 /// Takes locks in order, each where the worker doesn't own it yet, and then a lease, where it has
 /// none. It takes no memory.
 ///
-/// It answers whether all could be taken: false exactly where another worker owns one of the locks,
-/// or the worker has no lease and as many as may be are out. Exactly what comes before the first that
+/// It answers whether all could be taken: false exactly where the worker is kept from one of the locks,
+/// or it has no lease and as many as may be are out. Exactly what comes before the first that
 /// couldn't be taken is then taken.
 pub fn take_all(work: &mut Tentative, locks: &[LockId]) -> bool
     requires in_range { All (IsLockOf work.old.state) locks.now }
@@ -24,6 +24,8 @@ pub fn take_all(work: &mut Tentative, locks: &[LockId]) -> bool
     ensures lease { result ≡ true → (holding_of work.new.state work.new.worker).lease ≡ true }
     ensures taken { Makes work.old work.new (all_taken work.old.state work.old.worker locks.now) result }
 {
+    // The state is a good one, so nobody is kept from a lock of its own.
+    let _ = work.state();
     for lock in locks {
         if !work.lock(*lock) {
             return false;

@@ -25,8 +25,8 @@ use resource_lock::{Change, Graph, MAX_LOCKS, Mark, MarkId, State, WorkerId};
 /// first, and then a lease. Where the section was for a fetch, the fetch's mark becomes Passed or
 /// Failed by its outcome.
 ///
-/// It never fails. It asks to be run again where the worker isn't blocked, where one of the locks is
-/// owned or no lease is free, where the worker runs a unit other than the fetch, and where the graph
+/// It never fails. It asks to be run again where the worker isn't blocked, where it is kept from one of
+/// the locks or no lease is free, where the worker runs a unit other than the fetch, and where the graph
 /// has no such unit or the outcome is Skipped.
 #[derive(Clone, Copy)]
 pub struct Unblock {

@@ -8,7 +8,7 @@ use Rattle.std.proofs.lemmas.List.{length-set}
 use Rattle.resource_lock.proofs.lemmas.Lists.{one_if, count_by-set}
 use Rattle.resource_lock.proofs.lemmas.Undo.{same_mark_is, none_from, owner_from}
 use Rattle.resource_lock.proofs.lemmas.Others.{not_running}
-use Rattle.resource_lock.specs.StateView.{StateView, owner_of, is_owner, mark_of, has_parked, runs_by}
+use Rattle.resource_lock.specs.StateView.{StateView, owner_of, kept_from, is_owner, mark_of, has_parked, runs_by}
 use Rattle.resource_lock.specs.Change.{same_mark, names_only, can, make, NamesOnly}
 use Rattle.resource_lock.specs.Counting.{counts_of}
 use Rattle.resource_lock.specs.Holdings.{runs, counts_after, recounted, CanRecount}
@@ -76,8 +76,11 @@ moves s w m from to h =
     record { at = same_mark_is (mark_of s m) from (and_parts (same_mark (mark_of s m) from) (not (same_mark from to)) second.0).0; from_own = second.1; to_own = first.1 }
 
 -- the owner of a lock before it is taken, and before it is given back
+pub none_owns : (s : StateView) (w : WorkerId) (l : LockId) → can s w (Lock l) ≡ true → owner_of s l ≡ None
+none_owns s w l h = none_from (owner_of s l) (and_parts (is_none (owner_of s l)) (not (kept_from s w l)) (and_parts (is_none (owner_of s l) && not (kept_from s w l)) (not (has_parked s w l)) h).0).0
+
 nobody : (s : StateView) (v w : WorkerId) (l : LockId) → can s w (Lock l) ≡ true → is_owner (owner_of s l) v ≡ false
-nobody s v w l h = ap (λ o. is_owner o v) (none_from (owner_of s l) (and_parts (is_none (owner_of s l)) (not (has_parked s w l)) h).0)
+nobody s v w l h = ap (λ o. is_owner o v) (none_owns s w l h)
 
 -- what the worker's own change leaves of its counts
 pub own_counts : (s : StateView) (w : WorkerId) (c : Change) → NamesOnly s c → can s w c ≡ true → counts_of (make s w c) w ≡ counts_after w (counts_of s w) c

@@ -5,9 +5,10 @@ use Rattle.std.proofs.lemmas.Bool.{or_cases, false≢true, true_from_ne_false, o
 use Rattle.std.proofs.lemmas.List.{get_or-set_same, get_or_push, length_push, length-set}
 use Rattle.std.proofs.lemmas.Option.{slice_get-get_or}
 use Rattle.std.proofs.lemmas.List.Folds.{list_any-append}
+use Rattle.resource_lock.proofs.lemmas.Alone.{alone_locked, free_again, owned_before}
 use Rattle.resource_lock.proofs.lemmas.Lists.{get_or-set_cases, count_by-set, one_if, list_any-take_false, each_once-push, each_once-front}
 use Rattle.resource_lock.proofs.lemmas.Undo.{same_worker, same_lock, same_mark_is, holding_now, last_from}
-use Rattle.resource_lock.specs.StateView.{StateView, Holding, empty_holding, holding_of, owner_of, owns, is_owner, leases_out, mark_of, stands_in, has_parked, each_once, IsWorkerOf, IsLockOf, IsMarkOf}
+use Rattle.resource_lock.specs.StateView.{StateView, Holding, empty_holding, holding_of, owner_of, owns, is_owner, is_all, kept_from, leases_out, mark_of, stands_in, has_parked, each_once, IsWorkerOf, IsLockOf, IsMarkOf}
 use Rattle.resource_lock.specs.Change.{same_mark, names_only, is_lock, stands_last, without_last, can, make, holding_after, inverse_of, with_holding, with_owner, with_mark, NamesOnly}
 use Rattle.resource_lock.specs.Good.{Good}
 use Rattle.resource_lock.specs.declared.ids.LockId.{LockId}
@@ -37,6 +38,7 @@ record IsFit (s : StateView) (w : WorkerId) (h : Holding) : Type 0 where
 good_holding : (s : StateView) (w : WorkerId) (h : Holding) → Good s → IsFit s w h → Good (with_holding s w h)
 good_holding s w h g fit = record {
   few_leases = fit.few;
+  all_alone = g.all_alone;
   parked_not_owned = λ v l owned. elim (get_or-set_cases s.holdings w.0 v.0 h empty_holding) [
     | inl at ↦ ap (λ x. stands_in l x.parked) at.1 ∙ fit.not_owned l (ap (λ x. owns s x l) (sym (same_worker v w at.0)) ∙ owned)
     | inr off ↦ ap (λ x. stands_in l x.parked) off ∙ g.parked_not_owned v l owned
@@ -55,9 +57,10 @@ good_holding s w h g fit = record {
   ];
 }
 
-good_owner : (s : StateView) (l : LockId) (o : Option WorkerId) → Good s → ((v : WorkerId) → is_owner o v ≡ true → has_parked s v l ≡ false) → Good (with_owner s l o)
-good_owner s l o g free = record {
+good_owner : (s : StateView) (l : LockId) (o : Option WorkerId) → Good s → ((v : WorkerId) → is_owner o v ≡ true → has_parked s v l ≡ false) → ((v u : WorkerId) (a k : LockId) → is_all s a ≡ true → owns (with_owner s l o) v a ≡ true → owns (with_owner s l o) u k ≡ true → v.0 ≡ u.0) → Good (with_owner s l o)
+good_owner s l o g free alone = record {
   few_leases = g.few_leases;
+  all_alone = alone;
   parked_not_owned = λ v k owned. elim (get_or-set_cases s.owners l.0 k.0 o None) [
     | inl at ↦ ap (λ x. has_parked s v x) (same_lock k l at.0) ∙ free v (ap (λ x. is_owner x v) (sym at.1) ∙ owned)
     | inr off ↦ g.parked_not_owned v k (ap (λ x. is_owner x v) (sym off) ∙ owned)
@@ -68,9 +71,9 @@ good_owner s l o g free = record {
 }
 
 good_mark : (s : StateView) (m : MarkId) (a : Mark) → Good s → Good (with_mark s m a)
-good_mark s (TaskOf t) a g = record { few_leases = g.few_leases; parked_not_owned = g.parked_not_owned; parked_once = g.parked_once; parked_locks = g.parked_locks; blocked_no_lease = g.blocked_no_lease }
-good_mark s (ActionOf t) a g = record { few_leases = g.few_leases; parked_not_owned = g.parked_not_owned; parked_once = g.parked_once; parked_locks = g.parked_locks; blocked_no_lease = g.blocked_no_lease }
-good_mark s (UnitOf t) a g = record { few_leases = g.few_leases; parked_not_owned = g.parked_not_owned; parked_once = g.parked_once; parked_locks = g.parked_locks; blocked_no_lease = g.blocked_no_lease }
+good_mark s (TaskOf t) a g = record { few_leases = g.few_leases; all_alone = g.all_alone; parked_not_owned = g.parked_not_owned; parked_once = g.parked_once; parked_locks = g.parked_locks; blocked_no_lease = g.blocked_no_lease }
+good_mark s (ActionOf t) a g = record { few_leases = g.few_leases; all_alone = g.all_alone; parked_not_owned = g.parked_not_owned; parked_once = g.parked_once; parked_locks = g.parked_locks; blocked_no_lease = g.blocked_no_lease }
+good_mark s (UnitOf t) a g = record { few_leases = g.few_leases; all_alone = g.all_alone; parked_not_owned = g.parked_not_owned; parked_once = g.parked_once; parked_locks = g.parked_locks; blocked_no_lease = g.blocked_no_lease }
 
 -- one more parked lock
 stands_in-push : (l k : LockId) (locks : List LockId) → stands_in l locks ≡ false → eqb k.0 l.0 ≡ false → stands_in l (locks ++ k ∷ []) ≡ false
@@ -85,9 +88,11 @@ stands_in-pushed l k locks h = elim (or_cases (stands_in l locks) (eqb k.0 l.0 |
 
 pub kept : (s : StateView) (w : WorkerId) (c : Change) → IsWorkerOf s w → NamesOnly s c → Good s → can s w c ≡ true → Good (make s w c)
 kept s w (Lock l) within named g h =
-    let absent : has_parked s w l ≡ false = not-true (has_parked s w l) (and_parts (is_none (owner_of s l)) (not (has_parked s w l)) h).1 in
-    good_owner s l (Some w) g (λ v e. ap (λ x. has_parked s x l) (sym (same_worker w v (eqb-true w.0 v.0 e))) ∙ absent)
-kept s w (Unlock l) within named g h = good_owner s l None g (λ v e. cc)
+    let parts : ((is_none (owner_of s l) && not (kept_from s w l)) ≡ true) × (not (has_parked s w l) ≡ true) = and_parts (is_none (owner_of s l) && not (kept_from s w l)) (not (has_parked s w l)) h in
+    let absent : has_parked s w l ≡ false = not-true (has_parked s w l) parts.1 in
+    let open_ : kept_from s w l ≡ false = not-true (kept_from s w l) (and_parts (is_none (owner_of s l)) (not (kept_from s w l)) parts.0).1 in
+    good_owner s l (Some w) g (λ v e. ap (λ x. has_parked s x l) (sym (same_worker w v (eqb-true w.0 v.0 e))) ∙ absent) (alone_locked s w l g.all_alone open_)
+kept s w (Unlock l) within named g h = good_owner s l None g (λ v e. cc) (λ v u a k is first second. g.all_alone v u a k is (owned_before s l v a first) (owned_before s l u k second))
 kept s w Take within named g h =
     let parts : ((not (holding_of s w).lease && not (holding_of s w).blocked) ≡ true) × (ltb (leases_out s) s.max_leases ≡ true) = and_parts (not (holding_of s w).lease && not (holding_of s w).blocked) (ltb (leases_out s) s.max_leases) h in
     let two : (not (holding_of s w).lease ≡ true) × (not (holding_of s w).blocked ≡ true) = and_parts (not (holding_of s w).lease) (not (holding_of s w).blocked) parts.0 in
@@ -173,7 +178,8 @@ stands_in-last l locks = list_any-append (λ x. eqb x.0 l.0) locks (l ∷ []) �
 pub can_back : (s : StateView) (w : WorkerId) (c : Change) → IsWorkerOf s w → NamesOnly s c → Good s → can s w c ≡ true → can (make s w c) w (inverse_of c) ≡ true
 can_back s w (Lock l) within named g h = ap (λ o. is_owner o w) (get_or-set_same s.owners l.0 (Some w) None named) ∙ eq-eqb w.0 w.0 refl
 can_back s w (Unlock l) within named g h =
-    and_from (is_none (owner_of (make s w (Unlock l)) l)) (not (has_parked s w l)) (ap is_none (get_or-set_same s.owners l.0 None None named)) (not_from_false (has_parked s w l) (g.parked_not_owned w l h))
+    let free : (is_none (owner_of (make s w (Unlock l)) l) && not (kept_from (make s w (Unlock l)) w l)) ≡ true = and_from (is_none (owner_of (make s w (Unlock l)) l)) (not (kept_from (make s w (Unlock l)) w l)) (ap is_none (get_or-set_same s.owners l.0 None None named)) (not_from_false (kept_from (make s w (Unlock l)) w l) (free_again s w l named g.all_alone h)) in
+    and_from (is_none (owner_of (make s w (Unlock l)) l) && not (kept_from (make s w (Unlock l)) w l)) (not (has_parked s w l)) free (not_from_false (has_parked s w l) (g.parked_not_owned w l h))
 can_back s w Take within named g h = ap (λ x. x.lease) (holding_now s w (holding_after (holding_of s w) Take) within)
 can_back s w Give within named g h =
     let now : holding_of (make s w Give) w ≡ holding_after (holding_of s w) Give = holding_now s w (holding_after (holding_of s w) Give) within in

@@ -5,7 +5,7 @@ use Rattle.std.proofs.lemmas.Bool.{and_parts, eqb-true, ne_eqb}
 use Rattle.std.proofs.lemmas.List.{get_or-set_other}
 use Rattle.resource_lock.proofs.lemmas.Lists.{get_or-set_cases}
 use Rattle.resource_lock.proofs.lemmas.Undo.{same_lock, same_mark_is, none_from, owner_from}
-use Rattle.resource_lock.specs.StateView.{StateView, Holding, empty_holding, holding_of, owner_of, owns, is_owner, mark_of, has_parked, runs_by}
+use Rattle.resource_lock.specs.StateView.{StateView, Holding, empty_holding, holding_of, owner_of, owns, kept_from, is_owner, mark_of, has_parked, runs_by}
 use Rattle.resource_lock.specs.Change.{same_mark, names_only, can, make, holding_after, with_holding}
 use Rattle.resource_lock.specs.declared.ids.LockId.{LockId}
 use Rattle.resource_lock.specs.declared.ids.WorkerId.{WorkerId}
@@ -65,7 +65,7 @@ moved_others s v w (UnitOf t) from to other is old new = record {
 -- a change of worker v keeps what worker w has
 pub others_keep : (s : StateView) (v w : WorkerId) (c : Change) → (w.0 ≡ v.0 → ⊥) → can s v c ≡ true → SameFor w s (make s v c)
 others_keep s v w (Lock l) other h =
-    let free : owner_of s l ≡ None = none_from (owner_of s l) (and_parts (is_none (owner_of s l)) (not (has_parked s v l)) h).0 in
+    let free : owner_of s l ≡ None = none_from (owner_of s l) (and_parts (is_none (owner_of s l)) (not (kept_from s v l)) (and_parts (is_none (owner_of s l) && not (kept_from s v l)) (not (has_parked s v l)) h).0).0 in
     record {
       holding = refl;
       owns = λ k. elim (get_or-set_cases s.owners l.0 k.0 (Some v) None) [

@@ -19,21 +19,21 @@ use Rattle.resource_lock.specs.declared.changes.Change.{Change}
 use Rattle.resource_lock.specs.declared.changes.Change.TheVariants.{Lock, Unlock, Take, Give, Move, Park, Unpark, Enter, Leave}
 
 same_shape-refl : (s : StateView) → SameShape s s
-same_shape-refl s = record { max_leases = refl; locks = refl; workers = refl; tasks = refl; actions = refl; units = refl }
+same_shape-refl s = record { max_leases = refl; all = refl; locks = refl; workers = refl; tasks = refl; actions = refl; units = refl }
 
 pub same_shape-trans : (a b c : StateView) → SameShape a b → SameShape b c → SameShape a c
-same_shape-trans a b c x y = record { max_leases = x.max_leases ∙ y.max_leases; locks = x.locks ∙ y.locks; workers = x.workers ∙ y.workers; tasks = x.tasks ∙ y.tasks; actions = x.actions ∙ y.actions; units = x.units ∙ y.units }
+same_shape-trans a b c x y = record { max_leases = x.max_leases ∙ y.max_leases; all = x.all ∙ y.all; locks = x.locks ∙ y.locks; workers = x.workers ∙ y.workers; tasks = x.tasks ∙ y.tasks; actions = x.actions ∙ y.actions; units = x.units ∙ y.units }
 
 shape_holding : (s : StateView) (w : WorkerId) (c : Change) → SameShape s (with_holding s w (holding_after (holding_of s w) c))
-shape_holding s w c = record { max_leases = refl; locks = refl; workers = sym (length-set s.holdings w.0 (holding_after (holding_of s w) c)); tasks = refl; actions = refl; units = refl }
+shape_holding s w c = record { max_leases = refl; all = refl; locks = refl; workers = sym (length-set s.holdings w.0 (holding_after (holding_of s w) c)); tasks = refl; actions = refl; units = refl }
 
 -- a change keeps which locks, workers and marks there are
 pub same_shape-make : (s : StateView) (w : WorkerId) (c : Change) → SameShape s (make s w c)
-same_shape-make s w (Lock l) = record { max_leases = refl; locks = sym (length-set s.owners l.0 _); workers = refl; tasks = refl; actions = refl; units = refl }
-same_shape-make s w (Unlock l) = record { max_leases = refl; locks = sym (length-set s.owners l.0 _); workers = refl; tasks = refl; actions = refl; units = refl }
-same_shape-make s w (Move (TaskOf t) a b) = record { max_leases = refl; locks = refl; workers = refl; tasks = sym (length-set s.tasks t b); actions = refl; units = refl }
-same_shape-make s w (Move (ActionOf t) a b) = record { max_leases = refl; locks = refl; workers = refl; tasks = refl; actions = sym (length-set s.actions t b); units = refl }
-same_shape-make s w (Move (UnitOf t) a b) = record { max_leases = refl; locks = refl; workers = refl; tasks = refl; actions = refl; units = sym (length-set s.units t b) }
+same_shape-make s w (Lock l) = record { max_leases = refl; all = refl; locks = sym (length-set s.owners l.0 _); workers = refl; tasks = refl; actions = refl; units = refl }
+same_shape-make s w (Unlock l) = record { max_leases = refl; all = refl; locks = sym (length-set s.owners l.0 _); workers = refl; tasks = refl; actions = refl; units = refl }
+same_shape-make s w (Move (TaskOf t) a b) = record { max_leases = refl; all = refl; locks = refl; workers = refl; tasks = sym (length-set s.tasks t b); actions = refl; units = refl }
+same_shape-make s w (Move (ActionOf t) a b) = record { max_leases = refl; all = refl; locks = refl; workers = refl; tasks = refl; actions = sym (length-set s.actions t b); units = refl }
+same_shape-make s w (Move (UnitOf t) a b) = record { max_leases = refl; all = refl; locks = refl; workers = refl; tasks = refl; actions = refl; units = sym (length-set s.units t b) }
 same_shape-make s w Take = shape_holding s w Take
 same_shape-make s w Give = shape_holding s w Give
 same_shape-make s w (Park l) = shape_holding s w (Park l)
@@ -94,11 +94,11 @@ kept_all s w (c ∷ cs) worker named good h =
 
 -- a state with the same locks, workers and marks is one of the same graph
 pub belongs_along : (g : GraphView) (s t : StateView) → SameShape s t → BelongsTo g s → BelongsTo g t
-belongs_along g s t same b = record { max_leases = sym same.max_leases ∙ b.max_leases; locks = sym same.locks ∙ b.locks; workers = sym same.workers ∙ b.workers; tasks = sym same.tasks ∙ b.tasks; actions = sym same.actions ∙ b.actions; units = sym same.units ∙ b.units }
+belongs_along g s t same b = record { max_leases = sym same.max_leases ∙ b.max_leases; all = sym same.all ∙ b.all; locks = sym same.locks ∙ b.locks; workers = sym same.workers ∙ b.workers; tasks = sym same.tasks ∙ b.tasks; actions = sym same.actions ∙ b.actions; units = sym same.units ∙ b.units }
 
 -- the state that a run begins in is one of its graph
 pub belongs_opening : (g : GraphView) → BelongsTo g (opening_of g)
-belongs_opening g = record { max_leases = refl; locks = length-replicate g.locks None; workers = length-replicate g.workers empty_holding; tasks = length-replicate (length g.tasks) Waiting; actions = length-replicate (length g.actions) Waiting; units = length-replicate g.units Waiting }
+belongs_opening g = record { max_leases = refl; all = refl; locks = length-replicate g.locks None; workers = length-replicate g.workers empty_holding; tasks = length-replicate (length g.tasks) Waiting; actions = length-replicate (length g.actions) Waiting; units = length-replicate g.units Waiting }
 
 pub worker_from : (g : GraphView) (s : StateView) (w : WorkerId) → BelongsTo g s → w.0 < g.workers → IsWorkerOf s w
 worker_from g s w b h = omega (arith, b.workers)
@@ -138,4 +138,4 @@ last_taken_back s t w cs c worker good named possible is =
     }
 
 pub same_shape-sym : (a b : StateView) → SameShape a b → SameShape b a
-same_shape-sym a b x = record { max_leases = sym x.max_leases; locks = sym x.locks; workers = sym x.workers; tasks = sym x.tasks; actions = sym x.actions; units = sym x.units }
+same_shape-sym a b x = record { max_leases = sym x.max_leases; all = sym x.all; locks = sym x.locks; workers = sym x.workers; tasks = sym x.tasks; actions = sym x.actions; units = sym x.units }

@@ -5,7 +5,7 @@ use Rattle.std.specs.List.{slice_get}
 use Rattle.std.proofs.lemmas.Bool.{and_parts, not-true, eqb-true}
 use Rattle.std.proofs.lemmas.List.{get_or-set_same, take_at, length_push}
 use Rattle.resource_lock.proofs.lemmas.Lists.{set_back, last_back}
-use Rattle.resource_lock.specs.StateView.{StateView, Holding, empty_holding, holding_of, owner_of, is_owner, leases_out, mark_of, has_parked, IsWorkerOf}
+use Rattle.resource_lock.specs.StateView.{StateView, Holding, empty_holding, holding_of, owner_of, kept_from, is_owner, leases_out, mark_of, has_parked, IsWorkerOf}
 use Rattle.resource_lock.specs.Change.{same_mark, names_only, is_lock, stands_last, without_last, can, make, holding_after, inverse_of, with_holding, with_owner, with_mark}
 use Rattle.resource_lock.specs.declared.ids.LockId.{LockId}
 use Rattle.resource_lock.specs.declared.ids.WorkerId.{WorkerId}
@@ -76,7 +76,7 @@ without_last-push locks l = take_at locks (l ∷ []) (length (locks ++ l ∷ [])
 
 -- What a worker's change made, its inverse takes back.
 pub undone : (s : StateView) (w : WorkerId) (c : Change) → IsWorkerOf s w → can s w c ≡ true → make (make s w c) w (inverse_of c) ≡ s
-undone s w (Lock l) within h = owner_back s l (Some w) None (none_from (owner_of s l) (and_parts (is_none (owner_of s l)) (not (has_parked s w l)) h).0)
+undone s w (Lock l) within h = owner_back s l (Some w) None (none_from (owner_of s l) (and_parts (is_none (owner_of s l)) (not (kept_from s w l)) (and_parts (is_none (owner_of s l) && not (kept_from s w l)) (not (has_parked s w l)) h).0).0)
 undone s w (Unlock l) within h = owner_back s l None (Some w) (owner_from (owner_of s l) w h)
 undone s w Take within h =
     let first : (not (holding_of s w).lease && not (holding_of s w).blocked) ≡ true = (and_parts _ (ltb (leases_out s) s.max_leases) h).0 in

@@ -19,7 +19,11 @@ impl State {
     {
         let held = &self.held[worker.0 as usize];
         match change {
-            Change::Lock(lock) => self.owner(lock).is_none() && !self.has_parked(worker, lock),
+            Change::Lock(lock) => {
+                self.owner(lock).is_none()
+                    && !self.kept_from(worker, lock)
+                    && !self.has_parked(worker, lock)
+            },
             Change::Unlock(lock) => self.owns(worker, lock),
             Change::Take => !held.lease && !held.blocked && self.out < self.max_leases,
             Change::Give => held.lease,
@@ -44,8 +48,14 @@ impl State {
     {
         self.held[worker.0 as usize].note(worker, change);
         match change {
-            Change::Lock(lock) => self.owners[lock.0 as usize] = Some(worker),
-            Change::Unlock(lock) => self.owners[lock.0 as usize] = None,
+            Change::Lock(lock) => {
+                self.owners[lock.0 as usize] = Some(worker);
+                self.owned += 1;
+            }
+            Change::Unlock(lock) => {
+                self.owners[lock.0 as usize] = None;
+                self.owned -= 1;
+            }
             Change::Take => self.out += 1,
             Change::Give => self.out -= 1,
             Change::Move(id, _, to) => self.marks.set(id, to),

@@ -25,9 +25,11 @@ impl State {
         let held = empty_holdings(alloc, graph.locks() as usize, graph.workers() as usize)?;
         Ok(State {
             max_leases: graph.max_leases(),
+            all: graph.all(),
             owners,
             held,
             out: 0,
+            owned: 0,
             marks,
         })
     }

@@ -57,8 +57,8 @@ impl State {
             && !self.runs_any(worker)
     }
 
-    // What a worker has, counted. A number of no worker has nothing.
-    fn counts(&self, worker: WorkerId) -> Counts
+    /// What a worker has, counted. A number of no worker has nothing.
+    pub(super) fn counts(&self, worker: WorkerId) -> Counts
         ensures { result ≡ counts_of self.now worker }
     {
         match self.held.get(worker.0 as usize) {

@@ -9,8 +9,8 @@ use crate::changes::Change;
 use crate::ids::{LockId, WorkerId};
 
 impl State {
-    /// Takes a lock that nobody owns, and answers whether the worker owns it now. Where another worker
-    /// owns it nothing changes. The worker hasn't parked it.
+    /// Takes a lock that nobody owns, and answers whether the worker owns it now. Where the worker is
+    /// kept from the lock nothing changes. The worker hasn't parked it.
     pub fn try_lock(&mut self, worker: WorkerId, lock: LockId) -> bool
         requires worker_in_range { IsWorkerOf self.old worker }
         requires lock_in_range { IsLockOf self.old lock }
@@ -18,13 +18,13 @@ impl State {
         ensures answer { result ≡ can_own self.old worker lock }
         ensures state { self.new ≡ locked self.old worker lock }
     {
-        match self.owner(lock) {
-            Some(owner) => owner.0 == worker.0,
-            None => {
-                self.make(worker, Change::Lock(lock));
-                true
-            }
+        if self.kept_from(worker, lock) {
+            return false;
         }
+        if self.owner(lock).is_none() {
+            self.make(worker, Change::Lock(lock));
+        }
+        true
     }
 
     /// Takes a lease where the worker has none and one is left, and answers whether the worker has one

@@ -25,6 +25,7 @@ loop-preserved g c =
       fails_then first c.choose.new.pass.sight c.carry_out.new.pass.sight mine c.loop.mine c.carry_out.new.mine (asked.closed.worker ∙ inv.2.keeps.worker)
           (fails_then first c.loop.pass.sight c.choose.new.pass.sight mine c.loop.mine c.loop.mine inv.2.keeps.worker inv.5 (fails_not c.loop.mine asked.closed))
           (of_ok c.carry_out.result c.in_ok-carry_out.field-0 was part.failed),
+      part.watched,
     )
 
 pub returns-in_err-carry_out-clause-step : goal.returns-in_err-carry_out-clause-step

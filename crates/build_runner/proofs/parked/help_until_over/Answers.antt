@@ -41,6 +41,7 @@ loop-preserved g c =
       fails_then first c.ask.new.pass.sight c.help_if_found.new.pass.sight mine c.loop.mine c.help_if_found.new.mine (closed.worker ∙ inv.2.keeps.worker)
           (fails_then first c.loop.pass.sight c.ask.new.pass.sight mine c.loop.mine c.loop.mine inv.2.keeps.worker inv.5 (fails_not c.loop.mine closed))
           (of_ok c.help_if_found.result c.in_ok-help_if_found-in-Pop.field-0 was c.help_if_found.ensures.failed),
+      c.help_if_found.ensures.watched,
     )
 
 pub returns-in_err-help_if_found-in-Pop-clause-step : goal.returns-in_err-help_if_found-in-Pop-clause-step

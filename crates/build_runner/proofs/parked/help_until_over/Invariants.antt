@@ -4,6 +4,7 @@ use Rattle.item_work.specs.Tallying.{ReservesForEach}
 use Rattle.build_runner.specs.Desks.{desk_view}
 use Rattle.build_runner.specs.Failing.{FailsForEach}
 use Rattle.build_runner.specs.Steps.{Steps}
+use Rattle.build_runner.specs.Watching.{IsWatched}
 use Rattle.build_runner.proofs.parked.help_until_over.Given as goal
 
 abbrev pub invariant-loop : goal.invariant-loop
@@ -13,3 +14,4 @@ invariant-loop g l =
     × ShowsTheSame l.initial.pass.sight l.pass.sight
     × ReservesForEach (g.D.Desk.sends l.initial.desk) (g.D.Desk.sends l.desk) l.initial.mine l.mine
     × FailsForEach l.initial.pass.sight l.pass.sight l.initial.mine l.mine
+    × IsWatched l.site l.kit

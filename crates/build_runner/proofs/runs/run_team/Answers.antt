@@ -2,11 +2,14 @@ use Rattle.std.proofs.Common.{◌≡◌, ℕ, ◌+◌, ◌<◌, ◌≤◌, List,
 use Rattle.std.specs.List.{All}
 use Rattle.std.specs.Prelude.{sum_by}
 use Rattle.std.proofs.lemmas.List.{take_at}
+use Rattle.std.proofs.lemmas.List.Elements.{All-map}
 use Rattle.std.specs.declared.alloc.Global.{Global}
 use Rattle.coordination.specs.Passes.{PassView}
 use Rattle.build_runner.specs.Desks.{desk_view}
 use Rattle.build_runner.specs.Failing.{unreal_seen}
 use Rattle.build_runner.specs.Team.{CanWork}
+use Rattle.build_runner.specs.Watching.{IsWatched}
+use Rattle.build_runner.specs.declared.kits.Kit.{Kit}
 use Rattle.build_runner.specs.declared.team.Worker.{Worker}
 use Rattle.build_runner.proofs.Failing.{failed_of}
 use Rattle.coordination.proofs.lemmas.Numbered.{of_each}
@@ -67,3 +70,17 @@ returns-clause-failed g c = λ is.
     let begun = ap (λ (l : List W). sum_by (λ (w : W). w.tally.failed) l) c.as_mut_slice.ensures.value in
     let gone = ap (λ (l : List W). sum_by (λ (w : W). w.tally.failed) l) back in
     omega (arith, all, before, after, begun, gone, c.seat.ensures.failed, c.part.ensures.failed)
+
+pub work-requires-clause-watched : goal.work-requires-clause-watched
+work-requires-clause-watched g c κs within =
+    let W : Type 0 = Worker g.row.D.Denot g.row.U.Denot g.row.F.Denot in
+    let is : Kit → Type 0 = IsWatched c.args.site.now in
+    subst (λ (ws : List W). All (λ w. is w.kit) ws) (sym c.as_mut_slice.ensures.value) (of_each {W = W} (λ w. w.kit) is c.seat.new.team.items c.args.kits.now.items (c.seat.ensures.kits ∙ ap (λ (v : Vec Kit Global). v.items) c.replace-3.ensures.value) c.requires.watched)
+
+pub returns-clause-watched : goal.returns-clause-watched
+returns-clause-watched g c =
+    let W : Type 0 = Worker g.row.D.Denot g.row.U.Denot g.row.F.Denot in
+    let new : List W = c.work.new.team in
+    let is : Kit → Type 0 = IsWatched c.args.site.now in
+    let back = take_at new (drop (length new) c.seat.new.team.items) c.seat.new.team.len (c.work.ensures.len ∙ c.as_mut_slice.ensures.len) in
+    subst (λ (ks : List Kit). All is ks) (sym (c.part.ensures.kits ∙ ap (λ (l : List W). map (λ w. w.kit) l) back)) (All-map is (λ (w : W). w.kit) new c.work.ensures.watched)

@@ -16,6 +16,7 @@ loop-action-preserved g c =
       omega (arith, run.reserved, c.loop-action.invariant.2),
       fails_then c.args.pass.now.sight c.loop-action.pass.sight c.run_action.new.pass.sight c.args.mine.now c.loop-action.mine c.run_action.new.mine c.loop-action.invariant.0.keeps.worker c.loop-action.invariant.3
           (of_ok c.run_action.result c.in_ok-run_action.field-0 c.in_ok-run_action.was run.failed),
+      run.watched,
     )
 
 pub returns-in_err-run_action-clause-step : goal.returns-in_err-run_action-clause-step

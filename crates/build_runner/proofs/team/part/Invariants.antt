@@ -10,6 +10,8 @@ invariant-loop-worker g l =
     × (l.desks.items ≡ map (λ w. w.desk) l.yielded)
     × (vec_len l.passes + into_iter_len l.worker-iterator ≤ vec_capacity l.passes)
     × (vec_len l.desks + into_iter_len l.worker-iterator ≤ vec_capacity l.desks)
+    × (l.kits.items ≡ map (λ w. w.kit) l.yielded)
+    × (vec_len l.kits + into_iter_len l.worker-iterator ≤ vec_capacity l.kits)
     × (vec_capacity l.desks ≡ vec_capacity l.initial.desks)
     × (l.tallies.parts ≡ l.initial.tallies.parts + length l.yielded)
     × (l.tallies.reserved ≡ l.initial.tallies.reserved + sum_by (λ w. w.tally.reserved) l.yielded)

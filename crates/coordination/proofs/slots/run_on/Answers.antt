@@ -1,4 +1,6 @@
-use Rattle.std.proofs.Common.{rules, subst}
+use Rattle.std.proofs.Common.{rules, subst, sym}
+use Rattle.lock_journal.specs.BookView.{BookView}
+use Rattle.coordination.specs.Parts.{Follows, HasListRoom, IsPartOf, marks_of}
 use Rattle.lock_transforms.specs.declared.entries.Kind.{Kind}
 use Rattle.coordination.specs.Endings.{EndsHold, has_entered, stance_after}
 use Rattle.coordination.proofs.Tries.{follows, ran_of}
@@ -9,21 +11,23 @@ follow-requires g c =
     let T = g.T.Transform in
     let t = c.args.transform.now in
     let e = c.run-ran.ensures in
+    let B = g.K.Keeper.book_of in
     let r = c.requires in (
-      c.args.book.now,
-      follows (T.kind_of t) (T.makes t) (T.fails_on t) (T.retries_on t) c.args.worker c.args.book.now c.run-ran.new.self c.run-ran.result c.args.part.now r.sound e.graph
-          (ran_of (T.kind_of t) (T.makes t) (T.fails_on t) (T.retries_on t) c.args.worker c.args.book.now c.run-ran.new.self c.run-ran.result e.finished e.failed e.retry (λ x is. search rules)) r.kept r.room,
+      B c.args.keeper.now,
+      subst (λ (b : BookView). Follows c.args.worker (B c.args.keeper.now) b c.run-ran.result c.args.part.now) (sym c.book-book.ensures) (follows (T.kind_of t) (T.makes t) (T.fails_on t) (T.retries_on t) c.args.worker (B c.args.keeper.now) (B c.run-ran.new.self) c.run-ran.result c.args.part.now r.sound e.graph
+          (ran_of (T.kind_of t) (T.makes t) (T.fails_on t) (T.retries_on t) c.args.worker (B c.args.keeper.now) (B c.run-ran.new.self) c.run-ran.result e.finished e.failed e.retry (λ x is. search rules)) r.kept r.room),
     )
 
-pub returns : goal.returns
-returns g c =
+pub returns-clause-run : goal.returns-clause-run
+returns-clause-run g c =
     let T = g.T.Transform in
     let t = c.args.transform.now in
-    let e = c.run-ran.ensures in record {
+    let e = c.run-ran.ensures in
+    let B = g.K.Keeper.book_of in record {
       graph = e.graph;
-      ran = ran_of (T.kind_of t) (T.makes t) (T.fails_on t) (T.retries_on t) c.args.worker c.args.book.now c.run-ran.new.self c.run-ran.result e.finished e.failed e.retry (λ x is. search rules);
-      kept = c.follow.ensures.part;
-      room = c.follow.ensures.room;
-      ends = subst (λ (kind : Kind). EndsHold c.run-ran.new.self c.args.worker (stance_after c.args.sleepers.now.promised kind c.run-ran.result) (has_entered c.run-ran.result) c.args.sleepers.now
-          c.end_transform-wakes.new.self c.end_transform-wakes.result) c.kind.ensures c.end_transform-wakes.ensures;
+      ran = ran_of (T.kind_of t) (T.makes t) (T.fails_on t) (T.retries_on t) c.args.worker (B c.args.keeper.now) (B c.run-ran.new.self) c.run-ran.result e.finished e.failed e.retry (λ x is. search rules);
+      kept = subst (λ (b : BookView). IsPartOf b c.args.worker c.follow.new.self) c.book-book.ensures c.follow.ensures.part;
+      room = subst (λ (b : BookView). HasListRoom b.graph.locks (marks_of b.graph) c.follow.new.self) c.book-book.ensures c.follow.ensures.room;
+      ends = subst (λ (p : Kind × BookView). EndsHold p.1 c.args.worker (stance_after c.args.sleepers.now.promised p.0 c.run-ran.result) (has_entered c.run-ran.result) c.args.sleepers.now
+          c.end_transform-wakes.new.self c.end_transform-wakes.result) (λ i. (c.kind.ensures i, c.book-book.ensures i)) c.end_transform-wakes.ensures;
     }

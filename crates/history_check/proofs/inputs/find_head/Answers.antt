@@ -1,5 +1,4 @@
-use Rattle.std.proofs.Common.{◌≡◌, ◌+◌, ◌<◌, length, arith, sym, ◌∙◌}
-use Rattle.std.proofs.lemmas.Bool.{false≢true}
+use Rattle.std.proofs.Common.{◌≡◌, ◌+◌, ◌<◌, length, arith}
 use Rattle.history_check.specs.Checking.{unread}
 use Rattle.history_check.proofs.Rooms.{less_by_line, line_has_some, room_behind_first}
 use Rattle.history_check.proofs.Steps.{handed_on_before, fails_before, not_found, passed_over, cut_there, whole_there}
@@ -10,16 +9,16 @@ returns-in_err-is_whole-clause-head g c =
     handed_on_before (g.I.Source.seen c.args.input.now) (g.I.Source.seen c.take_line.new.input) c.take_line.new.self c.from_residual.result _ c.from_residual.ensures.1
     (fails_before (g.I.Source.seen c.args.input.now) (g.I.Source.seen c.loop-is_whole.input) (g.I.Source.seen c.take_line.new.input) c.loop-is_whole.lines _ c.loop-is_whole.invariant.taken c.in_err-is_whole.ensures)
 
-pub returns-then-is_first_line-clause-room : goal.returns-then-is_first_line-clause-room
-returns-then-is_first_line-clause-room g c =
-    room_behind_first c.loop-is_whole.lines c.take_line.new.self c.line.result.now c.in_ok-is_whole.ensures.0 c.in_ok-is_whole.ensures.2 c.loop-is_whole.invariant.room c.line.ensures
-    (c.is_first_line.ensures.0 c.if-is_first_line.true)
+pub returns-in-Some-clause-room : goal.returns-in-Some-clause-room
+returns-in-Some-clause-room g c =
+    room_behind_first c.in-Some.version c.loop-is_whole.lines c.take_line.new.self c.line.result.now c.in_ok-is_whole.ensures.0 c.in_ok-is_whole.ensures.2 c.loop-is_whole.invariant.room c.line.ensures
+    c.in-Some.ensures.some
 
 pub returns-then-not-is_whole-clause-head : goal.returns-then-not-is_whole-clause-head
 returns-then-not-is_whole-clause-head g c =
     not_found c.line.result.now c.loop-is_whole.invariant.taken c.in_ok-is_whole.ensures.0
     (cut_there (g.I.Source.seen c.take_line.new.input).left c.take_line.new.self c.in_ok-is_whole.is_whole c.if-not-is_whole.true c.in_ok-is_whole.ensures.1)
-    c.line.ensures (λ is. false≢true (sym c.if-is_first_line.false ∙ c.is_first_line.ensures.1 is))
+    c.line.ensures c.in_default.ensures.none
 
 pub loop-is_whole-smaller : goal.loop-is_whole-smaller
 loop-is_whole-smaller g c =
@@ -34,7 +33,7 @@ loop-is_whole-preserved g c =
     record {
       taken = passed_over c.line.result.now c.loop-is_whole.invariant.taken c.in_ok-is_whole.ensures.0
           (whole_there (g.I.Source.seen c.take_line.new.input).left c.take_line.new.self c.in_ok-is_whole.is_whole c.if-not-is_whole.false c.in_ok-is_whole.ensures.1)
-          c.line.ensures (λ is. false≢true (sym c.if-is_first_line.false ∙ c.is_first_line.ensures.1 is));
+          c.line.ensures c.in_default.ensures.none;
       ahead = c.in_ok-is_whole.ensures.2.ahead;
       room = omega (arith, left, c.loop-is_whole.invariant.room);
     }

@@ -4,10 +4,10 @@ use Rattle.history_reader.proofs.SettingsLaws.{whole_settings, more_than_setting
 use Rattle.history_reader.proofs.heads.read_settings_line.Goals as goal
 
 pub returns-in_default-clause-none : goal.returns-in_default-clause-none
-returns-in_default-clause-none c = no_settings c.args.line.now c.in_default.ensures
+returns-in_default-clause-none c = no_settings c.args.version c.args.line.now c.in_default.ensures
 
 pub returns-then-is_empty-clause-some : goal.returns-then-is_empty-clause-some
-returns-then-is_empty-clause-some c = whole_settings c.args.line.now c.in-Some.rest.now c.in-Some.settings c.in-Some.ensures (nil_from c.in-Some.rest.now (sym c.is_empty.ensures ∙ c.if-is_empty.true))
+returns-then-is_empty-clause-some c = whole_settings c.args.version c.args.line.now c.in-Some.rest.now c.in-Some.settings c.in-Some.ensures (nil_from c.in-Some.rest.now (sym c.is_empty.ensures ∙ c.if-is_empty.true))
 
 pub returns-else-is_empty-clause-none : goal.returns-else-is_empty-clause-none
-returns-else-is_empty-clause-none c = more_than_settings c.args.line.now c.in-Some.rest.now c.in-Some.settings c.in-Some.ensures (not_nil c.in-Some.rest.now (sym c.is_empty.ensures ∙ c.if-is_empty.false))
+returns-else-is_empty-clause-none c = more_than_settings c.args.version c.args.line.now c.in-Some.rest.now c.in-Some.settings c.in-Some.ensures (not_nil c.in-Some.rest.now (sym c.is_empty.ensures ∙ c.if-is_empty.false))

@@ -42,7 +42,7 @@ returns-in-Err-NoCommand-clause-complete g c = λ d. no_command_complete _ _ (no
 -- ---- there was no memory to read the words
 
 pub returns-in-Err-NoMemory-clause-answer : goal.returns-in-Err-NoMemory-clause-answer
-returns-in-Err-NoMemory-clause-answer g c = λ d. no_memory_answered _ _ _ _ _ (ap book_of c.without_run.ensures.book) c.without_run.ensures.status
+returns-in-Err-NoMemory-clause-answer g c = λ d. no_memory_answered _ _ _ _ _ _ (ap book_of c.without_run.ensures.book) c.without_run.ensures.status
 
 pub returns-in-Err-NoMemory-clause-complete : goal.returns-in-Err-NoMemory-clause-complete
 returns-in-Err-NoMemory-clause-complete g c = λ d. no_memory_complete _ _ (ap book_of c.without_run.ensures.book) c.without_run.ensures.status (returns-in-Err-NoMemory-clause-answer g c d)

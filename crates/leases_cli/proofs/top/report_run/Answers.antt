@@ -17,11 +17,12 @@ returns-clause-status g c = λ before after run.
     let plan = c.args.plan.now in
     let b = c.args.end.book.value in
     let events = c.report.result.events.items in
+    let watch = c.report.result.watch.items in
     let old = g.O.Sink.seen c.args.out.now in
     let new = g.O.Sink.seen c.report.new.out in
     let status = c.report.result.status in
     let laws = c.results_go_by_number.ensures in
-    subst (λ (passed : Bool). IsReported passed old new (run_text asked plan known b events) status) (same_pass plan (options_of asked) before after b run known refl)
+    subst (λ (passed : Bool). IsReported passed old new (run_text asked plan known b events watch) status) (same_pass plan (options_of asked) before after b run known refl)
     (subst (λ (text : List ℕ). IsReported (have_all_passed b) old new text status)
-    (same_text plan (options_of asked) before after b run known refl asked events c.outcomes_go_by_number.ensures laws.results laws.summary (subst (λ (k : BookView). Fits k.graph) c.deref.ensures c.graph.ensures.fits))
+    (same_text plan (options_of asked) before after b run known refl asked events watch c.outcomes_go_by_number.ensures laws.results laws.summary (subst (λ (k : BookView). Fits k.graph) c.deref.ensures c.graph.ensures.fits))
     c.report.ensures.status)

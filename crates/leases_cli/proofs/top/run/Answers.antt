@@ -1,7 +1,9 @@
-use Rattle.std.proofs.Common.{◌≤◌, Vec, length, ap, arith, refl, sym, ◌∙◌}
+use Rattle.std.proofs.Common.{◌≤◌, Vec, length, ap, arith, refl, subst, sym, ◌∙◌}
 use Rattle.std.specs.declared.alloc.Global.{Global}
 use Rattle.daemon_manager.specs.Counts.{failures, reservations}
 use Rattle.daemon_manager.specs.declared.events.Event.{Event}
+use Rattle.run_watch.specs.declared.boards.Watch.{Watch}
+use Rattle.build_runner.specs.Watching.{IsWatchedRun}
 use Rattle.build_runner.specs.Desks.{DeskView, desk_view, desks_view}
 use Rattle.build_runner.proofs.lemmas.KnownFiles.{still_alike}
 use Rattle.build_runner.proofs.lemmas.Within.{asked_nothing, broken_within, run_within}
@@ -60,9 +62,10 @@ returns-in-Ok-run_plan-clause-answer g c = λ d source.
     let few : asked.threads ≤ length c.read_first.new.desks.items = omega (arith, c.requires.bounds.few_threads, c.requires.desks, c.read_first.ensures.places) in
     let reserved = first_sent view c.args.desks.now.items c.read_first.new.desks.items c.run_plan.new.desks.items d asked.threads count few (omega (arith, few, c.run_plan.ensures.places))
     c.run_plan.ensures.rest (λ i. c.read_first.ensures.sent i d) c.in-Ok-run_plan.ensures.reserved in
-    let kept = ap (λ (v : Vec Event Global). reservations v.items) c.report_run.ensures.kept in
-    let lost = ap (λ (v : Vec Event Global). failures v.items) c.report_run.ensures.kept in
-    reported_answers asked call plan b (ap book_of c.report_run.ensures.book) (record { named = c.in-Ok.ensures.plan d; run = run; reserved = omega (arith, reserved, kept); failed = omega (arith, c.in-Ok-run_plan.ensures.failed, lost) }) (c.report_run.ensures.status first after run)
+    let kept = ap (λ (v : Vec Event Global). reservations v.items) c.report_run.ensures.kept.0 in
+    let lost = ap (λ (v : Vec Event Global). failures v.items) c.report_run.ensures.kept.0 in
+    let watch = subst (λ (v : Vec Watch Global). IsWatchedRun (options_of asked) b v.items) (sym c.report_run.ensures.kept.1) c.in-Ok-run_plan.ensures.watch in
+    reported_answers asked call plan b (ap book_of c.report_run.ensures.book) (record { named = c.in-Ok.ensures.plan d; run = run; reserved = omega (arith, reserved, kept); failed = omega (arith, c.in-Ok-run_plan.ensures.failed, lost); watch = watch }) (c.report_run.ensures.status first after run)
 
 pub returns-clause-answer : goal.returns-clause-answer
 returns-clause-answer g c = λ d source.

@@ -2,6 +2,7 @@ use Rattle.std.proofs.Common.{◌≡◌, ◌++◌, ◌∷◌, [], ◌∙◌, map
 use Rattle.std.proofs.lemmas.List.{map-append}
 use Rattle.std.specs.List.{each_same}
 use Rattle.resource_lock.specs.GraphView.{graph_view}
+use Rattle.plan_reader.specs.Graph.{task_lock}
 use Rattle.plan_reader.proofs.GraphSteps.{few_at, outlined, next_task}
 use Rattle.plan_reader.proofs.graphs.graph_tasks.Goals as goal
 
@@ -22,8 +23,8 @@ loop-task-preserved c =
     let long : c.len-actions.result ≡ length c.task-item.result.actions.items = c.len-actions.ensures ∙ c.task-item.result.actions.ok.0 in
     let pushed =
     ap (map graph_view) c.in_ok-push.ensures.items ∙ map-append graph_view c.loop-task.made.items _
-    ∙ ap (λ o. map graph_view c.loop-task.made.items ++ o ∷ []) (outlined c.args.parallel c.task-item.result _ _ c.loop-task.first_action _ c.project_lock.ensures (each_same _ _ c.in_ok-clone.ensures.cases.0) long) in
+    ∙ ap (λ o. map graph_view c.loop-task.made.items ++ o ∷ []) (outlined (task_lock c.args.all c.args.parallel) c.task-item.result _ _ c.loop-task.first_action _ c.task_lock.ensures (each_same _ _ c.in_ok-clone.ensures.cases.0) long) in
     let low = c.loop-task.invariant.1 in (
-      rw long (next_task c.args.parallel c.loop-task.first_action _ _ _ c.args.tasks.now c.loop-task.task-index c.task-item.result c.loop-task-test.true c.task-item.is pushed c.loop-task.invariant.0),
+      rw long (next_task (task_lock c.args.all c.args.parallel) c.loop-task.first_action _ _ _ c.args.tasks.now c.loop-task.task-index c.task-item.result c.loop-task-test.true c.task-item.is pushed c.loop-task.invariant.0),
       omega (arith, few, low, long),
     )

@@ -4,4 +4,4 @@ use Rattle.run_picture.specs.Heads.{desc_text}
 use Rattle.run_picture.proofs.sheets.write_settings.Goals as goal
 
 pub returns : goal.returns
-returns g c = adds_as (ap₂ (λ (w m : ℕ). desc_text w m c.args.history.now.parallel) c.from-workers.ensures c.from-max.ensures) c.write_desc.ensures
+returns g c = adds_as (ap₂ (λ (w m : ℕ). desc_text w m c.args.history.now.parallel c.args.history.now.locks) c.from-workers.ensures c.from-max.ensures) c.write_desc.ensures

@@ -2,6 +2,7 @@ use Rattle.std.proofs.Common.{◌∙◌, List, ap, sym, subst, take, ◌+◌}
 use Rattle.file_access.proofs.lemmas.Counting.{fault_rises}
 use Rattle.resource_lock.specs.GraphView.{GraphView}
 use Rattle.shared_services.specs.Services.{AreServices}
+use Rattle.shared_services.specs.Takings.{HasTheLocks}
 use Rattle.service_jobs.specs.Worked.{HasRun}
 use Rattle.service_jobs.specs.declared.jobs.Job.{Job}
 use Rattle.service_jobs.specs.declared.jobs.JobDone.{JobDone}
@@ -13,7 +14,7 @@ pub run_job-requires-clause-may : goal.run_job-requires-clause-may
 run_job-requires-clause-may g c =
     let r = c.loop-job.invariant.2 in
     record {
-      locks = ap (λ (h : GraphView). h.locks) r.graph ∙ c.requires.ready.locks;
+      locks = subst (HasTheLocks c.args.table.now) (sym r.graph) c.requires.ready.locks;
       rests = r.rests;
       services = subst (λ (j : Job). AreServices c.args.table.now j.uses.items) (sym c.job-item.is) (c.requires.services c.loop-job.job-index c.job-item.result c.loop-job-test.true);
     }

@@ -25,14 +25,14 @@ loop-handle-preserved c =
     let passes : c.push_reserved.new.self.items ≡ map (λ (h : Handle). h.held.worker.pass) (take (i + 1) hs) =
     map_more (λ (h : Handle). h.held.worker.pass) hs c.loop-handle.passes.items c.push_reserved.new.self.items i item c.into_inner-service.result.pass low inv.0 c.push_reserved.ensures.items pass_is in
     let all = c.requires.service.1 in
-    let same = sym (all i item low) ∙ (ap (λ (p : PassView). p.service) (sym pass_is) ∙ c.into_inner-service.result.own) in (
+    let same = sym (all i item low) ∙ (ap (λ (p : PassView). p.service.table) (sym pass_is) ∙ c.into_inner-service.result.own) in (
       passes,
       omega (arith, inv.1, c.push_reserved.ensures.capacity),
       all_more (λ (h : Handle). h.full ≡ false) c.loop-handle.handles i c.take.new.self there inv.2 c.take.ensures.empty,
       same_behind c.loop-handle.handles hs i c.take.new.self inv.3,
-      subst (λ (t : TableId). All (λ (p : PassView). p.service ≡ t) c.push_reserved.new.self.items) same
-          (subst (All (λ (p : PassView). p.service ≡ c.requires.service.0)) (sym passes)
-          (all_front (λ (h : Handle). h.held.worker.pass) (λ (p : PassView). p.service ≡ c.requires.service.0) hs (i + 1) all)),
+      subst (λ (t : TableId). All (λ (p : PassView). p.service.table ≡ t) c.push_reserved.new.self.items) same
+          (subst (All (λ (p : PassView). p.service.table ≡ c.requires.service.0)) (sym passes)
+          (all_front (λ (h : Handle). h.held.worker.pass) (λ (p : PassView). p.service.table ≡ c.requires.service.0) hs (i + 1) all)),
       (λ n are. ap (λ w. w.workers) (c.into_inner-service.ensures ∙ c.take.ensures.worker)
           ∙ (ap (λ (h : Handle). h.held.worker.workers) (same_at c.loop-handle.handles hs i item inv.3) ∙ are i item low)),
       tt,

@@ -9,4 +9,10 @@ pub owner-requires : goal.owner-requires
 owner-requires c =
     let within = subst (λ (g : GraphView). c.args.task < length g.tasks) (sym c.graph.ensures.value) c.requires in
     let read = task_read c.tasks.result.now c.args.task c.tasks.ensures.fits c.tasks.ensures.value within c.index-tasks-task.is in
-    omega (arith, read.lock, ap (λ (t : GraphTask). t.lock.0) c.index-tasks-task.is, ap (λ (g : GraphView). g.locks) c.graph.ensures.value, c.state.ensures.belongs.locks, ap (λ (s : StateView). length s.owners) c.state.ensures.value)
+    omega (arith, read.lock, ap (λ (t : GraphTask). t.lock.0) c.index-tasks-task.is, ap (λ (g : GraphView). g.locks) c.graph.ensures.value, c.state-state.ensures.belongs.locks, ap (λ (s : StateView). length s.owners) c.state-state.ensures.value)
+
+pub kept_from-requires : goal.kept_from-requires
+kept_from-requires c =
+    let within = subst (λ (g : GraphView). c.args.task < length g.tasks) (sym c.graph.ensures.value) c.requires in
+    let read = task_read c.tasks.result.now c.args.task c.tasks.ensures.fits c.tasks.ensures.value within c.index-tasks-task.is in
+    omega (arith, read.lock, ap (λ (t : GraphTask). t.lock.0) c.index-tasks-task.is, ap (λ (g : GraphView). g.locks) c.graph.ensures.value, c.state-state.ensures.belongs.locks, ap (λ (s : StateView). length s.owners) c.state-state.ensures.value)

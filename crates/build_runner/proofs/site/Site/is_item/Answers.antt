@@ -1,7 +1,6 @@
 use Rattle.std.proofs.Common.{Some, ap, length, refl, subst, ◌∙◌}
 use Rattle.std.proofs.lemmas.Option.{slice_get_read}
 use Rattle.async_tracker.specs.Shows.{IsItemHere}
-use Rattle.plan_reader.specs.PlanView.{work_view}
 use Rattle.build_runner.specs.Site.{SiteView}
 use Rattle.build_runner.proofs.PlannedItems.{item_here}
 use Rattle.build_runner.proofs.site.Site.is_item.Goals as goal

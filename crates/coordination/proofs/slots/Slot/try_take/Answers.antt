@@ -7,5 +7,5 @@ use Rattle.coordination.proofs.Moves.{takes_it}
 use Rattle.coordination.proofs.slots.Slot.try_take.Goals as goal
 
 pub swap-requires : goal.swap-requires
-swap-requires c = let n = c.args.self.now.table.shared.key.book.value.graph in let slots = c.args.self.now.table.shared.table_id.slots in let id = c.args.seat.now.id in
-    (search rules, search rules, subst (λ (m : M). Allows (Orderly n) slots id m 0 (λ _. 1) (taken (step slots 0 1 0 none) m)) (sym c.requires.lone) (takes_it n slots id (sight_of c.args.seat.now.me.0)))
+swap-requires g c = let n = c.args.self.now.table.shared.key.kept.value.book.graph in let slots = c.args.self.now.table.shared.table_id.slots in let id = c.args.seat.now.id in
+    (search rules, search rules, subst (λ (m : M). Allows (Orderly n) slots id m 0 (λ _. 1) (taken (step slots 0 1 0 none) m)) (sym c.requires.lone) (takes_it n c.args.seat.now.me.0.ledger slots id (sight_of c.args.seat.now.me.0)))

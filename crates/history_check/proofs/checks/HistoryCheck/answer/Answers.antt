@@ -8,4 +8,4 @@ use Rattle.history_check.proofs.checks.HistoryCheck.answer.Goals as goal
 pub returns : goal.returns
 returns g c =
     let same : c.args.self.now ≡ c.self.inside.entries = search rules in
-    subst (λ (v : CheckView). (p : PlanView) (h : HistoryView) → IsCheckOf p h v → IsVerdict v.graph h.entries c.answer.result) (sym same) c.answer.ensures
+    subst (λ (v : CheckView). (p : PlanView) (h : HistoryView) → IsCheckOf p h v → IsVerdict v.graph h.locks h.entries c.answer.result) (sym same) c.answer.ensures

@@ -19,7 +19,7 @@ lock-requires-clause-room c = omega (arith, room_left c.args.locks.now c.loop-lo
 
 stopped : (c : goal.Then-not-lock) → Makes c.args.work.now c.lock.new.self (all_taken c.args.work.now.state c.args.work.now.worker c.args.locks.now) false
 stopped c = stopped_at c.args.locks.now (c.loop-lock.lock-index + 1)
-    (next_lock c.args.locks.now c.loop-lock.lock-index _ c.loop-lock-test.true c.loop-lock.invariant
+    (next_lock c.args.locks.now c.loop-lock.lock-index _ c.loop-lock-test.true c.loop-lock.invariant c.lock.ensures.good.all_alone
     (still_named (Lock (get_or c.args.locks.now c.loop-lock.lock-index (record { 0 = 0 }))) c.loop-lock.invariant (c.requires.in_range c.loop-lock.lock-index _ c.loop-lock-test.true))
     (ap (λ (h : Holding). stands_in (get_or c.args.locks.now c.loop-lock.lock-index (record { 0 = 0 })) h.parked) (holding_taken (take c.loop-lock.lock-index c.args.locks.now) c.loop-lock.invariant) ∙ c.requires.not_parked c.loop-lock.lock-index _ c.loop-lock-test.true)
     (omega (arith, room_left c.args.locks.now c.loop-lock.lock-index (omega (arith, c.loop-lock-test.true)) c.loop-lock.invariant c.requires.room))
@@ -27,13 +27,13 @@ stopped c = stopped_at c.args.locks.now (c.loop-lock.lock-index + 1)
 
 pub returns-then-not-lock-clause-answer : goal.returns-then-not-lock-clause-answer
 returns-then-not-lock-clause-answer c = makes_answer (stopped c)
-    ∙ can_all_taken c.args.work.now.state c.args.work.now.worker c.args.locks.now (recursion_from_All (λ l. has_parked c.args.work.now.state c.args.work.now.worker l ≡ false) c.args.locks.now c.requires.not_parked) c.requires.not_blocked
+    ∙ can_all_taken c.args.work.now.state c.args.work.now.worker c.args.locks.now c.state.ensures.good.all_alone (recursion_from_All (λ l. has_parked c.args.work.now.state c.args.work.now.worker l ≡ false) c.args.locks.now c.requires.not_parked) c.requires.not_blocked
 
 pub returns-then-not-lock-clause-taken : goal.returns-then-not-lock-clause-taken
 returns-then-not-lock-clause-taken c = stopped c
 
 pub loop-lock-preserved : goal.loop-lock-preserved
-loop-lock-preserved c = next_lock c.args.locks.now c.loop-lock.lock-index _ c.loop-lock-test.true c.loop-lock.invariant
+loop-lock-preserved c = next_lock c.args.locks.now c.loop-lock.lock-index _ c.loop-lock-test.true c.loop-lock.invariant c.lock.ensures.good.all_alone
     (still_named (Lock (get_or c.args.locks.now c.loop-lock.lock-index (record { 0 = 0 }))) c.loop-lock.invariant (c.requires.in_range c.loop-lock.lock-index _ c.loop-lock-test.true))
     (ap (λ (h : Holding). stands_in (get_or c.args.locks.now c.loop-lock.lock-index (record { 0 = 0 })) h.parked) (holding_taken (take c.loop-lock.lock-index c.args.locks.now) c.loop-lock.invariant) ∙ c.requires.not_parked c.loop-lock.lock-index _ c.loop-lock-test.true)
     (omega (arith, room_left c.args.locks.now c.loop-lock.lock-index (omega (arith, c.loop-lock-test.true)) c.loop-lock.invariant c.requires.room))
@@ -53,7 +53,7 @@ whole c = then_lease c.args.locks.now c.loop-lock.lock-index (omega (arith, c.lo
 
 pub returns-clause-answer : goal.returns-clause-answer
 returns-clause-answer c = makes_answer (whole c)
-    ∙ can_all_taken c.args.work.now.state c.args.work.now.worker c.args.locks.now (recursion_from_All (λ l. has_parked c.args.work.now.state c.args.work.now.worker l ≡ false) c.args.locks.now c.requires.not_parked) c.requires.not_blocked
+    ∙ can_all_taken c.args.work.now.state c.args.work.now.worker c.args.locks.now c.state.ensures.good.all_alone (recursion_from_All (λ l. has_parked c.args.work.now.state c.args.work.now.worker l ≡ false) c.args.locks.now c.requires.not_parked) c.requires.not_blocked
 
 pub returns-clause-taken : goal.returns-clause-taken
 returns-clause-taken c = whole c

@@ -7,8 +7,8 @@ use Rattle.resource_lock.proofs.graphs.Graph.fits.Goals.{then-numbers_fit, else-
 pub returns-then-tasks_fit : goal.returns-then-tasks_fit
 returns-then-tasks_fit c = elim c.if-numbers_fit.branch [
   | then-numbers_fit w ↦ (
-    λ ranges. fits_from _ _ _ _ _ (c.numbers_fit.ensures.0 w.if-numbers_fit.true) (w.tasks_fit.ensures.0 (sym w.value-is ∙ c.if-tasks_fit.true)) (c.ranges_fit.ensures.0 ranges),
-    λ fits. c.ranges_fit.ensures.1 (ranges_of _ _ _ _ _ fits),
+    λ ranges. fits_from _ _ _ _ _ _ (c.numbers_fit.ensures.0 w.if-numbers_fit.true) (w.tasks_fit.ensures.0 (sym w.value-is ∙ c.if-tasks_fit.true)) (c.ranges_fit.ensures.0 ranges),
+    λ fits. c.ranges_fit.ensures.1 (ranges_of _ _ _ _ _ _ fits),
   )
   | else-numbers_fit w ↦ absurd (both_ways c.if-numbers_fit.value (w.value-is ∙ w.if-numbers_fit.false) c.if-tasks_fit.true)
 ]
@@ -17,10 +17,10 @@ pub returns-else-tasks_fit : goal.returns-else-tasks_fit
 returns-else-tasks_fit c = elim c.if-numbers_fit.branch [
   | then-numbers_fit w ↦ (
     λ holds. absurd (both_ways c.if-numbers_fit.value c.if-tasks_fit.false holds),
-    λ fits. w.value-is ∙ w.tasks_fit.ensures.1 (tasks_of _ _ _ _ _ fits),
+    λ fits. w.value-is ∙ w.tasks_fit.ensures.1 (tasks_of _ _ _ _ _ _ fits),
   )
   | else-numbers_fit w ↦ (
     λ holds. absurd (both_ways c.if-numbers_fit.value c.if-tasks_fit.false holds),
-    λ fits. w.value-is ∙ c.numbers_fit.ensures.1 (numbers_of _ _ _ _ _ fits),
+    λ fits. w.value-is ∙ c.numbers_fit.ensures.1 (numbers_of _ _ _ _ _ _ fits),
   )
 ]

@@ -10,11 +10,13 @@ pub invariant_of-result : goal.invariant_of-result
 invariant_of-result c = sound_opening _ c.args.graph.now
     (same_standing
     c.max_leases.ensures
+    c.all.ensures
     (c.in_ok-owners.ensures ∙ ap (λ n. replicate n None) c.locks.ensures)
     (c.in_ok-held.ensures.empty ∙ ap (λ n. replicate n empty_holding) c.workers.ensures)
     c.in_ok-marks.ensures.tasks
     c.in_ok-marks.ensures.actions
     c.in_ok-marks.ensures.units)
+    refl
     refl
     (c.in_ok-held.ensures.counts ∙ ap (λ n. replicate n no_counts) c.workers.ensures)
     (λ k d within. omega (arith, c.in_ok-held.ensures.room k d within, ap length c.in_ok-owners.ensures, length-replicate {A = Option WorkerId} c.locks.result None, c.locks.ensures, c.locks-2.ensures))

@@ -1,0 +1,42 @@
+-- What a worker looks with, and what is seen of a run.
+use Rattle.std.specs.Prelude.{ℕ, ◌≡◌, [], Contains, IfSome, List, None, Option, Some, false, true}
+use Rattle.lock_journal.specs.BookView.{BookView}
+use Rattle.history_views.specs.Growing.{IsLater}
+use Rattle.coordination.specs.Passes.{PassView, ServiceId}
+use Rattle.run_watch.specs.Looks.{BoardView}
+use Rattle.run_watch.specs.Watches.{AreWatchesOf}
+use Rattle.run_watch.specs.declared.boards.Watch.{Watch}
+use Rattle.build_runner.specs.declared.options.RunOptions.{RunOptions}
+use Rattle.build_runner.specs.declared.kits.Kit.{Kit}
+use Rattle.build_runner.specs.Site.{SiteView}
+
+-- what the worker looks with, if it does, is of the ledger of the service
+abbrev pub IsWatchedBy : ServiceId → Kit → Type 0
+IsWatchedBy service kit = IfSome kit.watcher (λ w. service.ledger ≡ Some w)
+
+-- what it looks with is of the ledger of the site's service
+abbrev pub IsWatched : SiteView → Kit → Type 0
+IsWatched site kit = IsWatchedBy site.service.service kit
+
+-- The board is for the units of the book, which goes on from what was seen.
+pub record IsSeenBy (b : BookView) (board : BoardView) : Type 0 where
+  pub later : IsLater board.seen b
+  pub units : board.units ≡ b.graph.units
+
+-- The board is for so many units, and holds what one of the passes had seen.
+pub record IsOfPasses (ps : List PassView) (n : ℕ) (board : BoardView) : Type 0 where
+  pub units : board.units ≡ n
+  pub pass : PassView
+  pub among : Contains ps pass
+  pub seen : board.seen ≡ pass.sight.seen
+
+-- there is a board where there is room for one
+abbrev pub IsBoardFor : List PassView → Option ℕ → Option BoardView → Type 0
+IsBoardFor ps None None = Unit {0}
+IsBoardFor ps (Some n) (Some board) = IsOfPasses ps n board
+IsBoardFor ps None (Some board) = ⊥
+IsBoardFor ps (Some n) None = ⊥
+
+-- what is seen of a run by rising unit, where it is watched, else nothing
+abbrev pub IsWatchedRun : RunOptions → BookView → List Watch → Type 0
+IsWatchedRun options b ws = (options.watch ≡ true → AreWatchesOf b ws) × (options.watch ≡ false → ws ≡ [])

@@ -1,0 +1,141 @@
+//! What lies in the slot of a service: its book, with or without a stage that shows it to views.
+ghost use Rattle.std.specs.Prelude.{◌≡◌, ◌<◌, List, Ok, OnErr, Option};
+ghost use Rattle.logbook.specs.Pages.{Book as Ledger};
+ghost use Rattle.resource_lock.specs.declared.changes.Change.{Change};
+ghost use Rattle.lock_journal.specs.BookView.{BookView};
+ghost use Rattle.lock_journal.specs.Ran.{FailsIn, FinishesIn, IsToRetry};
+ghost use Rattle.history_views.specs.ShownBooks.{IsUnchanged};
+ghost use Rattle.history_views.specs.ShownBooks.{IsTold};
+
+use crate::boxed_books::BoxedBook;
+use history_views::{Reach, ShownBook};
+use lock_journal::Book;
+use lock_transforms::{Disposition, Transform};
+use resource_lock::WorkerId;
+use std::alloc::AllocError;
+use std::marker::Model;
+use std::sync::Wait;
+
+/// What keeps the book of a service, and shows its history to views or doesn't.
+pub trait Keeper: Drop {
+    /// The book.
+    ghost book_of: { Self → BookView };
+
+    /// The ledger that shows its history, if one does.
+    ghost ledger_of: { Self → Option Ledger };
+
+    /// The book.
+    fn book(&self) -> &Book
+        ensures { result.now ≡ book_of self.now };
+
+    /// Runs a transform for a worker (`Book::run`), and shows its entry where it shows the history. It fails for want of memory
+    /// alone: graph, state and history are then as before.
+    fn run<T: Transform>(
+        &mut self,
+        worker: WorkerId,
+        transform: &T,
+    ) -> Result<Disposition, AllocError>
+        requires { worker.0 < (book_of self.old).graph.workers }
+        ensures ledger { ledger_of self.new ≡ ledger_of self.old }
+        ensures graph { (book_of self.new).graph ≡ (book_of self.old).graph }
+        ensures finished { result ≡ Ok Disposition.Finished
+            → (changes : List Change) × FinishesIn (T.makes transform.now) (book_of self.old) (book_of self.new) worker (T.kind_of transform.now) changes }
+        ensures failed { result ≡ Ok Disposition.Failed
+            → FailsIn (T.fails_on transform.now) (book_of self.old) (book_of self.new) worker (T.kind_of transform.now) }
+        ensures retry { result ≡ Ok Disposition.Retry
+            → IsToRetry (T.retries_on transform.now) (book_of self.old) (book_of self.new) worker }
+        ensures no_memory { OnErr result (IsUnchanged (book_of self.old) (book_of self.new)) };
+
+    /// How far the history of the book has come, where it is shown.
+    fn reach(&self) -> Option<Reach>
+        ensures { IsTold (ledger_of self.now) result (book_of self.now) };
+
+    /// The book alone.
+    fn into_book(self) -> Box<Book>
+        ensures { result.value ≡ book_of self };
+}
+
+impl Keeper for BoxedBook {
+    ghost use Rattle.std.specs.Prelude.{None};
+
+    ghost book_of = { λ b. b };
+
+    ghost ledger_of = { λ b. None };
+
+    fn book(&self) -> &Book {
+        &self.inner
+    }
+
+    #[inline]
+    fn run<T: Transform>(
+        &mut self,
+        worker: WorkerId,
+        transform: &T,
+    ) -> Result<Disposition, AllocError> {
+        self.inner.run(worker, transform)
+    }
+
+    #[inline]
+    fn reach(&self) -> Option<Reach> {
+        None
+    }
+
+    fn into_book(self) -> Box<Book> {
+        self.into_box()
+    }
+}
+
+impl<R: Wait + Drop> Keeper for ShownBook<R> {
+    ghost book_of = { λ s. s.book };
+
+    ghost ledger_of = { λ s. s.ledger };
+
+    fn book(&self) -> &Book {
+        self.book()
+    }
+
+    #[inline]
+    fn run<T: Transform>(
+        &mut self,
+        worker: WorkerId,
+        transform: &T,
+    ) -> Result<Disposition, AllocError> {
+        self.run(worker, transform)
+    }
+
+    #[inline]
+    fn reach(&self) -> Option<Reach> {
+        self.reach()
+    }
+
+    fn into_book(self) -> Box<Book> {
+        self.into_book()
+    }
+}
+
+/// What lies in the slot of a service. Contracts see the book, and the ledger that shows it.
+#[derive(Drop)]
+pub struct Kept<K: Keeper> {
+    pub keeper: K,
+}
+
+impl<K: Keeper> Model for Kept<K> {
+    ghost use Rattle.coordination.specs.Kept.{KeptView};
+
+    ghost Value = { KeptView };
+
+    ghost view = { λ k. record { book = K.book_of k.keeper; ledger = K.ledger_of k.keeper } };
+}
+
+/// Which ledger shows a history. It is for contracts alone: no value of it is made.
+pub struct LedgerName {
+    pub reach: Reach,
+}
+
+impl Model for LedgerName {
+    ghost use Rattle.logbook.specs.Pages.{Book};
+
+    ghost Value = { Book };
+
+    ghost view = { λ n. n.reach.ledger };
+}

@@ -1,0 +1,2 @@
+mod ItemClosings
+mod Shown
