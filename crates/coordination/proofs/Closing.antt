@@ -1,4 +1,4 @@
--- What the last state says.
+-- What the last state says, and what the step that takes the book out for good says.
 use Rattle.std.proofs.Common.{◌≡◌, ℕ, zero, suc, ◌+◌, ◌<◌, ◌≤◌, true, List, [], ◌∷◌, map, length, get_or, Option, Some, None, refl, sym, ap, ◌∙◌, subst, arith}
 use Rattle.std.specs.List.{All, Any}
 use Rattle.std.proofs.lemmas.List.{get_or-map, get_or_default}
@@ -57,22 +57,11 @@ there_is ss n w all low =
     let inside : w < length ss = omega arith in
     (inside, λ d. sym (get_or-map (λ (s : Sight). s.worker.0) ss w d 0 inside) ∙ (ap (λ (l : List ℕ). get_or l w 0) all ∙ (workers_at 0 n w 0 low ∙ omega arith)))
 
-closing : (g : GraphView) (l : Option Ledger) (id : ℕ) (ss : List Sight) (xs : List KeptView) → map (λ s. s.worker.0) ss ≡ workers_from 0 g.workers → (s : S) (o : Orderly g s) → get_elem? s.views id ≡ some (all_of l ss)
-    → ((k : ℕ) (y : KeptView) → get_elem? s.homes k ≡ some (some y) → get_elem? xs k ≡ some y) → (holder : Option ℕ) → o.holder ≡ holder → Closes g ss xs
-closing g l id ss xs all s o at keeps None is =
-    let mine = (o.fits id (all_of l ss) at).0 in record {
-      book = o.book;
-      ledger = o.ledger;
-      mark = o.mark;
-      named = o.named;
-      graph = o.graph;
-      sound = o.sound;
-      slot = keeps 0 (kept o.book o.ledger) (o.home ∙ ap (λ (k : Option ℕ). some (home_of k (kept o.book o.ledger))) is);
-      agrees = λ k d h. (mine k d h).agrees;
-      stops = λ k d h. (mine k d h).stops;
-      stopped_by = λ k d h. (mine k d h).stopped_by;
-    }
-closing g l id ss xs all s o at keeps (Some k) is =
+-- where a seat has the sights of all workers, none has the book out
+pub nobody_holds : (g : GraphView) (l : Option Ledger) (id : ℕ) (ss : List Sight) → map (λ s. s.worker.0) ss ≡ workers_from 0 g.workers → (s : S) (o : Orderly g s) → get_elem? s.views id ≡ some (all_of l ss)
+    → (holder : Option ℕ) → o.holder ≡ holder → holder ≡ None
+nobody_holds g l id ss all s o at None is = refl
+nobody_holds g l id ss all s o at (Some k) is =
     let u = some_at s.views k (o.inside k is) in
     let f = o.fits k u.0 u.1 in
     let out : OutFits (Some k) o.book k u.0 = subst (λ (j : Option ℕ). OutFits j o.book k u.0) is f.1 in
@@ -86,9 +75,26 @@ closing g l id ss xs all s o at keeps (Some k) is =
     let holds : OutFits (Some k) o.book id (all_of l ss) = subst (λ (j : Option ℕ). OutFits j o.book id (all_of l ss)) is (o.fits id (all_of l ss) at).1 in
     let not : None ≡ Some o.book = (holds.0 same).0 in absurd (cc)
 
+closing : (g : GraphView) (l : Option Ledger) (id : ℕ) (ss : List Sight) (xs : List KeptView) → map (λ s. s.worker.0) ss ≡ workers_from 0 g.workers → (s : S) (o : Orderly g s) → get_elem? s.views id ≡ some (all_of l ss)
+    → ((k : ℕ) (y : KeptView) → get_elem? s.homes k ≡ some (some y) → get_elem? xs k ≡ some y) → Closes g ss xs
+closing g l id ss xs all s o at keeps =
+    let free = nobody_holds g l id ss all s o at o.holder refl in
+    let mine = (o.fits id (all_of l ss) at).0 in record {
+      book = o.book;
+      ledger = o.ledger;
+      mark = o.mark;
+      named = o.named;
+      graph = o.graph;
+      sound = o.sound;
+      slot = keeps 0 (kept o.book o.ledger) (o.home ∙ ap (λ (k : Option ℕ). some (home_of k (kept o.book o.ledger))) free);
+      agrees = λ k d h. (mine k d h).agrees;
+      stops = λ k d h. (mine k d h).stops;
+      stopped_by = λ k d h. (mine k d h).stopped_by;
+    }
+
 pub closes : (g : GraphView) (l : Option Ledger) (id : ℕ) (v : SeatView) (ss : List Sight) (ws : List ℕ) (xs : List KeptView) → v ≡ all_of l ss → map (λ s. s.worker.0) ss ≡ workers_from 0 g.workers → Final (Seen (Orderly g) id v) ws xs
     → Closes g ss xs
-closes g l id v ss ws xs is all f = closing g l id ss xs all f.0 f.1.0 (f.1.1 ∙ ap some is) f.4 f.1.0.holder refl
+closes g l id v ss ws xs is all f = closing g l id ss xs all f.0 f.1.0 (f.1.1 ∙ ap some is) f.4
 
 -- the same of the passes
 pub workers_all : (ps : List PassView) → map (λ s. s.worker.0) (map (λ p. p.sight) ps) ≡ map (λ p. p.sight.worker.0) ps

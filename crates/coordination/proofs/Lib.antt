@@ -5,6 +5,8 @@ pub mod Tries
 pub mod Looks
 pub mod PassSteps
 pub mod Closing
+pub mod Taking
+pub mod Ended
 pub mod Opening
 pub mod InPlace
 pub mod Following

@@ -47,7 +47,7 @@ there [] k v e = absurd (some-ne-none v (sym e))
 there (x ∷ xs) zero v e = omega arith
 there (x ∷ xs) (suc k) v e = let h = there xs k v e in omega arith
 
-inside_of : (l : List SeatView) (id : ℕ) (w : SeatView) → id < length l → (k : ℕ) → Some id ≡ Some k → k < length (set l id w)
+pub inside_of : (l : List SeatView) (id : ℕ) (w : SeatView) → id < length l → (k : ℕ) → Some id ≡ Some k → k < length (set l id w)
 inside_of l id w h k e = let same : id ≡ k = cc in let long = length-set l id w in omega arith
 
 alone : (n mark : ℕ) (book : BookView) (owner : ℕ → ℕ) (id : ℕ) (h : Sight) → FitsSight n mark book owner id h → All (FitsSight n mark book owner id) (h ∷ [])

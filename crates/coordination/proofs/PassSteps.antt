@@ -1,5 +1,5 @@
 -- A pass closes again after its steps.
-use Rattle.std.proofs.Common.{◌≡◌, Option, List, sym, ap, ◌∙◌, subst, [], ◌∷◌}
+use Rattle.std.proofs.Common.{◌≡◌, Option, Some, None, List, refl, sym, ap, ◌∙◌, subst, [], ◌∷◌}
 use Rattle.resource_lock.specs.GraphView.{GraphView}
 use Rattle.resource_lock.specs.declared.ids.WorkerId.{WorkerId}
 use Rattle.lock_journal.specs.BookView.{BookView}
@@ -12,7 +12,7 @@ use Rattle.coordination.specs.Passes.{IsPass, me_in, view_in}
 use Rattle.coordination.specs.declared.rule.SeatView.{SeatView}
 use Rattle.history_views.specs.Growing.{ReachView}
 use Rattle.logbook.specs.Pages.{Book as Ledger}
-use Rattle.coordination.specs.Rule.{Hears, M}
+use Rattle.coordination.specs.Rule.{Hears, M, Taken}
 use Rattle.coordination.specs.Sights.{hearing, one, sight_of, stopping}
 
 -- the part of a worker is that of any book that agrees with what it saw
@@ -35,6 +35,16 @@ closes_pass worker part reach me l k s lone is w p room told = record {
   room = subst (λ (x : Sight). HasListRoom x.seen.graph.locks (marks_of x.seen.graph) part) (sym is) room;
   told = subst (λ (p : Option Ledger × Sight). IsTold p.0 reach p.1.seen) (λ i. (sym (ap (λ (m : M). m.0.ledger) lone) i, sym is i)) told;
 }
+
+-- where no ledger shows the history, nothing was written of it
+pub untold : (l : Option Ledger) (reach : Option ReachView) (book : BookView) → IsTold l reach book → l ≡ None → reach ≡ None
+untold None None book told none = refl
+untold None (Some r) book told none = absurd told
+untold (Some l) reach book told none = absurd (cc)
+
+-- the same after the book was taken out
+pub untold_in : (m m' : M) (t : Taken m m') (reach : Option ReachView) → IsTold m.0.ledger reach (sight_of m.0).seen → m'.0.ledger ≡ None → reach ≡ None
+untold_in m m' t reach told none = untold m.0.ledger reach (sight_of m.0).seen told (sym (ap (λ (x : M). x.0.ledger) t.is) ∙ none)
 
 -- the seat that is left as a badge
 seat_is : (views : List SeatView) (me : M) → views ≡ me.0 ∷ [] → me.1 ≡ [] → me ≡ me_in views

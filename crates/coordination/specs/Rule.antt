@@ -1,7 +1,7 @@
 -- The rule of the table. Word 0 is 1 while a pass holds the book, and slot 0 has it while none does. Word 1 is 1 more
 -- than the worker that stopped the service, or 0.
 use Rattle.std.specs.Prelude.{◌≡◌, ◌≢◌, ℕ, suc, ◌-◌, ◌<◌, ◌≤◌, ◌^◌, true, List, [], ◌∷◌, ◌++◌, Option, Some}
-use Rattle.std.specs.Prelude.{None, length, slice_index}
+use Rattle.std.specs.Prelude.{None, length, map, slice_index}
 use Rattle.std.specs.List.{All}
 use mathlib.Core.Option.{some, none}
 use mathlib.Core.Option as maybe
@@ -16,7 +16,7 @@ use Rattle.coordination.specs.declared.rule.Sight.{Sight}
 use Rattle.coordination.specs.declared.rule.SeatView.{SeatView}
 use Rattle.coordination.specs.Agrees.{Agrees, Finds, IsSoundBook}
 use Rattle.coordination.specs.Kept.{KeptView, kept}
-use Rattle.coordination.specs.Sights.{seeing, stopping, hearing, one, holding, all_of, no_book, sight_of}
+use Rattle.coordination.specs.Sights.{seeing, stopping, hearing, one, holding, all_of, no_book, sight_of, workers_from}
 use Rattle.logbook.specs.Pages.{Book as Ledger}
 
 -- what is so of each worker of the view at a seat
@@ -72,6 +72,22 @@ pub record Taken (m m' : M) : Type 0 where
 
 abbrev pub taken : Step KeptView → M → ℕ → M → Type 0
 taken st m r m' = (r ≡ 0 → Taken m m') × (r ≢ 0 → m' ≡ m)
+
+-- A seat with the sights of all workers found the book and took it. It keeps the sights, and each agrees with the book.
+pub record TakenForGood (m m' : M) : Type 0 where
+  pub book : BookView
+  pub mark : ℕ
+  pub sound : IsSoundBook book
+  pub all : map (λ s. s.worker.0) m.0.sights ≡ workers_from 0 book.graph.workers
+  pub named : mark ≤ book.graph.workers
+  pub agrees : All (λ s. Agrees s.worker s.seen book) m.0.sights
+  pub stops : All (λ s. mark ≡ suc s.worker.0 → s.stopped ≡ true) m.0.sights
+  pub stopped_by : All (λ s. (w : WorkerId) → s.stopped_by ≡ Some w → mark ≡ suc w.0) m.0.sights
+  pub is : m' ≡ (record { sights = m.0.sights; out = Some book; ledger = m.0.ledger }, (0, kept book m.0.ledger) ∷ [])
+
+-- no other seat has a sight, so none could have the book
+abbrev pub taken_for_good : Step KeptView → M → ℕ → M → Type 0
+taken_for_good st m r m' = (r ≡ 0) × TakenForGood m m'
 
 abbrev pub carried_book : List (ℕ × KeptView) → BookView
 carried_book [] = no_book

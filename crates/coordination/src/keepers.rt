@@ -1,5 +1,5 @@
 //! What lies in the slot of a service: its book, with or without a stage that shows it to views.
-ghost use Rattle.std.specs.Prelude.{◌≡◌, ◌<◌, List, Ok, OnErr, Option};
+ghost use Rattle.std.specs.Prelude.{◌≡◌, ◌<◌, List, None, Ok, OnErr, Option};
 ghost use Rattle.logbook.specs.Pages.{Book as Ledger};
 ghost use Rattle.resource_lock.specs.declared.changes.Change.{Change};
 ghost use Rattle.lock_journal.specs.BookView.{BookView};
@@ -46,9 +46,11 @@ pub trait Keeper: Drop {
             → IsToRetry (T.retries_on transform.now) (book_of self.old) (book_of self.new) worker }
         ensures no_memory { OnErr result (IsUnchanged (book_of self.old) (book_of self.new)) };
 
-    /// How far the history of the book has come, where it is shown.
-    fn reach(&self) -> Option<Reach>
-        ensures { IsTold (ledger_of self.now) result (book_of self.now) };
+    /// Writes down how far the history of the book has come, where it is shown. Where it isn't, nothing was ever written, and
+    /// nothing is now.
+    fn tell(&self, reach: &mut Option<Reach>)
+        requires { ledger_of self.now ≡ None → reach.old ≡ None }
+        ensures { IsTold (ledger_of self.now) reach.new (book_of self.now) };
 
     /// The book alone.
     fn into_book(self) -> Box<Book>
@@ -56,8 +58,6 @@ pub trait Keeper: Drop {
 }
 
 impl Keeper for BoxedBook {
-    ghost use Rattle.std.specs.Prelude.{None};
-
     ghost book_of = { λ b. b };
 
     ghost ledger_of = { λ b. None };
@@ -76,9 +76,7 @@ impl Keeper for BoxedBook {
     }
 
     #[inline]
-    fn reach(&self) -> Option<Reach> {
-        None
-    }
+    fn tell(&self, _: &mut Option<Reach>) {}
 
     fn into_book(self) -> Box<Book> {
         self.into_box()
@@ -104,8 +102,8 @@ impl<R: Wait + Drop> Keeper for ShownBook<R> {
     }
 
     #[inline]
-    fn reach(&self) -> Option<Reach> {
-        self.reach()
+    fn tell(&self, reach: &mut Option<Reach>) {
+        self.tell(reach)
     }
 
     fn into_book(self) -> Box<Book> {

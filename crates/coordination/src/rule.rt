@@ -1,6 +1,6 @@
 //! The rule that the table of a slot keeps, over all interleavings.
 ghost use Rattle.coordination.specs.Sights.{nobody, starting};
-ghost use Rattle.coordination.specs.Rule.{Orderly, taken, put_back, stopped_at, heard, first_sight, other_sights, both_sights};
+ghost use Rattle.coordination.specs.Rule.{Orderly, taken, taken_for_good, put_back, stopped_at, heard, first_sight, other_sights, both_sights};
 
 use crate::keepers::{Keeper, Kept, LedgerName};
 use atomic_table::{Join, Play, Split, TableRule};
@@ -52,6 +52,13 @@ pub struct Take;
 
 impl<K: Keeper> Play<Kept<K>, SeatView> for Take {
     ghost then = { taken };
+}
+
+/// Takes the book out of its slot for good: the seat has the sights of all workers.
+pub struct TakeForGood;
+
+impl<K: Keeper> Play<Kept<K>, SeatView> for TakeForGood {
+    ghost then = { taken_for_good };
 }
 
 /// Puts the book back.

@@ -10,7 +10,7 @@ ghost use Rattle.coordination.specs.Sights.{all_of, sights_from, starting, worke
 use crate::keepers::{Keeper, Kept};
 use crate::parts::Part;
 use crate::passes::Pass;
-use crate::rule::{OneWorker, OpenedWith, SeatView, Sit};
+use crate::rule::{OneWorker, OpenedWith, SeatView, Sit, TakeForGood};
 use crate::slots::Slot;
 use atomic_table::{Refused, Seat, Table};
 use history_views::Reach;
@@ -118,6 +118,28 @@ impl<K: Keeper> Slot<K> {
         let mut closed = table.close_with(seat);
         let Kept { keeper } = closed.take(0);
         closed.free();
+        keeper.into_book()
+    }
+
+    /// Takes the book out of a service that others may share yet, for good: with the passes of all workers, in order. There is one
+    /// worker at least. It leaves what `close` does; the book's graph is the one that each pass has seen.
+    ///
+    /// The spare keeper lies in the slot instead, and the slot says ever after that the book is out: who would ask for it gets no
+    /// answer, but nobody has a pass any more.
+    pub fn take_away(&self, passes: Vec<Pass>, spare: K) -> Box<Book>
+        requires service { All (λ p. p.service.table ≡ self.now.table.shared.table_id) passes.items }
+        requires some { 0 < length passes.items }
+        requires all { map (λ p. p.sight.worker.0) passes.items
+            ≡ workers_from 0 self.now.table.shared.key.kept.value.book.graph.workers }
+        ensures workers { result.value.graph.workers ≡ self.now.table.shared.key.kept.value.book.graph.workers }
+        ensures closed { IsClosedBy passes.items result.value.graph result.value }
+    {
+        let mut seat = self.join(passes);
+        self.table.shared.swap::<TakeForGood>(&mut seat, 0, 1);
+        let Kept { keeper } = self
+            .table
+            .shared
+            .exchange(&mut seat, 0, Kept { keeper: spare });
         keeper.into_book()
     }
 }

@@ -1,5 +1,5 @@
 //! The steps on the table.
-ghost use Rattle.std.specs.Prelude.{◌≡◌, ◌≢◌, ◌<◌, ◌+◌, ◌-◌, ◌^◌, [], ◌∷◌, length, true, false, IfNone, IfSome};
+ghost use Rattle.std.specs.Prelude.{◌≡◌, ◌≢◌, ◌<◌, ◌+◌, ◌-◌, ◌^◌, [], ◌∷◌, length, true, false, IfNone, IfSome, None};
 ghost use Rattle.coordination.specs.Attempts.{Answers, HasRun};
 ghost use Rattle.coordination.specs.Endings.{EndsHold, stance_asking};
 ghost use Rattle.history_views.specs.ShownBooks.{IsTold};
@@ -56,6 +56,7 @@ impl<K: Keeper> Slot<K> {
         requires id { seat.old.table_id ≡ self.now.table.shared.table_id }
         requires held { seat.old.me.1 ≡ (0, kept (carried_book seat.old.me.1) seat.old.me.0.ledger) ∷ [] }
         requires part { IsPartHere worker (carried_book seat.old.me.1) part.old }
+        requires told { seat.old.me.0.ledger ≡ None → reach.old ≡ None }
         ensures same { (seat.new.table_id ≡ seat.old.table_id) × (seat.new.id ≡ seat.old.id) × (seat.new.me.0 ≡ seat.old.me.0) }
         ensures held { seat.new.me.1 ≡ (0, kept (carried_book seat.new.me.1) seat.old.me.0.ledger) ∷ [] }
         ensures told { IsTold seat.old.me.0.ledger reach.new (carried_book seat.new.me.1) }
@@ -79,6 +80,7 @@ impl<K: Keeper> Slot<K> {
         requires id { seat.old.table_id ≡ self.now.table.shared.table_id }
         requires held { seat.old.me.1 ≡ (0, kept (carried_book seat.old.me.1) seat.old.me.0.ledger) ∷ [] }
         requires known { worker.0 < (carried_book seat.old.me.1).graph.workers }
+        requires told { seat.old.me.0.ledger ≡ None → reach.old ≡ None }
         ensures same { (seat.new.table_id ≡ seat.old.table_id) × (seat.new.id ≡ seat.old.id) × (seat.new.me ≡ seat.old.me) }
         ensures told { IsTold seat.old.me.0.ledger reach.new (carried_book seat.old.me.1) }
         ensures answer { Answers (Q.answers question.now) (Q.waits_on question.now) worker (carried_book seat.old.me.1) result.0 }
@@ -152,7 +154,8 @@ fn run_on<K: Keeper, T: Transform>(
     transform: &T,
     sleepers: &mut Sleepers,
 ) -> (Result<Disposition, AllocError>, Wakes)
-    requires { IsPartHere worker (K.book_of keeper.old) part.old }
+    requires part { IsPartHere worker (K.book_of keeper.old) part.old }
+    requires told { K.ledger_of keeper.old ≡ None → reach.old ≡ None }
     ensures ledger { K.ledger_of keeper.new ≡ K.ledger_of keeper.old }
     ensures told { IsTold (K.ledger_of keeper.new) reach.new (K.book_of keeper.new) }
     ensures run { HasRun (T.kind_of transform.now) (T.makes transform.now) (T.fails_on transform.now)
@@ -162,7 +165,7 @@ fn run_on<K: Keeper, T: Transform>(
     let book = keeper.book();
     part.follow(worker, book, &ran);
     let wakes = sleepers.end_transform(book, worker, transform.kind(), &ran);
-    *reach = keeper.reach();
+    keeper.tell(reach);
     (ran, wakes)
 }
 
@@ -174,7 +177,8 @@ fn ask_of<K: Keeper, Q: Question>(
     question: &Q,
     sleepers: &mut Sleepers,
 ) -> (Option<Q::Answer>, Wakes)
-    requires { worker.0 < (K.book_of keeper.now).graph.workers }
+    requires known { worker.0 < (K.book_of keeper.now).graph.workers }
+    requires told { K.ledger_of keeper.now ≡ None → reach.old ≡ None }
     ensures told { IsTold (K.ledger_of keeper.now) reach.new (K.book_of keeper.now) }
     ensures answer { Answers (Q.answers question.now) (Q.waits_on question.now) worker (K.book_of keeper.now) result.0 }
     ensures ends { EndsHold (K.book_of keeper.now) worker (stance_asking sleepers.old.promised (Q.awaits question.now) result.0)
@@ -183,6 +187,6 @@ fn ask_of<K: Keeper, Q: Question>(
     let book = keeper.book();
     let answer = question.ask(worker, book, sleepers.queued);
     let wakes = sleepers.end_question(book, worker, question.awaited(), &answer);
-    *reach = keeper.reach();
+    keeper.tell(reach);
     (answer, wakes)
 }

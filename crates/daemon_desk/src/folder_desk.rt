@@ -6,8 +6,8 @@ use crate::desks::Desk;
 use crate::folder_link::FolderLink;
 use daemon_protocol::{Reply, Request};
 use daemon_requirements::Requirements;
-use file_access::{DeskFail, FileBytes, Files, Read, read_file};
-use item_actions::Text;
+use file_access::{DeskFail, FileBytes, Files, Read, act_on_file, read_file};
+use item_actions::{ItemAction, Outcome, Text};
 use std::alloc::Global;
 use std::marker::Model;
 use std::process::{Processes, SystemProcess};
@@ -83,6 +83,17 @@ impl<R: rt::Files + Drop> Files for FolderDesk<R> {
         let read = read_file(&self.rt, alloc, name, limit, &mut self.spare);
         self.reads = self.reads.saturating_add(1);
         self.counted(read)
+    }
+
+    fn act_on(
+        &mut self,
+        _alloc: Global,
+        action: &ItemAction,
+        name: &Text,
+    ) -> Result<Outcome, DeskFail> {
+        let outcome = act_on_file(&self.rt, action, name, &mut self.spare);
+        self.reads = self.reads.saturating_add(1);
+        self.counted(outcome)
     }
 
     fn give_back(&mut self, bytes: FileBytes) {

@@ -1,3 +1,5 @@
 pub mod lemmas
+mod Answering
 mod Digits
 mod Gathering
+mod Taking

@@ -1,3 +1,4 @@
+pub mod Ahead
 pub mod Calls
 pub mod Folders
 pub mod Gathers

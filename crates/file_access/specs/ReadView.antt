@@ -48,3 +48,11 @@ IsOutcomeCounted old new _ = new ≡ old
 -- one read more was made, where it is known how many were
 abbrev pub and_read : Option ℕ → Option ℕ
 and_read known = option_map next known
+
+-- what an action gives on a file, where nothing failed
+abbrev pub IsAnswer : Outcome → Type 0
+IsAnswer (outcomes.Number n) = Unit
+IsAnswer (outcomes.Digest d) = Unit
+IsAnswer outcomes.NotThere = Unit
+IsAnswer outcomes.TooLong = Unit
+IsAnswer _ = ⊥

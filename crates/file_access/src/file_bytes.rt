@@ -11,6 +11,9 @@ use std::marker::Model;
 /// The room for the first read. A file of fewer bytes is read with no question for its size.
 const FIRST_ROOM: u64 = 1024;
 
+/// The most bytes of a piece.
+pub(crate) const PIECE_BYTES: u64 = 131_072;
+
 /// A file's bytes, in a room that may be longer than they are. Its reader can use the room again.
 #[derive(Drop)]
 pub struct FileBytes {
@@ -63,6 +66,22 @@ impl FileBytes {
         self.filled = 0;
     }
 
+    /// Reads once, in place of the bytes, at most so many and at most `PIECE_BYTES`.
+    pub(crate) fn read_piece<F: io::Read>(&mut self, file: &mut F, most: u64) -> io::Result<usize>
+        requires { 0 < most }
+        ensures count { IfOk result (λ count. length self.new ≡ count) }
+        ensures most { IfOk result (λ count. count ≤ most) }
+        ensures taken { OnOk result (Consumes (F.remaining file.old) (F.remaining file.new) self.new) }
+        ensures end { IfOk result (λ count. count ≡ 0 → IsAtEnd (F.remaining file.new)) }
+        ensures err { OnErr result (Keeps (F.remaining file.old) (F.remaining file.new)) }
+    {
+        widen(&mut self.room, self.filled)?;
+        self.filled = 0;
+        let read = read_at(file, &mut self.room, 0, most.min(PIECE_BYTES) - 1)?;
+        self.filled = read;
+        Ok(read)
+    }
+
     /// Reads once, behind the bytes and at most a byte over the limit. A room that is full grows first.
     pub(crate) fn read_more<F: io::Read + OpenFile>(
         &mut self,
@@ -78,6 +97,23 @@ impl FileBytes {
         self.filled += read;
         Ok(read)
     }
+}
+
+// Makes room for a piece: little for a first one, and all where the last piece filled it.
+fn widen(room: &mut Vec<u8>, filled: usize) -> Result<(), AllocError>
+    requires { filled ≤ vec_len room.old }
+    ensures filled { filled ≤ vec_len room.new }
+    ensures some { OnOk result (0 < vec_len room.new) }
+{
+    let wanted = if room.is_empty() {
+        FIRST_ROOM
+    } else {
+        PIECE_BYTES
+    };
+    if filled < room.len() || wanted as usize <= room.len() {
+        return Ok(());
+    }
+    room.resize(wanted as usize, 0)
 }
 
 // Makes the room longer than what is filled.

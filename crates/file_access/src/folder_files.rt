@@ -2,10 +2,11 @@
 ghost use Rattle.std.specs.Prelude.{◌≡◌, Some, IfOk, IfSome};
 ghost use Rattle.file_access.specs.ReadView.{IsWithin, reading, read_view};
 
+use crate::file_actions::act_on_file;
 use crate::file_bytes::FileBytes;
 use crate::files::{DeskFail, Files, Read};
 use crate::retries::Retries;
-use item_actions::Text;
+use item_actions::{ItemAction, Outcome, Text};
 use std::alloc::Global;
 use std::fs::{File, OpenFile};
 use std::io::ErrorKind;
@@ -68,6 +69,19 @@ impl<R: rt::Files + Drop> Files for FolderFiles<R> {
         read
     }
 
+    fn act_on(
+        &mut self,
+        _alloc: Global,
+        action: &ItemAction,
+        name: &Text,
+    ) -> Result<Outcome, DeskFail> {
+        let outcome = act_on_file(&self.rt, action, name, &mut self.spare);
+        if matches!(outcome, Err(DeskFail::Failed)) {
+            self.faults = self.faults.saturating_add(1);
+        }
+        outcome
+    }
+
     fn give_back(&mut self, bytes: FileBytes) {
         self.spare = bytes;
     }
@@ -93,8 +107,8 @@ pub fn read_file<R: rt::Files>(
     }
 }
 
-// Opens a file, again where the call was interrupted.
-fn open<R: rt::Files>(rt: &R, name: &str, retries: &mut Retries) -> io::Result<R::File> {
+/// Opens a file, again where the call was interrupted.
+pub(crate) fn open<R: rt::Files>(rt: &R, name: &str, retries: &mut Retries) -> io::Result<R::File> {
     loop {
         match File::open(rt, name) {
             Err(error) if retries.allow(&error) => {}

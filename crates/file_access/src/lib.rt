@@ -1,7 +1,9 @@
 //! The outside as the build sees it: files that are read, sources that give bytes, and sinks that take them.
 #![tactic(auto)]
 
+mod ahead_source;
 mod calls;
+mod file_actions;
 mod file_bytes;
 mod file_map;
 mod files;
@@ -18,7 +20,9 @@ mod std_sink;
 mod std_source;
 mod work;
 
+pub use ahead_source::AheadSource;
 pub use calls::Calls;
+pub use file_actions::act_on_file;
 pub use file_bytes::FileBytes;
 pub use file_map::{FileEntry, FileMap};
 pub use files::{DeskFail, Files, Read};

@@ -1,5 +1,7 @@
 //! A source over a reader.
 ghost use Rattle.std.specs.Prelude.{◌≡◌};
+ghost use Rattle.std.specs.Io.{ReadsAtMost};
+ghost use Rattle.std.specs.Io.KnownBytes.{ReadConsumes};
 
 use crate::retries::Retries;
 use crate::sinks::Failed;
@@ -42,15 +44,25 @@ impl<R: Read> Source for StdSource<R> {
     ghost seen = { λ s. s };
 
     fn take(&mut self, buffer: &mut [u8]) -> Result<usize, Failed> {
-        let mut retries = Retries::new();
-        loop {
-            match self.reader.read(buffer) {
-                Ok(taken) => return Ok(taken),
-                Err(error) if retries.allow(&error) => {}
-                Err(_) => break,
-            }
+        let taken = take_from(&mut self.reader, buffer);
+        if taken.is_err() {
+            self.faults = self.faults.saturating_add(1);
         }
-        self.faults = self.faults.saturating_add(1);
-        Err(Failed)
+        taken
+    }
+}
+
+/// Reads once, and again where the call is interrupted. Nothing is counted here.
+pub(crate) fn take_from<R: Read>(reader: &mut R, buffer: &mut [u8]) -> Result<usize, Failed>
+    ensures within { ReadsAtMost result buffer.new }
+    ensures taken { ReadConsumes (R.remaining reader.old) (R.remaining reader.new) result buffer.new }
+{
+    let mut retries = Retries::new();
+    loop {
+        match reader.read(buffer) {
+            Ok(taken) => return Ok(taken),
+            Err(error) if retries.allow(&error) => {}
+            Err(_) => return Err(Failed),
+        }
     }
 }

@@ -3,8 +3,8 @@ ghost use Rattle.item_actions.specs.Value.{IsHonest, value_on};
 ghost use Rattle.item_actions.specs.declared.outcomes.Outcome.TheVariants as outcomes;
 ghost use Rattle.file_access.specs.ReadView.{IsOutcomeCounted, and_read};
 
-use crate::files::{DeskFail, Files, Read};
-use item_actions::{ItemAction, MAX_FILE_BYTES, Outcome, Text, act};
+use crate::files::{DeskFail, Files};
+use item_actions::{ItemAction, Outcome, Text};
 use std::alloc::Global;
 
 /// The outcome of an action on the file of this name, which is read once.
@@ -19,14 +19,8 @@ pub fn work_out<F: Files>(alloc: Global, action: &ItemAction, name: &Text, files
     ensures counted { IsOutcomeCounted (F.faults files.old) (F.faults files.new) result }
     ensures honest { IfSome (F.files files.old) (λ known. IsHonest result (value_on known action.now name.now)) }
 {
-    match files.read(alloc, name, MAX_FILE_BYTES) {
-        Ok(Read::Bytes(bytes)) => {
-            let outcome = act(action, bytes.as_bytes());
-            files.give_back(bytes);
-            outcome
-        }
-        Ok(Read::NotThere) => Outcome::NotThere,
-        Ok(Read::TooLong) => Outcome::TooLong,
+    match files.act_on(alloc, action, name) {
+        Ok(outcome) => outcome,
         Err(DeskFail::Failed) => Outcome::Fault,
         Err(DeskFail::NoMemory) => Outcome::NoMemory,
     }

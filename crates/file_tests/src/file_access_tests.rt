@@ -1,13 +1,24 @@
 //! Sinks, sources and files in memory, and pages.
 use file_access::{
-    DeskFail, FileEntry, FileMap, Files, MemoryFiles, MemorySink, MemorySource, Page, Read, Source,
-    StdSink, StdSource, put_all, work_out,
+    AheadSource, DeskFail, FileEntry, FileMap, Files, MemoryFiles, MemorySink, MemorySource, Page,
+    Read, Source, StdSink, StdSource, put_all, work_out,
 };
 use item_actions::{ItemAction, Outcome, Text};
 use std::alloc::{AllocError, Global};
 use std::io;
 use std::io::{ErrorKind, Write};
 use std::test::Fail;
+
+/// How many bytes a source may give ahead, call by call, and what it gives then of its text.
+static AHEAD: [(usize, &[u8]); 7] = [
+    (100, b"ab\n"),
+    (1, b"c"),
+    (0, b""),
+    (2, b"d\n"),
+    (100, b"\n"),
+    (3, b"efg"),
+    (100, b"h"),
+];
 
 /// A sink of so much room, whose calls of these numbers fail.
 pub fn sink(alloc: Global, room: u64, failing: &[u64]) -> Result<Box<MemorySink>, AllocError> {
@@ -71,6 +82,60 @@ fn second_call_of_a_source_fails(rt: HostRuntime) -> Result<(), Fail> {
     let failing = [1].to_vec(rt.alloc())?;
     let mut source = MemorySource::new(bytes, failing);
     assert!(rt; gives_seven(&mut source));
+    Ok(())
+}
+
+// Whether a source puts these bytes behind a line where it may put so many.
+fn gives_ahead<S: Source>(
+    alloc: Global,
+    source: &mut S,
+    most: usize,
+    bytes: &[u8],
+) -> Result<bool, AllocError> {
+    let mut line = b"> ".to_vec(alloc)?;
+    let count = source.take_ahead(&mut line, most)?;
+    let is_longer = count == bytes.len() && line.len() == 2 + count;
+    Ok(is_longer && line.starts_with(b"> ") && line.ends_with(bytes))
+}
+
+#[test]
+fn lines_that_are_read_ahead(rt: HostRuntime) -> Result<(), Fail> {
+    let mut source = AheadSource::new(&b"ab\ncd\n\nefgh"[..]);
+    for (most, bytes) in AHEAD {
+        assert!(rt; gives_ahead(rt.alloc(), &mut source, most, bytes)?);
+    }
+    Ok(())
+}
+
+// Whether of three bytes and a line end two are taken, and then the rest of the line.
+fn goes_on_ahead(alloc: Global, line: &[u8]) -> Result<bool, AllocError> {
+    let mut buffer = [0u8; 2];
+    let mut source = AheadSource::new(line);
+    let begun = matches!(source.take(&mut buffer), Ok(2)) && buffer == *b"ab";
+    Ok(
+        begun
+            && gives_ahead(alloc, &mut source, 10, b"c\n")?
+            && gives_ahead(alloc, &mut source, 10, b"")?,
+    )
+}
+
+#[test]
+fn a_line_that_is_begun_is_read_ahead(rt: HostRuntime) -> Result<(), Fail> {
+    assert!(rt; goes_on_ahead(rt.alloc(), b"abc\n")?);
+    Ok(())
+}
+
+// Whether a source that can't show two bytes gives them by plain calls.
+fn reads_plainly(alloc: Global, byte: &[u8]) -> Result<bool, AllocError> {
+    let mut buffer = [0u8; 2];
+    let mut source = AheadSource::new(byte);
+    let none = gives_ahead(alloc, &mut source, 10, b"")?;
+    Ok(none && matches!(source.take(&mut buffer), Ok(1)) && buffer[0] == b'a')
+}
+
+#[test]
+fn a_reader_that_shows_one_byte_is_read_plainly(rt: HostRuntime) -> Result<(), Fail> {
+    assert!(rt; reads_plainly(rt.alloc(), b"a")?);
     Ok(())
 }
 

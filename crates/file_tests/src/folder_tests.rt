@@ -1,7 +1,7 @@
 //! Files of the current folder.
 use crate::file_access_tests::{Answer, ReadRow, all_read, reads};
 use file_access::{Files, FolderFiles, Read, StdSink, put_all};
-use item_actions::Text;
+use item_actions::{ItemAction, Needle, Outcome, Text, act};
 use std::alloc::{AllocError, Global};
 use std::fs::File;
 use std::test::Fail;
@@ -157,5 +157,69 @@ fn files_are_read_into_memory_that_was_given_back(rt: HostRuntime) -> Result<(),
     let mut desk = FolderFiles::new(&rt, rt.alloc());
     assert!(rt; lengths_are_given_back(&rt, rt.alloc(), &mut desk)? && desk.count() == 0);
     fs::remove_file(&rt, GIVEN_BACK_FILE)?;
+    Ok(())
+}
+
+const WORKED_FILE: &str = "file_access_worked.txt";
+
+// Whether each action gives on the file what it gives on its bytes.
+fn are_given<F: Files>(alloc: Global, desk: &mut F, bytes: &[u8]) -> Result<bool, AllocError> {
+    let name = Text::from_str(alloc, WORKED_FILE)?;
+    let Some(needle) = Needle::of(b"\x09\x0a\x0b") else {
+        return Ok(false);
+    };
+    let actions = [
+        ItemAction::Lines,
+        ItemAction::Words,
+        ItemAction::Bytes,
+        ItemAction::Longest,
+        ItemAction::Count(needle),
+        ItemAction::Sha256,
+    ];
+    for action in &actions {
+        let given = desk.act_on(alloc, action, &name);
+        if !matches!(given, Ok(outcome) if outcome == act(action, bytes)) {
+            return Ok(false);
+        }
+    }
+    Ok(true)
+}
+
+/// Lengths of files about the first room, a piece and several pieces.
+static WORKED_LENGTHS: [u64; 7] = [0, 1, 1024, 131_071, 131_072, 132_097, 300_000];
+
+#[test]
+fn files_of_several_pieces_give_what_their_bytes_give(rt: HostRuntime) -> Result<(), Fail> {
+    let mut desk = FolderFiles::new(&rt, rt.alloc());
+    for len in WORKED_LENGTHS {
+        let bytes = varied(rt.alloc(), len)?;
+        fs::write(&rt, WORKED_FILE, bytes.as_slice())?;
+        assert!(rt; are_given(rt.alloc(), &mut desk, bytes.as_slice())?);
+    }
+    fs::remove_file(&rt, WORKED_FILE)?;
+    assert!(rt; desk.count() == 0);
+    Ok(())
+}
+
+/// Lengths of files about the most bytes that a file may have, and what the action `bytes` gives.
+static MOST: [(usize, Outcome); 2] = [
+    (4_194_304, Outcome::Number(4_194_304)),
+    (4_194_305, Outcome::TooLong),
+];
+
+const MOST_FILE: &str = "file_access_most.txt";
+
+#[test]
+fn a_byte_over_the_most_is_too_long(rt: HostRuntime) -> Result<(), Fail> {
+    let mut desk = FolderFiles::new(&rt, rt.alloc());
+    let name = Text::from_str(rt.alloc(), MOST_FILE)?;
+    let mut bytes = Vec::new(rt.alloc());
+    for (len, outcome) in MOST {
+        bytes.resize(len, b'.')?;
+        fs::write(&rt, MOST_FILE, bytes.as_slice())?;
+        let given = desk.act_on(rt.alloc(), &ItemAction::Bytes, &name);
+        assert!(rt; matches!(given, Ok(found) if found == outcome));
+    }
+    fs::remove_file(&rt, MOST_FILE)?;
     Ok(())
 }

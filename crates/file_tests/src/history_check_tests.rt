@@ -1,8 +1,10 @@
 //! Whole histories that were read from their texts, and checked.
-use history_check::{Checked, check};
+use file_access::{AheadSource, Source};
+use history_check::{Checked, check, check_input};
 use history_reader::read_history;
 use plan_reader::{Plan, read_plan};
 use std::alloc::Global;
+use std::io::BufReader;
 use std::test::Fail;
 
 /// A task with one item.
@@ -76,6 +78,37 @@ fn numbers_of_locks(rt: HostRuntime) -> Result<(), Fail> {
     let plan = read_plan(rt.alloc(), PLAN)?;
     for (head, checked) in HEADS {
         assert!(rt; answer(rt.alloc(), &plan, head, HISTORIES[1].0)? == checked);
+    }
+    Ok(())
+}
+
+// Whether an input, of which so many bytes are read ahead, has this answer, and is left at the byte behind its end.
+fn is_answer_ahead(
+    alloc: Global,
+    plan: &Plan,
+    text: &[u8],
+    capacity: usize,
+    checked: Checked,
+) -> Result<bool, Fail> {
+    let reader = BufReader::with_capacity(alloc, capacity, text)?;
+    let mut input = AheadSource::new(reader);
+    let answer = check_input(alloc, plan, &mut input)?;
+    let mut next = [0u8; 1];
+    let taken = input.take(&mut next)?;
+    Ok(answer == checked && taken == 1 && next == *b"!")
+}
+
+#[test]
+fn inputs_that_are_read_ahead(rt: HostRuntime) -> Result<(), Fail> {
+    let plan = read_plan(rt.alloc(), PLAN)?;
+    for (lines, checked) in HISTORIES {
+        let mut text = b"passed over\n".to_vec(rt.alloc())?;
+        text.extend_from_slice(HEADS[0].0)?;
+        text.extend_from_slice(lines)?;
+        text.extend_from_slice(b"!\n")?;
+        for capacity in 1..80 {
+            assert!(rt; is_answer_ahead(rt.alloc(), &plan, &text, capacity, checked)?);
+        }
     }
     Ok(())
 }

@@ -1,4 +1,4 @@
-//! Tests of `item_actions`, `file_access`, `history_text`, `history_reader`, `history_check`, `recorded_run` and `run_spans`.
+//! Tests of `item_actions`, `piecewise_actions`, `file_access`, `history_text`, `history_reader`, `history_check`, `recorded_run` and `run_spans`.
 #![tactic(auto)]
 
 #[cfg(test)]
@@ -15,6 +15,8 @@ mod history_reader_tests;
 mod history_text_tests;
 #[cfg(test)]
 mod item_actions_tests;
+#[cfg(test)]
+mod piece_tests;
 #[cfg(test)]
 mod recorded_run_tests;
 #[cfg(test)]

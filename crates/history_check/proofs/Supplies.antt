@@ -1,17 +1,18 @@
 -- What was taken from a source, piece by piece.
-use Rattle.std.proofs.Common.{◌≡◌, ℕ, ◌+◌, ◌-◌, ◌<◌, ◌≤◌, ◌⊎◌, Bool, true, false, List, [], ◌∷◌, ◌++◌, length, take, drop, length-append, sym, ap, subst, ◌∙◌, append-nil, arith, get_or}
+use Rattle.std.proofs.Common.{◌≡◌, ℕ, ◌+◌, ◌-◌, ◌<◌, ◌≤◌, ◌⊎◌, Bool, true, false, List, [], ◌∷◌, ◌++◌, length, take, drop, length-append, sym, ap, subst, ◌∙◌, append-nil, append_assoc, arith, get_or, nat_eq, not, ◌&&◌}
 use Rattle.std.proofs.KnownBytes.{Consumes-trans}
 use Rattle.std.proofs.Math.Seq.{take-add}
 use Rattle.std.proofs.lemmas.Bool.{eqb-true}
-use Rattle.std.proofs.lemmas.List.{take_all, take_more, take_rest, take-append-drop, get_or-drop, length-drop, length-take-le}
+use Rattle.std.proofs.lemmas.List.{take_all, take_more, take_rest, take-append-drop, get_or-append-add, get_or-drop, length-drop, length-take-le}
 use Rattle.std.specs.Prelude.{Result, Ok, Err, IsErrAnd}
 use Rattle.file_access.specs.SinkView.{Rises}
+use Rattle.file_access.specs.Ahead.{TakesAhead}
 use Rattle.file_access.specs.SourceView.{SourceView}
 use Rattle.memchr.specs.Find.{Nowhere, NoneBefore, Passes, is_byte}
-use Rattle.history_reader.specs.Lines.{is_unbroken}
+use Rattle.history_reader.specs.Lines.{is_unbroken, IsLine}
 use Rattle.history_reader.proofs.lemmas.Splits.{joined, unbroken_before}
 use Rattle.history_check.specs.LinesView.{LinesView}
-use Rattle.history_check.specs.Taking.{Takes, SplitsLine, Splits, TakesPiece, LosesPiece, TakesLine}
+use Rattle.history_check.specs.Taking.{Takes, Grows, SplitsLine, Splits, TakesPiece, TakesRest, LosesPiece, TakesLine, IsOver}
 use Rattle.history_check.specs.declared.fails.CheckFail.{CheckFail}
 use Rattle.history_check.specs.declared.fails.CheckFail.TheVariants.{SourceFault, NoMemory}
 
@@ -110,3 +111,131 @@ pub line_lost : (least : ℕ) (start mid now : SourceView) (was read held is : L
 line_lost least start mid now was read held is most (Ok whole) fail reading cut never takes = absurd never
 line_lost least start mid now was read held is most (Err f) fail reading cut same takes =
     subst (LosesPiece start now was) (sym same) (pieces_lost start mid now was read is most fail reading cut.0 (subst (λ (l : LinesView). TakesPiece most mid now l is (lost_to fail)) cut.1 takes))
+
+-- ---- what was read ahead
+
+-- the last byte of a text that has some
+abbrev last_byte : List ℕ → ℕ
+last_byte text = get_or text (length text - 1) 0
+
+-- a piece, parted before its last byte
+parted_last : (piece : List ℕ) → 0 < length piece → piece ≡ take (length piece - 1) piece ++ last_byte piece ∷ []
+parted_last piece some =
+    sym (take_all (length piece - 1 + 1) piece (omega (arith, some))) ∙ take_more piece (length piece - 1) 0 (omega (arith, some))
+
+front_unbroken : (piece : List ℕ) (count : ℕ) → length piece ≡ count → Nowhere (Passes (is_byte 10) piece) 0 (count - 1) → is_unbroken (take (length piece - 1) piece) ≡ true
+front_unbroken piece count long none = unbroken_before piece (length piece - 1) (λ k from to. none k from (omega (arith, to, long))) (omega arith)
+
+-- the last byte of a line is that of the piece that it ends with
+last_of_both : (front piece : List ℕ) → 0 < length piece → last_byte (front ++ piece) ≡ last_byte piece
+last_of_both front piece some =
+    let place : length (front ++ piece) - 1 ≡ length front + (length piece - 1) = omega (arith, some, length-append front piece) in
+    ap (λ k. get_or (front ++ piece) k 0) place ∙ get_or-append-add front piece (length piece - 1) 0
+
+-- what was taken makes the line grow
+pub rest_grows : {old new : SourceView} {was is : LinesView} (most count : ℕ) → TakesAhead old.left new.left was.line is.line most count → new.faults ≡ old.faults → most ≡ was.room → is.ahead ≡ was.ahead
+    → is.room ≡ was.room - count → Grows was.room old new was is
+rest_grows {old} {new} {was} {is} most count t same all ahead room = record {
+  piece = t.piece;
+  takes = record { taken = t.taken; faults = omega (arith, same); few = omega (arith, t.long, t.few, all) };
+  few = omega (arith, t.long, t.few, all);
+  room = omega (arith, t.long, t.few, all, room);
+  line = t.line;
+  ahead = ahead;
+}
+
+-- the line has its end, where the last byte of the piece is one
+rest_ended : (was is piece : List ℕ) (count : ℕ) → is_unbroken was ≡ true → is ≡ was ++ piece → length piece ≡ count → 0 < count → Nowhere (Passes (is_byte 10) piece) 0 (count - 1) → nat_eq (last_byte is) 10 ≡ true → IsLine is
+rest_ended was is piece count unbroken grown long some none ends =
+    let more : 0 < length piece = omega (arith, some, long) in
+    let front : List ℕ = take (length piece - 1) piece in
+    let byte : last_byte piece ≡ 10 = sym (last_of_both was piece more) ∙ (ap last_byte (sym grown) ∙ eqb-true (last_byte is) 10 ends) in
+    record {
+      front = was ++ front;
+      unbroken = joined was front unbroken (front_unbroken piece count long none);
+      is = grown ∙ (ap (λ bs. was ++ bs) (parted_last piece more ∙ ap (λ b. front ++ b ∷ []) byte) ∙ sym (append_assoc was front (10 ∷ [])));
+    }
+
+-- and it has none, where the last byte isn't one
+rest_unbroken : (was is piece : List ℕ) (count : ℕ) → is_unbroken was ≡ true → is ≡ was ++ piece → length piece ≡ count → 0 < count → Nowhere (Passes (is_byte 10) piece) 0 (count - 1) → nat_eq (last_byte is) 10 ≡ false → is_unbroken is ≡ true
+rest_unbroken was is piece count unbroken grown long some none other =
+    let more : 0 < length piece = omega (arith, some, long) in
+    let front : List ℕ = take (length piece - 1) piece in
+    let byte : nat_eq (last_byte piece) 10 ≡ false = ap (λ b. nat_eq b 10) (sym (last_of_both was piece more) ∙ ap last_byte (sym grown)) ∙ other in
+    let last : is_unbroken (last_byte piece ∷ []) ≡ true = ap (λ b. not b && true) byte in
+    ap is_unbroken grown ∙ joined was piece unbroken (ap is_unbroken (parted_last piece more) ∙ joined front (last_byte piece ∷ []) (front_unbroken piece count long none) last)
+
+abbrev rest_to : Bool → Result Bool CheckFail
+rest_to ends = Ok ends
+
+rest_grown : {old new : SourceView} {was is : LinesView} (most count : ℕ) (ends : Bool) → is_unbroken was.line ≡ true → TakesAhead old.left new.left was.line is.line most count → Grows was.room old new was is → 0 < count
+    → ends ≡ nat_eq (last_byte is.line) 10 → TakesRest old new was is (rest_to ends)
+rest_grown {is = is} most count true unbroken t grown some ends = (grown, rest_ended _ is.line t.piece count unbroken t.line t.long some t.one_line (sym ends))
+rest_grown {is = is} most count false unbroken t grown some ends = (grown, rest_unbroken _ is.line t.piece count unbroken t.line t.long some t.one_line (sym ends))
+
+-- what was read ahead was taken, and the last byte says whether it ends the line
+pub rest_taken : {old new : SourceView} {was is : LinesView} (held bytes : List ℕ) (most count : ℕ) (ends : Bool) → held ≡ was.line → bytes ≡ is.line → is_unbroken was.line ≡ true → TakesAhead old.left new.left held is.line most count
+    → new.faults ≡ old.faults → most ≡ was.room → is.ahead ≡ was.ahead → is.room ≡ was.room - count → 0 < count → ends ≡ nat_eq (last_byte bytes) 10 → TakesRest old new was is (rest_to ends)
+rest_taken {old} {new} {was} {is} held bytes most count ends text line unbroken taken same all ahead room some last =
+    let t : TakesAhead old.left new.left was.line is.line most count = subst (λ (l : List ℕ). TakesAhead old.left new.left l is.line most count) text taken in
+    rest_grown most count ends unbroken t (rest_grows {is = is} most count t same all ahead room) some (last ∙ ap (λ l. nat_eq (last_byte l) 10) line)
+
+-- a line that is read goes on
+pub reading_more : {start mid now : SourceView} {was held is : LinesView} (most : ℕ) → IsReading start mid was held → Grows most mid now held is → IsReading start now was is
+reading_more {start} {mid} {now} {was} {held} {is} most r g = record {
+  piece = r.piece ++ g.piece;
+  takes = takes_then was.room held.room was.room r.piece g.piece r.takes g.takes (omega (arith, r.room, g.takes.few));
+  room = omega (arith, r.room, g.room, length-append r.piece g.piece);
+  line = g.line ∙ (ap (λ bs. bs ++ g.piece) r.line ∙ append_assoc was.ahead r.piece g.piece);
+  ahead = g.ahead ∙ r.ahead;
+}
+
+-- the line ended with what was read ahead
+pub rest_is_line : {start mid now : SourceView} {was held is : LinesView} (least most : ℕ) → IsReading start mid was held → Grows most mid now held is → IsLine is.line → TakesLine least start now was is (rest_to true)
+rest_is_line {start} {mid} {now} {was} {held} {is} least most r g line =
+    let more = reading_more {is = is} most r g in (
+      record {
+        piece = more.piece;
+        takes = more.takes;
+        room = more.room;
+        bytes = sym more.line ∙ (sym (append-nil is.line) ∙ ap (λ bs. is.line ++ bs) (sym more.ahead));
+      },
+      line,
+      record { ahead = omega (arith, ap length more.ahead); line = λ few. omega (arith, few, ap length more.ahead) },
+    )
+
+-- the line goes on behind what was read ahead
+pub ahead_read : {start mid now : SourceView} {was read held is : LinesView} (ends : Bool) → IsReading start mid was read → (is_unbroken read.line ≡ true) × (held ≡ read) → ends ≡ false → TakesRest mid now held is (rest_to ends)
+    → IsReading start now was is × (is_unbroken is.line ≡ true)
+ahead_read {start} {mid} {now} {was} {read} {held} {is} ends r cut none rest =
+    let got : TakesRest mid now read is (rest_to false) =
+    subst (λ (l : LinesView). TakesRest mid now l is (rest_to false)) cut.1 (subst (λ (b : Bool). TakesRest mid now held is (rest_to b)) none rest) in
+    (reading_more {is = is} read.room r got.0, got.1)
+
+-- or it ends there
+pub ahead_ended : {start mid now : SourceView} {was read held is : LinesView} (least : ℕ) (ends : Bool) → IsReading start mid was read → (is_unbroken read.line ≡ true) × (held ≡ read) → ends ≡ true → TakesRest mid now held is (rest_to ends)
+    → TakesLine least start now was is (rest_to true)
+ahead_ended {start} {mid} {now} {was} {read} {held} {is} least ends r cut ended rest =
+    let got : TakesRest mid now read is (rest_to true) =
+    subst (λ (l : LinesView). TakesRest mid now l is (rest_to true)) cut.1 (subst (λ (b : Bool). TakesRest mid now held is (rest_to b)) ended rest) in
+    rest_is_line {held = read} {is = is} least read.room r got.0 got.1
+
+cut_off_at : {start mid now : SourceView} {was is : LinesView} (least : ℕ) → IsReading start mid was is → is_unbroken is.line ≡ true → Takes mid now is.room [] → IsOver now.left is → TakesLine least start now was is (taken_to false)
+cut_off_at {start} {mid} {now} {was} {is} least r unbroken none over = (
+  record {
+    piece = r.piece ++ [];
+    takes = takes_then was.room is.room was.room r.piece [] r.takes none (omega (arith, r.takes.few));
+    room = omega (arith, r.room, length-append r.piece []);
+    bytes = ap (λ bs. was.ahead ++ bs) (append-nil r.piece) ∙ (sym r.line ∙ (sym (append-nil is.line) ∙ ap (λ bs. is.line ++ bs) (sym r.ahead)));
+  },
+  record { unbroken = unbroken; alone = r.ahead; over = over },
+  record { ahead = omega (arith, ap length r.ahead); line = λ few. omega (arith, few, ap length r.ahead) },
+)
+
+-- nothing more comes of the line
+pub line_cut_off : {start mid now : SourceView} {was read is : LinesView} (least most : ℕ) (some : Bool) → IsReading start mid was read × (is_unbroken read.line ≡ true) → some ≡ false → TakesPiece most mid now read is (taken_to some)
+    → TakesLine least start now was is (taken_to false)
+line_cut_off {start} {mid} {now} {was} {read} {is} least most some r none takes =
+    let got : TakesPiece most mid now read is (taken_to false) = subst (λ (b : Bool). TakesPiece most mid now read is (taken_to b)) none takes in
+    subst (λ (l : LinesView). TakesLine least start now was l (taken_to false)) (sym got.1)
+    (cut_off_at {is = read} least r.0 r.1 got.0 (subst (λ (l : LinesView). IsOver now.left l) got.1 got.2))

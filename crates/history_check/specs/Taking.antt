@@ -50,6 +50,13 @@ TakesPiece most old new was is (Ok false) = Takes old new was.room [] × (is ≡
 TakesPiece most old new was is (Err SourceFault) = Takes old new was.room [] × Rises old.faults new.faults
 TakesPiece most old new was is (Err NoMemory) = (piece : List ℕ) × Takes old new was.room piece
 
+-- what was read ahead of the line was taken: whether it has its line end
+abbrev pub TakesRest : SourceView → SourceView → LinesView → LinesView → Result Bool CheckFail → Type 0
+TakesRest old new was is (Ok true) = Grows was.room old new was is × IsLine is.line
+TakesRest old new was is (Ok false) = Grows was.room old new was is × (is_unbroken is.line ≡ true)
+TakesRest old new was is (Err SourceFault) = ⊥
+TakesRest old new was is (Err NoMemory) = Takes old new was.room []
+
 -- The next line was taken, and so was what is ahead.
 pub record TakesNext (old new : SourceView) (was is : LinesView) : Type 0 where
   pub piece : List ℕ

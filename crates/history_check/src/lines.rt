@@ -1,7 +1,7 @@
-//! Lines of a source, taken in pieces that never reach behind the text.
-ghost use Rattle.std.specs.Prelude.{◌≡◌, ◌≤◌, ◌<◌, [], length, true, take};
+//! Lines of a source, taken whole where it has them read ahead, and else in pieces that never reach behind the text.
+ghost use Rattle.std.specs.Prelude.{◌≡◌, ◌≤◌, ◌<◌, ◌-◌, [], length, true, take, get_or, nat_eq};
 ghost use Rattle.history_reader.specs.Lines.{is_unbroken};
-ghost use Rattle.history_check.specs.Taking.{Splits, TakesPiece, TakesLine, MayTake};
+ghost use Rattle.history_check.specs.Taking.{Splits, TakesPiece, TakesRest, TakesLine, MayTake};
 ghost use Rattle.history_check.specs.declared.lines.TheConstants.{MAX_PIECE};
 
 use crate::fails::CheckFail;
@@ -12,7 +12,7 @@ use std::cmp::min;
 use std::marker::Model;
 use std::mem::swap;
 
-/// The most bytes that are taken by one call.
+/// The most bytes that are taken by one call, but for those of a line that the source has read ahead.
 pub const MAX_PIECE: usize = 32;
 
 /// The line that was taken last, the bytes behind it that were taken too, and how many more may be taken.
@@ -74,6 +74,9 @@ impl Lines {
             if self.split(looked)? {
                 return Ok(true);
             }
+            if self.take_ahead(input)? {
+                return Ok(true);
+            }
             looked = self.line.len();
             if !self.take_piece(input, wanted(looked, least))? {
                 return Ok(false);
@@ -96,6 +99,19 @@ impl Lines {
         self.ahead.extend_from_slice(&self.line[end..])?;
         self.line.truncate(end);
         Ok(true)
+    }
+
+    // Takes what the source has read ahead of the line, which has no line end yet, and answers whether it has one then.
+    fn take_ahead<I: Source>(&mut self, input: &mut I) -> Result<bool, CheckFail>
+        requires { is_unbroken self.old.line ≡ true }
+        ensures { TakesRest (I.seen input.old) (I.seen input.new) self.old self.new result }
+    {
+        let count = input.take_ahead(&mut self.line, self.room as usize)?;
+        if count == 0 {
+            return Ok(false);
+        }
+        self.room -= count as u64;
+        Ok(ends_line(&self.line))
     }
 
     // Takes some bytes more of the line, and answers whether any came.
@@ -128,4 +144,12 @@ fn wanted(held: usize, least: usize) -> usize
     } else {
         1 + least
     }
+}
+
+// Whether the last byte ends a line.
+fn ends_line(bytes: &[u8]) -> bool
+    requires { 0 < length bytes.now }
+    ensures { result ≡ nat_eq (get_or bytes.now (length bytes.now - 1) 0) 10 }
+{
+    bytes[bytes.len() - 1] == b'\n'
 }

@@ -1,5 +1,5 @@
 //! A book whose history can be seen without its lock.
-ghost use Rattle.std.specs.Prelude.{◌≡◌, ◌<◌, ◌-◌, IfOk, IfSome, IsSome, OnErr, List, Ok, Some, length, take, true, false};
+ghost use Rattle.std.specs.Prelude.{◌≡◌, ◌<◌, ◌-◌, IfOk, IfSome, IsNone, IsSome, None, OnErr, List, Ok, Some, length, take, true, false};
 ghost use Rattle.resource_lock.specs.declared.changes.Change.{Change};
 ghost use Rattle.lock_transforms.specs.Entry.{prefix_state};
 ghost use Rattle.lock_journal.specs.Ran.{FinishesIn, FailsIn, IsToRetry};
@@ -45,6 +45,7 @@ impl<R: Wait + Drop> ShownBook<R> {
     ) -> Result<ShownBook<R>, AllocError>
         ensures book { IfOk result (λ s. s.book ≡ book.value) }
         ensures shown { IfOk result (λ s. 0 < views → IsSome s.ledger) }
+        ensures plain { IfOk result (λ s. views ≡ 0 → IsNone s.ledger) }
     {
         if views == 0 {
             return Ok(ShownBook { book, stage: None });
@@ -71,6 +72,18 @@ impl<R: Wait + Drop> ShownBook<R> {
         match &self.stage {
             None => None,
             Some(stage) => Some(stage.reach().again()),
+        }
+    }
+
+    /// Writes down how far the history of the book has come, where it is shown. Where it isn't, nothing was ever written, and
+    /// nothing is now.
+    #[inline]
+    pub fn tell(&self, reach: &mut Option<Reach>)
+        requires { self.now.ledger ≡ None → reach.old ≡ None }
+        ensures { IsTold self.now.ledger reach.new self.now.book }
+    {
+        if let Some(stage) = &self.stage {
+            *reach = Some(stage.reach().again());
         }
     }
 
@@ -129,7 +142,7 @@ impl<R: Wait + Drop> ShownBook<R> {
 }
 
 // Shows the last entry of the book where there is a stage, or takes it back.
-#[inline]
+#[inline(always)]
 fn show_last<R: Wait + Drop>(book: &mut Book, stage: &mut Option<Stage<R>>) -> bool
     requires some { 0 < length book.old.history }
     requires later { IfSome stage.old (λ s. IsLater (last_book s.log) book.old) }
@@ -145,7 +158,8 @@ fn show_last<R: Wait + Drop>(book: &mut Book, stage: &mut Option<Stage<R>>) -> b
     }
 }
 
-// Shows the last entry of the book on the stage, or takes it back.
+// Shows the last entry of the book on the stage, or takes it back. It stands apart, so that who shows nothing passes it by.
+#[inline(never)]
 fn show_on<R: Wait + Drop>(book: &mut Book, stage: &mut Stage<R>) -> bool
     requires some { 0 < length book.old.history }
     requires later { IsLater (last_book stage.old.log) book.old }

@@ -4,11 +4,8 @@
 ghost use Rattle.std.specs.Prelude.{◌≡◌, IfOk, length};
 ghost use Rattle.leases_cli.specs.declared.top.TheConstants.{DESKS};
 
-mod ahead;
-
-use crate::ahead::Ahead;
 use daemon_desk::FolderDesk;
-use file_access::{OpenGate, StdSink, StdSource};
+use file_access::{AheadSource, OpenGate, StdSink};
 use item_actions::Text;
 use leases_cli::{DESKS, Status, leases};
 use std::alloc::{AllocError, AllocFailed, Global};
@@ -78,7 +75,7 @@ fn run<T: Threads + Wait + Sync>(rt: &HostRuntime, threads: &T) -> Result<Status
     let alloc = rt.alloc();
     let words = read_words(rt, alloc)?;
     let mut desks = desks(rt, alloc)?;
-    let mut input = StdSource::new(Ahead::new(rt.reader()));
+    let mut input = AheadSource::new(rt.reader());
     let mut out = StdSink::new(io::writer(rt));
     let ended = leases(
         threads, alloc, &words, &mut desks, &mut input, &OpenGate, &mut out,

@@ -1,11 +1,11 @@
 //! What a unit gives today.
 ghost use Rattle.std.specs.Prelude.{◌≡◌, ◌↔◌, IsTrue, IfOk, IfSome, Some};
-ghost use Rattle.item_actions.specs.Value.{IsHonest, value_on};
+ghost use Rattle.item_actions.specs.Value.{IsHonest};
 ghost use Rattle.plan_reader.specs.Units.{unit_view, value_in};
 ghost use Rattle.file_access.specs.ReadView.{IsFaultCounted};
 
-use file_access::{DeskFail, Files, Read};
-use item_actions::{ItemAction, MAX_FILE_BYTES, Outcome, Text, act};
+use file_access::{DeskFail, Files};
+use item_actions::{ItemAction, Outcome};
 use plan_reader::UnitWork;
 use std::alloc::Global;
 
@@ -21,32 +21,8 @@ pub(crate) fn unit_value<F: Files>(
     ensures value { IfSome (F.files files.old) (λ known. IfOk result (λ o. o ≡ value_in known (Some (unit_view work.entry)))) }
 {
     match work {
-        UnitWork::Fetch(file) => value_by(alloc, &ItemAction::Bytes, file, files),
-        UnitWork::Item(work) => value_by(alloc, &work.action, &work.file, files),
-    }
-}
-
-// What an action gives on the file of this name.
-fn value_by<F: Files>(
-    alloc: Global,
-    action: &ItemAction,
-    name: &Text,
-    files: &mut F,
-) -> Result<Outcome, DeskFail>
-    ensures files { F.files files.new ≡ F.files files.old }
-    ensures keeps { F.keeps files.old files.new }
-    ensures counted { IsFaultCounted (F.faults files.old) (F.faults files.new) result }
-    ensures value { IfSome (F.files files.old) (λ known. IfOk result (λ o. o ≡ value_on known action.now name.now)) }
-{
-    match files.read(alloc, name, MAX_FILE_BYTES) {
-        Ok(Read::Bytes(bytes)) => {
-            let outcome = act(action, bytes.as_bytes());
-            files.give_back(bytes);
-            Ok(outcome)
-        }
-        Ok(Read::NotThere) => Ok(Outcome::NotThere),
-        Ok(Read::TooLong) => Ok(Outcome::TooLong),
-        Err(fail) => Err(fail),
+        UnitWork::Fetch(file) => files.act_on(alloc, &ItemAction::Bytes, file),
+        UnitWork::Item(work) => files.act_on(alloc, &work.action, &work.file),
     }
 }
 

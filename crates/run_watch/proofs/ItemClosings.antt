@@ -1,21 +1,21 @@
 -- Which entry closed an item, as a history goes on.
-use Rattle.std.proofs.Common.{◌≡◌, ◌+◌, ◌<◌, ◌≤◌, ℕ, eqb, eq-eqb, eqb-true, ne_eqb, set, length-set, sym, Option, None, Bool, true, false, List, [], ◌∷◌, ◌++◌, refl, ap, ◌∙◌, cond, suc, length, get_or, take, Some, arith}
+use Rattle.std.proofs.Common.{◌≡◌, ◌+◌, ◌<◌, ◌≤◌, ℕ, eqb, eq-eqb, eqb-true, ne_eqb, set, length-set, sym, Option, None, Bool, true, false, List, [], ◌∷◌, ◌++◌, refl, ap, ◌∙◌, cond, zero, suc, length, get_or, take, Some, arith}
 use Rattle.std.proofs.lemmas.Grind.{get_or-set_at}
 use Rattle.std.proofs.lemmas.List.{get_or-set_other, length-take-le, take_more}
 use Rattle.std.proofs.lemmas.Option.{get_or_from_slice_get, slice_get_within}
 use Rattle.std.specs.Prelude.{slice_get}
 use Rattle.lock_transforms.specs.Entry.{Entry}
-use Rattle.run_watch.specs.Watches.{closing_in, closing_number, is_this, item_closed}
+use Rattle.run_watch.specs.Watches.{closing_number, is_this, item_closed, one_further}
 
-closing_in-append : (n found u : ℕ) (xs ys : List Entry) → closing_in n found u (xs ++ ys) ≡ closing_in (n + length xs) (closing_in n found u xs) u ys
-closing_in-append n found u [] ys = let same : n ≡ n + length {A = Entry} [] = omega arith in ap (λ (k : ℕ). closing_in k found u ys) same
-closing_in-append n found u (e ∷ es) ys =
-    let f : ℕ = cond (is_this u (item_closed e)) (suc n) found in
-    let same : suc n + length es ≡ n + length (e ∷ es) = omega arith in
-    closing_in-append (suc n) f u es ys ∙ ap (λ (k : ℕ). closing_in k (closing_in (suc n) f u es) u ys) same
+further_push : (k n : ℕ) (this last : Bool) → one_further (cond last (suc n) k) this ≡ cond last (suc (suc n)) (one_further k this)
+further_push k n this true = refl
+further_push k n this false = refl
 
 closing-push : (u : ℕ) (xs : List Entry) (e : Entry) → closing_number u (xs ++ e ∷ []) ≡ cond (is_this u (item_closed e)) (suc (length xs)) (closing_number u xs)
-closing-push u xs e = let same : 0 + length xs ≡ length xs = omega arith in closing_in-append 0 0 u xs (e ∷ []) ∙ ap (λ (k : ℕ). closing_in k (closing_number u xs) u (e ∷ [])) same
+closing-push u [] e = refl
+closing-push u (x ∷ xs) e =
+    ap (λ (k : ℕ). one_further k (is_this u (item_closed x))) (closing-push u xs e)
+    ∙ further_push (closing_number u xs) (length xs) (is_this u (item_closed x)) (is_this u (item_closed e))
 
 -- one entry further
 pub closing_more : (u : ℕ) (h : List Entry) (n : ℕ) (e : Entry) → slice_get h n ≡ Some e
@@ -28,18 +28,15 @@ closing_more u h n e at =
     ap (λ (l : List Entry). closing_number u l) (take_more h n e within ∙ ap (λ (x : Entry). take n h ++ x ∷ []) here)
     ∙ (closing-push u (take n h) e ∙ ap (λ (k : ℕ). cond (is_this u (item_closed e)) k (closing_number u (take n h))) count)
 
-later_or : (b : Bool) (n found : ℕ) → found ≤ n → cond b (suc n) found ≤ suc n
-later_or true n found le = omega arith
-later_or false n found le = omega arith
-
-closing_in-within : (n found u : ℕ) (es : List Entry) → found ≤ n → closing_in n found u es ≤ n + length es
-closing_in-within n found u [] le = omega arith
-closing_in-within n found u (e ∷ es) le =
-    let rest = closing_in-within (suc n) (cond (is_this u (item_closed e)) (suc n) found) u es (later_or (is_this u (item_closed e)) n found le) in omega (arith, rest)
+further_within : (k n : ℕ) (this : Bool) → k ≤ n → one_further k this ≤ suc n
+further_within (suc k) n this le = omega arith
+further_within zero n true le = omega arith
+further_within zero n false le = omega arith
 
 -- an entry of the history closed it, if one did
 pub closing_within : (u : ℕ) (h : List Entry) → closing_number u h ≤ length h
-closing_within u h = let le = closing_in-within 0 0 u h (omega arith) in omega (arith, le)
+closing_within u [] = omega arith
+closing_within u (e ∷ es) = further_within (closing_number u es) (length es) (is_this u (item_closed e)) (closing_within u es)
 
 -- the closings of the first n entries are noted
 abbrev pub AreNoted : List Entry → ℕ → List ℕ → Type 0

@@ -1,5 +1,5 @@
 -- What was seen of a run, against its book.
-use Rattle.std.specs.Prelude.{ℕ, zero, suc, ◌≡◌, ◌+◌, ◌==◌, ◌≤◌, if◌then◌else◌, Bool, false, List, [], ◌∷◌, ◌++◌, Option, None, Some, length, map}
+use Rattle.std.specs.Prelude.{ℕ, zero, suc, ◌≡◌, ◌==◌, ◌≤◌, if◌then◌else◌, Bool, false, List, [], ◌∷◌, ◌++◌, Option, None, Some, length, map}
 use Rattle.std.specs.List.{All}
 use Rattle.resource_lock.specs.StateView.{leases_out}
 use Rattle.resource_lock.specs.declared.changes.Change.{Change}
@@ -23,14 +23,15 @@ abbrev pub is_this : ℕ → Option ℕ → Bool
 is_this unit None = false
 is_this unit (Some other) = other == unit
 
--- the number of the entry that closed the unit, where entries are counted from n + 1 on, or `found`
-abbrev pub closing_in : ℕ → ℕ → ℕ → List Entry → ℕ
-closing_in n found unit [] = found
-closing_in n found unit (e ∷ es) = closing_in (suc n) (if is_this unit (item_closed e) then suc n else found) unit es
+-- A number in the list behind an entry, in the list with it, where 0 stands for none. Where there was none it is this entry's, if so.
+abbrev pub one_further : ℕ → Bool → ℕ
+one_further (suc n) this = suc (suc n)
+one_further zero this = if this then 1 else 0
 
--- the number of the entry that closed the item, counted from 1 on, or 0
+-- the number of the last entry that closed the item, counted from 1 on, or 0
 abbrev pub closing_number : ℕ → List Entry → ℕ
-closing_number unit history = closing_in 0 0 unit history
+closing_number unit [] = 0
+closing_number unit (e ∷ es) = one_further (closing_number unit es) (is_this unit (item_closed e))
 
 -- the items among the first n units that the history closed, by rising number
 abbrev pub closed_items : List Entry → ℕ → List ℕ

@@ -1,11 +1,11 @@
 //! The end of a service.
-ghost use Rattle.std.specs.Prelude.{◌≡◌, ◌≢◌, ◌≤◌, ◌⊎◌, ℕ, [], All, IfErr, IfNone, IfOk, IfSome, false, length, map, true, vec_capacity};
+ghost use Rattle.std.specs.Prelude.{◌≡◌, ◌≢◌, ◌<◌, ◌≤◌, ℕ, [], All, IfNone, IfSome, false, length, map, true, vec_capacity};
 ghost use Rattle.std.specs.Arc.{arc_value};
 ghost use Rattle.atomic_table.specs.Seated.{TableId};
 ghost use Rattle.resource_lock.specs.GraphView.{GraphView};
 ghost use Rattle.coordination.specs.Closings.{IsClosedBy};
 ghost use Rattle.coordination.specs.Sights.{workers_from};
-ghost use Rattle.wakhurmi_c.specs.Closed.{WhyUnfinished};
+ghost use Rattle.wakhurmi_c.specs.Closed.{AreWhole, WhyUnfinished};
 ghost use Rattle.wakhurmi_c.specs.Numbers.{answer_of};
 ghost use Rattle.wakhurmi_c.specs.declared.answers.Answer.TheVariants as answers;
 
@@ -13,24 +13,39 @@ use crate::answers::Answer;
 use crate::book_handles::BookHandle;
 use crate::handles::Handle;
 use crate::workers::Worker;
-use coordination::{Pass, Slot};
+use coordination::{BoxedBook, Pass, Slot};
 use lock_journal::Book;
-use std::alloc::Global;
+use resource_lock::Graph;
+use std::alloc::{AllocError, Global};
 use std::sync::Arc;
 
-/// What the workers of a service share: the service, and how many they are.
-#[derive(Drop)]
-struct Common {
-    service: Arc<Slot, Global>,
-    workers: u32,
-    ghost workers_are: { workers ≡ (arc_value service).table.shared.key.kept.value.book.graph.workers },
-}
-
-/// The passes of workers, which are taken out of their handles, and what they share.
+/// The passes of workers, which are taken out of their handles, and the service that they share.
 #[derive(Drop)]
 struct Gathered {
     passes: Vec<Pass>,
-    common: Option<Common>,
+    service: Option<Arc<Slot, Global>>,
+}
+
+/// Whether full handles are those of all workers of a service, in order. They stay full, with the same workers.
+fn are_whole(alloc: Global, handles: &mut [Handle]) -> bool
+    requires { All (λ h. h.full ≡ true) handles.old }
+    ensures full { All (λ h. h.full ≡ true) handles.new }
+    ensures workers { map (λ h. h.held.worker) handles.new ≡ map (λ h. h.held.worker) handles.old }
+    ensures are { result ≡ true → AreWhole handles.old }
+    ensures are_not { result ≡ false → AreWhole handles.old → ⊥ }
+{
+    let count = handles.len();
+    let mut whole = count > 0;
+    let mut number = 0;
+    for handle in handles.iter_mut() {
+        let worker = handle.take(alloc);
+        if worker.pass.worker().0 as usize != number || worker.workers as usize != count {
+            whole = false;
+        }
+        *handle = Handle::of(worker);
+        number += 1;
+    }
+    whole
 }
 
 /// Takes the workers out of full handles. There is room for their passes.
@@ -41,67 +56,56 @@ fn gather(alloc: Global, handles: &mut [Handle], mut passes: Vec<Pass>) -> Gathe
     requires room { length handles.old ≤ vec_capacity passes }
     ensures emptied { All (λ h. h.full ≡ false) handles.new }
     ensures passes { result.passes.items ≡ map (λ h. h.held.worker.pass) handles.old }
-    ensures service { IfSome result.common (λ c. All (λ p. p.service.table ≡ (arc_value c.service).table.shared.table_id) result.passes.items) }
-    ensures workers { IfSome result.common (λ c. (n : ℕ) → All (λ h. h.held.worker.workers ≡ n) handles.old → c.workers ≡ n) }
-    ensures none { IfNone result.common (length handles.old ≡ 0) }
+    ensures service { IfSome result.service (λ s. All (λ p. p.service.table ≡ (arc_value s).table.shared.table_id) result.passes.items) }
+    ensures workers { IfSome result.service (λ s. (n : ℕ) → All (λ h. h.held.worker.workers ≡ n) handles.old
+        → (arc_value s).table.shared.key.kept.value.book.graph.workers ≡ n) }
+    ensures none { IfNone result.service (length handles.old ≡ 0) }
 {
-    let mut common = None;
+    let mut shared = None;
     for handle in handles.iter_mut() {
         let Worker {
             service,
             pass,
-            workers,
+            workers: _,
             locks: _,
             asked: _,
             sleepers: _,
         } = Box::into_inner(handle.take(alloc));
         passes.push_reserved(pass);
-        common = Some(Common { service, workers });
+        shared = Some(service);
     }
-    Gathered { passes, common }
+    Gathered {
+        passes,
+        service: shared,
+    }
 }
 
-/// Whether these are the passes of so many workers, in order.
-fn are_all(passes: &[Pass], workers: u32) -> bool
-    ensures are { result ≡ true → map (λ p. p.sight.worker.0) passes.now ≡ workers_from 0 workers }
-    ensures are_not { result ≡ false → map (λ p. p.sight.worker.0) passes.now ≢ workers_from 0 workers }
-{
-    if passes.len() != workers as usize {
-        return false;
-    }
-    let mut number = 0;
-    for pass in passes {
-        if pass.worker().0 != number {
-            return false;
-        }
-        number += 1;
-    }
-    true
+/// A book of the least size, for the slot whose own book is taken out. It fails for want of memory alone.
+fn spare_book(alloc: Global) -> Result<Box<Book>, AllocError> {
+    let graph = Graph::new(0, None, 1, 1, Vec::new(alloc), Vec::new(alloc));
+    let book = Book::opening(alloc, graph, 0, 0)?;
+    Ok(Box::new(alloc, book)?)
 }
 
-/// Takes the book out of a service, by the passes of all its workers, or says why they aren't.
-fn close_by(gathered: Gathered) -> Result<Box<Book>, Answer>
-    requires { IfSome gathered.common (λ c. All (λ p. p.service.table ≡ (arc_value c.service).table.shared.table_id) gathered.passes.items) }
-    ensures closed { IfOk result (λ book. (g : GraphView) × IsClosedBy gathered.passes.items g book.value) }
-    ensures why { IfErr result (λ answer. (answer ≡ answers.Misused) ⊎ ((answer ≡ answers.BadNumber)
-        × IfSome gathered.common (λ c. map (λ p. p.sight.worker.0) gathered.passes.items ≢ workers_from 0 c.workers))) }
+/// Takes the book out of a service, by the passes of all its workers. The spare one lies there instead.
+fn close_by(gathered: Gathered, spare: Box<Book>) -> Box<Book>
+    requires some { 0 < length gathered.passes.items }
+    requires none { IfNone gathered.service (length gathered.passes.items ≡ 0) }
+    requires service { IfSome gathered.service (λ s. All (λ p. p.service.table ≡ (arc_value s).table.shared.table_id) gathered.passes.items) }
+    requires all { IfSome gathered.service (λ s. map (λ p. p.sight.worker.0) gathered.passes.items
+        ≡ workers_from 0 (arc_value s).table.shared.key.kept.value.book.graph.workers) }
+    ensures { IsClosedBy gathered.passes.items result.value.graph result.value }
 {
-    let Gathered { passes, common } = gathered;
-    let Some(Common { service, workers }) = common else {
-        return Err(Answer::BadNumber);
+    let Gathered { passes, service } = gathered;
+    let Some(service) = service else {
+        unreachable!()
     };
-    if !are_all(&passes, workers) {
-        return Err(Answer::BadNumber);
-    }
-    match Arc::into_inner(service) {
-        Some(slot) => Ok(slot.close(passes)),
-        None => Err(Answer::Misused),
-    }
+    service.take_away(passes, BoxedBook { inner: spare })
 }
 
 /// Ends a service whose workers' handles these are, all of them and in order: the book is taken out of it for good. Where they
-/// aren't that, it answers `BadNumber`, and their workers are closed all the same. `Full` and `Empty` speak of the book's handle
-/// and of these.
+/// aren't that, it answers `BadNumber`, and they stay full, with the same workers. `Full` and `Empty` speak of the book's handle
+/// and of these. It takes memory for a small book, and answers `NoMemory` where there is none.
 #[unsafe(no_mangle)]
 pub extern "C" fn wakhurmi_c_finish(
     alloc: Global,
@@ -114,8 +118,9 @@ pub extern "C" fn wakhurmi_c_finish(
         → (g : GraphView) × IsClosedBy (map (λ h. h.held.worker.pass) handles.old) g book.new.held.book }
     ensures emptied { answer_of result ≡ answers.Done → All (λ h. h.full ≡ false) handles.new }
     ensures why { answer_of result ≢ answers.Done → WhyUnfinished handles.old book.old.full (answer_of result) }
-    ensures kept { answer_of result ≢ answers.Done → answer_of result ≢ answers.BadNumber → answer_of result ≢ answers.Misused
-        → handles.new ≡ handles.old }
+    ensures kept { answer_of result ≢ answers.Done → answer_of result ≢ answers.BadNumber → handles.new ≡ handles.old }
+    ensures full { answer_of result ≡ answers.BadNumber → All (λ h. h.full ≡ true) handles.new }
+    ensures workers { answer_of result ≡ answers.BadNumber → map (λ h. h.held.worker) handles.new ≡ map (λ h. h.held.worker) handles.old }
     ensures book_kept { answer_of result ≢ answers.Done → book.new ≡ book.old }
 {
     if book.full {
@@ -127,13 +132,14 @@ pub extern "C" fn wakhurmi_c_finish(
     let Ok(passes) = Vec::with_capacity(alloc, handles.len()) else {
         return Answer::NoMemory.number();
     };
-    match close_by(gather(alloc, handles, passes)) {
-        Ok(closed) => {
-            *book = BookHandle::of(closed);
-            Answer::Done.number()
-        }
-        Err(answer) => answer.number(),
+    let Ok(spare) = spare_book(alloc) else {
+        return Answer::NoMemory.number();
+    };
+    if !are_whole(alloc, handles) {
+        return Answer::BadNumber.number();
     }
+    *book = BookHandle::of(close_by(gather(alloc, handles, passes), spare));
+    Answer::Done.number()
 }
 
 /// Closes the book of a finished service.

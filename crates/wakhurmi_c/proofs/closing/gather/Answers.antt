@@ -33,8 +33,9 @@ loop-handle-preserved c =
       subst (λ (t : TableId). All (λ (p : PassView). p.service.table ≡ t) c.push_reserved.new.self.items) same
           (subst (All (λ (p : PassView). p.service.table ≡ c.requires.service.0)) (sym passes)
           (all_front (λ (h : Handle). h.held.worker.pass) (λ (p : PassView). p.service.table ≡ c.requires.service.0) hs (i + 1) all)),
-      (λ n are. ap (λ w. w.workers) (c.into_inner-service.ensures ∙ c.take.ensures.worker)
-          ∙ (ap (λ (h : Handle). h.held.worker.workers) (same_at c.loop-handle.handles hs i item inv.3) ∙ are i item low)),
+      (λ n are. sym c.into_inner-service.result.workers_are
+          ∙ (ap (λ w. w.workers) (c.into_inner-service.ensures ∙ c.take.ensures.worker)
+          ∙ (ap (λ (h : Handle). h.held.worker.workers) (same_at c.loop-handle.handles hs i item inv.3) ∙ are i item low))),
       tt,
     )
 

@@ -10,5 +10,6 @@ invariant-loop-handle l =
     let hs = l.fn.handles in
     (l.passes.items ≡ map (λ h. h.held.worker.pass) (take l.handle-index hs)) × (length hs ≤ vec_capacity l.passes)
     × All (λ h. h.full ≡ false) (take l.handle-index l.handles) × (drop l.handle-index l.handles ≡ drop l.handle-index hs)
-    × IfSome l.common (λ c. All (λ p. p.service.table ≡ (arc_value c.service).table.shared.table_id) l.passes.items)
-    × IfSome l.common (λ c. (n : ℕ) → All (λ h. h.held.worker.workers ≡ n) hs → c.workers ≡ n) × IfNone l.common (l.handle-index ≡ 0)
+    × IfSome l.shared (λ s. All (λ p. p.service.table ≡ (arc_value s).table.shared.table_id) l.passes.items)
+    × IfSome l.shared (λ s. (n : ℕ) → All (λ h. h.held.worker.workers ≡ n) hs → (arc_value s).table.shared.key.kept.value.book.graph.workers ≡ n)
+    × IfNone l.shared (l.handle-index ≡ 0)

@@ -5,7 +5,7 @@ use Rattle.history_views.specs.ShownBooks.{IsTold}
 use Rattle.coordination.specs.Sights.{sight_of, seeing}
 use Rattle.coordination.specs.Rule.{M, carried_book}
 use Rattle.coordination.proofs.Tries.{keeps, after_ask, taken_book}
-use Rattle.coordination.proofs.PassSteps.{closes_pass, part_on, room_on}
+use Rattle.coordination.proofs.PassSteps.{closes_pass, part_on, room_on, untold_in}
 use Rattle.coordination.proofs.slots.Slot.ask_at.Goals as goal
 
 pub put_back-requires-clause-own : goal.put_back-requires-clause-own
@@ -14,6 +14,9 @@ put_back-requires-clause-own g c =
     let q = c.args.question.now in
     keeps (Q.answers q) (Q.waits_on q) c.ask_book-answer.result.0 c.args.seat.now.me c.try_take.new.seat.me c.ask_book-answer.new.seat.me (c.try_take.ensures.taken c.if-not-try_take.false) c.ask_book-answer.ensures.same.2 c.args.worker
     c.requires.pass.worker_is
+
+pub ask_book-answer-requires-clause-told : goal.ask_book-answer-requires-clause-told
+ask_book-answer-requires-clause-told g c = untold_in c.args.seat.now.me c.try_take.new.seat.me (c.try_take.ensures.taken c.if-not-try_take.false) c.args.reach.now c.requires.pass.told
 
 pub returns-clause-pass : goal.returns-clause-pass
 returns-clause-pass g c =

@@ -6,7 +6,7 @@ use Rattle.coordination.specs.Sights.{sight_of, seeing}
 use Rattle.coordination.specs.Rule.{carried_book}
 use Rattle.coordination.specs.Parts.{IsPartOf}
 use Rattle.coordination.proofs.Tries.{after, attempted, known_in, owns, part_in, room_in, sound_in}
-use Rattle.coordination.proofs.PassSteps.{closes_pass}
+use Rattle.coordination.proofs.PassSteps.{closes_pass, untold_in}
 use Rattle.coordination.proofs.slots.Slot.attempt_at.Goals as goal
 
 pub put_back-requires-clause-own : goal.put_back-requires-clause-own
@@ -25,6 +25,9 @@ run-ran-requires-clause-part g c =
       kept = part_in c.args.seat.now.me c.try_take.new.seat.me taken c.args.worker c.args.part.now p.worker_is p.part_is;
       room = room_in c.args.seat.now.me c.try_take.new.seat.me taken c.args.part.now p.room;
     }
+
+pub run-ran-requires-clause-told : goal.run-ran-requires-clause-told
+run-ran-requires-clause-told g c = untold_in c.args.seat.now.me c.try_take.new.seat.me (c.try_take.ensures.taken c.if-not-try_take.false) c.args.reach.now c.requires.pass.told
 
 pub returns-clause-pass : goal.returns-clause-pass
 returns-clause-pass g c =

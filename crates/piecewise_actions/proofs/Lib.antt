@@ -1,0 +1,4 @@
+mod NeedleCounts
+mod PieceStates
+mod Runs
+mod Words

@@ -1,0 +1,4 @@
+pub mod Needles
+pub mod Runs
+pub mod States
+pub mod Words
