@@ -20,8 +20,8 @@ TASKS = 2048
 NAMES = [8, 64]
 RUN = ["run", "plan.toml", "--max-workers", "1", "--threads", "1", "--history"]
 
-# The goals: instructions a unit with the plan's reading, those of a transform of the workers without the reading
-# of files, growth from 2,048 to 8,192 items, and peak memory.
+# The goals: instructions a unit with the plan's reading, those of a transform of the workers without their
+# looks at files, growth from 2,048 to 8,192 items, and peak memory.
 MOST_A_UNIT = 15_000
 MOST_A_TRANSFORM = 1_500
 MOST_GROWTH = 4.3
@@ -30,10 +30,10 @@ MOST_KILOBYTES = 40 * 1024
 # Of the growth from the fewest to the most names in `after`, so much at most in what isn't the plan's reading.
 MOST_GROWTH_BY_NAMES = 2.0
 
-# The functions whose difference is what the workers do in their threads, without the reading of files. The compiler puts the
+# The functions whose difference is what the workers do in their threads, without their looks at files. The compiler puts the
 # calls that open and close the book into the function of the whole call, so they are counted with the plan's reading.
 RUN_OF_THE_WORKERS = "std::thread::fork::chunks_from"
-READING_OF_FILES = "FolderDeskFiles::read"
+READING_OF_FILES = "FolderDeskFiles::act_on"
 READING_OF_THE_PLAN = "leases_cli::plans::read"
 
 
@@ -61,7 +61,7 @@ def make_folder(folder: pathlib.Path, items: int, names: int = 0) -> None:
 
 def inclusive(profile: pathlib.Path, name: str) -> int:
     """The instructions of a function with all that it calls."""
-    call = ["callgrind_annotate", "--inclusive=yes", str(profile)]
+    call = ["callgrind_annotate", "--inclusive=yes", "--threshold=100", str(profile)]
     table = subprocess.run(call, capture_output=True, text=True).stdout
     found = re.search(r"^\s*([\d,]+) .*" + re.escape(name), table, re.MULTILINE)
     if found is None:

@@ -104,6 +104,18 @@ def contended_plan() -> str:
     return plan_text(2, tasks)
 
 
+def wide_plan(tasks: int = 2048, items: int = 4, projects: int = 64) -> str:
+    """So many tasks of projects in turn, each with so many small items."""
+    action = action_text([item_text("lines", "a.txt")] * items, "release_and_reacquire")
+    return plan_text(projects, [task_text(f"t{n}", f"p{n % projects}", [], [action]) for n in range(tasks)])
+
+
+def chain_plan(tasks: int = 2048) -> str:
+    """So many tasks with a small item each, which come one after another."""
+    action = action_text([item_text("lines", "a.txt")], "release_and_reacquire")
+    return plan_text(1, [task_text(f"t{n}", "p0", [f"t{n - 1}"] if n else [], [action]) for n in range(tasks)])
+
+
 def run_contended(program: str, folder: pathlib.Path, runs: int) -> None:
     (folder / "plan.toml").write_text(contended_plan())
     expected = run(program, folder, "--threads", "1", "--summary")
@@ -144,17 +156,13 @@ def time_plans(program: str, folder: pathlib.Path) -> None:
         seconds(program, folder, "--threads", "1", "--max-workers", "1"),
         seconds(program, folder, "--threads", "4", "--max-workers", "4"),
     )
-    tiny = [action_text([item_text("lines", "a.txt")] * 4, "release_and_reacquire")]
-    tasks = [task_text(f"t{n}", f"p{n % 64}", [], tiny) for n in range(2048)]
-    (folder / "plan.toml").write_text(plan_text(64, tasks))
+    (folder / "plan.toml").write_text(wide_plan())
     report(
         "8,192 small items in 2,048 tasks, 4 threads",
         seconds(program, folder, "--threads", "1", "--max-workers", "1"),
         seconds(program, folder, "--threads", "4", "--max-workers", "4", "--parallel"),
     )
-    one = [action_text([item_text("lines", "a.txt")], "release_and_reacquire")]
-    chain = [task_text(f"t{n}", "p0", [f"t{n - 1}"] if n else [], one) for n in range(2048)]
-    (folder / "plan.toml").write_text(plan_text(1, chain))
+    (folder / "plan.toml").write_text(chain_plan())
     report(
         "a chain of 2,048 tasks, 32 threads",
         seconds(program, folder, "--threads", "1", "--max-workers", "1"),

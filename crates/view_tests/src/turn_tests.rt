@@ -136,13 +136,13 @@ fn a_service_with_views_gives_its_book_back(rt: HostRuntime) -> Result<(), Fail>
     Ok(())
 }
 
-// Whether an entry was made and is shown, or none was and nothing is shown of it, whatever memory there is.
+// Has the worker take where it has nothing, and hand back where it has something. Whether an entry was made and is shown, or none was and
+// nothing is shown of it, whatever memory there is.
 fn is_whole<R: Wait, S: Wait + Drop>(
     rt: &R,
     service: &ShownService<(), S>,
     pass: &mut Pass,
     view: &mut View,
-    takes: bool,
 ) -> bool
     requires pass { pass.old.service ≡ service.now.service }
     requires view { service.now.service.ledger ≡ Some view.old.ledger }
@@ -151,10 +151,10 @@ fn is_whole<R: Wait, S: Wait + Drop>(
 {
     let before = view.look();
     let last = pass.last();
-    let made = if takes {
-        take(rt, service, pass)
-    } else {
+    let made = if pass.has_lease() {
         hand_back(rt, service, pass)
+    } else {
+        take(rt, service, pass)
     };
     let after = learn_and_look(pass, view);
     match made {
@@ -174,8 +174,8 @@ fn are_whole<R: Wait, S: Wait + Drop>(
     requires pass { pass.old.service ≡ service.now.service }
     requires view { service.now.service.ledger ≡ Some view.old.ledger }
 {
-    for number in 0..entries {
-        if !is_whole(rt, service, pass, view, number % 2 == 0) {
+    for _ in 0..entries {
+        if !is_whole(rt, service, pass, view) {
             return false;
         }
     }
