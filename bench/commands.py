@@ -43,6 +43,16 @@ def repeated_history(most: int) -> tuple[int, bytes]:
     return entries, "".join([*lines, f"end {entries}\n"]).encode()
 
 
+def made_run(program: str, folder: pathlib.Path) -> bytes:
+    """Makes a plan in the folder, and runs it on one thread. Its history."""
+    (folder / "a.txt").write_text("one\ntwo\n")
+    plan = subprocess.run([program, "make", "7", "a.txt"], cwd=folder, capture_output=True, check=True).stdout
+    (folder / "plan.toml").write_bytes(plan)
+    run = [program, "run", "plan.toml", "--max-workers", "1", "--threads", "1", "--history"]
+    printed = subprocess.run(run, cwd=folder, capture_output=True, check=False).stdout
+    return measure.split_history(printed.decode())[1].encode()
+
+
 def check_large(program: str, folder: pathlib.Path) -> None:
     (folder / "plan.toml").write_text(PLAN_OF_TWO_LOCKS)
     for size in [32 * MIB, 64 * MIB]:
@@ -60,14 +70,10 @@ def main() -> None:
     program = measure.leases_program()
     with tempfile.TemporaryDirectory() as name:
         folder = pathlib.Path(name)
-        (folder / "a.txt").write_text("one\ntwo\n")
+        history = made_run(program, folder)
         count, plan = measure.count_instructions([program, "make", "7", "a.txt"], folder=folder)
         print(f"make: {count / len(plan):.1f} instructions a byte (goal: at most {MOST_A_BYTE})")
-        (folder / "plan.toml").write_bytes(plan)
-        run = [program, "run", "plan.toml", "--max-workers", "1", "--threads", "1", "--history"]
-        printed = subprocess.run(run, cwd=folder, capture_output=True, check=False).stdout
-        _, history = measure.split_history(printed.decode())
-        lines = history.encode().splitlines(keepends=True)[:-1]
+        lines = history.splitlines(keepends=True)[:-1]
         check = [program, "check", "plan.toml"]
         reading, _ = measure.count_instructions(check, folder=folder)
         for part in [2, 1]:

@@ -3,8 +3,8 @@
 
 The files are text of common words. Each action is run on 1, 4 and 32 threads. Of each the least processor time and the
 peak memory of several runs are printed, beside those of a program in plain Rust, which this script builds. Both look at
-a file in pieces of 128 KiB as they read it. What the two count has to be the same. Not part of the gate. Skips, with
-status 0, where rustc or GNU time is missing; ends with status 1 where a count differs or a goal is missed.
+a file in pieces of 128 KiB as they read it. What the two count has to be the same. How much faster four threads are than one
+by the clock is printed of both. Not part of the gate. Skips, with status 0, where rustc or GNU time is missing; ends with status 1 where a count differs or a goal is missed.
 
     bench/file_pieces.py [PROGRAM [ROUNDS]]
 """
@@ -13,6 +13,7 @@ import pathlib
 import subprocess
 import sys
 import tempfile
+import time
 
 import item_actions
 import measure
@@ -22,9 +23,11 @@ FILE_BYTES = 4 << 20
 ACTIONS = ["lines", "words"]
 THREADS = [1, 4, 32]
 
-# The most processor time, as a multiple of the other's, at 1 and 4 threads; and the most memory at 32 threads, in kilobytes.
+# The most processor time, as a multiple of the other's, at 1 and 4 threads; the most memory at 32 threads, in kilobytes; and the least that four
+# threads are faster than one by the clock, as a multiple of what the other's are.
 MOST_TIMES = 1.1
 MOST_KILOBYTES = 16_000
+LEAST_FASTER = 0.9
 
 PEER = """
 use std::io::Read;
@@ -94,9 +97,31 @@ def least(words: list[str], folder: pathlib.Path, rounds: int) -> tuple[float, i
     return min(usage.seconds for usage in used), max(usage.kilobytes for usage in used)
 
 
-def compare(action: str, threads: int, program: str, peer: str, folder: pathlib.Path, rounds: int) -> bool:
+def both_words(action: str, threads: int, program: str, peer: str) -> tuple[list[str], list[str]]:
     ours = [program, "run", f"{action}.toml", "--summary", "--parallel", f"--threads={threads}", f"--max-workers={threads}"]
-    others = [peer, action, str(threads), *(f"f{number}.txt" for number in range(FILES))]
+    return ours, [peer, action, str(threads), *(f"f{number}.txt" for number in range(FILES))]
+
+
+def clock_of(words: list[str], folder: pathlib.Path) -> float:
+    start = time.monotonic()
+    subprocess.run(words, cwd=folder, capture_output=True, check=True)
+    return time.monotonic() - start
+
+
+def compare_clocks(action: str, program: str, peer: str, folder: pathlib.Path, rounds: int) -> bool:
+    """Whether four threads are as much faster than one as the other's are. All four kinds of run take turns."""
+    kinds = [words for threads in (1, 4) for words in both_words(action, threads, program, peer)]
+    one, other_one, four, other_four = map(min, zip(*([clock_of(words, folder) for words in kinds] for _ in range(rounds))))
+    ours, others = one / four, other_one / other_four
+    print(
+        f"{action}, by the clock: {one * 1000:.0f} ms on one thread and {four * 1000:.0f} ms on four, {ours:.2f} times as fast;"
+        f" the other {other_one * 1000:.0f} and {other_four * 1000:.0f} ms, {others:.2f} times"
+    )
+    return ours >= LEAST_FASTER * others
+
+
+def compare(action: str, threads: int, program: str, peer: str, folder: pathlib.Path, rounds: int) -> bool:
+    ours, others = both_words(action, threads, program, peer)
     if count_of(ours, folder) != count_of(others, folder):
         print(f"{action} at {threads} threads: not what the other counts")
         return False
@@ -124,6 +149,7 @@ def main() -> None:
         for action in ACTIONS:
             (folder / f"{action}.toml").write_text(plan_text(action))
         met = [compare(action, threads, program, peer, folder, rounds) for action in ACTIONS for threads in THREADS]
+        met += [compare_clocks(action, program, peer, folder, rounds) for action in ACTIONS]
     sys.exit(0 if all(met) else 1)
 
 

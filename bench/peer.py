@@ -36,7 +36,6 @@ import threads
 TURNS = 9
 THREADS = [1, 4, 8, 32]
 RANDOM_PLANS = 60
-PEER = measure.PROGRAMS / "plain_peer/src/main.rs"
 CLOCKED = measure.PROGRAMS / "clocked_run/clocked_run.c"
 
 # The goals.
@@ -99,11 +98,11 @@ def run_words(number: int) -> list[str]:
 
 
 
-def build_peer(folder: pathlib.Path) -> str:
-    """The peer, built for the same processors as the gate builds for."""
-    built = folder / "plain_peer"
-    words = ["rustc", "-O", "--edition", "2021", "--crate-name", "plain_peer", "-C", "target-cpu=x86-64-v2"]
-    subprocess.run([*words, "-o", str(built), str(PEER)], check=True)
+def build_peer(folder: pathlib.Path, name: str = "plain_peer") -> str:
+    """A peer, built for the same processors as the gate builds for."""
+    built = folder / name
+    words = ["rustc", "-O", "--edition", "2021", "--crate-name", name, "-C", "target-cpu=x86-64-v2"]
+    subprocess.run([*words, "-o", str(built), str(measure.PROGRAMS / name / "src/main.rs")], check=True)
     return str(built)
 
 

@@ -13,7 +13,7 @@ from collections.abc import Iterator
 
 FILES = {"a.txt": b"one\ntwo\nthree\n", "b.txt": b"a single line of nine words and no more\n", "empty.txt": b""}
 PASSING = ("number", "digest")
-PHRASES = {"missing": "not there", "long": "too long", "fault": "fault", "no-memory": "no memory"}
+PHRASES = {"missing": "not there", "too-long": "too long", "fault": "fault", "no-memory": "no memory"}
 MOST_IDLE = 8
 REPLY_ACTIONS = {"lines": 1, "words": 2, "bytes": 3, "longest": 4, "count": 5, "sha256": 6}
 

@@ -77,7 +77,7 @@ fn outcome(outcome: Outcome, out: &mut impl Write) -> Result<()> {
     match outcome {
         Outcome::Number(number) => write!(out, " number {number}"),
         Outcome::Missing => write!(out, " missing"),
-        Outcome::TooLong => write!(out, " long"),
+        Outcome::TooLong => write!(out, " too-long"),
         Outcome::Fault | Outcome::Skipped => write!(out, " fault"),
     }
 }

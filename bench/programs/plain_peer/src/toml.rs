@@ -1,7 +1,9 @@
-//! A small part of TOML: keys, texts without escapes, lists, tables in braces, and headers of lists of tables.
+//! A small part of TOML: keys, texts without escapes, flags, lists, tables in braces, and headers of lists of tables.
 
 pub enum Value {
     Text(String),
+    // plain_peer has no key with a flag.
+    Flag(#[allow(dead_code)] bool),
     List(Vec<Value>),
     Table(Table),
 }
@@ -111,8 +113,12 @@ impl<'t> Reader<'t> {
             self.list()
         } else if self.takes("{") {
             self.table()
+        } else if self.takes("true") {
+            Ok(Value::Flag(true))
+        } else if self.takes("false") {
+            Ok(Value::Flag(false))
         } else {
-            self.fail("no text, list or table")
+            self.fail("no text, flag, list or table")
         }
     }
 
