@@ -4,7 +4,8 @@
 The files are text of common words. Each action is run on 1, 4 and 32 threads. Of each the least processor time and the
 peak memory of several runs are printed, beside those of a program in plain Rust, which this script builds. Both look at
 a file in pieces of 128 KiB as they read it. What the two count has to be the same. How much faster four threads are than one
-by the clock is printed of both. Not part of the gate. Skips, with status 0, where rustc or GNU time is missing; ends with status 1 where a count differs or a goal is missed.
+by the clock is printed of both. Not part of the gate. Skips, with status 0, where rustc or GNU time is missing; ends with
+status 1 where a count differs or a goal is missed.
 
     bench/file_pieces.py [PROGRAM [ROUNDS]]
 """
