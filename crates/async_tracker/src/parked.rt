@@ -4,7 +4,8 @@ ghost use Rattle.std.specs.Prelude.{◌≡◌};
 use resource_lock::WorkerId;
 use std::marker::Model;
 
-/// A worker that waits for the items of an action. `park` makes it, and `resume` takes it.
+/// A worker that waits for the items of an action. `park` and `submit_and_park` make it, and `resume` takes it. Where the worker's
+/// entry of kind `Resume` is the step of a decision, it can be let go then.
 #[derive(Drop)]
 pub struct Parked {
     worker: WorkerId,

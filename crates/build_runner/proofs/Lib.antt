@@ -1,8 +1,12 @@
 pub mod lemmas
 pub mod Keeping
 pub mod Points
+pub mod Choosing
+pub mod ParkedChoices
 pub mod Sending
 pub mod Stepping
+pub mod Helping
+pub mod ChosenBehind
 mod AtFirst
 mod AtTheEnd
 mod Failing

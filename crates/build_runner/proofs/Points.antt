@@ -19,7 +19,7 @@ use Rattle.coordination.specs.Holds.{HoldsNothing}
 use Rattle.coordination.specs.Shown.{ShowsTheSame, blocked_shown, claimed_shown, lease_shown, locks_shown, parked_shown}
 use Rattle.coordination.specs.declared.rule.Sight.{Sight}
 use Rattle.history_laws.specs.Own.{is_action, is_unit}
-use Rattle.async_tracker.specs.Shows.{IsIdleOrParked, OwnsToPark, locks_on_park, parked_on_park, ShowsParked, ShowsResumed, WorksOn}
+use Rattle.async_tracker.specs.Shows.{IsIdleOrParked, OwnsToPark, ShowsParked, ShowsResumed, WorksOn}
 use Rattle.async_tracker.specs.Tasks.{MayEnd, ShowsEnded, ShowsStarted, locks_on_end}
 use Rattle.blocking_section.specs.Sections.{HasSetDown, HasTakenUp}
 use Rattle.build_runner.specs.Points.{CanHelp, IsFetchIn, IsInTask, RunsTask}
@@ -47,18 +47,7 @@ alone_stands l = rw (eq-eqb l.0 l.0 refl) refl
 by_parts : (h : Holding) (leased : Bool) (put_by : List LockId) (b : Bool) → h.lease ≡ leased → h.parked ≡ put_by → h.blocked ≡ b → h ≡ record { lease = leased; parked = put_by; blocked = b }
 by_parts h leased put_by b e f k = λ i. record { lease = e i; parked = f i; blocked = k i }
 
--- what the pass shows is what it showed
-
-pub shows_then : {a b c : Sight} → ShowsTheSame a b → ShowsTheSame b c → ShowsTheSame a c
-shows_then p q = record {
-  worker = q.worker ∙ p.worker;
-  graph = q.graph ∙ p.graph;
-  locks = q.locks ∙ p.locks;
-  lease = q.lease ∙ p.lease;
-  claimed = q.claimed ∙ p.claimed;
-  parked = q.parked ∙ p.parked;
-  blocked = q.blocked ∙ p.blocked;
-}
+-- where the pass shows what it showed
 
 pub same_rests : {a c : Sight} → ShowsTheSame a c → HoldsNothing a → HoldsNothing c
 same_rests {a} {c} same rests = record {
@@ -225,18 +214,6 @@ pub owns_for : {t a : ℕ} {s : Sight} (r : Retention) → Fits s.seen.graph →
 owns_for Retain fits own runs = tt
 owns_for {t} {a} {s} Release fits own runs = owns_lock fits own runs
 owns_for {t} {a} {s} ReleaseAndReacquire fits own runs = owns_lock fits own runs
-
--- the pass parks what it showed before an entry that changed nothing of it
-pub parked_from : {old mid new : Sight} (r : Retention) (l : LockId) (a : ℕ) → ShowsTheSame old mid → ShowsParked r l a mid new → ShowsParked r l a old new
-parked_from {old} {mid} {new} r l a same parked = record {
-  worker = parked.worker ∙ same.worker;
-  graph = parked.graph ∙ same.graph;
-  locks = parked.locks ∙ ap (locks_on_park r l) same.locks;
-  lease = parked.lease;
-  claimed = parked.claimed ∙ ap (with_member mark_before (ActionOf a)) same.claimed;
-  parked = parked.parked ∙ ap (parked_on_park r l) same.parked;
-  blocked = parked.blocked ∙ same.blocked;
-}
 
 -- who has a lease hasn't released the task
 pub with_lease : {t : ℕ} {s : Sight} → IsInTask t s → lease_shown s ≡ true → RunsTask t s

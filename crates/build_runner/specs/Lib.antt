@@ -14,3 +14,4 @@ pub mod Hands
 pub mod Watching
 pub mod Prepared
 pub mod Run
+pub mod Helping

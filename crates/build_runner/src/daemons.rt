@@ -29,15 +29,26 @@ fn stop_idle<D: Desk, U: Ledger, F: Ledger>(pool: &mut CountedPool<D::Link, U, F
 pub(crate) fn stop_spare<R: Wait, D: Desk>(
     service: &RunService<'_, R>,
     desk: &mut D,
-    spare: Option<D::Link>,
+    spare: Option<Box<D::Link>>,
 )
     ensures sends { D.sends desk.new ≡ D.sends desk.old }
     ensures desk { desk_view D.files D.faults D.sends D.sent desk.new ≡ desk_view D.files D.faults D.sends D.sent desk.old }
 {
     if let Some(link) = spare {
-        service.notify_state_change();
-        desk.stop(link);
+        wake_and_stop(service, desk, link);
     }
+}
+
+// Wakes the other workers, and stops the daemon. It is a function of its own, since a function clears the room of its values first,
+// and few items leave a daemon to stop.
+#[cold]
+#[inline(never)]
+fn wake_and_stop<R: Wait, D: Desk>(service: &RunService<'_, R>, desk: &mut D, link: Box<D::Link>)
+    ensures sends { D.sends desk.new ≡ D.sends desk.old }
+    ensures desk { desk_view D.files D.faults D.sends D.sent desk.new ≡ desk_view D.files D.faults D.sends D.sent desk.old }
+{
+    service.notify_state_change();
+    desk.stop(Box::into_inner(link));
 }
 
 /// Stops the idle daemons through the first desk, and gives all that happened to daemons, which has as many reservations as the

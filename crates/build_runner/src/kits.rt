@@ -1,5 +1,5 @@
 //! What a worker has beside its pass and its desk.
-ghost use Rattle.std.specs.Prelude.{◌≡◌, IfSome, Some};
+ghost use Rattle.std.specs.Prelude.{◌≡◌, IfSome, Some, is_some};
 
 use crate::hands::Hand;
 use coordination::Pass;
@@ -24,6 +24,13 @@ impl Kit {
         if let Some(watcher) = &mut self.watcher {
             watcher.note(pass, unit);
         }
+    }
+
+    /// Whether the run is watched.
+    pub fn is_watched(&self) -> bool
+        ensures { result ≡ is_some self.now.watcher }
+    {
+        self.watcher.is_some()
     }
 
     /// What it looks with.

@@ -2,7 +2,6 @@
 //! pool of daemons.
 #![tactic(auto)]
 
-mod choices;
 mod daemons;
 mod failed_units;
 mod fetching;

@@ -1,14 +1,13 @@
 //! A parked worker: it runs items until those that it waits for have ended, and resumes.
-ghost use Rattle.std.specs.Prelude.{◌≡◌, ◌<◌, Bool, None, OnOk, Some, is_ok, length};
+ghost use Rattle.std.specs.Prelude.{◌≡◌, ◌<◌, [], Bool, IfOk, OnOk, Some, is_ok, length};
 ghost use Rattle.resource_lock.specs.GraphView.{action_of};
 ghost use Rattle.resource_lock.specs.Ranges.{lock_with};
-ghost use Rattle.coordination.specs.Agrees.{IsSoundBook};
-ghost use Rattle.coordination.specs.Shown.{ShowsTheSame};
-ghost use Rattle.async_tracker.specs.Shows.{IsParkedBy, ShowsResumed};
-ghost use Rattle.worker_choices.specs.NextSteps.{HasToWait, first_open};
+ghost use Rattle.async_tracker.specs.Shows.{IsFree, IsParkedBy, ShowsResumed};
+ghost use Rattle.worker_choices.specs.NextSteps.{HasToWait};
 ghost use Rattle.worker_choices.specs.declared.awaited.Awaited.TheVariants as awaited;
 ghost use Rattle.build_runner.specs.Failing.{FailsForEach};
-ghost use Rattle.build_runner.specs.Parked.{IsNextParked};
+ghost use Rattle.build_runner.specs.Kept.{HasClosed};
+ghost use Rattle.build_runner.specs.Parked.{IsNextParked, ShowsChoice, choice_of, step_of_choice};
 ghost use Rattle.build_runner.specs.Points.{CanHelp};
 ghost use Rattle.build_runner.specs.Site.{IsAt};
 ghost use Rattle.build_runner.specs.Watching.{IsWatched};
@@ -20,12 +19,14 @@ use crate::failed_units::has_failed;
 use crate::items::help_if_found;
 use crate::kits::Kit;
 use crate::site::Site;
-use async_tracker::{Held, Parked, resume};
-use coordination::{Halt, Pass, Question};
+use async_tracker::Parked;
+use coordination::{Decided, Decision, Halt, Pass, Question};
 use daemon_desk::Desk;
 use daemon_manager::Tally;
+use daemon_requirements::Linked;
 use file_access::Gate;
 use lock_journal::Book;
+use lock_transforms::kinds::Resume;
 use resource_lock::WorkerId;
 use std::sync::Wait;
 use std::sync::ledger::Ledger;
@@ -41,7 +42,7 @@ pub(crate) enum ParkedChoice {
     Pop,
 }
 
-/// Asks what a worker does next that is parked in this action. It waits where there is nothing to do
+/// Asks what a worker does next that is parked in this action, and resumes where that is next. It waits where there is nothing to do
 /// yet.
 #[derive(Clone, Copy)]
 pub(crate) struct WhatIsNextParked {
@@ -80,36 +81,111 @@ impl Question for WhatIsNextParked {
     }
 }
 
-// Runs items until those of the action have ended. It says whether a unit of the action has failed.
-fn help_until_over<R: Wait, D: Desk, G: Gate, U: Ledger, F: Ledger>(
+impl Decision for WhatIsNextParked {
+    type Step = Resume;
+
+    ghost step_of = { λ q. step_of_choice q.action };
+
+    fn step(&self, choice: &ParkedChoice) -> Option<Resume> {
+        match choice {
+            ParkedChoice::Resume(_) => Some(Resume {
+                action: self.action,
+            }),
+            ParkedChoice::Pop => None,
+        }
+    }
+}
+
+// What was decided.
+fn choice_of(decided: Decided<ParkedChoice>) -> ParkedChoice
+    ensures { result ≡ choice_of decided }
+{
+    match decided {
+        Decided::Answered(choice) | Decided::Entered(choice, _) | Decided::Waiting(choice) => {
+            choice
+        }
+    }
+}
+
+// Chooses what a parked worker does next. Where it resumes, it has done so in the hold of the state lock in which that was chosen.
+fn choose<R: Wait, G, L: Linked, U: Ledger, F: Ledger>(
+    rt: &R,
+    site: &Site<'_, '_, R, G, L, U, F>,
+    pass: &mut Pass,
+    parked: &Parked,
+    own: bool,
+) -> Result<ParkedChoice, Halt>
+    requires at { IsAt site.now pass.old }
+    requires in_range { parked.now.action < length site.now.graph.actions }
+    requires parked { IsParkedBy pass.old.sight parked.now }
+    requires free { IsFree pass.old.sight }
+    ensures service { pass.new.service ≡ pass.old.service }
+    ensures closed { HasClosed [] pass.old.sight pass.new.sight }
+    ensures shows { IfOk result (ShowsChoice parked.now.action pass.old.sight pass.new.sight) }
+{
+    let action = parked.action();
+    let decided = site
+        .service
+        .decide(rt, pass, &WhatIsNextParked { action, own })?;
+    Ok(choice_of(decided))
+}
+
+// Runs an item, if there is one, and chooses what a parked worker does next. Where it resumes, it has done so.
+fn help_and_choose<R: Wait, D: Desk, G: Gate, U: Ledger, F: Ledger>(
     rt: &R,
     site: &Site<'_, '_, R, G, D::Link, U, F>,
     pass: &mut Pass,
     desk: &mut D,
     mine: &mut Tally<U, F>,
     kit: &mut Kit,
-    action: u32,
-) -> Result<bool, Halt>
+    parked: &Parked,
+) -> Result<ParkedChoice, Halt>
     requires at { IsAt site.now pass.old }
-    requires in_range { action < length site.now.graph.actions }
+    requires in_range { parked.now.action < length site.now.graph.actions }
+    requires parked { IsParkedBy pass.old.sight parked.now }
     requires helps { CanHelp pass.old.sight }
     requires watched { IsWatched site.now kit.old }
     ensures step { Steps site.now (desk_view D.files D.faults D.sends D.sent) desk.old desk.new pass.old pass.new (is_ok result) }
-    ensures shows { OnOk result (ShowsTheSame pass.old.sight pass.new.sight) }
-    ensures sound { OnOk result (IsSoundBook pass.new.sight.seen) }
-    ensures over { OnOk result (first_open pass.new.sight.seen.graph pass.new.sight.seen.state action ≡ None) }
+    ensures shows { IfOk result (ShowsChoice parked.now.action pass.old.sight pass.new.sight) }
+    ensures reserved { ReservesForEach (D.sends desk.old) (D.sends desk.new) mine.old mine.new }
+    ensures failed { OnOk result (FailsForEach pass.old.sight pass.new.sight mine.old mine.new) }
+    ensures watched { IsWatched site.now kit.new }
+{
+    let unit = kit.hand.next_unit(rt);
+    let next = WhatIsNextParked {
+        action: parked.action(),
+        own: kit.hand.has_own(),
+    };
+    let decided = help_if_found(rt, site, pass, desk, mine, kit, unit, &next)?;
+    Ok(choice_of(decided))
+}
+
+// Runs items, one at least if there is one, until those of the action have ended, and resumes.
+fn help_until_resumed<R: Wait, D: Desk, G: Gate, U: Ledger, F: Ledger>(
+    rt: &R,
+    site: &Site<'_, '_, R, G, D::Link, U, F>,
+    pass: &mut Pass,
+    desk: &mut D,
+    mine: &mut Tally<U, F>,
+    kit: &mut Kit,
+    parked: &Parked,
+) -> Result<bool, Halt>
+    requires at { IsAt site.now pass.old }
+    requires in_range { parked.now.action < length site.now.graph.actions }
+    requires own { IsParkedBy pass.old.sight parked.now }
+    requires helps { CanHelp pass.old.sight }
+    requires watched { IsWatched site.now kit.old }
+    ensures step { Steps site.now (desk_view D.files D.faults D.sends D.sent) desk.old desk.new pass.old pass.new (is_ok result) }
+    ensures shows { OnOk result (ShowsResumed (action_of site.now.graph parked.now.action).retention
+        (lock_with site.now.graph parked.now.action) parked.now.action pass.old.sight pass.new.sight) }
     ensures reserved { ReservesForEach (D.sends desk.old) (D.sends desk.new) mine.old mine.new }
     ensures failed { OnOk result (FailsForEach pass.old.sight pass.new.sight mine.old mine.new) }
     ensures watched { IsWatched site.now kit.new }
 {
     for _ in rt.forever() {
-        let own = kit.hand.has_own();
-        match site
-            .service
-            .ask(rt, pass, &WhatIsNextParked { action, own })?
-        {
+        match help_and_choose(rt, site, pass, desk, mine, kit, parked)? {
             ParkedChoice::Resume(failed) => return Ok(failed),
-            ParkedChoice::Pop => help_if_found(rt, site, pass, desk, mine, kit)?,
+            ParkedChoice::Pop => {}
         }
     }
     unreachable!()
@@ -138,11 +214,9 @@ pub(crate) fn wait_for_items<R: Wait, D: Desk, G: Gate, U: Ledger, F: Ledger>(
     ensures failed { OnOk result (FailsForEach pass.old.sight pass.new.sight mine.old mine.new) }
     ensures watched { IsWatched site.now kit.new }
 {
-    let failed = help_until_over(rt, site, pass, desk, mine, kit, parked.action())?;
-    match resume(rt, site.service, pass, parked) {
-        Ok(()) => Ok(failed),
-        Err(Held::StillWaiting(_, _)) => unreachable!(),
-        Err(Held::NoMemory(_)) => Err(Halt::NoMemory),
-        Err(Held::Stopped(_, by)) => Err(Halt::Stopped(by)),
+    let own = kit.hand.has_own();
+    match choose(rt, site, pass, &parked, own)? {
+        ParkedChoice::Resume(failed) => Ok(failed),
+        ParkedChoice::Pop => help_until_resumed(rt, site, pass, desk, mine, kit, &parked),
     }
 }

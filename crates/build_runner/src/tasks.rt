@@ -4,8 +4,8 @@ ghost use Rattle.resource_lock.specs.Fits.{Fits};
 ghost use Rattle.resource_lock.specs.GraphView.{action_of};
 ghost use Rattle.resource_lock.specs.Ranges.{IsActionOf, lock_with};
 ghost use Rattle.async_tracker.specs.Shows.{IsParkedBy, ShowsParked};
-ghost use Rattle.coordination.specs.Holds.{HoldsNothing};
 ghost use Rattle.build_runner.specs.Failing.{FailsForEach};
+ghost use Rattle.build_runner.specs.Choices.{HasBegun};
 ghost use Rattle.build_runner.specs.Kept.{HasClosed};
 ghost use Rattle.build_runner.specs.Points.{CanHelp, IsInTask, RunsTask};
 ghost use Rattle.build_runner.specs.Site.{IsAt};
@@ -18,7 +18,7 @@ use crate::fetching::fetch;
 use crate::kits::Kit;
 use crate::parked::wait_for_items;
 use crate::site::Site;
-use async_tracker::{Parked, end_task, park, start_task, submit};
+use async_tracker::{Parked, end_and_take_next, submit_and_park};
 use coordination::{Halt, Pass};
 use daemon_desk::Desk;
 use daemon_manager::Tally;
@@ -27,6 +27,7 @@ use file_access::Gate;
 use std::ops::Range;
 use std::sync::Wait;
 use std::sync::ledger::Ledger;
+use worker_choices::Choice;
 
 // Reads the file that an action fetches, if it has a fetch.
 fn fetch_first<R: Wait, D: Desk, G, U: Ledger, F: Ledger>(
@@ -53,7 +54,10 @@ fn fetch_first<R: Wait, D: Desk, G, U: Ledger, F: Ledger>(
     }
 }
 
-// Queues the items of an action of the worker's task, pushes their tickets, and parks.
+// Queues the items of an action of the worker's task and parks, at once, and pushes their tickets.
+//
+// No ticket is lost that is pushed behind the entries: a worker that has parked comes to the state lock again at once, to ask what is
+// next, and sees what is queued then.
 fn queue_items<R: Wait, G, L: Linked, U: Ledger, F: Ledger>(
     rt: &R,
     site: &Site<'_, '_, R, G, L, U, F>,
@@ -79,10 +83,10 @@ fn queue_items<R: Wait, G, L: Linked, U: Ledger, F: Ledger>(
     ensures watched { IsWatched site.now kit.new }
 {
     let found = site.action_of(task, action);
-    submit(rt, site.service, pass, action)?;
+    let parked = submit_and_park(rt, site.service, pass, action)?;
     let first = found.first_unit + u32::from(found.fetch);
     kit.hand.queue(rt, first..first + found.items);
-    park(rt, site.service, pass, action)
+    Ok(parked)
 }
 
 // Runs an action of the worker's task: its fetch, if it has one, and its items, which other workers
@@ -145,26 +149,26 @@ fn run_actions<R: Wait, D: Desk, G: Gate, U: Ledger, F: Ledger>(
     Ok(())
 }
 
-// Ends the worker's task, which gives back what the worker has.
+// Ends the worker's task, which gives back what the worker has, and begins what is next.
 fn end<R: Wait, G, L: Linked, U: Ledger, F: Ledger>(
     rt: &R,
     site: &Site<'_, '_, R, G, L, U, F>,
     pass: &mut Pass,
     task: u32,
-) -> Result<(), Halt>
+) -> Result<Choice, Halt>
     requires at { IsAt site.now pass.old }
     requires task { task < length pass.old.sight.seen.graph.tasks }
     requires in_task { IsInTask task pass.old.sight }
     ensures service { pass.new.service ≡ pass.old.service }
     ensures closed { HasClosed [] pass.old.sight pass.new.sight }
-    ensures rests { OnOk result (HoldsNothing pass.new.sight) }
+    ensures begun { IfOk result (HasBegun pass.new.sight) }
 {
-    end_task(rt, site.service, pass, task)
+    end_and_take_next(rt, site.service, pass, task)
 }
 
-/// Starts a task and runs it to its end, unless it can't be started any more.
+/// Runs a task that the worker has started to its end, and begins what is next.
 ///
-/// The worker has nothing then. It fails for want of memory, and where the service was stopped.
+/// It fails for want of memory, and where the service was stopped.
 pub(crate) fn run_task<R: Wait, D: Desk, G: Gate, U: Ledger, F: Ledger>(
     rt: &R,
     site: &Site<'_, '_, R, G, D::Link, U, F>,
@@ -173,41 +177,17 @@ pub(crate) fn run_task<R: Wait, D: Desk, G: Gate, U: Ledger, F: Ledger>(
     mine: &mut Tally<U, F>,
     kit: &mut Kit,
     task: u32,
-) -> Result<(), Halt>
+) -> Result<Choice, Halt>
     requires at { IsAt site.now pass.old }
     requires task { task < length site.now.graph.tasks }
-    requires rests { HoldsNothing pass.old.sight }
+    requires runs { RunsTask task pass.old.sight }
     requires watched { IsWatched site.now kit.old }
     ensures step { Steps site.now (desk_view D.files D.faults D.sends D.sent) desk.old desk.new pass.old pass.new (is_ok result) }
-    ensures rests { OnOk result (HoldsNothing pass.new.sight) }
+    ensures begun { IfOk result (HasBegun pass.new.sight) }
     ensures reserved { ReservesForEach (D.sends desk.old) (D.sends desk.new) mine.old mine.new }
     ensures failed { OnOk result (FailsForEach pass.old.sight pass.new.sight mine.old mine.new) }
     ensures watched { IsWatched site.now kit.new }
 {
-    if !start(rt, site, pass, task)? {
-        return Ok(());
-    }
     run_actions(rt, site, pass, desk, mine, kit, task)?;
     end(rt, site, pass, task)
-}
-
-// Starts a task. False says that it can't be started any more.
-fn start<R: Wait, G, L: Linked, U: Ledger, F: Ledger>(
-    rt: &R,
-    site: &Site<'_, '_, R, G, L, U, F>,
-    pass: &mut Pass,
-    task: u32,
-) -> Result<bool, Halt>
-    requires at { IsAt site.now pass.old }
-    requires task { task < length pass.old.sight.seen.graph.tasks }
-    requires rests { HoldsNothing pass.old.sight }
-    ensures service { pass.new.service ≡ pass.old.service }
-    ensures closed { HasClosed [] pass.old.sight pass.new.sight }
-    ensures runs { result ≡ Ok true → RunsTask task pass.new.sight }
-    ensures rests { result ≡ Ok false → HoldsNothing pass.new.sight }
-{
-    match start_task(rt, site.service, pass, task) {
-        Ok(started) => Ok(started),
-        Err(_) => Err(Halt::NoMemory),
-    }
 }

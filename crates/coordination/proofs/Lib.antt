@@ -3,11 +3,14 @@ pub mod Moves
 pub mod Seating
 pub mod Tries
 pub mod Looks
+pub mod Deciding
+pub mod Joining
 pub mod PassSteps
 pub mod Closing
 pub mod Taking
 pub mod Ended
 pub mod Opening
+pub mod Holding
 pub mod InPlace
 pub mod Following
 pub mod Rests

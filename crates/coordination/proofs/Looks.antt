@@ -34,10 +34,6 @@ same_halt v w is = cc
 pub looked_not : (s : Sight) → OnlyLooked s s
 looked_not s = record { agrees = agrees_self s.worker s.seen; sight = refl }
 
--- the book wasn't there to be looked at
-pub not_looked : (s s' : Sight) → s' ≡ s → OnlyLooked s s'
-not_looked s s' is = subst (OnlyLooked s) (sym is) (looked_not s)
-
 only_looked : (s s' : Sight) (book : BookView) → Finds s.worker s.seen book → s' ≡ seeing s book → OnlyLooked s s'
 only_looked s s' book found is = subst (OnlyLooked s) (sym is) (record { agrees = found.agrees; sight = refl })
 
@@ -93,7 +89,7 @@ module _ {A : Type 0} (answers : WorkerId → BookView → A → Type 0) (waits 
   }
 
 -- the book that is found after a look
-finds_on : (s : Sight) (seen book : BookView) → Agrees s.worker s.seen seen → Finds s.worker seen book → Finds s.worker s.seen book
+pub finds_on : (s : Sight) (seen book : BookView) → Agrees s.worker s.seen seen → Finds s.worker seen book → Finds s.worker s.seen book
 finds_on s seen book agrees f = record { agrees = agrees_then s.worker s.seen seen book agrees f.agrees; sound = f.sound; known = f.known }
 
 module _ (kind : Kind) (makes : Making) (fails retries : Cause) (s : Sight) where

@@ -8,7 +8,7 @@ use mathlib.Core.Option.{some, none, some-injective, some-ne-none}
 use native.Mathlib.Decide.{ℕ_discrete}
 use prog.Atomic.{either}
 use lib.ListN.{get_elem?}
-use Rattle.atomic_table.specs.Table.{State, Act, Valid, carried_after, step, keeps, takes, gives, stepped, Allows}
+use Rattle.atomic_table.specs.Table.{State, Step, Act, Valid, carried_after, step, keeps, takes, gives, stepped, Allows}
 use Rattle.atomic_table.proofs.Lists.{at_set, set_here, set_again}
 use Rattle.resource_lock.specs.GraphView.{GraphView}
 use Rattle.resource_lock.specs.declared.ids.WorkerId.{WorkerId}
@@ -19,7 +19,7 @@ use Rattle.coordination.specs.Sights.{seeing, stopping, hearing, one, holding}
 use Rattle.coordination.specs.Agrees.{Agrees, IsSoundBook}
 use Rattle.logbook.specs.Pages.{Book as Ledger}
 use Rattle.coordination.specs.Kept.{KeptView, kept}
-use Rattle.coordination.specs.Rule.{AddsOwn, FitsSight, OutFits, busy_of, home_of, Orderly, taken, put_back, stopped_at, heard, marked}
+use Rattle.coordination.specs.Rule.{AddsOwn, FitsSight, OutFits, TellsHolder, home_of, Orderly, taken, put_back, stopped_at, heard, marked}
 use Rattle.coordination.proofs.lemmas.Growing.{goes_on, agrees_self, agrees_then}
 
 abbrev pub S : Type 0
@@ -53,10 +53,10 @@ inside_of l id w h k e = let same : id ≡ k = cc in let long = length-set l id 
 alone : (n mark : ℕ) (book : BookView) (owner : ℕ → ℕ) (id : ℕ) (h : Sight) → FitsSight n mark book owner id h → All (FitsSight n mark book owner id) (h ∷ [])
 alone n mark book owner id h fit = All-cons (FitsSight n mark book owner id) h [] fit (All-nil (FitsSight n mark book owner id))
 
--- nothing but a word that keeps its value was written
-same_views : (g : GraphView) (s : S) (o : Orderly g s) (ws : List ℕ) (id : ℕ) (v : SeatView) → get_elem? s.views id ≡ some v → length ws ≡ 2 → get_or ws 0 0 ≡ get_or s.words 0 0 → get_or ws 1 0 ≡ get_or s.words 1 0
+-- nothing but words that say the same was written
+same_views : (g : GraphView) (s : S) (o : Orderly g s) (ws : List ℕ) (id : ℕ) (v : SeatView) → get_elem? s.views id ≡ some v → length ws ≡ 2 → TellsHolder (get_or ws 0 0) o.holder → get_or ws 1 0 ≡ get_or s.words 1 0
     → Orderly g (record { words = ws; homes = s.homes; views = set s.views id v })
-same_views g s o ws id v at wide first second = record {
+same_views g s o ws id v at wide busy second = record {
   book = o.book;
   ledger = o.ledger;
   mark = o.mark;
@@ -66,7 +66,7 @@ same_views g s o ws id v at wide first second = record {
   sound = o.sound;
   wide = wide;
   deep = o.deep;
-  busy = first ∙ o.busy;
+  busy = busy;
   mark_is = second ∙ o.mark_is;
   named = o.named;
   small = o.small;
@@ -76,55 +76,76 @@ same_views g s o ws id v at wide first second = record {
   known = λ j u e. o.known j u (subst (λ l. get_elem? l j ≡ some u) (set_again s.views id v at) e);
 }
 
-takes_at : (g : GraphView) (l : Option Ledger) (slots id : ℕ) (h : Sight) (s : S) (o : Orderly g s) (holder : Option ℕ) → o.holder ≡ holder → get_elem? s.views id ≡ some (one l h)
-    → (w : SeatView) × (a : Act KeptView) × Valid s.homes [] a × Orderly g (stepped s 0 1 id [] w a) × taken (step slots 0 1 0 none) (one l h, []) (get_or s.words 0 0) (w, carried_after [] a)
-takes_at g l slots id h s o None is at =
-    let mine = o.fits id (one l h) at in
-    let fit : FitsSight g.workers o.mark o.book o.owner id h = All-head (FitsSight g.workers o.mark o.book o.owner id) h [] mine.0 in
-    let free : get_or s.words 0 0 ≡ 0 = o.busy ∙ ap busy_of is in
-    let same : o.ledger ≡ l = sym (o.known id (one l h) at (omega arith)) in
-    let home : get_elem? s.homes 0 ≡ some (some (kept o.book l)) = o.home ∙ (ap (λ (k : Option ℕ). some (home_of k (kept o.book o.ledger))) is ∙ ap (λ (x : Option Ledger). some (some (kept o.book x))) same) in
-    let new : Sight = seeing h o.book in (
-      holding l new,
-      takes 0 (kept o.book l),
-      home,
-      record {
-        book = o.book;
-        ledger = o.ledger;
-        mark = o.mark;
-        owner = o.owner;
-        holder = Some id;
-        graph = o.graph;
-        sound = o.sound;
-        wide = length-set s.words 0 1 ∙ o.wide;
-        deep = length-set s.homes 0 none ∙ o.deep;
-        busy = get_or-set_same s.words 0 1 0 (let p = o.wide in omega arith);
-        mark_is = get_or-set_other s.words 0 1 1 0 (λ (e : 1 ≡ 0). absurd (omega arith)) ∙ o.mark_is;
-        named = o.named;
-        small = o.small;
-        home = set_here s.homes 0 none (let p = o.deep in omega arith);
-        inside = inside_of s.views id (holding l new) (there s.views id (one l h) at);
-        fits = set_views (λ j u. All (FitsSight g.workers o.mark o.book o.owner j) u.sights × OutFits (Some id) o.book j u) s.views id (holding l new)
-            (λ j u apart e. ((o.fits j u e).0, ((λ same. absurd (apart same)), (λ _. subst (λ (k : Option ℕ). OutFits k o.book j u) is (o.fits j u e).1)))) (
-              alone g.workers o.mark o.book o.owner id new (record { known = fit.known; agrees = agrees_self h.worker o.book; seated = fit.seated; stopped = fit.stopped; stops = fit.stops; stopped_by = fit.stopped_by }),
-              ((λ _. (refl, omega arith)), (λ ne. absurd (ne refl))),
-            );
-        known = set_views (λ j u. 0 < length u.sights → u.ledger ≡ o.ledger) s.views id (holding l new) (λ j u apart e. o.known j u e) (λ _. sym same);
-      },
-      ((λ _. record { book = o.book; found = record { agrees = fit.agrees; sound = o.sound; known = subst (λ (x : GraphView). h.worker.0 < x.workers) (sym o.graph) fit.known }; is = refl }), (λ ne. absurd (ne free))),
-    )
-takes_at g l slots id h s o (Some k) is at =
-    let out : get_or s.words 0 0 ≡ 1 = o.busy ∙ ap busy_of is in (
-      one l h,
-      keeps,
-      tt,
-      same_views g s o (set s.words 0 1) id (one l h) at (length-set s.words 0 1 ∙ o.wide) (get_or-set_same s.words 0 1 0 (let p = o.wide in omega arith) ∙ sym out)
-          (get_or-set_other s.words 0 1 1 0 (λ (e : 1 ≡ 0). absurd (omega arith))),
-      ((λ free. absurd (omega arith)), (λ _. refl)),
-    )
+-- word 0 was left alone
+still_busy : (ws : List ℕ) (n : ℕ) (k : Option ℕ) → get_or ws 0 0 ≡ n → TellsHolder n k → TellsHolder (get_or ws 0 0) k
+still_busy ws n k is busy = subst (λ (m : ℕ). TellsHolder m k) (sym is) busy
 
-pub takes_it : (g : GraphView) (l : Option Ledger) (slots id : ℕ) (h : Sight) → Allows (Orderly g) slots id (one l h, []) 0 (λ _. 1) (taken (step slots 0 1 0 none) (one l h, []))
-takes_it g l slots id h s o deep at small = takes_at g l slots id h s o o.holder refl at
+-- a step that leaves no 0 in word 0
+module _ (f : ℕ → ℕ) (rises : (n : ℕ) → 0 < f n) (g : GraphView) (l : Option Ledger) (st : Step KeptView) (id : ℕ) (h : Sight) where
+  takes_at : (s : S) (o : Orderly g s) (holder : Option ℕ) → o.holder ≡ holder → get_elem? s.views id ≡ some (one l h)
+      → (w : SeatView) × (a : Act KeptView) × Valid s.homes [] a × Orderly g (stepped s 0 (f (get_or s.words 0 0)) id [] w a) × taken st (one l h, []) (get_or s.words 0 0) (w, carried_after [] a)
+  takes_at s o None is at =
+      let to : ℕ = f (get_or s.words 0 0) in
+      let mine = o.fits id (one l h) at in
+      let fit : FitsSight g.workers o.mark o.book o.owner id h = All-head (FitsSight g.workers o.mark o.book o.owner id) h [] mine.0 in
+      let free : get_or s.words 0 0 ≡ 0 = subst (TellsHolder (get_or s.words 0 0)) is o.busy in
+      let same : o.ledger ≡ l = sym (o.known id (one l h) at (omega arith)) in
+      let home : get_elem? s.homes 0 ≡ some (some (kept o.book l)) = o.home ∙ (ap (λ (k : Option ℕ). some (home_of k (kept o.book o.ledger))) is ∙ ap (λ (x : Option Ledger). some (some (kept o.book x))) same) in
+      let new : Sight = seeing h o.book in (
+        holding l new,
+        takes 0 (kept o.book l),
+        home,
+        record {
+          book = o.book;
+          ledger = o.ledger;
+          mark = o.mark;
+          owner = o.owner;
+          holder = Some id;
+          graph = o.graph;
+          sound = o.sound;
+          wide = length-set s.words 0 to ∙ o.wide;
+          deep = length-set s.homes 0 none ∙ o.deep;
+          busy = still_busy (set s.words 0 to) to (Some id) (get_or-set_same s.words 0 to 0 (let p = o.wide in omega arith)) (rises (get_or s.words 0 0));
+          mark_is = get_or-set_other s.words 0 1 to 0 (λ (e : 1 ≡ 0). absurd (omega arith)) ∙ o.mark_is;
+          named = o.named;
+          small = o.small;
+          home = set_here s.homes 0 none (let p = o.deep in omega arith);
+          inside = inside_of s.views id (holding l new) (there s.views id (one l h) at);
+          fits = set_views (λ j u. All (FitsSight g.workers o.mark o.book o.owner j) u.sights × OutFits (Some id) o.book j u) s.views id (holding l new)
+              (λ j u apart e. ((o.fits j u e).0, ((λ same. absurd (apart same)), (λ _. subst (λ (k : Option ℕ). OutFits k o.book j u) is (o.fits j u e).1)))) (
+                alone g.workers o.mark o.book o.owner id new (record { known = fit.known; agrees = agrees_self h.worker o.book; seated = fit.seated; stopped = fit.stopped; stops = fit.stops; stopped_by = fit.stopped_by }),
+                ((λ _. (refl, omega arith)), (λ ne. absurd (ne refl))),
+              );
+          known = set_views (λ j u. 0 < length u.sights → u.ledger ≡ o.ledger) s.views id (holding l new) (λ j u apart e. o.known j u e) (λ _. sym same);
+        },
+        ((λ _. record { book = o.book; found = record { agrees = fit.agrees; sound = o.sound; known = subst (λ (x : GraphView). h.worker.0 < x.workers) (sym o.graph) fit.known }; is = refl }), (λ ne. absurd (ne free))),
+      )
+  takes_at s o (Some k) is at =
+      let to : ℕ = f (get_or s.words 0 0) in
+      let out : 0 < get_or s.words 0 0 = subst (TellsHolder (get_or s.words 0 0)) is o.busy in (
+        one l h,
+        keeps,
+        tt,
+        same_views g s o (set s.words 0 to) id (one l h) at (length-set s.words 0 to ∙ o.wide)
+            (still_busy (set s.words 0 to) to o.holder (get_or-set_same s.words 0 to 0 (let p = o.wide in omega arith)) (subst (TellsHolder to) (sym is) (rises (get_or s.words 0 0))))
+            (get_or-set_other s.words 0 1 to 0 (λ (e : 1 ≡ 0). absurd (omega arith))),
+        ((λ free. absurd (omega arith)), (λ _. refl)),
+      )
+
+  takes_so : (slots : ℕ) → Allows (Orderly g) slots id (one l h, []) 0 f (taken st (one l h, []))
+  takes_so slots s o deep at small = takes_at s o o.holder refl at
+
+marked_free : (n : ℕ) → 0 < either (eqb n 0) 1 n
+marked_free zero = omega arith
+marked_free (suc n) = subst (λ b. 0 < either b 1 (suc n)) (sym (ne_eqb (suc n) 0 (λ e. absurd (omega arith)))) (omega arith)
+
+-- where it is free it is taken, and else left alone
+pub takes_it : (g : GraphView) (l : Option Ledger) (slots id : ℕ) (h : Sight) → Allows (Orderly g) slots id (one l h, []) 0 (λ n. either (eqb n 0) 1 n) (taken (step slots 0 0 1 none) (one l h, []))
+takes_it g l slots id h = takes_so (λ n. either (eqb n 0) 1 n) marked_free g l (step slots 0 0 1 none) id h slots
+
+-- the same by a seat that sleeps where it isn't free
+pub takes_or_waits : (g : GraphView) (l : Option Ledger) (slots id : ℕ) (h : Sight) → Allows (Orderly g) slots id (one l h, []) 0 (λ _. 2) (taken (step slots 0 2 0 none) (one l h, []))
+takes_or_waits g l slots id h = takes_so (λ _. 2) (λ _. omega arith) g l (step slots 0 2 0 none) id h slots
 
 -- what the seat that holds the journal knows of the rule
 pub record Held (g : GraphView) (id : ℕ) (h : Sight) (s : S) (o : Orderly g s) : Type 0 where
@@ -207,7 +228,7 @@ marks g l s o mark id h h' at named mine others = record {
   sound = o.sound;
   wide = length-set s.words 1 mark ∙ o.wide;
   deep = o.deep;
-  busy = get_or-set_other s.words 1 0 mark 0 (λ (e : 0 ≡ 1). absurd (omega arith)) ∙ o.busy;
+  busy = still_busy (set s.words 1 mark) (get_or s.words 0 0) o.holder (get_or-set_other s.words 1 0 mark 0 (λ (e : 0 ≡ 1). absurd (omega arith))) o.busy;
   mark_is = get_or-set_same s.words 1 mark 0 (let p = o.wide in omega arith);
   named = named;
   small = o.small;
@@ -291,7 +312,8 @@ looks_it g l slots id h s o deep at small =
       one l h,
       keeps,
       tt,
-      same_views g s o (set s.words 1 x) id (one l h) at (length-set s.words 1 x ∙ o.wide) (get_or-set_other s.words 1 0 x 0 (λ (e : 0 ≡ 1). absurd (omega arith)))
+      same_views g s o (set s.words 1 x) id (one l h) at (length-set s.words 1 x ∙ o.wide)
+          (still_busy (set s.words 1 x) (get_or s.words 0 0) o.holder (get_or-set_other s.words 1 0 x 0 (λ (e : 0 ≡ 1). absurd (omega arith))) o.busy)
           (get_or-set_same s.words 1 x 0 (let p = o.wide in omega arith)),
       (little, (λ _. refl), (λ ne. absurd (ne none_yet))),
     ))

@@ -1,5 +1,5 @@
 -- A seat with the sights of all workers takes the book out for good.
-use Rattle.std.proofs.Common.{◌≡◌, ℕ, ◌<◌, ◌≤◌, List, [], ◌∷◌, map, length, Option, Some, None, refl, sym, ap, ◌∙◌, subst, arith, length-set, get_or-set_same}
+use Rattle.std.proofs.Common.{◌≡◌, ℕ, ◌<◌, ◌≤◌, List, [], ◌∷◌, map, length, Option, Some, None, refl, sym, ap, ◌∙◌, subst, arith, length-set, get_or, get_or-set_same}
 use Rattle.std.specs.List.{All}
 use Rattle.std.proofs.lemmas.List.{get_or-set_other}
 use mathlib.Core.Option.{some, none}
@@ -11,7 +11,7 @@ use Rattle.coordination.specs.declared.rule.Sight.{Sight}
 use Rattle.coordination.specs.declared.rule.SeatView.{SeatView}
 use Rattle.coordination.specs.Kept.{kept}
 use Rattle.coordination.specs.Passes.{PassView}
-use Rattle.coordination.specs.Rule.{FitsSight, OutFits, Orderly, M, busy_of, home_of, TakenForGood, taken_for_good}
+use Rattle.coordination.specs.Rule.{FitsSight, OutFits, Orderly, M, TellsHolder, home_of, TakenForGood, taken_for_good}
 use Rattle.coordination.specs.Sights.{all_of, workers_from}
 use Rattle.coordination.proofs.Closing.{Closes, nobody_holds, workers_all}
 use Rattle.coordination.proofs.Moves.{inside_of, set_views, there}
@@ -38,7 +38,7 @@ takes_for_good g l slots id ss all some_sight s o deep at small =
         sound = o.sound;
         wide = length-set s.words 0 1 ∙ o.wide;
         deep = length-set s.homes 0 none ∙ o.deep;
-        busy = get_or-set_same s.words 0 1 0 (let p = o.wide in omega arith);
+        busy = subst (λ (n : ℕ). 0 < n) (sym (get_or-set_same s.words 0 1 0 (let p = o.wide in omega arith))) (omega arith);
         mark_is = get_or-set_other s.words 0 1 1 0 (λ (e : 1 ≡ 0). absurd (omega arith)) ∙ o.mark_is;
         named = o.named;
         small = o.small;
@@ -50,7 +50,7 @@ takes_for_good g l slots id ss all some_sight s o deep at small =
         known = set_views (λ j u. 0 < length u.sights → u.ledger ≡ o.ledger) s.views id new (λ j u apart e. o.known j u e) (λ _. sym same);
       },
       (
-        o.busy ∙ ap busy_of free,
+        subst (TellsHolder (get_or s.words 0 0)) free o.busy,
         record {
           book = o.book;
           mark = o.mark;

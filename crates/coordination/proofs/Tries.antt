@@ -47,7 +47,7 @@ sound-same old new sound graph state history = record {
 }
 
 -- what a transform added is its worker's
-adds_own : {E : Type 0} (kind : Kind) (makes : Making) (fails retries : Cause) (r : Result Disposition E) (s : Sight) (new : BookView) → new.graph ≡ s.seen.graph → Ran kind makes fails retries s.worker s.seen new r → AddsOwn s new
+pub adds_own : {E : Type 0} (kind : Kind) (makes : Making) (fails retries : Cause) (r : Result Disposition E) (s : Sight) (new : BookView) → new.graph ≡ s.seen.graph → Ran kind makes fails retries s.worker s.seen new r → AddsOwn s new
 adds_own kind makes fails retries (Ok Finished) s new graph ran = record {
   more = entry s.worker kind (Some ran.0) ∷ [];
   graph = graph;
@@ -119,6 +119,11 @@ module _ {E : Type 0} (kind : Kind) (makes : Making) (fails retries : Cause) (r 
 
   pub attempted : (n : M) → n ≡ (one m''.0.ledger (seeing (sight_of m''.0) (carried_book m''.1)), []) → Attempted kind makes fails retries (sight_of m.0) (sight_of n.0) r
   attempted n back = record { before = t.book; after = carried_book m''.1; found = t.found; graph = same_graph; ran = found; left = adds.sound t.found.sound; is = after n back }
+
+  -- the same, of the book that was taken
+  pub attempted_on : (n : M) → n ≡ (one m''.0.ledger (seeing (sight_of m''.0) (carried_book m''.1)), []) → (a : Attempted kind makes fails retries (sight_of m.0) (sight_of n.0) r) × (a.before ≡ t.book)
+  unfolding attempted
+  attempted_on n back = (attempted n back, refl)
 
 -- the same of a question
 module _ {A : Type 0} (answers : WorkerId → BookView → A → Type 0) (waits : WorkerId → BookView → Type 0) (r : Option A) (m m' m'' : M) (t : Taken m m') (same : m'' ≡ m') (worker : WorkerId)

@@ -78,6 +78,28 @@ pub record EndsHold (book : BookView) (w : WorkerId) (stance : Stance) (entered 
   pub stances : new.stances ≡ stances_after wakes.workers (set old.stances w.0 stance)
   pub quiet : AreQuiet book new.queued new.stances
 
--- A try under the state lock ended its hold on the book that its worker then saw, or it found the book out.
-abbrev pub LeavesHold : BookView → WorkerId → Sleepers → Sleepers → Wakes → Type 0
-LeavesHold book w old new wakes = ((stance : Stance) × (entered : Bool) × EndsHold book w stance entered old new wakes) ⊎ (new ≡ old)
+-- A hold of the state lock began, for a worker that has promised to come again or hasn't, where work outside the book was queued or none.
+abbrev pub begun : Bool → Bool → Sleepers → Sleepers
+begun queued promised s = record { transforms = s.transforms; questions = s.questions; stances = s.stances; queued = queued; promised = promised }
+
+-- a worker that was woken looks
+abbrev pub woken_if : Bool → WorkerId → Sleepers → Sleepers
+woken_if true w s = record { transforms = s.transforms; questions = s.questions; stances = set s.stances w.0 Looks; queued = s.queued; promised = s.promised }
+woken_if false w s = s
+
+-- A transform that asks to be run again sleeps.
+abbrev pub noted_after : {E : Type 0} → Result Disposition E → Sleepers → Sleepers
+noted_after (Ok Retry) s = record { transforms = true; questions = s.questions; stances = s.stances; queued = s.queued; promised = s.promised }
+noted_after (Ok Finished) s = s
+noted_after (Ok Failed) s = s
+noted_after (Err e) s = s
+
+-- A question without an answer sleeps. Where it doesn't sleep apart, it is one of those that any entry wakes.
+abbrev pub noted_asking : {A : Type 0} → Bool → Option A → Sleepers → Sleepers
+noted_asking false None s = record { transforms = s.transforms; questions = true; stances = s.stances; queued = s.queued; promised = s.promised }
+noted_asking true None s = s
+noted_asking apart (Some a) s = s
+
+-- A hold ended so, whoever slept when it began.
+abbrev pub EndsAHold : BookView → WorkerId → Stance → Bool → Wakes → Type 0
+EndsAHold book w stance entered wakes = (before : Sleepers) × (left : Sleepers) × EndsHold book w stance entered before left wakes

@@ -13,4 +13,6 @@ pub mod Passes
 pub mod Together
 pub mod Endings
 pub mod Tries
+pub mod Decisions
+pub mod Joints
 pub mod Closings

@@ -1,5 +1,5 @@
--- The rule of the table. Word 0 is 1 while a pass holds the book, and slot 0 has it while none does. Word 1 is 1 more
--- than the worker that stopped the service, or 0.
+-- The rule of the table. Word 0 is 0 while no seat holds the book, and slot 0 has it then. It is 1 while one does, or 2 where others
+-- may sleep until it is back. Word 1 is 1 more than the worker that stopped the service, or 0.
 use Rattle.std.specs.Prelude.{◌≡◌, ◌≢◌, ℕ, suc, ◌-◌, ◌<◌, ◌≤◌, ◌^◌, true, List, [], ◌∷◌, ◌++◌, Option, Some}
 use Rattle.std.specs.Prelude.{None, length, map, slice_index}
 use Rattle.std.specs.List.{All}
@@ -32,9 +32,10 @@ abbrev pub OutFits : Option ℕ → BookView → ℕ → SeatView → Type 0
 OutFits None book j v = v.out ≡ None
 OutFits (Some k) book j v = (j ≡ k → (v.out ≡ Some book) × (0 < length v.sights)) × (j ≢ k → v.out ≡ None)
 
-abbrev pub busy_of : Option ℕ → ℕ
-busy_of None = 0
-busy_of (Some k) = 1
+-- what word 0 may be
+abbrev pub TellsHolder : ℕ → Option ℕ → Type 0
+TellsHolder n None = n ≡ 0
+TellsHolder n (Some k) = 0 < n
 
 abbrev pub home_of : Option ℕ → KeptView → maybe.Option KeptView
 home_of None x = some x
@@ -52,7 +53,7 @@ pub record Orderly (g : GraphView) (s : State KeptView SeatView) : Type 0 where
   pub sound : IsSoundBook book
   pub wide : length s.words ≡ 2
   pub deep : length s.homes ≡ 1
-  pub busy : slice_index s.words 0 ≡ busy_of holder
+  pub busy : TellsHolder (slice_index s.words 0) holder
   pub mark_is : slice_index s.words 1 ≡ mark
   pub named : mark ≤ g.workers
   pub small : g.workers < 2 ^ 32

@@ -2,10 +2,9 @@
 ghost use Rattle.std.specs.Prelude.{◌≡◌, ◌<◌, IfNone, IfSome, false, true};
 ghost use Rattle.coordination.specs.Attempts.{Asked, Attempted};
 ghost use Rattle.coordination.specs.Calls.{HasStopped};
-ghost use Rattle.coordination.specs.Endings.{EndsHold, LeavesHold, has_entered, stance_after, stance_asking};
+ghost use Rattle.coordination.specs.Endings.{EndsHold, has_entered, stance_after, stance_asking};
 ghost use Rattle.coordination.specs.Passes.{IsPass};
 ghost use Rattle.coordination.specs.Sights.{hearing, sight_of};
-ghost use Rattle.coordination.specs.Tries.{HasTried, IsReplied};
 
 use crate::halts::Halt;
 use crate::keepers::{Keeper, Kept};
@@ -42,59 +41,6 @@ pub enum Reply<A> {
 }
 
 impl<K: Keeper> Slot<K> {
-    /// Runs the transform once, ends the hold, and hears who has stopped the service where the transform asks to be run
-    /// again. It answers Again too where another pass has the book: then the pass is as before, and nobody is woken.
-    #[inline]
-    pub(crate) fn try_transform<T: Transform>(
-        &self,
-        pass: &mut Pass,
-        transform: &T,
-        sleepers: &mut Sleepers,
-    ) -> (Tried, Wakes)
-        requires { pass.old.service.table ≡ self.now.table.shared.table_id }
-        ensures same { pass.new.service ≡ pass.old.service }
-        ensures tried { HasTried (T.kind_of transform.now) (T.makes transform.now) (T.fails_on transform.now)
-            (T.retries_on transform.now) pass.old.sight pass.new.sight result.0 }
-        ensures ends { LeavesHold pass.new.sight.seen pass.new.sight.worker sleepers.old sleepers.new result.1 }
-    {
-        match self.attempt(pass, transform, sleepers) {
-            Some((Ok(Disposition::Finished), wakes)) => (Tried::Entered(true), wakes),
-            Some((Ok(Disposition::Failed), wakes)) => (Tried::Entered(false), wakes),
-            Some((Err(_), wakes)) => (Tried::Halted(Halt::NoMemory), wakes),
-            Some((Ok(Disposition::Retry), wakes)) => match self.hear(pass) {
-                Some(by) => (Tried::Halted(Halt::Stopped(by)), wakes),
-                None => (Tried::Again, wakes),
-            },
-            None => (Tried::Again, Wakes::NOBODY),
-        }
-    }
-
-    /// Asks the question once, ends the hold, and hears who has stopped the service where it has no answer. It answers
-    /// Again too where another pass has the book: then the pass is as before, and nobody is woken.
-    #[inline]
-    pub(crate) fn try_question<Q: Question>(
-        &self,
-        pass: &mut Pass,
-        question: &Q,
-        sleepers: &mut Sleepers,
-    ) -> (Reply<Q::Answer>, Wakes)
-        requires { pass.old.service.table ≡ self.now.table.shared.table_id }
-        ensures same { pass.new.service ≡ pass.old.service }
-        ensures replied { IsReplied (Q.answers question.now) (Q.waits_on question.now) pass.old.sight pass.new.sight result.0 }
-        ensures ends { LeavesHold pass.new.sight.seen pass.new.sight.worker sleepers.old sleepers.new result.1 }
-    {
-        let Some((answer, wakes)) = self.attempt_ask(pass, question, sleepers) else {
-            return (Reply::Again, Wakes::NOBODY);
-        };
-        match answer {
-            Some(answer) => (Reply::Answered(answer), wakes),
-            None => match self.hear(pass) {
-                Some(by) => (Reply::Stopped(by), wakes),
-                None => (Reply::Again, wakes),
-            },
-        }
-    }
-
     /// Runs the transform once, and tells whom its entry wakes of those that sleep. None says that another pass has the
     /// book at this moment: then nothing has changed, and the call can be made again at once.
     pub fn attempt<T: Transform>(

@@ -3,7 +3,12 @@
 
 mod attempts;
 mod boxed_books;
+mod decision_holds;
+mod decisions;
+mod guarded;
 mod halts;
+mod holds;
+mod joint_holds;
 mod keepers;
 mod lasts;
 mod laws;
@@ -22,6 +27,7 @@ mod slots;
 mod stances;
 
 pub use boxed_books::BoxedBook;
+pub use decisions::{Decided, Decision, Followed};
 pub use halts::Halt;
 pub use keepers::Keeper;
 pub use laws::{

@@ -6,13 +6,14 @@ ghost use Rattle.coordination.specs.Parts.{ArePartsFrom};
 ghost use Rattle.coordination.specs.Sights.{sights_from, starting, workers_from};
 
 use crate::boxed_books::BoxedBook;
+use crate::guarded::Guarded;
 use crate::keepers::{Keeper, Kept};
 use crate::lasts::last_number;
+use crate::offers::Offers;
 use crate::parts::{Part, Room};
 use crate::passes::Pass;
 use crate::rule::SeatView;
 use crate::services::{Coordination, service_of};
-use crate::sleepers::Sleepers;
 use crate::slots::Slot;
 use atomic_table::Seat;
 use history_views::Reach;
@@ -28,8 +29,8 @@ pub struct Stock {
     pub parts: Vec<Part>,
     /// Room for the passes.
     pub passes: Vec<Pass>,
-    /// What the workers wait with.
-    pub waiting: Waiting,
+    /// The Condvar of each worker, by its number.
+    pub own: Vec<Condvar>,
 }
 
 impl Stock {
@@ -44,22 +45,17 @@ impl Stock {
         let workers = book.graph().workers();
         let parts = parts_of(alloc, book)?;
         let passes = Vec::with_capacity(alloc, workers as usize)?;
-        let waiting = Waiting::of(alloc, workers)?;
-        Ok(Stock {
-            parts,
-            passes,
-            waiting,
-        })
+        let own = condvars(alloc, workers)?;
+        Ok(Stock { parts, passes, own })
     }
 
     /// The service over the slot, and its passes by the numbers of their workers, whose seats are cut off this one. It takes no
     /// memory.
-    pub fn open<O, K: Keeper>(
+    pub fn open<O: Offers, K: Keeper>(
         self,
-        slot: Slot<K>,
-        seat: Seat<Kept<K>, SeatView>,
+        slot: Slot<Guarded<O, K>>,
+        seat: Seat<Kept<Guarded<O, K>>, SeatView>,
         told: &Option<Reach>,
-        offers: O,
     ) -> (Coordination<O, K>, Vec<Pass>)
         requires id { seat.table_id ≡ slot.table.shared.table_id }
         requires view { seat.me ≡ (starting slot.table.shared.key.kept.value, []) }
@@ -75,13 +71,9 @@ impl Stock {
             ≡ sights_from 0 slot.table.shared.key.kept.value.book.graph.workers slot.table.shared.key.kept.value.book }
         ensures service { All (λ p. p.service ≡ result.0.service) result.1.items }
     {
-        let Stock {
-            parts,
-            passes,
-            waiting,
-        } = self;
+        let Stock { parts, passes, own } = self;
         let passes = slot.seated(seat, told, parts, passes);
-        let service = service_of(slot, waiting, offers);
+        let service = service_of(slot, own);
         (service, passes)
     }
 }
@@ -118,26 +110,6 @@ fn parts_of(alloc: Global, book: &Book) -> Result<Vec<Part>, AllocError>
         parts.push(Part::fresh(alloc, room, last)?)?;
     }
     Ok(parts)
-}
-
-/// What those wait with who wait in a service: who sleeps, and each worker's own Condvar.
-#[derive(Drop)]
-pub struct Waiting {
-    /// Who sleeps, and who looks.
-    pub sleepers: Sleepers,
-    /// The Condvar of each worker, by its number.
-    pub own: Vec<Condvar>,
-}
-
-impl Waiting {
-    // For so many workers, none of whom sleeps.
-    fn of(alloc: Global, workers: u32) -> Result<Waiting, AllocError> {
-        let own = condvars(alloc, workers)?;
-        Ok(Waiting {
-            sleepers: Sleepers::nobody(alloc, workers)?,
-            own,
-        })
-    }
 }
 
 // So many Condvars.

@@ -5,59 +5,38 @@ ghost use Rattle.coordination.specs.Agrees.{Agrees};
 ghost use Rattle.resource_lock.specs.AtRest.{IsAtRest};
 ghost use Rattle.coordination.specs.Holds.{HoldsNothing};
 ghost use Rattle.coordination.specs.Calls.{AskedInVain, HasFailed, HasFinished, HasLooked, HasStopped, IsAnswered, WasStopped};
+ghost use Rattle.coordination.specs.Decisions.{HasDecided};
+ghost use Rattle.coordination.specs.Joints.{HasFollowed};
 ghost use Rattle.coordination.specs.Sights.{sights_from, workers_from};
 ghost use Rattle.coordination.specs.Together.{ComeTo};
 
 use crate::attempts::{Reply, Tried};
 use crate::boxed_books::BoxedBook;
+use crate::decisions::{Decided, Decision, Followed, Pursued, Ruling};
+use crate::guarded::Guarded;
 use crate::halts::Halt;
 use crate::keepers::Keeper;
 use crate::offers::Offers;
-use crate::openings::{Stock, Waiting};
+use crate::openings::Stock;
 use crate::passes::Pass;
 use crate::questions::Question;
-use crate::sleepers::{Sleepers, Wakes};
+use crate::sleepers::Wakes;
 use crate::slots::Slot;
 use lock_journal::Book;
 use lock_transforms::Transform;
 use resource_lock::WorkerId;
 use std::alloc::{AllocError, Global};
 use std::marker::Model;
-use std::sync::{Condvar, Mutex, MutexGuard, Wait};
-use worker_choices::{Awaited, Stance, Woken};
-
-/// What the state lock guards.
-#[derive(Drop)]
-struct Guarded<O> {
-    sleepers: Sleepers,
-    offers: O,
-}
-
-impl<O: Offers> Guarded<O> {
-    // Begins the hold of a question, of a worker that has promised to come again at once, or hasn't.
-    #[inline]
-    fn begin_question(&mut self, promised: bool) {
-        self.sleepers.queued = self.offers.are_there();
-        self.sleepers.promised = promised;
-    }
-
-    // Begins the hold of a transform. What is offered is read for those that sleep, so it isn't where nobody does.
-    #[inline]
-    fn begin_transform(&mut self, promised: bool) {
-        if self.sleepers.stances.some_sleep() {
-            self.sleepers.queued = self.offers.are_there();
-        }
-        self.sleepers.promised = promised;
-    }
-}
+use std::sync::{Condvar, Wait};
+use std::time::Duration;
+use worker_choices::Woken;
 
 /// One book that several workers change, one at a time, with work that waits outside the book or none.
 ///
 /// Whoever looks at the book, or changes it, has the state lock, and so has who falls asleep.
 #[derive(Drop)]
-pub struct Coordination<O = (), K: Keeper = BoxedBook> {
-    slot: Slot<K>,
-    state_lock: Mutex<Guarded<O>>,
+pub struct Coordination<O: Offers = (), K: Keeper = BoxedBook> {
+    slot: Slot<Guarded<O, K>>,
     // Questions wait for this that wait for any entry.
     entered: Condvar,
     // A worker waits for its own, by worker, which comes once what its question waits for has come.
@@ -66,7 +45,7 @@ pub struct Coordination<O = (), K: Keeper = BoxedBook> {
     freed: Condvar,
 }
 
-impl<O, K: Keeper> Model for Coordination<O, K> {
+impl<O: Offers, K: Keeper> Model for Coordination<O, K> {
     ghost use Rattle.coordination.specs.Passes.{CoordinationView};
 
     ghost Value = { CoordinationView };
@@ -79,7 +58,7 @@ impl<O, K: Keeper> Model for Coordination<O, K> {
 
 /// A service that was opened, with a pass for each worker in order.
 #[derive(Drop)]
-pub struct Opened<O = ()> {
+pub struct Opened<O: Offers = ()> {
     /// The service.
     pub service: Coordination<O>,
     /// The passes.
@@ -117,8 +96,9 @@ impl<O: Offers> Coordination<O> {
         ensures rest { IfOk result (λ opened. All (λ p. HoldsNothing p.sight) opened.passes.items) }
     {
         let stock = Stock::of(alloc, &book)?;
-        let (slot, seat) = Slot::new(alloc, BoxedBook { inner: book })?;
-        let (service, passes) = stock.open(slot, seat, &None, offers);
+        let guarded = Guarded::new(alloc, BoxedBook { inner: book }, offers)?;
+        let (slot, seat) = Slot::new(alloc, guarded)?;
+        let (service, passes) = stock.open(slot, seat, &None);
         Ok(Opened { service, passes })
     }
 }
@@ -144,25 +124,17 @@ impl<O: Offers, K: Keeper> Coordination<O, K> {
         ensures no_memory { result ≡ Err Halt.NoMemory → HasLooked pass.old.sight pass.new.sight }
         ensures stopped { (by : WorkerId) → result ≡ Err (Halt.Stopped by) → WasStopped (T.retries_on transform.now) by pass.old.sight pass.new.sight }
     {
-        let mut guard = self.state_lock.lock(rt);
         for _ in rt.forever() {
-            guard.begin_transform(pass.promised);
-            let (tried, wakes) = self
-                .slot
-                .try_transform(pass, transform, &mut guard.sleepers);
+            // Read before the hold that may note this worker as asleep: any wake that comes of the note changes it.
+            let news = self.freed.notifications();
+            let (tried, wakes) = self.slot.try_transform(rt, pass, transform);
+            if wakes.wake_any() {
+                self.wake(wakes);
+            }
             match tried {
-                Tried::Entered(finished) => {
-                    self.let_go(guard, wakes);
-                    return Ok(finished);
-                }
-                Tried::Halted(halt) => {
-                    self.let_go(guard, wakes);
-                    return Err(halt);
-                }
-                Tried::Again => {
-                    self.notify(wakes);
-                    guard = self.sleep_until_freed(rt, guard);
-                }
+                Tried::Entered(finished) => return Ok(finished),
+                Tried::Halted(halt) => return Err(halt),
+                Tried::Again => self.freed.sleep(rt, news, Duration::MAX),
             }
         }
         unreachable!()
@@ -186,24 +158,118 @@ impl<O: Offers, K: Keeper> Coordination<O, K> {
         ensures stopped { (by : WorkerId) → result ≡ Err (Halt.Stopped by) → AskedInVain (Q.waits_on question.now) by pass.old.sight pass.new.sight }
         ensures memory { result ≢ Err Halt.NoMemory }
     {
-        let worker = pass.worker;
-        let mut guard = self.state_lock.lock(rt);
+        let own = match question.awaited() {
+            Some(_) => self.own.get(pass.worker.0 as usize),
+            None => None,
+        };
+        let place = own.unwrap_or(&self.entered);
+        let apart = own.is_some();
+        let mut woken = false;
         for _ in rt.forever() {
-            guard.begin_question(pass.promised);
-            let (reply, wakes) = self.slot.try_question(pass, question, &mut guard.sleepers);
+            // Read before the hold, as in `with_state_lock`.
+            let news = place.notifications();
+            let (reply, wakes) = self.slot.try_question(rt, pass, woken, apart, question);
+            if wakes.wake_any() {
+                self.wake(wakes);
+            }
             match reply {
-                Reply::Answered(answer) => {
-                    self.let_go(guard, wakes);
-                    return Ok(answer);
-                }
-                Reply::Stopped(by) => {
-                    self.let_go(guard, wakes);
-                    return Err(Halt::Stopped(by));
-                }
+                Reply::Answered(answer) => return Ok(answer),
+                Reply::Stopped(by) => return Err(Halt::Stopped(by)),
                 Reply::Again => {
-                    self.notify(wakes);
-                    guard = self.sleep(rt, guard, worker, question.awaited());
+                    place.sleep(rt, news, Duration::MAX);
+                    woken = apart;
                 }
+            }
+        }
+        unreachable!()
+    }
+
+    /// Gets the state lock and decides: it asks the question, and where the answer has a step, runs that on the book of which the
+    /// answer was given, before anybody else has the lock. A step that asks to be run again isn't waited for (`Decided::Waiting`).
+    ///
+    /// Where there is no answer yet, the call asks again once what it waits for has come (`awaited`), or answers that the service
+    /// was stopped. `NoMemory` says that the step of an answer could not be run for want of memory. After `NoMemory` and
+    /// `Stopped` the pass is as before, but that after `Stopped` it shows by whom.
+    pub fn decide<Q: Decision, R: Wait>(
+        &self,
+        rt: &R,
+        pass: &mut Pass,
+        decision: &Q,
+    ) -> Result<Decided<Q::Answer>, Halt>
+    where
+        Q::Answer: Drop,
+        requires { pass.old.service ≡ self.now.service }
+        ensures service { pass.new.service ≡ pass.old.service }
+        ensures worker { pass.new.sight.worker ≡ pass.old.sight.worker }
+        ensures decided { IfOk result (HasDecided (Q.answers decision.now) (Q.step_of decision.now)
+            Q.Step.kind_of Q.Step.makes Q.Step.fails_on Q.Step.retries_on pass.old.sight pass.new.sight) }
+        ensures no_memory { result ≡ Err Halt.NoMemory → HasLooked pass.old.sight pass.new.sight }
+        ensures stopped { (by : WorkerId) → result ≡ Err (Halt.Stopped by) → AskedInVain (Q.waits_on decision.now) by pass.old.sight pass.new.sight }
+    {
+        let own = match decision.awaited() {
+            Some(_) => self.own.get(pass.worker.0 as usize),
+            None => None,
+        };
+        let place = own.unwrap_or(&self.entered);
+        let apart = own.is_some();
+        let mut woken = false;
+        for _ in rt.forever() {
+            // Read before the hold, as in `with_state_lock`.
+            let news = place.notifications();
+            let (ruling, wakes) = self.slot.try_decision(rt, pass, woken, apart, decision);
+            if wakes.wake_any() {
+                self.wake(wakes);
+            }
+            match ruling {
+                Ruling::Decided(decided) => return Ok(decided),
+                Ruling::Halted(halt) => return Err(halt),
+                Ruling::Again => {
+                    place.sleep(rt, news, Duration::MAX);
+                    woken = apart;
+                }
+            }
+        }
+        unreachable!()
+    }
+
+    /// Gets the state lock, runs the transform, and where it finishes decides on the book that it left, before anybody else has the
+    /// lock: as `with_state_lock` and `decide`, with no entry of another worker between the two.
+    ///
+    /// The transform waits as in `with_state_lock`. The decision doesn't wait: `Finished` says that it has no answer yet, or that
+    /// there was no memory for the answer's step, and `decide` can be called then. After `NoMemory` and `Stopped` the pass is as
+    /// before, but that after `Stopped` it shows by whom.
+    pub fn run_then_decide<T: Transform, Q: Decision, R: Wait>(
+        &self,
+        rt: &R,
+        pass: &mut Pass,
+        transform: &T,
+        decision: &Q,
+    ) -> Result<Followed<Q::Answer>, Halt>
+    where
+        Q::Answer: Drop,
+        requires { pass.old.service ≡ self.now.service }
+        ensures service { pass.new.service ≡ pass.old.service }
+        ensures worker { pass.new.sight.worker ≡ pass.old.sight.worker }
+        ensures followed { IfOk result (HasFollowed (Q.answers decision.now) (Q.step_of decision.now)
+            Q.Step.kind_of Q.Step.makes Q.Step.fails_on Q.Step.retries_on (T.kind_of transform.now) (T.makes transform.now)
+            (T.fails_on transform.now) pass.old.sight pass.new.sight) }
+        ensures no_memory { result ≡ Err Halt.NoMemory → HasLooked pass.old.sight pass.new.sight }
+        ensures stopped { (by : WorkerId) → result ≡ Err (Halt.Stopped by) → WasStopped (T.retries_on transform.now) by pass.old.sight pass.new.sight }
+    {
+        for _ in rt.forever() {
+            // Read before the hold, as in `with_state_lock`.
+            let news = self.freed.notifications();
+            let (pursued, wakes, later) = self.slot.try_joint(rt, pass, transform, decision);
+            if wakes.wake_any() {
+                self.wake(wakes);
+            }
+            if later.wake_any() {
+                self.wake(later);
+            }
+            match pursued {
+                Pursued::Followed(followed) => return Ok(followed),
+                Pursued::Halted(halt) => return Err(halt),
+                Pursued::Again => self.freed.sleep(rt, news, Duration::MAX),
             }
         }
         unreachable!()
@@ -217,53 +283,6 @@ impl<O: Offers, K: Keeper> Coordination<O, K> {
         self.entered.notify_all();
         self.freed.notify_all();
         self.wake_workers(Woken::All);
-    }
-
-    // Falls asleep until an entry may let a transform go on, with the state lock free meanwhile.
-    fn sleep_until_freed<'a, R: Wait>(
-        &'a self,
-        rt: &R,
-        mut guard: MutexGuard<'a, Guarded<O>>,
-    ) -> MutexGuard<'a, Guarded<O>> {
-        guard.sleepers.transforms = true;
-        self.freed.wait(rt, guard)
-    }
-
-    // Falls asleep until what the worker waits for may have come, with the state lock free meanwhile. Who was
-    // woken looks.
-    fn sleep<'a, R: Wait>(
-        &'a self,
-        rt: &R,
-        mut guard: MutexGuard<'a, Guarded<O>>,
-        worker: WorkerId,
-        awaited: Option<Awaited>,
-    ) -> MutexGuard<'a, Guarded<O>> {
-        match (awaited, self.own.get(worker.0 as usize)) {
-            (Some(_), Some(own)) => {
-                let mut guard = own.wait(rt, guard);
-                guard.sleepers.stances.note(worker, Stance::Looks);
-                guard
-            }
-            (None, _) | (_, None) => {
-                guard.sleepers.questions = true;
-                self.entered.wait(rt, guard)
-            }
-        }
-    }
-
-    // Lets the state lock go, and wakes these. Where that is nobody, it touches no Condvar.
-    #[inline]
-    fn let_go(&self, guard: MutexGuard<'_, Guarded<O>>, wakes: Wakes) {
-        drop(guard);
-        self.notify(wakes);
-    }
-
-    // Wakes these.
-    #[inline]
-    fn notify(&self, wakes: Wakes) {
-        if wakes.wake_any() {
-            self.wake(wakes);
-        }
     }
 
     // Wakes these. It stands apart, so that who wakes nobody passes it by.
@@ -297,16 +316,15 @@ impl<O: Offers, K: Keeper> Coordination<O, K> {
 
     /// Stops the service with this pass, and wakes all that wait. Where it was stopped before,
     /// the pass shows by whom.
-    pub fn stop_all<R: Wait>(&self, rt: &R, pass: &mut Pass)
+    pub fn stop_all<R: Wait>(&self, _rt: &R, pass: &mut Pass)
         requires { pass.old.service ≡ self.now.service }
         ensures service { pass.new.service ≡ pass.old.service }
         ensures worker { pass.new.sight.worker ≡ pass.old.sight.worker }
         ensures stopped { HasStopped pass.old.sight pass.new.sight }
     {
-        let mut guard = self.state_lock.lock(rt);
+        // The mark stands before the wakes. Who is about to sleep reads it after it has read what the wakes change.
         self.slot.stop(pass);
-        guard.sleepers.note_all_awake();
-        self.let_go(guard, Wakes::ALL);
+        self.wake(Wakes::ALL);
     }
 
     /// Takes the book out for good. Every pass agrees with it, and together their entries and closings
@@ -327,7 +345,6 @@ impl<O: Offers, K: Keeper> Coordination<O, K> {
     {
         let Coordination {
             slot,
-            state_lock: _,
             entered: _,
             own: _,
             freed: _,
@@ -337,18 +354,15 @@ impl<O: Offers, K: Keeper> Coordination<O, K> {
 }
 
 /// The service over a slot.
-pub(crate) fn service_of<O, K: Keeper>(
-    slot: Slot<K>,
-    waiting: Waiting,
-    offers: O,
+pub(crate) fn service_of<O: Offers, K: Keeper>(
+    slot: Slot<Guarded<O, K>>,
+    own: Vec<Condvar>,
 ) -> Coordination<O, K>
     ensures service { result.service ≡ record { table = slot.table.shared.table_id; ledger = slot.table.shared.key.kept.value.ledger } }
     ensures book { result.book ≡ slot.table.shared.key.kept.value.book }
 {
-    let Waiting { sleepers, own } = waiting;
     Coordination {
         slot,
-        state_lock: Mutex::new(Guarded { sleepers, offers }),
         entered: Condvar::new(),
         own,
         freed: Condvar::new(),

@@ -6,6 +6,7 @@ ghost use Rattle.history_views.specs.ShownBooks.{SameHistory};
 ghost use Rattle.coordination.specs.Holds.{HoldsNothing};
 ghost use Rattle.coordination.specs.Sights.{sights_from, workers_from};
 
+use crate::guarded::Guarded;
 use crate::offers::Offers;
 use crate::openings::Stock;
 use crate::passes::Pass;
@@ -21,7 +22,7 @@ pub type ShownService<O, R> = Coordination<O, ShownBook<R>>;
 
 /// A service that was opened with views, with a pass for each worker in order.
 #[derive(Drop)]
-pub struct OpenedWithViews<O, R: Wait + Drop> {
+pub struct OpenedWithViews<O: Offers, R: Wait + Drop> {
     /// The service.
     pub service: Coordination<O, ShownBook<R>>,
     /// The passes.
@@ -58,8 +59,9 @@ impl<O: Offers, R: Wait + Drop> Coordination<O, ShownBook<R>> {
         let stock = Stock::of(alloc, &book)?;
         let (shown, views) = with_views(alloc, rt, book, views)?;
         let told = shown.reach();
-        let (slot, seat) = Slot::new(alloc, shown)?;
-        let (service, passes) = stock.open(slot, seat, &told, offers);
+        let guarded = Guarded::new(alloc, shown, offers)?;
+        let (slot, seat) = Slot::new(alloc, guarded)?;
+        let (service, passes) = stock.open(slot, seat, &told);
         Ok(OpenedWithViews {
             service,
             passes,

@@ -98,13 +98,6 @@ impl Sleepers {
         }
     }
 
-    /// Notes that all that sleep are woken.
-    pub(crate) fn note_all_awake(&mut self) {
-        self.transforms = false;
-        self.questions = false;
-        self.stances.note_woken(Woken::All);
-    }
-
     /// Ends the hold in which a transform of this kind was run.
     #[inline]
     pub(crate) fn end_transform(

@@ -1,14 +1,16 @@
 //! The steps on the table.
 ghost use Rattle.std.specs.Prelude.{◌≡◌, ◌≢◌, ◌<◌, ◌+◌, ◌-◌, ◌^◌, [], ◌∷◌, length, true, false, IfNone, IfSome, None};
 ghost use Rattle.coordination.specs.Attempts.{Answers, HasRun};
+ghost use Rattle.coordination.specs.Decisions.{Decides, EndsDecision};
 ghost use Rattle.coordination.specs.Endings.{EndsHold, stance_asking};
 ghost use Rattle.history_views.specs.ShownBooks.{IsTold};
 ghost use Rattle.coordination.specs.Kept.{kept};
-ghost use Rattle.coordination.specs.Parts.{IsPartHere};
+ghost use Rattle.coordination.specs.Parts.{HasListRoom, IsPartHere, IsPartOf, marks_of};
 ghost use Rattle.coordination.specs.Rule.{AddsOwn, Hears, Taken, carried_book};
 ghost use Rattle.coordination.specs.Sights.{holding, one, seeing, sight_of, stopping};
 
 use crate::boxed_books::BoxedBook;
+use crate::decisions::{Decision, Verdict};
 use crate::keepers::{Keeper, Kept};
 use crate::parts::Part;
 use crate::questions::Question;
@@ -19,12 +21,19 @@ use history_views::Reach;
 use lock_transforms::{Disposition, Transform};
 use resource_lock::WorkerId;
 use std::alloc::{AllocError, Global};
+use std::hint::spin_loop;
+use std::sync::Wait;
+use worker_choices::Awaited;
+
+// How often a worker looks whether the book is back before it sleeps.
+const LOOKS: u32 = 100;
 
 /// A service without its state lock: the book in its slot, with a word that says whether it is out and a word that says who
 /// has stopped the service.
 ///
-/// Its calls never wait, and those of several passes may run at once. Who finds the book out gets no answer, and asks again.
-/// Who sleeps and who is woken is the caller's affair.
+/// Its public calls never wait, and those of several passes may run at once. Who finds the book out gets no answer, and asks again.
+/// Who sleeps and who is woken is the caller's affair. In a `Coordination` the first word is the state lock, and who finds the
+/// book out sleeps on it (`take`, `let_go`).
 #[derive(Drop)]
 pub struct Slot<K: Keeper = BoxedBook> {
     pub(crate) table: Table<Kept<K>, SeatView, OpenedWith<K>, Order, Global>,
@@ -40,7 +49,80 @@ impl<K: Keeper> Slot<K> {
         ensures taken { result ≡ true → Taken seat.old.me seat.new.me }
         ensures busy { result ≡ false → seat.new.me ≡ seat.old.me }
     {
-        self.table.shared.swap::<Take>(seat, 0, 1) == 0
+        self.table.shared.compare_exchange::<Take>(seat, 0, 0, 1) == 0
+    }
+
+    /// Takes the book out, and waits while another seat has it. There is a copy of it for each transform and question that it is
+    /// taken for, so that each finds the book without a call.
+    #[inline]
+    pub(crate) fn take<R: Wait, W>(&self, rt: &R, seat: &mut Seat<Kept<K>, SeatView>, _for_whom: &W)
+        requires id { seat.old.table_id ≡ self.now.table.shared.table_id }
+        requires lone { seat.old.me ≡ (one seat.old.me.0.ledger (sight_of seat.old.me.0), []) }
+        ensures same { (seat.new.table_id ≡ seat.old.table_id) × (seat.new.id ≡ seat.old.id) }
+        ensures taken { Taken seat.old.me seat.new.me }
+    {
+        if !self.try_take(seat) {
+            self.take_later(rt, seat);
+        }
+    }
+
+    // The same where another seat had the book just now.
+    #[inline(never)]
+    fn take_later<R: Wait>(&self, rt: &R, seat: &mut Seat<Kept<K>, SeatView>)
+        requires id { seat.old.table_id ≡ self.now.table.shared.table_id }
+        requires lone { seat.old.me ≡ (one seat.old.me.0.ledger (sight_of seat.old.me.0), []) }
+        ensures same { (seat.new.table_id ≡ seat.old.table_id) × (seat.new.id ≡ seat.old.id) }
+        ensures taken { Taken seat.old.me seat.new.me }
+    {
+        self.look_for_a_while();
+        if self.try_take(seat) {
+            return;
+        }
+        for _ in rt.forever() {
+            if self.take_or_wait(seat) {
+                return;
+            }
+            self.table.shared.park(rt, 0, 2);
+            self.look_for_a_while();
+        }
+        unreachable!()
+    }
+
+    // Takes the book out, and leaves word as who may sleep until it is back. False says that it is out: then the seat is as
+    // before.
+    fn take_or_wait(&self, seat: &mut Seat<Kept<K>, SeatView>) -> bool
+        requires id { seat.old.table_id ≡ self.now.table.shared.table_id }
+        requires lone { seat.old.me ≡ (one seat.old.me.0.ledger (sight_of seat.old.me.0), []) }
+        ensures same { (seat.new.table_id ≡ seat.old.table_id) × (seat.new.id ≡ seat.old.id) }
+        ensures taken { result ≡ true → Taken seat.old.me seat.new.me }
+        ensures busy { result ≡ false → seat.new.me ≡ seat.old.me }
+    {
+        self.table.shared.swap::<Take>(seat, 0, 2) == 0
+    }
+
+    // Looks for a while, as long as the book is out and nobody sleeps until it is back.
+    fn look_for_a_while(&self) {
+        for _ in 0..LOOKS {
+            if self.table.shared.peek(0) != 1 {
+                return;
+            }
+            spin_loop();
+        }
+    }
+
+    /// `put_back`, and wakes one of those that sleep until the book is back.
+    #[inline]
+    pub(crate) fn let_go(&self, seat: &mut Seat<Kept<K>, SeatView>)
+        requires id { seat.old.table_id ≡ self.now.table.shared.table_id }
+        requires held { seat.old.me
+            ≡ (holding seat.old.me.0.ledger (sight_of seat.old.me.0), (0, kept (carried_book seat.old.me.1) seat.old.me.0.ledger) ∷ []) }
+        requires own { AddsOwn (sight_of seat.old.me.0) (carried_book seat.old.me.1) }
+        ensures same { (seat.new.table_id ≡ seat.old.table_id) × (seat.new.id ≡ seat.old.id) }
+        ensures view { seat.new.me ≡ (one seat.old.me.0.ledger (seeing (sight_of seat.old.me.0) (carried_book seat.old.me.1)), []) }
+    {
+        if self.table.shared.swap::<PutBack>(seat, 0, 0) == 2 {
+            self.table.shared.wake_one(0);
+        }
     }
 
     /// Runs the transform on the book that the seat holds, has the worker's part follow it, and ends the hold.
@@ -91,7 +173,8 @@ impl<K: Keeper> Slot<K> {
         ask_of(&kept.keeper, worker, reach, question, sleepers)
     }
 
-    /// Puts the book back, in which no entries but the worker's own are new.
+    /// Puts the book back, in which no entries but the worker's own are new. It is for a slot at which nobody sleeps until the book
+    /// is back.
     pub(crate) fn put_back(&self, seat: &mut Seat<Kept<K>, SeatView>)
         requires id { seat.old.table_id ≡ self.now.table.shared.table_id }
         requires held { seat.old.me
@@ -146,7 +229,7 @@ impl<K: Keeper> Slot<K> {
 
 // Runs the transform on the book, has the worker's part follow it, and ends the hold.
 #[inline]
-fn run_on<K: Keeper, T: Transform>(
+pub(crate) fn run_on<K: Keeper, T: Transform>(
     keeper: &mut K,
     worker: WorkerId,
     part: &mut Part,
@@ -170,7 +253,8 @@ fn run_on<K: Keeper, T: Transform>(
 }
 
 // Asks the question of the book, and ends the hold.
-fn ask_of<K: Keeper, Q: Question>(
+#[inline]
+pub(crate) fn ask_of<K: Keeper, Q: Question>(
     keeper: &K,
     worker: WorkerId,
     reach: &mut Option<Reach>,
@@ -184,9 +268,69 @@ fn ask_of<K: Keeper, Q: Question>(
     ensures ends { EndsHold (K.book_of keeper.now) worker (stance_asking sleepers.old.promised (Q.awaits question.now) result.0)
         false sleepers.old sleepers.new result.1 }
 {
-    let book = keeper.book();
-    let answer = question.ask(worker, book, sleepers.queued);
-    let wakes = sleepers.end_question(book, worker, question.awaited(), &answer);
-    keeper.tell(reach);
+    let answer = question.ask(worker, keeper.book(), sleepers.queued);
+    let wakes = end_asked(keeper, worker, reach, question.awaited(), &answer, sleepers);
     (answer, wakes)
+}
+
+// Decides on the book: asks, and runs the step of the answer, if it has one. It has the worker's part follow the book, and ends the
+// hold once.
+#[inline]
+pub(crate) fn decide_on<K: Keeper, Q: Decision>(
+    keeper: &mut K,
+    worker: WorkerId,
+    part: &mut Part,
+    reach: &mut Option<Reach>,
+    decision: &Q,
+    awaited: Option<Awaited>,
+    sleepers: &mut Sleepers,
+) -> (Verdict<Q::Answer>, Wakes)
+    requires part { IsPartHere worker (K.book_of keeper.old) part.old }
+    requires told { K.ledger_of keeper.old ≡ None → reach.old ≡ None }
+    ensures ledger { K.ledger_of keeper.new ≡ K.ledger_of keeper.old }
+    ensures told { IsTold (K.ledger_of keeper.new) reach.new (K.book_of keeper.new) }
+    ensures graph { (K.book_of keeper.new).graph ≡ (K.book_of keeper.old).graph }
+    ensures kept { IsPartOf (K.book_of keeper.new) worker part.new }
+    ensures room { HasListRoom (K.book_of keeper.new).graph.locks (marks_of (K.book_of keeper.new).graph) part.new }
+    ensures decided { Decides (Q.answers decision.now) (Q.waits_on decision.now) (Q.step_of decision.now)
+        Q.Step.kind_of Q.Step.makes Q.Step.fails_on Q.Step.retries_on worker (K.book_of keeper.old) (K.book_of keeper.new) result.0 }
+    ensures ends { EndsDecision (K.book_of keeper.new) worker awaited (Q.step_of decision.now) Q.Step.kind_of
+        sleepers.old sleepers.new result.1 result.0 }
+{
+    let book = keeper.book();
+    let Some(answer) = decision.ask(worker, book, sleepers.queued) else {
+        let wakes = end_asked(keeper, worker, reach, awaited, &None::<Q::Answer>, sleepers);
+        return (Verdict::Asked(None), wakes);
+    };
+    match decision.step(&answer) {
+        None => {
+            let answer = Some(answer);
+            let wakes = end_asked(keeper, worker, reach, awaited, &answer, sleepers);
+            (Verdict::Asked(answer), wakes)
+        }
+        Some(step) => {
+            let (came, wakes) = run_on(keeper, worker, part, reach, &step, sleepers);
+            (Verdict::Ran(answer, came), wakes)
+        }
+    }
+}
+
+// Ends the hold of a question that was asked of the book, by a worker that sleeps until this comes where there is no answer.
+#[inline]
+fn end_asked<K: Keeper, A>(
+    keeper: &K,
+    worker: WorkerId,
+    reach: &mut Option<Reach>,
+    awaited: Option<Awaited>,
+    answer: &Option<A>,
+    sleepers: &mut Sleepers,
+) -> Wakes
+    requires told { K.ledger_of keeper.now ≡ None → reach.old ≡ None }
+    ensures told { IsTold (K.ledger_of keeper.now) reach.new (K.book_of keeper.now) }
+    ensures ends { EndsHold (K.book_of keeper.now) worker (stance_asking sleepers.old.promised awaited answer.now)
+        false sleepers.old sleepers.new result }
+{
+    let wakes = sleepers.end_question(keeper.book(), worker, awaited, answer);
+    keeper.tell(reach);
+    wakes
 }

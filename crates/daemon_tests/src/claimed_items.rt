@@ -158,7 +158,7 @@ pub(crate) fn run_claimed<R: Wait, D: Desk, U: Ledger, F: Ledger>(
     mine: &mut Tally<U, F>,
     unit: u32,
     work: &Work,
-) -> Ran<D::Link>
+) -> Ran<Box<D::Link>>
     requires lease { lease_shown pass.now.sight ≡ true }
     requires claimed { Contains (claimed_shown pass.now.sight) (ids.Unit unit) }
     requires form { IsNamedFor work.now.isolation work.now.file }

@@ -113,11 +113,11 @@ fn add_items<R: Wait + Abort, D: Desk, U: Ledger, F: Ledger>(
 }
 
 /// Stops a daemon that is one too many, if there is one.
-pub(crate) fn stop_spare<D: Desk>(desk: &mut D, spare: Option<D::Link>)
+pub(crate) fn stop_spare<D: Desk>(desk: &mut D, spare: Option<Box<D::Link>>)
     ensures { D.sends desk.new ≡ D.sends desk.old }
 {
     if let Some(link) = spare {
-        desk.stop(link);
+        desk.stop(Box::into_inner(link));
     }
 }
 

@@ -1,3 +1,4 @@
+pub mod lemmas
 pub mod Supplies
 pub mod Keeping
 pub mod Verdicts

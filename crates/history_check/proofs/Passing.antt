@@ -1,6 +1,5 @@
 -- What was taken of an input, line by line.
 use Rattle.std.proofs.Common.{◌≡◌, ℕ, zero, suc, ◌+◌, ◌-◌, ◌<◌, Bool, true, false, List, [], ◌∷◌, ◌++◌, length, take, codes, length-append, Option, Some, None, refl, sym, ap, subst, ◌∙◌, append_assoc, append-nil, arith, inl, inr, ◌⊎◌}
-use Rattle.std.specs.List.{AllByRecursion, concat}
 use Rattle.std.specs.Io.KnownBytes.{Consumes}
 use Rattle.std.proofs.KnownBytes.{Consumes-nil, Consumes-trans}
 use Rattle.file_access.specs.SinkView.{Rises}
@@ -8,30 +7,13 @@ use Rattle.file_access.specs.SourceView.{SourceView}
 use Rattle.history_reader.specs.Lines.{is_unbroken, IsLine, IsLineBefore, BeginsWithLine}
 use Rattle.history_check.specs.LinesView.{LinesView}
 use Rattle.history_check.specs.Taking.{Takes, TakesNext, IsOver, IsCutOff, EndsLine, LosesPiece}
-use Rattle.history_check.specs.Naming.{IsOtherLine, ArePassedOver}
+use Rattle.history_check.specs.Naming.{IsOtherLine}
 use Rattle.history_check.specs.Checking.{still_given, all_given, IsFront, IsJustDecided, Fails, HasTaken}
 use Rattle.history_check.specs.declared.fails.CheckFail.{CheckFail}
 use Rattle.history_check.specs.declared.fails.CheckFail.TheVariants.{SourceFault, NoMemory}
 use Rattle.history_check.specs.declared.inputs.TheConstants.{MAX_INPUT_BYTES}
+use Rattle.history_check.proofs.lemmas.Passed.{none_passed, one_passed}
 use Rattle.history_check.specs.declared.lines.TheConstants.{MAX_PIECE}
-
-pub none_passed : ArePassedOver []
-none_passed = record { lines = []; others = tt; is = refl }
-
-all_more : (lines : List (List ℕ)) (line : List ℕ) → AllByRecursion IsOtherLine lines → IsOtherLine line → AllByRecursion IsOtherLine (lines ++ line ∷ [])
-all_more [] line all other = (other, tt)
-all_more (l ∷ lines) line all other = (all.0, all_more lines line all.1 other)
-
-concat_more : (lines : List (List ℕ)) (line : List ℕ) → concat (lines ++ line ∷ []) ≡ concat lines ++ line
-concat_more [] line = append-nil line
-concat_more (l ∷ lines) line = ap (λ bs. l ++ bs) (concat_more lines line) ∙ sym (append_assoc l (concat lines) line)
-
-pub one_passed : (passed line : List ℕ) → ArePassedOver passed → IsOtherLine line → ArePassedOver (passed ++ line)
-one_passed passed line over other = record {
-  lines = over.lines ++ line ∷ [];
-  others = all_more over.lines line over.others other;
-  is = ap (λ bs. bs ++ line) over.is ∙ sym (concat_more over.lines line);
-}
 
 pub starts : (start : SourceView) (lines : LinesView) → lines.ahead ≡ [] → lines.room ≡ MAX_INPUT_BYTES → HasTaken start start lines []
 starts start lines none room = record {

@@ -36,7 +36,8 @@ use std::sync::ledger::Ledger;
 /// is neither Fault nor NoMemory, and else one at most.
 ///
 /// Where one daemon too many is idle behind an item in a process, it comes back with the outcome, which then isn't Fault. The
-/// caller stops it once the item is closed. A daemon that failed was stopped here: nothing more is waited for at its end.
+/// caller stops it once the item is closed. Where there is no memory for the box of its link, it was stopped here, and its end
+/// waited for with the lease; the outcome stands. A daemon that failed was stopped here: nothing more is waited for at its end.
 pub fn run_item<R: Wait, D: Desk, U: Ledger, F: Ledger>(
     rt: &R,
     alloc: Global,
@@ -46,7 +47,7 @@ pub fn run_item<R: Wait, D: Desk, U: Ledger, F: Ledger>(
     mine: &mut Tally<U, F>,
     unit: u32,
     work: &Work,
-) -> Ran<D::Link>
+) -> Ran<Box<D::Link>>
     requires claimed { Contains (claimed_shown lease.now.sight) (ids.Unit unit) }
     requires form { IsNamedFor work.now.isolation work.now.file }
     ensures files { D.files desk.new ≡ D.files desk.old }

@@ -1,5 +1,5 @@
 //! An item that a daemon works out.
-ghost use Rattle.std.specs.Prelude.{◌≡◌, ◌≢◌, ◌≤◌, ◌+◌, IfOk, IfSome, true};
+ghost use Rattle.std.specs.Prelude.{◌≡◌, ◌≢◌, ◌≤◌, ◌+◌, IfOk, IfSome, Some, true};
 ghost use Rattle.std.specs.Result.{is_ok};
 ghost use Rattle.item_actions.specs.Forms.{is_file_name};
 ghost use Rattle.item_actions.specs.Value.{IsHonest, value_on};
@@ -26,8 +26,8 @@ use std::sync::ledger::Ledger;
 ///
 /// What `run_item` says of an item in a process holds of it. The pool's lock is held only for the pool's own calls, never while
 /// a daemon starts or works. A daemon that gave no reply is stopped, and never used again: its link is broken, and only settled
-/// ones are given back. An idle one that is one too many comes back with the outcome. No daemon is lost, since neither a
-/// reservation nor a link can be dropped.
+/// ones are given back. An idle one that is one too many comes back with the outcome, or is stopped for want of memory. No daemon
+/// is lost, since neither a reservation nor a link can be dropped.
 pub(crate) fn work_in_daemon<R: Wait, D: Desk, U: Ledger, F: Ledger>(
     rt: &R,
     alloc: Global,
@@ -37,7 +37,7 @@ pub(crate) fn work_in_daemon<R: Wait, D: Desk, U: Ledger, F: Ledger>(
     unit: u32,
     work: &Work,
     asked: &Requirements,
-) -> Ran<D::Link>
+) -> Ran<Box<D::Link>>
     requires form { is_file_name work.now.file ≡ true }
     ensures files { D.files desk.new ≡ D.files desk.old }
     ensures reads { D.reads desk.new ≡ D.reads desk.old }
@@ -97,7 +97,7 @@ fn ask_daemon<R: Wait, D: Desk, U: Ledger, F: Ledger>(
     mine: &mut Tally<U, F>,
     request: &Request,
     asked: &Requirements,
-) -> Result<Answered<D::Link>, DeskFail>
+) -> Result<Answered<Box<D::Link>>, DeskFail>
     requires { is_file_name request.now.file ≡ true }
     ensures files { D.files desk.new ≡ D.files desk.old }
     ensures reads { D.reads desk.new ≡ D.reads desk.old }
@@ -110,12 +110,34 @@ fn ask_daemon<R: Wait, D: Desk, U: Ledger, F: Ledger>(
     let mut reserved = reserve(rt, alloc, desk, pool, mine, request.unit, asked)?;
     match ask(alloc, desk, reserved.link(), request, asked) {
         Ok(reply) => {
-            let spare = release(rt, pool, reserved);
+            let spare = boxed_or_stopped(alloc, desk, release(rt, pool, reserved));
             Ok(Answered { reply, spare })
         }
         Err(failed) => {
             desk.stop(fail(rt, pool, mine, reserved));
             Err(failed)
+        }
+    }
+}
+
+// Boxes the link of a daemon that is one too many, for the caller to stop. Where there is no memory for it the daemon is stopped.
+fn boxed_or_stopped<D: Desk>(
+    alloc: Global,
+    desk: &mut D,
+    spare: Option<D::Link>,
+) -> Option<Box<D::Link>>
+    ensures boxed { IfSome result (λ boxed. spare ≡ Some boxed.value) }
+    ensures files { D.files desk.new ≡ D.files desk.old }
+    ensures reads { D.reads desk.new ≡ D.reads desk.old }
+    ensures faults { D.faults desk.new ≡ D.faults desk.old }
+    ensures sends { D.sends desk.new ≡ D.sends desk.old }
+    ensures sent { D.sent desk.new ≡ D.sent desk.old }
+{
+    match Box::new(alloc, spare?) {
+        Ok(boxed) => Some(boxed),
+        Err(refused) => {
+            desk.stop(refused.value);
+            None
         }
     }
 }

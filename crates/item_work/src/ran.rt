@@ -4,7 +4,8 @@ ghost use Rattle.std.specs.Prelude.{◌≡◌, None};
 use daemon_protocol::Reply;
 use item_actions::Outcome;
 
-/// What an item gave, and perhaps a daemon to stop: one that was idle, where one too many was.
+/// What an item gave, and perhaps a daemon to stop: one that was idle, where one too many was. `L` is the daemon's link, or a box of
+/// it, which costs an item that leaves none less.
 ///
 /// It can't be dropped, since the link can't. Who has it closes the item first, and stops the daemon then: the wait for the
 /// daemon's end keeps no lease.
@@ -25,7 +26,7 @@ impl<L> Ran<L> {
     }
 }
 
-/// A daemon's reply, and perhaps another daemon to stop. It can't be dropped, since the link can't.
+/// A daemon's reply, and perhaps another daemon to stop, by its link or by a box of it. It can't be dropped, since the link can't.
 pub struct Answered<L> {
     pub reply: Reply,
     pub spare: Option<L>,

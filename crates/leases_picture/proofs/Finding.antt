@@ -13,7 +13,7 @@ use Rattle.history_reader.proofs.lemmas.LineLaws.{entry_line, end_line}
 use Rattle.history_reader.proofs.lemmas.TextLaws.{head_parts, second_of, first_wrong, second_wrong, text_parts}
 use Rattle.history_reader.proofs.lemmas.ReadLaws.{ReadSoFar, opened_so_far}
 use Rattle.history_check.specs.Naming.{ArePassedOver, Names, Breaks, BeginsHistory, BreaksBehind}
-use Rattle.history_check.proofs.Passing.{none_passed, one_passed}
+use Rattle.history_check.proofs.lemmas.Passed.{none_passed, one_passed}
 use Rattle.leases_picture.specs.Found.{IsBehindHead, BeginsWith, HasHistory, EndsIn, IsFoundIn}
 use Rattle.history_reader.specs.declared.histories.History.{History}
 use Rattle.history_reader.specs.declared.histories.HistoryLine.{HistoryLine}

@@ -11,7 +11,8 @@ use crate::entries::{EntryRow, are_entries};
 use crate::rows::{Limits, TaskRow};
 use crate::services::open;
 use async_tracker::{
-    Held, Parked, claim, close, closing_undoes_claiming, end_task, park, resume, start_task, submit,
+    Held, Parked, claim, close, closing_undoes_claiming, end_task, park, resume, start_task,
+    submit, submit_and_park, take_next,
 };
 use coordination::{Coordination, Halt, Opened, Pass};
 use item_actions::Outcome;
@@ -21,6 +22,7 @@ use std::alloc::{AllocError, Global};
 use std::process::Abort;
 use std::sync::Wait;
 use std::test::Fail;
+use worker_choices::Choice;
 
 // Starts the task. False says that it can't be started.
 fn start<R: Wait>(rt: &R, service: &Coordination, pass: &mut Pass) -> Result<bool, Halt>
@@ -351,5 +353,45 @@ fn an_open_item_holds_the_worker(rt: HostRuntime) -> Result<(), Fail> {
     let mut opened = open_task(&rt, rt.alloc(), Retention::Retain)?;
     let Opened { service, passes } = &mut *opened;
     assert!(rt; matches!(try_too_early(&rt, service, &mut passes[0]), Ok(true)));
+    Ok(())
+}
+
+// Whether the worker starts the task as what is next.
+fn starts_what_is_next<R: Wait>(rt: &R, service: &Coordination, pass: &mut Pass) -> bool
+    requires service { pass.old.service ≡ service.now.service }
+    requires rests { HoldsNothing pass.old.sight }
+{
+    matches!(take_next(rt, service, pass), Ok(Choice::Start(0)))
+        && pass.last() == 1
+        && pass.has_lease()
+        && are_entries(rt, service, pass, &WORKED[..1])
+}
+
+#[test]
+fn the_task_that_is_next_is_started_at_once(rt: HostRuntime) -> Result<(), Fail> {
+    let mut opened = open_task(&rt, rt.alloc(), Retention::Retain)?;
+    let Opened { service, passes } = &mut *opened;
+    assert!(rt; starts_what_is_next(&rt, service, &mut passes[0]));
+    Ok(())
+}
+
+// Whether the worker queues the items of the task that it starts and waits for them, in one call.
+fn queues_and_waits<R: Wait>(rt: &R, service: &Coordination, pass: &mut Pass) -> bool
+    requires service { pass.old.service ≡ service.now.service }
+    requires graph { HasTwoItems pass.old.sight.seen.graph }
+    requires rests { HoldsNothing pass.old.sight }
+{
+    matches!(start(rt, service, pass), Ok(true))
+        && submit_and_park(rt, service, pass, 0).is_ok()
+        && pass.last() == 3
+        && are_entries(rt, service, pass, &WORKED[..2])
+        && are_entries(rt, service, pass, &RELEASES[..1])
+}
+
+#[test]
+fn items_are_queued_and_waited_for_in_one_call(rt: HostRuntime) -> Result<(), Fail> {
+    let mut opened = open_task(&rt, rt.alloc(), Retention::Release)?;
+    let Opened { service, passes } = &mut *opened;
+    assert!(rt; queues_and_waits(&rt, service, &mut passes[0]));
     Ok(())
 }

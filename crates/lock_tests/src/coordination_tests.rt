@@ -13,7 +13,9 @@ ghost use Rattle.coordination.specs.Sights.{workers_from};
 use crate::entries::EntriesFrom;
 use crate::rows::{Limits, TaskRow};
 use crate::services::{open, yield_a_while};
-use coordination::{Coordination, Halt, Opened, Pass, sound_books_have_good_states};
+use coordination::{
+    Coordination, Decided, Decision, Halt, Opened, Pass, sound_books_have_good_states,
+};
 use history_laws::own_changes_say_all;
 use lock_journal::Book;
 use lock_transforms::kinds::{End, Start};
@@ -170,7 +172,7 @@ fn task(lock: u32, after: Option<u32>) -> TaskRow {
 
 /// Fails, with an entry.
 #[derive(Clone, Copy)]
-struct FailAtOnce;
+pub struct FailAtOnce;
 
 impl Transform for FailAtOnce {
     ghost kind_of = { λ _. kinds.Acquire };
@@ -198,6 +200,17 @@ impl Transform for FailAtOnce {
     fn waits_for_news(&self) {}
 }
 
+/// Makes a failed entry once there are so many.
+impl Decision for EntriesFrom {
+    type Step = FailAtOnce;
+
+    ghost step_of = { λ _ _. Some (record {}) };
+
+    fn step(&self, _entries: &u64) -> Option<FailAtOnce> {
+        Some(FailAtOnce)
+    }
+}
+
 /// What the workers do in turns.
 #[derive(Clone, Copy)]
 enum Play {
@@ -207,6 +220,8 @@ enum Play {
     RunOwn,
     /// Two workers make failed entries by turns. Each asks for the other's before it makes its own.
     FailInTurn,
+    /// Each of 8 workers counts the entries and makes a failed one, in one hold.
+    CountAndFail,
     /// Worker 0 stops the service, and the others wait for what never comes.
     StopOthers,
 }
@@ -231,6 +246,7 @@ fn take_turn<R: Wait>(
             && turn < 40
             && runs_task(rt, service, pass, worker * 40 + turn),
         Play::FailInTurn => !is_next || fails(rt, service, pass, u64::from(turn)),
+        Play::CountAndFail => counts_and_fails(rt, service, pass),
         Play::StopOthers => stops_or_is_stopped(rt, service, pass),
     }
 }
@@ -259,6 +275,16 @@ fn fails<R: Wait>(rt: &R, service: &Coordination, pass: &mut Pass, entries: u64)
     let found = matches!(service.ask(rt, pass, &question), Ok(found) if found == entries);
     let failed = matches!(service.with_state_lock(rt, pass, &FailAtOnce), Ok(false));
     found && failed && pass.last().checked_sub(1) == Some(entries)
+}
+
+// Whether the worker's failed entry comes right behind those that it counted.
+fn counts_and_fails<R: Wait>(rt: &R, service: &Coordination, pass: &mut Pass) -> bool
+    requires { pass.old.service ≡ service.now.service }
+    ensures service { pass.new.service ≡ pass.old.service }
+    ensures worker { pass.new.sight.worker ≡ pass.old.sight.worker }
+{
+    let decided = service.decide(rt, pass, &EntriesFrom { least: 0 });
+    matches!(decided, Ok(Decided::Entered(entries, false)) if pass.last().checked_sub(1) == Some(entries))
 }
 
 // Has worker 0 stop the service after a while. Else tells whether the wait is ended by that.
@@ -439,6 +465,20 @@ fn a_question_waits_for_the_failed_entry_of_another_thread(rt: HostRuntime) -> R
         chained: false,
         turns: 2000,
         entries: 2000,
+    };
+    assert!(rt; comes_to_its_end(&rt, rt.alloc(), &scene)?);
+    Ok(())
+}
+
+#[test]
+fn nobody_comes_between_a_decision_and_its_entry(rt: HostRuntime) -> Result<(), Fail> {
+    let scene = Scene {
+        play: Play::CountAndFail,
+        workers: 8,
+        tasks: 0,
+        chained: false,
+        turns: 500,
+        entries: 4000,
     };
     assert!(rt; comes_to_its_end(&rt, rt.alloc(), &scene)?);
     Ok(())

@@ -1,5 +1,5 @@
 -- Needles by pieces, from the two laws of their count.
-use Rattle.std.proofs.Common.{◌≡◌, ◌≢◌, ℕ, zero, suc, inl, inr, ◌+◌, ◌-◌, ◌<◌, ◌≤◌, ◌^◌, ◌++◌, ◌⊎◌, List, [], max, min, length, get_or, take, drop, refl, sym, ap, subst, ◌∙◌, arith, ⊎_elim, length-drop, length-append, length-take-le, append_assoc, take-append-drop}
+use Rattle.std.proofs.Common.{◌≡◌, ℕ, zero, suc, inl, inr, ◌+◌, ◌-◌, ◌<◌, ◌≤◌, ◌^◌, ◌++◌, ◌⊎◌, List, [], max, min, length, get_or, take, drop, refl, sym, ap, subst, ◌∙◌, arith, ⊎_elim, length-drop, length-append, length-take-le, append_assoc, take-append-drop}
 use Rattle.std.proofs.lemmas.Bool.{cases_Bool, cases_eq, cases_lt, false≢true}
 use Rattle.std.proofs.lemmas.List.{append-nil, drop-drop, drop-append-le, drop_min, get_or-drop, take_rest}
 use Rattle.std.proofs.Math.ListN.{get_or-append}

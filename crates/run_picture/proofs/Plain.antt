@@ -7,7 +7,7 @@ use Rattle.std.proofs.lemmas.List.Folds.{list_all-append}
 use Rattle.lock_transforms.specs.Entry.{Entry}
 use Rattle.history_text.specs.Text.{mark_text, id_text, change_text, further_text, effect_text, hex_text, outcome_text, closed_text, kind_text}
 use Rattle.history_reader.specs.Plain.{MarkId, TaskOf, ActionOf, UnitOf, Mark, Waiting, Queued, Running, Passed, Failed, Skipped, Change, Lock, Unlock, Take, Give, Move, Park, Unpark, Enter, Leave, Outcome, Number, Digest, NotThere, TooLong, Fault, NoMemory, NotRun, Closed, Kind, Start, Skip, Submit, ParkFor, Resume, Claim, Close, Block, Unblock, End, Acquire, HandBack}
-use Rattle.history_reader.proofs.Digits.{all_of_decimal}
+use Rattle.history_reader.proofs.lemmas.Spelled.{decimal_passes}
 use Rattle.run_picture.specs.Laws.{is_plain, all_plain}
 use Rattle.run_picture.specs.Ticks.{line_of}
 
@@ -21,7 +21,7 @@ plain_digit : (d : ℕ) → d < 10 → is_plain (48 + d) ≡ true
 plain_digit d few = plain_one (48 + d) (omega arith) (omega arith) (omega arith) (omega arith)
 
 pub number_plain : (n : ℕ) → all_plain (decimal n) ≡ true
-number_plain n = all_of_decimal is_plain plain_digit n
+number_plain n = decimal_passes is_plain plain_digit n
 
 pub both : (xs ys : List ℕ) → all_plain xs ≡ true → all_plain ys ≡ true → all_plain (xs ++ ys) ≡ true
 both xs ys a b = list_all-append is_plain xs ys ∙ and_from _ _ a b

@@ -10,8 +10,7 @@ use Rattle.lock_transforms.specs.declared.entries.Kind.TheVariants as kinds
 use Rattle.history_text.specs.Text.{entry_text, numbered, kind_text, effect_text}
 use Rattle.history_text.specs.Fitting.{EntryFits}
 use Rattle.history_reader.specs.Reading.{is_digit, entry_at}
-use Rattle.history_reader.proofs.Digits.{all_of_decimal}
-use Rattle.history_reader.proofs.EntryLaws.{entry_again}
+use Rattle.history_reader.proofs.lemmas.Spelled.{decimal_passes, entry_read_back}
 use Rattle.history_reader.proofs.lemmas.Splits.{SameParts}
 use Rattle.run_picture.specs.Laws.{is_plain}
 use Rattle.run_picture.specs.Shapes.{area_text}
@@ -45,7 +44,7 @@ some_is : {A : Type 0} {x y : A} → Some x ≡ Some y → x ≡ y
 some_is e = cc
 
 digits_of_number : (n : ℕ) → list_all is_digit (decimal n) ≡ true
-digits_of_number n = all_of_decimal is_digit digit_is n
+digits_of_number n = decimal_passes is_digit digit_is n
 
 pub same_number : (m n : ℕ) (r s : List ℕ) → stops is_digit r ≡ true → stops is_digit s ≡ true → decimal m ++ r ≡ decimal n ++ s → SameParts (decimal m) (decimal n) r s
 same_number m n r s c d e = same_front is_digit (decimal m) (decimal n) r s (digits_of_number m) (digits_of_number n) c d e
@@ -140,7 +139,7 @@ marks_form f n e r =
 same_entry : (n : ℕ) (d e : Entry) → EntryFits d → EntryFits e → line_of n d ≡ line_of n e → d ≡ e
 same_entry n d e fits fits' is =
     let texts : entry_text n d ++ [] ≡ entry_text n e ++ [] = ap (λ l. l ++ []) (line_form n d ∙ (ap (λ l. l ++ codes "\n") is ∙ sym (line_form n e))) in
-    ap (λ (y : Entry × List ℕ). y.0) (some_is (sym (entry_again n d [] fits) ∙ (ap (entry_at n) texts ∙ entry_again n e [] fits')))
+    ap (λ (y : Entry × List ℕ). y.0) (some_is (sym (entry_read_back n d [] fits) ∙ (ap (entry_at n) texts ∙ entry_read_back n e [] fits')))
 
 record SameEntry (d e : Entry) (r s : List ℕ) : Type 0 where
   entry : d ≡ e

@@ -1,6 +1,6 @@
 -- What is so by the answer of a call.
-use Rattle.std.proofs.Common.{◌≡◌, ◌≢◌, Bool, true, false, Result, Ok, Err, refl}
-use Rattle.std.specs.Prelude.{OnErr, OnOk}
+use Rattle.std.proofs.Common.{◌≡◌, ◌≢◌, Bool, true, false, Result, Ok, Err, refl, subst}
+use Rattle.std.specs.Prelude.{IfOk, OnErr, OnOk}
 use Rattle.resource_lock.specs.declared.ids.WorkerId.{WorkerId}
 use Rattle.lock_transforms.specs.declared.entries.Kind.{Kind}
 use Rattle.coordination.specs.Attempts.{Cause}
@@ -16,7 +16,7 @@ unless_finished (Err Halt.NoMemory) failed no_memory stopped ne = no_memory refl
 unless_finished (Err (Halt.Stopped by)) failed no_memory stopped ne = stopped by refl
 
 -- what is so at an error
-pub halted : {P : Type 0} (r : Result Bool Halt) (e : Halt) → r ≡ Err e → (r ≡ Err Halt.NoMemory → P) → ((by : WorkerId) → r ≡ Err (Halt.Stopped by) → P) → P
+pub halted : {P X : Type 0} (r : Result X Halt) (e : Halt) → r ≡ Err e → (r ≡ Err Halt.NoMemory → P) → ((by : WorkerId) → r ≡ Err (Halt.Stopped by) → P) → P
 halted r Halt.NoMemory is no_memory stopped = no_memory is
 halted r (Halt.Stopped by) is no_memory stopped = stopped by is
 
@@ -27,6 +27,15 @@ on_err (Err e) p = p
 pub from_ok : {T E P : Type 0} (r : Result T E) (x : T) → r ≡ Ok x → OnOk r P → P
 from_ok (Ok y) x is p = p
 from_ok (Err e) x is p = absurd (cc)
+
+-- what follows of what is so at a value, or at an error
+pub ok_map : {T E P Q : Type 0} (r : Result T E) → (P → Q) → OnOk r P → OnOk r Q
+ok_map (Ok x) f p = f p
+ok_map (Err e) f p = tt
+
+pub err_map : {T E P Q : Type 0} (r : Result T E) → (P → Q) → OnErr r P → OnErr r Q
+err_map (Ok x) f p = tt
+err_map (Err e) f p = f p
 
 pub ok_is : {E : Type 0} {b d : Bool} → ◌≡◌ {A = Result Bool E} (Ok b) (Ok d) → b ≡ d
 ok_is is = cc
@@ -42,3 +51,7 @@ failed_for f held = record {
   left = f.left;
   sight = f.sight;
 }
+
+pub if_ok : {T E : Type 0} (P : T → Type 0) (r : Result T E) (x : T) → r ≡ Ok x → IfOk r P → P x
+if_ok P (Ok y) x is p = subst P (cc) p
+if_ok P (Err e) x is p = absurd (cc)

@@ -41,7 +41,7 @@ use Rattle.coordination.specs.declared.rule.Sight.{Sight}
 use Rattle.coordination.proofs.lemmas.Entries.{belongs_sound, good_sound}
 use Rattle.async_tracker.specs.ParkedView.{ParkedView}
 use Rattle.async_tracker.specs.Shows.{HasParkedLast, IsFree, IsParkedBy, ShowsResumed, lease_on_resume, locks_on_resume, parked_on_resume}
-use Rattle.worker_choices.specs.NextSteps.{first_open}
+use Rattle.worker_choices.specs.NextSteps.{CanGoOn, can_take_again, first_open}
 use Rattle.async_tracker.specs.Waits.{CannotResume, CannotTakeAgain, IsFirstOpen}
 use Rattle.coordination.proofs.lemmas.Shown.{Leaves, shows_left}
 use Rattle.history_laws.proofs.lemmas.Claims.{action_runs, unit_claimed}
@@ -154,9 +154,10 @@ action_within s w a runs = elim (cases_lt a (length s.actions)) [
   | inr past ↦ let waiting : mark_of s (ActionOf a) ≡ Waiting = get_or_past s.actions a Waiting past in absurd (cc)
 ]
 
-pub cannot_resume : (old : Sight) (book : BookView) (p : ParkedView) → IsSoundBook old.seen → Finds old.worker old.seen book → IsParkedBy old p → IsFree old → first_open old.seen.graph old.seen.state p.action ≡ None
-    → IsDisabled (Resume p.action) book.graph old.worker book.state → CannotResume p.action book.graph old.worker book.state
-cannot_resume old book p sound found by free none disabled =
+-- once its items have ended, a parked worker waits only for what the retention takes again
+waits_to_take : (old : Sight) (book : BookView) (p : ParkedView) → Finds old.worker old.seen book → IsParkedBy old p → IsFree old → first_open book.graph book.state p.action ≡ None
+    → IsDisabled (Resume p.action) book.graph old.worker book.state → CannotTakeAgain (action_of book.graph p.action).retention (lock_with book.graph p.action) old.worker book.state
+waits_to_take old book p found by free open_none disabled =
     let w : WorkerId = old.worker in
     let a : ℕ = p.action in
     let s : StateView = book.state in
@@ -172,14 +173,33 @@ cannot_resume old book p sound found by free none disabled =
       blocked = ap (λ (h : Holding). h.blocked) same.holding ∙ free.blocked;
     } in
     let here : a < length g.actions = omega (arith, action_within s w a runs, belongs.actions) in
-    let open_none : first_open g s a ≡ None = none_open_found old book a sound found none in
     let ended : list_all (λ u. has_ended (mark_of s (UnitOf u))) (items_of g a) ≡ true = sym (none_open _ (items_of g a)) ∙ ap is_none open_none in
     let units : runs_unit s w ≡ false = same.runs_unit ∙ (sym (unit_claimed old.seen.state w) ∙ free.units) in
     let running : same_mark (mark_of s (ActionOf a)) (Running w) ≡ true = ap (λ m. same_mark m (Running w)) runs ∙ eq-eqb w.0 w.0 refl in
     let holds : condition g s w (Resume a) ≡ true = λ i. running i && not (waits.lease i) && not (units i) && ended i in
     let lock : HasParkedLast (action_of g a).retention (lock_with g a) old = subst (λ (k : GraphView). HasParkedLast (action_of k a).retention (lock_with k a) old) (sym found.agrees.graph) by.lock in
     let last = last_found (action_of g a).retention (lock_with g a) old s (ap (λ (h : Holding). h.parked) same.holding) lock in
-    (open_none, cannot_take (action_of g a).retention (lock_with g a) s w a waits last (λ all. false≢true (sym (disabled here) ∙ and_from _ _ holds all)))
+    cannot_take (action_of g a).retention (lock_with g a) s w a waits last (λ all. false≢true (sym (disabled here) ∙ and_from _ _ holds all))
+
+pub cannot_resume : (old : Sight) (book : BookView) (p : ParkedView) → IsSoundBook old.seen → Finds old.worker old.seen book → IsParkedBy old p → IsFree old → first_open old.seen.graph old.seen.state p.action ≡ None
+    → IsDisabled (Resume p.action) book.graph old.worker book.state → CannotResume p.action book.graph old.worker book.state
+cannot_resume old book p sound found by free none disabled =
+    let open_none : first_open book.graph book.state p.action ≡ None = none_open_found old book p.action sound found none in
+    (open_none, waits_to_take old book p found by free open_none disabled)
+
+can_take : (r : Retention) (l : LockId) (w : WorkerId) (s : StateView) → can_take_again r l w s ≡ true → CannotTakeAgain r l w s → ⊥
+can_take Retain l w s free cannot = false≢true (sym cannot ∙ free)
+can_take Release l w s free cannot = cannot
+can_take ReleaseAndReacquire l w s free cannot =
+    let p = and_parts (can_lease s w && is_none (owner_of s l)) (not (kept_from s w l)) free in
+    let q = and_parts (can_lease s w) (is_none (owner_of s l)) p.0 in
+    false≢true (sym cannot ∙ and_from (not (kept_from s w l) && true) (can_lease s w) (and_from (not (kept_from s w l)) true p.1 refl) q.0)
+
+-- where a parked worker can go on it doesn't have to wait
+pub resumes_at_once : (old : Sight) (book : BookView) (p : ParkedView) → Finds old.worker old.seen book → IsParkedBy old p → IsFree old → CanGoOn book.graph old.worker book.state p.action
+    → IsDisabled (Resume p.action) book.graph old.worker book.state → ⊥
+resumes_at_once old book p found by free can disabled =
+    can_take (action_of book.graph p.action).retention (lock_with book.graph p.action) old.worker book.state can.free (waits_to_take old book p found by free can.over disabled)
 
 -- what going on leaves
 module _ (l : LockId) (a : ℕ) (old : Sight) where

@@ -1,5 +1,5 @@
 -- Two calls in turn, of which the first makes no entry.
-use Rattle.std.proofs.Common.{List, inl, inr, sym, ap, ◌∙◌, subst}
+use Rattle.std.proofs.Common.{ℕ, List, inl, inr, sym, ap, ◌∙◌, subst}
 use Rattle.std.specs.Prelude.{Contains}
 use Rattle.std.specs.List.{list_any}
 use Rattle.resource_lock.specs.Change.{stands_last}
@@ -21,7 +21,8 @@ use Rattle.coordination.specs.declared.rule.Sight.{Sight}
 use Rattle.coordination.proofs.lemmas.Growing.{agrees_then}
 use Rattle.async_tracker.specs.ParkedView.{ParkedView}
 use Rattle.history_laws.specs.Own.{is_action, is_unit}
-use Rattle.async_tracker.specs.Shows.{HasParkedLast, IsFree, IsIdleOrParked, IsParkedBy}
+use Rattle.history_laws.specs.OwnChanges.{mark_before, with_member, without_member}
+use Rattle.async_tracker.specs.Shows.{HasParkedLast, IsFree, IsIdleOrParked, IsParkedBy, ShowsParked, ShowsResumed, locks_on_park, locks_on_resume, parked_on_park, parked_on_resume}
 
 module _ {A : Type 0} {answers : WorkerId → BookView → A → Type 0} {a : A} {old mid : Sight} (q : IsAnswered answers a old mid) where
   found_later : (book : BookView) → Finds old.worker q.book book → Finds old.worker old.seen book
@@ -40,6 +41,17 @@ module _ {A : Type 0} {answers : WorkerId → BookView → A → Type 0} {a : A}
       (λ r. record { book = r.book; found = found_later r.book r.found; cause = r.cause; stopper = r.stopper; sight = r.sight })
 
 -- what is so of a pass that shows the same
+pub shows_then : {a b c : Sight} → ShowsTheSame a b → ShowsTheSame b c → ShowsTheSame a c
+shows_then p q = record {
+  worker = q.worker ∙ p.worker;
+  graph = q.graph ∙ p.graph;
+  locks = q.locks ∙ p.locks;
+  lease = q.lease ∙ p.lease;
+  claimed = q.claimed ∙ p.claimed;
+  parked = q.parked ∙ p.parked;
+  blocked = q.blocked ∙ p.blocked;
+}
+
 pub free_still : {old new : Sight} → ShowsTheSame old new → IsFree old → IsFree new
 free_still same free = record { lease = same.lease ∙ free.lease; blocked = same.blocked ∙ free.blocked; units = ap (list_any is_unit) same.claimed ∙ free.units }
 
@@ -60,3 +72,26 @@ parked_still {old} {new} p same by =
 pub waits_still : {old new : Sight} → ShowsTheSame old new → IsIdleOrParked old → IsIdleOrParked new
 waits_still same (inl idle) = inl (same.locks ∙ idle.0, same.claimed ∙ idle.1)
 waits_still same (inr parked) = inr (ap (list_any is_action) same.claimed ∙ parked)
+
+-- what the pass shows of a worker that parks or resumes goes by what it showed before a call that changed nothing of it
+pub parked_from : {old mid new : Sight} (r : Retention) (l : LockId) (a : ℕ) → ShowsTheSame old mid → ShowsParked r l a mid new → ShowsParked r l a old new
+parked_from r l a same parked = record {
+  worker = parked.worker ∙ same.worker;
+  graph = parked.graph ∙ same.graph;
+  locks = parked.locks ∙ ap (locks_on_park r l) same.locks;
+  lease = parked.lease;
+  claimed = parked.claimed ∙ ap (with_member mark_before (ActionOf a)) same.claimed;
+  parked = parked.parked ∙ ap (parked_on_park r l) same.parked;
+  blocked = parked.blocked ∙ same.blocked;
+}
+
+pub resumed_from : {old mid new : Sight} (r : Retention) (l : LockId) (a : ℕ) → ShowsTheSame old mid → ShowsResumed r l a mid new → ShowsResumed r l a old new
+resumed_from r l a same resumed = record {
+  worker = resumed.worker ∙ same.worker;
+  graph = resumed.graph ∙ same.graph;
+  locks = resumed.locks ∙ ap (locks_on_resume r l) same.locks;
+  lease = resumed.lease;
+  claimed = resumed.claimed ∙ ap (without_member mark_before (ActionOf a)) same.claimed;
+  parked = resumed.parked ∙ ap (parked_on_resume r) same.parked;
+  blocked = resumed.blocked ∙ same.blocked;
+}

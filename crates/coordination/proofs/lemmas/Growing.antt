@@ -16,7 +16,7 @@ use Rattle.history_laws.proofs.lemmas.Growing.{closed_by-own, same_by_own}
 use Rattle.coordination.specs.Agrees.{Agrees, IsSoundBook}
 use Rattle.coordination.specs.Lasts.{last_in, last_of, entry_count_of}
 
-none_of-append : (w : WorkerId) (xs ys : List Entry) → NoneOf w xs → NoneOf w ys → NoneOf w (xs ++ ys)
+pub none_of-append : (w : WorkerId) (xs ys : List Entry) → NoneOf w xs → NoneOf w ys → NoneOf w (xs ++ ys)
 none_of-append w [] ys p q = q
 none_of-append w (e ∷ xs) ys p q = (p.0, none_of-append w xs ys p.1 q)
 

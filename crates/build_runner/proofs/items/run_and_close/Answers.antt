@@ -1,18 +1,22 @@
-use Rattle.std.proofs.Common.{refl, ◌∙◌}
-use Rattle.build_runner.proofs.Failing.{fails_closed}
-use Rattle.build_runner.proofs.Stepping.{closes_nothing, step_closed, step_desk}
-use Rattle.build_runner.proofs.Watched.{watched_by_pass}
+use Rattle.coordination.specs.Decisions.{HasDecided}
+use Rattle.build_runner.specs.Desks.{desk_view}
+use Rattle.build_runner.proofs.Helping.{broke_off, ran_before}
 use Rattle.build_runner.proofs.items.run_and_close.Goals as goal
 
-pub returns-clause-step : goal.returns-clause-step
-returns-clause-step g c =
-    let left = c.close_item-closed.ensures in
-    step_desk c.stop_spare.ensures.desk
-    (step_closed (record { unit = c.args.unit; outcome = c.run_claimed-outcome.result.outcome }) c.close_item-closed.result c.requires.at refl (closes_nothing c.args.pass.now.sight) c.run_claimed-outcome.ensures.ran left.service left.closed left.still)
+pub returns-clause-ran : goal.returns-clause-ran
+returns-clause-ran g c =
+    let Q = g.Q in
+    let X = g.Q.Step.Transform in
+    let q = c.args.next.now in
+    let ran = c.run_claimed-outcome in
+    let left = c.close_and_decide in
+    ran_before (desk_view g.D.Files.files g.D.Files.faults g.D.Desk.sends g.D.Desk.sent) c.args.site.now c.args.desk.now c.args.pass.now c.requires.at ran.new.desk left.new.desk (record { unit = c.args.unit; outcome = ran.result.outcome })
+    ran.ensures.ran left.ensures.desk c.args.mine.now ran.new.mine
+    (λ d s. HasDecided (Q.Question.answers q) (Q.Decision.step_of q) X.kind_of X.makes X.fails_on X.retries_on s left.new.pass.sight d) left.result ran.ensures.failed left.ensures.decided
 
-pub returns-clause-failed : goal.returns-clause-failed
-returns-clause-failed g c =
-    fails_closed c.args.pass.now.sight c.close_item-closed.new.pass.sight c.args.mine.now c.run_claimed-outcome.new.mine (record { unit = c.args.unit; outcome = c.run_claimed-outcome.result.outcome }) c.close_item-closed.result c.close_item-closed.ensures.closed c.run_claimed-outcome.ensures.failed
-
-pub watch-requires : goal.watch-requires
-watch-requires g c = watched_by_pass c.args.site.now.service.service c.close_item-closed.new.pass c.args.kit.now (c.close_item-closed.ensures.service ∙ c.requires.at.service) c.requires.watched
+pub returns-clause-broken_off : goal.returns-clause-broken_off
+returns-clause-broken_off g c =
+    let ran = c.run_claimed-outcome in
+    let left = c.close_and_decide in
+    broke_off (desk_view g.D.Files.files g.D.Files.faults g.D.Desk.sends g.D.Desk.sent) c.args.site.now c.args.desk.now c.args.pass.now c.requires.at ran.new.desk left.new.desk (record { unit = c.args.unit; outcome = ran.result.outcome })
+    ran.ensures.ran left.ensures.desk left.new.pass left.result left.ensures.service left.ensures.closed

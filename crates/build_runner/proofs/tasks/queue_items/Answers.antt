@@ -1,12 +1,22 @@
 use mir.Val.{bool_byte}
-use Rattle.std.proofs.Common.{ℕ, ◌≡◌, ◌+◌, ◌<◌, ◌≤◌, Bool, true, false, length, ap, arith, refl, subst, sym, ◌∙◌}
+use Rattle.std.proofs.Common.{ℕ, ◌≡◌, ◌+◌, ◌<◌, ◌≤◌, Bool, true, false, [], Result, Ok, Err, inl, inr, length, ap, arith, refl, subst, sym}
+use Rattle.std.specs.Prelude.{◌⊎◌, OnOk}
 use Rattle.resource_lock.specs.Fits.{Fits}
 use Rattle.resource_lock.specs.GraphView.{GraphView, action_of}
 use Rattle.resource_lock.specs.Ranges.{IsActionOf, fetches, units_in}
 use Rattle.resource_lock.specs.declared.graphs.GraphAction.{GraphAction}
 use Rattle.lock_transforms.proofs.lemmas.Within.{units_within}
-use Rattle.build_runner.proofs.Keeping.{closes_then, gave_closes}
-use Rattle.build_runner.proofs.Points.{owns_for, same_runs, works_for}
+use Rattle.lock_transforms.specs.Allowed.{IsFixedList}
+use Rattle.lock_transforms.specs.declared.entries.Kind.TheVariants.{Park}
+use Rattle.resource_lock.specs.declared.ids.WorkerId.{WorkerId}
+use Rattle.coordination.specs.Attempts.{Cause}
+use Rattle.coordination.specs.Calls.{HasFinished, HasLooked, WasStopped}
+use Rattle.coordination.specs.declared.halts.Halt.{Halt}
+use Rattle.coordination.specs.declared.rule.Sight.{Sight}
+use Rattle.async_tracker.specs.Queueing.{HasSubmittedThen}
+use Rattle.build_runner.specs.Kept.{HasClosed}
+use Rattle.build_runner.proofs.Keeping.{closes_then, finished_closes, looked_closes, stopped_closes}
+use Rattle.build_runner.proofs.Points.{owns_for, works_for}
 use Rattle.build_runner.proofs.tasks.queue_items.Goals as goal
 
 -- the units of an action of the graph have numbers that fit
@@ -20,6 +30,22 @@ sum_fits {g} found a fetch fits within is gives = at found.fetch refl
     at true e = let one : fetches found.fetch ≡ 1 = ap fetches e in let more : bool_byte found.fetch ≡ 1 = ap bool_byte e in omega (arith, units, fits.few_units, gives, one, more)
     at false e = let none : fetches found.fetch ≡ 0 = ap fetches e in let more : bool_byte found.fetch ≡ 0 = ap bool_byte e in omega (arith, units, fits.few_units, gives, none, more)
 
+-- queueing an action's items and parking close nothing
+queued_closes : {T : Type 0} {a : ℕ} {old new : Sight} {first second : Cause} (r : Result T Halt) → OnOk r (HasSubmittedThen a old (λ between. HasFinished (Park a) (IsFixedList (Park a)) between new))
+    → (r ≡ Err Halt.NoMemory → HasLooked old new ⊎ HasSubmittedThen a old (λ between. HasLooked between new))
+    → ((by : WorkerId) → r ≡ Err (Halt.Stopped by) → WasStopped first by old new ⊎ HasSubmittedThen a old (λ between. WasStopped second by between new)) → HasClosed [] old new
+queued_closes (Ok x) parked looked stopped = closes_then (finished_closes parked.submitted) (finished_closes parked.follows)
+queued_closes {a = a} {old} {new} (Err Halt.NoMemory) parked looked stopped = at (looked refl)
+  where
+    at : HasLooked old new ⊎ HasSubmittedThen a old (λ between. HasLooked between new) → HasClosed [] old new
+    at (inl f) = looked_closes f
+    at (inr s) = closes_then (finished_closes s.submitted) (looked_closes s.follows)
+queued_closes {a = a} {old} {new} {first} {second} (Err (Halt.Stopped by)) parked looked stopped = at (stopped by refl)
+  where
+    at : WasStopped first by old new ⊎ HasSubmittedThen a old (λ between. WasStopped second by between new) → HasClosed [] old new
+    at (inl f) = stopped_closes f
+    at (inr s) = closes_then (finished_closes s.submitted) (stopped_closes s.follows)
+
 pub overflow_add-first : goal.overflow_add-first
 overflow_add-first g c =
     let found = c.action_of-found in
@@ -30,27 +56,17 @@ overflow_add-first-2 g c =
     let found = c.action_of-found in
     omega (arith, sum_fits found.result c.args.action c.from.result found.ensures.fits found.ensures.within found.ensures.value c.from.ensures)
 
-pub submit-requires-clause-works : goal.submit-requires-clause-works
-submit-requires-clause-works g c =
+pub submit_and_park-requires-clause-works : goal.submit_and_park-requires-clause-works
+submit_and_park-requires-clause-works g c =
     works_for (subst Fits (sym c.requires.at.graph) c.action_of-found.ensures.fits) (subst (λ (k : GraphView). IsActionOf k c.args.task c.args.action) (sym c.requires.at.graph) c.requires.action) c.requires.runs
 
-pub returns-in_err-submit-clause-closed : goal.returns-in_err-submit-clause-closed
-returns-in_err-submit-clause-closed g c = let e = c.submit.ensures in gave_closes _ _ c.submit.result refl e.entry e.no_memory e.stopped
+pub submit_and_park-requires-clause-lock : goal.submit_and_park-requires-clause-lock
+submit_and_park-requires-clause-lock g c =
+    owns_for (action_of c.args.pass.now.sight.seen.graph c.args.action).retention (subst Fits (sym c.requires.at.graph) c.action_of-found.ensures.fits)
+    (subst (λ (k : GraphView). IsActionOf k c.args.task c.args.action) (sym c.requires.at.graph) c.requires.action) c.requires.runs
 
-pub park-requires-clause-works : goal.park-requires-clause-works
-park-requires-clause-works g c =
-    let same = c.submit.ensures.shows in
-    let graph = same.graph ∙ c.requires.at.graph in
-    works_for (subst Fits (sym graph) c.action_of-found.ensures.fits) (subst (λ (k : GraphView). IsActionOf k c.args.task c.args.action) (sym graph) c.requires.action) (same_runs same c.requires.runs)
-
-pub park-requires-clause-lock : goal.park-requires-clause-lock
-park-requires-clause-lock g c =
-    let same = c.submit.ensures.shows in
-    let graph = same.graph ∙ c.requires.at.graph in
-    owns_for (action_of c.submit.new.pass.sight.seen.graph c.args.action).retention (subst Fits (sym graph) c.action_of-found.ensures.fits) (subst (λ (k : GraphView). IsActionOf k c.args.task c.args.action) (sym graph) c.requires.action) (same_runs same c.requires.runs)
+pub returns-in_err-parked-clause-closed : goal.returns-in_err-parked-clause-closed
+returns-in_err-parked-clause-closed g c = let e = c.submit_and_park.ensures in queued_closes c.submit_and_park.result e.entries e.no_memory e.stopped
 
 pub returns-clause-closed : goal.returns-clause-closed
-returns-clause-closed g c =
-    let s = c.submit.ensures in
-    let p = c.park.ensures in
-    closes_then (gave_closes _ _ c.submit.result refl s.entry s.no_memory s.stopped) (gave_closes _ _ c.park.result refl p.entry p.no_memory p.stopped)
+returns-clause-closed g c = let e = c.submit_and_park.ensures in queued_closes c.submit_and_park.result e.entries e.no_memory e.stopped

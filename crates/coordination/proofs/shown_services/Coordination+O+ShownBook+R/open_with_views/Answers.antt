@@ -3,6 +3,7 @@ use Rattle.std.specs.List.{All}
 use Rattle.logbook.specs.Pages.{Book as Ledger}
 use Rattle.lock_journal.specs.BookView.{BookView}
 use Rattle.history_views.specs.Growing.{ReachView}
+use Rattle.history_views.specs.ShownBooks.{ShownView}
 use Rattle.coordination.specs.Kept.{KeptView}
 use Rattle.coordination.specs.Passes.{PassView}
 use Rattle.coordination.specs.Sights.{sights_from}
@@ -17,10 +18,11 @@ returns g c =
     let vs : List ReachView = c.in_ok-shown.views.items in
     let e = c.open-service.ensures in
     let made = c.in_ok-shown.ensures in
-    let same = ap (λ (x : KeptView). x.book) c.in_ok-slot.ensures.kept ∙ made.book in
+    let keeper = c.in_ok-guarded.ensures in
+    let same = ap (λ (x : KeptView). x.book) c.in_ok-slot.ensures.kept ∙ (ap (λ (k : ShownView). k.book) keeper ∙ made.book) in
     let passes = subst (λ (b : BookView). map (λ p. p.sight) ps ≡ sights_from 0 b.graph.workers b) same e.passes in
     let saw = all_saw ps _ book passes in
-    let ledger = e.ledger ∙ ap (λ (x : KeptView). x.ledger) c.in_ok-slot.ensures.kept in record {
+    let ledger = e.ledger ∙ (ap (λ (x : KeptView). x.ledger) c.in_ok-slot.ensures.kept ∙ ap (λ (k : ShownView). k.ledger) keeper) in record {
       book = e.book ∙ same;
       passes = passes;
       len = length_first ps _ book passes;

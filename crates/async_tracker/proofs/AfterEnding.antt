@@ -1,0 +1,68 @@
+-- A task's end, and what comes after it.
+use Rattle.std.proofs.Common.{◌≡◌, ◌⊎◌, ℕ, Bool, List, Result, Ok, Err, inr, ◌∙◌, subst}
+use Rattle.std.specs.Prelude.{IfOk, OnErr}
+use Rattle.resource_lock.specs.declared.ids.LockId.{LockId}
+use Rattle.resource_lock.specs.declared.marks.MarkId.{MarkId}
+use Rattle.lock_transforms.specs.Allowed.{IsFixedList}
+use Rattle.lock_transforms.specs.declared.entries.Kind.TheVariants as kinds
+use Rattle.worker_choices.specs.declared.choices.Choice.{Choice}
+use Rattle.coordination.specs.Calls.{HasFinished}
+use Rattle.coordination.specs.Holds.{HoldsNothing}
+use Rattle.coordination.specs.Joints.{HasDecidedBehind, HasFollowed}
+use Rattle.coordination.specs.Shown.{Shows, ShowsTheSame}
+use Rattle.coordination.specs.declared.decisions.Decided.{Decided}
+use Rattle.coordination.specs.declared.decisions.Followed.{Followed}
+use Rattle.coordination.specs.declared.decisions.Followed.TheVariants as followed
+use Rattle.coordination.specs.declared.halts.Halt.{Halt}
+use Rattle.coordination.specs.declared.rule.Sight.{Sight}
+use Rattle.async_tracker.specs.Following.{HasEndedThen}
+use Rattle.async_tracker.specs.NextSteps.{HasTakenNext, IsNextIn, ShowsNext, choice_of, kind_of_step, step_of_choice}
+use Rattle.async_tracker.specs.Tasks.{ShowsEnded}
+use Rattle.async_tracker.proofs.NextSteps.{FailsOn, Makes, RetriesOn, taken, taken_shows}
+use Rattle.async_tracker.proofs.TaskSteps.{ended_shows}
+use Rattle.async_tracker.proofs.lemmas.After.{if_ok}
+
+-- what a pass shows, it shows as long as it shows the same
+pub still_shows : {own : List LockId} {leased : Bool} {marks : List MarkId} {put_by : List LockId} {a b c : Sight} → Shows own leased marks put_by a b → ShowsTheSame b c → Shows own leased marks put_by a c
+still_shows shows same = record {
+  worker = same.worker ∙ shows.worker;
+  graph = same.graph ∙ shows.graph;
+  locks = same.locks ∙ shows.locks;
+  lease = same.lease ∙ shows.lease;
+  claimed = same.claimed ∙ shows.claimed;
+  parked = same.parked ∙ shows.parked;
+  blocked = same.blocked ∙ shows.blocked;
+}
+
+module _ (t : ℕ) (old : Sight) where
+  -- what a task's end with what is next behind it left
+  abbrev pub EndsAnd : Sight → Followed Choice → Type 0
+  EndsAnd new f = HasFollowed IsNextIn step_of_choice kind_of_step Makes FailsOn RetriesOn (kinds.End t) (IsFixedList (kinds.End t)) (λ g w s. ⊥) old new f
+
+  pub if_finished : (new : Sight) (r : Result (Followed Choice) Halt) (f : Followed Choice) → r ≡ Ok f → f ≡ followed.Finished → IfOk r (EndsAnd new) → HasFinished (kinds.End t) (IsFixedList (kinds.End t)) old new
+  if_finished new r f is at p = subst (EndsAnd new) at (if_ok (EndsAnd new) r f is p)
+
+  pub if_decided : (new : Sight) (r : Result (Followed Choice) Halt) (f : Followed Choice) (d : Decided Choice) → r ≡ Ok f → f ≡ followed.Decided d → IfOk r (EndsAnd new)
+      → HasDecidedBehind IsNextIn step_of_choice kind_of_step Makes FailsOn RetriesOn (kinds.End t) (IsFixedList (kinds.End t)) old new d
+  if_decided new r f d is at p = subst (EndsAnd new) at (if_ok (EndsAnd new) r f is p)
+
+  pub ended_then : (after : Sight → Type 0) (between : Sight) → HasFinished (kinds.End t) (IsFixedList (kinds.End t)) old between → after between → HasEndedThen t old after
+  ended_then after between ended then = record { between = between; ended = ended; shows = ended_shows ended; then = then }
+
+  -- what was next was done on the book that the task's end left
+  pub ended_and_taken : (new : Sight) (d : Decided Choice) → HasDecidedBehind IsNextIn step_of_choice kind_of_step Makes FailsOn RetriesOn (kinds.End t) (IsFixedList (kinds.End t)) old new d
+      → ((s : Sight) → ShowsEnded t old s → HoldsNothing s) → HasEndedThen t old (λ s. HasTakenNext s new (choice_of d) × ShowsNext s new (choice_of d))
+  ended_and_taken new d k alone =
+      let rests : HoldsNothing k.between = alone k.between (ended_shows k.finished) in
+      let next : HasTakenNext k.between new (choice_of d) = taken k.between new d k.decided rests in
+      ended_then (λ s. HasTakenNext s new (choice_of d) × ShowsNext s new (choice_of d)) k.between k.finished (next, taken_shows k.between new (choice_of d) next rests)
+
+  -- what was next was done later
+  pub taken_later : (mid new : Sight) (r : Result Choice Halt) → HasFinished (kinds.End t) (IsFixedList (kinds.End t)) old mid → IfOk r (HasTakenNext mid new) → IfOk r (ShowsNext mid new)
+      → IfOk r (λ choice. HasEndedThen t old (λ s. HasTakenNext s new choice × ShowsNext s new choice))
+  taken_later mid new (Ok choice) ended next shows = ended_then (λ s. HasTakenNext s new choice × ShowsNext s new choice) mid ended (next, shows)
+  taken_later mid new (Err e) ended next shows = tt
+
+  pub kept_later : {T E : Type 0} (mid new : Sight) (r : Result T E) → HasFinished (kinds.End t) (IsFixedList (kinds.End t)) old mid → OnErr r (ShowsTheSame mid new) → OnErr r (ShowsTheSame old new ⊎ ShowsEnded t old new)
+  kept_later mid new (Ok x) ended same = tt
+  kept_later mid new (Err e) ended same = inr (still_shows (ended_shows ended) same)

@@ -1,0 +1,54 @@
+use Rattle.std.proofs.Common.{inl, inr, rules, subst, sym}
+use Rattle.coordination.specs.Calls.{AskedInVain, HasLooked}
+use Rattle.coordination.proofs.lemmas.Shown.{looked_shows, stopped_for, stopped_shows}
+use Rattle.async_tracker.specs.Following.{HasEndedThen}
+use Rattle.async_tracker.specs.NextSteps.{HasTakenNext, IsIdleIn, ShowsNext}
+use Rattle.async_tracker.proofs.AfterEnding.{ended_and_taken, ended_then, if_decided, if_finished, kept_later, taken_later}
+use Rattle.async_tracker.proofs.TaskSteps.{cannot_end, ended_shows}
+use Rattle.async_tracker.proofs.lemmas.After.{halted, on_err}
+use Rattle.async_tracker.proofs.ending.end_and_take_next.Goals as goal
+
+pub returns-in_err-run_then_decide-clause-kept : goal.returns-in_err-run_then_decide-clause-kept
+returns-in_err-run_then_decide-clause-kept g c =
+    let e = c.run_then_decide.ensures in
+    on_err c.from_residual.result (inl (halted c.run_then_decide.result c.in_err-run_then_decide.field-0.0 c.in_err-run_then_decide.was (λ is. looked_shows (e.no_memory is)) (λ by is. stopped_shows (e.stopped by is))))
+
+pub returns-in_err-run_then_decide-clause-stopped : goal.returns-in_err-run_then_decide-clause-stopped
+returns-in_err-run_then_decide-clause-stopped g c = λ by is.
+    let stopped = c.run_then_decide.ensures.stopped by (search rules) in
+    inl (stopped_for stopped (cannot_end c.args.pass.now.sight stopped.book c.args.task stopped.found c.requires.in_range c.requires.may stopped.cause))
+
+-- the task's end was made, and nothing was decided
+pub take_next-requires-clause-rests : goal.take_next-requires-clause-rests
+take_next-requires-clause-rests g c = c.requires.alone c.run_then_decide.new.pass.sight (ended_shows (if_finished c.args.task c.args.pass.now.sight c.run_then_decide.new.pass.sight c.run_then_decide.result c.in_ok-run_then_decide.field-0 c.in_ok-run_then_decide.was c.in-Finished.is c.run_then_decide.ensures.followed))
+
+pub returns-in-Finished-clause-taken : goal.returns-in-Finished-clause-taken
+returns-in-Finished-clause-taken g c =
+    taken_later c.args.task c.args.pass.now.sight c.run_then_decide.new.pass.sight c.take_next.new.pass.sight c.take_next.result
+    (if_finished c.args.task c.args.pass.now.sight c.run_then_decide.new.pass.sight c.run_then_decide.result c.in_ok-run_then_decide.field-0 c.in_ok-run_then_decide.was c.in-Finished.is c.run_then_decide.ensures.followed)
+    c.take_next.ensures.taken c.take_next.ensures.shows
+
+pub returns-in-Finished-clause-kept : goal.returns-in-Finished-clause-kept
+returns-in-Finished-clause-kept g c =
+    kept_later c.args.task c.args.pass.now.sight c.run_then_decide.new.pass.sight c.take_next.new.pass.sight c.take_next.result
+    (if_finished c.args.task c.args.pass.now.sight c.run_then_decide.new.pass.sight c.run_then_decide.result c.in_ok-run_then_decide.field-0 c.in_ok-run_then_decide.was c.in-Finished.is c.run_then_decide.ensures.followed)
+    c.take_next.ensures.kept
+
+pub returns-in-Finished-clause-no_memory : goal.returns-in-Finished-clause-no_memory
+returns-in-Finished-clause-no_memory g c = λ is.
+    inr (ended_then c.args.task c.args.pass.now.sight (λ s. HasLooked s c.take_next.new.pass.sight) c.run_then_decide.new.pass.sight
+    (if_finished c.args.task c.args.pass.now.sight c.run_then_decide.new.pass.sight c.run_then_decide.result c.in_ok-run_then_decide.field-0 c.in_ok-run_then_decide.was c.in-Finished.is c.run_then_decide.ensures.followed)
+    (c.take_next.ensures.no_memory is))
+
+pub returns-in-Finished-clause-stopped : goal.returns-in-Finished-clause-stopped
+returns-in-Finished-clause-stopped g c = λ by is.
+    inr (ended_then c.args.task c.args.pass.now.sight (λ s. AskedInVain IsIdleIn by s c.take_next.new.pass.sight) c.run_then_decide.new.pass.sight
+    (if_finished c.args.task c.args.pass.now.sight c.run_then_decide.new.pass.sight c.run_then_decide.result c.in_ok-run_then_decide.field-0 c.in_ok-run_then_decide.was c.in-Finished.is c.run_then_decide.ensures.followed)
+    (c.take_next.ensures.stopped by is))
+
+pub returns-in-Decided-clause-taken : goal.returns-in-Decided-clause-taken
+returns-in-Decided-clause-taken g c =
+    let old = c.args.pass.now.sight in
+    let new = c.run_then_decide.new.pass.sight in
+    subst (λ choice. HasEndedThen c.args.task old (λ s. HasTakenNext s new choice × ShowsNext s new choice)) (sym c.choice_of.ensures)
+    (ended_and_taken c.args.task old new c.in-Decided.decided (if_decided c.args.task old new c.run_then_decide.result c.in_ok-run_then_decide.field-0 c.in-Decided.decided c.in_ok-run_then_decide.was c.in-Decided.is c.run_then_decide.ensures.followed) c.requires.alone)

@@ -1,0 +1,80 @@
+-- What a worker does next that has nothing: the step of its choice, and what that leaves.
+use Rattle.std.specs.Prelude.{ℕ, ◌+◌, ◌⊎◌, Bool, Option, Some, None}
+use Rattle.resource_lock.specs.declared.ids.WorkerId.{WorkerId}
+use Rattle.resource_lock.specs.declared.limits.TheConstants.{MAX_ACTIONS_PER_TASK, MAX_UNITS}
+use Rattle.lock_transforms.specs.Allowed.{IsFixedList}
+use Rattle.lock_transforms.specs.declared.entries.Kind.{Kind}
+use Rattle.lock_transforms.specs.declared.entries.Kind.TheVariants as kinds
+use Rattle.lock_journal.specs.BookView.{BookView}
+use Rattle.worker_choices.specs.Choices.{IsNext}
+use Rattle.worker_choices.specs.NextSteps.{HasNothingToDo}
+use Rattle.worker_choices.specs.declared.choices.Choice.{Choice}
+use Rattle.worker_choices.specs.declared.choices.Choice.TheVariants as choices
+use Rattle.coordination.specs.Calls.{HasFailed, HasFinished, IsAnswered}
+use Rattle.coordination.specs.declared.decisions.Decided.{Decided}
+use Rattle.coordination.specs.declared.decisions.Decided.TheVariants as decided
+use Rattle.coordination.specs.declared.rule.Sight.{Sight}
+use Rattle.coordination.specs.Shown.{ShowsTheSame}
+use Rattle.async_tracker.specs.Tasks.{CannotSkip, ShowsStarted}
+use Rattle.async_tracker.specs.declared.task_steps.TaskStep.{TaskStep}
+use Rattle.async_tracker.specs.declared.task_steps.TaskStep.TheVariants as steps
+
+abbrev pub kind_of_step : TaskStep → Kind
+kind_of_step (steps.Start t) = kinds.Start t
+kind_of_step (steps.Skip t) = kinds.Skip t
+
+abbrev pub task_of_step : TaskStep → ℕ
+task_of_step (steps.Start t) = t
+task_of_step (steps.Skip t) = t
+
+abbrev pub most_of_step : TaskStep → ℕ
+most_of_step (steps.Start t) = 3
+most_of_step (steps.Skip t) = 1 + MAX_ACTIONS_PER_TASK + MAX_UNITS
+
+-- a task is skipped or started at once
+abbrev pub step_of_choice : Choice → Option TaskStep
+step_of_choice choices.Pop = None
+step_of_choice (choices.Skip t) = Some (steps.Skip t)
+step_of_choice (choices.Start t) = Some (steps.Start t)
+step_of_choice choices.Finish = None
+
+-- this is what an idle worker does next, where a ticket is queued or none
+abbrev pub IsNextIn : WorkerId → BookView → Choice → Type 0
+IsNextIn w book choice = (queued : Bool) × IsNext book.graph w book.state queued choice
+
+-- an idle worker has nothing to do, where a ticket is queued or none
+abbrev pub IsIdleIn : WorkerId → BookView → Type 0
+IsIdleIn w book = (queued : Bool) × HasNothingToDo book.graph w book.state queued
+
+-- The task was started, in a book in which that was next.
+pub record HasStartedNext (t : ℕ) (old new : Sight) : Type 0 where
+  pub finished : HasFinished (kinds.Start t) (IsFixedList (kinds.Start t)) old new
+  pub next : IsNextIn old.worker finished.before (choices.Start t)
+
+-- The task was skipped, in a book in which that was next.
+pub record HasSkippedNext (t : ℕ) (old new : Sight) : Type 0 where
+  pub finished : HasFinished (kinds.Skip t) (IsFixedList (kinds.Skip t)) old new
+  pub next : IsNextIn old.worker finished.before (choices.Skip t)
+
+-- To skip the task was next, but a mark of its actions or units couldn't be skipped.
+pub record CouldNotSkip (t : ℕ) (old new : Sight) : Type 0 where
+  pub failed : HasFailed (kinds.Skip t) (CannotSkip t) old new
+  pub next : IsNextIn old.worker failed.before (choices.Skip t)
+
+-- What a worker did, by what was next.
+abbrev pub HasTakenNext : Sight → Sight → Choice → Type 0
+HasTakenNext old new choices.Pop = IsAnswered IsNextIn choices.Pop old new
+HasTakenNext old new (choices.Skip t) = HasSkippedNext t old new ⊎ CouldNotSkip t old new
+HasTakenNext old new (choices.Start t) = HasStartedNext t old new
+HasTakenNext old new choices.Finish = IsAnswered IsNextIn choices.Finish old new
+
+-- the worker has the task that it started, its lock and a lease, and else what it had
+abbrev pub ShowsNext : Sight → Sight → Choice → Type 0
+ShowsNext old new (choices.Start t) = ShowsStarted t old new
+ShowsNext old new _ = ShowsTheSame old new
+
+-- what was chosen
+abbrev pub choice_of : Decided Choice → Choice
+choice_of (decided.Answered c) = c
+choice_of (decided.Entered c entered) = c
+choice_of (decided.Waiting c) = c

@@ -1,0 +1,109 @@
+//! An action's items are queued and waited for in one hold of the state lock.
+ghost use Rattle.std.specs.Prelude.{◌≡◌, ◌<◌, ◌⊎◌, IfOk, Err, None, OnErr, OnOk, Some, false, length};
+ghost use Rattle.std.specs.List.{list_any};
+ghost use Rattle.resource_lock.specs.GraphView.{action_of};
+ghost use Rattle.resource_lock.specs.Ranges.{lock_with, task_with};
+ghost use Rattle.resource_lock.specs.declared.ids.WorkerId.{WorkerId};
+ghost use Rattle.lock_transforms.specs.Allowed.{IsFixedList};
+ghost use Rattle.lock_transforms.specs.declared.entries.Kind.TheVariants as kinds;
+ghost use Rattle.coordination.specs.Calls.{HasFinished, HasLooked, WasStopped};
+ghost use Rattle.coordination.specs.Shown.{ShowsTheSame, claimed_shown};
+ghost use Rattle.history_laws.specs.Own.{is_unit};
+ghost use Rattle.async_tracker.specs.Queueing.{HasSubmittedThen, has_parked};
+ghost use Rattle.async_tracker.specs.Shows.{HasReleased, IsFree, IsIdleOrParked, IsParkedBy, OwnsToPark, ShowsParked, WorksOn};
+ghost use Rattle.async_tracker.specs.Waits.{ActionIsNotQueued, CannotQueue};
+
+use crate::actions::park;
+use crate::parked::Parked;
+use coordination::{
+    Coordination, Decided, Decision, Followed, Halt, Keeper, Offers, Pass, Question,
+};
+use lock_journal::Book;
+use lock_transforms::kinds::{Park, Submit};
+use resource_lock::WorkerId;
+use std::sync::Wait;
+use worker_choices::Awaited;
+
+/// Decides to begin to wait for the items of an action, whatever the book.
+#[derive(Clone, Copy)]
+struct ThenPark {
+    action: u32,
+}
+
+impl Question for ThenPark {
+    type Answer = ();
+
+    ghost answers = { λ q w book answer. Unit {0} };
+
+    ghost waits_on = { λ q w book. ⊥ };
+
+    ghost awaits = { λ _. None };
+
+    fn awaited(&self) -> Option<Awaited> {
+        None
+    }
+
+    fn ask(&self, _worker: WorkerId, _book: &Book, _queued: bool) -> Option<()> {
+        Some(())
+    }
+}
+
+impl Decision for ThenPark {
+    type Step = Park;
+
+    ghost step_of = { λ q _. Some (record { action = q.action }) };
+
+    fn step(&self, _answer: &()) -> Option<Park> {
+        Some(Park {
+            action: self.action,
+        })
+    }
+}
+
+/// Queues the items of an action of the task that the worker runs (`submit`), and begins to wait for them (`park`): two entries,
+/// made in one hold of the state lock.
+///
+/// Where there is memory for the first entry alone, the second is made in a hold of its own. The call waits only where `submit` does,
+/// or where the action was queued and isn't Queued any more. After an error the pass shows what it showed; the items are queued then
+/// or aren't.
+pub fn submit_and_park<R: Wait, O: Offers, K: Keeper>(
+    rt: &R,
+    service: &Coordination<O, K>,
+    pass: &mut Pass,
+    action: u32,
+) -> Result<Parked, Halt>
+    requires service { pass.old.service ≡ service.now.service }
+    requires in_range { action < length pass.old.sight.seen.graph.actions }
+    requires works { WorksOn pass.old.sight (task_with pass.old.sight.seen.graph action) }
+    requires lock { OwnsToPark (action_of pass.old.sight.seen.graph action).retention (lock_with pass.old.sight.seen.graph action) pass.old.sight }
+    ensures service { pass.new.service ≡ pass.old.service }
+    ensures action { IfOk result (λ parked. parked.action ≡ action) }
+    ensures entries { OnOk result (HasSubmittedThen action pass.old.sight (λ between.
+        HasFinished (kinds.Park action) (IsFixedList (kinds.Park action)) between pass.new.sight)) }
+    ensures shows { OnOk result (ShowsParked (action_of pass.old.sight.seen.graph action).retention
+        (lock_with pass.old.sight.seen.graph action) action pass.old.sight pass.new.sight) }
+    ensures own { IfOk result (λ parked. IsParkedBy pass.new.sight parked) }
+    // Where it runs no unit it can claim items.
+    ensures free { OnOk result (list_any is_unit (claimed_shown pass.old.sight) ≡ false → IsFree pass.new.sight) }
+    ensures waits { OnOk result (IsIdleOrParked pass.new.sight) }
+    ensures released { OnOk result (HasReleased (action_of pass.old.sight.seen.graph action).retention
+        (lock_with pass.old.sight.seen.graph action) pass.new.sight) }
+    ensures kept { OnErr result (ShowsTheSame pass.old.sight pass.new.sight) }
+    ensures no_memory { result ≡ Err Halt.NoMemory → HasLooked pass.old.sight pass.new.sight
+        ⊎ HasSubmittedThen action pass.old.sight (λ between. HasLooked between pass.new.sight) }
+    ensures stopped { (by : WorkerId) → result ≡ Err (Halt.Stopped by) → WasStopped (CannotQueue action) by pass.old.sight pass.new.sight
+        ⊎ HasSubmittedThen action pass.old.sight (λ between. WasStopped (ActionIsNotQueued action) by between pass.new.sight) }
+{
+    let followed = service.run_then_decide(rt, pass, &Submit { action }, &ThenPark { action })?;
+    if has_parked(&followed) {
+        return Ok(Parked::new(pass.worker(), action));
+    }
+    park(rt, service, pass, action)
+}
+
+// Whether the worker has begun to wait.
+fn has_parked(followed: &Followed<()>) -> bool
+    ensures { result ≡ has_parked followed.now }
+{
+    matches!(followed, Followed::Decided(Decided::Entered((), _)))
+}

@@ -1,0 +1,79 @@
+//! Decisions: questions whose answers are carried out in the hold of the state lock in which they are given.
+ghost use Rattle.std.specs.Prelude.{◌≡◌, Option};
+
+use crate::halts::Halt;
+use crate::questions::Question;
+use lock_transforms::{Disposition, Transform};
+use std::alloc::AllocError;
+
+/// A question of which some answers have a step: a transform that carries the answer out, on the very book that it was
+/// given of.
+pub trait Decision: Question {
+    /// The transform that carries out an answer.
+    type Step: Transform + Drop;
+
+    /// The step of an answer, or none.
+    ghost step_of: { Self → Self.Answer → Option Self.Step };
+
+    /// The step of an answer, or none.
+    fn step(&self, answer: &Self::Answer) -> Option<Self::Step>
+        ensures { result ≡ step_of self.now answer.now };
+}
+
+/// An answer, and what came of its step.
+#[derive(Drop)]
+pub enum Decided<A> {
+    /// The answer has no step.
+    Answered(A),
+    /// The answer's step made an entry, a failed one where this is false.
+    Entered(A, bool),
+    /// The answer's step asks to be run again, so it is yet to be waited for (`with_state_lock`). Nothing has changed.
+    Waiting(A),
+}
+
+/// What came of a transform and of the decision behind it, in one hold of the state lock.
+#[derive(Drop)]
+pub enum Followed<A> {
+    /// The transform made a failed entry, and nothing was decided.
+    Failed,
+    /// The transform finished, and nothing is decided: there is no answer yet, or no memory for the answer's step.
+    Finished,
+    /// The transform finished, and this was decided on the book that it left.
+    Decided(Decided<A>),
+}
+
+/// What came of a decision on a book.
+pub enum Verdict<A> {
+    /// It has this answer, which has no step, or none yet.
+    Asked(Option<A>),
+    /// It has this answer, whose step was run.
+    Ran(A, Result<Disposition, AllocError>),
+}
+
+/// What came of a transform and of the decision behind it on a book.
+pub enum Joined<A> {
+    /// The transform didn't finish, and nothing was decided.
+    Alone(Result<Disposition, AllocError>),
+    /// The transform finished, and this came of the decision.
+    Both(Verdict<A>),
+}
+
+/// What came of a try of a transform with a decision behind it.
+pub enum Pursued<A> {
+    /// The transform made its entry.
+    Followed(Followed<A>),
+    /// It came to nothing.
+    Halted(Halt),
+    /// It is to be tried again.
+    Again,
+}
+
+/// What came of a try of a decision.
+pub enum Ruling<A> {
+    /// It was decided.
+    Decided(Decided<A>),
+    /// It came to nothing.
+    Halted(Halt),
+    /// It is to be tried again.
+    Again,
+}

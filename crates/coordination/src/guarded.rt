@@ -1,0 +1,214 @@
+//! What the state lock guards beside the book, in the slot of the book.
+ghost use Rattle.std.specs.Prelude.{◌≡◌, ◌<◌, IfOk, None};
+ghost use Rattle.history_views.specs.ShownBooks.{IsTold};
+ghost use Rattle.coordination.specs.Attempts.{HasAsked, HasHeld};
+ghost use Rattle.coordination.specs.Decisions.{HasDecidedHeld, awaits_if};
+ghost use Rattle.coordination.specs.Parts.{IsPartHere};
+
+use crate::decisions::{Decision, Verdict};
+use crate::keepers::Keeper;
+use crate::offers::Offers;
+use crate::parts::Part;
+use crate::questions::Question;
+use crate::sleepers::{Sleepers, Wakes};
+use crate::slots::{ask_of, decide_on, run_on};
+use history_views::Reach;
+use lock_journal::Book;
+use lock_transforms::{Disposition, Transform};
+use resource_lock::WorkerId;
+use std::alloc::{AllocError, Global};
+use worker_choices::{Awaited, Stance};
+
+/// The keeper of the book, with who sleeps and what is offered beside it. Whoever has the book out of its slot has all three.
+#[derive(Drop)]
+pub struct Guarded<O: Offers, K: Keeper> {
+    pub(crate) keeper: K,
+    pub(crate) sleepers: Sleepers,
+    pub(crate) offers: O,
+}
+
+/// A worker that comes to the state lock.
+#[derive(Clone, Copy)]
+pub struct Caller {
+    /// The worker.
+    pub worker: WorkerId,
+    /// Whether it has promised to come again at once.
+    pub promised: bool,
+    /// Whether it has slept apart, and was woken.
+    pub woken: bool,
+    /// Whether it sleeps apart from the questions that wait for any entry, where it has to.
+    pub apart: bool,
+    /// Whether it sleeps at all where there is no answer. Else it is away then.
+    pub sleeps: bool,
+}
+
+impl<O: Offers, K: Keeper> Keeper for Guarded<O, K> {
+    ghost book_of = { λ g. K.book_of g.keeper };
+
+    ghost ledger_of = { λ g. K.ledger_of g.keeper };
+
+    fn book(&self) -> &Book {
+        self.keeper.book()
+    }
+
+    #[inline]
+    fn run<T: Transform>(
+        &mut self,
+        worker: WorkerId,
+        transform: &T,
+    ) -> Result<Disposition, AllocError> {
+        self.keeper.run(worker, transform)
+    }
+
+    #[inline]
+    fn tell(&self, reach: &mut Option<Reach>) {
+        self.keeper.tell(reach)
+    }
+
+    fn into_book(self) -> Box<Book> {
+        let Guarded {
+            keeper,
+            sleepers: _,
+            offers: _,
+        } = self;
+        keeper.into_book()
+    }
+}
+
+impl<O: Offers, K: Keeper> Guarded<O, K> {
+    /// The keeper of a book, while nobody sleeps. It fails for want of memory alone.
+    pub(crate) fn new(alloc: Global, keeper: K, offers: O) -> Result<Guarded<O, K>, AllocError>
+        ensures { IfOk result (λ guarded. guarded.keeper ≡ keeper) }
+    {
+        let workers = keeper.book().graph().workers();
+        let sleepers = Sleepers::nobody(alloc, workers)?;
+        Ok(Guarded {
+            keeper,
+            sleepers,
+            offers,
+        })
+    }
+
+    /// Runs the transform in a hold of the state lock, has the worker's part follow it, and ends the hold. Where the transform
+    /// asks to be run again, its worker is noted as asleep.
+    #[inline]
+    pub(crate) fn run_held<T: Transform>(
+        &mut self,
+        caller: Caller,
+        part: &mut Part,
+        reach: &mut Option<Reach>,
+        transform: &T,
+    ) -> (Result<Disposition, AllocError>, Wakes)
+        requires part { IsPartHere caller.worker (K.book_of self.old.keeper) part.old }
+        requires told { K.ledger_of self.old.keeper ≡ None → reach.old ≡ None }
+        ensures ledger { K.ledger_of self.new.keeper ≡ K.ledger_of self.old.keeper }
+        ensures told { IsTold (K.ledger_of self.new.keeper) reach.new (K.book_of self.new.keeper) }
+        ensures held { HasHeld (T.kind_of transform.now) (T.makes transform.now) (T.fails_on transform.now)
+            (T.retries_on transform.now) caller.worker caller.promised (K.book_of self.old.keeper) (K.book_of self.new.keeper)
+            part.new self.old.sleepers self.new.sleepers result }
+    {
+        // What is offered is read for those that sleep, so it isn't where nobody does.
+        if self.sleepers.stances.some_sleep() {
+            self.sleepers.queued = self.offers.are_there();
+        }
+        self.sleepers.promised = caller.promised;
+        let (ran, wakes) = run_on(
+            &mut self.keeper,
+            caller.worker,
+            part,
+            reach,
+            transform,
+            &mut self.sleepers,
+        );
+        if matches!(ran, Ok(Disposition::Retry)) {
+            self.sleepers.transforms = true;
+        }
+        (ran, wakes)
+    }
+
+    /// Asks the question in a hold of the state lock, and ends the hold. Where it has no answer its worker is noted as asleep.
+    #[inline]
+    pub(crate) fn ask_held<Q: Question>(
+        &mut self,
+        caller: Caller,
+        reach: &mut Option<Reach>,
+        question: &Q,
+    ) -> (Option<Q::Answer>, Wakes)
+        requires known { caller.worker.0 < (K.book_of self.old.keeper).graph.workers }
+        requires told { K.ledger_of self.old.keeper ≡ None → reach.old ≡ None }
+        ensures same { self.new.keeper ≡ self.old.keeper }
+        ensures told { IsTold (K.ledger_of self.new.keeper) reach.new (K.book_of self.new.keeper) }
+        ensures asked { HasAsked (Q.answers question.now) (Q.waits_on question.now) (Q.awaits question.now) caller.worker
+            caller.promised caller.woken caller.apart (K.book_of self.old.keeper) self.old.sleepers self.new.sleepers result }
+    {
+        if caller.woken {
+            self.sleepers.stances.note(caller.worker, Stance::Looks);
+        }
+        self.sleepers.queued = self.offers.are_there();
+        self.sleepers.promised = caller.promised;
+        let (answer, wakes) = ask_of(
+            &self.keeper,
+            caller.worker,
+            reach,
+            question,
+            &mut self.sleepers,
+        );
+        if answer.is_none() && !caller.apart {
+            self.sleepers.questions = true;
+        }
+        (answer, wakes)
+    }
+
+    /// Decides in a hold of the state lock, has the worker's part follow the book, and ends the hold once. Where there is no answer
+    /// a worker that sleeps then is noted as asleep.
+    #[inline]
+    pub(crate) fn decide_held<Q: Decision>(
+        &mut self,
+        caller: Caller,
+        part: &mut Part,
+        reach: &mut Option<Reach>,
+        decision: &Q,
+    ) -> (Verdict<Q::Answer>, Wakes)
+        requires part { IsPartHere caller.worker (K.book_of self.old.keeper) part.old }
+        requires told { K.ledger_of self.old.keeper ≡ None → reach.old ≡ None }
+        ensures ledger { K.ledger_of self.new.keeper ≡ K.ledger_of self.old.keeper }
+        ensures told { IsTold (K.ledger_of self.new.keeper) reach.new (K.book_of self.new.keeper) }
+        ensures held { HasDecidedHeld (Q.answers decision.now) (Q.waits_on decision.now)
+            (awaits_if caller.sleeps (Q.awaits decision.now)) (Q.step_of decision.now)
+            Q.Step.kind_of Q.Step.makes Q.Step.fails_on Q.Step.retries_on caller.worker caller.promised caller.woken caller.apart
+            (K.book_of self.old.keeper) (K.book_of self.new.keeper) part.new self.old.sleepers self.new.sleepers result }
+    {
+        if caller.woken {
+            self.sleepers.stances.note(caller.worker, Stance::Looks);
+        }
+        self.sleepers.queued = self.offers.are_there();
+        self.sleepers.promised = caller.promised;
+        let awaited = awaited_if(caller.sleeps, decision);
+        let (verdict, wakes) = decide_on(
+            &mut self.keeper,
+            caller.worker,
+            part,
+            reach,
+            decision,
+            awaited,
+            &mut self.sleepers,
+        );
+        match &verdict {
+            Verdict::Asked(None) => {
+                if !caller.apart {
+                    self.sleepers.questions = true;
+                }
+            }
+            Verdict::Asked(Some(_)) => {}
+            Verdict::Ran(_, _) => {}
+        }
+        (verdict, wakes)
+    }
+}
+
+// What a worker sleeps until that has no answer yet, where it sleeps then.
+fn awaited_if<Q: Question>(sleeps: bool, question: &Q) -> Option<Awaited>
+    ensures { result ≡ awaits_if sleeps (Q.awaits question.now) }
+{
+    if sleeps { question.awaited() } else { None }
+}
