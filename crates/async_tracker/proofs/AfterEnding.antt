@@ -16,7 +16,7 @@ use Rattle.coordination.specs.declared.decisions.Followed.TheVariants as followe
 use Rattle.coordination.specs.declared.halts.Halt.{Halt}
 use Rattle.coordination.specs.declared.rule.Sight.{Sight}
 use Rattle.async_tracker.specs.Following.{HasEndedThen}
-use Rattle.async_tracker.specs.NextSteps.{HasTakenNext, IsNextIn, ShowsNext, choice_of, kind_of_step, step_of_choice}
+use Rattle.async_tracker.specs.NextSteps.{HasTakenNext, IsIdleIn, IsNextIn, ShowsNext, choice_of, kind_of_step, step_of_choice}
 use Rattle.async_tracker.specs.Tasks.{ShowsEnded}
 use Rattle.async_tracker.proofs.NextSteps.{FailsOn, Makes, RetriesOn, taken, taken_shows}
 use Rattle.async_tracker.proofs.TaskSteps.{ended_shows}
@@ -37,10 +37,13 @@ still_shows shows same = record {
 module _ (t : ℕ) (old : Sight) where
   -- what a task's end with what is next behind it left
   abbrev pub EndsAnd : Sight → Followed Choice → Type 0
-  EndsAnd new f = HasFollowed IsNextIn step_of_choice kind_of_step Makes FailsOn RetriesOn (kinds.End t) (IsFixedList (kinds.End t)) (λ g w s. ⊥) old new f
+  EndsAnd new f = HasFollowed IsNextIn IsIdleIn step_of_choice kind_of_step Makes FailsOn RetriesOn (kinds.End t) (IsFixedList (kinds.End t)) (λ g w s. ⊥) old new f
 
-  pub if_finished : (new : Sight) (r : Result (Followed Choice) Halt) (f : Followed Choice) → r ≡ Ok f → f ≡ followed.Finished → IfOk r (EndsAnd new) → HasFinished (kinds.End t) (IsFixedList (kinds.End t)) old new
-  if_finished new r f is at p = subst (EndsAnd new) at (if_ok (EndsAnd new) r f is p)
+  pub if_finished : (new : Sight) (r : Result (Followed Choice) Halt) (f : Followed Choice) → r ≡ Ok f → f ≡ followed.Undecided → IfOk r (EndsAnd new) → HasFinished (kinds.End t) (IsFixedList (kinds.End t)) old new
+  if_finished new r f is at p = (subst (EndsAnd new) at (if_ok (EndsAnd new) r f is p)).0
+
+  pub if_no_memory : (new : Sight) (r : Result (Followed Choice) Halt) (f : Followed Choice) → r ≡ Ok f → f ≡ followed.NoMemory → IfOk r (EndsAnd new) → HasFinished (kinds.End t) (IsFixedList (kinds.End t)) old new
+  if_no_memory new r f is at p = subst (EndsAnd new) at (if_ok (EndsAnd new) r f is p)
 
   pub if_decided : (new : Sight) (r : Result (Followed Choice) Halt) (f : Followed Choice) (d : Decided Choice) → r ≡ Ok f → f ≡ followed.Decided d → IfOk r (EndsAnd new)
       → HasDecidedBehind IsNextIn step_of_choice kind_of_step Makes FailsOn RetriesOn (kinds.End t) (IsFixedList (kinds.End t)) old new d

@@ -1,5 +1,5 @@
 -- An action's items queued, and the wait for them begun behind that.
-use Rattle.std.proofs.Common.{◌≡◌, ℕ, ◌<◌, true, false, List, Option, Some, Result, Ok, IfOk, refl, sym, ap, ◌∙◌, subst}
+use Rattle.std.proofs.Common.{◌≡◌, ℕ, ◌<◌, true, false, List, Option, Some, Result, Ok, IfOk, sym, ap, ◌∙◌, subst}
 use Rattle.std.specs.Prelude.{Contains}
 use Rattle.std.specs.List.{list_any}
 use Rattle.std.proofs.lemmas.Bool.{false≢true}
@@ -18,7 +18,7 @@ use Rattle.lock_transforms.specs.Entry.{Entry, replay}
 use Rattle.lock_transforms.specs.declared.entries.Kind.TheVariants.{Submit, Park}
 use Rattle.lock_transforms.specs.declared.kinds.parks.Park.{Park as ParkOf}
 use Rattle.history_laws.specs.Own.{is_action, is_unit}
-use Rattle.coordination.specs.Agrees.{Finds, IsSoundBook}
+use Rattle.coordination.specs.Agrees.{IsSoundBook}
 use Rattle.coordination.specs.Attempts.{Cause}
 use Rattle.coordination.specs.Calls.{HasFinished, HasLooked, IsAnswered, WasStopped}
 use Rattle.coordination.specs.Decisions.{IsToWaitIn}
@@ -29,20 +29,14 @@ use Rattle.coordination.specs.declared.decisions.Followed.{Followed}
 use Rattle.coordination.specs.declared.decisions.Followed.TheVariants as followed
 use Rattle.coordination.specs.declared.halts.Halt.{Halt}
 use Rattle.coordination.specs.declared.rule.Sight.{Sight}
-use Rattle.coordination.proofs.lemmas.Growing.{agrees_same, agrees_self, agrees_then}
+use Rattle.coordination.proofs.lemmas.Growing.{agrees_same, agrees_then}
 use Rattle.coordination.proofs.lemmas.Shown.{looked_shows}
 use Rattle.async_tracker.specs.Queueing.{HasSubmittedThen, has_parked}
 use Rattle.async_tracker.specs.Shows.{HasReleased, IsFree, IsIdleOrParked, OwnsToPark, ShowsParked, WorksOn}
+use Rattle.async_tracker.proofs.lemmas.After.{found_again}
 use Rattle.async_tracker.proofs.Parking.{parked_free, parked_shows, parked_waits, released, submitted_shows}
 use Rattle.async_tracker.proofs.lemmas.After.{if_ok}
 use Rattle.async_tracker.proofs.lemmas.Turns.{answered_then, finished_then, parked_from, shows_then, stopped_then}
-
--- a pass that has made an entry finds what it has seen
-found_again : {a : ℕ} {old new : Sight} → HasFinished (Submit a) (IsFixedList (Submit a)) old new → HasLooked new new
-found_again {a} {old} {new} f = record { book = new.seen; found = subst (λ (s : Sight). Finds s.worker s.seen s.seen) (sym f.sight) there; sight = refl }
-  where
-    there : Finds old.worker f.after f.after
-    there = record { agrees = agrees_self old.worker f.after; sound = f.left; known = subst (λ (g : GraphView). old.worker.0 < g.workers) (sym f.graph) f.found.known }
 
 -- a step that is to be run again has changed nothing
 waiting_looks : {A X : Type 0} {answers : WorkerId → BookView → A → Type 0} {step_of : A → Option X} {retries : X → Cause} {old new : Sight} {x : A}
@@ -76,7 +70,7 @@ same_action a p is = cc
 module _ (a : ℕ) (old new : Sight) where
   -- what the two calls that are made in one hold leave, with their answer
   abbrev pub Leaves : Followed (Unit {0}) → Type 0
-  Leaves = HasFollowed (λ w book x. Unit {0}) (λ x. Some (record { action = a })) (λ (p : ParkOf). Park p.action) (λ p. IsFixedList (Park p.action)) (λ p g w s. ⊥) (λ p. IsDisabled (Park p.action))
+  Leaves = HasFollowed (λ w book x. Unit {0}) (λ w book. ⊥) (λ x. Some (record { action = a })) (λ (p : ParkOf). Park p.action) (λ p. IsFixedList (Park p.action)) (λ p g w s. ⊥) (λ p. IsDisabled (Park p.action))
       (Submit a) (IsFixedList (Submit a)) (λ g w s. ⊥) old new
 
   abbrev pub Parked : Type 0
@@ -87,7 +81,8 @@ module _ (a : ℕ) (old new : Sight) where
 
   pub parked_at_once : (f : Followed (Unit {0})) → Leaves f → has_parked f ≡ true → Parked
   parked_at_once followed.Failed h is = absurd (false≢true is)
-  parked_at_once followed.Finished h is = absurd (false≢true is)
+  parked_at_once followed.Undecided h is = absurd (false≢true is)
+  parked_at_once followed.NoMemory h is = absurd (false≢true is)
   parked_at_once (followed.Decided (decided.Answered x)) h is = absurd (false≢true is)
   parked_at_once (followed.Decided (decided.Entered x true)) h is =
       record {
@@ -100,7 +95,8 @@ module _ (a : ℕ) (old new : Sight) where
 
   pub submitted_alone : (f : Followed (Unit {0})) → Leaves f → has_parked f ≡ false → Submitted
   submitted_alone followed.Failed h is = absurd h.failed.cause
-  submitted_alone followed.Finished h is = record { between = new; submitted = h; follows = found_again h }
+  submitted_alone followed.Undecided h is = absurd h.1
+  submitted_alone followed.NoMemory h is = record { between = new; submitted = h; follows = found_again h }
   submitted_alone (followed.Decided (decided.Answered x)) h is = let none = h.decided.1 in absurd (cc)
   submitted_alone (followed.Decided (decided.Entered x b)) h is = absurd (false≢true (sym is))
   submitted_alone (followed.Decided (decided.Waiting x)) h is = record { between = h.between; submitted = h.finished; follows = waiting_looks h.decided }

@@ -17,7 +17,8 @@ pub record HasSubmittedThen (a : ℕ) (old : Sight) (Follows : Sight → Type 0)
 -- the step of the decision made an entry
 abbrev pub has_parked : {A : Type 0} → Followed A → Bool
 has_parked followed.Failed = false
-has_parked followed.Finished = false
+has_parked followed.Undecided = false
+has_parked followed.NoMemory = false
 has_parked (followed.Decided (decided.Answered a)) = false
 has_parked (followed.Decided (decided.Entered a b)) = true
 has_parked (followed.Decided (decided.Waiting a)) = false

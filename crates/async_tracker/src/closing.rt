@@ -16,8 +16,8 @@ use std::sync::Wait;
 
 /// Closes an item that the worker runs, as `close`, and decides: in one hold of the state lock where there is an answer at once.
 ///
-/// Where there is none yet, or there was no memory for its step, the decision waits in a hold of its own, and other workers may have
-/// made entries in between. The closing itself never waits. After an error the item is closed, or the pass shows what it showed.
+/// Where there is none yet the decision waits in a hold of its own, and other workers may have made entries in between. The closing
+/// itself never waits. After an error the item is closed, or the pass shows what it showed.
 pub fn close_then<R: Wait, O: Offers, K: Keeper, Q: Decision>(
     rt: &R,
     service: &Coordination<O, K>,
@@ -42,7 +42,8 @@ where
 {
     match service.run_then_decide(rt, pass, &Close { closed }, next) {
         Ok(Followed::Decided(decided)) => Ok(decided),
-        Ok(Followed::Finished) => service.decide(rt, pass, next),
+        Ok(Followed::Undecided) => service.decide(rt, pass, next),
+        Ok(Followed::NoMemory) => Err(Halt::NoMemory),
         Err(Halt::NoMemory) => Err(Halt::NoMemory),
         Ok(Followed::Failed) => unreachable!(),
         Err(Halt::Stopped(_)) => unreachable!(),

@@ -18,8 +18,8 @@ use worker_choices::Choice;
 /// Ends the task that the worker runs, as `end_task`, and does what is next for a worker that has nothing, as `take_next`: in one hold
 /// of the state lock, each in an entry of its own. Once the task has ended the worker has nothing.
 ///
-/// Where nothing is next yet, or there was no memory for it, that waits in a hold of its own, and other workers may have made entries
-/// in between. After an error the task has ended, or the pass shows what it showed.
+/// Where nothing is next yet, that waits in a hold of its own, and other workers may have made entries in between. After an error the
+/// task has ended, or the pass shows what it showed.
 pub fn end_and_take_next<R: Wait, O: Offers, K: Keeper>(
     rt: &R,
     service: &Coordination<O, K>,
@@ -31,7 +31,8 @@ pub fn end_and_take_next<R: Wait, O: Offers, K: Keeper>(
     requires may { MayEnd pass.old.sight task }
     requires alone { (s : Sight) → ShowsEnded task pass.old.sight s → HoldsNothing s }
     ensures service { pass.new.service ≡ pass.old.service }
-    ensures taken { IfOk result (λ choice. HasEndedThen task pass.old.sight (λ s. HasTakenNext s pass.new.sight choice × ShowsNext s pass.new.sight choice)) }
+    ensures taken { IfOk result (λ choice. HasEndedThen task pass.old.sight (λ s. HasTakenNext s pass.new.sight choice
+        × ShowsNext s pass.new.sight choice)) }
     ensures kept { OnErr result (ShowsTheSame pass.old.sight pass.new.sight ⊎ ShowsEnded task pass.old.sight pass.new.sight) }
     ensures no_memory { result ≡ Err Halt.NoMemory → HasLooked pass.old.sight pass.new.sight
         ⊎ HasEndedThen task pass.old.sight (λ s. HasLooked s pass.new.sight) }
@@ -40,7 +41,8 @@ pub fn end_and_take_next<R: Wait, O: Offers, K: Keeper>(
 {
     match service.run_then_decide(rt, pass, &End { task }, &WhatIsNext)? {
         Followed::Failed => unreachable!(),
-        Followed::Finished => take_next(rt, service, pass),
+        Followed::Undecided => take_next(rt, service, pass),
+        Followed::NoMemory => Err(Halt::NoMemory),
         Followed::Decided(decided) => Ok(choice_of(decided)),
     }
 }

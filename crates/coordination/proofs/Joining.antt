@@ -159,12 +159,14 @@ module _ {A X : Type 0} (answers : WorkerId → BookView → A → Type 0) (wait
 
   -- what the verdict behind a transform comes to
   pub comes_to : (s s' : Sight) (v : Verdict A) → HasTriedBehind answers waits step_of kind_of makes fails retries kind making s s' v
-      → (failing : Cause) → HasFollowed answers step_of kind_of makes fails retries kind making failing s s' (followed_of v)
+      → (failing : Cause) → HasFollowed answers waits step_of kind_of makes fails retries kind making failing s s' (followed_of v)
   unfolding ruled
   comes_to s s' (verdicts.Asked None) h failing =
       let k = h.verdict.0 in
-      let same : k.book ≡ h.between.seen = h.at_once in
-      still_finished s h.between s' k.book h.finished (ap (λ (b : BookView). b.graph) same) (ap (λ (b : BookView). b.history) same) (ap (λ (b : BookView). b.state) same) k.found.sound k.is
+      let same : k.book ≡ h.between.seen = h.at_once in (
+        still_finished s h.between s' k.book h.finished (ap (λ (b : BookView). b.graph) same) (ap (λ (b : BookView). b.history) same) (ap (λ (b : BookView). b.state) same) k.found.sound k.is,
+        subst (λ (x : Sight). waits x.worker x.seen) (sym k.is) k.answer,
+      )
   comes_to s s' (verdicts.Asked (Some a)) h failing =
       let k = h.verdict.0 in record { between = h.between; finished = h.finished; decided = (record { book = k.book; found = k.found; answer = k.answer; sight = k.is }, h.verdict.1); at_once = h.at_once }
   comes_to s s' (verdicts.Ran a (Ok Finished)) h failing =
@@ -178,12 +180,13 @@ module _ {A X : Type 0} (answers : WorkerId → BookView → A → Type 0) (wait
       let same : k.before ≡ h.between.seen = h.at_once in
       still_finished s h.between s' k.after h.finished (k.graph ∙ ap (λ (b : BookView). b.graph) same) (k.ran.history ∙ ap (λ (b : BookView). b.history) same) (k.ran.state ∙ ap (λ (b : BookView). b.state) same) k.left k.is
 
-module _ {A X : Type 0} (answers : WorkerId → BookView → A → Type 0) (step_of : A → Option X) (kind_of : X → Kind) (makes : X → Making) (fails retries : X → Cause) (kind : Kind) (making : Making) (failing asking : Cause) where
+module _ {A X : Type 0} (answers : WorkerId → BookView → A → Type 0) (waits : WorkerId → BookView → Type 0) (step_of : A → Option X) (kind_of : X → Kind) (makes : X → Making) (fails retries : X → Cause) (kind : Kind) (making : Making) (failing asking : Cause) where
   -- the same after the worker has only looked
-  pursued_after : (s s' s'' : Sight) (r : Pursued A) → OnlyLooked s s' → HasPursued answers step_of kind_of makes fails retries kind making failing asking s' s'' r
-      → HasPursued answers step_of kind_of makes fails retries kind making failing asking s s'' r
+  pursued_after : (s s' s'' : Sight) (r : Pursued A) → OnlyLooked s s' → HasPursued answers waits step_of kind_of makes fails retries kind making failing asking s' s'' r
+      → HasPursued answers waits step_of kind_of makes fails retries kind making failing asking s s'' r
   pursued_after s s' s'' (pursued.Followed followed.Failed) look h = tried_on kind making failing asking s s' s'' (tried.Entered false) (tried.Entered false) refl look h
-  pursued_after s s' s'' (pursued.Followed followed.Finished) look h = tried_on kind making failing asking s s' s'' (tried.Entered true) (tried.Entered true) refl look h
+  pursued_after s s' s'' (pursued.Followed followed.Undecided) look h = (tried_on kind making failing asking s s' s'' (tried.Entered true) (tried.Entered true) refl look h.0, h.1)
+  pursued_after s s' s'' (pursued.Followed followed.NoMemory) look h = tried_on kind making failing asking s s' s'' (tried.Entered true) (tried.Entered true) refl look h
   pursued_after s s' s'' (pursued.Followed (followed.Decided d)) look h =
       record { between = h.between; finished = tried_on kind making failing asking s s' h.between (tried.Entered true) (tried.Entered true) refl look h.finished; decided = h.decided; at_once = h.at_once }
   pursued_after s s' s'' (pursued.Halted NoMemory) look h = tried_on kind making failing asking s s' s'' (tried.Halted NoMemory) (tried.Halted NoMemory) refl look h
@@ -191,11 +194,11 @@ module _ {A X : Type 0} (answers : WorkerId → BookView → A → Type 0) (step
   pursued_after s s' s'' pursued.Again look h = tried_on kind making failing asking s s' s'' tried.Again tried.Again refl look h
 
   -- at a result that is known by an equation
-  pub pursued_on : (s s' s'' : Sight) (r r' : Pursued A) → r ≡ r' → OnlyLooked s s' → HasPursued answers step_of kind_of makes fails retries kind making failing asking s' s'' r
-      → HasPursued answers step_of kind_of makes fails retries kind making failing asking s s'' r'
-  pursued_on s s' s'' r r' is look h = subst (HasPursued answers step_of kind_of makes fails retries kind making failing asking s s'') is (pursued_after s s' s'' r look h)
+  pub pursued_on : (s s' s'' : Sight) (r r' : Pursued A) → r ≡ r' → OnlyLooked s s' → HasPursued answers waits step_of kind_of makes fails retries kind making failing asking s' s'' r
+      → HasPursued answers waits step_of kind_of makes fails retries kind making failing asking s s'' r'
+  pursued_on s s' s'' r r' is look h = subst (HasPursued answers waits step_of kind_of makes fails retries kind making failing asking s s'') is (pursued_after s s' s'' r look h)
 
-  module _ (s s' s'' : Sight) (r : Pursued A) (look : OnlyLooked s s') (h : HasPursued answers step_of kind_of makes fails retries kind making failing asking s' s'' r) where
+  module _ (s s' s'' : Sight) (r : Pursued A) (look : OnlyLooked s s') (h : HasPursued answers waits step_of kind_of makes fails retries kind making failing asking s' s'' r) where
     -- what the call says by its error
     pub pursued_halted : {B : Type 0} (halt : Halt) → r ≡ pursued.Halted halt → ◌≡◌ {A = Result B Halt} (Err halt) (Err NoMemory) → HasLooked s s''
     pursued_halted NoMemory is err = pursued_on s s' s'' r (pursued.Halted NoMemory) is look h

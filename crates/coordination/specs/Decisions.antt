@@ -111,7 +111,8 @@ pub record HasFailedIn {A X : Type 0} (answers : WorkerId → BookView → A →
   pub answer : answers old.worker failed.before a
 
 -- The step of an answer asked to be run again on the book that the answer was given of, and left it as it was.
-pub record IsToWaitIn {A X : Type 0} (answers : WorkerId → BookView → A → Type 0) (step_of : A → Option X) (retries : X → Cause) (old new : Sight) (a : A) : Type 0 where
+pub record IsToWaitIn {A X : Type 0} (answers : WorkerId → BookView → A → Type 0) (step_of : A → Option X) (retries : X → Cause)
+    (old new : Sight) (a : A) : Type 0 where
   pub step : X
   pub is : step_of a ≡ Some step
   pub before : BookView

@@ -43,11 +43,13 @@ pub record HasDecidedBehind {A X : Type 0} (answers : WorkerId → BookView → 
   pub at_once : decided_of answers step_of kind_of makes fails retries between new d decided ≡ between.seen
 
 -- what a transform and the decision behind it leave of a pass
-abbrev pub HasFollowed : {A X : Type 0} → (WorkerId → BookView → A → Type 0) → (A → Option X) → (X → Kind) → (X → Making) → (X → Cause) → (X → Cause)
-    → Kind → Making → Cause → Sight → Sight → Followed A → Type 0
-HasFollowed answers step_of kind_of makes fails retries kind making failing old new followed.Failed = HasFailed kind failing old new
-HasFollowed answers step_of kind_of makes fails retries kind making failing old new followed.Finished = HasFinished kind making old new
-HasFollowed answers step_of kind_of makes fails retries kind making failing old new (followed.Decided d) =
+abbrev pub HasFollowed : {A X : Type 0} → (WorkerId → BookView → A → Type 0) → (WorkerId → BookView → Type 0) → (A → Option X) → (X → Kind)
+    → (X → Making) → (X → Cause) → (X → Cause) → Kind → Making → Cause → Sight → Sight → Followed A → Type 0
+HasFollowed answers waits step_of kind_of makes fails retries kind making failing old new followed.Failed = HasFailed kind failing old new
+HasFollowed answers waits step_of kind_of makes fails retries kind making failing old new followed.Undecided =
+    HasFinished kind making old new × waits new.worker new.seen
+HasFollowed answers waits step_of kind_of makes fails retries kind making failing old new followed.NoMemory = HasFinished kind making old new
+HasFollowed answers waits step_of kind_of makes fails retries kind making failing old new (followed.Decided d) =
     HasDecidedBehind answers step_of kind_of makes fails retries kind making old new d
 
 -- the transform finished on the old book, and left the new one
@@ -64,14 +66,15 @@ HasJoined answers waits step_of kind_of makes fails retries kind making failing 
     × Decides answers waits step_of kind_of makes fails retries w between new v
 
 -- the book that a try of a decision found
-abbrev pub judged_of : {A X : Type 0} (answers : WorkerId → BookView → A → Type 0) (waits : WorkerId → BookView → Type 0) (step_of : A → Option X) (kind_of : X → Kind)
-    (makes : X → Making) (fails retries : X → Cause) (old new : Sight) (v : Verdict A) → HasVerdict answers waits step_of kind_of makes fails retries old new v → BookView
+abbrev pub judged_of : {A X : Type 0} (answers : WorkerId → BookView → A → Type 0) (waits : WorkerId → BookView → Type 0) (step_of : A → Option X)
+    (kind_of : X → Kind) (makes : X → Making) (fails retries : X → Cause) (old new : Sight) (v : Verdict A)
+    → HasVerdict answers waits step_of kind_of makes fails retries old new v → BookView
 judged_of answers waits step_of kind_of makes fails retries old new (verdicts.Asked r) h = h.0.book
 judged_of answers waits step_of kind_of makes fails retries old new (verdicts.Ran a r) h = h.tried.before
 
 -- The transform finished, and a decision was tried on the very book that it left.
-pub record HasTriedBehind {A X : Type 0} (answers : WorkerId → BookView → A → Type 0) (waits : WorkerId → BookView → Type 0) (step_of : A → Option X) (kind_of : X → Kind)
-    (makes : X → Making) (fails retries : X → Cause) (kind : Kind) (making : Making) (old new : Sight) (v : Verdict A) : Type 0 where
+pub record HasTriedBehind {A X : Type 0} (answers : WorkerId → BookView → A → Type 0) (waits : WorkerId → BookView → Type 0) (step_of : A → Option X)
+    (kind_of : X → Kind) (makes : X → Making) (fails retries : X → Cause) (kind : Kind) (making : Making) (old new : Sight) (v : Verdict A) : Type 0 where
   pub between : Sight
   pub finished : HasFinished kind making old between
   pub verdict : HasVerdict answers waits step_of kind_of makes fails retries between new v
@@ -86,13 +89,13 @@ HasCome answers waits step_of kind_of makes fails retries kind making failing as
     HasTriedBehind answers waits step_of kind_of makes fails retries kind making old new v
 
 -- what a try of a transform with a decision behind it leaves of a pass
-abbrev pub HasPursued : {A X : Type 0} → (WorkerId → BookView → A → Type 0) → (A → Option X) → (X → Kind) → (X → Making) → (X → Cause) → (X → Cause)
-    → Kind → Making → Cause → Cause → Sight → Sight → Pursued A → Type 0
-HasPursued answers step_of kind_of makes fails retries kind making failing asking old new (pursued.Followed f) =
-    HasFollowed answers step_of kind_of makes fails retries kind making failing old new f
-HasPursued answers step_of kind_of makes fails retries kind making failing asking old new (pursued.Halted NoMemory) = HasLooked old new
-HasPursued answers step_of kind_of makes fails retries kind making failing asking old new (pursued.Halted (Stopped by)) = WasStopped asking by old new
-HasPursued answers step_of kind_of makes fails retries kind making failing asking old new pursued.Again = OnlyLooked old new
+abbrev pub HasPursued : {A X : Type 0} → (WorkerId → BookView → A → Type 0) → (WorkerId → BookView → Type 0) → (A → Option X) → (X → Kind)
+    → (X → Making) → (X → Cause) → (X → Cause) → Kind → Making → Cause → Cause → Sight → Sight → Pursued A → Type 0
+HasPursued answers waits step_of kind_of makes fails retries kind making failing asking old new (pursued.Followed f) =
+    HasFollowed answers waits step_of kind_of makes fails retries kind making failing old new f
+HasPursued answers waits step_of kind_of makes fails retries kind making failing asking old new (pursued.Halted NoMemory) = HasLooked old new
+HasPursued answers waits step_of kind_of makes fails retries kind making failing asking old new (pursued.Halted (Stopped by)) = WasStopped asking by old new
+HasPursued answers waits step_of kind_of makes fails retries kind making failing asking old new pursued.Again = OnlyLooked old new
 
 -- How the hold of a transform ended, with that of the decision behind it where the transform finished: whoever slept when it began.
 abbrev pub EndsJoined : {A X : Type 0} → BookView → WorkerId → Option Awaited → (A → Option X) → (X → Kind) → Kind → Bool → Wakes → Wakes → Joined A → Type 0
@@ -101,9 +104,9 @@ EndsJoined book w awaits step_of kind_of kind promised wakes later (joined.Both 
 
 -- what a verdict comes to behind a transform that finished
 abbrev pub followed_of : {A : Type 0} → Verdict A → Followed A
-followed_of (verdicts.Asked None) = followed.Finished
+followed_of (verdicts.Asked None) = followed.Undecided
 followed_of (verdicts.Asked (Some a)) = followed.Decided (decided.Answered a)
 followed_of (verdicts.Ran a (Ok Finished)) = followed.Decided (decided.Entered a true)
 followed_of (verdicts.Ran a (Ok Failed)) = followed.Decided (decided.Entered a false)
 followed_of (verdicts.Ran a (Ok Retry)) = followed.Decided (decided.Waiting a)
-followed_of (verdicts.Ran a (Err e)) = followed.Finished
+followed_of (verdicts.Ran a (Err e)) = followed.NoMemory

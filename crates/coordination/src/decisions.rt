@@ -36,8 +36,10 @@ pub enum Decided<A> {
 pub enum Followed<A> {
     /// The transform made a failed entry, and nothing was decided.
     Failed,
-    /// The transform finished, and nothing is decided: there is no answer yet, or no memory for the answer's step.
-    Finished,
+    /// The transform finished, and there is no answer yet: what the decision waits for isn't in the book that it left.
+    Undecided,
+    /// The transform finished, and there was no memory for the step of an answer, which changed nothing.
+    NoMemory,
     /// The transform finished, and this was decided on the book that it left.
     Decided(Decided<A>),
 }

@@ -39,8 +39,8 @@ impl<O: Offers, K: Keeper> Slot<Guarded<O, K>> {
         Q::Answer: Drop,
         requires { pass.old.service.table ≡ self.now.table.shared.table_id }
         ensures same { pass.new.service ≡ pass.old.service }
-        ensures pursued { HasPursued (Q.answers decision.now) (Q.step_of decision.now) Q.Step.kind_of Q.Step.makes Q.Step.fails_on
-            Q.Step.retries_on (T.kind_of transform.now) (T.makes transform.now) (T.fails_on transform.now) (T.retries_on transform.now)
+        ensures pursued { HasPursued (Q.answers decision.now) (Q.waits_on decision.now) (Q.step_of decision.now) Q.Step.kind_of Q.Step.makes
+            Q.Step.fails_on Q.Step.retries_on (T.kind_of transform.now) (T.makes transform.now) (T.fails_on transform.now) (T.retries_on transform.now)
             pass.old.sight pass.new.sight result.0 }
     {
         let (joined, wakes, later) = self.hold_joint(rt, pass, transform, decision);
@@ -172,7 +172,7 @@ fn followed_of<A: Drop>(verdict: Verdict<A>) -> Followed<A>
     ensures { result ≡ followed_of verdict }
 {
     match verdict {
-        Verdict::Asked(None) => Followed::Finished,
+        Verdict::Asked(None) => Followed::Undecided,
         Verdict::Asked(Some(answer)) => Followed::Decided(Decided::Answered(answer)),
         Verdict::Ran(answer, Ok(Disposition::Finished)) => {
             Followed::Decided(Decided::Entered(answer, true))
@@ -183,6 +183,6 @@ fn followed_of<A: Drop>(verdict: Verdict<A>) -> Followed<A>
         Verdict::Ran(answer, Ok(Disposition::Retry)) => {
             Followed::Decided(Decided::Waiting(answer))
         }
-        Verdict::Ran(_, Err(_)) => Followed::Finished,
+        Verdict::Ran(_, Err(_)) => Followed::NoMemory,
     }
 }

@@ -235,9 +235,9 @@ impl<O: Offers, K: Keeper> Coordination<O, K> {
     /// Gets the state lock, runs the transform, and where it finishes decides on the book that it left, before anybody else has the
     /// lock: as `with_state_lock` and `decide`, with no entry of another worker between the two.
     ///
-    /// The transform waits as in `with_state_lock`. The decision doesn't wait: `Finished` says that it has no answer yet, or that
-    /// there was no memory for the answer's step, and `decide` can be called then. After `NoMemory` and `Stopped` the pass is as
-    /// before, but that after `Stopped` it shows by whom.
+    /// The transform waits as in `with_state_lock`. The decision doesn't wait: `Undecided` says that it has no answer yet, and
+    /// `Followed::NoMemory` that there was no memory for the step of its answer; `decide` can be called then. After an error the pass
+    /// is as before, but that after `Stopped` it shows by whom.
     pub fn run_then_decide<T: Transform, Q: Decision, R: Wait>(
         &self,
         rt: &R,
@@ -250,7 +250,7 @@ impl<O: Offers, K: Keeper> Coordination<O, K> {
         requires { pass.old.service ≡ self.now.service }
         ensures service { pass.new.service ≡ pass.old.service }
         ensures worker { pass.new.sight.worker ≡ pass.old.sight.worker }
-        ensures followed { IfOk result (HasFollowed (Q.answers decision.now) (Q.step_of decision.now)
+        ensures followed { IfOk result (HasFollowed (Q.answers decision.now) (Q.waits_on decision.now) (Q.step_of decision.now)
             Q.Step.kind_of Q.Step.makes Q.Step.fails_on Q.Step.retries_on (T.kind_of transform.now) (T.makes transform.now)
             (T.fails_on transform.now) pass.old.sight pass.new.sight) }
         ensures no_memory { result ≡ Err Halt.NoMemory → HasLooked pass.old.sight pass.new.sight }

@@ -1,10 +1,13 @@
 -- What is so by the answer of a call.
-use Rattle.std.proofs.Common.{◌≡◌, ◌≢◌, Bool, true, false, Result, Ok, Err, refl, subst}
+use Rattle.std.proofs.Common.{◌≡◌, ◌≢◌, Bool, true, false, Result, Ok, Err, refl, sym, ◌<◌, subst}
 use Rattle.std.specs.Prelude.{IfOk, OnErr, OnOk}
+use Rattle.resource_lock.specs.GraphView.{GraphView}
 use Rattle.resource_lock.specs.declared.ids.WorkerId.{WorkerId}
 use Rattle.lock_transforms.specs.declared.entries.Kind.{Kind}
-use Rattle.coordination.specs.Attempts.{Cause}
-use Rattle.coordination.specs.Calls.{HasFailed}
+use Rattle.coordination.specs.Agrees.{Finds}
+use Rattle.coordination.proofs.lemmas.Growing.{agrees_self}
+use Rattle.coordination.specs.Attempts.{Cause, Making}
+use Rattle.coordination.specs.Calls.{HasFailed, HasFinished, HasLooked}
 use Rattle.coordination.specs.declared.rule.Sight.{Sight}
 use Rattle.coordination.specs.declared.halts.Halt.{Halt}
 
@@ -55,3 +58,10 @@ failed_for f held = record {
 pub if_ok : {T E : Type 0} (P : T → Type 0) (r : Result T E) (x : T) → r ≡ Ok x → IfOk r P → P x
 if_ok P (Ok y) x is p = subst P (cc) p
 if_ok P (Err e) x is p = absurd (cc)
+
+-- a pass that has made an entry finds what it has seen
+pub found_again : {kind : Kind} {makes : Making} {old new : Sight} → HasFinished kind makes old new → HasLooked new new
+found_again {kind} {makes} {old} {new} f = record { book = new.seen; found = subst (λ (s : Sight). Finds s.worker s.seen s.seen) (sym f.sight) there; sight = refl }
+  where
+    there : Finds old.worker f.after f.after
+    there = record { agrees = agrees_self old.worker f.after; sound = f.left; known = subst (λ (g : GraphView). old.worker.0 < g.workers) (sym f.graph) f.found.known }

@@ -3,9 +3,9 @@ use Rattle.coordination.specs.Calls.{AskedInVain, HasLooked}
 use Rattle.coordination.proofs.lemmas.Shown.{looked_shows, stopped_for, stopped_shows}
 use Rattle.async_tracker.specs.Following.{HasEndedThen}
 use Rattle.async_tracker.specs.NextSteps.{HasTakenNext, IsIdleIn, ShowsNext}
-use Rattle.async_tracker.proofs.AfterEnding.{ended_and_taken, ended_then, if_decided, if_finished, kept_later, taken_later}
+use Rattle.async_tracker.proofs.AfterEnding.{ended_and_taken, ended_then, if_decided, if_finished, if_no_memory, kept_later, taken_later}
 use Rattle.async_tracker.proofs.TaskSteps.{cannot_end, ended_shows}
-use Rattle.async_tracker.proofs.lemmas.After.{halted, on_err}
+use Rattle.async_tracker.proofs.lemmas.After.{found_again, halted, on_err}
 use Rattle.async_tracker.proofs.ending.end_and_take_next.Goals as goal
 
 pub returns-in_err-run_then_decide-clause-kept : goal.returns-in_err-run_then_decide-clause-kept
@@ -20,31 +20,40 @@ returns-in_err-run_then_decide-clause-stopped g c = λ by is.
 
 -- the task's end was made, and nothing was decided
 pub take_next-requires-clause-rests : goal.take_next-requires-clause-rests
-take_next-requires-clause-rests g c = c.requires.alone c.run_then_decide.new.pass.sight (ended_shows (if_finished c.args.task c.args.pass.now.sight c.run_then_decide.new.pass.sight c.run_then_decide.result c.in_ok-run_then_decide.field-0 c.in_ok-run_then_decide.was c.in-Finished.is c.run_then_decide.ensures.followed))
+take_next-requires-clause-rests g c = c.requires.alone c.run_then_decide.new.pass.sight (ended_shows (if_finished c.args.task c.args.pass.now.sight c.run_then_decide.new.pass.sight c.run_then_decide.result c.in_ok-run_then_decide.field-0 c.in_ok-run_then_decide.was c.in-Undecided.is c.run_then_decide.ensures.followed))
 
-pub returns-in-Finished-clause-taken : goal.returns-in-Finished-clause-taken
-returns-in-Finished-clause-taken g c =
+pub returns-in-Undecided-clause-taken : goal.returns-in-Undecided-clause-taken
+returns-in-Undecided-clause-taken g c =
     taken_later c.args.task c.args.pass.now.sight c.run_then_decide.new.pass.sight c.take_next.new.pass.sight c.take_next.result
-    (if_finished c.args.task c.args.pass.now.sight c.run_then_decide.new.pass.sight c.run_then_decide.result c.in_ok-run_then_decide.field-0 c.in_ok-run_then_decide.was c.in-Finished.is c.run_then_decide.ensures.followed)
+    (if_finished c.args.task c.args.pass.now.sight c.run_then_decide.new.pass.sight c.run_then_decide.result c.in_ok-run_then_decide.field-0 c.in_ok-run_then_decide.was c.in-Undecided.is c.run_then_decide.ensures.followed)
     c.take_next.ensures.taken c.take_next.ensures.shows
 
-pub returns-in-Finished-clause-kept : goal.returns-in-Finished-clause-kept
-returns-in-Finished-clause-kept g c =
+pub returns-in-Undecided-clause-kept : goal.returns-in-Undecided-clause-kept
+returns-in-Undecided-clause-kept g c =
     kept_later c.args.task c.args.pass.now.sight c.run_then_decide.new.pass.sight c.take_next.new.pass.sight c.take_next.result
-    (if_finished c.args.task c.args.pass.now.sight c.run_then_decide.new.pass.sight c.run_then_decide.result c.in_ok-run_then_decide.field-0 c.in_ok-run_then_decide.was c.in-Finished.is c.run_then_decide.ensures.followed)
+    (if_finished c.args.task c.args.pass.now.sight c.run_then_decide.new.pass.sight c.run_then_decide.result c.in_ok-run_then_decide.field-0 c.in_ok-run_then_decide.was c.in-Undecided.is c.run_then_decide.ensures.followed)
     c.take_next.ensures.kept
 
-pub returns-in-Finished-clause-no_memory : goal.returns-in-Finished-clause-no_memory
-returns-in-Finished-clause-no_memory g c = λ is.
+pub returns-in-Undecided-clause-no_memory : goal.returns-in-Undecided-clause-no_memory
+returns-in-Undecided-clause-no_memory g c = λ is.
     inr (ended_then c.args.task c.args.pass.now.sight (λ s. HasLooked s c.take_next.new.pass.sight) c.run_then_decide.new.pass.sight
-    (if_finished c.args.task c.args.pass.now.sight c.run_then_decide.new.pass.sight c.run_then_decide.result c.in_ok-run_then_decide.field-0 c.in_ok-run_then_decide.was c.in-Finished.is c.run_then_decide.ensures.followed)
+    (if_finished c.args.task c.args.pass.now.sight c.run_then_decide.new.pass.sight c.run_then_decide.result c.in_ok-run_then_decide.field-0 c.in_ok-run_then_decide.was c.in-Undecided.is c.run_then_decide.ensures.followed)
     (c.take_next.ensures.no_memory is))
 
-pub returns-in-Finished-clause-stopped : goal.returns-in-Finished-clause-stopped
-returns-in-Finished-clause-stopped g c = λ by is.
+pub returns-in-Undecided-clause-stopped : goal.returns-in-Undecided-clause-stopped
+returns-in-Undecided-clause-stopped g c = λ by is.
     inr (ended_then c.args.task c.args.pass.now.sight (λ s. AskedInVain IsIdleIn by s c.take_next.new.pass.sight) c.run_then_decide.new.pass.sight
-    (if_finished c.args.task c.args.pass.now.sight c.run_then_decide.new.pass.sight c.run_then_decide.result c.in_ok-run_then_decide.field-0 c.in_ok-run_then_decide.was c.in-Finished.is c.run_then_decide.ensures.followed)
+    (if_finished c.args.task c.args.pass.now.sight c.run_then_decide.new.pass.sight c.run_then_decide.result c.in_ok-run_then_decide.field-0 c.in_ok-run_then_decide.was c.in-Undecided.is c.run_then_decide.ensures.followed)
     (c.take_next.ensures.stopped by is))
+
+pub returns-in-NoMemory-clause-kept : goal.returns-in-NoMemory-clause-kept
+returns-in-NoMemory-clause-kept g c =
+    inr (ended_shows (if_no_memory c.args.task c.args.pass.now.sight c.run_then_decide.new.pass.sight c.run_then_decide.result c.in_ok-run_then_decide.field-0 c.in_ok-run_then_decide.was c.in-NoMemory.is c.run_then_decide.ensures.followed))
+
+pub returns-in-NoMemory-clause-no_memory : goal.returns-in-NoMemory-clause-no_memory
+returns-in-NoMemory-clause-no_memory g c = λ is.
+    let ended = if_no_memory c.args.task c.args.pass.now.sight c.run_then_decide.new.pass.sight c.run_then_decide.result c.in_ok-run_then_decide.field-0 c.in_ok-run_then_decide.was c.in-NoMemory.is c.run_then_decide.ensures.followed in
+    inr (ended_then c.args.task c.args.pass.now.sight (λ s. HasLooked s c.run_then_decide.new.pass.sight) c.run_then_decide.new.pass.sight ended (found_again ended))
 
 pub returns-in-Decided-clause-taken : goal.returns-in-Decided-clause-taken
 returns-in-Decided-clause-taken g c =

@@ -12,7 +12,7 @@ returns-in-Both-clause-pursued g c =
     let q = c.args.decision.now in
     let s = c.args.pass.now.sight in
     let new = c.hold_joint-joined.new.pass.sight in
-    subst (HasFollowed (Q.Question.answers q) (Q.Decision.step_of q) X.kind_of X.makes X.fails_on X.retries_on (T.kind_of t) (T.makes t) (T.fails_on t) s new) (sym c.followed_of.ensures)
+    subst (HasFollowed (Q.Question.answers q) (Q.Question.waits_on q) (Q.Decision.step_of q) X.kind_of X.makes X.fails_on X.retries_on (T.kind_of t) (T.makes t) (T.fails_on t) s new) (sym c.followed_of.ensures)
     (comes_to (Q.Question.answers q) (Q.Question.waits_on q) (Q.Decision.step_of q) X.kind_of X.makes X.fails_on X.retries_on (T.kind_of t) (T.makes t) s new c.in-Both.verdict
     (subst (HasCome (Q.Question.answers q) (Q.Question.waits_on q) (Q.Decision.step_of q) X.kind_of X.makes X.fails_on X.retries_on (T.kind_of t) (T.makes t) (T.fails_on t) (T.retries_on t) s new) c.in-Both.is c.hold_joint-joined.ensures.come)
     (T.fails_on t))

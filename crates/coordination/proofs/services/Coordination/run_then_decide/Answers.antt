@@ -14,7 +14,7 @@ returns-in-Followed-clause-followed g c =
     let Q = g.Q in
     let q = c.args.decision.now in
     let p = c.try_joint-pursued in
-    pursued_on (Q.Question.answers q) (Q.Decision.step_of q) Q.Step.Transform.kind_of Q.Step.Transform.makes Q.Step.Transform.fails_on Q.Step.Transform.retries_on
+    pursued_on (Q.Question.answers q) (Q.Question.waits_on q) (Q.Decision.step_of q) Q.Step.Transform.kind_of Q.Step.Transform.makes Q.Step.Transform.fails_on Q.Step.Transform.retries_on
     (T.kind_of t) (T.makes t) (T.fails_on t) (T.retries_on t) c.args.pass.now.sight c.loop.pass.sight p.new.pass.sight p.result.0 (pursued.Followed c.in-Followed.followed) c.in-Followed.is c.loop.invariant.3 p.ensures.pursued
 
 pub returns-in-Halted-clause-no_memory : goal.returns-in-Halted-clause-no_memory
@@ -24,7 +24,7 @@ returns-in-Halted-clause-no_memory g c =
     let Q = g.Q in
     let q = c.args.decision.now in
     let p = c.try_joint-pursued in
-    pursued_halted (Q.Question.answers q) (Q.Decision.step_of q) Q.Step.Transform.kind_of Q.Step.Transform.makes Q.Step.Transform.fails_on Q.Step.Transform.retries_on
+    pursued_halted (Q.Question.answers q) (Q.Question.waits_on q) (Q.Decision.step_of q) Q.Step.Transform.kind_of Q.Step.Transform.makes Q.Step.Transform.fails_on Q.Step.Transform.retries_on
     (T.kind_of t) (T.makes t) (T.fails_on t) (T.retries_on t) c.args.pass.now.sight c.loop.pass.sight p.new.pass.sight p.result.0 c.loop.invariant.3 p.ensures.pursued c.in-Halted.halt c.in-Halted.is
 
 pub returns-in-Halted-clause-stopped : goal.returns-in-Halted-clause-stopped
@@ -34,7 +34,7 @@ returns-in-Halted-clause-stopped g c = λ by.
     let Q = g.Q in
     let q = c.args.decision.now in
     let p = c.try_joint-pursued in
-    pursued_stopped (Q.Question.answers q) (Q.Decision.step_of q) Q.Step.Transform.kind_of Q.Step.Transform.makes Q.Step.Transform.fails_on Q.Step.Transform.retries_on
+    pursued_stopped (Q.Question.answers q) (Q.Question.waits_on q) (Q.Decision.step_of q) Q.Step.Transform.kind_of Q.Step.Transform.makes Q.Step.Transform.fails_on Q.Step.Transform.retries_on
     (T.kind_of t) (T.makes t) (T.fails_on t) (T.retries_on t) c.args.pass.now.sight c.loop.pass.sight p.new.pass.sight p.result.0 c.loop.invariant.3 p.ensures.pursued c.in-Halted.halt by c.in-Halted.is
 
 pub loop-preserved : goal.loop-preserved
@@ -47,6 +47,6 @@ loop-preserved g c =
       tt,
       tt,
       p.ensures.same ∙ c.loop.invariant.2,
-      pursued_on (Q.Question.answers q) (Q.Decision.step_of q) Q.Step.Transform.kind_of Q.Step.Transform.makes Q.Step.Transform.fails_on Q.Step.Transform.retries_on
+      pursued_on (Q.Question.answers q) (Q.Question.waits_on q) (Q.Decision.step_of q) Q.Step.Transform.kind_of Q.Step.Transform.makes Q.Step.Transform.fails_on Q.Step.Transform.retries_on
           (T.kind_of t) (T.makes t) (T.fails_on t) (T.retries_on t) c.args.pass.now.sight c.loop.pass.sight p.new.pass.sight p.result.0 pursued.Again c.in-Again.is c.loop.invariant.3 p.ensures.pursued,
     )
