@@ -7,9 +7,12 @@
 //! lead to, and to have exactly the changes that its kind makes there. Entries are forgotten. It prints what `leases check` prints, with the
 //! same status: also where the text stops being a history, or names another number of locks than the plan's run has.
 //!
-//! It reads plans that `leases` accepts, by the small reader of TOML of plain_peer, and knows no worker processes with requirements of numbers.
+//! It reads plans that `leases` accepts, by the small readers of TOML and of a plan's rows of plain_peer, and knows no worker processes with
+//! requirements of numbers.
 
 mod plan;
+#[path = "../../plain_peer/src/rows.rs"]
+mod rows;
 mod state;
 mod text;
 #[path = "../../plain_peer/src/toml.rs"]

@@ -13,6 +13,7 @@
 
 mod book;
 mod plan;
+mod rows;
 mod run;
 mod text;
 mod toml;
