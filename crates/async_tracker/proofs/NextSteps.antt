@@ -1,5 +1,5 @@
 -- What is next for a worker that has nothing can be done.
-use Rattle.std.proofs.Common.{◌≡◌, ℕ, ◌<◌, ◌≤◌, true, false, inl, inr, Some, Bool, ap, arith, length, sym, subst}
+use Rattle.std.proofs.Common.{◌≡◌, ℕ, ◌<◌, ◌≤◌, true, false, inl, inr, Some, Bool, ap, arith, length, refl, sym, subst}
 use Rattle.resource_lock.specs.GraphView.{GraphView}
 use Rattle.resource_lock.specs.StateView.{StateView}
 use Rattle.resource_lock.specs.declared.ids.WorkerId.{WorkerId}
@@ -14,13 +14,14 @@ use Rattle.worker_choices.specs.declared.choices.Choice.TheVariants as choices
 use Rattle.coordination.specs.Attempts.{Cause, Making}
 use Rattle.coordination.specs.Calls.{AskedInVain, HasFailed, HasFinished}
 use Rattle.coordination.specs.Decisions.{HasDecided}
+use Rattle.coordination.specs.Joints.{decided_of}
 use Rattle.coordination.specs.Holds.{HoldsNothing}
 use Rattle.coordination.specs.Shown.{ShowsTheSame}
 use Rattle.coordination.specs.declared.decisions.Decided.{Decided}
 use Rattle.coordination.specs.declared.decisions.Decided.TheVariants as decided
 use Rattle.coordination.specs.declared.rule.Sight.{Sight}
 use Rattle.coordination.proofs.lemmas.Shown.{answered_shows, failed_shows, stopped_shows}
-use Rattle.async_tracker.specs.NextSteps.{CouldNotSkip, HasSkippedNext, HasStartedNext, HasTakenNext, IsNextIn, ShowsNext, choice_of, kind_of_step, step_of_choice, task_of_step}
+use Rattle.async_tracker.specs.NextSteps.{CouldNotSkip, HasSkippedNext, HasStartedNext, HasTakenNext, IsNextIn, ShowsNext, choice_of, kind_of_step, step_of_choice, taken_of, task_of_step}
 use Rattle.async_tracker.specs.declared.task_steps.TaskStep.{TaskStep}
 use Rattle.async_tracker.specs.declared.task_steps.TaskStep.TheVariants as steps
 use Rattle.async_tracker.proofs.TaskSteps.{cannot_skip, cannot_start, skipped_shows, started_shows}
@@ -51,34 +52,37 @@ not_again : (n t m : ℕ) → m ≡ t → t < n → n ≤ m → ⊥
 not_again n t m is within least = omega (arith, is, within, least)
 
 module _ (t : ℕ) (old new : Sight) (step : TaskStep) where
-  skipped : steps.Skip t ≡ step → (f : HasFinished (kind_of_step step) (Makes step) old new) → IsNextIn old.worker f.before (choices.Skip t) → HasSkippedNext t old new
+  skipped : steps.Skip t ≡ step → (f : HasFinished (kind_of_step step) (Makes step) old new) → IsNextIn old.worker f.before (choices.Skip t) → (k : HasSkippedNext t old new) × (k.finished.before ≡ f.before)
   skipped is f next =
-      let p : (f : HasFinished (kinds.Skip t) (IsFixedList (kinds.Skip t)) old new) × IsNextIn old.worker f.before (choices.Skip t) =
-      subst (λ (k : TaskStep). (f : HasFinished (kind_of_step k) (Makes k) old new) × IsNextIn old.worker f.before (choices.Skip t)) (sym is) (f, next) in
-      record { finished = p.0; next = p.1 }
+      let p : (k : HasFinished (kinds.Skip t) (IsFixedList (kinds.Skip t)) old new) × IsNextIn old.worker k.before (choices.Skip t) × (k.before ≡ f.before) =
+      subst (λ (x : TaskStep). (k : HasFinished (kind_of_step x) (Makes x) old new) × IsNextIn old.worker k.before (choices.Skip t) × (k.before ≡ f.before)) (sym is) (f, next, refl) in
+      (record { finished = p.0; next = p.1 }, p.2)
 
-  started : steps.Start t ≡ step → (f : HasFinished (kind_of_step step) (Makes step) old new) → IsNextIn old.worker f.before (choices.Start t) → HasStartedNext t old new
+  started : steps.Start t ≡ step → (f : HasFinished (kind_of_step step) (Makes step) old new) → IsNextIn old.worker f.before (choices.Start t) → (k : HasStartedNext t old new) × (k.finished.before ≡ f.before)
   started is f next =
-      let p : (f : HasFinished (kinds.Start t) (IsFixedList (kinds.Start t)) old new) × IsNextIn old.worker f.before (choices.Start t) =
-      subst (λ (k : TaskStep). (f : HasFinished (kind_of_step k) (Makes k) old new) × IsNextIn old.worker f.before (choices.Start t)) (sym is) (f, next) in
-      record { finished = p.0; next = p.1 }
+      let p : (k : HasFinished (kinds.Start t) (IsFixedList (kinds.Start t)) old new) × IsNextIn old.worker k.before (choices.Start t) × (k.before ≡ f.before) =
+      subst (λ (x : TaskStep). (k : HasFinished (kind_of_step x) (Makes x) old new) × IsNextIn old.worker k.before (choices.Start t) × (k.before ≡ f.before)) (sym is) (f, next, refl) in
+      (record { finished = p.0; next = p.1 }, p.2)
 
-  could_not : steps.Skip t ≡ step → (f : HasFailed (kind_of_step step) (FailsOn step) old new) → IsNextIn old.worker f.before (choices.Skip t) → HoldsNothing old → CouldNotSkip t old new
+  could_not : steps.Skip t ≡ step → (f : HasFailed (kind_of_step step) (FailsOn step) old new) → IsNextIn old.worker f.before (choices.Skip t) → HoldsNothing old → (k : CouldNotSkip t old new) × (k.failed.before ≡ f.before)
   could_not is f next rests =
-      let p : (f : HasFailed (kinds.Skip t) (FailsOn (steps.Skip t)) old new) × IsNextIn old.worker f.before (choices.Skip t) =
-      subst (λ (k : TaskStep). (f : HasFailed (kind_of_step k) (FailsOn k) old new) × IsNextIn old.worker f.before (choices.Skip t)) (sym is) (f, next) in
-      let k = p.0 in record {
-        failed = record {
-          before = k.before;
-          after = k.after;
-          found = k.found;
-          graph = k.graph;
-          failed = record { cause = cannot_skip old k.before t k.found rests k.failed.cause; allowed = k.failed.allowed; history = k.failed.history; state = k.failed.state };
-          left = k.left;
-          sight = k.sight;
-        };
-        next = p.1;
-      }
+      let p : (k : HasFailed (kinds.Skip t) (FailsOn (steps.Skip t)) old new) × IsNextIn old.worker k.before (choices.Skip t) × (k.before ≡ f.before) =
+      subst (λ (x : TaskStep). (k : HasFailed (kind_of_step x) (FailsOn x) old new) × IsNextIn old.worker k.before (choices.Skip t) × (k.before ≡ f.before)) (sym is) (f, next, refl) in
+      let k = p.0 in (
+        record {
+          failed = record {
+            before = k.before;
+            after = k.after;
+            found = k.found;
+            graph = k.graph;
+            failed = record { cause = cannot_skip old k.before t k.found rests k.failed.cause; allowed = k.failed.allowed; history = k.failed.history; state = k.failed.state };
+            left = k.left;
+            sight = k.sight;
+          };
+          next = p.1;
+        },
+        p.2,
+      )
 
   -- a start that is next doesn't fail
   never : steps.Start t ≡ step → (f : HasFailed (kind_of_step step) (FailsOn step) old new) → IsNextIn old.worker f.before (choices.Start t) → HoldsNothing old → ⊥
@@ -91,28 +95,32 @@ module _ (t : ℕ) (old new : Sight) (step : TaskStep) where
 same_step : (a b : TaskStep) → Some a ≡ Some b → a ≡ b
 same_step a b is = cc
 
--- what was decided
-pub taken : (old new : Sight) (d : Decided Choice) → HasDecided IsNextIn step_of_choice kind_of_step Makes FailsOn RetriesOn old new d → HoldsNothing old → HasTakenNext old new (choice_of d)
-taken old new (decided.Answered choices.Pop) h rests = h.0
-taken old new (decided.Answered (choices.Skip t)) h rests = let none = h.1 in absurd (cc)
-taken old new (decided.Answered (choices.Start t)) h rests = let none = h.1 in absurd (cc)
-taken old new (decided.Answered choices.Finish) h rests = h.0
-taken old new (decided.Entered choices.Pop true) h rests = let none = h.is in absurd (cc)
-taken old new (decided.Entered (choices.Skip t) true) h rests = inl (skipped t old new h.step (same_step (steps.Skip t) h.step h.is) h.finished h.answer)
-taken old new (decided.Entered (choices.Start t) true) h rests = started t old new h.step (same_step (steps.Start t) h.step h.is) h.finished h.answer
-taken old new (decided.Entered choices.Finish true) h rests = let none = h.is in absurd (cc)
-taken old new (decided.Entered choices.Pop false) h rests = let none = h.is in absurd (cc)
-taken old new (decided.Entered (choices.Skip t) false) h rests = inr (could_not t old new h.step (same_step (steps.Skip t) h.step h.is) h.failed h.answer rests)
-taken old new (decided.Entered (choices.Start t) false) h rests = absurd (never t old new h.step (same_step (steps.Start t) h.step h.is) h.failed h.answer rests)
-taken old new (decided.Entered choices.Finish false) h rests = let none = h.is in absurd (cc)
-taken old new (decided.Waiting choices.Pop) h rests = let none = h.is in absurd (cc)
-taken old new (decided.Waiting (choices.Skip t)) h rests =
+-- what was decided, and of which book
+pub taken_at : (old new : Sight) (d : Decided Choice) (h : HasDecided IsNextIn step_of_choice kind_of_step Makes FailsOn RetriesOn old new d) → HoldsNothing old
+    → (k : HasTakenNext old new (choice_of d)) × (taken_of old new (choice_of d) k ≡ decided_of IsNextIn step_of_choice kind_of_step Makes FailsOn RetriesOn old new d h)
+taken_at old new (decided.Answered choices.Pop) h rests = (h.0, refl)
+taken_at old new (decided.Answered (choices.Skip t)) h rests = let none = h.1 in absurd (cc)
+taken_at old new (decided.Answered (choices.Start t)) h rests = let none = h.1 in absurd (cc)
+taken_at old new (decided.Answered choices.Finish) h rests = (h.0, refl)
+taken_at old new (decided.Entered choices.Pop true) h rests = let none = h.is in absurd (cc)
+taken_at old new (decided.Entered (choices.Skip t) true) h rests = let k = skipped t old new h.step (same_step (steps.Skip t) h.step h.is) h.finished h.answer in (inl k.0, k.1)
+taken_at old new (decided.Entered (choices.Start t) true) h rests = started t old new h.step (same_step (steps.Start t) h.step h.is) h.finished h.answer
+taken_at old new (decided.Entered choices.Finish true) h rests = let none = h.is in absurd (cc)
+taken_at old new (decided.Entered choices.Pop false) h rests = let none = h.is in absurd (cc)
+taken_at old new (decided.Entered (choices.Skip t) false) h rests = let k = could_not t old new h.step (same_step (steps.Skip t) h.step h.is) h.failed h.answer rests in (inr k.0, k.1)
+taken_at old new (decided.Entered (choices.Start t) false) h rests = absurd (never t old new h.step (same_step (steps.Start t) h.step h.is) h.failed h.answer rests)
+taken_at old new (decided.Entered choices.Finish false) h rests = let none = h.is in absurd (cc)
+taken_at old new (decided.Waiting choices.Pop) h rests = let none = h.is in absurd (cc)
+taken_at old new (decided.Waiting (choices.Skip t)) h rests =
     absurd (not_again (length h.before.graph.tasks) t (task_of_step h.step) (ap task_of_step (sym (same_step (steps.Skip t) h.step h.is)))
     (skips_within h.before.graph old.worker h.before.state h.answer.0 t h.answer.1) h.unchanged.cause)
-taken old new (decided.Waiting (choices.Start t)) h rests =
+taken_at old new (decided.Waiting (choices.Start t)) h rests =
     absurd (not_again (length h.before.graph.tasks) t (task_of_step h.step) (ap task_of_step (sym (same_step (steps.Start t) h.step h.is)))
     (starts_within h.before.graph old.worker h.before.state h.answer.0 t h.answer.1) h.unchanged.cause)
-taken old new (decided.Waiting choices.Finish) h rests = let none = h.is in absurd (cc)
+taken_at old new (decided.Waiting choices.Finish) h rests = let none = h.is in absurd (cc)
+
+pub taken : (old new : Sight) (d : Decided Choice) → HasDecided IsNextIn step_of_choice kind_of_step Makes FailsOn RetriesOn old new d → HoldsNothing old → HasTakenNext old new (choice_of d)
+taken old new d h rests = (taken_at old new d h rests).0
 
 pub taken_shows : (old new : Sight) (choice : Choice) → HasTakenNext old new choice → HoldsNothing old → ShowsNext old new choice
 taken_shows old new choices.Pop k rests = answered_shows k

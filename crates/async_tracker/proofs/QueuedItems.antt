@@ -1,27 +1,28 @@
 -- An action's items queued, and the wait for them begun behind that.
-use Rattle.std.proofs.Common.{◌≡◌, ℕ, ◌<◌, true, false, List, Option, Some, Result, Ok, IfOk, sym, ap, ◌∙◌, subst}
+use Rattle.std.proofs.Common.{◌≡◌, ℕ, ◌<◌, Bool, true, false, List, [], ◌∷◌, Option, Some, Result, Ok, IfOk, sym, ap, ◌∙◌, subst, arith, refl, length}
 use Rattle.std.specs.Prelude.{Contains}
 use Rattle.std.specs.List.{list_any}
-use Rattle.std.proofs.lemmas.Bool.{false≢true}
+use Rattle.std.proofs.lemmas.List.{get_or-set_same}
+use Rattle.resource_lock.specs.Change.{make, make_all, with_mark}
 use Rattle.resource_lock.specs.GraphView.{GraphView, action_of}
-use Rattle.resource_lock.specs.Ranges.{lock_with, task_with}
-use Rattle.resource_lock.specs.StateView.{stands_in}
+use Rattle.resource_lock.specs.Ranges.{items_of, lock_with, task_with}
+use Rattle.resource_lock.specs.StateView.{IsMarkOf, StateView, mark_of, stands_in}
+use Rattle.resource_lock.specs.declared.changes.Change.{Change}
+use Rattle.resource_lock.specs.declared.changes.Change.TheVariants.{Move}
 use Rattle.resource_lock.specs.declared.graphs.Retention.{Retention}
 use Rattle.resource_lock.specs.declared.graphs.Retention.TheVariants.{Retain, Release, ReleaseAndReacquire}
 use Rattle.resource_lock.specs.declared.ids.LockId.{LockId}
 use Rattle.resource_lock.specs.declared.ids.WorkerId.{WorkerId}
+use Rattle.resource_lock.specs.declared.marks.Mark.TheVariants.{Waiting, Queued}
 use Rattle.resource_lock.specs.declared.marks.MarkId.{MarkId}
-use Rattle.resource_lock.specs.declared.marks.MarkId.TheVariants.{Task as TaskOf}
+use Rattle.resource_lock.specs.declared.marks.MarkId.TheVariants.{Task as TaskOf, Action as ActionOf, Unit as UnitOf}
 use Rattle.lock_journal.specs.BookView.{BookView}
-use Rattle.lock_transforms.specs.Allowed.{IsDisabled, IsFixedList, Lawful}
-use Rattle.lock_transforms.specs.Entry.{Entry, replay}
+use Rattle.lock_transforms.specs.Allowed.{IsDisabled, IsFixedList}
+use Rattle.lock_transforms.specs.Table.{moved_units}
 use Rattle.lock_transforms.specs.declared.entries.Kind.TheVariants.{Submit, Park}
 use Rattle.lock_transforms.specs.declared.kinds.parks.Park.{Park as ParkOf}
 use Rattle.history_laws.specs.Own.{is_action, is_unit}
-use Rattle.coordination.specs.Agrees.{IsSoundBook}
-use Rattle.coordination.specs.Attempts.{Cause}
-use Rattle.coordination.specs.Calls.{HasFinished, HasLooked, IsAnswered, WasStopped}
-use Rattle.coordination.specs.Decisions.{IsToWaitIn}
+use Rattle.coordination.specs.Calls.{HasFinished, HasLooked}
 use Rattle.coordination.specs.Joints.{HasFollowed}
 use Rattle.coordination.specs.Shown.{ShowsTheSame, claimed_shown, lease_shown}
 use Rattle.coordination.specs.declared.decisions.Decided.TheVariants as decided
@@ -29,113 +30,36 @@ use Rattle.coordination.specs.declared.decisions.Followed.{Followed}
 use Rattle.coordination.specs.declared.decisions.Followed.TheVariants as followed
 use Rattle.coordination.specs.declared.halts.Halt.{Halt}
 use Rattle.coordination.specs.declared.rule.Sight.{Sight}
-use Rattle.coordination.proofs.lemmas.Growing.{agrees_same, agrees_then}
+use Rattle.coordination.proofs.lemmas.Entries.{belongs_sound}
 use Rattle.coordination.proofs.lemmas.Shown.{looked_shows}
-use Rattle.async_tracker.specs.Queueing.{HasSubmittedThen, has_parked}
+use Rattle.async_tracker.specs.Following.{HasParkedAtOnce}
+use Rattle.async_tracker.specs.Queueing.{HasSubmittedThen}
 use Rattle.async_tracker.specs.Shows.{HasReleased, IsFree, IsIdleOrParked, OwnsToPark, ShowsParked, WorksOn}
-use Rattle.async_tracker.proofs.lemmas.After.{found_again}
-use Rattle.async_tracker.proofs.Parking.{parked_free, parked_shows, parked_waits, released, submitted_shows}
-use Rattle.async_tracker.proofs.lemmas.After.{if_ok}
-use Rattle.async_tracker.proofs.lemmas.Turns.{answered_then, finished_then, parked_from, shows_then, stopped_then}
+use Rattle.async_tracker.proofs.Parking.{not_queued, parked_free, parked_shows, parked_waits, released, submitted_shows}
+use Rattle.async_tracker.proofs.lemmas.After.{found_again, if_ok}
+use Rattle.async_tracker.proofs.lemmas.Turns.{parked_from, shows_then}
 
--- a step that is to be run again has changed nothing
-waiting_looks : {A X : Type 0} {answers : WorkerId → BookView → A → Type 0} {step_of : A → Option X} {retries : X → Cause} {old new : Sight} {x : A}
-    → IsToWaitIn answers step_of retries old new x → HasLooked old new
-waiting_looks {old = old} {new} q = record {
-  book = q.after;
-  found = record {
-    agrees = agrees_then old.worker old.seen q.before q.after q.found.agrees (agrees_same old.worker q.before q.after q.graph q.unchanged.state q.unchanged.history);
-    sound = sound q.before q.after q.graph q.unchanged.state q.unchanged.history q.found.sound;
-    known = subst (λ (g : GraphView). old.worker.0 < g.workers) (sym q.graph) q.found.known;
-  };
-  sight = q.sight;
-}
-  where
-    sound : (before after : BookView) → after.graph ≡ before.graph → after.state ≡ before.state → after.history ≡ before.history → IsSoundBook before → IsSoundBook after
-    sound before after graph state history is = record {
-      lawful = subst (λ (p : GraphView × List Entry). Lawful p.0 p.1) (λ i. (sym graph i, sym history i)) is.lawful;
-      replays = state ∙ (is.replays ∙ (λ i. replay (sym graph i) (sym history i)));
-    }
+-- moves of units leave the mark of an action
+action_stays : (w : WorkerId) (a : ℕ) (us : List ℕ) (s : StateView) → mark_of (make_all s w (moved_units us Waiting Queued)) (ActionOf a) ≡ mark_of s (ActionOf a)
+action_stays w a [] s = refl
+action_stays w a (u ∷ us) s = action_stays w a us (make s w (Move (UnitOf u) Waiting Queued))
 
--- a look is a question that may have any answer
-answered_as : {old new : Sight} → HasLooked old new → IsAnswered {A = Unit {0}} (λ w book x. Unit {0}) tt old new
-answered_as f = record { book = f.book; found = f.found; answer = tt; sight = f.sight }
-
-looked_as : {old new : Sight} → IsAnswered {A = Unit {0}} (λ w book x. Unit {0}) tt old new → HasLooked old new
-looked_as q = record { book = q.book; found = q.found; sight = q.sight }
+-- an action whose items were queued is Queued
+queued_then : {a : ℕ} {old new : Sight} → HasFinished (Submit a) (IsFixedList (Submit a)) old new → mark_of new.seen.state (ActionOf a) ≡ Queued
+queued_then {a} {old} f =
+    let w : WorkerId = old.worker in
+    let s : StateView = f.before.state in
+    let us : List ℕ = items_of f.before.graph a in
+    let belongs = belongs_sound f.before f.found.sound in
+    let there : a < length f.before.graph.actions = f.finished.allowed.kind in
+    let within : IsMarkOf s (ActionOf a) = let same = belongs.actions in omega (arith, there, same) in
+    ap (λ (x : Sight). mark_of x.seen.state (ActionOf a)) f.sight
+    ∙ (ap (λ (x : StateView). mark_of x (ActionOf a)) f.finished.state
+    ∙ (ap (λ (cs : List Change). mark_of (make_all s w cs) (ActionOf a)) f.finished.made
+    ∙ (action_stays w a us (with_mark s (ActionOf a) Queued) ∙ get_or-set_same s.actions a Queued Waiting within)))
 
 same_action : (a : ℕ) (p : ParkOf) → ◌≡◌ {A = Option ParkOf} (Some (record { action = a })) (Some p) → p.action ≡ a
 same_action a p is = cc
-
-module _ (a : ℕ) (old new : Sight) where
-  -- what the two calls that are made in one hold leave, with their answer
-  abbrev pub Leaves : Followed (Unit {0}) → Type 0
-  Leaves = HasFollowed (λ w book x. Unit {0}) (λ w book. ⊥) (λ x. Some (record { action = a })) (λ (p : ParkOf). Park p.action) (λ p. IsFixedList (Park p.action)) (λ p g w s. ⊥) (λ p. IsDisabled (Park p.action))
-      (Submit a) (IsFixedList (Submit a)) (λ g w s. ⊥) old new
-
-  abbrev pub Parked : Type 0
-  Parked = HasSubmittedThen a old (λ between. HasFinished (Park a) (IsFixedList (Park a)) between new)
-
-  abbrev pub Submitted : Type 0
-  Submitted = HasSubmittedThen a old (λ between. HasLooked between new)
-
-  pub parked_at_once : (f : Followed (Unit {0})) → Leaves f → has_parked f ≡ true → Parked
-  parked_at_once followed.Failed h is = absurd (false≢true is)
-  parked_at_once followed.Undecided h is = absurd (false≢true is)
-  parked_at_once followed.NoMemory h is = absurd (false≢true is)
-  parked_at_once (followed.Decided (decided.Answered x)) h is = absurd (false≢true is)
-  parked_at_once (followed.Decided (decided.Entered x true)) h is =
-      record {
-        between = h.between;
-        submitted = h.finished;
-        follows = subst (λ n. HasFinished (Park n) (IsFixedList (Park n)) h.between new) (same_action a h.decided.step h.decided.is) h.decided.finished;
-      }
-  parked_at_once (followed.Decided (decided.Entered x false)) h is = absurd h.decided.failed.failed.cause
-  parked_at_once (followed.Decided (decided.Waiting x)) h is = absurd (false≢true is)
-
-  pub submitted_alone : (f : Followed (Unit {0})) → Leaves f → has_parked f ≡ false → Submitted
-  submitted_alone followed.Failed h is = absurd h.failed.cause
-  submitted_alone followed.Undecided h is = absurd h.1
-  submitted_alone followed.NoMemory h is = record { between = new; submitted = h; follows = found_again h }
-  submitted_alone (followed.Decided (decided.Answered x)) h is = let none = h.decided.1 in absurd (cc)
-  submitted_alone (followed.Decided (decided.Entered x b)) h is = absurd (false≢true (sym is))
-  submitted_alone (followed.Decided (decided.Waiting x)) h is = record { between = h.between; submitted = h.finished; follows = waiting_looks h.decided }
-
-  -- the worker parks once its items are queued
-  pub then_parked : Submitted → {after : Sight} → HasFinished (Park a) (IsFixedList (Park a)) new after → HasSubmittedThen a old (λ between. HasFinished (Park a) (IsFixedList (Park a)) between after)
-  then_parked s f = record { between = s.between; submitted = s.submitted; follows = finished_then (answered_as s.follows) f }
-
-  pub then_looked : Submitted → {after : Sight} → HasLooked new after → HasSubmittedThen a old (λ between. HasLooked between after)
-  then_looked s f = record { between = s.between; submitted = s.submitted; follows = looked_as (answered_then (answered_as s.follows) (answered_as f)) }
-
-  pub then_stopped : Submitted → {cause : Cause} {by : WorkerId} {after : Sight} → WasStopped cause by new after → HasSubmittedThen a old (λ between. WasStopped cause by between after)
-  then_stopped s f = record { between = s.between; submitted = s.submitted; follows = stopped_then (answered_as s.follows) f }
-
-  pub parked_behind : Parked → ShowsParked (action_of old.seen.graph a).retention (lock_with old.seen.graph a) a old new
-  parked_behind p =
-      let same = submitted_shows p.submitted in
-      subst (λ (g : GraphView). ShowsParked (action_of g a).retention (lock_with g a) a old new) same.graph
-      (parked_from (action_of p.between.seen.graph a).retention (lock_with p.between.seen.graph a) a same (parked_shows p.follows))
-
-  pub free_behind : Parked → lease_shown old ≡ true → list_any is_unit (claimed_shown old) ≡ false → IsFree new
-  free_behind p leased none =
-      let same = submitted_shows p.submitted in
-      parked_free (action_of p.between.seen.graph a).retention (lock_with p.between.seen.graph a) p.follows (same.lease ∙ leased) (parked_shows p.follows) (ap (list_any is_unit) same.claimed ∙ none)
-
-  pub waits_behind : Parked → IsIdleOrParked new
-  waits_behind p = parked_waits a (action_of p.between.seen.graph a).retention (lock_with p.between.seen.graph a) (parked_shows p.follows)
-
-  pub released_behind : Parked → HasReleased (action_of old.seen.graph a).retention (lock_with old.seen.graph a) new
-  released_behind p =
-      subst (λ (g : GraphView). HasReleased (action_of g a).retention (lock_with g a) new) (submitted_shows p.submitted).graph
-      (released (action_of p.between.seen.graph a).retention (lock_with p.between.seen.graph a) p.follows (parked_shows p.follows))
-
-  pub submitted_still : Submitted → ShowsTheSame old new
-  submitted_still p = shows_then (submitted_shows p.submitted) (looked_shows p.follows)
-
-  -- what came of the two calls that are made in one hold, where they made one entry
-  pub still_to_park : (r : Result (Followed (Unit {0})) Halt) (f : Followed (Unit {0})) → r ≡ Ok f → IfOk r Leaves → has_parked f ≡ false → Submitted
-  still_to_park r f is leaves parks = submitted_alone f (if_ok Leaves r f is leaves) parks
 
 -- a worker that shows the same works on the task of the action, and owns what it is to park
 pub works_still : {old new : Sight} (a : ℕ) → ShowsTheSame old new → WorksOn old (task_with old.seen.graph a) → WorksOn new (task_with new.seen.graph a)
@@ -156,3 +80,71 @@ owns_by ReleaseAndReacquire l same own = ap (stands_in l) same.locks ∙ own
 pub owns_still : {old new : Sight} (a : ℕ) → ShowsTheSame old new → OwnsToPark (action_of old.seen.graph a).retention (lock_with old.seen.graph a) old → OwnsToPark (action_of new.seen.graph a).retention (lock_with new.seen.graph a) new
 owns_still {old} {new} a same own =
     subst (λ (g : GraphView). OwnsToPark (action_of g a).retention (lock_with g a) new) (sym same.graph) (owns_by (action_of old.seen.graph a).retention (lock_with old.seen.graph a) same own)
+
+module _ (a : ℕ) (old new : Sight) where
+  -- what the two entries that are made in one hold leave, with their answer
+  abbrev pub Leaves : Followed (Unit {0}) → Type 0
+  Leaves = HasFollowed (λ w book x. Unit {0}) (λ w book. ⊥) (λ x. Some (record { action = a })) (λ (p : ParkOf). Park p.action) (λ p. IsFixedList (Park p.action)) (λ p g w s. ⊥) (λ p. IsDisabled (Park p.action))
+      (Submit a) (IsFixedList (Submit a)) (λ g w s. ⊥) old new
+
+  abbrev pub Parked : Type 0
+  Parked = HasSubmittedThen a old (λ between. HasParkedAtOnce a between new)
+
+  abbrev pub Submitted : Type 0
+  Submitted = HasSubmittedThen a old (λ between. HasLooked between new)
+
+  pub if_left : (r : Result (Followed (Unit {0})) Halt) (f : Followed (Unit {0})) → r ≡ Ok f → IfOk r Leaves → Leaves f
+  if_left = if_ok Leaves
+
+  pub parked_at_once : (b : Bool) → Leaves (followed.Decided (decided.Entered tt b)) → Parked
+  parked_at_once true h =
+      let parked : (p : HasFinished (Park a) (IsFixedList (Park a)) h.between new) × (p.before ≡ h.between.seen) =
+      subst (λ n. (p : HasFinished (Park n) (IsFixedList (Park n)) h.between new) × (p.before ≡ h.between.seen)) (same_action a h.decided.step h.decided.is) (h.decided.finished, h.at_once) in
+      record { between = h.between; submitted = h.finished; follows = record { parked = parked.0; at_once = parked.1 } }
+  parked_at_once false h = absurd h.decided.failed.failed.cause
+
+  pub submitted_alone : Leaves followed.NoMemory → Submitted
+  submitted_alone h = record { between = new; submitted = h; follows = found_again h }
+
+  pub never_failed : Leaves followed.Failed → ⊥
+  never_failed h = h.failed.cause
+
+  pub never_undecided : Leaves followed.Undecided → ⊥
+  never_undecided h = h.1
+
+  pub never_answered : Leaves (followed.Decided (decided.Answered tt)) → ⊥
+  never_answered h = let none = h.decided.1 in absurd (cc)
+
+  -- parking is possible where the action is Queued
+  pub never_waits : Leaves (followed.Decided (decided.Waiting tt)) → a < length old.seen.graph.actions → WorksOn old (task_with old.seen.graph a)
+      → OwnsToPark (action_of old.seen.graph a).retention (lock_with old.seen.graph a) old → ⊥
+  never_waits h there works own =
+      let same = submitted_shows h.finished in
+      let q = h.decided in
+      not_queued h.between q.before a q.found (subst (λ (g : GraphView). a < length g.actions) (sym same.graph) there) (works_still a same works) (owns_still a same own)
+      (subst (λ n. IsDisabled (Park n) q.before.graph h.between.worker q.before.state) (same_action a q.step q.is) q.unchanged.cause)
+      (subst (λ (b : BookView). mark_of b.state (ActionOf a) ≡ Queued) (sym h.at_once) (queued_then h.finished))
+
+  pub parked_behind : Parked → ShowsParked (action_of old.seen.graph a).retention (lock_with old.seen.graph a) a old new
+  parked_behind p =
+      let same = submitted_shows p.submitted in
+      subst (λ (g : GraphView). ShowsParked (action_of g a).retention (lock_with g a) a old new) same.graph
+      (parked_from (action_of p.between.seen.graph a).retention (lock_with p.between.seen.graph a) a same (parked_shows p.follows.parked))
+
+  pub free_behind : Parked → lease_shown old ≡ true → list_any is_unit (claimed_shown old) ≡ false → IsFree new
+  free_behind p leased none =
+      let same = submitted_shows p.submitted in
+      let parked = p.follows.parked in
+      parked_free (action_of p.between.seen.graph a).retention (lock_with p.between.seen.graph a) parked (same.lease ∙ leased) (parked_shows parked) (ap (list_any is_unit) same.claimed ∙ none)
+
+  pub waits_behind : Parked → IsIdleOrParked new
+  waits_behind p = parked_waits a (action_of p.between.seen.graph a).retention (lock_with p.between.seen.graph a) (parked_shows p.follows.parked)
+
+  pub released_behind : Parked → HasReleased (action_of old.seen.graph a).retention (lock_with old.seen.graph a) new
+  released_behind p =
+      let parked = p.follows.parked in
+      subst (λ (g : GraphView). HasReleased (action_of g a).retention (lock_with g a) new) (submitted_shows p.submitted).graph
+      (released (action_of p.between.seen.graph a).retention (lock_with p.between.seen.graph a) parked (parked_shows parked))
+
+  pub submitted_still : Submitted → ShowsTheSame old new
+  submitted_still p = shows_then (submitted_shows p.submitted) (looked_shows p.follows)

@@ -1,4 +1,5 @@
 -- What a worker does next that has nothing: the step of its choice, and what that leaves.
+use mathlib.Core.Logic.{inl, inr}
 use Rattle.std.specs.Prelude.{ℕ, ◌+◌, ◌⊎◌, Bool, Option, Some, None}
 use Rattle.resource_lock.specs.declared.ids.WorkerId.{WorkerId}
 use Rattle.resource_lock.specs.declared.limits.TheConstants.{MAX_ACTIONS_PER_TASK, MAX_UNITS}
@@ -67,6 +68,14 @@ HasTakenNext old new choices.Pop = IsAnswered IsNextIn choices.Pop old new
 HasTakenNext old new (choices.Skip t) = HasSkippedNext t old new ⊎ CouldNotSkip t old new
 HasTakenNext old new (choices.Start t) = HasStartedNext t old new
 HasTakenNext old new choices.Finish = IsAnswered IsNextIn choices.Finish old new
+
+-- the book in which that was next
+abbrev pub taken_of : (old new : Sight) (choice : Choice) → HasTakenNext old new choice → BookView
+taken_of old new choices.Pop h = h.book
+taken_of old new (choices.Skip t) (inl h) = h.finished.before
+taken_of old new (choices.Skip t) (inr h) = h.failed.before
+taken_of old new (choices.Start t) h = h.finished.before
+taken_of old new choices.Finish h = h.book
 
 -- the worker has the task that it started, its lock and a lease, and else what it had
 abbrev pub ShowsNext : Sight → Sight → Choice → Type 0

@@ -4,9 +4,9 @@ ghost use Rattle.item_actions.specs.declared.outcomes.Outcome.TheVariants as out
 ghost use Rattle.resource_lock.specs.declared.ids.WorkerId.{WorkerId};
 ghost use Rattle.resource_lock.specs.declared.marks.MarkId.TheVariants as ids;
 ghost use Rattle.coordination.specs.Calls.{AskedInVain, HasLooked};
-ghost use Rattle.coordination.specs.Decisions.{HasDecided};
 ghost use Rattle.coordination.specs.Shown.{claimed_shown, lease_shown};
 ghost use Rattle.async_tracker.specs.Closings.{HasClosedThen};
+ghost use Rattle.async_tracker.specs.Following.{HasDecidedAfter};
 ghost use Rattle.async_tracker.specs.Shows.{IsItemHere};
 
 use coordination::{Coordination, Decided, Decision, Followed, Halt, Keeper, Offers, Pass};
@@ -33,8 +33,8 @@ where
     requires lease { lease_shown pass.old.sight ≡ true }
     requires outcome { closed.outcome ≢ outcomes.Skipped }
     ensures service { pass.new.service ≡ pass.old.service }
-    ensures decided { IfOk result (λ decided. HasClosedThen closed pass.old.sight (λ s. HasDecided (Q.answers next.now) (Q.step_of next.now)
-        Q.Step.kind_of Q.Step.makes Q.Step.fails_on Q.Step.retries_on s pass.new.sight decided)) }
+    ensures decided { IfOk result (λ decided. HasClosedThen closed pass.old.sight (λ s. HasDecidedAfter (Q.answers next.now) (Q.waits_on next.now)
+        (Q.step_of next.now) Q.Step.kind_of Q.Step.makes Q.Step.fails_on Q.Step.retries_on s pass.new.sight decided)) }
     ensures no_memory { result ≡ Err Halt.NoMemory → HasLooked pass.old.sight pass.new.sight
         ⊎ HasClosedThen closed pass.old.sight (λ s. HasLooked s pass.new.sight) }
     ensures stopped { (by : WorkerId) → result ≡ Err (Halt.Stopped by)

@@ -5,8 +5,8 @@ ghost use Rattle.coordination.specs.Calls.{AskedInVain, HasLooked, WasStopped};
 ghost use Rattle.coordination.specs.Holds.{HoldsNothing};
 ghost use Rattle.coordination.specs.Shown.{ShowsTheSame};
 ghost use Rattle.coordination.specs.declared.rule.Sight.{Sight};
-ghost use Rattle.async_tracker.specs.Following.{HasEndedThen};
-ghost use Rattle.async_tracker.specs.NextSteps.{HasTakenNext, IsIdleIn, ShowsNext};
+ghost use Rattle.async_tracker.specs.Following.{HasEndedThen, HasTakenAfter};
+ghost use Rattle.async_tracker.specs.NextSteps.{IsIdleIn};
 ghost use Rattle.async_tracker.specs.Tasks.{CannotEnd, MayEnd, ShowsEnded};
 
 use crate::next_steps::{WhatIsNext, choice_of, take_next};
@@ -31,8 +31,7 @@ pub fn end_and_take_next<R: Wait, O: Offers, K: Keeper>(
     requires may { MayEnd pass.old.sight task }
     requires alone { (s : Sight) → ShowsEnded task pass.old.sight s → HoldsNothing s }
     ensures service { pass.new.service ≡ pass.old.service }
-    ensures taken { IfOk result (λ choice. HasEndedThen task pass.old.sight (λ s. HasTakenNext s pass.new.sight choice
-        × ShowsNext s pass.new.sight choice)) }
+    ensures taken { IfOk result (λ choice. HasEndedThen task pass.old.sight (λ s. HasTakenAfter s pass.new.sight choice)) }
     ensures kept { OnErr result (ShowsTheSame pass.old.sight pass.new.sight ⊎ ShowsEnded task pass.old.sight pass.new.sight) }
     ensures no_memory { result ≡ Err Halt.NoMemory → HasLooked pass.old.sight pass.new.sight
         ⊎ HasEndedThen task pass.old.sight (λ s. HasLooked s pass.new.sight) }

@@ -73,7 +73,7 @@ pub fn take_next<R: Wait, O: Offers, K: Keeper>(
     Ok(choice_of(decided))
 }
 
-//// What an idle worker has decided.
+/// What an idle worker has decided.
 pub fn choice_of(decided: Decided<Choice>) -> Choice
     ensures { result ≡ choice_of decided }
 {

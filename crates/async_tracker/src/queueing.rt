@@ -4,16 +4,14 @@ ghost use Rattle.std.specs.List.{list_any};
 ghost use Rattle.resource_lock.specs.GraphView.{action_of};
 ghost use Rattle.resource_lock.specs.Ranges.{lock_with, task_with};
 ghost use Rattle.resource_lock.specs.declared.ids.WorkerId.{WorkerId};
-ghost use Rattle.lock_transforms.specs.Allowed.{IsFixedList};
-ghost use Rattle.lock_transforms.specs.declared.entries.Kind.TheVariants as kinds;
-ghost use Rattle.coordination.specs.Calls.{HasFinished, HasLooked, WasStopped};
+ghost use Rattle.coordination.specs.Calls.{HasLooked, WasStopped};
 ghost use Rattle.coordination.specs.Shown.{ShowsTheSame, claimed_shown};
 ghost use Rattle.history_laws.specs.Own.{is_unit};
-ghost use Rattle.async_tracker.specs.Queueing.{HasSubmittedThen, has_parked};
+ghost use Rattle.async_tracker.specs.Following.{HasParkedAtOnce};
+ghost use Rattle.async_tracker.specs.Queueing.{HasSubmittedThen};
 ghost use Rattle.async_tracker.specs.Shows.{HasReleased, IsFree, IsIdleOrParked, IsParkedBy, OwnsToPark, ShowsParked, WorksOn};
-ghost use Rattle.async_tracker.specs.Waits.{ActionIsNotQueued, CannotQueue};
+ghost use Rattle.async_tracker.specs.Waits.{CannotQueue};
 
-use crate::actions::park;
 use crate::parked::Parked;
 use coordination::{
     Coordination, Decided, Decision, Followed, Halt, Keeper, Offers, Pass, Question,
@@ -63,9 +61,8 @@ impl Decision for ThenPark {
 /// Queues the items of an action of the task that the worker runs (`submit`), and begins to wait for them (`park`): two entries,
 /// made in one hold of the state lock.
 ///
-/// Where there is memory for the first entry alone, the second is made in a hold of its own. The call waits only where `submit` does,
-/// or where the action was queued and isn't Queued any more. After an error the pass shows what it showed; the items are queued then
-/// or aren't.
+/// The call waits only where `submit` does. After an error the pass shows what it showed; after `NoMemory` the items are queued or
+/// aren't, and after `Stopped` they aren't.
 pub fn submit_and_park<R: Wait, O: Offers, K: Keeper>(
     rt: &R,
     service: &Coordination<O, K>,
@@ -78,8 +75,7 @@ pub fn submit_and_park<R: Wait, O: Offers, K: Keeper>(
     requires lock { OwnsToPark (action_of pass.old.sight.seen.graph action).retention (lock_with pass.old.sight.seen.graph action) pass.old.sight }
     ensures service { pass.new.service ≡ pass.old.service }
     ensures action { IfOk result (λ parked. parked.action ≡ action) }
-    ensures entries { OnOk result (HasSubmittedThen action pass.old.sight (λ between.
-        HasFinished (kinds.Park action) (IsFixedList (kinds.Park action)) between pass.new.sight)) }
+    ensures entries { OnOk result (HasSubmittedThen action pass.old.sight (λ between. HasParkedAtOnce action between pass.new.sight)) }
     ensures shows { OnOk result (ShowsParked (action_of pass.old.sight.seen.graph action).retention
         (lock_with pass.old.sight.seen.graph action) action pass.old.sight pass.new.sight) }
     ensures own { IfOk result (λ parked. IsParkedBy pass.new.sight parked) }
@@ -91,19 +87,15 @@ pub fn submit_and_park<R: Wait, O: Offers, K: Keeper>(
     ensures kept { OnErr result (ShowsTheSame pass.old.sight pass.new.sight) }
     ensures no_memory { result ≡ Err Halt.NoMemory → HasLooked pass.old.sight pass.new.sight
         ⊎ HasSubmittedThen action pass.old.sight (λ between. HasLooked between pass.new.sight) }
-    ensures stopped { (by : WorkerId) → result ≡ Err (Halt.Stopped by) → WasStopped (CannotQueue action) by pass.old.sight pass.new.sight
-        ⊎ HasSubmittedThen action pass.old.sight (λ between. WasStopped (ActionIsNotQueued action) by between pass.new.sight) }
+    ensures stopped { (by : WorkerId) → result ≡ Err (Halt.Stopped by) → WasStopped (CannotQueue action) by pass.old.sight pass.new.sight }
 {
-    let followed = service.run_then_decide(rt, pass, &Submit { action }, &ThenPark { action })?;
-    if has_parked(&followed) {
-        return Ok(Parked::new(pass.worker(), action));
+    match service.run_then_decide(rt, pass, &Submit { action }, &ThenPark { action })? {
+        Followed::Decided(Decided::Entered((), _)) => Ok(Parked::new(pass.worker(), action)),
+        Followed::NoMemory => Err(Halt::NoMemory),
+        // Parking needs no more than that the action is queued.
+        Followed::Decided(Decided::Waiting(())) => unreachable!(),
+        Followed::Decided(Decided::Answered(())) => unreachable!(),
+        Followed::Undecided => unreachable!(),
+        Followed::Failed => unreachable!(),
     }
-    park(rt, service, pass, action)
-}
-
-// Whether the worker has begun to wait.
-fn has_parked(followed: &Followed<()>) -> bool
-    ensures { result ≡ has_parked followed.now }
-{
-    matches!(followed, Followed::Decided(Decided::Entered((), _)))
 }

@@ -13,7 +13,7 @@ use Rattle.coordination.specs.Calls.{AskedInVain, HasLooked, WasStopped}
 use Rattle.coordination.specs.Holds.{HoldsNothing}
 use Rattle.coordination.specs.declared.halts.Halt.{Halt}
 use Rattle.coordination.specs.declared.rule.Sight.{Sight}
-use Rattle.async_tracker.specs.Following.{HasEndedThen}
+use Rattle.async_tracker.specs.Following.{HasEndedThen, HasTakenAfter}
 use Rattle.async_tracker.specs.NextSteps.{HasStartedNext, HasTakenNext, IsIdleIn, ShowsNext}
 use Rattle.async_tracker.specs.Tasks.{CannotEnd, ShowsEnded}
 use Rattle.build_runner.specs.Choices.{HasBegun}
@@ -70,16 +70,16 @@ stopped_end t old new by (inl stopped) = stopped_closes stopped
 stopped_end t old new by (inr k) = closes_then (finished_closes k.ended) (in_vain_closes k.then)
 
 -- a task's end and the choice after it close nothing
-pub end_closes : (t : ℕ) (old new : Sight) (r : Result Choice Halt) → IfOk r (λ choice. HasEndedThen t old (λ s. HasTakenNext s new choice × ShowsNext s new choice))
+pub end_closes : (t : ℕ) (old new : Sight) (r : Result Choice Halt) → IfOk r (λ choice. HasEndedThen t old (λ s. HasTakenAfter s new choice))
     → (r ≡ Err Halt.NoMemory → HasLooked old new ⊎ HasEndedThen t old (λ s. HasLooked s new))
     → ((by : WorkerId) → r ≡ Err (Halt.Stopped by) → WasStopped (CannotEnd t) by old new ⊎ HasEndedThen t old (λ s. AskedInVain IsIdleIn by s new)) → HasClosed [] old new
-end_closes t old new (Ok choice) k looked stopped = closes_then (finished_closes k.ended) (taken_closes k.between new choice k.then.0)
+end_closes t old new (Ok choice) k looked stopped = closes_then (finished_closes k.ended) (taken_closes k.between new choice k.then.taken)
 end_closes t old new (Err Halt.NoMemory) k looked stopped = looked_end t old new (looked refl)
 end_closes t old new (Err (Halt.Stopped by)) k looked stopped = stopped_end t old new by (stopped by refl)
 
-pub has_begun_after : (t : ℕ) (old new : Sight) (r : Result Choice Halt) → IfOk r (λ choice. HasEndedThen t old (λ s. HasTakenNext s new choice × ShowsNext s new choice))
+pub has_begun_after : (t : ℕ) (old new : Sight) (r : Result Choice Halt) → IfOk r (λ choice. HasEndedThen t old (λ s. HasTakenAfter s new choice))
     → ((s : Sight) → ShowsEnded t old s → HoldsNothing s) → IfOk r (HasBegun new)
-has_begun_after t old new (Ok choice) k alone = begun k.between new choice k.then.0 k.then.1 (alone k.between k.shows)
+has_begun_after t old new (Ok choice) k alone = begun k.between new choice k.then.taken k.then.shows (alone k.between k.shows)
 has_begun_after t old new (Err e) k alone = tt
 
 -- a worker that has begun a task has begun no other step, and one that finishes has nothing

@@ -1,18 +1,23 @@
 -- An item that a worker ran, and what it decided behind it.
-use Rattle.std.proofs.Common.{◌≡◌, ◌⊎◌, ◌+◌, ◌≤◌, inl, inr, true, false, [], ◌∷◌, Result, Ok, Err, refl, sym}
+use Rattle.std.proofs.Common.{◌≡◌, ◌⊎◌, ◌+◌, ◌≤◌, inl, inr, true, false, [], ◌∷◌, Option, Result, Ok, Err, refl, sym}
 use Rattle.std.specs.Prelude.{IfOk, OnErr}
 use Rattle.resource_lock.specs.declared.ids.WorkerId.{WorkerId}
 use Rattle.lock_transforms.specs.declared.entries.Closed.{Closed}
+use Rattle.lock_transforms.specs.declared.entries.Kind.{Kind}
 use Rattle.lock_journal.specs.BookView.{BookView}
 use Rattle.daemon_manager.specs.Counts.{TallyView}
 use Rattle.item_work.specs.Tallying.{one_if_unreal}
+use Rattle.coordination.specs.Attempts.{Cause, Making}
 use Rattle.coordination.specs.Calls.{AskedInVain, HasLooked}
+use Rattle.coordination.specs.Decisions.{HasDecided}
 use Rattle.coordination.specs.Passes.{PassView}
 use Rattle.coordination.specs.Shown.{ShowsTheSame}
+use Rattle.coordination.specs.declared.decisions.Decided.{Decided}
 use Rattle.coordination.specs.declared.halts.Halt.{Halt}
 use Rattle.coordination.specs.declared.halts.Halt.TheVariants.{NoMemory, Stopped}
 use Rattle.coordination.specs.declared.rule.Sight.{Sight}
 use Rattle.async_tracker.specs.Closings.{HasClosedThen}
+use Rattle.async_tracker.specs.Following.{HasDecidedAfter}
 use Rattle.async_tracker.specs.Shows.{ShowsClosed}
 use Rattle.build_runner.specs.Desks.{DeskView}
 use Rattle.build_runner.specs.Helping.{HasClosedBefore, HasRunBefore, MayHaveClosed}
@@ -31,10 +36,13 @@ vain_closes (Err NoMemory) looked stopped = looked_closes (looked refl)
 vain_closes (Err (Stopped by)) looked stopped = in_vain_closes (stopped by refl)
 
 module _ (d : Closed) (old : Sight) where
-  -- the item was closed in the hold of the decision
-  pub closed_before : {A E : Type 0} (Follows : A → Sight → Type 0) (r : Result A E) → IfOk r (λ a. HasClosedThen d old (Follows a)) → IfOk r (λ a. HasClosedBefore d old (Follows a))
-  closed_before Follows (Ok a) k = record { between = k.between; closed = finished_closes k.closed; shows = k.shows; follows = k.follows }
-  closed_before Follows (Err e) k = tt
+  -- the item was closed in the hold of the decision, or before it
+  pub closed_before : {A X E : Type 0} (answers : WorkerId → BookView → A → Type 0) (waits : WorkerId → BookView → Type 0) (step_of : A → Option X) (kind_of : X → Kind)
+      (makes : X → Making) (fails retries : X → Cause) (new : Sight) (r : Result (Decided A) E)
+      → IfOk r (λ a. HasClosedThen d old (λ s. HasDecidedAfter answers waits step_of kind_of makes fails retries s new a))
+      → IfOk r (λ a. HasClosedBefore d old (λ s. HasDecided answers step_of kind_of makes fails retries s new a))
+  closed_before answers waits step_of kind_of makes fails retries new (Ok a) k = record { between = k.between; closed = finished_closes k.closed; shows = k.shows; follows = k.follows.decided }
+  closed_before answers waits step_of kind_of makes fails retries new (Err e) k = tt
 
   pub may_have_closed : {A : Type 0} {waits : WorkerId → BookView → Type 0} {new : Sight} (r : Result A Halt) → (r ≡ Err NoMemory → HasLooked old new ⊎ HasClosedThen d old (λ s. HasLooked s new))
       → ((by : WorkerId) → r ≡ Err (Stopped by) → HasClosedThen d old (λ s. AskedInVain waits by s new)) → OnErr r (MayHaveClosed d old new)

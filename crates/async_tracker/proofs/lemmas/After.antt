@@ -31,15 +31,6 @@ pub from_ok : {T E P : Type 0} (r : Result T E) (x : T) → r ≡ Ok x → OnOk 
 from_ok (Ok y) x is p = p
 from_ok (Err e) x is p = absurd (cc)
 
--- what follows of what is so at a value, or at an error
-pub ok_map : {T E P Q : Type 0} (r : Result T E) → (P → Q) → OnOk r P → OnOk r Q
-ok_map (Ok x) f p = f p
-ok_map (Err e) f p = tt
-
-pub err_map : {T E P Q : Type 0} (r : Result T E) → (P → Q) → OnErr r P → OnErr r Q
-err_map (Ok x) f p = tt
-err_map (Err e) f p = f p
-
 pub ok_is : {E : Type 0} {b d : Bool} → ◌≡◌ {A = Result Bool E} (Ok b) (Ok d) → b ≡ d
 ok_is is = cc
 

@@ -1,97 +1,80 @@
-use Rattle.std.proofs.Common.{rules, inl, inr}
+use Rattle.std.proofs.Common.{Ok, inr, rules, ap, ◌∙◌}
 use Rattle.coordination.proofs.lemmas.Shown.{looked_shows, stopped_for, stopped_shows}
-use Rattle.async_tracker.proofs.lemmas.After.{err_map, halted, if_ok, ok_map, on_err}
-use Rattle.async_tracker.proofs.lemmas.Turns.{shows_then}
+use Rattle.coordination.specs.declared.decisions.Decided.TheVariants as decided
+use Rattle.coordination.specs.declared.decisions.Followed.TheVariants as followed
+use Rattle.async_tracker.proofs.lemmas.After.{halted, on_err}
 use Rattle.async_tracker.proofs.Parking.{cannot_queue, parked_by}
-use Rattle.async_tracker.proofs.QueuedItems.{Leaves, free_behind, owns_still, parked_at_once, parked_behind, released_behind, still_to_park, submitted_still, then_looked, then_parked, then_stopped, waits_behind, works_still}
+use Rattle.async_tracker.proofs.QueuedItems.{Submitted, free_behind, if_left, never_answered, never_failed, never_undecided, never_waits, parked_at_once, parked_behind, released_behind, submitted_alone, submitted_still, waits_behind}
 use Rattle.async_tracker.proofs.queueing.submit_and_park.Goals as goal
+use Rattle.async_tracker.proofs.queueing.submit_and_park.Given.{Over}
 
-pub returns-in_err-followed-clause-kept : goal.returns-in_err-followed-clause-kept
-returns-in_err-followed-clause-kept g c =
+pub returns-in_err-run_then_decide-clause-kept : goal.returns-in_err-run_then_decide-clause-kept
+returns-in_err-run_then_decide-clause-kept g c =
     let e = c.run_then_decide.ensures in
-    on_err c.from_residual.result (halted c.run_then_decide.result c.in_err-followed.field-0.0 c.in_err-followed.was (λ is. looked_shows (e.no_memory is)) (λ by is. stopped_shows (e.stopped by is)))
+    on_err c.from_residual.result (halted c.run_then_decide.result c.in_err-run_then_decide.field-0.0 c.in_err-run_then_decide.was (λ is. looked_shows (e.no_memory is)) (λ by is. stopped_shows (e.stopped by is)))
 
-pub returns-in_err-followed-clause-stopped : goal.returns-in_err-followed-clause-stopped
-returns-in_err-followed-clause-stopped g c = λ by is.
+pub returns-in_err-run_then_decide-clause-stopped : goal.returns-in_err-run_then_decide-clause-stopped
+returns-in_err-run_then_decide-clause-stopped g c = λ by is.
     let stopped = c.run_then_decide.ensures.stopped by (search rules) in
-    inl (stopped_for stopped (cannot_queue c.args.pass.now.sight stopped.book c.args.action stopped.found c.requires.in_range c.requires.works stopped.cause))
+    stopped_for stopped (cannot_queue c.args.pass.now.sight stopped.book c.args.action stopped.found c.requires.in_range c.requires.works stopped.cause)
 
-pub returns-then-has_parked-clause-entries : goal.returns-then-has_parked-clause-entries
-returns-then-has_parked-clause-entries g c =
+pub unreachable-requires : goal.unreachable-requires
+unreachable-requires g c =
     let old = c.args.pass.now.sight in
     let new = c.run_then_decide.new.pass.sight in
-    let followed = c.in_ok-followed.followed in
-    parked_at_once c.args.action old new followed (if_ok (Leaves c.args.action old new) c.run_then_decide.result followed c.in_ok-followed.was c.run_then_decide.ensures.followed) (search rules)
+    never_waits c.args.action old new (if_left c.args.action old new c.run_then_decide.result (followed.Decided (decided.Waiting tt)) (c.in_ok-run_then_decide.was ∙ ap Ok (c.in-Decided-Waiting.is ∙ ap followed.Decided c.in-Decided-Waiting.field-0-is)) c.run_then_decide.ensures.followed) c.requires.in_range c.requires.works c.requires.lock
 
-pub returns-then-has_parked-clause-shows : goal.returns-then-has_parked-clause-shows
-returns-then-has_parked-clause-shows g c = parked_behind c.args.action c.args.pass.now.sight c.run_then_decide.new.pass.sight (returns-then-has_parked-clause-entries g c)
-
-pub returns-then-has_parked-clause-own : goal.returns-then-has_parked-clause-own
-returns-then-has_parked-clause-own g c =
-    parked_by c.new.result (search rules) (search rules) (parked_behind c.args.action c.args.pass.now.sight c.run_then_decide.new.pass.sight (returns-then-has_parked-clause-entries g c))
-
-pub returns-then-has_parked-clause-free : goal.returns-then-has_parked-clause-free
-returns-then-has_parked-clause-free g c = λ none.
-    free_behind c.args.action c.args.pass.now.sight c.run_then_decide.new.pass.sight (returns-then-has_parked-clause-entries g c) c.requires.works.lease none
-
-pub returns-then-has_parked-clause-waits : goal.returns-then-has_parked-clause-waits
-returns-then-has_parked-clause-waits g c = waits_behind c.args.action c.args.pass.now.sight c.run_then_decide.new.pass.sight (returns-then-has_parked-clause-entries g c)
-
-pub returns-then-has_parked-clause-released : goal.returns-then-has_parked-clause-released
-returns-then-has_parked-clause-released g c = released_behind c.args.action c.args.pass.now.sight c.run_then_decide.new.pass.sight (returns-then-has_parked-clause-entries g c)
-
-pub park-requires-clause-works : goal.park-requires-clause-works
-park-requires-clause-works g c =
+pub unreachable-requires-in-Decided-Answered : goal.unreachable-requires-in-Decided-Answered
+unreachable-requires-in-Decided-Answered g c =
     let old = c.args.pass.now.sight in
-    let mid = c.run_then_decide.new.pass.sight in
-    let s = still_to_park c.args.action old mid c.run_then_decide.result c.in_ok-followed.followed c.in_ok-followed.was c.run_then_decide.ensures.followed (search rules) in
-    works_still c.args.action (submitted_still c.args.action old mid s) c.requires.works
+    let new = c.run_then_decide.new.pass.sight in
+    never_answered c.args.action old new (if_left c.args.action old new c.run_then_decide.result (followed.Decided (decided.Answered tt)) (c.in_ok-run_then_decide.was ∙ ap Ok (c.in-Decided-Answered.is ∙ ap followed.Decided c.in-Decided-Answered.field-0-is)) c.run_then_decide.ensures.followed)
 
-pub park-requires-clause-lock : goal.park-requires-clause-lock
-park-requires-clause-lock g c =
+pub unreachable-requires-in-Undecided : goal.unreachable-requires-in-Undecided
+unreachable-requires-in-Undecided g c =
     let old = c.args.pass.now.sight in
-    let mid = c.run_then_decide.new.pass.sight in
-    let s = still_to_park c.args.action old mid c.run_then_decide.result c.in_ok-followed.followed c.in_ok-followed.was c.run_then_decide.ensures.followed (search rules) in
-    owns_still c.args.action (submitted_still c.args.action old mid s) c.requires.lock
+    let new = c.run_then_decide.new.pass.sight in
+    never_undecided c.args.action old new (if_left c.args.action old new c.run_then_decide.result followed.Undecided (c.in_ok-run_then_decide.was ∙ ap Ok c.in-Undecided.is) c.run_then_decide.ensures.followed)
 
-pub returns-clause-entries : goal.returns-clause-entries
-returns-clause-entries g c =
+pub unreachable-requires-in-Failed : goal.unreachable-requires-in-Failed
+unreachable-requires-in-Failed g c =
     let old = c.args.pass.now.sight in
-    let mid = c.run_then_decide.new.pass.sight in
-    let s = still_to_park c.args.action old mid c.run_then_decide.result c.in_ok-followed.followed c.in_ok-followed.was c.run_then_decide.ensures.followed (search rules) in
-    ok_map c.park.result (λ f. then_parked c.args.action old mid s f) c.park.ensures.entry
+    let new = c.run_then_decide.new.pass.sight in
+    never_failed c.args.action old new (if_left c.args.action old new c.run_then_decide.result followed.Failed (c.in_ok-run_then_decide.was ∙ ap Ok c.in-Failed.is) c.run_then_decide.ensures.followed)
 
-pub returns-clause-shows : goal.returns-clause-shows
-returns-clause-shows g c =
+pub returns-in-Decided-Entered-clause-entries : goal.returns-in-Decided-Entered-clause-entries
+returns-in-Decided-Entered-clause-entries g c =
     let old = c.args.pass.now.sight in
-    let mid = c.run_then_decide.new.pass.sight in
-    let s = still_to_park c.args.action old mid c.run_then_decide.result c.in_ok-followed.followed c.in_ok-followed.was c.run_then_decide.ensures.followed (search rules) in
-    ok_map c.park.result (λ f. parked_behind c.args.action old c.park.new.pass.sight (then_parked c.args.action old mid s f)) c.park.ensures.entry
+    let new = c.run_then_decide.new.pass.sight in
+    let k = c.in-Decided-Entered in
+    parked_at_once c.args.action old new k.field-0-1
+    (if_left c.args.action old new c.run_then_decide.result (followed.Decided (decided.Entered tt k.field-0-1)) (c.in_ok-run_then_decide.was ∙ ap Ok (k.is ∙ ap followed.Decided k.field-0-is)) c.run_then_decide.ensures.followed)
 
-pub returns-clause-free : goal.returns-clause-free
-returns-clause-free g c =
-    let old = c.args.pass.now.sight in
-    let mid = c.run_then_decide.new.pass.sight in
-    let s = still_to_park c.args.action old mid c.run_then_decide.result c.in_ok-followed.followed c.in_ok-followed.was c.run_then_decide.ensures.followed (search rules) in
-    ok_map c.park.result (λ f none. free_behind c.args.action old c.park.new.pass.sight (then_parked c.args.action old mid s f) c.requires.works.lease none) c.park.ensures.entry
+pub returns-in-Decided-Entered-clause-shows : goal.returns-in-Decided-Entered-clause-shows
+returns-in-Decided-Entered-clause-shows g c = parked_behind c.args.action c.args.pass.now.sight c.run_then_decide.new.pass.sight (returns-in-Decided-Entered-clause-entries g c)
 
-pub returns-clause-kept : goal.returns-clause-kept
-returns-clause-kept g c =
-    let old = c.args.pass.now.sight in
-    let mid = c.run_then_decide.new.pass.sight in
-    let s = still_to_park c.args.action old mid c.run_then_decide.result c.in_ok-followed.followed c.in_ok-followed.was c.run_then_decide.ensures.followed (search rules) in
-    err_map c.park.result (λ same. shows_then (submitted_still c.args.action old mid s) same) c.park.ensures.kept
+pub returns-in-Decided-Entered-clause-own : goal.returns-in-Decided-Entered-clause-own
+returns-in-Decided-Entered-clause-own g c =
+    parked_by c.new.result (search rules) (search rules) (parked_behind c.args.action c.args.pass.now.sight c.run_then_decide.new.pass.sight (returns-in-Decided-Entered-clause-entries g c))
 
-pub returns-clause-no_memory : goal.returns-clause-no_memory
-returns-clause-no_memory g c =
-    let old = c.args.pass.now.sight in
-    let mid = c.run_then_decide.new.pass.sight in
-    let s = still_to_park c.args.action old mid c.run_then_decide.result c.in_ok-followed.followed c.in_ok-followed.was c.run_then_decide.ensures.followed (search rules) in
-    λ is. inr (then_looked c.args.action old mid s (c.park.ensures.no_memory is))
+pub returns-in-Decided-Entered-clause-free : goal.returns-in-Decided-Entered-clause-free
+returns-in-Decided-Entered-clause-free g c = λ none.
+    free_behind c.args.action c.args.pass.now.sight c.run_then_decide.new.pass.sight (returns-in-Decided-Entered-clause-entries g c) c.requires.works.lease none
 
-pub returns-clause-stopped : goal.returns-clause-stopped
-returns-clause-stopped g c =
+pub returns-in-Decided-Entered-clause-waits : goal.returns-in-Decided-Entered-clause-waits
+returns-in-Decided-Entered-clause-waits g c = waits_behind c.args.action c.args.pass.now.sight c.run_then_decide.new.pass.sight (returns-in-Decided-Entered-clause-entries g c)
+
+pub returns-in-Decided-Entered-clause-released : goal.returns-in-Decided-Entered-clause-released
+returns-in-Decided-Entered-clause-released g c = released_behind c.args.action c.args.pass.now.sight c.run_then_decide.new.pass.sight (returns-in-Decided-Entered-clause-entries g c)
+
+left_alone : (g : Over) (c : goal.In-NoMemory g) → Submitted c.args.action c.args.pass.now.sight c.run_then_decide.new.pass.sight
+left_alone g c =
     let old = c.args.pass.now.sight in
-    let mid = c.run_then_decide.new.pass.sight in
-    let s = still_to_park c.args.action old mid c.run_then_decide.result c.in_ok-followed.followed c.in_ok-followed.was c.run_then_decide.ensures.followed (search rules) in
-    λ by is. inr (then_stopped c.args.action old mid s (c.park.ensures.stopped by is))
+    let new = c.run_then_decide.new.pass.sight in
+    submitted_alone c.args.action old new (if_left c.args.action old new c.run_then_decide.result followed.NoMemory (c.in_ok-run_then_decide.was ∙ ap Ok c.in-NoMemory.is) c.run_then_decide.ensures.followed)
+
+pub returns-in-NoMemory-clause-kept : goal.returns-in-NoMemory-clause-kept
+returns-in-NoMemory-clause-kept g c = submitted_still c.args.action c.args.pass.now.sight c.run_then_decide.new.pass.sight (left_alone g c)
+
+pub returns-in-NoMemory-clause-no_memory : goal.returns-in-NoMemory-clause-no_memory
+returns-in-NoMemory-clause-no_memory g c = λ is. inr (left_alone g c)

@@ -6,13 +6,12 @@ use Rattle.resource_lock.specs.GraphView.{GraphView, action_of}
 use Rattle.resource_lock.specs.Ranges.{IsActionOf, fetches, units_in}
 use Rattle.resource_lock.specs.declared.graphs.GraphAction.{GraphAction}
 use Rattle.lock_transforms.proofs.lemmas.Within.{units_within}
-use Rattle.lock_transforms.specs.Allowed.{IsFixedList}
-use Rattle.lock_transforms.specs.declared.entries.Kind.TheVariants.{Park}
 use Rattle.resource_lock.specs.declared.ids.WorkerId.{WorkerId}
 use Rattle.coordination.specs.Attempts.{Cause}
-use Rattle.coordination.specs.Calls.{HasFinished, HasLooked, WasStopped}
+use Rattle.coordination.specs.Calls.{HasLooked, WasStopped}
 use Rattle.coordination.specs.declared.halts.Halt.{Halt}
 use Rattle.coordination.specs.declared.rule.Sight.{Sight}
+use Rattle.async_tracker.specs.Following.{HasParkedAtOnce}
 use Rattle.async_tracker.specs.Queueing.{HasSubmittedThen}
 use Rattle.build_runner.specs.Kept.{HasClosed}
 use Rattle.build_runner.proofs.Keeping.{closes_then, finished_closes, looked_closes, stopped_closes}
@@ -31,20 +30,16 @@ sum_fits {g} found a fetch fits within is gives = at found.fetch refl
     at false e = let none : fetches found.fetch ≡ 0 = ap fetches e in let more : bool_byte found.fetch ≡ 0 = ap bool_byte e in omega (arith, units, fits.few_units, gives, none, more)
 
 -- queueing an action's items and parking close nothing
-queued_closes : {T : Type 0} {a : ℕ} {old new : Sight} {first second : Cause} (r : Result T Halt) → OnOk r (HasSubmittedThen a old (λ between. HasFinished (Park a) (IsFixedList (Park a)) between new))
+queued_closes : {T : Type 0} {a : ℕ} {old new : Sight} {cause : Cause} (r : Result T Halt) → OnOk r (HasSubmittedThen a old (λ between. HasParkedAtOnce a between new))
     → (r ≡ Err Halt.NoMemory → HasLooked old new ⊎ HasSubmittedThen a old (λ between. HasLooked between new))
-    → ((by : WorkerId) → r ≡ Err (Halt.Stopped by) → WasStopped first by old new ⊎ HasSubmittedThen a old (λ between. WasStopped second by between new)) → HasClosed [] old new
-queued_closes (Ok x) parked looked stopped = closes_then (finished_closes parked.submitted) (finished_closes parked.follows)
+    → ((by : WorkerId) → r ≡ Err (Halt.Stopped by) → WasStopped cause by old new) → HasClosed [] old new
+queued_closes (Ok x) parked looked stopped = closes_then (finished_closes parked.submitted) (finished_closes parked.follows.parked)
 queued_closes {a = a} {old} {new} (Err Halt.NoMemory) parked looked stopped = at (looked refl)
   where
     at : HasLooked old new ⊎ HasSubmittedThen a old (λ between. HasLooked between new) → HasClosed [] old new
     at (inl f) = looked_closes f
     at (inr s) = closes_then (finished_closes s.submitted) (looked_closes s.follows)
-queued_closes {a = a} {old} {new} {first} {second} (Err (Halt.Stopped by)) parked looked stopped = at (stopped by refl)
-  where
-    at : WasStopped first by old new ⊎ HasSubmittedThen a old (λ between. WasStopped second by between new) → HasClosed [] old new
-    at (inl f) = stopped_closes f
-    at (inr s) = closes_then (finished_closes s.submitted) (stopped_closes s.follows)
+queued_closes (Err (Halt.Stopped by)) parked looked stopped = stopped_closes (stopped by refl)
 
 pub overflow_add-first : goal.overflow_add-first
 overflow_add-first g c =
