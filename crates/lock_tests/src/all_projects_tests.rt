@@ -5,7 +5,7 @@ ghost use Rattle.resource_lock.specs.Shape.{BelongsTo};
 ghost use Rattle.resource_lock.specs.StateView.{empty_holding};
 ghost use Rattle.ready_work.specs.ReadyWork.{IsIndexOf};
 
-use crate::graphs::graph_of;
+use crate::fitting::fitting_graph;
 use crate::lock_calls::{give_back, try_for};
 use crate::rows::{Limits, TaskRow};
 use ready_work::ReadyWork;
@@ -30,7 +30,7 @@ fn opening(rt: &impl Abort, alloc: Global) -> Result<Box<State>, AllocError>
     ensures locks { IfOk result (λ state. length state.value.owners ≡ 3) }
     ensures empty { IfOk result (λ state. state.value.holdings ≡ replicate 2 empty_holding) }
 {
-    let graph = graph_of(rt, alloc, &LIMITS, &[], &[])?;
+    let graph = fitting_graph(rt, alloc, &LIMITS, &[], &[])?;
     Ok(Box::new(alloc, State::opening(alloc, &graph)?)?)
 }
 
@@ -128,7 +128,7 @@ fn the_task_to_start_goes_by_the_owners(rt: HostRuntime) -> Result<(), Fail> {
     // The first and the third task have locks of projects, and the second has the all-projects lock.
     let tasks = [task(0, 0), task(1, 2), task(2, 1)];
     let actions = [action(0), action(1), action(2)];
-    let graph = graph_of(&rt, alloc, &LIMITS, &tasks, &actions)?;
+    let graph = fitting_graph(&rt, alloc, &LIMITS, &tasks, &actions)?;
     let mut state = State::opening(alloc, &graph)?;
     let mut ready = ReadyWork::of(alloc, &graph, &state)?;
     assert!(rt; starts_by_owners(&graph, &mut state, &mut ready));

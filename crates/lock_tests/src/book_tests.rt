@@ -1,5 +1,5 @@
 //! Books whose last entries are taken back.
-use crate::graphs::graph_of;
+use crate::fitting::fitting_graph;
 use crate::numbers::Numbers;
 use crate::rows::{Limits, TaskRow};
 use item_actions::Outcome;
@@ -56,7 +56,7 @@ static ACTIONS: [GraphAction; 2] = [
 
 // A book of these tasks without entries.
 fn opening(rt: &impl Abort, alloc: Global) -> Result<Box<Book>, AllocError> {
-    let graph = graph_of(rt, alloc, &LIMITS, &TASKS, &ACTIONS)?;
+    let graph = fitting_graph(rt, alloc, &LIMITS, &TASKS, &ACTIONS)?;
     let book = Book::opening(alloc, Box::into_inner(graph), 0, 0)?;
     Ok(Box::new(alloc, book)?)
 }

@@ -1,12 +1,12 @@
 //! Graphs by rows of numbers.
-ghost use Rattle.std.specs.Prelude.{◌≡◌, IfOk, map};
+ghost use Rattle.std.specs.Prelude.{◌≡◌, IfOk, IfSome, None, Ok, map};
+ghost use Rattle.resource_lock.specs.Fits.{Fits};
 ghost use Rattle.resource_lock.specs.GraphView.{graph_view};
 ghost use Rattle.lock_tests.specs.Rows.{graph_of_rows, task_view};
 
 use crate::rows::{Limits, TaskRow};
 use resource_lock::{Graph, GraphAction, GraphTask, LockId};
 use std::alloc::{AllocError, Global};
-use std::process::Abort;
 
 /// The tasks of these rows.
 pub fn tasks_of(alloc: Global, rows: &[TaskRow]) -> Result<Vec<GraphTask>, AllocError>
@@ -34,35 +34,27 @@ fn task_of(alloc: Global, row: &TaskRow) -> Result<GraphTask, AllocError>
     })
 }
 
-/// The graph of these rows, which have to fit.
+/// The graph of these rows, or none where they don't fit.
 pub fn graph_of(
-    rt: &impl Abort,
     alloc: Global,
     limits: &Limits,
     rows: &[TaskRow],
     actions: &[GraphAction],
-) -> Result<Box<Graph>, AllocError>
-    ensures { IfOk result (λ graph. graph.value ≡ graph_of_rows limits.now rows.now actions.now) }
+) -> Result<Option<Box<Graph>>, AllocError>
+    ensures graph { IfOk result (λ found. IfSome found (λ graph. graph.value ≡ graph_of_rows limits.now rows.now actions.now)) }
+    ensures none { result ≡ Ok None → Fits (graph_of_rows limits.now rows.now actions.now) → ⊥ }
 {
     let tasks = tasks_of(alloc, rows)?;
     let actions = actions.to_vec(alloc)?;
-    assert!(rt;
-        Graph::fits(
-            limits.locks,
-            limits.all,
-            limits.workers,
-            limits.max_leases,
-            &tasks,
-            &actions
-        )
-    );
-    let graph = Graph::new(
-        limits.locks,
-        limits.all,
-        limits.workers,
-        limits.max_leases,
-        tasks,
-        actions,
-    );
-    Ok(Box::new(alloc, graph)?)
+    let Limits {
+        locks,
+        all,
+        workers,
+        max_leases,
+    } = *limits;
+    if !Graph::fits(locks, all, workers, max_leases, &tasks, &actions) {
+        return Ok(None);
+    }
+    let graph = Graph::new(locks, all, workers, max_leases, tasks, actions);
+    Ok(Some(Box::new(alloc, graph)?))
 }

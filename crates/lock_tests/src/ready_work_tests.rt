@@ -5,7 +5,7 @@ ghost use Rattle.resource_lock.specs.StateView.{StateView, IsMarkOf};
 ghost use Rattle.ready_work.specs.NumberSetView.{room_of};
 ghost use Rattle.ready_work.specs.ReadyWork.{IsIndexOf};
 
-use crate::graphs::graph_of;
+use crate::fitting::fitting_graph;
 use crate::rows::{Limits, TaskRow};
 use ready_work::{NumberSet, ReadyWork};
 use resource_lock::{Change, Graph, GraphAction, Mark, MarkId, Retention, State, WorkerId};
@@ -124,7 +124,7 @@ fn open_index(rt: &impl Abort, alloc: Global) -> Result<Box<Indexed>, AllocError
 {
     let tasks = [task(0, None), task(1, Some(0)), task(2, None)];
     let actions = [action(0, 0), action(1, 2), action(2, 4)];
-    let graph = graph_of(rt, alloc, &LIMITS, &tasks, &actions)?;
+    let graph = fitting_graph(rt, alloc, &LIMITS, &tasks, &actions)?;
     let state = State::opening(alloc, &graph)?;
     let ready = ReadyWork::of(alloc, &graph, &state)?;
     Ok(Box::new(

@@ -4,7 +4,8 @@ ghost use Rattle.resource_lock.specs.Change.{NamesOnly, can, make};
 ghost use Rattle.resource_lock.specs.StateView.{IsWorkerOf, empty_holding};
 ghost use Rattle.lock_tests.specs.Sizes.{HasSizes};
 
-use crate::graphs::{graph_of, tasks_of};
+use crate::fitting::fitting_graph;
+use crate::graphs::tasks_of;
 use crate::lock_calls::{give_back, try_for};
 use crate::rows::{Limits, TaskRow};
 use resource_lock::{
@@ -100,7 +101,7 @@ fn knows_noted_units(alloc: Global, graph: &mut Graph) -> Result<bool, AllocErro
 
 #[test]
 fn a_graph_knows_its_parts_and_the_action_of_each_unit(rt: HostRuntime) -> Result<(), Fail> {
-    let mut graph = graph_of(&rt, rt.alloc(), &LIMITS, &TASKS, &ACTIONS)?;
+    let mut graph = fitting_graph(&rt, rt.alloc(), &LIMITS, &TASKS, &ACTIONS)?;
     assert!(rt; has_its_parts(&graph) && knows_its_units(&graph));
     assert!(rt; knows_noted_units(rt.alloc(), &mut graph)?);
     Ok(())
@@ -208,7 +209,7 @@ fn opening(rt: &impl Abort, alloc: Global) -> Result<Box<State>, AllocError>
     ensures sizes { IfOk result (λ state. HasSizes state.value) }
     ensures empty { IfOk result (λ state. state.value.holdings ≡ replicate 3 empty_holding) }
 {
-    let graph = graph_of(rt, alloc, &LIMITS, &TASKS, &ACTIONS)?;
+    let graph = fitting_graph(rt, alloc, &LIMITS, &TASKS, &ACTIONS)?;
     Ok(Box::new(alloc, State::opening(alloc, &graph)?)?)
 }
 

@@ -1,4 +1,4 @@
-//! What a test's graph is made of. It stands here without tests too, since the definitions in `specs/` name it.
+//! What a test's graph is made of. It is public, since the definitions in `specs/` and the tests of `worker_tests` name it.
 
 use resource_lock::LockId;
 

@@ -1,0 +1,17 @@
+//! Tests of the crates from `coordination` to `async_tracker`: what several workers do.
+#![tactic(auto)]
+
+#[cfg(test)]
+mod async_tracker_tests;
+#[cfg(test)]
+mod blocking_section_tests;
+#[cfg(test)]
+mod coordination_tests;
+#[cfg(test)]
+mod entries;
+#[cfg(test)]
+mod lease_service_tests;
+#[cfg(test)]
+mod services;
+#[cfg(test)]
+mod waiting_tests;
