@@ -8,6 +8,7 @@ the file `instead`, a shell script that is run in its place, with the words of t
 
 import os
 import pathlib
+import re
 import shutil
 import signal
 import subprocess
@@ -15,7 +16,8 @@ import tempfile
 import time
 import unittest
 
-LAUNCHER = pathlib.Path(__file__).resolve().parent.parent / "leases"
+TOP = pathlib.Path(__file__).resolve().parent.parent
+LAUNCHER = TOP / "leases"
 
 NOBODY = 65534
 
@@ -24,13 +26,22 @@ here=$(dirname "$0")
 echo "$*" >>"$here/calls"
 [ ! -e "$here/instead" ] || . "$here/instead"
 case $1 in
-all) printf '== base\\nfn base::f: proved\\n== leases\\nfn main: proved\\n' ;;
+lib) printf 'fn %s::f: proved\\n' "$(basename "$PWD")" ;;
 run)
+    program=$(basename "$PWD")
     mkdir -p out
-    { echo '#!/bin/sh'; printf "echo '%s' \\"\\$@\\"\\nexit \\${1:-0}\\n" "$(cat src/main.rt)"; } >out/leases
-    chmod +x out/leases
+    { echo '#!/bin/sh'; printf "echo '%s' \\"\\$@\\"\\nexit \\${1:-0}\\n" "$(cat src/main.rt)"; } >"out/$program"
+    chmod +x "out/$program"
     exit 2 ;;
 esac
+"""
+
+# A build that waits until the test lets it go on, and notes where another works beside it.
+WAITS = """
+mkdir "$here/working" || touch "$here/beside"
+touch "$here/running"
+while [ ! -e "$here/go" ]; do sleep 0.05; done
+rmdir "$here/working"
 """
 
 
@@ -50,6 +61,7 @@ class Checkout:
             (folder / file).write_text("first\n")
         (self.top / "crates.txt").write_text("# crates\nbase:\nleases: base\n")
         shutil.copy(LAUNCHER, self.top / "leases")
+        shutil.copytree(TOP / "launch", self.top / "launch", ignore=shutil.ignore_patterns("__pycache__"))
         self.main = self.top / "crates/leases/src/main.rt"
 
     def write_stand_in(self, name: str, text: str) -> None:
@@ -74,9 +86,19 @@ class Checkout:
     def start(self, *words: str, **more: object) -> subprocess.Popen:
         return subprocess.Popen([str(self.top / "leases"), *words], **self.how(**more))
 
+    def kill_launchers(self) -> None:
+        """Kills the processes that run the launcher's script, and no other."""
+        words = os.fsencode(self.top / "leases")
+        for process in pathlib.Path("/proc").glob("[0-9]*"):
+            try:
+                if words in (process / "cmdline").read_bytes().split(b"\0"):
+                    os.kill(int(process.name), signal.SIGKILL)
+            except (FileNotFoundError, ProcessLookupError):
+                pass
+
     def builds(self) -> int:
         calls = self.bin / "calls"
-        return calls.read_text().split("\n").count("run") if calls.exists() else 0
+        return len(re.findall("^run ", calls.read_text(), re.M)) if calls.exists() else 0
 
     def wait_for(self, file: str) -> None:
         for _ in range(1000):
@@ -123,7 +145,7 @@ class LauncherTests(unittest.TestCase):
 
     def test_a_failed_build_ends_with_126_and_takes_nothing_away(self) -> None:
         it = self.checkout()
-        for failing in ("exit 1", '[ "$1" = all ] || exit 1', '[ "$1" = all ] || exit 2'):
+        for failing in ("exit 1", '[ "$1" = lib ] || exit 1', '[ "$1" = lib ] || exit 2'):
             it.instead(failing)
             ran = it.call()
             self.assertEqual((ran.returncode, ran.stdout), (126, ""))
@@ -156,7 +178,7 @@ class LauncherTests(unittest.TestCase):
         it = self.checkout()
         it.call()
         it.main.write_text("second\n")
-        it.instead('[ "$1" = all ] || { touch "$here/running"; sleep 60; }')
+        it.instead('[ "$1" = lib ] || { touch "$here/running"; exec sleep 60; }')
         building = it.start(start_new_session=True)
         it.wait_for("running")
         # What was built before can be started meanwhile, as a running program does for its worker processes.
@@ -171,7 +193,7 @@ class LauncherTests(unittest.TestCase):
 
     def test_of_two_first_calls_one_builds(self) -> None:
         it = self.checkout()
-        it.instead('[ "$1" = all ] && { touch "$here/running"; while [ ! -e "$here/go" ]; do sleep 0.05; done; }')
+        it.instead('[ "$1" = lib ] && { touch "$here/running"; while [ ! -e "$here/go" ]; do sleep 0.05; done; }')
         first = it.start()
         it.wait_for("running")
         second = it.start()
@@ -185,7 +207,7 @@ class LauncherTests(unittest.TestCase):
 
     def test_a_source_that_is_edited_during_the_build_is_built(self) -> None:
         it = self.checkout()
-        it.instead('[ "$1" = all ] && echo later >../base/src/lib.rt')
+        it.instead('[ "$1" = lib ] && echo later >../base/src/lib.rt')
         it.call()
         it.as_usual()
         it.call()
@@ -242,6 +264,124 @@ class LauncherTests(unittest.TestCase):
         (it.above / "crates").mkdir()
         self.assert_ran(it.call(env={"CDPATH": f"{it.above}:."}), "first\n")
 
+    def test_the_callers_locale_says_nothing(self) -> None:
+        it = self.checkout()
+        it.call()
+        # As some locales' `sort` does.
+        sort = shutil.which("sort")
+        it.write_stand_in("sort", f'#!/bin/sh\n[ "${{LC_ALL:-}}" = C ] && exec {sort} "$@"\nexec {sort} -r "$@"\n')
+        for locale in ({}, {"LC_ALL": "some"}, {"LC_COLLATE": "some"}):
+            self.assert_ran(it.call(env=locale), "first\n")
+        self.assertEqual(it.builds(), 1)
+
+    def test_a_call_with_a_short_path_finds_the_rt_of_the_last_build(self) -> None:
+        it = self.checkout()
+        path = {"PATH": os.environ["PATH"]}
+        if shutil.which("rt", path=path["PATH"]):
+            path["PATH"] = ":".join(at for at in path["PATH"].split(":") if not os.path.exists(f"{at}/rt"))
+        ran = it.call(env=path)
+        self.assertEqual((ran.returncode, ran.stdout), (127, ""), ran.stderr)
+        self.assertIn("no command rt on the path, which is", ran.stderr)
+        it.call()
+        self.assert_ran(it.call(env=path), "first\n")
+        it.main.write_text("second\n")
+        self.assert_ran(it.call(env=path), "second\n")
+        self.assertEqual(it.builds(), 2)
+
+    def test_a_current_program_needs_no_rt(self) -> None:
+        it = self.checkout()
+        it.call()
+        shutil.rmtree(it.bin)
+        self.assert_ran(it.call(), "first\n")
+
+    def test_a_source_that_cannot_be_read_ends_with_126_and_is_named_as_the_cause(self) -> None:
+        it = self.checkout()
+        it.call()
+        for tool in ("find", "sha256sum"):
+            it.write_stand_in(tool, "#!/bin/sh\nexit 1\n")
+            ran = it.call()
+            self.assertEqual((ran.returncode, ran.stdout), (126, ""))
+            self.assertIn("the sources can't be read", ran.stderr)
+            (it.bin / tool).unlink()
+        # `find` says by its status alone that one of many can't be read.
+        (it.top / "crates/base/src/more.rt").write_text("more\n")
+        tool = shutil.which("sha256sum")
+        it.write_stand_in("sha256sum", f'#!/bin/sh\n{tool} "$@" || exit\ncase "$*" in *more.rt*) exit 1; esac\n')
+        ran = it.call()
+        self.assertEqual((ran.returncode, ran.stdout), (126, ""))
+        self.assertIn("the sources can't be read", ran.stderr)
+
+    def test_the_repository_may_be_the_root_of_a_file_system(self) -> None:
+        it = self.checkout()
+        root = it.above / "root"
+        shutil.copytree(it.top, root)
+        shutil.copytree(it.bin, root / "stand-in")
+        folders = [name for name in ("bin", "dev", "etc", "lib", "lib64", "proc", "root", "tmp", "usr") if os.path.isdir(f"/{name}")]
+        binds = [f"mkdir -p {root}/{name} && mount --rbind /{name} {root}/{name}" for name in folders]
+        path = f"/stand-in:{os.environ['PATH']}"
+        call = "cd /usr && /leases 0 'a b' && echo second >/crates/leases/src/main.rt && /leases"
+        script = " && ".join(["mount --make-rprivate /", *binds, f'PATH={path} exec chroot {root} sh -c "{call}"'])
+        user = [] if os.geteuid() == 0 else ["--map-root-user"]
+        if subprocess.run(["unshare", *user, "--mount", "sh", "-c", "mount --make-rprivate /"], stderr=subprocess.DEVNULL, check=False).returncode:
+            self.skipTest("no file system can be mounted here")
+        ran = subprocess.run(["unshare", *user, "--mount", "sh", "-c", script], timeout=60, check=False, **it.how())
+        self.assert_ran(ran, "first 0 a b\nsecond\n")
+
+    def test_a_build_whose_launcher_is_killed_keeps_the_lock(self) -> None:
+        it = self.checkout()
+        it.instead(WAITS)
+        first = it.start()
+        it.wait_for("running")
+        it.kill_launchers()
+        first.wait()
+        second = it.start()
+        self.assertIn("another call builds", second.stderr.readline())
+        (it.bin / "go").touch()
+        printed, _ = second.communicate(timeout=60)
+        first.communicate()
+        self.assertEqual((second.returncode, printed), (0, "first\n"))
+        self.assertFalse((it.bin / "beside").exists())
+        self.assertEqual(it.builds(), 1)
+
+    def test_a_build_that_is_killed_leaves_none_that_works_without_the_lock(self) -> None:
+        it = self.checkout()
+        it.instead(WAITS)
+        first = it.start()
+        it.wait_for("running")
+        below = pathlib.Path(f"/proc/{first.pid}/task/{first.pid}/children").read_text().split()
+        self.assertEqual(len(below), 1)
+        os.kill(int(below[0]), signal.SIGKILL)
+        first.communicate(timeout=60)
+        self.assertEqual(first.returncode, 126)
+        # The stand-in itself was ended, and its `mkdir` stays.
+        (it.bin / "working").rmdir()
+        (it.bin / "go").touch()
+        self.assert_ran(it.call(), "first\n")
+        self.assertFalse((it.bin / "beside").exists())
+        self.assertEqual(it.builds(), 1)
+
+    def test_a_crate_that_is_not_proved_is_shown_with_its_errors(self) -> None:
+        it = self.checkout()
+        it.instead("[ \"$1\" = lib ] && { echo 'src/lib.rt:1:2: error[some]: why'; echo 'fn base::f: not proved'; echo other; exit 1; }")
+        ran = it.call()
+        self.assertEqual((ran.returncode, ran.stdout, it.builds()), (126, "", 0))
+        for said in ("crate base is not proved", "error[some]: why", "fn base::f: not proved", "out/leases.log says why"):
+            self.assertIn(said, ran.stderr)
+        self.assertNotIn("other", ran.stderr)
+        self.assertIn("other", (it.top / "out/leases.log").read_text())
+
+    def test_a_crate_that_the_program_does_not_stand_on_is_left_alone(self) -> None:
+        it = self.checkout()
+        folder = it.top / "crates/other/src"
+        folder.mkdir(parents=True)
+        (folder / "lib.rt").write_text("other\n")
+        (it.top / "crates.txt").write_text("base:\nleases: base\nother: base\n")
+        it.instead('[ "$(basename "$PWD")" = other ] && exit 1')
+        self.assert_ran(it.call(), "first\n")
+        (folder / "lib.rt").write_text("other still\n")
+        self.assert_ran(it.call(), "first\n")
+        self.assertEqual(it.builds(), 1)
+
 
 class PictureTests(unittest.TestCase):
     """Tests of the launcher `picture`, which is the launcher `leases` for another program in the same folder."""
@@ -249,7 +389,6 @@ class PictureTests(unittest.TestCase):
     def checkout(self) -> Checkout:
         made = Checkout()
         self.addCleanup(shutil.rmtree, made.above, ignore_errors=True)
-        made.write_stand_in("rt", RT.replace("out/leases", 'out/"$(basename "$PWD")"'))
         folder = made.top / "crates/leases_picture/src"
         folder.mkdir(parents=True)
         (folder / "main.rt").write_text("drawn\n")
@@ -289,6 +428,19 @@ class PictureTests(unittest.TestCase):
         self.assertEqual(self.draw(it), (126, ""))
         it.as_usual()
         self.assertEqual(self.draw(it), (0, "drawn\n"))
+
+
+class ProgramTests(unittest.TestCase):
+    """Tests of the programs that the gate built just before, if it is there."""
+
+    def test_the_name_by_which_a_program_is_called_says_nothing(self) -> None:
+        for name, words in (("leases", ["run", "no-such-plan.toml"]), ("leases_picture", [])):
+            program = TOP / "crates" / name / "out" / name
+            if not program.is_file():
+                continue
+            how = {"stdin": subprocess.DEVNULL, "stdout": subprocess.PIPE, "executable": program, "timeout": 60, "check": False}
+            runs = [subprocess.run([called, *words], **how) for called in (name, b"\xff/leases", "")]
+            self.assertEqual({(ran.returncode, ran.stdout) for ran in runs}, {(runs[0].returncode, runs[0].stdout)})
 
 
 if __name__ == "__main__":

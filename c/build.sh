@@ -1,25 +1,36 @@
 #!/bin/sh
 # Builds libwakhurmi.a, one archive for a program to link with -pthread: the part that waits, the proved library, and the kit's
-# functions over malloc. Beside it: the header, and wakhurmi.pc for pkg-config.
+# functions over malloc. All names that it exports begin with wakhurmi_. Beside it: the header, and wakhurmi.pc for pkg-config.
 #
-#     c/build.sh FOLDER [FLAG..]     the flags go to the compiler
+#     c/build.sh FOLDER [FLAG..]     the flags go to the compiler, which is the words of CC, or cc
 #
-# The proved library comes from `rt lib` in crates/wakhurmi_c, which proves it first where that is still to be done.
+# The proved library comes from `rt lib` in crates/wakhurmi_c, which proves it first where that is still to be done, or from the
+# file that WAKHURMI_PROVED names.
 set -eu
-here=$(cd "$(dirname "$0")" && pwd)
+CDPATH=
+here=$(cd -- "$(dirname -- "$0")" && pwd)
 [ $# -ge 1 ] || { echo "usage: c/build.sh FOLDER [FLAG..]" >&2; exit 2; }
-mkdir -p "$1"
-folder=$(cd "$1" && pwd)
+mkdir -p -- "$1"
+folder=$(cd -- "$1" && pwd)
 shift
 crate=$here/../crates/wakhurmi_c
-proved=${WAKHURMI_PROVED:-$crate/out/libwakhurmi_c.a}
-[ -n "${WAKHURMI_PROVED:-}" ] || (cd "$crate" && rt lib)
-kit=$(dirname "$(dirname "$(readlink -f "$(command -v rt)")")")
+[ -n "${WAKHURMI_PROVED:-}" ] || (cd -- "$crate" && rt lib)
+proved=$(readlink -f -- "${WAKHURMI_PROVED:-$crate/out/libwakhurmi_c.a}")
+kit=$(dirname -- "$(dirname -- "$(readlink -f -- "$(command -v rt)")")")
 objects=$(mktemp -d)
-trap 'rm -rf "$objects"' EXIT
-"${CC:-cc}" -std=gnu11 -O2 -fPIC -Wall -Wextra "$@" -c "$here/wakhurmi.c" -o "$objects/wakhurmi.o"
-(cd "$objects" && ar x "$proved" && ar x "$kit/c/liblibc_c.a")
-rm -f "$folder/libwakhurmi.a"
+trap 'rm -rf -- "$objects"' EXIT
+(cd -- "$objects" && ar x "$proved" && ar x "$kit/c/liblibc_c.a")
+# A program may link another library of the kit, so what they share gets a name of this one's own.
+nm -g --defined-only "$objects"/*.o | awk 'NF == 3 && $3 !~ /^(_|wakhurmi_)/ { print $3, "wakhurmi_" $3 }' | sort -u >"$objects/names"
+for object in "$objects"/*.o; do
+    objcopy --redefine-syms="$objects/names" "$object"
+done
+# CC may have words beside the compiler's name.
+# shellcheck disable=SC2086
+${CC:-cc} -std=gnu11 -O2 -fPIC -Wall -Wextra "$@" -c "$here/wakhurmi.c" -o "$objects/wakhurmi.o"
+rm -f -- "$folder/libwakhurmi.a"
 ar rcs "$folder/libwakhurmi.a" "$objects"/*.o
-cp "$here/wakhurmi.h" "$folder"
-sed "s|@FOLDER@|$folder|" "$here/wakhurmi.pc.in" >"$folder/wakhurmi.pc"
+cp -- "$here/wakhurmi.h" "$folder"
+# pkg-config reads a folder's name as a shell does, so what a shell reads otherwise stands behind a backslash.
+escaped=$(printf '%s\n' "$folder" | sed "s/[][ \"'\\\\&|;<>()#*?!{}\`~]/\\\\&/g")
+{ printf 'folder=%s\n' "$escaped" && cat -- "$here/wakhurmi.pc.in"; } >"$folder/wakhurmi.pc"

@@ -47,11 +47,12 @@ uint32_t wakhurmi_c_history(handle *book, uint64_t part, uint8_t *buffer, size_t
 uint32_t wakhurmi_c_close_book(handle *book);
 
 #define MAX_WORKERS 32
-/* A worker is inside for less than a microsecond, or for some where the system has to give its history new memory. So a call that finds
- * it there pauses before it looks again, each time twice as long, and after so many looks it naps before each. Naps come where the
- * worker inside doesn't get a processor, and where workers do little between their calls. There a call that looked again at once would
- * take the book's cache lines from the worker inside, and each would slow the other: so one worker makes many calls, and then the
- * next one does. Both lengths are nanoseconds. */
+/* A worker that takes or gives back a lock or two is inside for less than a microsecond. With many locks it is longer by their number,
+ * and by some microseconds where the system has to give its history new memory. So a call that finds it there pauses before it looks
+ * again, each time twice as long, and after so many looks it naps before each. Naps come where the worker inside doesn't get a
+ * processor, and where workers do little between their calls. There a call that looked again at once would take the book's cache lines
+ * from the worker inside, and each would slow the other: so one worker makes many calls, and then the next one does. Both lengths are
+ * nanoseconds. */
 #define LOOKS 8
 #define FIRST_PAUSE 150
 #define NAP 50000

@@ -5,4 +5,7 @@ fn main() {
     println!("cargo:rustc-link-search=native={folder}");
     println!("cargo:rustc-link-lib=static=wakhurmi");
     println!("cargo:rerun-if-env-changed=WAKHURMI");
+    for file in ["libwakhurmi.a", "wakhurmi.h"] {
+        println!("cargo:rerun-if-changed={folder}/{file}");
+    }
 }

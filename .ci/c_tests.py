@@ -1,0 +1,186 @@
+#!/usr/bin/env python3
+"""Tests of c/build.sh and of the Rust example's build script, with small stand-ins for the proved library and for the kit.
+
+What is tried here is how the archive is made and found: by which folders, by which words for the compiler, with which names
+in it. The stand-in for the proved library has a service of no use, whose calls all answer 0.
+"""
+
+import os
+import pathlib
+import re
+import shlex
+import shutil
+import subprocess
+import tempfile
+import unittest
+from typing import Dict, List
+
+TOP = pathlib.Path(__file__).resolve().parent.parent
+
+# It uses the kit's three functions, as the proved library does.
+PROVED = """
+#include <stdbool.h>
+#include <stddef.h>
+#include <stdint.h>
+typedef struct { void *at; bool full; } handle;
+typedef struct { uint32_t answer; bool wakes; } told;
+void *rattle_alloc(size_t size);
+void *rattle_realloc(void *at, size_t size);
+void rattle_dealloc(void *at);
+static told done(void) { return (told){0, false}; }
+uint32_t wakhurmi_c_open(uint32_t most, uint32_t locks, handle *workers, size_t count) {
+    (void)most, (void)locks;
+    for (size_t worker = 0; worker < count; worker++) workers[worker] = (handle){rattle_realloc(rattle_alloc(8), 16), true};
+    return 0;
+}
+told wakhurmi_c_take(handle *worker, const uint32_t *locks, size_t count) { (void)worker, (void)locks, (void)count; return done(); }
+told wakhurmi_c_try_take(handle *worker, const uint32_t *locks, size_t count) { return wakhurmi_c_take(worker, locks, count); }
+told wakhurmi_c_hand_back(handle *worker) { (void)worker; return done(); }
+told wakhurmi_c_enter(handle *worker) { (void)worker; return done(); }
+told wakhurmi_c_leave(handle *worker) { (void)worker; return done(); }
+uint32_t wakhurmi_c_stop(handle *worker) { (void)worker; return 0; }
+uint32_t wakhurmi_c_leases_out(handle *worker, uint32_t *leases) { (void)worker; *leases = 0; return 0; }
+uint32_t wakhurmi_c_close(handle *worker) { rattle_dealloc(worker->at); return 0; }
+uint32_t wakhurmi_c_finish(handle *workers, size_t count, handle *book) {
+    for (size_t worker = 1; worker < count; worker++) wakhurmi_c_close(&workers[worker]);
+    *book = workers[0];
+    for (size_t worker = 0; worker < count; worker++) workers[worker] = (handle){0};
+    return 0;
+}
+uint32_t wakhurmi_c_history(handle *book, uint64_t part, uint8_t *buffer, size_t size, size_t *written) {
+    (void)book, (void)part, (void)buffer, (void)size;
+    *written = 0;
+    return 0;
+}
+uint32_t wakhurmi_c_close_book(handle *book) { return wakhurmi_c_close(book); }
+"""
+
+KIT = """
+#include <stdlib.h>
+void *rattle_alloc(size_t size) { return malloc(size); }
+void *rattle_realloc(void *at, size_t size) { return realloc(at, size); }
+void rattle_dealloc(void *at) { free(at); }
+"""
+
+# It has functions of the kit's names too, as where two libraries of the kit are linked.
+PROGRAM = """
+#include <wakhurmi.h>
+void *rattle_alloc(size_t size) { (void)size; return 0; }
+void *rattle_realloc(void *at, size_t size) { (void)size; return at; }
+void rattle_dealloc(void *at) { (void)at; }
+int main(void) {
+    wakhurmi_service *service;
+    if (wakhurmi_open(2, 1, 1, &service) != WAKHURMI_OK) return 1;
+    if (wakhurmi_take(service, 1, 0, 0) != WAKHURMI_OK || wakhurmi_take(service, 2, 0, 0) != WAKHURMI_BAD_NUMBER) return 2;
+    if (wakhurmi_finish(service) != WAKHURMI_OK) return 3;
+    if (wakhurmi_hand_back(service, 1) != WAKHURMI_MISUSED || wakhurmi_hand_back(service, 2) != WAKHURMI_BAD_NUMBER) return 4;
+    wakhurmi_close(service);
+    return 0;
+}
+"""
+
+
+def run(words: List[str], **how: object) -> subprocess.CompletedProcess:
+    streams = {"stdout": subprocess.PIPE, "stderr": subprocess.STDOUT, "errors": "surrogateescape"}
+    return subprocess.run(words, timeout=60, check=False, **streams, **how)
+
+
+class BuildTests(unittest.TestCase):
+    above: pathlib.Path
+    env: Dict[str, str]
+
+    @classmethod
+    def setUpClass(cls) -> None:
+        cls.above = pathlib.Path(tempfile.mkdtemp(prefix="c-build-"))
+        cls.addClassCleanup(shutil.rmtree, cls.above, ignore_errors=True)
+        for folder in ("kit/bin", "kit/c"):
+            (cls.above / folder).mkdir(parents=True)
+        rt = cls.above / "kit/bin/rt"
+        rt.write_text("#!/bin/sh\nexit 1\n")
+        rt.chmod(0o755)
+        cls.make_archive(PROVED, "proved", cls.above / "proved.a")
+        cls.make_archive(KIT, "heap", cls.above / "kit/c/liblibc_c.a")
+        (cls.above / "program.c").write_text(PROGRAM)
+        path = f"{rt.parent}:{os.environ['PATH']}"
+        cls.env = {**os.environ, "PATH": path, "WAKHURMI_PROVED": str(cls.above / "proved.a")}
+        cls.env.pop("CC", None)
+
+    @classmethod
+    def make_archive(cls, text: str, name: str, archive: pathlib.Path) -> None:
+        source, made = cls.above / f"{name}.c", cls.above / f"{name}.o"
+        source.write_text(text)
+        subprocess.run(["cc", "-c", "-fPIC", source, "-o", made], check=True)
+        subprocess.run(["ar", "rcs", archive, made], check=True)
+
+    def build(self, folder: str, *flags: str, **env: str) -> subprocess.CompletedProcess:
+        return run([str(TOP / "c/build.sh"), folder, *flags], cwd=self.above, env={**self.env, **env})
+
+    def assert_well(self, ran: subprocess.CompletedProcess) -> None:
+        self.assertEqual((ran.returncode, ran.stdout), (0, ""))
+
+    def flags_for(self, folder: pathlib.Path) -> List[str]:
+        """What pkg-config says, read as a shell would, or, where there is no pkg-config, the same by the file."""
+        if shutil.which("pkg-config"):
+            ran = run(["pkg-config", "--cflags", "--libs", "wakhurmi"], env={**self.env, "PKG_CONFIG_PATH": str(folder)})
+            self.assertEqual(ran.returncode, 0, ran.stdout)
+            # It has each byte of a letter beyond ASCII behind a backslash.
+            return [os.fsencode(word).decode() for word in shlex.split(ran.stdout)]
+        text = (folder / "wakhurmi.pc").read_text()
+        at = text.partition("\n")[0].partition("=")[2]
+        return shlex.split(" ".join(re.findall(r"^(?:Cflags|Libs): (.*)$", text, re.M)).replace("${folder}", at))
+
+    def test_a_program_is_linked_by_what_pkg_config_says(self) -> None:
+        for name in ("plain", "a b", "a&b", "a|b", "it's", "é (1) [2]; \\", "-x", '"quoted"'):
+            self.assert_well(self.build(f"folders/{name}"))
+            folder = self.above / "folders" / name
+            flags = self.flags_for(folder)
+            self.assertEqual(flags, [f"-I{folder}", f"-L{folder}", "-lwakhurmi", "-pthread"])
+            program = self.above / "program"
+            self.assert_well(run(["cc", "-Wall", "-Wextra", str(self.above / "program.c"), "-o", str(program), *flags]))
+            self.assertEqual(run([str(program)]).returncode, 0)
+
+    def test_a_folder_whose_name_begins_with_a_hyphen(self) -> None:
+        self.assert_well(self.build("-y"))
+        self.assertTrue((self.above / "-y/libwakhurmi.a").is_file())
+
+    def test_the_compiler_may_have_words_behind_it(self) -> None:
+        self.assert_well(self.build("words", CC="cc -DSOME=1"))
+        self.assert_well(self.build("flags", "-g", "-DOTHER=two words"))
+
+    def test_the_whole_program_may_be_optimized_at_once(self) -> None:
+        if "Free Software Foundation" not in run(["cc", "--version"]).stdout:
+            self.skipTest("cc isn't gcc")
+        self.assert_well(self.build("whole", "-flto"))
+        program = self.above / "whole/program"
+        words = ["cc", "-flto", str(self.above / "program.c"), "-o", str(program), *self.flags_for(self.above / "whole")]
+        self.assertEqual(run(words).returncode, 0)
+        self.assertEqual(run([str(program)]).returncode, 0)
+
+    def test_a_failing_compiler_fails_the_build(self) -> None:
+        for compiler in ("false", "no-such-compiler"):
+            self.assertNotEqual(self.build("failing", CC=compiler).returncode, 0)
+            self.assertFalse((self.above / "failing/libwakhurmi.a").exists())
+
+    def test_the_proved_library_may_be_named_from_the_callers_folder(self) -> None:
+        self.assert_well(self.build("named", WAKHURMI_PROVED="proved.a", CDPATH="/"))
+
+    def test_all_names_that_are_exported_begin_alike(self) -> None:
+        self.assert_well(self.build("names"))
+        told = run(["nm", "-g", "--defined-only", str(self.above / "names/libwakhurmi.a")]).stdout
+        names = re.findall(r"^[0-9a-f]+ \w (\S+)$", told, re.M)
+        self.assertIn("wakhurmi_take", names)
+        self.assertEqual([name for name in names if not name.startswith("wakhurmi_")], [])
+
+    def test_the_rust_example_watches_what_it_links(self) -> None:
+        rustc = shutil.which("rustc")
+        if rustc is None:
+            self.skipTest("there is no rustc")
+        script = self.above / "build-script"
+        self.assert_well(run([rustc, "--edition", "2021", str(TOP / "examples/embedding-in-rust/build.rs"), "-o", str(script)]))
+        said = run([str(script)], env={**self.env, "WAKHURMI": "some/folder"}).stdout
+        for file in ("libwakhurmi.a", "wakhurmi.h"):
+            self.assertIn(f"cargo:rerun-if-changed=some/folder/{file}\n", said)
+
+
+if __name__ == "__main__":
+    unittest.main()
