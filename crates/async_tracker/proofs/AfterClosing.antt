@@ -10,7 +10,7 @@ use Rattle.lock_transforms.specs.declared.entries.Kind.TheVariants as kinds
 use Rattle.coordination.specs.Attempts.{Cause, Making}
 use Rattle.coordination.specs.Calls.{HasFinished}
 use Rattle.coordination.specs.Decisions.{HasDecided}
-use Rattle.coordination.specs.Joints.{HasDecidedBehind, HasFollowed}
+use Rattle.coordination.specs.RunThenDecide.{HasDecidedBehind, HasFollowed}
 use Rattle.coordination.specs.declared.decisions.Decided.{Decided}
 use Rattle.coordination.specs.declared.decisions.Followed.{Followed}
 use Rattle.coordination.specs.declared.decisions.Followed.TheVariants as followed

@@ -8,7 +8,7 @@ use Rattle.lock_transforms.specs.declared.entries.Kind.TheVariants as kinds
 use Rattle.worker_choices.specs.declared.choices.Choice.{Choice}
 use Rattle.coordination.specs.Calls.{HasFinished}
 use Rattle.coordination.specs.Holds.{HoldsNothing}
-use Rattle.coordination.specs.Joints.{HasDecidedBehind, HasFollowed}
+use Rattle.coordination.specs.RunThenDecide.{HasDecidedBehind, HasFollowed}
 use Rattle.coordination.specs.Shown.{Shows, ShowsTheSame}
 use Rattle.coordination.specs.declared.decisions.Decided.{Decided}
 use Rattle.coordination.specs.declared.decisions.Followed.{Followed}

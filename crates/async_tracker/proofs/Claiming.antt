@@ -16,7 +16,7 @@ use Rattle.lock_transforms.specs.Allowed.{IsDisabled, IsFixedList}
 use Rattle.lock_journal.specs.BookView.{BookView}
 use Rattle.lock_transforms.specs.Table.{condition, is_enabled, mark_from}
 use Rattle.lock_transforms.specs.declared.entries.Kind.TheVariants.{Claim, Close}
-use Rattle.history_laws.specs.OwnChanges.{mark_before, with_if, without_if}
+use Rattle.lock_journal.specs.OwnChanges.{mark_before, with_if, without_if}
 use Rattle.coordination.specs.Agrees.{Finds}
 use Rattle.coordination.specs.Calls.{HasFinished}
 use Rattle.coordination.specs.Shown.{claimed_shown, lease_shown}
@@ -24,7 +24,7 @@ use Rattle.coordination.specs.declared.rule.Sight.{Sight}
 use Rattle.async_tracker.specs.Shows.{IsFree, IsIdleOrParked, IsItemHere, ShowsClaimed, ShowsClosed}
 use Rattle.async_tracker.specs.Waits.{NeedsLease}
 use Rattle.coordination.proofs.lemmas.Shown.{shows_left}
-use Rattle.history_laws.proofs.lemmas.Claims.{action_claimed, idle_shown, unit_claimed, unit_runs}
+use Rattle.lock_journal.proofs.lemmas.Claims.{action_claimed, idle_shown, unit_claimed, unit_runs}
 
 -- what is so of a worker in a state where it may claim
 pub record MayClaim (s : StateView) (w : WorkerId) : Type 0 where

@@ -14,7 +14,7 @@ use Rattle.worker_choices.specs.declared.choices.Choice.TheVariants as choices
 use Rattle.coordination.specs.Attempts.{Cause, Making}
 use Rattle.coordination.specs.Calls.{AskedInVain, HasFailed, HasFinished}
 use Rattle.coordination.specs.Decisions.{HasDecided}
-use Rattle.coordination.specs.Joints.{decided_of}
+use Rattle.coordination.specs.RunThenDecide.{decided_of}
 use Rattle.coordination.specs.Holds.{HoldsNothing}
 use Rattle.coordination.specs.Shown.{ShowsTheSame}
 use Rattle.coordination.specs.declared.decisions.Decided.{Decided}

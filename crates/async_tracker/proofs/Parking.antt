@@ -26,19 +26,19 @@ use Rattle.lock_transforms.specs.Allowed.{IsDisabled, IsFixedList}
 use Rattle.lock_journal.specs.BookView.{BookView}
 use Rattle.lock_transforms.specs.Table.{condition, is_enabled, moved_units, on_park, owned, works_on}
 use Rattle.lock_transforms.specs.declared.entries.Kind.TheVariants.{Submit, Park}
-use Rattle.history_laws.specs.OwnChanges.{after_all, claimed_after, locks_after, mark_before, with_if, with_member}
+use Rattle.lock_journal.specs.OwnChanges.{after_all, claimed_after, locks_after, mark_before, with_if, with_member}
 use Rattle.coordination.specs.Agrees.{Finds}
 use Rattle.coordination.specs.Calls.{HasFinished}
 use Rattle.coordination.specs.Shown.{ShowsTheSame, claimed_shown, lease_shown, locks_shown, parked_shown}
 use Rattle.coordination.specs.declared.rule.Sight.{Sight}
 use Rattle.coordination.proofs.lemmas.Entries.{belongs_sound, good_sound}
 use Rattle.coordination.proofs.lemmas.Shown.{Leaves, shows_left}
-use Rattle.history_laws.specs.Own.{is_action, is_unit}
+use Rattle.lock_journal.specs.Own.{is_action, is_unit}
 use Rattle.async_tracker.specs.Shows.{HasParkedLast, HasReleased, IsFree, IsIdleOrParked, IsParkedBy, OwnsToPark, ShowsParked, WorksOn, locks_on_park, parked_on_park}
 use Rattle.async_tracker.specs.ParkedView.{ParkedView}
 use Rattle.async_tracker.specs.Waits.{ActionIsNotQueued, CannotQueue, can_queue}
-use Rattle.history_laws.proofs.lemmas.Owned.{owned_there, stands_in_owned}
-use Rattle.history_laws.proofs.lemmas.Claims.{action_claimed, any_with, has_member, task_runs}
+use Rattle.lock_journal.proofs.lemmas.Owned.{owned_there, stands_in_owned}
+use Rattle.lock_journal.proofs.lemmas.Claims.{action_claimed, any_with, has_member, task_runs}
 
 -- the worker works on the task in every state that it finds
 works_found : (old : Sight) (book : BookView) (t : ℕ) → Finds old.worker old.seen book → WorksOn old t → works_on book.state old.worker t ≡ true

@@ -21,9 +21,9 @@ use Rattle.lock_transforms.specs.Allowed.{IsDisabled, IsFixedList}
 use Rattle.lock_transforms.specs.Table.{moved_units}
 use Rattle.lock_transforms.specs.declared.entries.Kind.TheVariants.{Submit, Park}
 use Rattle.lock_transforms.specs.declared.kinds.parks.Park.{Park as ParkOf}
-use Rattle.history_laws.specs.Own.{is_action, is_unit}
+use Rattle.lock_journal.specs.Own.{is_action, is_unit}
 use Rattle.coordination.specs.Calls.{HasFinished, HasLooked}
-use Rattle.coordination.specs.Joints.{HasFollowed}
+use Rattle.coordination.specs.RunThenDecide.{HasFollowed}
 use Rattle.coordination.specs.Shown.{ShowsTheSame, claimed_shown, lease_shown}
 use Rattle.coordination.specs.declared.decisions.Decided.TheVariants as decided
 use Rattle.coordination.specs.declared.decisions.Followed.{Followed}

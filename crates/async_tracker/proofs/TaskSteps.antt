@@ -21,7 +21,7 @@ use Rattle.lock_transforms.specs.Allowed.{IsDisabled, IsFixedList}
 use Rattle.lock_transforms.specs.Table.{condition, end_mark, is_enabled, list_of, moved_units, skipped_action, skipped_actions, skipped_waiting, units_passed}
 use Rattle.lock_transforms.specs.declared.entries.Kind.TheVariants.{Start, Skip, End}
 use Rattle.lock_journal.specs.BookView.{BookView}
-use Rattle.history_laws.specs.OwnChanges.{after_all, claimed_after, lock_before, locks_after, mark_before, with_if, with_member, without_if, without_member}
+use Rattle.lock_journal.specs.OwnChanges.{after_all, claimed_after, lock_before, locks_after, mark_before, with_if, with_member, without_if, without_member}
 use Rattle.worker_choices.specs.NextSteps.{CanBegin}
 use Rattle.coordination.specs.Agrees.{Finds}
 use Rattle.coordination.specs.Attempts.{Cause}
@@ -32,7 +32,7 @@ use Rattle.coordination.specs.declared.halts.Halt.{Halt}
 use Rattle.coordination.specs.declared.rule.Sight.{Sight}
 use Rattle.coordination.proofs.lemmas.Shown.{failed_shows, looked_shows, shows_left, stopped_shows}
 use Rattle.async_tracker.specs.Tasks.{CannotEnd, CannotSkip, CannotStart, MayEnd, ShowsEnded, ShowsStarted, locks_on_end}
-use Rattle.history_laws.proofs.lemmas.Claims.{action_claimed, idle_shown, task_runs, unit_claimed}
+use Rattle.lock_journal.proofs.lemmas.Claims.{action_claimed, idle_shown, task_runs, unit_claimed}
 
 -- a worker that has nothing is idle in every state that it finds, and has nothing there
 idle_found : (old : Sight) (book : BookView) → Finds old.worker old.seen book → HoldsNothing old → is_idle book.state old.worker ≡ true

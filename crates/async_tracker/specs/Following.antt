@@ -9,7 +9,7 @@ use Rattle.worker_choices.specs.declared.choices.Choice.{Choice}
 use Rattle.coordination.specs.Attempts.{Cause, Making}
 use Rattle.coordination.specs.Calls.{HasFinished}
 use Rattle.coordination.specs.Decisions.{HasDecided}
-use Rattle.coordination.specs.Joints.{decided_of}
+use Rattle.coordination.specs.RunThenDecide.{decided_of}
 use Rattle.coordination.specs.declared.decisions.Decided.{Decided}
 use Rattle.coordination.specs.declared.rule.Sight.{Sight}
 use Rattle.async_tracker.specs.NextSteps.{HasTakenNext, IsIdleIn, ShowsNext, taken_of}

@@ -10,8 +10,8 @@ use Rattle.resource_lock.specs.declared.graphs.Retention.TheVariants.{Retain, Re
 use Rattle.resource_lock.specs.declared.ids.LockId.{LockId}
 use Rattle.resource_lock.specs.declared.marks.MarkId.TheVariants.{Task as TaskOf, Action as ActionOf, Unit as UnitOf}
 use Rattle.lock_journal.specs.BookView.{BookView}
-use Rattle.history_laws.specs.Own.{is_action, is_unit}
-use Rattle.history_laws.specs.OwnChanges.{lock_before, mark_before, with_member, without_member}
+use Rattle.lock_journal.specs.Own.{is_action, is_unit}
+use Rattle.lock_journal.specs.OwnChanges.{lock_before, mark_before, with_member, without_member}
 use Rattle.coordination.specs.Agrees.{Agrees}
 use Rattle.coordination.specs.Shown.{Shows, blocked_shown, claimed_shown, lease_shown, locks_shown, parked_shown}
 use Rattle.coordination.specs.declared.rule.Sight.{Sight}

@@ -11,11 +11,11 @@ use Rattle.resource_lock.specs.declared.marks.MarkId.TheVariants.{Task as TaskOf
 use Rattle.ready_work.specs.Choices.{CanSkip}
 use Rattle.lock_transforms.specs.Table.{has_passed, list_of, never_ran}
 use Rattle.lock_transforms.specs.declared.entries.Kind.TheVariants.{Skip, End}
-use Rattle.history_laws.specs.OwnChanges.{lock_before, mark_before, without_member}
+use Rattle.lock_journal.specs.OwnChanges.{lock_before, mark_before, without_member}
 use Rattle.worker_choices.specs.NextSteps.{CanBegin}
 use Rattle.coordination.specs.Shown.{Shows, blocked_shown, claimed_shown, lease_shown, locks_shown, parked_shown}
 use Rattle.coordination.specs.declared.rule.Sight.{Sight}
-use Rattle.history_laws.specs.Own.{is_action, is_unit}
+use Rattle.lock_journal.specs.Own.{is_action, is_unit}
 
 -- The worker runs the task, and neither waits for items nor runs a unit nor is blocked.
 pub record MayEnd (s : Sight) (t : ℕ) : Type 0 where

@@ -8,7 +8,7 @@ ghost use Rattle.lock_transforms.specs.Allowed.{IsFixedList};
 ghost use Rattle.lock_transforms.specs.declared.entries.Kind.TheVariants as kinds;
 ghost use Rattle.coordination.specs.Calls.{HasFinished, HasLooked, WasStopped};
 ghost use Rattle.coordination.specs.Shown.{ShowsTheSame, claimed_shown};
-ghost use Rattle.history_laws.specs.Own.{is_unit};
+ghost use Rattle.lock_journal.specs.Own.{is_unit};
 ghost use Rattle.async_tracker.specs.Shows.{HasReleased, IsFree, IsIdleOrParked, IsParkedBy, OwnsToPark, ShowsParked, WorksOn};
 ghost use Rattle.async_tracker.specs.Waits.{ActionIsNotQueued, CannotQueue};
 

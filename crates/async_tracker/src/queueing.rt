@@ -6,7 +6,7 @@ ghost use Rattle.resource_lock.specs.Ranges.{lock_with, task_with};
 ghost use Rattle.resource_lock.specs.declared.ids.WorkerId.{WorkerId};
 ghost use Rattle.coordination.specs.Calls.{HasLooked, WasStopped};
 ghost use Rattle.coordination.specs.Shown.{ShowsTheSame, claimed_shown};
-ghost use Rattle.history_laws.specs.Own.{is_unit};
+ghost use Rattle.lock_journal.specs.Own.{is_unit};
 ghost use Rattle.async_tracker.specs.Following.{HasParkedAtOnce};
 ghost use Rattle.async_tracker.specs.Queueing.{HasSubmittedThen};
 ghost use Rattle.async_tracker.specs.Shows.{HasReleased, IsFree, IsIdleOrParked, IsParkedBy, OwnsToPark, ShowsParked, WorksOn};

@@ -20,7 +20,7 @@ use Rattle.resource_lock.proofs.lemmas.Units.{action_there}
 use Rattle.lock_transforms.specs.Table.{condition, earlier_passed, owned_from, parked_locks, works_on}
 use Rattle.lock_transforms.specs.Taking.{rises}
 use Rattle.lock_transforms.specs.declared.entries.Kind.TheVariants.{Block}
-use Rattle.history_laws.specs.OwnChanges.{after_all, claimed_after, locks_after}
+use Rattle.lock_journal.specs.OwnChanges.{after_all, claimed_after, locks_after}
 use Rattle.blocking_section.specs.Sections.{is_ready}
 use Rattle.blocking_section.proofs.After.{after_all-append}
 

@@ -16,7 +16,7 @@ use Rattle.lock_transforms.specs.Allowed.{IsFixedList, IsUnmet}
 use Rattle.lock_journal.specs.BookView.{BookView}
 use Rattle.lock_transforms.specs.Table.{list_of, owned}
 use Rattle.lock_transforms.specs.declared.entries.Kind.TheVariants.{Block}
-use Rattle.history_laws.specs.OwnChanges.{after_all, claimed_after, locks_after, mark_before, with_if}
+use Rattle.lock_journal.specs.OwnChanges.{after_all, claimed_after, locks_after, mark_before, with_if}
 use Rattle.coordination.specs.Agrees.{Finds}
 use Rattle.coordination.specs.Calls.{HasFinished}
 use Rattle.coordination.specs.Shown.{claimed_shown, lease_shown, locks_shown, parked_shown}
@@ -24,7 +24,7 @@ use Rattle.coordination.specs.declared.rule.Sight.{Sight}
 use Rattle.coordination.proofs.lemmas.Nothing.{owns_none}
 use Rattle.coordination.proofs.lemmas.Shown.{ShowsAfter, shows_after}
 use Rattle.blocking_section.specs.Sections.{HasSetDown, HasUnit, IsGivenBackBy, IsNotReady, MayEnter, OwnsNothingMeanwhile, is_ready, with_unit}
-use Rattle.history_laws.proofs.lemmas.Claims.{has_member, action_claimed, unit_claimed, task_runs}
+use Rattle.lock_journal.proofs.lemmas.Claims.{has_member, action_claimed, unit_claimed, task_runs}
 use Rattle.blocking_section.proofs.Down.{down, down_claimed, down_holding, down_locks, enters_for, enters_without}
 
 -- the same of the list with the fetch's move before it

@@ -19,7 +19,7 @@ use Rattle.lock_journal.specs.BookView.{BookView}
 use Rattle.lock_transforms.specs.Table.{list_of, mark_from}
 use Rattle.lock_transforms.specs.Taking.{can_take_all, rises}
 use Rattle.lock_transforms.specs.declared.entries.Kind.TheVariants.{Unblock}
-use Rattle.history_laws.specs.OwnChanges.{after_all, claimed_after, locks_after, mark_before, with_if, without_if}
+use Rattle.lock_journal.specs.OwnChanges.{after_all, claimed_after, locks_after, mark_before, with_if, without_if}
 use Rattle.coordination.specs.Agrees.{Finds}
 use Rattle.coordination.specs.Calls.{HasFinished}
 use Rattle.coordination.specs.Shown.{claimed_shown, locks_shown, parked_shown}
@@ -29,7 +29,7 @@ use Rattle.coordination.proofs.lemmas.Shown.{ShowsAfter, shows_after}
 use Rattle.blocking_section.specs.BlockedView.{BlockedView}
 use Rattle.blocking_section.specs.Sections.{CanNotTakeUp, FitsUnit, HasTakenUp, HasUnit, IsGivenBackBy, closed_with, without_unit}
 use Rattle.blocking_section.proofs.After.{after_all-append}
-use Rattle.history_laws.proofs.lemmas.Claims.{unit_claimed, unit_runs}
+use Rattle.lock_journal.proofs.lemmas.Claims.{unit_claimed, unit_runs}
 use Rattle.blocking_section.proofs.lemmas.Up.{ended_not_running, leaves_for, leaves_without, up, up_claimed, up_holding, up_rises, up_stands}
 
 -- the changes, by what is parked: with the fetch's move behind where there is one

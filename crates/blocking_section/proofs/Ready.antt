@@ -19,10 +19,10 @@ use Rattle.lock_journal.specs.BookView.{BookView}
 use Rattle.lock_transforms.specs.Entry.{Entry, replay}
 use Rattle.lock_transforms.specs.Table.{earlier_passed, has_passed, units_passed, works_on}
 use Rattle.lock_transforms.proofs.lemmas.Disabled.{all_of_still, and_still}
-use Rattle.history_laws.specs.Marks.{IsEnded}
-use Rattle.history_laws.proofs.lemmas.Fitting.{RangesApart, apart_of}
-use Rattle.history_laws.proofs.lemmas.Growing.{marks_stay}
-use Rattle.history_laws.proofs.lemmas.OwnTasks.{actions_stay, waiting_units_stay}
+use Rattle.lock_journal.specs.Marks.{IsEnded}
+use Rattle.lock_journal.proofs.lemmas.Fitting.{RangesApart, apart_of}
+use Rattle.lock_journal.proofs.lemmas.Growing.{marks_stay}
+use Rattle.lock_journal.proofs.lemmas.OwnTasks.{actions_stay, waiting_units_stay}
 use Rattle.coordination.specs.Agrees.{Finds}
 use Rattle.coordination.specs.declared.rule.Sight.{Sight}
 use Rattle.blocking_section.specs.Sections.{CouldEnter, IsNotReady, is_ready}

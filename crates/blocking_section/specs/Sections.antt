@@ -18,8 +18,8 @@ use Rattle.lock_transforms.specs.Table.{condition, earlier_passed}
 use Rattle.lock_transforms.specs.Taking.{can_take_all}
 use Rattle.lock_transforms.specs.declared.entries.Closed.{Closed}
 use Rattle.lock_transforms.specs.declared.entries.Kind.TheVariants.{Block}
-use Rattle.history_laws.specs.Own.{is_action, is_unit}
-use Rattle.history_laws.specs.OwnChanges.{mark_before, with_member, without_member}
+use Rattle.lock_journal.specs.Own.{is_action, is_unit}
+use Rattle.lock_journal.specs.OwnChanges.{mark_before, with_member, without_member}
 use Rattle.coordination.specs.Agrees.{Agrees, IsSoundBook}
 use Rattle.coordination.specs.Shown.{blocked_shown, claimed_shown, lease_shown, locks_shown, parked_shown}
 use Rattle.coordination.specs.declared.rule.Sight.{Sight}

@@ -3,13 +3,15 @@ ghost use Rattle.std.specs.Prelude.{◌≡◌, true};
 ghost use Rattle.item_actions.specs.Forms.{is_file_name};
 ghost use Rattle.memory_budget.specs.Waiting.{AsksProcess};
 
-use crate::run_tests::{close, is_second_right, leased, new_lock, run_and_stop};
+use crate::run_tests::{
+    Came, close, is_second_right, is_what_came, leased, new_lock, run_and_stop,
+};
 use daemon_desk::{Lie, MemoryDesk, MemoryLink};
 use daemon_requirements::{Isolation, Work};
 use file_access::{FileEntry, FileMap, Files, Read};
-use item_actions::{MAX_FILE_BYTES, Outcome, Text, is_file_name};
+use item_actions::{MAX_FILE_BYTES, Text, is_file_name};
 use lease_service::{Lease, current_lease};
-use memory_budget::{BudgetLock, Budgeted};
+use memory_budget::BudgetLock;
 use plan_reader::{Plan, UnitWork, read_plan, units_of};
 use std::alloc::Global;
 use std::process::Abort;
@@ -84,60 +86,72 @@ fn is_for_daemon(work: &Work) -> bool
     matches!(work.isolation, Isolation::Process(_)) && is_file_name(work.file.bytes())
 }
 
-// What comes of the plan's items, one after the other.
-fn run_items<R: Wait + Abort>(
+/// What comes of the plan's items, by their numbers.
+static CAME: [Came; 2] = [Came::Fault, Came::Three];
+
+// Whether the unit's item is in a daemon, and this comes of it and no daemon is one too many.
+fn runs<R: Wait + Abort>(
     rt: &R,
     alloc: Global,
     lease: &Lease<'_>,
     desk: &mut MemoryDesk,
     lock: &BudgetLock<MemoryLink>,
-    plan: &Plan,
-) -> Result<Vec<Budgeted>, Fail> {
-    let mut ran = Vec::new(alloc);
-    let mut unit = 0u32;
-    let units = units_of(alloc, plan)?;
-    for of_unit in &units {
-        match *of_unit {
-            UnitWork::Item(work) => {
-                assert!(rt; is_for_daemon(work));
-                let (budgeted, spare_mb) = run_and_stop(rt, alloc, lease, desk, lock, unit, work);
-                assert!(rt; spare_mb.is_none());
-                ran.push(budgeted)?;
+    unit: u32,
+    of_unit: &UnitWork<'_>,
+    came: Came,
+) -> bool {
+    match *of_unit {
+        UnitWork::Item(work) => {
+            if !is_for_daemon(work) {
+                return false;
             }
-            UnitWork::Fetch(_) => panic!(rt; "the plan fetches nothing"),
+            let (budgeted, spare_mb) = run_and_stop(rt, alloc, lease, desk, lock, unit, work);
+            is_what_came(&budgeted, came) && spare_mb.is_none()
+        }
+        UnitWork::Fetch(_) => false,
+    }
+}
+
+// Whether the plan's items come to what they have to, one after the other.
+fn all_run<R: Wait + Abort>(
+    rt: &R,
+    alloc: Global,
+    lease: &Lease<'_>,
+    desk: &mut MemoryDesk,
+    lock: &BudgetLock<MemoryLink>,
+    units: &[UnitWork<'_>],
+) -> bool {
+    let mut unit = 0u32;
+    for (of_unit, came) in units.iter().zip(&CAME) {
+        if !runs(rt, alloc, lease, desk, lock, unit, of_unit, *came) {
+            return false;
         }
         unit = unit.saturating_add(1);
     }
-    Ok(ran)
+    units.len() == CAME.len()
 }
 
-// That the first item is a fault whatever comes in place of its reply, and the second is worked out by another daemon.
-fn check_answer<R: Wait + Abort>(rt: &R, alloc: Global, answer: Option<&[u8]>) -> Result<(), Fail> {
+// Whether the first item is a fault whatever comes in place of its reply, and the second is worked out by another daemon.
+fn is_second_worked_out<R: Wait + Abort>(
+    rt: &R,
+    alloc: Global,
+    answer: Option<&[u8]>,
+) -> Result<bool, Fail> {
     let mut desk = desk(alloc, answer)?;
     let plan = plan(rt, alloc, &mut *desk)?;
+    let units = units_of(alloc, &plan)?;
     let pass = leased(rt, alloc)?;
     let lease = current_lease(&pass).expect(rt, "a lease");
     let lock = new_lock(rt, alloc, BUDGET_MB);
-    let ran = run_items(rt, alloc, &lease, &mut *desk, &lock, &plan);
+    let ran = all_run(rt, alloc, &lease, &mut *desk, &lock, &units);
     let events = close(lock, &mut *desk);
-    let ran = ran?;
-    assert!(rt;
-        matches!(
-            &ran[..],
-            [
-                Budgeted::Done(Outcome::Fault),
-                Budgeted::Done(Outcome::Number(3))
-            ]
-        )
-    );
-    assert!(rt; desk.count() == 1 && is_second_right(&events));
-    Ok(())
+    Ok(ran && desk.count() == 1 && is_second_right(&events))
 }
 
 #[test]
 fn the_items_of_a_plan_run_within_a_budget(rt: HostRuntime) -> Result<(), Fail> {
-    for answer in ANSWERS {
-        check_answer(&rt, rt.alloc(), answer)?;
+    for answer in &ANSWERS {
+        assert!(rt; is_second_worked_out(&rt, rt.alloc(), *answer)?);
     }
     Ok(())
 }

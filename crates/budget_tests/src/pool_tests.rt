@@ -56,7 +56,7 @@ fn permit<R: Abort>(
             give_back(pool, reserved);
             panic!(rt; "a daemon was idle")
         }
-        Room::Over(firm_mb) => panic!(rt; "over by {firm_mb}"),
+        Room::Over(_) => panic!(rt; "there was no room"),
     }
 }
 
@@ -94,7 +94,7 @@ fn reserved<R: Abort>(
             pool.give_up(permit);
             panic!(rt; "no daemon was idle")
         }
-        Room::Over(firm_mb) => panic!(rt; "over by {firm_mb}"),
+        Room::Over(_) => panic!(rt; "there was no room"),
     }
 }
 
@@ -141,6 +141,11 @@ fn new_pool<R: Abort>(rt: &R, alloc: Global, budget_mb: u64) -> BudgetPool<Link>
     BudgetPool::new(alloc, budget_mb).expect(rt, "memory")
 }
 
+// The heaps of the pool's daemons, and those of its permits.
+fn memory(pool: &BudgetPool<Link>) -> (u64, u64) {
+    (pool.held_mb(), pool.permitted_mb())
+}
+
 #[test]
 fn an_idle_daemon_is_stopped_only_where_room_is_needed(rt: HostRuntime) {
     let alloc = rt.alloc();
@@ -148,38 +153,45 @@ fn an_idle_daemon_is_stopped_only_where_room_is_needed(rt: HostRuntime) {
     let first = busy(&rt, alloc, &mut pool, 512);
     let second = busy(&rt, alloc, &mut pool, 512);
     let third = busy(&rt, alloc, &mut pool, 512);
-    assert!(rt; pool.release(first).is_none());
-    assert!(rt; pool.release(second).is_none());
-    assert!(rt; pool.held_mb() == 1536 && pool.permitted_mb() == 0);
+    let kept = (
+        pool.release(first).is_none(),
+        pool.release(second).is_none(),
+    );
+    let idle = memory(&pool);
     let (permit, stopped) = permit(&rt, alloc, &mut pool, 1024);
-    assert!(rt; stopped == 1 && last_stopped(pool.events()) == Some(0));
-    assert!(rt; pool.held_mb() == 1024 && pool.permitted_mb() == 1024);
+    let last = last_stopped(pool.events());
+    let permitted = memory(&pool);
     let again = reserved(&rt, alloc, &mut pool, 512);
-    assert!(rt; again.daemon() == 1);
-    assert!(rt; over(&rt, alloc, &mut pool, 1024) == 2048);
+    let daemon = again.daemon();
+    let firm_mb = over(&rt, alloc, &mut pool, 1024);
     pool.give_up(permit);
     give_back(&mut pool, again);
     give_back(&mut pool, third);
-    assert!(rt; pool.held_mb() == 1024 && pool.permitted_mb() == 0);
-    assert!(rt; close(pool).len() == 14);
+    let left = memory(&pool);
+    let events = close(pool).len();
+    assert!(rt; kept == (true, true) && (stopped, last, daemon) == (1, Some(0), 1));
+    assert!(rt; (idle, permitted, left) == ((1536, 0), (1024, 1024), (1024, 0)));
+    assert!(rt; (firm_mb, events) == (2048, 14));
 }
 
 #[test]
 fn a_permit_keeps_its_heap_until_it_is_given_up(rt: HostRuntime) {
     let alloc = rt.alloc();
     let mut pool = new_pool(&rt, alloc, 512);
-    assert!(rt; pool.budget_mb() == 512);
-    assert!(rt; over(&rt, alloc, &mut pool, 513) == 0);
+    let budget_mb = pool.budget_mb();
+    let none_mb = over(&rt, alloc, &mut pool, 513);
     let (first, stopped) = permit(&rt, alloc, &mut pool, 512);
-    assert!(rt; stopped == 0 && first.unit() == 7 && first.requirements().fields().heap_mb == 512);
-    assert!(rt; over(&rt, alloc, &mut pool, 1) == 512);
+    let told = (first.unit(), first.requirements().fields().heap_mb);
+    let firm_mb = over(&rt, alloc, &mut pool, 1);
     pool.give_up(first);
     let (second, _) = permit(&rt, alloc, &mut pool, 1);
     let daemon = start(&rt, alloc, &mut pool, second);
-    assert!(rt; pool.held_mb() == 1 && pool.permitted_mb() == 0);
+    let started = memory(&pool);
     fail(&mut pool, daemon);
-    assert!(rt; pool.held_mb() == 0);
-    assert!(rt; close(pool).len() == 3);
+    let failed_mb = pool.held_mb();
+    let events = close(pool).len();
+    assert!(rt; (budget_mb, none_mb, firm_mb, failed_mb) == (512, 0, 512, 0));
+    assert!(rt; (stopped, told, started, events) == (0, (7, 512), (1, 0), 3));
 }
 
 fn fail(pool: &mut BudgetPool<Link>, reserved: Reserved<Link>) {
@@ -232,10 +244,11 @@ fn a_permit_of_another_pool_is_worth_nothing(rt: HostRuntime) {
     let mut pool = new_pool(&rt, alloc, 512);
     let (own, _) = permit(&rt, alloc, &mut pool, 256);
     let foreign = foreign_permit(&rt, alloc, 255);
-    assert!(rt; is_handed_back(&rt, alloc, &mut pool, foreign));
-    assert!(rt; pool.permitted_mb() == 256);
+    let comes_back = is_handed_back(&rt, alloc, &mut pool, foreign);
+    let permitted_mb = pool.permitted_mb();
     pool.give_up(own);
-    assert!(rt; close(pool).is_empty());
+    let events = close(pool).len();
+    assert!(rt; comes_back && (permitted_mb, events) == (256, 0));
 }
 
 #[test]
@@ -249,10 +262,12 @@ fn no_more_idle_daemons_are_stopped_than_needed(rt: HostRuntime) {
     give_back(&mut pool, first);
     give_back(&mut pool, third);
     let (permit, stopped) = permit(&rt, alloc, &mut pool, 500);
-    assert!(rt; stopped == 2 && last_stopped(pool.events()) == Some(0));
-    assert!(rt; pool.held_mb() == 300);
+    let last = last_stopped(pool.events());
+    let left_mb = pool.held_mb();
     let daemon = start(&rt, alloc, &mut pool, permit);
-    assert!(rt; pool.held_mb() == 800);
+    let started_mb = pool.held_mb();
     give_back(&mut pool, daemon);
-    assert!(rt; close(pool).len() == 16);
+    let events = close(pool).len();
+    assert!(rt; (stopped, last, events) == (2, Some(0), 16));
+    assert!(rt; (left_mb, started_mb) == (300, 800));
 }

@@ -192,27 +192,14 @@ impl Seat {
         run_and_stop(rt, alloc, &lease, &mut *self.desk, lock, unit, &work)
     }
 
-    // Runs an item that asks for this heap.
-    fn run<R: Wait + Abort>(
-        &mut self,
-        rt: &R,
-        alloc: Global,
-        lock: &BudgetLock<MemoryLink>,
-        unit: u32,
-        heap_mb: u32,
-    ) -> Budgeted {
-        let (budgeted, _) = self.run_told(rt, alloc, lock, unit, heap_mb);
-        budgeted
-    }
-
     // Runs each eighth item.
     fn run_share<R: Wait + Abort>(&mut self, rt: &R, alloc: Global, lock: &BudgetLock<MemoryLink>) {
         for unit in 0..ITEMS {
             if unit % WORKERS == self.first {
                 let heap_mb = HEAPS[unit as usize % 4];
-                match self.run(rt, alloc, lock, unit, heap_mb) {
-                    Budgeted::Done(Outcome::Number(3)) => self.right = self.right.saturating_add(1),
-                    _ => {}
+                let (budgeted, _) = self.run_told(rt, alloc, lock, unit, heap_mb);
+                if is_what_came(&budgeted, Came::Three) {
+                    self.right = self.right.saturating_add(1);
                 }
             }
         }
@@ -244,8 +231,8 @@ fn seats<R: Wait + Abort>(rt: &R, alloc: Global) -> Result<Vec<Seat>, AllocError
     Ok(seats)
 }
 
-// Runs all items on all seats at once, on a new pool, and checks what came of them and what was held.
-fn run_all<R: Threads + Wait + Abort + Sync>(rt: &R, alloc: Global) {
+// Runs all items on all seats at once, on a new pool. Tells how many came out right, and how many MB were held at most.
+fn run_all<R: Threads + Wait + Abort + Sync>(rt: &R, alloc: Global) -> (u32, u64) {
     let mut seats = seats(rt, alloc).expect(rt, "memory");
     let lock = new_lock(rt, alloc, BUDGET_MB);
     let shared = &lock;
@@ -262,30 +249,174 @@ fn run_all<R: Threads + Wait + Abort + Sync>(rt: &R, alloc: Global) {
     }
     let mut last = desk(alloc, &[]).expect(rt, "memory");
     let events = close(lock, &mut *last);
-    let most = most_held(&events);
-    assert!(rt; right == ITEMS, "{right} items were right");
-    assert!(rt; most <= BUDGET_MB && most >= 800, "{most} MB were held");
+    (right, most_held(&events))
 }
 
 #[test]
 fn no_more_is_held_than_the_budget_while_items_wait_for_room(rt: HostRuntime) {
     for _ in 0..50 {
-        run_all(&rt, rt.alloc());
+        let (right, most) = run_all(&rt, rt.alloc());
+        assert!(rt;
+            right == ITEMS && most <= BUDGET_MB && most >= 800,
+            "{right} items were right, and {most} MB were held"
+        );
     }
 }
 
-#[test]
-fn what_asks_for_more_than_the_budget_is_over(rt: HostRuntime) {
-    let alloc = rt.alloc();
-    let mut seat = new_seat(&rt, alloc, 0, &[]).expect(&rt, "memory");
-    let lock = new_lock(&rt, alloc, 512);
-    let over = seat.run(&rt, alloc, &lock, 0, 513);
-    let done = seat.run(&rt, alloc, &lock, 1, 512);
-    let budget_mb = lock.budget_mb();
-    let events = close(lock, &mut *seat.desk);
-    assert!(rt; budget_mb == 512 && matches!(over, Budgeted::Over(513)));
-    assert!(rt; matches!(done, Budgeted::Done(Outcome::Number(3))));
-    assert!(rt; seat.desk.sent().len() == 1 && events.len() == 4);
+/// What comes of an item.
+#[derive(Clone, Copy)]
+pub(crate) enum Came {
+    /// The number of lines.
+    Three,
+    Fault,
+    /// It asks for so many MB, which is over the budget.
+    Over(u64),
+}
+
+/// Whether this came of an item.
+pub(crate) fn is_what_came(budgeted: &Budgeted, came: Came) -> bool {
+    match (budgeted, came) {
+        (Budgeted::Done(Outcome::Number(3)), Came::Three)
+        | (Budgeted::Done(Outcome::Fault), Came::Fault) => true,
+        (Budgeted::Over(asked), Came::Over(expected)) => *asked == expected,
+        _ => false,
+    }
+}
+
+/// What a worker does.
+#[derive(Clone, Copy)]
+enum Step {
+    /// It runs the item of a unit that asks for so much memory. This comes of it, and then a daemon with this heap is one too many.
+    Run(u32, u32, Came, Option<u32>),
+    /// It stops an idle daemon, where there is one.
+    StopIdle(bool),
+}
+
+/// What happened to the daemons of a scene.
+#[derive(Clone, Copy)]
+enum Happened {
+    /// So much.
+    Count(usize),
+    /// One failed, and another worked for the next unit.
+    FirstFailed,
+    /// Each worked for a unit and was stopped.
+    BothStopped,
+}
+
+/// What a worker does on a pool with a budget, and on a desk of whose calls these fail. Then so many requests were sent, so many
+/// calls failed, and this happened.
+struct Scene {
+    budget_mb: u64,
+    failing: &'static [u64],
+    steps: &'static [Step],
+    sent: usize,
+    failed: u64,
+    happened: Happened,
+}
+
+static SCENES: [Scene; 5] = [
+    // What asks for more than the budget is over.
+    Scene {
+        budget_mb: 512,
+        failing: &[],
+        steps: &[
+            Step::Run(0, 513, Came::Over(513), None),
+            Step::Run(1, 512, Came::Three, None),
+        ],
+        sent: 1,
+        failed: 0,
+        happened: Happened::Count(4),
+    },
+    // A daemon that fails makes room for the next.
+    Scene {
+        budget_mb: 512,
+        failing: &[2],
+        steps: &[
+            Step::Run(0, 512, Came::Fault, None),
+            Step::Run(1, 512, Came::Three, None),
+        ],
+        sent: 2,
+        failed: 1,
+        happened: Happened::FirstFailed,
+    },
+    // A start that fails makes room for the next.
+    Scene {
+        budget_mb: 512,
+        failing: &[0],
+        steps: &[
+            Step::Run(0, 512, Came::Fault, None),
+            Step::Run(1, 512, Came::Three, None),
+        ],
+        sent: 1,
+        failed: 1,
+        happened: Happened::Count(4),
+    },
+    // A daemon that was stopped while it was idle serves no more.
+    Scene {
+        budget_mb: 512,
+        failing: &[],
+        steps: &[
+            Step::StopIdle(false),
+            Step::Run(0, 512, Came::Three, None),
+            Step::StopIdle(true),
+            Step::StopIdle(false),
+            Step::Run(1, 512, Came::Three, None),
+        ],
+        sent: 2,
+        failed: 0,
+        happened: Happened::BothStopped,
+    },
+    // No idle daemon covers the next of nine items, behind which the first of nine idle daemons comes back.
+    Scene {
+        budget_mb: 45,
+        failing: &[],
+        steps: &[
+            Step::Run(0, 1, Came::Three, None),
+            Step::Run(1, 2, Came::Three, None),
+            Step::Run(2, 3, Came::Three, None),
+            Step::Run(3, 4, Came::Three, None),
+            Step::Run(4, 5, Came::Three, None),
+            Step::Run(5, 6, Came::Three, None),
+            Step::Run(6, 7, Came::Three, None),
+            Step::Run(7, 8, Came::Three, None),
+            Step::Run(8, 9, Came::Three, Some(1)),
+        ],
+        sent: 9,
+        failed: 0,
+        happened: Happened::Count(36),
+    },
+];
+
+// Whether a step goes as it has to.
+fn goes<R: Wait + Abort>(
+    rt: &R,
+    alloc: Global,
+    seat: &mut Seat,
+    lock: &BudgetLock<MemoryLink>,
+    step: Step,
+) -> bool {
+    match step {
+        Step::Run(unit, heap_mb, came, spare) => {
+            let (budgeted, spare_mb) = seat.run_told(rt, alloc, lock, unit, heap_mb);
+            is_what_came(&budgeted, came) && spare_mb == spare
+        }
+        Step::StopIdle(stops) => stop_idle(rt, &mut *seat.desk, lock) == stops,
+    }
+}
+
+fn all_go<R: Wait + Abort>(
+    rt: &R,
+    alloc: Global,
+    seat: &mut Seat,
+    lock: &BudgetLock<MemoryLink>,
+    steps: &[Step],
+) -> bool {
+    for step in steps {
+        if !goes(rt, alloc, seat, lock, *step) {
+            return false;
+        }
+    }
+    true
 }
 
 /// Whether these events are those of a daemon that failed and of one that worked for the next unit.
@@ -302,19 +433,6 @@ pub(crate) fn is_second_right(events: &[Event]) -> bool {
             Event::Stopped(1),
         ]
     )
-}
-
-#[test]
-fn a_daemon_that_fails_makes_room_for_the_next(rt: HostRuntime) {
-    let alloc = rt.alloc();
-    let mut seat = new_seat(&rt, alloc, 0, &[2]).expect(&rt, "memory");
-    let lock = new_lock(&rt, alloc, 512);
-    let first = seat.run(&rt, alloc, &lock, 0, 512);
-    let second = seat.run(&rt, alloc, &lock, 1, 512);
-    let events = close(lock, &mut *seat.desk);
-    assert!(rt; matches!(first, Budgeted::Done(Outcome::Fault)));
-    assert!(rt; matches!(second, Budgeted::Done(Outcome::Number(3))));
-    assert!(rt; seat.desk.count() == 1 && is_second_right(&events));
 }
 
 // Whether these events are those of two daemons that worked for a unit each and were stopped.
@@ -334,51 +452,33 @@ fn is_second_new(events: &[Event]) -> bool {
     )
 }
 
-#[test]
-fn a_daemon_that_was_stopped_while_idle_serves_no_more(rt: HostRuntime) {
-    let alloc = rt.alloc();
-    let mut seat = new_seat(&rt, alloc, 0, &[]).expect(&rt, "memory");
-    let lock = new_lock(&rt, alloc, 512);
-    let early = stop_idle(&rt, &mut *seat.desk, &lock);
-    let first = seat.run(&rt, alloc, &lock, 0, 512);
-    let stopped = stop_idle(&rt, &mut *seat.desk, &lock);
-    let again = stop_idle(&rt, &mut *seat.desk, &lock);
-    let second = seat.run(&rt, alloc, &lock, 1, 512);
-    let events = close(lock, &mut *seat.desk);
-    assert!(rt; !early && stopped && !again);
-    assert!(rt; matches!(first, Budgeted::Done(Outcome::Number(3))));
-    assert!(rt; matches!(second, Budgeted::Done(Outcome::Number(3))));
-    assert!(rt; is_second_new(&events));
-}
-
-// The heaps of the daemons that are one too many behind nine items, which ask for 1 MB, 2 MB and so on: no idle daemon covers
-// the next item.
-fn spares_of_nine<R: Wait + Abort>(
-    rt: &R,
-    alloc: Global,
-    seat: &mut Seat,
-    lock: &BudgetLock<MemoryLink>,
-) -> [Option<u32>; 9] {
-    let mut spares = [None; 9];
-    for unit in 0..9u32 {
-        let (_, spare_mb) = seat.run_told(rt, alloc, lock, unit, unit + 1);
-        spares[unit as usize] = spare_mb;
+fn has_happened(events: &[Event], happened: Happened) -> bool {
+    match happened {
+        Happened::Count(count) => events.len() == count,
+        Happened::FirstFailed => is_second_right(events),
+        Happened::BothStopped => is_second_new(events),
     }
-    spares
+}
+
+// Whether a scene goes as it has to.
+fn plays<R: Wait + Abort>(rt: &R, alloc: Global, scene: &Scene) -> Result<bool, AllocError> {
+    assert!(rt; scene.budget_mb <= MAX_BUDGET_MB);
+    let mut seat = new_seat(rt, alloc, 0, scene.failing)?;
+    let lock = new_lock(rt, alloc, scene.budget_mb);
+    let goes = all_go(rt, alloc, &mut seat, &lock, scene.steps)
+        && lock.budget_mb() == scene.budget_mb;
+    let events = close(lock, &mut *seat.desk);
+    Ok(
+        goes && has_happened(&events, scene.happened)
+            && seat.desk.sent().len() == scene.sent
+            && seat.desk.count() == scene.failed,
+    )
 }
 
 #[test]
-fn the_first_of_nine_idle_daemons_comes_back(rt: HostRuntime) {
-    let alloc = rt.alloc();
-    let mut seat = new_seat(&rt, alloc, 0, &[]).expect(&rt, "memory");
-    let lock = new_lock(&rt, alloc, 45);
-    let spares = spares_of_nine(&rt, alloc, &mut seat, &lock);
-    let events = close(lock, &mut *seat.desk);
-    assert!(rt;
-        matches!(
-            spares,
-            [None, None, None, None, None, None, None, None, Some(1)]
-        )
-    );
-    assert!(rt; events.len() == 36 && seat.desk.sent().len() == 9);
+fn items_go_within_a_budget_as_daemons_come_and_fail(rt: HostRuntime) -> Result<(), AllocError> {
+    for scene in &SCENES {
+        assert!(rt; plays(&rt, rt.alloc(), scene)?);
+    }
+    Ok(())
 }

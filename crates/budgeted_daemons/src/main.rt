@@ -10,12 +10,11 @@ mod opening;
 mod working;
 
 use crate::opening::open;
-use crate::working::{Tally, work_in_threads};
+use crate::working::{OutcomeCounts, work_in_threads};
 use anyhow::{Result, bail};
 use coordination::Opened;
-use daemon_desk::{Desk, FolderDesk, FolderLink};
+use daemon_desk::{Desk, FolderDesk, FolderLink, Served, serve};
 use daemon_manager::Event;
-use daemon_server::{Served, serve};
 use file_access::{FolderFiles, StdSink, StdSource};
 use item_actions::Text;
 use memory_budget::{BudgetLock, BudgetPool};
@@ -87,14 +86,14 @@ fn work_all<R: Threads + Wait + Sync>(
     rt: &HostRuntime,
     threads: &R,
     pool: &BudgetLock<FolderLink>,
-    tally: &Mutex<Tally>,
+    counts: &Mutex<OutcomeCounts>,
 ) -> Result<u32> {
     let opened = open(rt.alloc(), WORKERS)?;
     let Opened {
         service,
         mut passes,
     } = Box::into_inner(opened);
-    work_in_threads(threads, rt, &service, pool, tally, &mut passes);
+    work_in_threads(threads, rt, &service, pool, counts, &mut passes);
     let book = service.finish(passes);
     Ok(book.state().leases_out())
 }
@@ -103,11 +102,11 @@ fn work_all<R: Threads + Wait + Sync>(
 fn run<R: Threads + Wait + Sync>(rt: &HostRuntime, threads: &R, told: bool) -> Result<()> {
     let mut last = desk(rt)?;
     let pool = BudgetLock::new(BudgetPool::new(rt.alloc(), BUDGET_MB)?);
-    let tally = Mutex::new(Tally::new());
-    let worked = work_all(rt, threads, &pool, &tally);
+    let counts = Mutex::new(OutcomeCounts::new());
+    let worked = work_all(rt, threads, &pool, &counts);
     let events = close(pool, &mut last);
     let leases_out = worked?;
-    let Tally { right, wrong } = tally.into_inner();
+    let OutcomeCounts { right, wrong } = counts.into_inner();
     println!(rt; "items: {right} right, {wrong} wrong")?;
     println!(rt; "leases out: {leases_out}")?;
     if told {

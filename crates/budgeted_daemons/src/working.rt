@@ -8,7 +8,7 @@ use crate::asked::work;
 use crate::{WORKERS, desk};
 use coordination::{Coordination, Halt, Pass, used_passes_have_their_numbers};
 use daemon_desk::{Desk, FolderLink};
-use daemon_requirements::Work;
+use daemon_requirements::{Linked, Work};
 use item_actions::Outcome;
 use lease_service::{current_lease, hand_back, run_as_worker};
 use memory_budget::{BudgetLock, Budgeted, BudgetedRun, run_in_budget, stop_daemon};
@@ -22,14 +22,14 @@ const ITEMS: u32 = 200;
 
 /// How many items came out as they should, and how many otherwise.
 #[derive(Clone, Copy)]
-pub(crate) struct Tally {
+pub(crate) struct OutcomeCounts {
     pub(crate) right: u32,
     pub(crate) wrong: u32,
 }
 
-impl Tally {
-    pub(crate) fn new() -> Tally {
-        Tally { right: 0, wrong: 0 }
+impl OutcomeCounts {
+    pub(crate) fn new() -> OutcomeCounts {
+        OutcomeCounts { right: 0, wrong: 0 }
     }
 
     // Counts an item. The file has three lines.
@@ -41,19 +41,25 @@ impl Tally {
     }
 }
 
+// What the workers share.
+#[derive(Clone, Copy)]
+struct Site<'a, R, L: Linked> {
+    rt: &'a R,
+    alloc: Global,
+    service: &'a Coordination,
+    pool: &'a BudgetLock<L>,
+}
+
 // Takes a lease, has a daemon work the item out once there is room for it, and gives the lease back. The daemon that is one too
 // many is stopped behind that, so the wait for its end keeps no lease.
 fn run_leased<R: Wait, D: Desk>(
-    rt: &R,
-    alloc: Global,
-    service: &Coordination,
+    site: &Site<'_, R, D::Link>,
     pass: &mut Pass,
     desk: &mut D,
-    pool: &BudgetLock<D::Link>,
     unit: u32,
     work: &Work,
 ) -> Result<Budgeted, Halt>
-    requires service { pass.old.service ≡ service.now.service }
+    requires service { pass.old.service ≡ site.now.service.now.service }
     requires claimed { claimed_shown pass.old.sight ≡ [] }
     requires parked { parked_shown pass.old.sight ≡ [] }
     requires blocked { blocked_shown pass.old.sight ≡ false }
@@ -62,6 +68,12 @@ fn run_leased<R: Wait, D: Desk>(
     ensures service { pass.new.service ≡ pass.old.service }
     ensures worker { pass.new.sight.worker ≡ pass.old.sight.worker }
 {
+    let Site {
+        rt,
+        alloc,
+        service,
+        pool,
+    } = *site;
     run_as_worker(rt, service, pass)?;
     let BudgetedRun { budgeted, spare } = match current_lease(pass) {
         Some(lease) => run_in_budget(rt, alloc, &lease, desk, pool, unit, work),
@@ -79,24 +91,21 @@ fn run_leased<R: Wait, D: Desk>(
 
 // Runs an item where the worker can take a lease. None where it can't, or where there is no memory.
 fn run_item<R: Wait, D: Desk>(
-    rt: &R,
-    alloc: Global,
-    service: &Coordination,
+    site: &Site<'_, R, D::Link>,
     pass: &mut Pass,
     desk: &mut D,
-    pool: &BudgetLock<D::Link>,
     unit: u32,
 ) -> Option<Budgeted>
-    requires { pass.old.service ≡ service.now.service }
+    requires { pass.old.service ≡ site.now.service.now.service }
     ensures service { pass.new.service ≡ pass.old.service }
     ensures worker { pass.new.sight.worker ≡ pass.old.sight.worker }
 {
-    let work = work(alloc, unit).ok()?;
+    let work = work(site.alloc, unit).ok()?;
     let is_idle = pass.claimed().is_empty() && pass.parked().is_empty() && !pass.blocked();
     if !is_idle {
         return None;
     }
-    run_leased(rt, alloc, service, pass, desk, pool, unit, &work).ok()
+    run_leased(site, pass, desk, unit, &work).ok()
 }
 
 // Runs the worker's items. Whoever can't go on stops the others, so that none waits for it.
@@ -105,7 +114,7 @@ fn run_share<R: Wait>(
     host: &HostRuntime,
     service: &Coordination,
     pool: &BudgetLock<FolderLink>,
-    tally: &Mutex<Tally>,
+    counts: &Mutex<OutcomeCounts>,
     pass: &mut Pass,
 )
     requires { pass.old.service ≡ service.now.service }
@@ -115,11 +124,17 @@ fn run_share<R: Wait>(
     let Ok(mut desk) = desk(host) else {
         return;
     };
+    let site = Site {
+        rt,
+        alloc: host.alloc(),
+        service,
+        pool,
+    };
     let worker = pass.worker().0;
     for unit in 0..ITEMS {
         if unit % WORKERS == worker {
-            match run_item(rt, host.alloc(), service, pass, &mut desk, pool, unit) {
-                Some(ran) => tally.lock(rt).count(ran),
+            match run_item(&site, pass, &mut desk, unit) {
+                Some(ran) => counts.lock(rt).count(ran),
                 None => {
                     service.stop_all(rt, pass);
                     return;
@@ -135,7 +150,7 @@ pub(crate) fn work_in_threads<R: Threads + Wait + Sync>(
     host: &HostRuntime,
     service: &Coordination,
     pool: &BudgetLock<FolderLink>,
-    tally: &Mutex<Tally>,
+    counts: &Mutex<OutcomeCounts>,
     passes: &mut [Pass],
 )
     requires service { All (λ p. p.service ≡ service.now.service) passes.old }
@@ -148,6 +163,6 @@ pub(crate) fn work_in_threads<R: Threads + Wait + Sync>(
         rt,
         passes,
         threads,
-        &|_, pass| { run_share(rt, host, service, pool, tally, pass) },
+        &|_, pass| { run_share(rt, host, service, pool, counts, pass) },
     );
 }

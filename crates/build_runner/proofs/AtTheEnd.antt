@@ -14,10 +14,10 @@ use Rattle.lock_journal.specs.BookView.{BookView}
 use Rattle.lock_transforms.specs.Entry.{Entry, replay}
 use Rattle.plan_reader.specs.PlanView.{PlanView}
 use Rattle.plan_reader.specs.Units.{PlannedUnit, unit_value}
-use Rattle.history_laws.specs.Answers.{IsHonestWorker, answers}
-use Rattle.history_laws.specs.ClosedBy.{closed_by, faults_by, faults_in}
-use Rattle.history_laws.specs.Marks.{IsEnded}
-use Rattle.history_laws.specs.Runs.{ComesTo, GivesClosedOutcomes}
+use Rattle.lock_journal.specs.Answers.{IsHonestWorker, answers}
+use Rattle.lock_journal.specs.ClosedBy.{closed_by, faults_by, faults_in}
+use Rattle.lock_journal.specs.Marks.{IsEnded}
+use Rattle.lock_journal.specs.Runs.{ComesTo, GivesClosedOutcomes}
 use Rattle.coordination.specs.Agrees.{Agrees}
 use Rattle.coordination.specs.Holds.{HoldsNothing}
 use Rattle.coordination.specs.Passes.{PassView}

@@ -3,7 +3,7 @@ use Rattle.std.proofs.Common.{◌≡◌, ◌⊎◌, ℕ, ◌<◌, inl, inr, Bool
 use Rattle.resource_lock.specs.GraphView.{GraphView}
 use Rattle.resource_lock.specs.StateView.{StateView}
 use Rattle.resource_lock.specs.declared.ids.WorkerId.{WorkerId}
-use Rattle.history_laws.specs.Marks.{IsEnded}
+use Rattle.lock_journal.specs.Marks.{IsEnded}
 use Rattle.lock_journal.specs.BookView.{BookView}
 use Rattle.worker_choices.specs.Choices.{IsNext}
 use Rattle.worker_choices.specs.declared.choices.Choice.{Choice}

@@ -9,7 +9,7 @@ use Rattle.lock_transforms.specs.declared.entries.Closed.{Closed}
 use Rattle.daemon_manager.specs.Counts.{TallyView}
 use Rattle.daemon_requirements.specs.declared.work.Isolation.{Isolation}
 use Rattle.daemon_requirements.specs.declared.work.Isolation.TheVariants.{InThread, Process}
-use Rattle.history_laws.specs.ClosedBy.{closed_by}
+use Rattle.lock_journal.specs.ClosedBy.{closed_by}
 use Rattle.coordination.specs.Passes.{PassView}
 use Rattle.coordination.specs.declared.rule.Sight.{Sight}
 use Rattle.item_work.specs.Tallying.{TalliesFor, one_if_unreal}

@@ -17,10 +17,10 @@ use Rattle.lock_transforms.specs.declared.entries.Kind.{Kind}
 use Rattle.file_access.specs.SinkView.{Rises}
 use Rattle.file_access.proofs.lemmas.Lists.{all_append}
 use Rattle.plan_reader.specs.Units.{PlannedUnit}
-use Rattle.history_laws.specs.Answers.{IsHonestWorker}
+use Rattle.lock_journal.specs.Answers.{IsHonestWorker}
 use Rattle.lock_journal.specs.Closings.{closed_of}
-use Rattle.history_laws.specs.ClosedBy.{closed_at, closed_by, closed_in, faults_by, faults_in}
-use Rattle.history_laws.proofs.lemmas.Growing.{closed_by-push}
+use Rattle.lock_journal.specs.ClosedBy.{closed_at, closed_by, closed_in, faults_by, faults_in}
+use Rattle.lock_journal.proofs.lemmas.Growing.{closed_by-push}
 use Rattle.coordination.specs.Agrees.{Finds}
 use Rattle.coordination.specs.Attempts.{Cause, Making}
 use Rattle.coordination.specs.Calls.{AskedInVain, HasFailed, HasFinished, HasLooked, HasStopped, IsAnswered, WasStopped}

@@ -13,12 +13,12 @@ use Rattle.resource_lock.specs.declared.graphs.Retention.{Retention}
 use Rattle.resource_lock.specs.declared.graphs.Retention.TheVariants.{Retain, Release, ReleaseAndReacquire}
 use Rattle.resource_lock.specs.declared.ids.LockId.{LockId}
 use Rattle.resource_lock.specs.declared.marks.MarkId.TheVariants.{Task as TaskOf, Action as ActionOf, Unit as UnitOf}
-use Rattle.history_laws.proofs.lemmas.Fitting.{apart_of}
-use Rattle.history_laws.specs.OwnChanges.{lock_before, mark_before, with_member, without_member}
+use Rattle.lock_journal.proofs.lemmas.Fitting.{apart_of}
+use Rattle.lock_journal.specs.OwnChanges.{lock_before, mark_before, with_member, without_member}
 use Rattle.coordination.specs.Holds.{HoldsNothing}
 use Rattle.coordination.specs.Shown.{ShowsTheSame, blocked_shown, claimed_shown, lease_shown, locks_shown, parked_shown}
 use Rattle.coordination.specs.declared.rule.Sight.{Sight}
-use Rattle.history_laws.specs.Own.{is_action, is_unit}
+use Rattle.lock_journal.specs.Own.{is_action, is_unit}
 use Rattle.async_tracker.specs.Shows.{IsIdleOrParked, OwnsToPark, ShowsParked, ShowsResumed, WorksOn}
 use Rattle.async_tracker.specs.Tasks.{MayEnd, ShowsEnded, ShowsStarted, locks_on_end}
 use Rattle.blocking_section.specs.Sections.{HasSetDown, HasTakenUp}

@@ -7,9 +7,9 @@ use Rattle.resource_lock.specs.declared.ids.LockId.{LockId}
 use Rattle.plan_reader.specs.PlanView.{PlanTaskView, PlanView}
 use Rattle.plan_reader.specs.Graph.{all_projects_lock, graph_of, task_lock, tasks_from}
 use Rattle.plan_reader.specs.IsPlan.{IsPlan, dependencies}
-use Rattle.history_laws.specs.Outcomes.{AreRanks}
-use Rattle.task_ranks.specs.Rank.{Dependencies, InRange, IsFirstCycle, after}
-use Rattle.task_ranks.specs.Numbering.{IsNumbering}
+use Rattle.lock_journal.specs.Outcomes.{AreRanks}
+use Rattle.ready_work.specs.Rank.{Dependencies, InRange, IsFirstCycle, after}
+use Rattle.ready_work.specs.Numbering.{IsNumbering}
 
 abbrev afters_in : List GraphTaskView → Dependencies
 afters_in ts = map (λ t. t.after) ts

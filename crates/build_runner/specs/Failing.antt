@@ -3,7 +3,7 @@ use Rattle.std.specs.Prelude.{ℕ, ◌+◌, ◌≤◌, List, sum_by}
 use Rattle.std.specs.List.{range_with_len}
 use Rattle.lock_transforms.specs.Entry.{Entry}
 use Rattle.lock_transforms.specs.declared.entries.Closed.{Closed}
-use Rattle.history_laws.specs.ClosedBy.{closed_by}
+use Rattle.lock_journal.specs.ClosedBy.{closed_by}
 use Rattle.coordination.specs.Passes.{PassView}
 use Rattle.coordination.specs.declared.rule.Sight.{Sight}
 use Rattle.resource_lock.specs.declared.ids.WorkerId.{WorkerId}

@@ -3,8 +3,8 @@ use Rattle.std.specs.Prelude.{ℕ, ◌≡◌, ◌+◌, ◌-◌, ◌^◌, ◌<◌
 use Rattle.item_actions.specs.Files.{Folder}
 use Rattle.lock_transforms.specs.declared.entries.Closed.{Closed}
 use Rattle.plan_reader.specs.Units.{PlannedUnit}
-use Rattle.history_laws.specs.Answers.{IsHonestWorker}
-use Rattle.history_laws.specs.ClosedBy.{closed_by, faults_by}
+use Rattle.lock_journal.specs.Answers.{IsHonestWorker}
+use Rattle.lock_journal.specs.ClosedBy.{closed_by, faults_by}
 use Rattle.coordination.specs.declared.rule.Sight.{Sight}
 use Rattle.build_runner.specs.Units.{given}
 

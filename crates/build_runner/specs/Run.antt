@@ -10,10 +10,10 @@ use Rattle.lock_journal.specs.BookView.{BookView}
 use Rattle.plan_reader.specs.PlanView.{PlanView}
 use Rattle.plan_reader.specs.Units.{plan_units, unit_value}
 use Rattle.plan_reader.specs.Graph.{graph_of}
-use Rattle.history_laws.specs.Answers.{answers}
-use Rattle.history_laws.specs.ClosedBy.{closed_by, faults_by}
-use Rattle.history_laws.specs.Marks.{HasEnded}
-use Rattle.history_laws.specs.Runs.{ComesTo, GivesClosedOutcomes, IsOrderly}
+use Rattle.lock_journal.specs.Answers.{answers}
+use Rattle.lock_journal.specs.ClosedBy.{closed_by, faults_by}
+use Rattle.lock_journal.specs.Marks.{HasEnded}
+use Rattle.lock_journal.specs.Runs.{ComesTo, GivesClosedOutcomes, IsOrderly}
 use Rattle.build_runner.specs.Desks.{DeskView, known_by}
 use Rattle.build_runner.specs.Sent.{AreSentAndOneMore, AreSentFor}
 use Rattle.build_runner.specs.declared.options.RunOptions.{RunOptions}

@@ -4,7 +4,7 @@ ghost use Rattle.std.specs.Prelude.{true, vec_capacity, vec_len};
 ghost use Rattle.resource_lock.specs.declared.limits.TheConstants.{MAX_LEASES, MAX_WORKERS};
 ghost use Rattle.daemon_manager.specs.Counts.{failures, reservations};
 ghost use Rattle.daemon_manager.specs.Events.{NoneIdle, IsLegal};
-ghost use Rattle.history_laws.specs.ClosedBy.{closed_by};
+ghost use Rattle.lock_journal.specs.ClosedBy.{closed_by};
 ghost use Rattle.history_views.specs.Growing.{IsLater};
 ghost use Rattle.coordination.specs.Passes.{PassView};
 ghost use Rattle.coordination.specs.Sights.{workers_from};
@@ -30,13 +30,13 @@ use coordination::Pass;
 use daemon_desk::Desk;
 use daemon_manager::{CountedPool, Pool, Tallies};
 use file_access::Gate;
-use history_laws::{
-    every_run_comes_to_its_plan, histories_go_on, honest_workers_give_the_answers,
+use item_work::PoolLock;
+use lock_journal::{
+    Book, every_run_comes_to_its_plan, histories_go_on, honest_workers_give_the_answers,
     lawful_histories_lead_to_good_states,
 };
-use item_work::PoolLock;
-use lock_journal::Book;
 use plan_reader::Plan;
+use ready_work::ranks_give_a_numbering;
 use run_watch::Watch;
 use std::alloc::{AllocError, Global};
 use std::marker::Brand;
@@ -44,7 +44,6 @@ use std::mem;
 use std::sync::ledger::{Blank, Ledger};
 use std::sync::{Mutex, Wait};
 use std::thread::Threads;
-use task_ranks::ranks_give_a_numbering;
 
 // Takes the book out of the service for good.
 fn close_service<R: Wait>(

@@ -11,7 +11,7 @@ use Rattle.coordination.specs.Kept.{KeptView}
 use Rattle.coordination.specs.Passes.{PassView}
 use Rattle.coordination.specs.Sights.{workers_from}
 use Rattle.coordination.proofs.Closing.{Closes, graph_is, passes_agree, passes_stopped, sound_is, workers_all}
-use Rattle.coordination.proofs.Rests.{known_entries, rests_with, to_sights}
+use Rattle.coordination.proofs.AtRest.{known_entries, rests_with, to_sights}
 use Rattle.coordination.proofs.Together.{come_to}
 
 pub closed_by : (g : GraphView) (ps : List PassView) (xs : List KeptView) (left : KeptView) (book : BookView) → map (λ p. p.sight.worker.0) ps ≡ workers_from 0 g.workers

@@ -16,9 +16,9 @@ use Rattle.resource_lock.proofs.lemmas.Kept.{kept}
 use Rattle.resource_lock.proofs.lemmas.Lists.{length-le_from_once}
 use Rattle.resource_lock.proofs.lemmas.Runs.{all_named_along, make_all-append, same_shape-make, worker_along}
 use Rattle.lock_transforms.specs.Table.{owned, owned_from}
-use Rattle.history_laws.specs.Own.{action_at, claimed, places_from, task_at, unit_at}
-use Rattle.history_laws.specs.OwnChanges.{claimed_after, locks_after, lock_before, mark_before, with_if, with_member, without_if}
-use Rattle.history_laws.proofs.lemmas.OwnChanges.{own_claimed, own_holding, own_locks}
+use Rattle.lock_journal.specs.Own.{action_at, claimed, places_from, task_at, unit_at}
+use Rattle.lock_journal.specs.OwnChanges.{claimed_after, locks_after, lock_before, mark_before, with_if, with_member, without_if}
+use Rattle.lock_journal.proofs.lemmas.OwnChanges.{own_claimed, own_holding, own_locks}
 use Rattle.coordination.specs.Parts.{HasRoomFor, IsAfter, LeadsOn, mark_count}
 use Rattle.coordination.specs.declared.parts.Part.{Part}
 

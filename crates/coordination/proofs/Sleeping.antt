@@ -11,7 +11,7 @@ use Rattle.worker_choices.specs.declared.stances.Stance.{Stance}
 use Rattle.worker_choices.specs.declared.stances.Stance.TheVariants.{Away, Looks, Sleeps}
 use Rattle.worker_choices.specs.declared.woken.Woken.{Woken}
 use Rattle.worker_choices.specs.declared.woken.Woken.TheVariants as woken
-use Rattle.coordination.specs.Endings.{AreQuiet, IsWokenBy, stances_after}
+use Rattle.coordination.specs.SleepAndWake.{AreQuiet, IsWokenBy, stances_after}
 
 -- a place where a worker sleeps counts
 none_there : (xs : List Stance) (i : ℕ) (a : Awaited) → asleep xs ≡ 0 → slice_get xs i ≡ Some (Sleeps a) → ⊥
@@ -28,7 +28,7 @@ one_looks xs i a at =
     omega (arith, count_by-set looks xs i Looks Away (slice_get_within xs i (Sleeps a) at), ap (λ s. one_if (looks s)) (get_or_from_slice_get xs i (Sleeps a) Away at))
 
 -- nobody sleeps where all are away
-none_sleeps : (n i : ℕ) (a : Awaited) → slice_get (replicate n Away) i ≡ Some (Sleeps a) → ⊥
+pub none_sleeps : (n i : ℕ) (a : Awaited) → slice_get (replicate n Away) i ≡ Some (Sleeps a) → ⊥
 none_sleeps n i a at =
     let low = slice_get_within (replicate n Away) i (Sleeps a) at in
     let is = get_or-replicate n i Away Away (omega (arith, low, length-replicate n Away)) in

@@ -15,7 +15,7 @@ use Rattle.coordination.specs.Sights.{workers_from}
 use Rattle.coordination.specs.Together.{ComeTo, closed_of_pass, entries_of, has_lease, locks_of}
 use Rattle.coordination.proofs.Closing.{how_many, worker_at}
 use Rattle.coordination.proofs.lemmas.Entries.{belongs_sound, good_sound}
-use Rattle.coordination.proofs.Rests.{known_entries}
+use Rattle.coordination.proofs.AtRest.{known_entries}
 use Rattle.coordination.proofs.Totals.{all_ones, closed_all, closed_each, is_total, one_each, sorted, spread, total, total-map, total-same, weight_of}
 
 -- a lock that stands among those of a worker is its own

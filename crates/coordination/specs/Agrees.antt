@@ -4,9 +4,9 @@ use Rattle.resource_lock.specs.declared.ids.WorkerId.{WorkerId}
 use Rattle.lock_transforms.specs.Entry.{Entry, replay}
 use Rattle.lock_transforms.specs.Allowed.{Lawful}
 use Rattle.lock_journal.specs.BookView.{BookView}
-use Rattle.history_laws.specs.ClosedBy.{closed_by}
-use Rattle.history_laws.specs.Own.{NoneOf, SameFor}
-use Rattle.coordination.specs.Lasts.{last_of, entry_count_of}
+use Rattle.lock_journal.specs.ClosedBy.{closed_by}
+use Rattle.lock_journal.specs.Own.{NoneOf, SameFor}
+use Rattle.coordination.specs.WorkerEntries.{last_of, entry_count_of}
 
 -- The history goes on from what the worker saw by entries of others alone, and what the worker has, owns, runs, closed and listed is the same in both.
 pub record Agrees (w : WorkerId) (seen book : BookView) : Type 0 where

@@ -18,7 +18,7 @@ use Rattle.coordination.specs.declared.sleepers.Wakes.{Wakes}
 use Rattle.coordination.specs.Agrees.{Finds, IsSoundBook}
 use Rattle.coordination.specs.Parts.{HasListRoom, IsPartOf, marks_of}
 use Rattle.coordination.specs.Sights.{seeing}
-use Rattle.coordination.specs.Endings.{EndsHold, begun, has_entered, noted_after, noted_asking, stance_after, stance_asking, woken_if}
+use Rattle.coordination.specs.SleepAndWake.{EndsHold, begun, has_entered, noted_after, noted_asking, stance_after, stance_asking, woken_if}
 
 -- where a transform may fail, or ask to be run again
 abbrev pub Cause : Type 1

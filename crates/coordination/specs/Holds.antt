@@ -2,7 +2,7 @@
 use Rattle.std.specs.Prelude.{◌≡◌, []}
 use Rattle.resource_lock.specs.StateView.{empty_holding, holding_of}
 use Rattle.lock_transforms.specs.Table.{owned}
-use Rattle.history_laws.specs.Own.{claimed}
+use Rattle.lock_journal.specs.Own.{claimed}
 use Rattle.coordination.specs.declared.rule.Sight.{Sight}
 
 -- the worker owns no lock, runs nothing, and has no lease and no parked lock, nor is it blocked

@@ -1,5 +1,5 @@
 pub mod Shown
-pub mod Lasts
+pub mod WorkerEntries
 pub mod Agrees
 pub mod Holds
 pub mod Kept
@@ -7,12 +7,12 @@ pub mod Sights
 pub mod Rule
 pub mod Attempts
 pub mod Calls
-pub mod Rising
+pub mod SortedLists
 pub mod Parts
 pub mod Passes
 pub mod Together
-pub mod Endings
-pub mod Tries
+pub mod SleepAndWake
+pub mod Turns
 pub mod Decisions
-pub mod Joints
+pub mod RunThenDecide
 pub mod Closings

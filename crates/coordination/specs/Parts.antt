@@ -16,10 +16,10 @@ use Rattle.lock_transforms.specs.Table.{owned}
 use Rattle.lock_transforms.specs.declared.entries.Kind.{Kind}
 use Rattle.lock_transforms.specs.declared.transforms.Disposition.{Disposition}
 use Rattle.lock_transforms.specs.declared.transforms.Disposition.TheVariants.{Finished, Failed, Retry}
-use Rattle.history_laws.specs.Own.{claimed}
-use Rattle.history_laws.specs.OwnChanges.{claimed_after, locks_after, mark_before, without_if}
+use Rattle.lock_journal.specs.Own.{claimed}
+use Rattle.lock_journal.specs.OwnChanges.{claimed_after, locks_after, mark_before, without_if}
 use Rattle.coordination.specs.Agrees.{IsSoundBook}
-use Rattle.coordination.specs.Lasts.{last_of}
+use Rattle.coordination.specs.WorkerEntries.{last_of}
 use Rattle.coordination.specs.declared.parts.Part.{Part}
 use Rattle.coordination.specs.declared.parts.Room.{Room}
 

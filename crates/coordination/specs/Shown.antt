@@ -4,7 +4,7 @@ use Rattle.resource_lock.specs.StateView.{holding_of}
 use Rattle.resource_lock.specs.declared.ids.LockId.{LockId}
 use Rattle.resource_lock.specs.declared.marks.MarkId.{MarkId}
 use Rattle.lock_transforms.specs.Table.{owned}
-use Rattle.history_laws.specs.Own.{claimed}
+use Rattle.lock_journal.specs.Own.{claimed}
 use Rattle.coordination.specs.declared.rule.Sight.{Sight}
 
 abbrev pub locks_shown : Sight → List LockId

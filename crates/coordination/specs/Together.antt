@@ -7,8 +7,8 @@ use Rattle.lock_transforms.specs.Entry.{Entry}
 use Rattle.lock_journal.specs.BookView.{BookView}
 use Rattle.lock_transforms.specs.Table.{owned}
 use Rattle.lock_transforms.specs.declared.entries.Closed.{Closed}
-use Rattle.history_laws.specs.ClosedBy.{closed_by, closed_in}
-use Rattle.coordination.specs.Lasts.{entry_count_of}
+use Rattle.lock_journal.specs.ClosedBy.{closed_by, closed_in}
+use Rattle.coordination.specs.WorkerEntries.{entry_count_of}
 use Rattle.coordination.specs.Passes.{PassView}
 
 abbrev pub locks_of : PassView → List LockId

@@ -2,7 +2,7 @@
 ghost use Rattle.std.specs.Prelude.{◌≡◌, ◌<◌, IfNone, IfSome, false, true};
 ghost use Rattle.coordination.specs.Attempts.{Asked, Attempted};
 ghost use Rattle.coordination.specs.Calls.{HasStopped};
-ghost use Rattle.coordination.specs.Endings.{EndsHold, has_entered, stance_after, stance_asking};
+ghost use Rattle.coordination.specs.SleepAndWake.{EndsHold, has_entered, stance_after, stance_asking};
 ghost use Rattle.coordination.specs.Passes.{IsPass};
 ghost use Rattle.coordination.specs.Sights.{hearing, sight_of};
 
@@ -19,26 +19,6 @@ use history_views::Reach;
 use lock_transforms::{Disposition, Transform};
 use resource_lock::WorkerId;
 use std::alloc::AllocError;
-
-/// What came of a try.
-pub enum Tried {
-    /// The transform made an entry, a failed one where this is false.
-    Entered(bool),
-    /// The transform came to nothing.
-    Halted(Halt),
-    /// The transform is to be tried again.
-    Again,
-}
-
-/// What came of asking a question.
-pub enum Reply<A> {
-    /// It was answered.
-    Answered(A),
-    /// It has no answer, and this worker has stopped the service.
-    Stopped(WorkerId),
-    /// It is to be asked again.
-    Again,
-}
 
 impl<K: Keeper> Slot<K> {
     /// Runs the transform once, and tells whom its entry wakes of those that sleep. None says that another pass has the
@@ -70,7 +50,7 @@ impl<K: Keeper> Slot<K> {
         ended
     }
 
-    // The same at the seat of a pass.
+    // `attempt` at the seat of the pass.
     #[inline]
     fn attempt_at<T: Transform>(
         &self,
@@ -128,7 +108,7 @@ impl<K: Keeper> Slot<K> {
         asked
     }
 
-    // The same at the seat of a pass.
+    // `attempt_ask` at the seat of the pass.
     #[inline]
     fn ask_at<Q: Question>(
         &self,

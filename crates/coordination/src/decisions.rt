@@ -1,10 +1,8 @@
 //! Decisions: questions whose answers are carried out in the hold of the state lock in which they are given.
 ghost use Rattle.std.specs.Prelude.{◌≡◌, Option};
 
-use crate::halts::Halt;
 use crate::questions::Question;
-use lock_transforms::{Disposition, Transform};
-use std::alloc::AllocError;
+use lock_transforms::Transform;
 
 /// A question of which some answers have a step: a transform that carries the answer out, on the very book that it was
 /// given of.
@@ -42,40 +40,4 @@ pub enum Followed<A> {
     NoMemory,
     /// The transform finished, and this was decided on the book that it left.
     Decided(Decided<A>),
-}
-
-/// What came of a decision on a book.
-pub enum Verdict<A> {
-    /// It has this answer, which has no step, or none yet.
-    Asked(Option<A>),
-    /// It has this answer, whose step was run.
-    Ran(A, Result<Disposition, AllocError>),
-}
-
-/// What came of a transform and of the decision behind it on a book.
-pub enum Joined<A> {
-    /// The transform didn't finish, and nothing was decided.
-    Alone(Result<Disposition, AllocError>),
-    /// The transform finished, and this came of the decision.
-    Both(Verdict<A>),
-}
-
-/// What came of a try of a transform with a decision behind it.
-pub enum Pursued<A> {
-    /// The transform made its entry.
-    Followed(Followed<A>),
-    /// It came to nothing.
-    Halted(Halt),
-    /// It is to be tried again.
-    Again,
-}
-
-/// What came of a try of a decision.
-pub enum Ruling<A> {
-    /// It was decided.
-    Decided(Decided<A>),
-    /// It came to nothing.
-    Halted(Halt),
-    /// It is to be tried again.
-    Again,
 }

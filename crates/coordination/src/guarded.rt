@@ -1,23 +1,24 @@
 //! What the state lock guards beside the book, in the slot of the book.
-ghost use Rattle.std.specs.Prelude.{◌≡◌, ◌<◌, IfOk, None};
+ghost use Rattle.std.specs.Prelude.{◌≡◌, ◌<◌, IfOk, None, false};
 ghost use Rattle.history_views.specs.ShownBooks.{IsTold};
 ghost use Rattle.coordination.specs.Attempts.{HasAsked, HasHeld};
 ghost use Rattle.coordination.specs.Decisions.{HasDecidedHeld, awaits_if};
 ghost use Rattle.coordination.specs.Parts.{IsPartHere};
 
-use crate::decisions::{Decision, Verdict};
+use crate::decisions::{Decided, Decision};
 use crate::keepers::Keeper;
-use crate::offers::Offers;
+use crate::outside_work::Offers;
 use crate::parts::Part;
 use crate::questions::Question;
 use crate::sleepers::{Sleepers, Wakes};
 use crate::slots::{ask_of, decide_on, run_on};
+use crate::turns::Came;
 use history_views::Reach;
 use lock_journal::Book;
 use lock_transforms::{Disposition, Transform};
 use resource_lock::WorkerId;
 use std::alloc::{AllocError, Global};
-use worker_choices::{Awaited, Stance};
+use worker_choices::Awaited;
 
 /// The keeper of the book, with who sleeps and what is offered beside it. Whoever has the book out of its slot has all three.
 #[derive(Drop)]
@@ -40,6 +41,22 @@ pub struct Caller {
     pub apart: bool,
     /// Whether it sleeps at all where there is no answer. Else it is away then.
     pub sleeps: bool,
+}
+
+impl Caller {
+    /// The same worker, which doesn't sleep where there is no answer.
+    #[inline]
+    pub fn not_sleeping(self) -> Caller
+        ensures worker { result.worker ≡ self.worker }
+        ensures sleeps { result.sleeps ≡ false }
+    {
+        Caller {
+            woken: false,
+            apart: true,
+            sleeps: false,
+            ..self
+        }
+    }
 }
 
 impl<O: Offers, K: Keeper> Keeper for Guarded<O, K> {
@@ -141,11 +158,9 @@ impl<O: Offers, K: Keeper> Guarded<O, K> {
         ensures asked { HasAsked (Q.answers question.now) (Q.waits_on question.now) (Q.awaits question.now) caller.worker
             caller.promised caller.woken caller.apart (K.book_of self.old.keeper) self.old.sleepers self.new.sleepers result }
     {
-        if caller.woken {
-            self.sleepers.stances.note(caller.worker, Stance::Looks);
-        }
-        self.sleepers.queued = self.offers.are_there();
-        self.sleepers.promised = caller.promised;
+        let queued = self.offers.are_there();
+        self.sleepers
+            .begin_asking(caller.worker, caller.woken, caller.promised, queued);
         let (answer, wakes) = ask_of(
             &self.keeper,
             caller.worker,
@@ -168,7 +183,9 @@ impl<O: Offers, K: Keeper> Guarded<O, K> {
         part: &mut Part,
         reach: &mut Option<Reach>,
         decision: &Q,
-    ) -> (Verdict<Q::Answer>, Wakes)
+    ) -> (Came<Decided<Q::Answer>>, Wakes)
+    where
+        Q::Answer: Drop,
         requires part { IsPartHere caller.worker (K.book_of self.old.keeper) part.old }
         requires told { K.ledger_of self.old.keeper ≡ None → reach.old ≡ None }
         ensures ledger { K.ledger_of self.new.keeper ≡ K.ledger_of self.old.keeper }
@@ -178,13 +195,11 @@ impl<O: Offers, K: Keeper> Guarded<O, K> {
             Q.Step.kind_of Q.Step.makes Q.Step.fails_on Q.Step.retries_on caller.worker caller.promised caller.woken caller.apart
             (K.book_of self.old.keeper) (K.book_of self.new.keeper) part.new self.old.sleepers self.new.sleepers result }
     {
-        if caller.woken {
-            self.sleepers.stances.note(caller.worker, Stance::Looks);
-        }
-        self.sleepers.queued = self.offers.are_there();
-        self.sleepers.promised = caller.promised;
+        let queued = self.offers.are_there();
+        self.sleepers
+            .begin_asking(caller.worker, caller.woken, caller.promised, queued);
         let awaited = awaited_if(caller.sleeps, decision);
-        let (verdict, wakes) = decide_on(
+        let (came, wakes) = decide_on(
             &mut self.keeper,
             caller.worker,
             part,
@@ -193,16 +208,8 @@ impl<O: Offers, K: Keeper> Guarded<O, K> {
             awaited,
             &mut self.sleepers,
         );
-        match &verdict {
-            Verdict::Asked(None) => {
-                if !caller.apart {
-                    self.sleepers.questions = true;
-                }
-            }
-            Verdict::Asked(Some(_)) => {}
-            Verdict::Ran(_, _) => {}
-        }
-        (verdict, wakes)
+        self.sleepers.note_decision(caller.apart, &came);
+        (came, wakes)
     }
 }
 

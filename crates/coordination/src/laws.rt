@@ -7,7 +7,7 @@ ghost use Rattle.resource_lock.specs.Shape.{BelongsTo};
 ghost use Rattle.resource_lock.specs.StateView.{IsWorkerOf};
 ghost use Rattle.resource_lock.specs.declared.ids.WorkerId.{WorkerId};
 ghost use Rattle.lock_journal.specs.BookView.{BookView};
-ghost use Rattle.history_laws.specs.Own.{NamesWorkers};
+ghost use Rattle.lock_journal.specs.Own.{NamesWorkers};
 ghost use Rattle.coordination.specs.Agrees.{IsSoundBook};
 ghost use Rattle.coordination.specs.Passes.{PassView};
 

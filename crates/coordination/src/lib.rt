@@ -3,28 +3,28 @@
 
 mod attempts;
 mod boxed_books;
-mod decision_holds;
 mod decisions;
 mod guarded;
 mod halts;
 mod holds;
-mod joint_holds;
 mod keepers;
-mod lasts;
+mod last_entries;
 mod laws;
-mod offers;
 mod openings;
+mod outside_work;
 mod parts;
 mod passes;
 mod questions;
-mod rising;
 mod rule;
 mod seats;
 mod services;
 mod shown_services;
+mod sleep_and_wake;
 mod sleepers;
 mod slots;
+mod sorted_lists;
 mod stances;
+mod turns;
 
 pub use boxed_books::BoxedBook;
 pub use decisions::{Decided, Decision, Followed};
@@ -33,7 +33,7 @@ pub use keepers::Keeper;
 pub use laws::{
     openings_are_at_rest, sound_books_have_good_states, used_passes_have_their_numbers,
 };
-pub use offers::Offers;
+pub use outside_work::Offers;
 pub use passes::Pass;
 pub use questions::Question;
 pub use rule::Sight;

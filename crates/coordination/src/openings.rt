@@ -8,8 +8,8 @@ ghost use Rattle.coordination.specs.Sights.{sights_from, starting, workers_from}
 use crate::boxed_books::BoxedBook;
 use crate::guarded::Guarded;
 use crate::keepers::{Keeper, Kept};
-use crate::lasts::last_number;
-use crate::offers::Offers;
+use crate::last_entries::last_number;
+use crate::outside_work::Offers;
 use crate::parts::{Part, Room};
 use crate::passes::Pass;
 use crate::rule::SeatView;

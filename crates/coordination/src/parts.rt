@@ -3,10 +3,10 @@ ghost use Rattle.std.specs.Prelude.{◌≡◌, ◌<◌, [], IfOk, length, true, 
 ghost use Rattle.resource_lock.specs.Change.{make_all};
 ghost use Rattle.resource_lock.specs.StateView.{StateView, runs_by};
 ghost use Rattle.lock_journal.specs.BookView.{BookView};
-ghost use Rattle.history_laws.specs.OwnChanges.{mark_before, with_if, without_if};
+ghost use Rattle.lock_journal.specs.OwnChanges.{mark_before, with_if, without_if};
 ghost use Rattle.coordination.specs.Parts.{Follows, HasListRoom, HasRoomFor, IsAfter, IsPartOf, IsFreshPart, IsRoomOf, LeadsOn, marks_of};
 
-use crate::rising::{add, remove};
+use crate::sorted_lists::{add, remove};
 use lock_journal::Book;
 use lock_transforms::Disposition;
 use resource_lock::{Change, Graph, LockId, Mark, MarkId, WorkerId};

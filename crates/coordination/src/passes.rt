@@ -1,7 +1,7 @@
 //! A worker's pass: what it has, and what it has seen of the book.
 ghost use Rattle.std.specs.Prelude.{◌≡◌, ◌∷◌, [], Some};
 ghost use Rattle.history_views.specs.Growing.{Exceeds, IsLater, last_book};
-ghost use Rattle.coordination.specs.Lasts.{last_of};
+ghost use Rattle.coordination.specs.WorkerEntries.{last_of};
 ghost use Rattle.coordination.specs.Passes.{me_in, view_in};
 ghost use Rattle.coordination.specs.Shown.{blocked_shown, claimed_shown, lease_shown, locks_shown, parked_shown};
 

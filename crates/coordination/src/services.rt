@@ -6,43 +6,35 @@ ghost use Rattle.resource_lock.specs.AtRest.{IsAtRest};
 ghost use Rattle.coordination.specs.Holds.{HoldsNothing};
 ghost use Rattle.coordination.specs.Calls.{AskedInVain, HasFailed, HasFinished, HasLooked, HasStopped, IsAnswered, WasStopped};
 ghost use Rattle.coordination.specs.Decisions.{HasDecided};
-ghost use Rattle.coordination.specs.Joints.{HasFollowed};
+ghost use Rattle.coordination.specs.RunThenDecide.{HasFollowed};
 ghost use Rattle.coordination.specs.Sights.{sights_from, workers_from};
 ghost use Rattle.coordination.specs.Together.{ComeTo};
 
-use crate::attempts::{Reply, Tried};
 use crate::boxed_books::BoxedBook;
-use crate::decisions::{Decided, Decision, Followed, Pursued, Ruling};
+use crate::decisions::{Decided, Decision, Followed};
 use crate::guarded::Guarded;
 use crate::halts::Halt;
 use crate::keepers::Keeper;
-use crate::offers::Offers;
 use crate::openings::Stock;
+use crate::outside_work::Offers;
 use crate::passes::Pass;
 use crate::questions::Question;
-use crate::sleepers::Wakes;
+use crate::sleep_and_wake::Condvars;
 use crate::slots::Slot;
+use crate::turns::{Ask, Decide, Run, RunThenDecide};
 use lock_journal::Book;
 use lock_transforms::Transform;
-use resource_lock::WorkerId;
 use std::alloc::{AllocError, Global};
 use std::marker::Model;
 use std::sync::{Condvar, Wait};
-use std::time::Duration;
-use worker_choices::Woken;
 
 /// One book that several workers change, one at a time, with work that waits outside the book or none.
 ///
 /// Whoever looks at the book, or changes it, has the state lock, and so has who falls asleep.
 #[derive(Drop)]
 pub struct Coordination<O: Offers = (), K: Keeper = BoxedBook> {
-    slot: Slot<Guarded<O, K>>,
-    // Questions wait for this that wait for any entry.
-    entered: Condvar,
-    // A worker waits for its own, by worker, which comes once what its question waits for has come.
-    own: Vec<Condvar>,
-    // Transforms wait for this, which comes with each entry that can let another worker go on.
-    freed: Condvar,
+    pub(crate) slot: Slot<Guarded<O, K>>,
+    pub(crate) condvars: Condvars,
 }
 
 impl<O: Offers, K: Keeper> Model for Coordination<O, K> {
@@ -124,20 +116,7 @@ impl<O: Offers, K: Keeper> Coordination<O, K> {
         ensures no_memory { result ≡ Err Halt.NoMemory → HasLooked pass.old.sight pass.new.sight }
         ensures stopped { (by : WorkerId) → result ≡ Err (Halt.Stopped by) → WasStopped (T.retries_on transform.now) by pass.old.sight pass.new.sight }
     {
-        for _ in rt.forever() {
-            // Read before the hold that may note this worker as asleep: any wake that comes of the note changes it.
-            let news = self.freed.notifications();
-            let (tried, wakes) = self.slot.try_transform(rt, pass, transform);
-            if wakes.wake_any() {
-                self.wake(wakes);
-            }
-            match tried {
-                Tried::Entered(finished) => return Ok(finished),
-                Tried::Halted(halt) => return Err(halt),
-                Tried::Again => self.freed.sleep(rt, news, Duration::MAX),
-            }
-        }
-        unreachable!()
+        self.take_turn(rt, pass, &Run { transform })
     }
 
     /// Gets the state lock and asks the question, which makes no entry and changes no state.
@@ -158,30 +137,7 @@ impl<O: Offers, K: Keeper> Coordination<O, K> {
         ensures stopped { (by : WorkerId) → result ≡ Err (Halt.Stopped by) → AskedInVain (Q.waits_on question.now) by pass.old.sight pass.new.sight }
         ensures memory { result ≢ Err Halt.NoMemory }
     {
-        let own = match question.awaited() {
-            Some(_) => self.own.get(pass.worker.0 as usize),
-            None => None,
-        };
-        let place = own.unwrap_or(&self.entered);
-        let apart = own.is_some();
-        let mut woken = false;
-        for _ in rt.forever() {
-            // Read before the hold, as in `with_state_lock`.
-            let news = place.notifications();
-            let (reply, wakes) = self.slot.try_question(rt, pass, woken, apart, question);
-            if wakes.wake_any() {
-                self.wake(wakes);
-            }
-            match reply {
-                Reply::Answered(answer) => return Ok(answer),
-                Reply::Stopped(by) => return Err(Halt::Stopped(by)),
-                Reply::Again => {
-                    place.sleep(rt, news, Duration::MAX);
-                    woken = apart;
-                }
-            }
-        }
-        unreachable!()
+        self.take_turn(rt, pass, &Ask { question })
     }
 
     /// Gets the state lock and decides: it asks the question, and where the answer has a step, runs that on the book of which the
@@ -206,30 +162,7 @@ impl<O: Offers, K: Keeper> Coordination<O, K> {
         ensures no_memory { result ≡ Err Halt.NoMemory → HasLooked pass.old.sight pass.new.sight }
         ensures stopped { (by : WorkerId) → result ≡ Err (Halt.Stopped by) → AskedInVain (Q.waits_on decision.now) by pass.old.sight pass.new.sight }
     {
-        let own = match decision.awaited() {
-            Some(_) => self.own.get(pass.worker.0 as usize),
-            None => None,
-        };
-        let place = own.unwrap_or(&self.entered);
-        let apart = own.is_some();
-        let mut woken = false;
-        for _ in rt.forever() {
-            // Read before the hold, as in `with_state_lock`.
-            let news = place.notifications();
-            let (ruling, wakes) = self.slot.try_decision(rt, pass, woken, apart, decision);
-            if wakes.wake_any() {
-                self.wake(wakes);
-            }
-            match ruling {
-                Ruling::Decided(decided) => return Ok(decided),
-                Ruling::Halted(halt) => return Err(halt),
-                Ruling::Again => {
-                    place.sleep(rt, news, Duration::MAX);
-                    woken = apart;
-                }
-            }
-        }
-        unreachable!()
+        self.take_turn(rt, pass, &Decide { decision })
     }
 
     /// Gets the state lock, runs the transform, and where it finishes decides on the book that it left, before anybody else has the
@@ -256,23 +189,11 @@ impl<O: Offers, K: Keeper> Coordination<O, K> {
         ensures no_memory { result ≡ Err Halt.NoMemory → HasLooked pass.old.sight pass.new.sight }
         ensures stopped { (by : WorkerId) → result ≡ Err (Halt.Stopped by) → WasStopped (T.retries_on transform.now) by pass.old.sight pass.new.sight }
     {
-        for _ in rt.forever() {
-            // Read before the hold, as in `with_state_lock`.
-            let news = self.freed.notifications();
-            let (pursued, wakes, later) = self.slot.try_joint(rt, pass, transform, decision);
-            if wakes.wake_any() {
-                self.wake(wakes);
-            }
-            if later.wake_any() {
-                self.wake(later);
-            }
-            match pursued {
-                Pursued::Followed(followed) => return Ok(followed),
-                Pursued::Halted(halt) => return Err(halt),
-                Pursued::Again => self.freed.sleep(rt, news, Duration::MAX),
-            }
-        }
-        unreachable!()
+        let turn = RunThenDecide {
+            transform,
+            decision,
+        };
+        self.take_turn(rt, pass, &turn)
     }
 
     /// Wakes all that wait: each transform is run again, and each question asked again.
@@ -280,38 +201,7 @@ impl<O: Offers, K: Keeper> Coordination<O, K> {
     /// It doesn't take the state lock, so who is just about to wait may not hear of it. Entries and
     /// stops don't need it.
     pub fn notify_state_change(&self) {
-        self.entered.notify_all();
-        self.freed.notify_all();
-        self.wake_workers(Woken::All);
-    }
-
-    // Wakes these. It stands apart, so that who wakes nobody passes it by.
-    #[inline(never)]
-    fn wake(&self, wakes: Wakes) {
-        if wakes.questions {
-            self.entered.notify_all();
-        }
-        if wakes.transforms {
-            self.freed.notify_all();
-        }
-        self.wake_workers(wakes.workers);
-    }
-
-    // Wakes workers that wait for their own Condvar.
-    fn wake_workers(&self, workers: Woken) {
-        match workers {
-            Woken::Nobody => {}
-            Woken::One(worker) => {
-                if let Some(own) = self.own.get(worker.0 as usize) {
-                    own.notify_all();
-                }
-            }
-            Woken::All => {
-                for own in &self.own {
-                    own.notify_all();
-                }
-            }
-        }
+        self.condvars.wake_all();
     }
 
     /// Stops the service with this pass, and wakes all that wait. Where it was stopped before,
@@ -324,7 +214,7 @@ impl<O: Offers, K: Keeper> Coordination<O, K> {
     {
         // The mark stands before the wakes. Who is about to sleep reads it after it has read what the wakes change.
         self.slot.stop(pass);
-        self.wake(Wakes::ALL);
+        self.condvars.wake_all();
     }
 
     /// Takes the book out for good. Every pass agrees with it, and together their entries and closings
@@ -343,12 +233,7 @@ impl<O: Offers, K: Keeper> Coordination<O, K> {
         ensures stopped_by { All (λ p. (by : WorkerId) → p.sight.stopped_by ≡ Some by
             → Any (λ q. (q.sight.worker ≡ by) × (q.sight.stopped ≡ true)) passes.items) passes.items }
     {
-        let Coordination {
-            slot,
-            entered: _,
-            own: _,
-            freed: _,
-        } = self;
+        let Coordination { slot, condvars: _ } = self;
         slot.close(passes)
     }
 }
@@ -363,8 +248,6 @@ pub(crate) fn service_of<O: Offers, K: Keeper>(
 {
     Coordination {
         slot,
-        entered: Condvar::new(),
-        own,
-        freed: Condvar::new(),
+        condvars: Condvars::new(own),
     }
 }

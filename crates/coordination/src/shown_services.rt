@@ -7,8 +7,8 @@ ghost use Rattle.coordination.specs.Holds.{HoldsNothing};
 ghost use Rattle.coordination.specs.Sights.{sights_from, workers_from};
 
 use crate::guarded::Guarded;
-use crate::offers::Offers;
 use crate::openings::Stock;
+use crate::outside_work::Offers;
 use crate::passes::Pass;
 use crate::services::Coordination;
 use crate::slots::Slot;

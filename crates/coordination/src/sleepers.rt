@@ -1,9 +1,11 @@
 //! Who sleeps, and whom the end of a hold of the state lock wakes.
 ghost use Rattle.std.specs.Prelude.{◌≡◌, IfOk, false, replicate};
 ghost use Rattle.worker_choices.specs.declared.stances.Stance.TheVariants as stance;
-ghost use Rattle.coordination.specs.Endings.{EndsHold, goes_to_work, has_entered, looks_if, stance_after, stance_asking};
+ghost use Rattle.coordination.specs.Decisions.{noted_deciding};
+ghost use Rattle.coordination.specs.SleepAndWake.{EndsHold, begun, goes_to_work, has_entered, looks_if, stance_after, stance_asking, woken_if};
 
 use crate::stances::Stances;
+use crate::turns::Came;
 use lock_journal::Book;
 use lock_transforms::{Disposition, Kind};
 use resource_lock::WorkerId;
@@ -72,6 +74,34 @@ impl Sleepers {
             queued: false,
             promised: false,
         })
+    }
+
+    /// Begins the hold of a question, whose worker was woken or wasn't, and has promised to come again or hasn't.
+    #[inline]
+    pub(crate) fn begin_asking(
+        &mut self,
+        worker: WorkerId,
+        woken: bool,
+        promised: bool,
+        queued: bool,
+    )
+        ensures { self.new ≡ begun queued promised (woken_if woken worker self.old) }
+    {
+        if woken {
+            self.stances.note(worker, Stance::Looks);
+        }
+        self.queued = queued;
+        self.promised = promised;
+    }
+
+    /// Notes that a decision sleeps, where it is to be made again. Where it doesn't sleep apart, any entry wakes it.
+    #[inline]
+    pub(crate) fn note_decision<C>(&mut self, apart: bool, came: &Came<C>)
+        ensures { self.new ≡ noted_deciding apart came.now self.old }
+    {
+        if matches!(came, Came::Again) && !apart {
+            self.questions = true;
+        }
     }
 
     /// Ends a hold: its worker takes this stance, and who is woken looks. Where the hold made an entry, that wakes questions

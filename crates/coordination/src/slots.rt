@@ -1,21 +1,23 @@
 //! The steps on the table.
 ghost use Rattle.std.specs.Prelude.{◌≡◌, ◌≢◌, ◌<◌, ◌+◌, ◌-◌, ◌^◌, [], ◌∷◌, length, true, false, IfNone, IfSome, None};
 ghost use Rattle.coordination.specs.Attempts.{Answers, HasRun};
-ghost use Rattle.coordination.specs.Decisions.{Decides, EndsDecision};
-ghost use Rattle.coordination.specs.Endings.{EndsHold, stance_asking};
+ghost use Rattle.coordination.specs.Decisions.{DecideGives, EndsDecision, carried_out};
+ghost use Rattle.coordination.specs.SleepAndWake.{EndsHold, stance_asking};
 ghost use Rattle.history_views.specs.ShownBooks.{IsTold};
 ghost use Rattle.coordination.specs.Kept.{kept};
-ghost use Rattle.coordination.specs.Parts.{HasListRoom, IsPartHere, IsPartOf, marks_of};
+ghost use Rattle.coordination.specs.Parts.{IsPartHere};
 ghost use Rattle.coordination.specs.Rule.{AddsOwn, Hears, Taken, carried_book};
 ghost use Rattle.coordination.specs.Sights.{holding, one, seeing, sight_of, stopping};
+ghost use Rattle.coordination.specs.Turns.{HasLeft};
 
 use crate::boxed_books::BoxedBook;
-use crate::decisions::{Decision, Verdict};
+use crate::decisions::{Decided, Decision};
 use crate::keepers::{Keeper, Kept};
 use crate::parts::Part;
 use crate::questions::Question;
 use crate::rule::{Hear, OpenedWith, Order, PutBack, SeatView, Stop, Take};
 use crate::sleepers::{Sleepers, Wakes};
+use crate::turns::Came;
 use atomic_table::{Seat, Table};
 use history_views::Reach;
 use lock_transforms::{Disposition, Transform};
@@ -66,7 +68,7 @@ impl<K: Keeper> Slot<K> {
         }
     }
 
-    // The same where another seat had the book just now.
+    // `take` where another seat had the book just now.
     #[inline(never)]
     fn take_later<R: Wait>(&self, rt: &R, seat: &mut Seat<Kept<K>, SeatView>)
         requires id { seat.old.table_id ≡ self.now.table.shared.table_id }
@@ -284,34 +286,45 @@ pub(crate) fn decide_on<K: Keeper, Q: Decision>(
     decision: &Q,
     awaited: Option<Awaited>,
     sleepers: &mut Sleepers,
-) -> (Verdict<Q::Answer>, Wakes)
+) -> (Came<Decided<Q::Answer>>, Wakes)
+where
+    Q::Answer: Drop,
     requires part { IsPartHere worker (K.book_of keeper.old) part.old }
     requires told { K.ledger_of keeper.old ≡ None → reach.old ≡ None }
     ensures ledger { K.ledger_of keeper.new ≡ K.ledger_of keeper.old }
     ensures told { IsTold (K.ledger_of keeper.new) reach.new (K.book_of keeper.new) }
-    ensures graph { (K.book_of keeper.new).graph ≡ (K.book_of keeper.old).graph }
-    ensures kept { IsPartOf (K.book_of keeper.new) worker part.new }
-    ensures room { HasListRoom (K.book_of keeper.new).graph.locks (marks_of (K.book_of keeper.new).graph) part.new }
-    ensures decided { Decides (Q.answers decision.now) (Q.waits_on decision.now) (Q.step_of decision.now)
-        Q.Step.kind_of Q.Step.makes Q.Step.fails_on Q.Step.retries_on worker (K.book_of keeper.old) (K.book_of keeper.new) result.0 }
+    ensures left { HasLeft (DecideGives (Q.answers decision.now) (Q.step_of decision.now) Q.Step.kind_of Q.Step.makes Q.Step.fails_on
+        Q.Step.retries_on) (Q.waits_on decision.now) (Unit {0}) worker (K.book_of keeper.old) (K.book_of keeper.new) part.new result.0 }
     ensures ends { EndsDecision (K.book_of keeper.new) worker awaited (Q.step_of decision.now) Q.Step.kind_of
         sleepers.old sleepers.new result.1 result.0 }
 {
     let book = keeper.book();
     let Some(answer) = decision.ask(worker, book, sleepers.queued) else {
-        let wakes = end_asked(keeper, worker, reach, awaited, &None::<Q::Answer>, sleepers);
-        return (Verdict::Asked(None), wakes);
+        let wakes = end_asked(keeper, worker, reach, awaited, &None::<()>, sleepers);
+        return (Came::Again, wakes);
     };
     match decision.step(&answer) {
         None => {
-            let answer = Some(answer);
-            let wakes = end_asked(keeper, worker, reach, awaited, &answer, sleepers);
-            (Verdict::Asked(answer), wakes)
+            let wakes = end_asked(keeper, worker, reach, awaited, &Some(()), sleepers);
+            (Came::Done(Decided::Answered(answer)), wakes)
         }
         Some(step) => {
             let (came, wakes) = run_on(keeper, worker, part, reach, &step, sleepers);
-            (Verdict::Ran(answer, came), wakes)
+            (carried_out(answer, came), wakes)
         }
+    }
+}
+
+// What came of the step of an answer.
+#[inline]
+fn carried_out<A: Drop>(answer: A, ran: Result<Disposition, AllocError>) -> Came<Decided<A>>
+    ensures { result ≡ carried_out answer ran }
+{
+    match ran {
+        Ok(Disposition::Finished) => Came::Done(Decided::Entered(answer, true)),
+        Ok(Disposition::Failed) => Came::Done(Decided::Entered(answer, false)),
+        Ok(Disposition::Retry) => Came::Done(Decided::Waiting(answer)),
+        Err(_) => Came::NoMemory,
     }
 }
 

@@ -2,7 +2,7 @@
 ghost use Rattle.std.specs.Prelude.{◌≡◌, IfOk, false, length, replicate, set};
 ghost use Rattle.worker_choices.specs.Stances.{asleep, looking};
 ghost use Rattle.worker_choices.specs.declared.stances.Stance.TheVariants as stance;
-ghost use Rattle.coordination.specs.Endings.{AreQuiet, IsWokenBy, stances_after};
+ghost use Rattle.coordination.specs.SleepAndWake.{AreQuiet, IsWokenBy, stances_after};
 
 use lock_journal::Book;
 use resource_lock::WorkerId;

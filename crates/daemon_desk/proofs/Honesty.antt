@@ -14,9 +14,9 @@ use Rattle.daemon_protocol.specs.declared.frames.Reply.{Reply}
 use Rattle.daemon_protocol.specs.declared.frames.Request.{Request}
 use Rattle.daemon_protocol.specs.declared.starts.StreamStart.TheVariants.{Unfinished, Whole}
 use Rattle.daemon_protocol.proofs.lemmas.Settled.{settles}
-use Rattle.daemon_server.specs.Answer.{Answer, asked, reply, replies, IsHonestAnswer}
-use Rattle.daemon_server.specs.Serving.{Outside, HasServed}
-use Rattle.daemon_server.specs.declared.serving.Served.TheVariants.{Done}
+use Rattle.daemon_desk.specs.Answer.{Answer, asked, reply, replies, IsHonestAnswer}
+use Rattle.daemon_desk.specs.Serving.{Outside, HasServed}
+use Rattle.daemon_desk.specs.declared.served_stream.Served.TheVariants.{Done}
 
 -- the bytes of a valid frame are read as that frame
 abbrev pub Spelled : Type 0

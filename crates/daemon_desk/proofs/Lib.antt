@@ -1,3 +1,5 @@
 mod Honesty
 mod Told
 mod Variables
+mod Services
+mod Supplies

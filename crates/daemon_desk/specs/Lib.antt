@@ -5,3 +5,8 @@ pub mod MemoryDeskView
 pub mod Replies
 pub mod Requests
 pub mod Sent
+pub mod Answer
+pub mod Answering
+pub mod Ends
+pub mod Serving
+pub mod Taking

@@ -10,9 +10,9 @@ ghost use Rattle.daemon_desk.specs.Requests.{request_in};
 
 use crate::commands::command_of;
 use crate::replies::reply_to;
+use crate::take_frame;
 use daemon_protocol::{Frame, HEAD_BYTES, MAX_FRAME_BYTES, Reply, Request, encode};
 use daemon_requirements::{Linked, Requirements};
-use daemon_server::take_frame;
 use file_access::{DeskFail, StdSink, StdSource, put_all};
 use item_actions::KeepAlive;
 use std::alloc::Global;

@@ -1,6 +1,7 @@
 //! Daemons as the build sees them: started, asked and stopped, in memory or as child processes.
 #![tactic(auto)]
 
+mod answering;
 mod commands;
 mod desks;
 mod folder_desk;
@@ -10,7 +11,9 @@ mod memory_desk;
 mod memory_link;
 mod replies;
 mod sent;
+mod served_stream;
 mod serving;
+mod taking;
 
 pub use desks::Desk;
 pub use folder_desk::FolderDesk;
@@ -19,3 +22,5 @@ pub use lies::Lie;
 pub use memory_desk::MemoryDesk;
 pub use memory_link::MemoryLink;
 pub use sent::SentRequest;
+pub use served_stream::{MAX_STREAM_BYTES, Served, serve};
+pub use taking::take_frame;

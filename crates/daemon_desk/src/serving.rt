@@ -6,8 +6,8 @@ ghost use Rattle.daemon_protocol.specs.declared.frames.Request.{Request as Asked
 ghost use Rattle.daemon_desk.specs.Replies.{IsReplyTo};
 
 use crate::replies::reply_in;
+use crate::{Served, serve};
 use daemon_protocol::{Frame, HEAD_BYTES, Reply, Request, encode, spelled_frames_are_read};
-use daemon_server::{Served, serve};
 use file_access::{DeskFail, FileMap, MemorySink, MemorySource};
 use item_actions::KeepAlive;
 use std::alloc::Global;

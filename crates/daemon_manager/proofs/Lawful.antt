@@ -9,9 +9,9 @@ use Rattle.daemon_manager.specs.declared.events.Event.TheVariants.{Started, Rese
 use Rattle.daemon_manager.specs.declared.events.DaemonState.{DaemonState}
 use Rattle.daemon_manager.specs.declared.events.DaemonState.TheVariants.{Busy, Idle}
 use Rattle.daemon_manager.specs.Events.{daemon_of, is_about, state_after, state_of, started_with, started, DaemonView, daemon_view, pool, idle, IsBusy, IsJustStarted, MayStand, AreLegalAfter, IsLegal}
-use Rattle.daemon_manager.specs.LedgerView.{one_if_busy}
+use Rattle.daemon_manager.specs.EventLogView.{one_if_busy}
 use Rattle.daemon_manager.proofs.Order.{Some-is}
-use Rattle.daemon_manager.proofs.LedgerKept.{None-is-not}
+use Rattle.daemon_manager.proofs.EventLogKept.{None-is-not}
 use Rattle.daemon_manager.proofs.lemmas.Appending.{pool_other, push_front, started_more, state_other, was_started}
 
 -- one event about another daemon, a start too

@@ -1,6 +1,6 @@
 pub mod lemmas
 pub mod IdleKept
-pub mod LedgerKept
+pub mod EventLogKept
 pub mod Lawful
 pub mod Legality
 pub mod Order

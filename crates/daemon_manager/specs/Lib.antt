@@ -2,6 +2,6 @@ pub mod Calls
 pub mod Counts
 pub mod Events
 pub mod IdleOrder
-pub mod LedgerView
+pub mod EventLogView
 pub mod Lending
 pub mod PoolView

@@ -7,7 +7,7 @@ use Rattle.daemon_manager.specs.declared.idle.IdleDaemon.{IdleDaemon}
 use Rattle.daemon_manager.specs.declared.idle.TheConstants.{MAX_IDLE_DAEMONS}
 use Rattle.daemon_manager.specs.declared.reserved.Reserved.{Reserved}
 use Rattle.daemon_manager.specs.Events.{pool, idle, IsLegal}
-use Rattle.daemon_manager.specs.LedgerView.{LedgerView}
+use Rattle.daemon_manager.specs.EventLogView.{EventLogView}
 
 pub record PoolView (L : Type 0) : Type 0 where
   pub events : List Event
@@ -33,5 +33,5 @@ AreSettled settled daemons = All (λ i. settled i.link ≡ true) daemons
 
 -- what a pool keeps beside what contracts see: there is room for the events that its daemons may still need, two of
 -- each busy one and one of each idle one
-abbrev pub HasRoom : LedgerView → ℕ → Type 0
-HasRoom ledger idle_count = ledger.busy + ledger.busy + idle_count ≤ ledger.room
+abbrev pub HasRoom : EventLogView → ℕ → Type 0
+HasRoom event_log idle_count = event_log.busy + event_log.busy + idle_count ≤ event_log.room

@@ -2,10 +2,10 @@
 #![tactic(auto)]
 
 mod counted_pool;
+mod event_log;
 mod events;
 mod idle;
 mod laws;
-mod ledger;
 mod pools;
 mod reserved;
 mod tallies;

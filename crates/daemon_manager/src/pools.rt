@@ -4,9 +4,9 @@ ghost use Rattle.daemon_manager.specs.Calls.{Adopts, FailsOrNot, Releases, Reser
 ghost use Rattle.daemon_manager.specs.Events.{NoneIdle, IsLegal, idle};
 ghost use Rattle.daemon_manager.specs.PoolView.{HasRoom, IsPool};
 
+use crate::event_log::EventLog;
 use crate::events::{DaemonState, Event};
 use crate::idle::{IdleDaemon, IdleDaemons, MAX_IDLE_DAEMONS};
-use crate::ledger::Ledger;
 use crate::reserved::Reserved;
 use daemon_requirements::{Linked, Requirements};
 use std::alloc::{AllocError, Global};
@@ -15,7 +15,7 @@ use std::marker::Model;
 /// The daemons of a run, by what happened to them. The pool holds the links to the idle ones itself, so nobody
 /// else has one. It can't be dropped: it ends by `into_events`, once no daemon is idle.
 pub struct Pool<L: Linked> {
-    ledger: Ledger,
+    event_log: EventLog,
     idle: IdleDaemons<L>,
 }
 
@@ -25,10 +25,10 @@ impl<L: Linked> Model for Pool<L> {
 
     ghost Value = { PoolView L };
 
-    ghost view = { λ p. record { events = p.ledger.events; idle = p.idle } };
+    ghost view = { λ p. record { events = p.event_log.events; idle = p.idle } };
 
-    ghost invariant = { λ p. IsPool L.requirements (record { events = p.ledger.events; idle = p.idle })
-        × HasRoom p.ledger (length p.idle) × AreSettled L.settled p.idle };
+    ghost invariant = { λ p. IsPool L.requirements (record { events = p.event_log.events; idle = p.idle })
+        × HasRoom p.event_log (length p.idle) × AreSettled L.settled p.idle };
 }
 
 impl<L: Linked> Pool<L> {
@@ -37,9 +37,9 @@ impl<L: Linked> Pool<L> {
         ensures events { IfOk result (λ p. p.events ≡ []) }
         ensures idle { IfOk result (λ p. p.idle ≡ []) }
     {
-        let ledger = Ledger::new(alloc);
+        let event_log = EventLog::new(alloc);
         let idle = IdleDaemons::new(alloc)?;
-        Ok(Pool { ledger, idle })
+        Ok(Pool { event_log, idle })
     }
 
     /// Reserves for the unit, of the idle daemons that cover what is asked, the one that was released last. Its link is
@@ -57,10 +57,10 @@ impl<L: Linked> Pool<L> {
         let Some(place) = self.idle.last_covering(asked) else {
             return Ok(None);
         };
-        let more = needed(&self.ledger, self.idle.len()) + 2;
-        self.ledger.make_room(more)?;
+        let more = needed(&self.event_log, self.idle.len()) + 2;
+        self.event_log.make_room(more)?;
         let IdleDaemon { daemon, link } = self.idle.remove(place);
-        self.ledger
+        self.event_log
             .note(Event::Reserved(daemon, unit), DaemonState::Idle);
         Ok(Some(Reserved { daemon, unit, link }))
     }
@@ -78,8 +78,8 @@ impl<L: Linked> Pool<L> {
         ensures no_memory { OnErr result (self.new ≡ self.old) }
         ensures link { IfErr result (λ returned. returned ≡ link) }
     {
-        let more = needed(&self.ledger, self.idle.len()) + 2;
-        let Ok(daemon) = self.ledger.start(requirements, unit, more) else {
+        let more = needed(&self.event_log, self.idle.len()) + 2;
+        let Ok(daemon) = self.event_log.start(requirements, unit, more) else {
             return Err(link);
         };
         Ok(Reserved { daemon, unit, link })
@@ -93,7 +93,7 @@ impl<L: Linked> Pool<L> {
         ensures { Releases L.requirements self.old self.new reserved result }
     {
         let asked = reserved.link.made_for();
-        let is_own = self.ledger.is_busy_with(reserved.daemon, asked);
+        let is_own = self.event_log.is_busy_with(reserved.daemon, asked);
         let Reserved {
             daemon,
             unit: _,
@@ -102,13 +102,15 @@ impl<L: Linked> Pool<L> {
         if !is_own {
             return Some(link);
         }
-        self.ledger.note(Event::Released(daemon), DaemonState::Busy);
+        self.event_log
+            .note(Event::Released(daemon), DaemonState::Busy);
         self.idle.push(IdleDaemon { daemon, link });
         if self.idle.len() <= MAX_IDLE_DAEMONS {
             return None;
         }
         let IdleDaemon { daemon, link } = self.idle.remove(0);
-        self.ledger.note(Event::Stopped(daemon), DaemonState::Idle);
+        self.event_log
+            .note(Event::Stopped(daemon), DaemonState::Idle);
         Some(link)
     }
 
@@ -119,14 +121,15 @@ impl<L: Linked> Pool<L> {
         ensures { FailsOrNot L.requirements self.old self.new reserved result }
     {
         let asked = reserved.link.made_for();
-        let is_own = self.ledger.is_busy_with(reserved.daemon, asked);
+        let is_own = self.event_log.is_busy_with(reserved.daemon, asked);
         let Reserved {
             daemon,
             unit: _,
             link,
         } = reserved;
         if is_own {
-            self.ledger.note(Event::Failed(daemon), DaemonState::Busy);
+            self.event_log
+                .note(Event::Failed(daemon), DaemonState::Busy);
         }
         link
     }
@@ -140,7 +143,8 @@ impl<L: Linked> Pool<L> {
             return None;
         }
         let IdleDaemon { daemon, link } = self.idle.remove(0);
-        self.ledger.note(Event::Stopped(daemon), DaemonState::Idle);
+        self.event_log
+            .note(Event::Stopped(daemon), DaemonState::Idle);
         Some(link)
     }
 
@@ -157,7 +161,7 @@ impl<L: Linked> Pool<L> {
         ensures value { result.now ≡ self.now.events }
         ensures sound { IsPool L.requirements self.now }
     {
-        self.ledger.events()
+        self.event_log.events()
     }
 
     /// All that happened, once no daemon is idle. It takes no memory.
@@ -167,18 +171,18 @@ impl<L: Linked> Pool<L> {
         ensures legal { IsLegal result.items }
         ensures none_idle { NoneIdle result.items }
     {
-        let Pool { ledger, idle } = self;
+        let Pool { event_log, idle } = self;
         idle.destroy_empty();
-        ledger.into_events()
+        event_log.into_events()
     }
 }
 
 // How many more events the daemons may need: two of each busy one, and one of each idle one.
-fn needed(ledger: &Ledger, idle_count: usize) -> usize
-    requires { HasRoom ledger.now idle_count }
-    ensures value { result ≡ ledger.now.busy + ledger.now.busy + idle_count }
+fn needed(event_log: &EventLog, idle_count: usize) -> usize
+    requires { HasRoom event_log.now idle_count }
+    ensures value { result ≡ event_log.now.busy + event_log.now.busy + idle_count }
     ensures bound { result < 2 ^ 63 }
 {
-    let busy = ledger.busy();
+    let busy = event_log.busy();
     busy + busy + idle_count
 }

@@ -52,7 +52,7 @@ impl HeldFields {
         }
     }
 
-    /// The same fields, so that copies of them take no memory from now on. The error is want of memory alone, and the fields are
+    /// Keeps the fields so that copies of them take no memory from now on. The error is want of memory alone, and the fields are
     /// then dropped.
     pub(crate) fn share(self, alloc: Global) -> Result<HeldFields, AllocError>
         ensures { IfOk result (λ shared. shared ≡ self) }

@@ -117,7 +117,7 @@ impl Requirements {
         Ok(Requirements { fields })
     }
 
-    /// The same requirements, in one place for them and all copies that are made of them, also in other threads. The error is want
+    /// Keeps the requirements in one place for them and all copies that are made of them, also in other threads. The error is want
     /// of memory alone, and the requirements are then dropped.
     pub fn share(self, alloc: Global) -> Result<Requirements, AllocError>
         ensures { IfOk result (λ shared. shared ≡ self) }

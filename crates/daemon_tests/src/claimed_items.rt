@@ -81,16 +81,8 @@ fn enter<R: Wait + Abort, T: Transform>(
     Ok(())
 }
 
-/// A service over a task whose items are queued, and the passes of two workers that run items.
-#[derive(Drop)]
-pub(crate) struct Queued {
-    pub(crate) service: Coordination,
-    pub(crate) first: Pass,
-    pub(crate) second: Pass,
-}
-
-// The last of the service's passes.
-fn last_pass(service: &Coordination, passes: &mut Vec<Pass>) -> Result<Pass, AllocError>
+/// The last of the service's passes.
+pub(crate) fn last_pass(service: &Coordination, passes: &mut Vec<Pass>) -> Result<Pass, AllocError>
     requires { All (λ p. p.service ≡ service.now.service) passes.old.items }
     ensures others { All (λ p. p.service ≡ service.now.service) passes.new.items }
     ensures last { IfOk result (λ pass. pass.service ≡ service.now.service) }
@@ -98,10 +90,17 @@ fn last_pass(service: &Coordination, passes: &mut Vec<Pass>) -> Result<Pass, All
     passes.pop().ok_or(AllocError)
 }
 
-/// A new task whose items are queued.
-pub(crate) fn queue_items<R: Wait + Abort>(rt: &R, alloc: Global) -> Result<Queued, AllocError>
-    ensures first { IfOk result (λ queued. queued.first.service ≡ queued.service.service) }
-    ensures second { IfOk result (λ queued. queued.second.service ≡ queued.service.service) }
+// Starts the task, and queues its items.
+fn queue<R: Wait + Abort>(rt: &R, service: &Coordination, pass: &mut Pass) -> Result<(), AllocError>
+    requires { pass.old.service ≡ service.now.service }
+{
+    enter(rt, service, pass, &Start { task: 0 })?;
+    enter(rt, service, pass, &Submit { action: 0 })
+}
+
+/// A service over a task whose items are queued, and the passes of two workers that run items.
+pub(crate) fn queue_items<R: Wait + Abort>(rt: &R, alloc: Global) -> Result<Box<Opened>, AllocError>
+    ensures { IfOk result (λ opened. All (λ p. p.service ≡ opened.value.service.service) opened.value.passes.items) }
 {
     let opened = open(rt, alloc)?;
     let Opened {
@@ -109,15 +108,8 @@ pub(crate) fn queue_items<R: Wait + Abort>(rt: &R, alloc: Global) -> Result<Queu
         mut passes,
     } = Box::into_inner(opened);
     let mut starter = last_pass(&service, &mut passes)?;
-    let first = last_pass(&service, &mut passes)?;
-    let second = last_pass(&service, &mut passes)?;
-    enter(rt, &service, &mut starter, &Start { task: 0 })?;
-    enter(rt, &service, &mut starter, &Submit { action: 0 })?;
-    Ok(Queued {
-        service,
-        first,
-        second,
-    })
+    queue(rt, &service, &mut starter)?;
+    Ok(Box::new(alloc, Opened { service, passes })?)
 }
 
 // Whether the pass runs this unit and nothing else.

@@ -12,11 +12,9 @@ use daemon_protocol::Request;
 use file_access::DeskFail;
 use item_actions::{ItemAction, KeepAlive, Text, is_file_name};
 use std::alloc::{AllocError, Global};
-use std::process::Abort;
 
 // The request of a unit for an action on a.txt, in this mode.
 fn request(
-    rt: &impl Abort,
     alloc: Global,
     unit: u32,
     action: ItemAction,
@@ -25,7 +23,9 @@ fn request(
     ensures { IfOk result (λ request. is_file_name request.file ≡ true) }
 {
     let file = Text::from_str(alloc, "a.txt")?;
-    assert!(rt; is_file_name(file.bytes()));
+    if !is_file_name(file.bytes()) {
+        return Err(AllocError);
+    }
     Ok(Request {
         unit,
         action,
@@ -53,32 +53,18 @@ fn ask<D: Desk>(
     }
 }
 
-// Asks for the unit's action on a.txt over the link.
-fn ask_unit<D: Desk>(
-    rt: &impl Abort,
-    alloc: Global,
-    desk: &mut D,
-    link: &mut D::Link,
-    unit: u32,
-    action: ItemAction,
-    keep: Option<KeepAlive>,
-    line: &mut String,
-) -> Result<(), AllocError> {
-    let request = request(rt, alloc, unit, action, keep)?;
-    ask(alloc, desk, link, &request, line)
-}
-
 // Asks for the lines and then for the bytes of a.txt over the link.
 fn ask_both<D: Desk>(
-    rt: &impl Abort,
     alloc: Global,
     desk: &mut D,
     link: &mut D::Link,
     keep: Option<KeepAlive>,
     line: &mut String,
 ) -> Result<(), AllocError> {
-    ask_unit(rt, alloc, desk, link, 0, ItemAction::Lines, keep, line)?;
-    ask_unit(rt, alloc, desk, link, 1, ItemAction::Bytes, keep, line)
+    let lines = request(alloc, 0, ItemAction::Lines, keep)?;
+    ask(alloc, desk, link, &lines, line)?;
+    let bytes = request(alloc, 1, ItemAction::Bytes, keep)?;
+    ask(alloc, desk, link, &bytes, line)
 }
 
 // Starts a daemon for what is asked.
@@ -89,7 +75,6 @@ fn start<D: Desk>(alloc: Global, desk: &mut D, asked: &Asked) -> Result<D::Link,
 
 // Starts a daemon, asks it for the lines and then for the bytes of a.txt, in this mode, and stops it.
 fn ask_twice<D: Desk>(
-    rt: &impl Abort,
     alloc: Global,
     desk: &mut D,
     asked: &Asked,
@@ -98,7 +83,7 @@ fn ask_twice<D: Desk>(
 ) -> Result<(), AllocError> {
     match start(alloc, desk, asked) {
         Ok(mut link) => {
-            let answers = ask_both(rt, alloc, desk, &mut link, keep, line);
+            let answers = ask_both(alloc, desk, &mut link, keep, line);
             desk.stop(link);
             answers
         }

@@ -4,14 +4,14 @@ ghost use Rattle.item_work.specs.Sends.{IsNamedFor};
 ghost use Rattle.daemon_tests.specs.Asking.{AsksProcess};
 
 use crate::asked::requirements_of;
-use crate::claimed_items::{Queued, claim, close as close_item, queue_items, run_claimed};
+use crate::claimed_items::{claim, close as close_item, last_pass, queue_items, run_claimed};
 use crate::lines::{add_events, add_outcome, check};
 use crate::memory_desks::desk;
-use coordination::{Coordination, Pass};
-use daemon_desk::Desk;
+use coordination::{Coordination, Opened, Pass};
+use daemon_desk::{Desk, MemoryDesk};
 use daemon_manager::{CountedPool, Event, Pool, Tallies, Tally};
 use daemon_requirements::{Isolation, Work};
-use item_actions::{ItemAction, Text, is_file_name};
+use item_actions::{ItemAction, Outcome, Text, is_file_name};
 use item_work::{PoolLock, Ran};
 use lock_transforms::Closed;
 use std::alloc::{AllocError, Global};
@@ -43,7 +43,31 @@ pub(crate) fn work(
     })
 }
 
-// Has a worker claim a unit's item, run it in a daemon with this heap at least, and close it.
+// Has a worker claim a unit's item, run it in a daemon, and close it.
+fn run_unit<R: Wait + Abort, D: Desk, U: Ledger, F: Ledger>(
+    rt: &R,
+    alloc: Global,
+    desk: &mut D,
+    pool: &PoolLock<D::Link, U, F>,
+    mine: &mut Tally<U, F>,
+    service: &Coordination,
+    pass: &mut Pass,
+    unit: u32,
+    work: &Work,
+) -> Result<Outcome, AllocError>
+    requires service { pass.old.service ≡ service.now.service }
+    requires named { IsNamedFor work.now.isolation work.now.file }
+    ensures { pass.new.service ≡ pass.old.service }
+{
+    claim(rt, service, pass, unit)?;
+    let Ran { outcome, spare } = run_claimed(rt, alloc, pass, desk, pool, mine, unit, work);
+    let closed = close_item(rt, service, pass, Closed { unit, outcome });
+    stop_spare(desk, spare);
+    closed?;
+    Ok(outcome)
+}
+
+// Has a worker run a unit's item in a daemon with this heap at least.
 fn add_worked<R: Wait + Abort, D: Desk, U: Ledger, F: Ledger>(
     rt: &R,
     alloc: Global,
@@ -60,11 +84,7 @@ fn add_worked<R: Wait + Abort, D: Desk, U: Ledger, F: Ledger>(
     ensures { pass.new.service ≡ pass.old.service }
 {
     let work = work(rt, alloc, unit, heap_mb)?;
-    claim(rt, service, pass, unit)?;
-    let Ran { outcome, spare } = run_claimed(rt, alloc, pass, desk, pool, mine, unit, &work);
-    let closed = close_item(rt, service, pass, Closed { unit, outcome });
-    stop_spare(desk, spare);
-    closed?;
+    let outcome = run_unit(rt, alloc, desk, pool, mine, service, pass, unit, &work)?;
     add_outcome(outcome, line)
 }
 
@@ -102,11 +122,12 @@ fn add_items<R: Wait + Abort, D: Desk, U: Ledger, F: Ledger>(
     heaps: &[u32],
     line: &mut String,
 ) -> Result<(), AllocError> {
-    let Queued {
+    let opened = queue_items(rt, alloc)?;
+    let Opened {
         service,
-        mut first,
-        ..
-    } = queue_items(rt, alloc)?;
+        mut passes,
+    } = Box::into_inner(opened);
+    let mut first = last_pass(&service, &mut passes)?;
     add_each(
         rt, alloc, desk, pool, mine, &service, &mut first, heaps, line,
     )
@@ -169,17 +190,24 @@ fn add_counted<R: Wait + Abort, D: Desk, U: Ledger, F: Ledger>(
     add_events(&events, line)
 }
 
-// The outcomes of these items on a new pool, and all events.
-fn add_run<R: Wait + Abort, D: Desk>(
+// What comes of items that ask for these heaps, on a new pool and a desk with these failing calls and this lie, with how many
+// of its calls failed.
+fn ran<R: Wait + Abort>(
     rt: &R,
     alloc: Global,
-    desk: &mut D,
+    failing: &[u64],
+    lie: Option<&[u8]>,
     heaps: &[u32],
-    line: &mut String,
-) -> Result<(), AllocError> {
+) -> Result<String, AllocError> {
+    let mut desk = desk(alloc, failing, lie)?;
+    let mut line = String::new(alloc);
     let reserved = Blank::new(2);
     let failed = Blank::new(2);
-    add_counted::<R, D, Brand, Brand>(rt, alloc, desk, reserved, failed, heaps, line)
+    add_counted::<R, MemoryDesk, Brand, Brand>(
+        rt, alloc, &mut *desk, reserved, failed, heaps, &mut line,
+    )?;
+    write!(line, "{} failed", desk.count())?;
+    Ok(line)
 }
 
 /// Calls of the desk that fail, a lie in place of the first reply, the heaps that items ask for, and what comes of them.
@@ -189,24 +217,6 @@ type Row = (
     &'static [u32],
     &'static str,
 );
-
-// That this comes of a desk and items, with how many calls of the desk failed.
-fn check_run<R: Wait + Abort>(rt: &R, alloc: Global, row: &Row) -> Result<(), AllocError> {
-    let (failing, lie, heaps, expected) = *row;
-    let mut desk = desk(alloc, failing, lie)?;
-    let mut line = String::new(alloc);
-    add_run(rt, alloc, &mut *desk, heaps, &mut line)?;
-    write!(line, "{} failed", desk.count())?;
-    check(rt, &line, expected);
-    Ok(())
-}
-
-fn check_rows<R: Wait + Abort>(rt: &R, alloc: Global, rows: &[Row]) -> Result<(), AllocError> {
-    for row in rows {
-        check_run(rt, alloc, row)?;
-    }
-    Ok(())
-}
 
 const ANSWERED: &str =
     "3. 14. started 0. reserved 0 for 0. released 0. reserved 0 for 1. released 0. stopped 0. 0 failed";
@@ -226,7 +236,7 @@ const TWO: &[u32] = &[512, 512];
 
 // Which calls fail. They are start, send, receive, send, receive and stop. Where the first item failed its daemon is stopped
 // by call 3, and the next is started by call 4.
-static FAILING: [Row; 8] = [
+const FAILING: &[Row] = &[
     (&[0], None, TWO, NOT_STARTED),
     (&[1], None, TWO, FIRST_FAILED),
     (&[2], None, TWO, FIRST_FAILED),
@@ -237,13 +247,8 @@ static FAILING: [Row; 8] = [
     (&[2, 4], None, TWO, NEITHER_ANSWERED),
 ];
 
-#[test]
-fn each_call_fails_in_turn(rt: HostRuntime) -> Result<(), AllocError> {
-    check_rows(&rt, rt.alloc(), &FAILING)
-}
-
 // No bytes; a beginning of a reply; a reply of a shorter body; a request; a Stop; a reply for unit 1; a fault.
-static LIES: [Row; 7] = [
+const LIES: &[Row] = &[
     (&[], Some(b""), TWO, FIRST_FAILED),
     (
         &[],
@@ -278,35 +283,22 @@ static LIES: [Row; 7] = [
     ),
 ];
 
-#[test]
-fn an_answer_that_is_no_reply_is_a_fault(rt: HostRuntime) -> Result<(), AllocError> {
-    check_rows(&rt, rt.alloc(), &LIES)
-}
-
-static WITHOUT_MEMORY: Row = (
+// A daemon without memory is used again.
+const WITHOUT_MEMORY: &[Row] = &[(
     &[],
     Some(b"\x12\0\0\0\x06\0\0\0\0\x01\x06"),
     TWO,
     "no memory. 14. started 0. reserved 0 for 0. released 0. reserved 0 for 1. released 0. stopped 0. 0 failed",
-);
-
-#[test]
-fn a_daemon_without_memory_is_used_again(rt: HostRuntime) -> Result<(), AllocError> {
-    check_run(&rt, rt.alloc(), &WITHOUT_MEMORY)
-}
+)];
 
 const SMALLER_FIRST: &str =
     "3. 14. started 0. reserved 0 for 0. released 0. started 1. reserved 1 for 1. released 1. stopped 0. stopped 1. 0 failed";
 
-static COVERING: [Row; 2] = [
+// A daemon is used again where it covers.
+const COVERING: &[Row] = &[
     (&[], None, &[512, 1024], SMALLER_FIRST),
     (&[], None, &[1024, 512], ANSWERED),
 ];
-
-#[test]
-fn a_daemon_is_used_again_where_it_covers(rt: HostRuntime) -> Result<(), AllocError> {
-    check_rows(&rt, rt.alloc(), &COVERING)
-}
 
 /// What comes of nine daemons, of which the first is stopped when the last is released, with the outcome of an item after
 /// them and how many calls failed.
@@ -326,8 +318,8 @@ macro_rules! nine {
     };
 }
 
-// Each item takes three calls. The stop of the first daemon is call 27, so the next start is call 28.
-static NINE: [Row; 2] = [
+// The first of nine idle daemons is stopped. Each item takes three calls. The stop of the first daemon is call 27, so the next start is call 28.
+const NINE: &[Row] = &[
     (
         &[],
         None,
@@ -342,7 +334,14 @@ static NINE: [Row; 2] = [
     ),
 ];
 
+static ROWS: [&[Row]; 5] = [FAILING, LIES, WITHOUT_MEMORY, COVERING, NINE];
+
 #[test]
-fn the_first_of_nine_idle_daemons_is_stopped(rt: HostRuntime) -> Result<(), AllocError> {
-    check_rows(&rt, rt.alloc(), &NINE)
+fn items_come_to_what_their_daemons_give(rt: HostRuntime) -> Result<(), AllocError> {
+    for rows in &ROWS {
+        for (failing, lie, heaps, expected) in *rows {
+            check(&rt, &ran(&rt, rt.alloc(), failing, *lie, heaps)?, expected);
+        }
+    }
+    Ok(())
 }

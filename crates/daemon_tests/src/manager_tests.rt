@@ -8,7 +8,6 @@ use daemon_manager::{DaemonState, Event, Pool, Reserved};
 use daemon_requirements::{Linked, Requirements};
 use item_actions::KeepAlive;
 use std::alloc::{AllocError, Global};
-use std::process::Abort;
 
 fn start(
     alloc: Global,
@@ -74,24 +73,14 @@ fn work_twice(
 }
 
 // What happens to the daemons of two units that ask for these heaps.
-fn add_two(alloc: Global, heaps: [u32; 2], line: &mut String) -> Result<(), AllocError> {
+fn events_of(alloc: Global, heaps: [u32; 2]) -> Result<String, AllocError> {
     let mut pool = Pool::new(alloc)?;
     let worked = work_twice(alloc, &mut pool, heaps);
     let events = close(pool);
     worked?;
-    add_events(&events, line)
-}
-
-fn check_two(
-    rt: &impl Abort,
-    alloc: Global,
-    heaps: [u32; 2],
-    expected: &str,
-) -> Result<(), AllocError> {
     let mut line = String::new(alloc);
-    add_two(alloc, heaps, &mut line)?;
-    check(rt, &line, expected);
-    Ok(())
+    add_events(&events, &mut line)?;
+    Ok(line)
 }
 
 const GREATER_LAST: &str =
@@ -100,10 +89,14 @@ const GREATER_LAST: &str =
 const SMALLER_LAST: &str =
     "started 0. reserved 0 for 0. released 0. reserved 0 for 1. released 0. stopped 0. ";
 
+static HEAPS: [([u32; 2], &str); 2] = [([512, 1024], GREATER_LAST), ([1024, 512], SMALLER_LAST)];
+
 #[test]
 fn a_daemon_is_used_again_where_it_covers(rt: HostRuntime) -> Result<(), AllocError> {
-    check_two(&rt, rt.alloc(), [512, 1024], GREATER_LAST)?;
-    check_two(&rt, rt.alloc(), [1024, 512], SMALLER_LAST)
+    for (heaps, expected) in &HEAPS {
+        check(&rt, &events_of(rt.alloc(), *heaps)?, expected);
+    }
+    Ok(())
 }
 
 // Whether an idle daemon serves for this mode.
@@ -124,15 +117,6 @@ fn serves(alloc: Global, pool: &mut Pool<Link>) -> Result<(bool, bool), AllocErr
     let session = is_reserved(alloc, pool, KeepAlive::Session)?;
     let daemon = is_reserved(alloc, pool, KeepAlive::Daemon)?;
     Ok((session, daemon))
-}
-
-#[test]
-fn an_idle_daemon_serves_in_its_own_mode(rt: HostRuntime) -> Result<(), AllocError> {
-    let mut pool = Pool::new(rt.alloc())?;
-    let served = serves(rt.alloc(), &mut pool);
-    let _ = close(pool);
-    assert!(rt; served? == (true, false));
-    Ok(())
 }
 
 // Whether a reserved daemon tells its number, its unit and its link.
@@ -157,11 +141,21 @@ fn fails(alloc: Global, pool: &mut Pool<Link>) -> Result<bool, AllocError> {
     Ok(is_first && heap_of(&link) == 512 && has_failed(pool))
 }
 
-#[test]
-fn a_reserved_daemon_fails_and_is_not_used_again(rt: HostRuntime) -> Result<(), AllocError> {
-    let mut pool = Pool::new(rt.alloc())?;
-    let failed = fails(rt.alloc(), &mut pool);
+// Whether an idle daemon serves in its own mode, and a daemon that failed isn't used again.
+fn serves_and_fails(alloc: Global) -> Result<bool, AllocError> {
+    let mut pool = Pool::new(alloc)?;
+    let served = serves(alloc, &mut pool);
     let _ = close(pool);
-    assert!(rt; failed?);
+    let mut pool = Pool::new(alloc)?;
+    let failed = fails(alloc, &mut pool);
+    let _ = close(pool);
+    Ok(served? == (true, false) && failed?)
+}
+
+#[test]
+fn a_daemon_serves_in_its_own_mode_and_not_once_it_failed(
+    rt: HostRuntime,
+) -> Result<(), AllocError> {
+    assert!(rt; serves_and_fails(rt.alloc())?);
     Ok(())
 }

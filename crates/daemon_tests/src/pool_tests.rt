@@ -1,13 +1,15 @@
 //! Tests of the counts of a pool: two workers have items worked out at once, on one pool.
-ghost use Rattle.std.specs.Prelude.{◌≡◌, ◌+◌, ◌≤◌, IfOk};
+ghost use Rattle.std.specs.Prelude.{◌≡◌, ◌+◌, ◌≤◌, Contains, IfOk, true};
+ghost use Rattle.resource_lock.specs.declared.marks.MarkId.TheVariants as ids;
+ghost use Rattle.coordination.specs.Shown.{claimed_shown, lease_shown};
 ghost use Rattle.daemon_manager.specs.Counts.{failures, reservations};
 ghost use Rattle.item_work.specs.Tallying.{TallyRises, one_if_unreal};
 ghost use Rattle.daemon_tests.specs.Asking.{CanRun};
 
-use crate::claimed_items::{Queued, claim, queue_items, run_claimed};
+use crate::claimed_items::{claim, last_pass, queue_items, run_claimed};
 use crate::item_tests::{stop_idle, stop_spare, work};
 use crate::memory_desks::desk;
-use coordination::Pass;
+use coordination::{Opened, Pass};
 use daemon_desk::{Desk, MemoryDesk};
 use daemon_manager::{CountedPool, Event, Pool, Tallies, Tally};
 use daemon_requirements::Work;
@@ -132,25 +134,39 @@ fn work_at_once<
 }
 
 fn count_reserved(events: &[Event]) -> usize {
-    events
-        .iter()
-        .filter(|event| matches!(event, Event::Reserved(..)))
-        .count()
+    let mut reserved = 0usize;
+    for event in events {
+        if matches!(event, Event::Reserved(..)) {
+            reserved = reserved.saturating_add(1);
+        }
+    }
+    reserved
 }
 
-// Has two items run at once, and checks how many daemons were reserved.
-fn check_at_once<R: Threads + Wait + Sync + Abort>(
+// The passes of two workers that have claimed an item each, which they may run.
+fn claim_two<R: Wait + Abort>(rt: &R, alloc: Global) -> Result<(Pass, Pass), AllocError>
+    ensures left { IfOk result (λ passes. (lease_shown passes.0.sight ≡ true) × Contains (claimed_shown passes.0.sight) (ids.Unit 0)) }
+    ensures right { IfOk result (λ passes. (lease_shown passes.1.sight ≡ true) × Contains (claimed_shown passes.1.sight) (ids.Unit 1)) }
+{
+    let opened = queue_items(rt, alloc)?;
+    let Opened {
+        service,
+        mut passes,
+    } = Box::into_inner(opened);
+    let mut left = last_pass(&service, &mut passes)?;
+    claim(rt, &service, &mut left, 0)?;
+    let mut right = last_pass(&service, &mut passes)?;
+    claim(rt, &service, &mut right, 1)?;
+    Ok((left, right))
+}
+
+// How many daemons are reserved for two items that run at once.
+fn reserved_at_once<R: Threads + Wait + Sync + Abort>(
     rt: &R,
     alloc: Global,
-) -> Result<(), AllocError> {
+) -> Result<usize, AllocError> {
     let item = work(rt, alloc, 0, 512)?;
-    let Queued {
-        service,
-        first: mut left,
-        second: mut right,
-    } = queue_items(rt, alloc)?;
-    claim(rt, &service, &mut left, 0)?;
-    claim(rt, &service, &mut right, 1)?;
+    let (left, right) = claim_two(rt, alloc)?;
     let first = desk(alloc, &[], None)?;
     let second = desk(alloc, &[], None)?;
     let reserved = Blank::new(3);
@@ -165,11 +181,11 @@ fn check_at_once<R: Threads + Wait + Sync + Abort>(
         reserved,
         failed,
     )?;
-    assert!(rt; count_reserved(&ended.events) == 2);
-    Ok(())
+    Ok(count_reserved(&ended.events))
 }
 
 #[test]
 fn each_request_has_its_reservation(rt: HostRuntime) -> Result<(), AllocError> {
-    check_at_once(&rt, rt.alloc())
+    assert!(rt; reserved_at_once(&rt, rt.alloc())? == 2);
+    Ok(())
 }

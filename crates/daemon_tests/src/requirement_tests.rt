@@ -3,7 +3,6 @@ use crate::asked::{Asked, PLAIN, fields, requirements};
 use daemon_requirements::{Linked, PairList, RequirementRefusal, Requirements};
 use item_actions::KeepAlive;
 use std::alloc::{AllocError, Global};
-use std::process::Abort;
 
 // Whether a daemon for the first covers what the second asks for.
 fn covers(alloc: Global, daemon: &Asked, asked: &Asked) -> Result<bool, AllocError> {
@@ -92,14 +91,6 @@ static COVERS: [(&str, Asked, Asked, bool); 11] = [
     ("the same longer keep-alive mode", LASTING, LASTING, true),
 ];
 
-#[test]
-fn daemons_cover_what_the_rules_say(rt: HostRuntime) -> Result<(), AllocError> {
-    for (name, daemon, asked, expected) in &COVERS {
-        assert!(rt; covers(rt.alloc(), daemon, asked)? == *expected, "{name}");
-    }
-    Ok(())
-}
-
 // How fields are refused, if they are.
 fn refusal(alloc: Global, asked: &Asked) -> Result<Option<RequirementRefusal>, AllocError> {
     match Requirements::of(fields(alloc, asked)?) {
@@ -147,18 +138,6 @@ static REFUSALS: [(Asked, Option<RequirementRefusal>); 5] = [
     ),
 ];
 
-#[test]
-fn heaps_out_of_range_and_repeated_names_are_refused(rt: HostRuntime) -> Result<(), AllocError> {
-    for (asked, expected) in &REFUSALS {
-        assert!(rt;
-            refusal(rt.alloc(), asked)? == *expected,
-            "{} MB",
-            asked.heap_mb
-        );
-    }
-    Ok(())
-}
-
 static ONE_OF_EACH: Asked = Asked {
     args: &["-a"],
     variables: &[("x", "1")],
@@ -171,12 +150,6 @@ fn copies(alloc: Global, asked: &Asked) -> Result<bool, AllocError> {
     let copy = requirements.copy(alloc)?;
     let are_same = requirements.covers(&copy) && copy.covers(&requirements);
     Ok(are_same && copy.fields().heap_mb == 512)
-}
-
-#[test]
-fn a_copy_has_the_same_fields(rt: HostRuntime) -> Result<(), AllocError> {
-    assert!(rt; copies(rt.alloc(), &ONE_OF_EACH)?);
-    Ok(())
 }
 
 /// A link that is nothing but the requirements that it is made for, and whether it is settled.
@@ -201,12 +174,27 @@ pub(crate) fn heap_of<L: Linked>(link: &L) -> u32 {
     link.made_for().fields().heap_mb
 }
 
+// Whether a link tells the heap that it is made for.
+fn tells_its_heap(alloc: Global) -> Result<bool, AllocError> {
+    let made_for = requirements(alloc, &PLAIN)?;
+    let settled = true;
+    Ok(heap_of(&Link { made_for, settled }) == 512)
+}
+
 #[test]
-fn a_link_tells_what_it_is_made_for(rt: HostRuntime) -> Result<(), AllocError> {
-    let link = Link {
-        made_for: requirements(rt.alloc(), &PLAIN)?,
-        settled: true,
-    };
-    assert!(rt; heap_of(&link) == 512);
+fn requirements_are_covered_refused_and_copied_as_the_rules_say(
+    rt: HostRuntime,
+) -> Result<(), AllocError> {
+    for (name, daemon, asked, expected) in &COVERS {
+        assert!(rt; covers(rt.alloc(), daemon, asked)? == *expected, "{name}");
+    }
+    for (asked, expected) in &REFUSALS {
+        assert!(rt;
+            refusal(rt.alloc(), asked)? == *expected,
+            "{} MB",
+            asked.heap_mb
+        );
+    }
+    assert!(rt; copies(rt.alloc(), &ONE_OF_EACH)? && tells_its_heap(rt.alloc())?);
     Ok(())
 }

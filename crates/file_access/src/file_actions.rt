@@ -8,8 +8,7 @@ use crate::file_bytes::FileBytes;
 use crate::files::DeskFail;
 use crate::folder_files::open;
 use crate::retries::Retries;
-use item_actions::{ItemAction, MAX_FILE_BYTES, Outcome, Text};
-use piecewise_actions::PieceState;
+use item_actions::{ItemAction, MAX_FILE_BYTES, Outcome, PieceState, Text};
 use std::io::ErrorKind;
 use std::{io, rt};
 

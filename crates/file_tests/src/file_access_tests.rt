@@ -7,18 +7,6 @@ use item_actions::{ItemAction, Outcome, Text};
 use std::alloc::{AllocError, Global};
 use std::io;
 use std::io::{ErrorKind, Write};
-use std::test::Fail;
-
-/// How many bytes a source may give ahead, call by call, and what it gives then of its text.
-static AHEAD: [(usize, &[u8]); 7] = [
-    (100, b"ab\n"),
-    (1, b"c"),
-    (0, b""),
-    (2, b"d\n"),
-    (100, b"\n"),
-    (3, b"efg"),
-    (100, b"h"),
-];
 
 /// A sink of so much room, whose calls of these numbers fail.
 pub fn sink(alloc: Global, room: u64, failing: &[u64]) -> Result<Box<MemorySink>, AllocError> {
@@ -26,116 +14,56 @@ pub fn sink(alloc: Global, room: u64, failing: &[u64]) -> Result<Box<MemorySink>
     Ok(Box::new(alloc, MemorySink::new(alloc, room, failing)?)?)
 }
 
+/// The room of a sink and its calls that fail, pieces and whether it takes each, and what it took with how many faults.
+type SinkRow = (
+    u64,
+    &'static [u64],
+    &'static [(&'static [u8], bool)],
+    &'static [u8],
+    u64,
+);
+
+/// A sink of ten bytes takes the first ten of an alphabet; the second call alone fails.
+static SINKS: [SinkRow; 2] = [
+    (
+        10,
+        &[],
+        &[(b"abcd", true), (b"efghijklmnopqrstuvwxyz", false)],
+        b"abcdefghij",
+        1,
+    ),
+    (
+        100,
+        &[1],
+        &[(b"abc", true), (b"def", false), (b"ghi", true)],
+        b"abcghi",
+        1,
+    ),
+];
+
 // Whether the sink took these bytes with so many faults.
 fn took(sink: &MemorySink, bytes: &[u8], faults: u64) -> bool {
     sink.taken() == bytes && sink.count() == faults
 }
 
-// Whether a sink of ten bytes takes the first ten of an alphabet.
-fn takes_ten(sink: &mut MemorySink) -> bool {
-    let whole = put_all(sink, b"abcd").is_ok();
-    let cut = put_all(sink, b"efghijklmnopqrstuvwxyz").is_err();
-    whole && cut && took(sink, b"abcdefghij", 1)
-}
-
-#[test]
-fn sink_of_ten_bytes_takes_the_first_ten(rt: HostRuntime) -> Result<(), Fail> {
-    let mut sink = sink(rt.alloc(), 10, &[])?;
-    assert!(rt; takes_ten(&mut sink));
-    Ok(())
-}
-
-// Whether the second call fails alone.
-fn fails_second(sink: &mut MemorySink) -> bool {
-    let first = put_all(sink, b"abc").is_ok();
-    let second = put_all(sink, b"def").is_ok();
-    let third = put_all(sink, b"ghi").is_ok();
-    first && !second && third && took(sink, b"abcghi", 1)
-}
-
-#[test]
-fn second_call_of_a_sink_fails(rt: HostRuntime) -> Result<(), Fail> {
-    let mut sink = sink(rt.alloc(), 100, &[1])?;
-    assert!(rt; fails_second(&mut sink));
-    Ok(())
-}
-
-// Whether a take gives so many bytes, or fails where there is none, after which the buffer is this
-// one.
-fn takes(source: &mut MemorySource, buffer: &mut [u8], count: Option<usize>, left: &[u8]) -> bool {
-    source.take(buffer).ok() == count && *buffer == *left
-}
-
-// Whether of a source of seven bytes the second call fails alone.
-fn gives_seven(source: &mut MemorySource) -> bool {
-    let mut buffer = [0u8; 4];
-    let first = takes(source, &mut buffer, Some(4), b"abcd");
-    let second = takes(source, &mut buffer, None, b"abcd") && source.count() == 1;
-    let third = takes(source, &mut buffer, Some(3), b"efgd");
-    let end = takes(source, &mut buffer, Some(0), b"efgd") && source.count() == 1;
-    first && second && third && end
-}
-
-#[test]
-fn second_call_of_a_source_fails(rt: HostRuntime) -> Result<(), Fail> {
-    let bytes = b"abcdefg".to_vec(rt.alloc())?;
-    let failing = [1].to_vec(rt.alloc())?;
-    let mut source = MemorySource::new(bytes, failing);
-    assert!(rt; gives_seven(&mut source));
-    Ok(())
-}
-
-// Whether a source puts these bytes behind a line where it may put so many.
-fn gives_ahead<S: Source>(
-    alloc: Global,
-    source: &mut S,
-    most: usize,
-    bytes: &[u8],
-) -> Result<bool, AllocError> {
-    let mut line = b"> ".to_vec(alloc)?;
-    let count = source.take_ahead(&mut line, most)?;
-    let is_longer = count == bytes.len() && line.len() == 2 + count;
-    Ok(is_longer && line.starts_with(b"> ") && line.ends_with(bytes))
-}
-
-#[test]
-fn lines_that_are_read_ahead(rt: HostRuntime) -> Result<(), Fail> {
-    let mut source = AheadSource::new(&b"ab\ncd\n\nefgh"[..]);
-    for (most, bytes) in AHEAD {
-        assert!(rt; gives_ahead(rt.alloc(), &mut source, most, bytes)?);
+// Whether a sink takes each of the pieces or doesn't.
+fn takes_pieces(sink: &mut MemorySink, pieces: &[(&[u8], bool)]) -> bool {
+    for (piece, is_taken) in pieces {
+        if put_all(sink, piece).is_ok() != *is_taken {
+            return false;
+        }
     }
-    Ok(())
-}
-
-// Whether of three bytes and a line end two are taken, and then the rest of the line.
-fn goes_on_ahead(alloc: Global, line: &[u8]) -> Result<bool, AllocError> {
-    let mut buffer = [0u8; 2];
-    let mut source = AheadSource::new(line);
-    let begun = matches!(source.take(&mut buffer), Ok(2)) && buffer == *b"ab";
-    Ok(
-        begun
-            && gives_ahead(alloc, &mut source, 10, b"c\n")?
-            && gives_ahead(alloc, &mut source, 10, b"")?,
-    )
+    true
 }
 
 #[test]
-fn a_line_that_is_begun_is_read_ahead(rt: HostRuntime) -> Result<(), Fail> {
-    assert!(rt; goes_on_ahead(rt.alloc(), b"abc\n")?);
-    Ok(())
-}
-
-// Whether a source that can't show two bytes gives them by plain calls.
-fn reads_plainly(alloc: Global, byte: &[u8]) -> Result<bool, AllocError> {
-    let mut buffer = [0u8; 2];
-    let mut source = AheadSource::new(byte);
-    let none = gives_ahead(alloc, &mut source, 10, b"")?;
-    Ok(none && matches!(source.take(&mut buffer), Ok(1)) && buffer[0] == b'a')
-}
-
-#[test]
-fn a_reader_that_shows_one_byte_is_read_plainly(rt: HostRuntime) -> Result<(), Fail> {
-    assert!(rt; reads_plainly(rt.alloc(), b"a")?);
+fn sinks_take_what_there_is_room_for_and_no_failing_call(
+    rt: HostRuntime,
+) -> Result<(), AllocError> {
+    for (room, failing, pieces, bytes, faults) in &SINKS {
+        let mut sink = sink(rt.alloc(), *room, failing)?;
+        assert!(rt; takes_pieces(&mut *sink, pieces) && took(&sink, bytes, *faults));
+    }
     Ok(())
 }
 
@@ -149,13 +77,6 @@ fn tells_too_much(sink: &mut MemorySink) -> bool {
     page.end(sink).is_err() && sink.taken().len() == 5000 && sink.taken().ends_with(b"5..6.")
 }
 
-#[test]
-fn page_tells_more_than_a_sink_takes(rt: HostRuntime) -> Result<(), Fail> {
-    let mut sink = sink(rt.alloc(), 5000, &[])?;
-    assert!(rt; tells_too_much(&mut sink));
-    Ok(())
-}
-
 // Whether a number of more than 64 bits is told.
 fn tells_a_wide_number(sink: &mut MemorySink) -> bool {
     let mut page = Page::new();
@@ -164,10 +85,121 @@ fn tells_a_wide_number(sink: &mut MemorySink) -> bool {
 }
 
 #[test]
-fn page_prints_wide_numbers(rt: HostRuntime) -> Result<(), Fail> {
-    let mut sink = sink(rt.alloc(), 100, &[])?;
-    assert!(rt; tells_a_wide_number(&mut sink));
+fn pages_tell_more_than_a_sink_takes_and_wide_numbers(rt: HostRuntime) -> Result<(), AllocError> {
+    let mut short = sink(rt.alloc(), 5000, &[])?;
+    assert!(rt; tells_too_much(&mut short));
+    let mut long = sink(rt.alloc(), 100, &[])?;
+    assert!(rt; tells_a_wide_number(&mut long));
     Ok(())
+}
+
+/// Takes of a source of seven bytes, of which the second fails alone: how many bytes each gives to a buffer of four, what stands
+/// there afterwards, and how many calls have failed.
+static TAKES: [(Option<usize>, &[u8], u64); 4] = [
+    (Some(4), b"abcd", 0),
+    (None, b"abcd", 1),
+    (Some(3), b"efgd", 1),
+    (Some(0), b"efgd", 1),
+];
+
+fn gives_seven(source: &mut MemorySource) -> bool {
+    let mut buffer = [0u8; 4];
+    for (count, left, faults) in &TAKES {
+        let taken = source.take(&mut buffer).ok();
+        if taken != *count || buffer.as_slice() != *left || source.count() != *faults {
+            return false;
+        }
+    }
+    true
+}
+
+#[test]
+fn second_call_of_a_source_fails(rt: HostRuntime) -> Result<(), AllocError> {
+    let bytes = b"abcdefg".to_vec(rt.alloc())?;
+    let failing = [1].to_vec(rt.alloc())?;
+    assert!(rt; gives_seven(&mut MemorySource::new(bytes, failing)));
+    Ok(())
+}
+
+/// A call of a source whose lines are read ahead.
+#[derive(Clone, Copy)]
+enum Call {
+    /// It may give so many bytes ahead, and gives these.
+    Ahead(usize, &'static [u8]),
+    /// A plain call with a buffer of two bytes gives these.
+    Plain(&'static [u8]),
+}
+
+/// Texts, and the calls of a source over each: lines of several lengths, a line that is begun by a plain call, and a reader that
+/// shows one byte, which is read plainly.
+static AHEAD: [(&[u8], &[Call]); 3] = [
+    (
+        b"ab\ncd\n\nefgh",
+        &[
+            Call::Ahead(100, b"ab\n"),
+            Call::Ahead(1, b"c"),
+            Call::Ahead(0, b""),
+            Call::Ahead(2, b"d\n"),
+            Call::Ahead(100, b"\n"),
+            Call::Ahead(3, b"efg"),
+            Call::Ahead(100, b"h"),
+        ],
+    ),
+    (
+        b"abc\n",
+        &[
+            Call::Plain(b"ab"),
+            Call::Ahead(10, b"c\n"),
+            Call::Ahead(10, b""),
+        ],
+    ),
+    (b"a", &[Call::Ahead(10, b""), Call::Plain(b"a")]),
+];
+
+// Whether a source puts these bytes behind a line where it may put so many.
+fn gives_ahead<S: Source>(alloc: Global, source: &mut S, most: usize, bytes: &[u8]) -> bool {
+    let Ok(mut line) = b"> ".to_vec(alloc) else {
+        return false;
+    };
+    match source.take_ahead(&mut line, most) {
+        Ok(count) => {
+            count == bytes.len()
+                && line.len() == 2 + count
+                && line.starts_with(b"> ")
+                && line.ends_with(bytes)
+        }
+        Err(_) => false,
+    }
+}
+
+// Whether a plain call gives these bytes.
+fn gives_plainly<S: Source>(source: &mut S, bytes: &[u8]) -> bool {
+    let mut buffer = [0u8; 2];
+    match source.take(&mut buffer) {
+        Ok(count) => count == bytes.len() && buffer.starts_with(bytes),
+        Err(_) => false,
+    }
+}
+
+// Whether a source answers the calls as it has to.
+fn answers<S: Source>(alloc: Global, source: &mut S, calls: &[Call]) -> bool {
+    for call in calls {
+        let is_right = match call {
+            Call::Ahead(most, bytes) => gives_ahead(alloc, source, *most, bytes),
+            Call::Plain(bytes) => gives_plainly(source, bytes),
+        };
+        if !is_right {
+            return false;
+        }
+    }
+    true
+}
+
+#[test]
+fn lines_are_read_ahead(rt: HostRuntime) {
+    for (text, calls) in &AHEAD {
+        assert!(rt; answers(rt.alloc(), &mut AheadSource::new(*text), calls));
+    }
 }
 
 // A file of the name a, whose reads of these numbers fail.
@@ -207,11 +239,13 @@ fn is_answer(read: &Result<Read, DeskFail>, answer: Answer<'_>) -> bool {
 /// A name, the limit of a read of it, and what the read answers.
 pub type ReadRow<'a> = (&'a str, u64, Answer<'a>);
 
-/// Whether a read of the name answers this.
-pub fn reads<F: Files>(alloc: Global, desk: &mut F, row: &ReadRow<'_>) -> Result<bool, AllocError> {
+/// Whether a read of the name answers this. Want of memory fails a test.
+pub fn reads<F: Files>(alloc: Global, desk: &mut F, row: &ReadRow<'_>) -> bool {
     let (name, limit, answer) = *row;
-    let name = Text::from_str(alloc, name)?;
-    Ok(is_answer(&desk.read(alloc, &name, limit), answer))
+    match Text::from_str(alloc, name) {
+        Ok(name) => is_answer(&desk.read(alloc, &name, limit), answer),
+        Err(_) => false,
+    }
 }
 
 /// Reads of a file of three bytes.
@@ -222,31 +256,21 @@ static READS: [ReadRow<'static>; 3] = [
 ];
 
 /// Whether all these reads answer as they have to.
-pub fn all_read<F: Files>(
-    alloc: Global,
-    desk: &mut F,
-    rows: &[ReadRow<'_>],
-) -> Result<bool, AllocError> {
+pub fn all_read<F: Files>(alloc: Global, desk: &mut F, rows: &[ReadRow<'_>]) -> bool {
     for row in rows {
-        if !reads(alloc, desk, row)? {
-            return Ok(false);
+        if !reads(alloc, desk, row) {
+            return false;
         }
     }
-    Ok(true)
+    true
 }
 
 // Whether the first three reads answer, and the fourth fails and is counted.
-fn fails_fourth(alloc: Global, desk: &mut MemoryFiles) -> Result<bool, AllocError> {
-    let answered = all_read(alloc, desk, &READS)? && desk.count() == 0;
-    let failed = reads(alloc, desk, &("a", 3, Answer::Failed))?;
-    Ok(answered && failed && desk.count() == 1)
-}
-
-#[test]
-fn files_in_memory_are_read(rt: HostRuntime) -> Result<(), Fail> {
-    let mut desk = files(rt.alloc(), &[1, 2, 3], &[3])?;
-    assert!(rt; fails_fourth(rt.alloc(), &mut desk)?);
-    Ok(())
+fn fails_fourth(alloc: Global, desk: &mut MemoryFiles) -> bool {
+    all_read(alloc, desk, &READS)
+        && desk.count() == 0
+        && reads(alloc, desk, &("a", 3, Answer::Failed))
+        && desk.count() == 1
 }
 
 /// What the lines of a file give by its name, where the third read fails.
@@ -257,20 +281,11 @@ static LINES: [(&str, Outcome); 4] = [
     ("a", Outcome::Number(2)),
 ];
 
-// Whether the lines of the file give this.
-fn gives(
-    alloc: Global,
-    desk: &mut MemoryFiles,
-    name: &str,
-    expected: Outcome,
-) -> Result<bool, AllocError> {
-    let name = Text::from_str(alloc, name)?;
-    Ok(work_out(alloc, &ItemAction::Lines, &name, desk) == expected)
-}
-
+// Whether the lines of the files give these.
 fn gives_all(alloc: Global, desk: &mut MemoryFiles) -> Result<bool, AllocError> {
-    for (name, expected) in LINES {
-        if !gives(alloc, desk, name, expected)? {
+    for (name, expected) in &LINES {
+        let name = Text::from_str(alloc, name)?;
+        if work_out(alloc, &ItemAction::Lines, &name, desk) != *expected {
             return Ok(false);
         }
     }
@@ -278,9 +293,13 @@ fn gives_all(alloc: Global, desk: &mut MemoryFiles) -> Result<bool, AllocError> 
 }
 
 #[test]
-fn item_is_worked_out_on_its_file(rt: HostRuntime) -> Result<(), Fail> {
-    let mut desk = files(rt.alloc(), b"one\ntwo\n", &[2])?;
-    assert!(rt; gives_all(rt.alloc(), &mut desk)?);
+fn files_in_memory_are_read_and_items_worked_out_on_them(
+    rt: HostRuntime,
+) -> Result<(), AllocError> {
+    let mut read = files(rt.alloc(), &[1, 2, 3], &[3])?;
+    assert!(rt; fails_fourth(rt.alloc(), &mut read));
+    let mut worked = files(rt.alloc(), b"one\ntwo\n", &[2])?;
+    assert!(rt; gives_all(rt.alloc(), &mut worked)?);
     Ok(())
 }
 
@@ -320,31 +339,21 @@ impl io::Read for Interrupted {
 }
 
 // Whether a source gives two bytes after so many interruptions, and how many of its calls failed.
-fn takes_after(interruptions: u32) -> (bool, u64) {
+fn takes_after(left: u32) -> (bool, u64) {
     let mut buffer = [0u8; 2];
-    let mut source = StdSource::new(Interrupted {
-        left: interruptions,
-    });
+    let mut source = StdSource::new(Interrupted { left });
     let taken = matches!(source.take(&mut buffer), Ok(2)) && buffer == *b"xx";
     (taken, source.count())
 }
 
-#[test]
-fn interrupted_reads_are_made_again_a_thousand_times(rt: HostRuntime) {
-    assert!(rt; takes_after(1000) == (true, 0));
-    assert!(rt; takes_after(1001) == (false, 1));
-}
-
 // Whether a sink takes a piece after so many interruptions, and how many of its calls failed.
-fn puts_after(interruptions: u32) -> (bool, u64) {
-    let mut sink = StdSink::new(Interrupted {
-        left: interruptions,
-    });
+fn puts_after(left: u32) -> (bool, u64) {
+    let mut sink = StdSink::new(Interrupted { left });
     (put_all(&mut sink, b"abc").is_ok(), sink.count())
 }
 
 #[test]
-fn interrupted_writes_are_made_again_a_thousand_times(rt: HostRuntime) {
-    assert!(rt; puts_after(1000) == (true, 0));
-    assert!(rt; puts_after(1001) == (false, 1));
+fn interrupted_reads_and_writes_are_made_again_a_thousand_times(rt: HostRuntime) {
+    assert!(rt; takes_after(1000) == (true, 0) && takes_after(1001) == (false, 1));
+    assert!(rt; puts_after(1000) == (true, 0) && puts_after(1001) == (false, 1));
 }

@@ -1,7 +1,8 @@
 //! Whole histories that were read from their texts, and checked.
+use crate::history_reader_tests::text_of;
 use file_access::{AheadSource, Source};
 use history_check::{Checked, check, check_input};
-use history_reader::read_history;
+use history_text::read_history;
 use plan_reader::{Plan, read_plan};
 use std::alloc::Global;
 use std::io::BufReader;
@@ -12,6 +13,10 @@ static PLAN: &[u8] = b"[[project]]\nname = \"p\"\n\n\
     [[task]]\nname = \"t\"\nproject = \"p\"\n\n\
     [[task.action]]\n\n\
     [[task.action.item]]\ndo = \"lines\"\nfile = \"a.txt\"\n";
+
+const PASSED_OVER: &[u8] = b"passed over\n";
+
+const BEHIND: &[u8] = b"!\n";
 
 /// Lines behind a head, and what is answered.
 static HISTORIES: [(&[u8], Checked); 4] = [
@@ -56,59 +61,58 @@ static HEADS: [(&[u8], Checked); 4] = [
     ),
 ];
 
-// What is answered of a history.
-fn answer(alloc: Global, plan: &Plan, head: &[u8], lines: &[u8]) -> Result<Checked, Fail> {
-    let mut text = Vec::from_slice(alloc, head)?;
-    text.extend_from_slice(lines)?;
-    let history = read_history(alloc, &text)?;
-    Ok(check(alloc, plan, &history)?)
+// Whether a history that was read whole has this answer.
+fn is_answer(alloc: Global, plan: &Plan, text: &[u8], checked: Checked) -> bool {
+    match read_history(alloc, text) {
+        Ok(history) => { matches!(check(alloc, plan, &history), Ok(answer) if answer == checked) }
+        Err(_) => false,
+    }
 }
 
 #[test]
-fn whole_histories(rt: HostRuntime) -> Result<(), Fail> {
+fn whole_histories_and_numbers_of_locks(rt: HostRuntime) -> Result<(), Fail> {
     let plan = read_plan(rt.alloc(), PLAN)?;
-    for (lines, checked) in HISTORIES {
-        assert!(rt; answer(rt.alloc(), &plan, HEADS[0].0, lines)? == checked);
+    for (lines, checked) in &HISTORIES {
+        let text = text_of(rt.alloc(), &[HEADS[0].0, *lines])?;
+        assert!(rt; is_answer(rt.alloc(), &plan, &text, *checked));
+    }
+    for (head, checked) in &HEADS {
+        let text = text_of(rt.alloc(), &[*head, HISTORIES[1].0])?;
+        assert!(rt; is_answer(rt.alloc(), &plan, &text, *checked));
     }
     Ok(())
 }
 
-#[test]
-fn numbers_of_locks(rt: HostRuntime) -> Result<(), Fail> {
-    let plan = read_plan(rt.alloc(), PLAN)?;
-    for (head, checked) in HEADS {
-        assert!(rt; answer(rt.alloc(), &plan, head, HISTORIES[1].0)? == checked);
-    }
-    Ok(())
+// Whether an input has this answer, and is left at the byte behind its end.
+fn is_answer_of<S: Source>(alloc: Global, plan: &Plan, input: &mut S, checked: Checked) -> bool {
+    let mut next = [0u8; 1];
+    matches!(check_input(alloc, plan, input), Ok(answer) if answer == checked)
+        && matches!(input.take(&mut next), Ok(1))
+        && next == *b"!"
 }
 
-// Whether an input, of which so many bytes are read ahead, has this answer, and is left at the byte behind its end.
+// Whether the input has this answer, however many of its bytes are read ahead.
 fn is_answer_ahead(
     alloc: Global,
     plan: &Plan,
     text: &[u8],
-    capacity: usize,
     checked: Checked,
 ) -> Result<bool, Fail> {
-    let reader = BufReader::with_capacity(alloc, capacity, text)?;
-    let mut input = AheadSource::new(reader);
-    let answer = check_input(alloc, plan, &mut input)?;
-    let mut next = [0u8; 1];
-    let taken = input.take(&mut next)?;
-    Ok(answer == checked && taken == 1 && next == *b"!")
+    for capacity in 1..80 {
+        let reader = BufReader::with_capacity(alloc, capacity, text)?;
+        if !is_answer_of(alloc, plan, &mut AheadSource::new(reader), checked) {
+            return Ok(false);
+        }
+    }
+    Ok(true)
 }
 
 #[test]
 fn inputs_that_are_read_ahead(rt: HostRuntime) -> Result<(), Fail> {
     let plan = read_plan(rt.alloc(), PLAN)?;
-    for (lines, checked) in HISTORIES {
-        let mut text = b"passed over\n".to_vec(rt.alloc())?;
-        text.extend_from_slice(HEADS[0].0)?;
-        text.extend_from_slice(lines)?;
-        text.extend_from_slice(b"!\n")?;
-        for capacity in 1..80 {
-            assert!(rt; is_answer_ahead(rt.alloc(), &plan, &text, capacity, checked)?);
-        }
+    for (lines, checked) in &HISTORIES {
+        let text = text_of(rt.alloc(), &[PASSED_OVER, HEADS[0].0, *lines, BEHIND])?;
+        assert!(rt; is_answer_ahead(rt.alloc(), &plan, &text, *checked)?);
     }
     Ok(())
 }

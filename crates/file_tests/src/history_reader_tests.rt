@@ -1,19 +1,20 @@
 //! What the lines of a history are read as, and texts in which something follows the end.
-use history_reader::{TextFail, read_history};
+use history_text::{History, TextFail, read_history};
 use item_actions::Outcome;
 use lock_transforms::{Closed, Kind};
 use resource_lock::{Change, LockId, Mark, MarkId, WorkerId};
-use std::alloc::Global;
-use std::test::Fail;
+use std::alloc::{AllocError, Global};
 
-// Where a text stops, or None where it is read.
-fn stop_of(alloc: Global, text: &[u8]) -> Result<Option<u64>, Fail> {
-    match read_history(alloc, text) {
-        Ok(_) => Ok(None),
-        Err(TextFail::Stops(number)) => Ok(Some(number)),
-        Err(fail) => Err(Fail::from(fail)),
+/// A text of these parts.
+pub(crate) fn text_of(alloc: Global, parts: &[&[u8]]) -> Result<Vec<u8>, AllocError> {
+    let mut text = Vec::new(alloc);
+    for part in parts {
+        text.extend_from_slice(part)?;
     }
+    Ok(text)
 }
+
+const HEAD: &[u8] = b"history 1\nworkers 1 max 1 parallel no\n";
 
 /// Lines behind a head, and where they stop: behind the end.
 static ODD_LINES: [(&[u8], u64); 3] = [
@@ -25,15 +26,12 @@ static ODD_LINES: [(&[u8], u64); 3] = [
     ),
 ];
 
-#[test]
-fn lines_behind_the_end(rt: HostRuntime) -> Result<(), Fail> {
-    for (lines, stop) in ODD_LINES {
-        let mut text = Vec::from_slice(rt.alloc(), b"history 1\nworkers 1 max 1 parallel no\n")?;
-        text.extend_from_slice(lines)?;
-        assert!(rt; stop_of(rt.alloc(), &text)? == Some(stop));
-    }
-    Ok(())
+// Whether a text stops at the line of this number.
+fn stops_at(alloc: Global, text: &[u8], stop: u64) -> bool {
+    matches!(read_history(alloc, text), Err(TextFail::Stops(number)) if number == stop)
 }
+
+const END: &[u8] = b"end 0\n";
 
 /// Heads with the number of locks that they say or none, and lines that are no heads.
 static HEADS: [(&[u8], Option<Option<u32>>); 8] = [
@@ -56,18 +54,31 @@ static HEADS: [(&[u8], Option<Option<u32>>); 8] = [
     (b"history 3\nworkers 1 max 1 parallel no locks 2\n", None),
 ];
 
+// Whether a text says so many locks or none, or stops at its head.
+fn says_locks(alloc: Global, text: &[u8], locks: &Option<Option<u32>>) -> bool {
+    match (read_history(alloc, text), locks) {
+        (Ok(history), Some(locks)) => history.locks == *locks,
+        (Err(TextFail::Stops(0)), None) => true,
+        _ => false,
+    }
+}
+
 #[test]
-fn heads_of_both_versions(rt: HostRuntime) -> Result<(), Fail> {
-    for (head, locks) in HEADS {
-        let mut text = Vec::from_slice(rt.alloc(), head)?;
-        text.extend_from_slice(b"end 0\n")?;
-        match locks {
-            Some(locks) => assert!(rt; read_history(rt.alloc(), &text)?.locks == locks),
-            None => assert!(rt; stop_of(rt.alloc(), &text)? == Some(0)),
-        }
+fn lines_behind_the_end_and_heads_of_both_versions(rt: HostRuntime) -> Result<(), AllocError> {
+    for (lines, stop) in &ODD_LINES {
+        let text = text_of(rt.alloc(), &[HEAD, *lines])?;
+        assert!(rt; stops_at(rt.alloc(), &text, *stop));
+    }
+    for (head, locks) in &HEADS {
+        let text = text_of(rt.alloc(), &[*head, END])?;
+        assert!(rt; says_locks(rt.alloc(), &text, locks));
     }
     Ok(())
 }
+
+const TOLD_HEAD: &[u8] = b"history 1\nworkers 32 max 3 parallel yes\n";
+
+const TOLD_END: &[u8] = b"end 1\n";
 
 /// A line, and the entry that it tells.
 type Told = (&'static [u8], u32, Kind, Option<&'static [Change]>);
@@ -195,19 +206,33 @@ static TOLD: [Told; 16] = [
     (b"1 w7 handback | nothing\n", 7, Kind::HandBack, Some(&[])),
 ];
 
-#[test]
-fn entries_of_each_kind(rt: HostRuntime) -> Result<(), Fail> {
-    for (line, worker, kind, changes) in TOLD {
-        let mut text = Vec::from_slice(rt.alloc(), b"history 1\nworkers 32 max 3 parallel yes\n")?;
-        text.extend_from_slice(line)?;
-        text.extend_from_slice(b"end 1\n")?;
-        let history = read_history(rt.alloc(), &text)?;
-        assert!(rt; (history.workers, history.max, history.parallel) == (32, 3, true));
-        assert!(rt; history.entries.len() == 1);
-        for entry in &history.entries {
-            assert!(rt; entry.worker == WorkerId(worker) && entry.kind == kind);
-            assert!(rt; entry.changes.as_deref() == changes);
+// Whether the history has the head of the text below, and is this entry.
+fn is_entry(history: &History, row: &Told) -> bool {
+    let (_, worker, kind, changes) = row;
+    match history.entries.as_slice() {
+        [entry] => {
+            (history.workers, history.max, history.parallel) == (32, 3, true)
+                && entry.worker == WorkerId(*worker)
+                && entry.kind == *kind
+                && entry.changes.as_deref() == *changes
         }
+        _ => false,
+    }
+}
+
+// Whether the text of one line is read as its entry.
+fn is_told(alloc: Global, text: &[u8], row: &Told) -> bool {
+    match read_history(alloc, text) {
+        Ok(history) => is_entry(&history, row),
+        Err(_) => false,
+    }
+}
+
+#[test]
+fn entries_of_each_kind(rt: HostRuntime) -> Result<(), AllocError> {
+    for row in &TOLD {
+        let text = text_of(rt.alloc(), &[TOLD_HEAD, row.0, TOLD_END])?;
+        assert!(rt; is_told(rt.alloc(), &text, row));
     }
     Ok(())
 }

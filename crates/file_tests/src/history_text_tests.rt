@@ -4,10 +4,9 @@ ghost use Rattle.plan_reader.specs.Graph.{graph_of};
 
 use crate::file_access_tests::sink;
 use file_access::{MemorySink, Page};
-use history_laws::every_run_comes_to_its_plan;
 use history_text::{write_history, write_results};
 use item_actions::Outcome;
-use lock_journal::Book;
+use lock_journal::{Book, every_run_comes_to_its_plan};
 use lock_transforms::kinds::{
     Acquire, Block, Claim, Close, End, HandBack, Park, Resume, Shortage, Start, Submit, Unblock,
 };

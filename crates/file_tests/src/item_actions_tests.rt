@@ -39,21 +39,16 @@ static NUMBERS: [(&[u8], u64, u64, u64, u64); 12] = [
 ];
 
 fn have_their_numbers() -> bool {
-    for (bytes, lines, words, length, longest) in NUMBERS {
-        let counted = gives(&ItemAction::Lines, bytes, lines)
-            && gives(&ItemAction::Words, bytes, words)
-            && gives(&ItemAction::Bytes, bytes, length)
-            && gives(&ItemAction::Longest, bytes, longest);
+    for (bytes, lines, words, length, longest) in &NUMBERS {
+        let counted = gives(&ItemAction::Lines, bytes, *lines)
+            && gives(&ItemAction::Words, bytes, *words)
+            && gives(&ItemAction::Bytes, bytes, *length)
+            && gives(&ItemAction::Longest, bytes, *longest);
         if !counted {
             return false;
         }
     }
     true
-}
-
-#[test]
-fn numbers_of_small_inputs(rt: HostRuntime) {
-    assert!(rt; have_their_numbers());
 }
 
 /// A needle, bytes, and how often it is found in them.
@@ -82,11 +77,6 @@ fn are_found(rows: &[CountRow]) -> bool {
     true
 }
 
-#[test]
-fn counts_of_needles(rt: HostRuntime) {
-    assert!(rt; are_found(&COUNTS));
-}
-
 /// Bytes, and the length of the longest of their pieces.
 static PIECES: [(&[u8], u64); 5] = [
     (b"", 0),
@@ -105,8 +95,8 @@ static BANANAS: [CountRow; 3] = [
 ];
 
 fn have_longest_pieces() -> bool {
-    for (bytes, longest) in PIECES {
-        if !gives(&ItemAction::Longest, bytes, longest) {
+    for (bytes, longest) in &PIECES {
+        if !gives(&ItemAction::Longest, bytes, *longest) {
             return false;
         }
     }
@@ -115,9 +105,10 @@ fn have_longest_pieces() -> bool {
 
 // The laws say of all bytes what is worked out here of a few.
 #[test]
-fn laws_on_a_few_bytes(rt: HostRuntime) {
+fn numbers_of_small_inputs(rt: HostRuntime) {
     longest_is_the_greatest_piece();
     counting_goes_on_behind_the_first();
+    assert!(rt; have_their_numbers() && are_found(&COUNTS));
     assert!(rt; have_longest_pieces() && are_found(&BANANAS));
 }
 
@@ -170,7 +161,7 @@ static DIGESTS: [(&[u8], [u32; 8]); 3] = [
 ];
 
 // Whether these are the words of the bytes' digest.
-fn has_digest(bytes: &[u8], words: [u32; 8]) -> bool {
+fn has_digest(bytes: &[u8], words: &[u32; 8]) -> bool {
     let mut expected = [0; 32];
     for (place, word) in words.iter().enumerate() {
         expected[4 * place..4 * place + 4].copy_from_slice(&word.to_be_bytes());
@@ -178,16 +169,12 @@ fn has_digest(bytes: &[u8], words: [u32; 8]) -> bool {
     matches!(act(&ItemAction::Sha256, bytes), Outcome::Digest(digest) if digest == expected)
 }
 
-#[test]
-fn digests_of_the_standard(rt: HostRuntime) {
-    for (bytes, words) in DIGESTS {
-        assert!(rt; has_digest(bytes, words));
-    }
-}
-
 // Whether the bytes are kept as a needle.
 fn is_kept(bytes: &[u8]) -> bool {
-    Needle::of(bytes).is_some_and(|needle| needle.bytes() == bytes)
+    match Needle::of(bytes) {
+        Some(needle) => needle.bytes() == bytes,
+        None => false,
+    }
 }
 
 fn are_kept_by_length() -> bool {
@@ -201,7 +188,10 @@ fn are_kept_by_length() -> bool {
 }
 
 #[test]
-fn needles_have_1_to_64_bytes(rt: HostRuntime) {
+fn digests_of_the_standard_and_needles_of_1_to_64_bytes(rt: HostRuntime) {
+    for (bytes, words) in &DIGESTS {
+        assert!(rt; has_digest(bytes, words));
+    }
     assert!(rt; are_kept_by_length() && is_kept(b"a") && is_kept(b"a\0"));
 }
 
@@ -253,19 +243,16 @@ fn are_names(names: &[&[u8]], expected: bool) -> bool {
     true
 }
 
-#[test]
-fn names_of_files(rt: HostRuntime) {
-    assert!(rt; are_names(&NAMES, true) && are_names(&NO_NAMES, false));
-    assert!(rt; is_file_name(&[b'a'; 255]) && !is_file_name(&[b'a'; 256]));
-}
-
 static ACTION_WORDS: [&str; 6] = ["lines", "words", "bytes", "longest", "count", "sha256"];
 
 static NO_ACTION_WORDS: [&str; 5] = ["", "line", "liness", "Lines", "fetch"];
 
 // Whether the word is that of an action.
 fn is_action_word(word: &str) -> bool {
-    ActionKind::of_word(word).is_some_and(|kind| kind.word() == word)
+    match ActionKind::of_word(word) {
+        Some(kind) => kind.word() == word,
+        None => false,
+    }
 }
 
 fn actions_have_their_words() -> bool {
@@ -278,19 +265,12 @@ fn actions_have_their_words() -> bool {
 }
 
 fn some_others_are_action_words() -> bool {
-    for word in NO_ACTION_WORDS {
+    for word in &NO_ACTION_WORDS {
         if is_action_word(word) {
             return true;
         }
     }
     false
-}
-
-#[test]
-fn words_of_actions(rt: HostRuntime) {
-    actions_have_words_of_their_own();
-    assert!(rt; actions_have_their_words() && !some_others_are_action_words());
-    assert!(rt; matches!(ItemAction::Longest.kind(), ActionKind::Longest));
 }
 
 static OUTCOME_WORDS: [&str; 7] = [
@@ -305,7 +285,10 @@ static OUTCOME_WORDS: [&str; 7] = [
 
 // Whether the word is that of an outcome.
 fn is_outcome_word(word: &str) -> bool {
-    OutcomeKind::of_word(word).is_some_and(|kind| kind.word() == word)
+    match OutcomeKind::of_word(word) {
+        Some(kind) => kind.word() == word,
+        None => false,
+    }
 }
 
 fn outcomes_have_their_words() -> bool {
@@ -317,12 +300,22 @@ fn outcomes_have_their_words() -> bool {
     !is_outcome_word("too long") && OutcomeKind::TooLong.phrase() == "too long"
 }
 
+// Whether the kinds of an action and an outcome are theirs, and a number passes and a fault doesn't.
+fn are_of_their_kinds() -> bool {
+    matches!(ItemAction::Longest.kind(), ActionKind::Longest)
+        && matches!(Outcome::Number(3).kind(), OutcomeKind::Number)
+        && Outcome::Number(3).passes()
+        && !Outcome::Fault.passes()
+}
+
 #[test]
-fn words_of_outcomes(rt: HostRuntime) {
+fn names_of_files_and_words_of_actions_and_outcomes(rt: HostRuntime) {
+    actions_have_words_of_their_own();
     outcomes_have_words_of_their_own();
-    assert!(rt; outcomes_have_their_words());
-    assert!(rt; matches!(Outcome::Number(3).kind(), OutcomeKind::Number));
-    assert!(rt; Outcome::Number(3).passes() && !Outcome::Fault.passes());
+    assert!(rt; are_names(&NAMES, true) && are_names(&NO_NAMES, false));
+    assert!(rt; is_file_name(&[b'a'; 255]) && !is_file_name(&[b'a'; 256]));
+    assert!(rt; actions_have_their_words() && !some_others_are_action_words());
+    assert!(rt; outcomes_have_their_words() && are_of_their_kinds());
 }
 
 // Whether a text is made of the bytes, is told as the bytes and as a `str`, and is copied.

@@ -1,8 +1,7 @@
 //! Actions on bytes that come in pieces.
 ghost use Rattle.std.specs.Prelude.{◌≤◌, length};
 
-use item_actions::{ItemAction, Needle, Outcome};
-use piecewise_actions::PieceState;
+use item_actions::{ItemAction, Needle, Outcome, PieceState};
 
 // What the action gives on bytes that come in three pieces.
 fn in_three(action: &ItemAction, bytes: &[u8], first: usize, second: usize) -> Outcome
@@ -41,25 +40,20 @@ static NUMBERS: [(&[u8], u64, u64, u64); 8] = [
 ];
 
 fn have_their_numbers() -> bool {
-    for (bytes, lines, words, longest) in NUMBERS {
-        let counted = gives_in_pieces(&ItemAction::Lines, bytes, Outcome::Number(lines))
-            && gives_in_pieces(&ItemAction::Words, bytes, Outcome::Number(words))
+    for (bytes, lines, words, longest) in &NUMBERS {
+        let counted = gives_in_pieces(&ItemAction::Lines, bytes, Outcome::Number(*lines))
+            && gives_in_pieces(&ItemAction::Words, bytes, Outcome::Number(*words))
             && gives_in_pieces(
                 &ItemAction::Bytes,
                 bytes,
                 Outcome::Number(bytes.len() as u64),
             )
-            && gives_in_pieces(&ItemAction::Longest, bytes, Outcome::Number(longest));
+            && gives_in_pieces(&ItemAction::Longest, bytes, Outcome::Number(*longest));
         if !counted {
             return false;
         }
     }
     true
-}
-
-#[test]
-fn numbers_of_pieces(rt: HostRuntime) {
-    assert!(rt; have_their_numbers());
 }
 
 /// A needle, bytes, and how often it is found in them.
@@ -75,26 +69,21 @@ static COUNTS: [(&[u8], &[u8], u64); 9] = [
     (b"anan", b"banananan", 2),
 ];
 
+// Whether the needle is found so often, wherever the bytes are cut.
+fn is_found(needle: &[u8], bytes: &[u8], count: u64) -> bool {
+    match Needle::of(needle) {
+        Some(needle) => gives_in_pieces(&ItemAction::Count(needle), bytes, Outcome::Number(count)),
+        None => false,
+    }
+}
+
 fn are_found() -> bool {
-    for (needle, bytes, count) in COUNTS {
-        let found = match Needle::of(needle) {
-            Some(needle) => gives_in_pieces(
-                &ItemAction::Count(needle),
-                bytes,
-                Outcome::Number(count),
-            ),
-            None => false,
-        };
-        if !found {
+    for (needle, bytes, count) in &COUNTS {
+        if !is_found(needle, bytes, *count) {
             return false;
         }
     }
     true
-}
-
-#[test]
-fn needles_of_pieces(rt: HostRuntime) {
-    assert!(rt; are_found());
 }
 
 /// The digest of `abc`, by FIPS 180-4.
@@ -103,22 +92,18 @@ static DIGEST: [u8; 32] = [
     0xb0, 0x03, 0x61, 0xa3, 0x96, 0x17, 0x7a, 0x9c, 0xb4, 0x10, 0xff, 0x61, 0xf2, 0x00, 0x15, 0xad,
 ];
 
-#[test]
-fn a_digest_of_pieces(rt: HostRuntime) {
-    assert!(rt; gives_in_pieces(&ItemAction::Sha256, b"abc", Outcome::Digest(DIGEST)));
-}
-
-// The longest needle, whose last byte alone differs, behind bytes that are a front of it.
-#[test]
-fn the_longest_needle_across_pieces(rt: HostRuntime) {
+// Whether the longest needle, whose last byte alone differs, is found behind bytes that are a front of it.
+fn is_longest_found() -> bool {
     let mut needle = [b'.'; 64];
     needle[63] = b'!';
     let mut bytes = [b'.'; 150];
     bytes[80] = b'!';
     bytes[144] = b'!';
-    let found = match Needle::of(&needle) {
-        Some(needle) => gives_in_pieces(&ItemAction::Count(needle), &bytes, Outcome::Number(2)),
-        None => false,
-    };
-    assert!(rt; found);
+    is_found(&needle, &bytes, 2)
+}
+
+#[test]
+fn bytes_in_pieces_give_what_they_give_whole(rt: HostRuntime) {
+    assert!(rt; have_their_numbers() && are_found() && is_longest_found());
+    assert!(rt; gives_in_pieces(&ItemAction::Sha256, b"abc", Outcome::Digest(DIGEST)));
 }

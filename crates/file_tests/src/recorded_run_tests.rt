@@ -1,10 +1,10 @@
 //! Whole histories that were read from their texts, and driven again.
 use file_access::{FileEntry, FileMap, MemoryFiles};
-use history_reader::read_history;
+use history_check::{Again, drive_again};
+use history_text::read_history;
 use item_actions::{Outcome, Text};
 use plan_reader::read_plan;
-use recorded_run::{Again, drive_again};
-use std::alloc::Global;
+use std::alloc::{AllocError, Global};
 use std::test::Fail;
 
 /// A task with one item.
@@ -25,10 +25,8 @@ static HISTORY: &[u8] = b"history 1\nworkers 1 max 1 parallel no\n\
     end 7\n";
 
 /// What the run comes to, of a book its number of entries.
-#[derive(Clone, Copy, PartialEq, Eq)]
 enum Verdict {
     Same(u64),
-    NotLawful(u64),
     Differs(u64, Outcome),
     ReadFault(u32),
 }
@@ -41,38 +39,41 @@ static CASES: [(&[u8], u64, Verdict); 4] = [
     (b"a\nb\n", 0, Verdict::ReadFault(0)),
 ];
 
-fn verdict_of(again: &Again) -> Verdict {
-    match again {
-        Again::Same(book) => Verdict::Same(book.len()),
-        Again::NotLawful(number) => Verdict::NotLawful(*number),
-        Again::Differs(number, value) => Verdict::Differs(*number, *value),
-        Again::ReadFault(unit) => Verdict::ReadFault(*unit),
+fn is_verdict(again: &Again, expected: &Verdict) -> bool {
+    match (again, expected) {
+        (Again::Same(book), Verdict::Same(entries)) => book.len() == *entries,
+        (Again::Differs(number, value), Verdict::Differs(entry, outcome)) => {
+            number == entry && value == outcome
+        }
+        (Again::ReadFault(unit), Verdict::ReadFault(expected)) => unit == expected,
+        _ => false,
     }
 }
 
 // A file of the name a.txt. The read of this number fails.
-fn files(alloc: Global, bytes: &[u8], failing: u64) -> Result<MemoryFiles, Fail> {
+fn files(alloc: Global, bytes: &[u8], failing: u64) -> Result<Box<MemoryFiles>, AllocError> {
     let name = Text::from_str(alloc, "a.txt")?;
     let bytes = bytes.to_vec(alloc)?;
     let mut entries = Vec::new(alloc);
     entries.push(FileEntry { name, bytes })?;
     let failing = [failing].to_vec(alloc)?;
-    Ok(MemoryFiles::new(alloc, FileMap::new(entries), failing)?)
+    let files = MemoryFiles::new(alloc, FileMap::new(entries), failing)?;
+    Ok(Box::new(alloc, files)?)
 }
 
-// What the run comes to with this file.
-fn drive(alloc: Global, bytes: &[u8], failing: u64) -> Result<Verdict, Fail> {
+// Whether the run comes to this with this file.
+fn comes_to(alloc: Global, bytes: &[u8], failing: u64, expected: &Verdict) -> Result<bool, Fail> {
     let plan = read_plan(alloc, PLAN)?;
     let history = read_history(alloc, HISTORY)?;
     let mut files = files(alloc, bytes, failing)?;
-    let again = drive_again(alloc, &plan, &history, &mut files)?;
-    Ok(verdict_of(&again))
+    let again = drive_again(alloc, &plan, &history, &mut *files)?;
+    Ok(is_verdict(&again, expected))
 }
 
 #[test]
 fn recorded_runs(rt: HostRuntime) -> Result<(), Fail> {
-    for (bytes, failing, expected) in CASES {
-        assert!(rt; drive(rt.alloc(), bytes, failing)? == expected);
+    for (bytes, failing, expected) in &CASES {
+        assert!(rt; comes_to(rt.alloc(), bytes, *failing, expected)?);
     }
     Ok(())
 }

@@ -1,5 +1,5 @@
 //! The spans and the levels of a run, and of one that is cut off.
-use history_reader::read_history;
+use history_text::read_history;
 use resource_lock::{LockId, MarkId, WorkerId};
 use run_spans::{Subject, levels_of, spans_of};
 use std::test::Fail;

@@ -30,9 +30,12 @@ impl fmt::Display for Counted {
 
 // Whether each byte is a line's end or can be seen.
 fn is_text(bytes: &[u8]) -> bool {
-    bytes
-        .iter()
-        .all(|byte| *byte == b'\n' || (*byte >= b' ' && *byte <= b'~'))
+    for byte in bytes {
+        if !matches!(*byte, b'\n' | b' '..=b'~') {
+            return false;
+        }
+    }
+    true
 }
 
 /// The text that the bytes are, if each of them is a line's end or can be seen.
@@ -73,7 +76,11 @@ fn lawful_words(lawful: Option<bool>) -> &'static str {
 // Prints how a call ended: its status, with the place of a bad frame, and how many entries of its book finished.
 fn print_end(rt: &HostRuntime, answer: &Answer, lawful: Option<bool>) -> Result<()> {
     let place = Counted(" at ", answer.place, "");
-    let finished = Counted(", ", answer.run.map(|run| run.finished), " entries");
+    let finished = match answer.run {
+        Some(run) => Some(run.finished),
+        None => None,
+    };
+    let finished = Counted(", ", finished, " entries");
     print!(rt;
         "status {}{place}{finished}{}",
         answer.status,
@@ -134,18 +141,35 @@ fn print_watches(rt: &HostRuntime, answer: &Answer) -> Result<()> {
 
 // Whether one of the files has this name.
 fn names_file(files: &[FileEntry], name: &Text) -> bool {
-    files.iter().any(|file| file.name.as_str() == name.as_str())
+    for file in files {
+        if file.name.as_str() == name.as_str() {
+            return true;
+        }
+    }
+    false
+}
+
+// Whether a history is asked for.
+fn asks_for_history(words: &[Text]) -> bool {
+    for word in words {
+        if word.as_str() == "--history" {
+            return true;
+        }
+    }
+    false
 }
 
 // The plan of a run whose history was printed, if there was one that ended.
 fn plan_of<'a>(case: &'a Case, answer: &Answer) -> Option<&'a Text> {
-    if answer.run.is_none()
-        || answer.status > 1
-        || !case.words.iter().any(|word| word.as_str() == "--history")
-    {
+    if answer.run.is_none() || answer.status > 1 || !asks_for_history(&case.words) {
         return None;
     }
-    case.words.iter().find(|word| names_file(&case.files, word))
+    for word in &case.words {
+        if names_file(&case.files, word) {
+            return Some(word);
+        }
+    }
+    None
 }
 
 // Whether the program itself finds a printed history lawful, with as many entries as the run's book has.

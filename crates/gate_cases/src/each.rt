@@ -68,7 +68,7 @@ impl Each {
         match self {
             Each::Beginning => input.len().saturating_add(1),
             Each::Byte(_, _) => input.len(),
-            Each::Line(_) => input.iter().filter(|byte| **byte == b'\n').count(),
+            Each::Line(_) => lines_in(input),
             Each::Take | Each::Put | Each::Room => usize::MAX,
         }
     }
@@ -92,6 +92,17 @@ impl Each {
             Each::Take | Each::Put | Each::Room => Vec::from_slice(alloc, input),
         }
     }
+}
+
+// How many lines the bytes have, each with its end.
+fn lines_in(bytes: &[u8]) -> usize {
+    let mut lines = 0usize;
+    for byte in bytes {
+        if *byte == b'\n' {
+            lines = lines.saturating_add(1);
+        }
+    }
+    lines
 }
 
 // The input with another byte at this place: of its bits some are kept, and then some turned over.

@@ -76,6 +76,24 @@ fn add_next(
     }
 }
 
+// Adds the line at `at`, of which the changed one is that at `place`. `last` is the line before it.
+fn add_line(
+    text: &mut Vec<u8>,
+    change: LineChange,
+    place: usize,
+    at: usize,
+    last: &[u8],
+    line: &[u8],
+) -> Result<(), AllocError> {
+    if at == place {
+        add_changed(text, change, line)
+    } else if at > place && at - place == 1 {
+        add_next(text, change, last, line)
+    } else {
+        add(text, b"", line, b"\n")
+    }
+}
+
 /// A text whose lines all have their ends, with a change of the line at this place.
 pub(crate) fn with_changed_line(
     alloc: Global,
@@ -84,18 +102,18 @@ pub(crate) fn with_changed_line(
     change: LineChange,
 ) -> Result<Vec<u8>, AllocError> {
     let mut changed = Vec::new(alloc);
-    let mut last: &[u8] = b"";
     let lines = text.strip_suffix(b"\n").unwrap_or(text);
-    for (at, line) in lines.split(|byte| *byte == b'\n').enumerate() {
-        let added = if at == place {
-            add_changed(&mut changed, change, line)
-        } else if at > place && at - place == 1 {
-            add_next(&mut changed, change, last, line)
-        } else {
-            add(&mut changed, b"", line, b"\n")
-        };
-        added?;
-        last = line;
+    let mut last: &[u8] = b"";
+    let mut start = 0usize;
+    let mut at = 0usize;
+    for end in 0..=lines.len() {
+        if matches!(lines.get(end), None | Some(b'\n')) {
+            let line = lines.get(start..end).unwrap_or(b"");
+            add_line(&mut changed, change, place, at, last, line)?;
+            last = line;
+            start = end.saturating_add(1);
+            at = at.saturating_add(1);
+        }
     }
     Ok(changed)
 }

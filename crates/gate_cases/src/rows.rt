@@ -64,7 +64,11 @@ fn told_of_room(
     bytes: &[u8],
     whole: &[u8],
 ) -> Result<String> {
-    let entries = Counted(", ", answer.run.map(|run| run.entries), " entries");
+    let entries = match answer.run {
+        Some(run) => Some(run.entries),
+        None => None,
+    };
+    let entries = Counted(", ", entries, " entries");
     let status = answer.status;
     let words = if bytes == &whole[..min(room, whole.len())] {
         "as many of the first bytes as there is room for"

@@ -51,7 +51,7 @@ fn closing_of(book: &Book, unit: u32) -> Option<u64> {
 
 // Whether so many entries have the one that closed the item, and lead to so many leases.
 fn holds(book: &Book, watch: &Watch) -> bool {
-    closing_of(book, watch.unit).is_some_and(|closing| closing <= watch.entries)
+    matches!(closing_of(book, watch.unit), Some(closing) if closing <= watch.entries)
         && watch.entries <= book.len()
         && watch.leases == leases_at(book, watch.entries)
 }

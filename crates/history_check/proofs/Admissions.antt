@@ -9,7 +9,7 @@ use Rattle.lock_journal.specs.BookView.{BookView}
 use Rattle.lock_transforms.specs.Entry.{Entry, effect, replay_from}
 use Rattle.lock_transforms.specs.Allowed.{Allowed, Lawful, lawful_from}
 use Rattle.plan_reader.specs.PlanView.{PlanView}
-use Rattle.history_reader.specs.HistoryView.{HistoryView}
+use Rattle.history_text.specs.HistoryView.{HistoryView}
 use Rattle.history_check.specs.CheckView.{CheckView, BeginsUnlawful, IsCheckOf}
 use Rattle.history_check.specs.Verdict.{IsFirstUnlawful, IsVerdict}
 use Rattle.history_check.specs.Checking.{AnswersBy, HasEnded, HasChecked}

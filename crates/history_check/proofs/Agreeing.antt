@@ -5,7 +5,7 @@ use Rattle.file_access.specs.SourceView.{SourceView}
 use Rattle.resource_lock.specs.GraphView.{GraphView}
 use Rattle.plan_reader.specs.PlanView.{PlanView}
 use Rattle.plan_reader.specs.Graph.{graph_of}
-use Rattle.history_reader.specs.HistoryView.{HistoryView}
+use Rattle.history_text.specs.HistoryView.{HistoryView}
 use Rattle.history_check.specs.CheckView.{CheckView, IsCheckOf}
 use Rattle.history_check.specs.Verdict.{IsAnswerTo, IsVerdict}
 use Rattle.history_check.specs.Naming.{Names}

@@ -5,12 +5,12 @@ use Rattle.std.proofs.lemmas.Bool.{and_parts}
 use Rattle.std.proofs.lemmas.List.Folds.{list_all-append}
 use borrow.Author.Tests.{ltb-true, ltb-false}
 use Rattle.history_text.specs.Text.{numbered, entry_text}
-use Rattle.history_reader.specs.HistoryView.{HistoryView}
-use Rattle.history_reader.specs.Lines.{is_unbroken, IsLine, IsWrongAfter, first_line, second_line, version_of, next_number}
-use Rattle.history_reader.specs.Grammar.{HistoryFits, head_of, lines_of}
-use Rattle.history_reader.proofs.lemmas.Splits.{same_line}
-use Rattle.history_reader.proofs.lemmas.LineLaws.{entry_line, first_is_line, second_is_line}
-use Rattle.history_reader.proofs.lemmas.TextLaws.{NoEntryAt, head_parts, same_from}
+use Rattle.history_text.specs.HistoryView.{HistoryView}
+use Rattle.history_text.specs.Lines.{is_unbroken, IsLine, IsWrongAfter, first_line, second_line, version_of, next_number}
+use Rattle.history_text.specs.Grammar.{HistoryFits, head_of, lines_of}
+use Rattle.history_text.proofs.lemmas.Splits.{same_line}
+use Rattle.history_text.proofs.lemmas.LineLaws.{entry_line, first_is_line, second_is_line}
+use Rattle.history_text.proofs.lemmas.TextLaws.{NoEntryAt, head_parts, same_from}
 use Rattle.history_check.specs.Naming.{ArePassedOver}
 use Rattle.history_check.specs.Checking.{IsFront, IsUndecided, IsJustDecided}
 use Rattle.history_check.specs.declared.lines.TheConstants.{MAX_PIECE}

@@ -13,3 +13,6 @@ pub mod OneByOne
 pub mod EndLines
 pub mod Rooms
 pub mod Admissions
+mod Closings
+mod Drives
+mod Answering

@@ -11,12 +11,12 @@ use Rattle.lock_transforms.specs.Allowed.{Allowed, lawful_from}
 use Rattle.plan_reader.specs.PlanView.{PlanView}
 use Rattle.plan_reader.specs.Graph.{graph_of}
 use Rattle.history_text.specs.Text.{numbered, entry_text, end_text}
-use Rattle.history_reader.specs.HistoryView.{HistoryView}
-use Rattle.history_reader.specs.Lines.{is_unbroken, IsLine, first_line, next_number}
-use Rattle.history_reader.specs.Grammar.{HistoryFits, StopsInHead, StopsAt, head_of, lines_of, text_of}
-use Rattle.history_reader.proofs.lemmas.Splits.{same_line}
-use Rattle.history_reader.proofs.lemmas.LineLaws.{first_is_line}
-use Rattle.history_reader.proofs.lemmas.TextLaws.{NoEntryAt, same_from, no_entry_at_end, text_parts, one_place}
+use Rattle.history_text.specs.HistoryView.{HistoryView}
+use Rattle.history_text.specs.Lines.{is_unbroken, IsLine, first_line, next_number}
+use Rattle.history_text.specs.Grammar.{HistoryFits, StopsInHead, StopsAt, head_of, lines_of, text_of}
+use Rattle.history_text.proofs.lemmas.Splits.{same_line}
+use Rattle.history_text.proofs.lemmas.LineLaws.{first_is_line}
+use Rattle.history_text.proofs.lemmas.TextLaws.{NoEntryAt, same_from, no_entry_at_end, text_parts, one_place}
 use Rattle.history_check.specs.Verdict.{IsFirstUnlawful, IsVerdict, IsAnswerTo}
 use Rattle.history_check.specs.Naming.{IsOtherLine, ArePassedOver, BeginsHistory, BreaksBehind, Names}
 use Rattle.history_check.specs.Checking.{AnswersHistory, AnswersBreak, IsAnswer}

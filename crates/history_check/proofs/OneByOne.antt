@@ -6,9 +6,9 @@ use Rattle.lock_transforms.specs.Entry.{Entry, entry}
 use Rattle.resource_lock.specs.declared.changes.Change.{Change}
 use Rattle.plan_reader.specs.PlanView.{PlanView}
 use Rattle.plan_reader.specs.Graph.{graph_of}
-use Rattle.history_reader.specs.HistoryView.{HistoryView, history_view, entry_read}
-use Rattle.history_reader.specs.declared.histories.History.{History}
-use Rattle.history_reader.specs.declared.histories.HistoryEntry.{HistoryEntry}
+use Rattle.history_text.specs.HistoryView.{HistoryView, history_view, entry_read}
+use Rattle.history_text.specs.declared.read_histories.History.{History}
+use Rattle.history_text.specs.declared.read_histories.HistoryEntry.{HistoryEntry}
 use Rattle.resource_lock.specs.GraphView.{GraphView}
 use Rattle.history_check.specs.CheckView.{CheckView, IsCheckOf, IsFresh, Adds}
 use Rattle.history_check.specs.Verdict.{IsVerdict, IsAnswerTo}

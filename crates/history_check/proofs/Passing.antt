@@ -4,7 +4,7 @@ use Rattle.std.specs.Io.KnownBytes.{Consumes}
 use Rattle.std.proofs.KnownBytes.{Consumes-nil, Consumes-trans}
 use Rattle.file_access.specs.SinkView.{Rises}
 use Rattle.file_access.specs.SourceView.{SourceView}
-use Rattle.history_reader.specs.Lines.{is_unbroken, IsLine, IsLineBefore, BeginsWithLine}
+use Rattle.history_text.specs.Lines.{is_unbroken, IsLine, IsLineBefore, BeginsWithLine}
 use Rattle.history_check.specs.LinesView.{LinesView}
 use Rattle.history_check.specs.Taking.{Takes, TakesNext, IsOver, IsCutOff, EndsLine, LosesPiece}
 use Rattle.history_check.specs.Naming.{IsOtherLine}

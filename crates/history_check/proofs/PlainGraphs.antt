@@ -4,7 +4,7 @@ use Rattle.std.specs.List.{AllByRecursion}
 use Rattle.resource_lock.specs.GraphView.{GraphTaskView}
 use Rattle.resource_lock.specs.ProjectLocks.{project_lock}
 use Rattle.resource_lock.specs.declared.ids.LockId.{LockId}
-use Rattle.history_laws.specs.PlainPlans.{with_all}
+use Rattle.lock_journal.specs.PlainPlans.{with_all}
 use Rattle.plan_reader.specs.Graph.{all_projects_lock, graph_of, task_lock, tasks_from}
 use Rattle.plan_reader.specs.PlanView.{PlanTaskView, PlanView}
 use Rattle.history_check.specs.PlainPlans.{IsPlain, graph_before}

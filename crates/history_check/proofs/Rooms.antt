@@ -2,13 +2,13 @@
 use Rattle.std.proofs.Common.{◌≡◌, ℕ, ◌+◌, ◌^◌, ◌<◌, ◌≤◌, List, ◌++◌, length, length-append, codes, Result, Ok, refl, ap, subst, arith, ◌∙◌, sym}
 use Rattle.file_access.specs.SourceView.{SourceView}
 use Rattle.history_text.specs.Text.{end_text}
-use Rattle.history_reader.specs.declared.heads.Version.{Version}
-use Rattle.history_reader.specs.declared.heads.Version.TheVariants.{One, Two}
-use Rattle.history_reader.specs.Lines.{IsLine, first_line}
+use Rattle.history_text.specs.declared.heads.Version.{Version}
+use Rattle.history_text.specs.declared.heads.Version.TheVariants.{One, Two}
+use Rattle.history_text.specs.Lines.{IsLine, first_line}
 use Rattle.history_check.specs.LinesView.{LinesView}
-use Rattle.history_reader.specs.declared.histories.HistoryLine.{HistoryLine}
-use Rattle.history_reader.specs.declared.histories.HistoryLine.TheVariants as lines
-use Rattle.history_reader.specs.declared.fails.TextFail.{TextFail}
+use Rattle.history_text.specs.declared.read_histories.HistoryLine.{HistoryLine}
+use Rattle.history_text.specs.declared.read_histories.HistoryLine.TheVariants as lines
+use Rattle.history_text.specs.declared.fails.TextFail.{TextFail}
 use Rattle.history_check.specs.CheckView.{CheckView, IsCounted}
 use Rattle.history_check.specs.Taking.{TakesNext, StaysWithin}
 use Rattle.history_check.specs.Checking.{unread, HasBytesLeft}

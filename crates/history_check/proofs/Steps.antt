@@ -4,14 +4,14 @@ use Rattle.resource_lock.specs.GraphView.{GraphView}
 use Rattle.file_access.specs.SourceView.{SourceView}
 use Rattle.plan_reader.specs.PlanView.{PlanView}
 use Rattle.history_text.specs.Text.{numbered, entry_text, end_text}
-use Rattle.history_reader.specs.HistoryView.{HistoryView}
-use Rattle.history_reader.specs.declared.heads.Version.{Version}
-use Rattle.history_reader.specs.Lines.{is_unbroken, IsLine, IsLineBefore, IsNoFirst, AddsEntry, Ends, StopsIt, IsWrongAfter, Opens, OpensNone, first_line, version_of, next_number}
-use Rattle.history_reader.specs.Grammar.{HistoryFits, StopsInHead, StopsAt, head_of, lines_of}
-use Rattle.history_reader.proofs.lemmas.Splits.{same_line}
-use Rattle.history_reader.proofs.lemmas.LineLaws.{entry_line, end_line}
-use Rattle.history_reader.proofs.lemmas.TextLaws.{head_parts, second_of, first_wrong, second_wrong}
-use Rattle.history_reader.proofs.lemmas.ReadLaws.{ReadSoFar, at_start, read_on, read_ended, opened_so_far}
+use Rattle.history_text.specs.HistoryView.{HistoryView}
+use Rattle.history_text.specs.declared.heads.Version.{Version}
+use Rattle.history_text.specs.Lines.{is_unbroken, IsLine, IsLineBefore, IsNoFirst, AddsEntry, Ends, StopsIt, IsWrongAfter, Opens, OpensNone, first_line, version_of, next_number}
+use Rattle.history_text.specs.Grammar.{HistoryFits, StopsInHead, StopsAt, head_of, lines_of}
+use Rattle.history_text.proofs.lemmas.Splits.{same_line}
+use Rattle.history_text.proofs.lemmas.LineLaws.{entry_line, end_line}
+use Rattle.history_text.proofs.lemmas.TextLaws.{head_parts, second_of, first_wrong, second_wrong}
+use Rattle.history_text.proofs.lemmas.ReadLaws.{ReadSoFar, at_start, read_on, read_ended, opened_so_far}
 use Rattle.history_check.specs.LinesView.{LinesView}
 use Rattle.history_check.specs.Taking.{TakesNext, IsCutOff, EndsLine, StaysWithin, LosesPiece}
 use Rattle.history_check.specs.CheckView.{CheckView, IsCheckOf, OpensCheck, CheckGoesOn}
@@ -25,10 +25,10 @@ use Rattle.history_check.specs.declared.checks.Checked.{Checked}
 use Rattle.history_check.specs.declared.checks.Checked.TheVariants as checked
 use Rattle.history_check.specs.declared.fails.CheckFail.{CheckFail}
 use Rattle.history_check.specs.declared.fails.CheckFail.TheVariants.{NoMemory}
-use Rattle.history_reader.specs.declared.histories.HistoryLine.{HistoryLine}
-use Rattle.history_reader.specs.declared.histories.HistoryLine.TheVariants as lines
-use Rattle.history_reader.specs.declared.fails.TextFail.{TextFail}
-use Rattle.history_reader.specs.declared.fails.TextFail.TheVariants.{Stops}
+use Rattle.history_text.specs.declared.read_histories.HistoryLine.{HistoryLine}
+use Rattle.history_text.specs.declared.read_histories.HistoryLine.TheVariants as lines
+use Rattle.history_text.specs.declared.fails.TextFail.{TextFail}
+use Rattle.history_text.specs.declared.fails.TextFail.TheVariants.{Stops}
 use Rattle.std.specs.Prelude.{IsErrAnd}
 use Rattle.history_check.specs.declared.lines.TheConstants.{MAX_PIECE}
 use Rattle.history_check.proofs.Passing.{just_decided, taken_more, taken_past, came, to_come, given_behind, line_before, alone, cut_off, ends_either, memory_failed, line_failed}

@@ -9,8 +9,8 @@ use Rattle.file_access.specs.SinkView.{Rises}
 use Rattle.file_access.specs.Ahead.{TakesAhead}
 use Rattle.file_access.specs.SourceView.{SourceView}
 use Rattle.memchr.specs.Find.{Nowhere, NoneBefore, Passes, is_byte}
-use Rattle.history_reader.specs.Lines.{is_unbroken, IsLine}
-use Rattle.history_reader.proofs.lemmas.Splits.{joined, unbroken_before}
+use Rattle.history_text.specs.Lines.{is_unbroken, IsLine}
+use Rattle.history_text.proofs.lemmas.Splits.{joined, unbroken_before}
 use Rattle.history_check.specs.LinesView.{LinesView}
 use Rattle.history_check.specs.Taking.{Takes, Grows, SplitsLine, Splits, TakesPiece, TakesRest, LosesPiece, TakesLine, IsOver}
 use Rattle.history_check.specs.declared.fails.CheckFail.{CheckFail}

@@ -11,14 +11,14 @@ use Rattle.lock_journal.proofs.lemmas.Replays.{lawful_from-push, replay_from-pus
 use Rattle.plan_reader.specs.PlanView.{PlanView}
 use Rattle.plan_reader.specs.Graph.{graph_of}
 use Rattle.history_text.specs.Text.{entry_text}
-use Rattle.history_reader.specs.HistoryView.{HistoryView, entry_with}
-use Rattle.history_reader.specs.Lines.{AddsEntry}
-use Rattle.history_reader.specs.LineValues.{IsEntryLine, IsLineInto}
-use Rattle.history_reader.specs.declared.fails.TextFail.{TextFail}
+use Rattle.history_text.specs.HistoryView.{HistoryView, entry_with}
+use Rattle.history_text.specs.Lines.{AddsEntry}
+use Rattle.history_text.specs.LineValues.{IsEntryLine, IsLineInto}
+use Rattle.history_text.specs.declared.fails.TextFail.{TextFail}
 use Rattle.resource_lock.specs.declared.changes.Change.{Change}
-use Rattle.history_reader.specs.declared.histories.EntryHead.{EntryHead}
-use Rattle.history_reader.specs.declared.lines.LineHead.{LineHead}
-use Rattle.history_reader.specs.declared.lines.LineHead.TheVariants as heads
+use Rattle.history_text.specs.declared.read_histories.EntryHead.{EntryHead}
+use Rattle.history_text.specs.declared.lines.LineHead.{LineHead}
+use Rattle.history_text.specs.declared.lines.LineHead.TheVariants as heads
 use Rattle.history_check.specs.CheckView.{CheckView, BeginsUnlawful, IsCheckOf, IsFresh, AdmitsNext, RefusesEntry, Passes, Stays, Adds}
 use Rattle.history_check.specs.Verdict.{IsFirstUnlawful, IsVerdict, names_other_locks}
 use Rattle.history_check.specs.declared.checks.Checked.TheVariants as checked

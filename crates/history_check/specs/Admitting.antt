@@ -7,7 +7,7 @@ use Rattle.lock_transforms.specs.Entry.{Entry}
 use Rattle.file_access.specs.SourceView.{SourceView}
 use Rattle.plan_reader.specs.PlanView.{PlanView}
 use Rattle.plan_reader.specs.Graph.{graph_of}
-use Rattle.history_reader.specs.HistoryView.{HistoryView}
+use Rattle.history_text.specs.HistoryView.{HistoryView}
 use Rattle.history_check.specs.Taking.{Takes}
 use Rattle.history_check.specs.CheckView.{CheckView}
 use Rattle.history_check.specs.Verdict.{IsUnlawfulAt, names_other_locks}

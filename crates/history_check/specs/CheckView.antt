@@ -7,13 +7,13 @@ use Rattle.lock_transforms.specs.Entry.{Entry, effect, replay}
 use Rattle.lock_transforms.specs.Allowed.{Allowed, Lawful}
 use Rattle.plan_reader.specs.PlanView.{PlanView}
 use Rattle.plan_reader.specs.Graph.{graph_of}
-use Rattle.history_reader.specs.HistoryView.{HistoryView}
-use Rattle.history_reader.specs.Lines.{Opens, OpensNone, TakesLine}
-use Rattle.history_reader.specs.declared.histories.HistoryLine.{HistoryLine}
-use Rattle.history_reader.specs.declared.histories.HistoryLine.TheVariants as lines
-use Rattle.history_reader.specs.declared.fails.TextFail.{TextFail}
-use Rattle.history_reader.specs.declared.fails.TextFail.TheVariants.{Stops, NoMemory}
-use Rattle.history_reader.specs.declared.heads.Version.{Version}
+use Rattle.history_text.specs.HistoryView.{HistoryView}
+use Rattle.history_text.specs.Lines.{Opens, OpensNone, TakesLine}
+use Rattle.history_text.specs.declared.read_histories.HistoryLine.{HistoryLine}
+use Rattle.history_text.specs.declared.read_histories.HistoryLine.TheVariants as lines
+use Rattle.history_text.specs.declared.fails.TextFail.{TextFail}
+use Rattle.history_text.specs.declared.fails.TextFail.TheVariants.{Stops, NoMemory}
+use Rattle.history_text.specs.declared.heads.Version.{Version}
 use Rattle.history_check.specs.AdmitterView.{AdmitterView}
 use Rattle.history_check.specs.Verdict.{names_other_locks}
 

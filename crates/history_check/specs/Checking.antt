@@ -6,10 +6,10 @@ use Rattle.file_access.specs.SinkView.{Rises}
 use Rattle.file_access.specs.SourceView.{SourceView}
 use Rattle.plan_reader.specs.PlanView.{PlanView}
 use Rattle.history_text.specs.Text.{end_text}
-use Rattle.history_reader.specs.HistoryView.{HistoryView}
-use Rattle.history_reader.specs.declared.heads.Version.{Version}
-use Rattle.history_reader.specs.Lines.{is_unbroken, first_line}
-use Rattle.history_reader.specs.Grammar.{HistoryFits, lines_of}
+use Rattle.history_text.specs.HistoryView.{HistoryView}
+use Rattle.history_text.specs.declared.heads.Version.{Version}
+use Rattle.history_text.specs.Lines.{is_unbroken, first_line}
+use Rattle.history_text.specs.Grammar.{HistoryFits, lines_of}
 use Rattle.history_check.specs.LinesView.{LinesView}
 use Rattle.history_check.specs.Taking.{Takes}
 use Rattle.history_check.specs.CheckView.{CheckView, IsCheckOf}

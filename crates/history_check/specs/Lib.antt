@@ -8,3 +8,6 @@ pub mod CheckView
 pub mod Naming
 pub mod Checking
 pub mod Admitting
+pub mod Truth
+pub mod Driving
+pub mod Steps

@@ -4,10 +4,10 @@ use Rattle.std.specs.List.{AllByRecursion, concat}
 use Rattle.lock_transforms.specs.Entry.{Entry}
 use Rattle.history_text.specs.Text.{entry_text, end_text}
 use Rattle.history_text.specs.Fitting.{EntryFits}
-use Rattle.history_reader.specs.HistoryView.{HistoryView}
-use Rattle.history_reader.specs.declared.heads.Version.{Version}
-use Rattle.history_reader.specs.Lines.{is_unbroken, IsLine, IsNoFirst, first_line, next_number}
-use Rattle.history_reader.specs.Grammar.{HistoryFits, IsHistoryText, StopsInHead, lines_of}
+use Rattle.history_text.specs.HistoryView.{HistoryView}
+use Rattle.history_text.specs.declared.heads.Version.{Version}
+use Rattle.history_text.specs.Lines.{is_unbroken, IsLine, IsNoFirst, first_line, next_number}
+use Rattle.history_text.specs.Grammar.{HistoryFits, IsHistoryText, StopsInHead, lines_of}
 
 -- a line that isn't the first of a history
 pub record IsOtherLine (line : List ℕ) : Type 0 where

@@ -3,7 +3,7 @@ use Rattle.std.specs.Prelude.{ℕ, ◌≡◌, ◌+◌, ◌<◌, ◌≤◌, ◌�
 use Rattle.std.specs.Io.KnownBytes.{Consumes, IsAtEnd}
 use Rattle.file_access.specs.SinkView.{Rises}
 use Rattle.file_access.specs.SourceView.{SourceView}
-use Rattle.history_reader.specs.Lines.{is_unbroken, IsLine}
+use Rattle.history_text.specs.Lines.{is_unbroken, IsLine}
 use Rattle.history_check.specs.LinesView.{LinesView}
 use Rattle.history_check.specs.declared.fails.CheckFail.{CheckFail}
 use Rattle.history_check.specs.declared.fails.CheckFail.TheVariants.{SourceFault, NoMemory}

@@ -5,7 +5,7 @@ use Rattle.lock_transforms.specs.Entry.{Entry, replay}
 use Rattle.lock_transforms.specs.Allowed.{Allowed, Lawful}
 use Rattle.plan_reader.specs.PlanView.{PlanView}
 use Rattle.plan_reader.specs.Graph.{graph_of}
-use Rattle.history_reader.specs.HistoryView.{HistoryView}
+use Rattle.history_text.specs.HistoryView.{HistoryView}
 use Rattle.history_check.specs.declared.checks.Checked.{Checked}
 use Rattle.history_check.specs.declared.checks.Checked.TheVariants as checked
 

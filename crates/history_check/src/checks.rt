@@ -1,7 +1,7 @@
 //! The check of a history that comes line by line.
 ghost use Rattle.std.specs.Prelude.{◌≡◌, ◌-◌, ◌^◌, ◌<◌, option_map};
 ghost use Rattle.plan_reader.specs.PlanView.{PlanView};
-ghost use Rattle.history_reader.specs.HistoryView.{HistoryView, changes_of};
+ghost use Rattle.history_text.specs.HistoryView.{HistoryView, changes_of};
 ghost use Rattle.history_check.specs.CheckView.{IsCheckOf, OpensCheck, CheckGoesOn, IsCounted};
 ghost use Rattle.history_check.specs.Admitting.{IsFinish};
 ghost use Rattle.history_check.specs.Verdict.{IsVerdict};
@@ -9,9 +9,7 @@ ghost use Rattle.history_check.specs.Verdict.{IsVerdict};
 use crate::admitted::Admitted;
 use crate::admitters::Admitter;
 use crate::entry_checks::EntryCheck;
-use history_reader::{
-    EntryHead, History, HistoryLine, LineHead, TextFail, Version, read_line_into,
-};
+use history_text::{EntryHead, History, HistoryLine, LineHead, TextFail, Version, read_line_into};
 use lock_journal::Book;
 use plan_reader::Plan;
 use resource_lock::Change;

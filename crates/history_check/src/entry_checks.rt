@@ -3,7 +3,7 @@ ghost use Rattle.lock_transforms.specs.Entry.{entry};
 ghost use Rattle.plan_reader.specs.PlanView.{PlanView};
 ghost use Rattle.plan_reader.specs.Graph.{graph_of};
 ghost use Rattle.history_text.specs.Fitting.{HeadFits};
-ghost use Rattle.history_reader.specs.HistoryView.{HistoryView};
+ghost use Rattle.history_text.specs.HistoryView.{HistoryView};
 ghost use Rattle.history_check.specs.CheckView.{IsCheckOf, IsFresh, Adds};
 ghost use Rattle.history_check.specs.Admitting.{IsFinish};
 ghost use Rattle.history_check.specs.Verdict.{IsVerdict, names_other_locks};

@@ -5,7 +5,7 @@ ghost use Rattle.file_access.specs.SourceView.{SourceView};
 ghost use Rattle.history_check.specs.Checking.{HasChecked, HasEnded, HasBytesLeft, GoesOn, FindsHead, FindsRoom, IsUnderway, Shortens, TakesHead, HasTaken};
 ghost use Rattle.history_check.specs.Checking.{OpensWithin};
 ghost use Rattle.history_check.specs.Admitting.{HasAdmitted};
-ghost use Rattle.history_reader.specs.Lines.{first_line};
+ghost use Rattle.history_text.specs.Lines.{first_line};
 
 use crate::admitted::Admitted;
 use crate::admitters::Admitter;
@@ -14,7 +14,7 @@ use crate::fails::CheckFail;
 use crate::lines::Lines;
 use crate::reached::Reached;
 use file_access::Source;
-use history_reader::{HistoryLine, TextFail, Version, read_version};
+use history_text::{HistoryLine, TextFail, Version, read_version};
 use lock_journal::Book;
 use plan_reader::Plan;
 use std::alloc::Global;
@@ -48,7 +48,7 @@ pub fn check_input<I: Source>(
     }
 }
 
-/// The same, with the book of the history where all its entries are lawful. So it keeps the entries.
+/// Checks as `check_input` does, and answers the book of the history where all its entries are lawful. So it keeps the entries.
 pub fn admit_input<I: Source>(
     alloc: Global,
     plan: &Plan,

@@ -1,14 +1,14 @@
 ghost use Rattle.std.specs.Prelude.{ℕ, ◌≡◌, ◌<◌, ◌≤◌, ◌↔◌, Bool, List, ◌++◌, length, take, Option, Some, Ok};
 ghost use Rattle.std.specs.Io.KnownBytes.{Consumes};
 ghost use Rattle.file_access.specs.SourceView.{SourceView};
-ghost use Rattle.history_laws.specs.PlainPlans.{NameLocksBelow, WasLawful};
+ghost use Rattle.lock_journal.specs.PlainPlans.{NameLocksBelow, WasLawful};
 ghost use Rattle.lock_transforms.specs.Allowed.{Lawful};
 ghost use Rattle.lock_transforms.specs.Entry.{Entry};
 ghost use Rattle.plan_reader.specs.Graph.{graph_of};
 ghost use Rattle.plan_reader.specs.PlanView.{PlanView};
-ghost use Rattle.history_reader.specs.HistoryView.{HistoryView};
-ghost use Rattle.history_reader.specs.Lines.{IsLine, IsWrongAfter};
-ghost use Rattle.history_reader.specs.Grammar.{HistoryFits, lines_of};
+ghost use Rattle.history_text.specs.HistoryView.{HistoryView};
+ghost use Rattle.history_text.specs.Lines.{IsLine, IsWrongAfter};
+ghost use Rattle.history_text.specs.Grammar.{HistoryFits, lines_of};
 ghost use Rattle.history_check.specs.CheckView.{CheckView, IsCheckOf};
 ghost use Rattle.history_check.specs.declared.checks.Checked.{Checked};
 ghost use Rattle.history_check.specs.declared.inputs.TheConstants.{MAX_INPUT_BYTES};
@@ -18,7 +18,7 @@ ghost use Rattle.history_check.specs.Naming.{ArePassedOver, Names};
 ghost use Rattle.history_check.specs.PlainPlans.{IsPlain, graph_before};
 ghost use Rattle.history_check.specs.Verdict.{IsAnswerTo, IsVerdict};
 
-use history_laws::plain_histories_are_lawful_as_without_all_projects;
+use lock_journal::plain_histories_are_lawful_as_without_all_projects;
 
 /// Of the bytes that may be taken of an input there is one answer at most for a plan.
 pub fn an_input_has_one_answer()

@@ -3,17 +3,22 @@
 
 mod admitted;
 mod admitters;
+mod again;
 mod checks;
+mod driving;
 mod entry_checks;
 mod fails;
 mod inputs;
 mod laws;
 mod lines;
 mod reached;
+mod stops;
+mod values;
 mod whole;
 
 pub use admitted::Admitted;
 pub use admitters::Admitter;
+pub use again::{Again, drive_again, drive_input};
 pub use checks::{Checked, HistoryCheck};
 pub use fails::CheckFail;
 pub use inputs::{MAX_INPUT_BYTES, admit_input, check_input};

@@ -1,6 +1,6 @@
 //! Lines of a source, taken whole where it has them read ahead, and else in pieces that never reach behind the text.
 ghost use Rattle.std.specs.Prelude.{◌≡◌, ◌≤◌, ◌<◌, ◌-◌, [], length, true, take, get_or, nat_eq};
-ghost use Rattle.history_reader.specs.Lines.{is_unbroken};
+ghost use Rattle.history_text.specs.Lines.{is_unbroken};
 ghost use Rattle.history_check.specs.Taking.{Splits, TakesPiece, TakesRest, TakesLine, MayTake};
 ghost use Rattle.history_check.specs.declared.lines.TheConstants.{MAX_PIECE};
 

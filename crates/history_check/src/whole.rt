@@ -1,6 +1,6 @@
 ghost use Rattle.std.specs.Prelude.{IfOk};
 ghost use Rattle.history_text.specs.Fitting.{HeadFits};
-ghost use Rattle.history_reader.specs.HistoryView.{history_view};
+ghost use Rattle.history_text.specs.HistoryView.{history_view};
 ghost use Rattle.history_check.specs.Admitting.{IsAdmissionOf};
 ghost use Rattle.history_check.specs.CheckView.{IsCheckOf};
 ghost use Rattle.history_check.specs.Verdict.{IsAnswerTo};
@@ -10,7 +10,7 @@ use crate::admitters::Admitter;
 use crate::checks::Checked;
 use crate::entry_checks::EntryCheck;
 use crate::reached::Reached;
-use history_reader::History;
+use history_text::History;
 use lock_journal::Book;
 use plan_reader::Plan;
 use std::alloc::{AllocError, Global};

@@ -2,3 +2,14 @@ pub mod lemmas
 pub mod Parts
 pub mod Counting
 pub mod Agreeing
+pub mod Numbers
+pub mod Digits
+pub mod Words
+pub mod DigestLaws
+pub mod ChangeLaws
+pub mod ListLaws
+pub mod KindLaws
+pub mod EntryLaws
+pub mod SettingsLaws
+pub mod Further
+pub mod BookLaws

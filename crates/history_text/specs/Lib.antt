@@ -2,3 +2,9 @@ pub mod Text
 pub mod Events
 pub mod Fitting
 pub mod Results
+pub mod Plain
+pub mod HistoryView
+pub mod Reading
+pub mod Lines
+pub mod LineValues
+pub mod Grammar

@@ -1,11 +1,10 @@
 ghost use Rattle.std.specs.Prelude.{◌≡◌, ◌<◌, length};
 ghost use Rattle.lock_journal.specs.Closings.{outcome_in};
-ghost use Rattle.history_laws.specs.Marks.{HasEnded};
+ghost use Rattle.lock_journal.specs.Marks.{HasEnded};
 ghost use Rattle.history_text.specs.Results.{task_marks};
 
-use history_laws::closing_entries_give_the_marks;
 use item_actions::Outcome;
-use lock_journal::Book;
+use lock_journal::{Book, closing_entries_give_the_marks};
 use resource_lock::{Mark, MarkId};
 
 /// The mark of a task.

@@ -4,7 +4,7 @@ ghost use Rattle.file_access.specs.PageView.{Adds};
 ghost use Rattle.lock_journal.specs.Closings.{outcome_in};
 ghost use Rattle.plan_reader.specs.PlanView.{plan_task_view};
 ghost use Rattle.plan_reader.specs.Units.{task_units, plan_units};
-ghost use Rattle.history_laws.specs.Marks.{HasEnded};
+ghost use Rattle.lock_journal.specs.Marks.{HasEnded};
 ghost use Rattle.history_text.specs.Results.{task_marks, task_line, task_text, tasks_text, results_text, summary_text};
 
 use crate::changes::write_mark;

@@ -2,7 +2,7 @@ ghost use Rattle.std.specs.Prelude.{◌≡◌, ◌++◌, length, codes, decimal}
 ghost use Rattle.std.specs.List.{sum_by};
 ghost use Rattle.file_access.specs.PageView.{Adds};
 ghost use Rattle.lock_journal.specs.Closings.{outcome_in};
-ghost use Rattle.history_laws.specs.Marks.{HasEnded};
+ghost use Rattle.lock_journal.specs.Marks.{HasEnded};
 ghost use Rattle.history_text.specs.Results.{task_marks, number_in, task_counts, unit_counts, counts_text, summary_of, below};
 
 use crate::counts::Counts;

@@ -4,7 +4,7 @@ ghost use Rattle.file_access.specs.PageView.{Adds};
 ghost use Rattle.lock_journal.specs.Closings.{outcome_in};
 ghost use Rattle.plan_reader.specs.PlanView.{work_view, plan_action_view};
 ghost use Rattle.plan_reader.specs.Units.{item_unit, fetch_units, action_units};
-ghost use Rattle.history_laws.specs.Marks.{HasEnded};
+ghost use Rattle.lock_journal.specs.Marks.{HasEnded};
 ghost use Rattle.history_text.specs.Text.{numbered};
 ghost use Rattle.history_text.specs.Results.{unit_line, unit_text};
 

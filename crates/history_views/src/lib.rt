@@ -6,8 +6,6 @@ mod ledgers;
 mod reaches;
 mod shown_books;
 mod stages;
-#[cfg(test)]
-mod tests;
 mod views;
 
 pub use reaches::Reach;

@@ -119,6 +119,7 @@ impl<R: Wait + Drop> ShownBook<R> {
             → IsToRetry (T.retries_on transform.now) self.old.book self.new.book worker }
         ensures no_memory { OnErr result (IsUnchanged self.old.book self.new.book) }
     {
+        // Of the state, that the history before the transform is lawful.
         let _ = self.book.state();
         let ran = self.book.run(worker, transform)?;
         match ran {

@@ -8,33 +8,33 @@ use Rattle.std.proofs.lemmas.Bool.{le-leb}
 use Rattle.std.proofs.lemmas.Bool.Decides.{nat_tests}
 use Rattle.std.proofs.lemmas.List.Splits.{length-slice_split}
 use Rattle.item_actions.specs.Forms.{is_file_byte, is_no_part, parts, is_file_name}
-use Rattle.item_actions.specs.declared.forms.Part.{Part}
-use Rattle.item_actions.specs.declared.forms.Part.TheVariants.{Empty, OneDot, TwoDots, Name}
+use Rattle.item_actions.specs.declared.forms.NamePart.{NamePart}
+use Rattle.item_actions.specs.declared.forms.NamePart.TheVariants.{Empty, OneDot, TwoDots, Name}
 
 -- whether a part of which so much has been seen is a name of its own with what follows
-abbrev pub is_part_with : Part → List ℕ → Bool
+abbrev pub is_part_with : NamePart → List ℕ → Bool
 is_part_with Empty rest = not (is_no_part rest)
 is_part_with OneDot rest = not (is_no_part (46 ∷ rest))
 is_part_with TwoDots rest = not (is_no_part (46 ∷ 46 ∷ rest))
 is_part_with Name rest = true
 
-abbrev pub are_parts_with : Part → List (List ℕ) → Bool
+abbrev pub are_parts_with : NamePart → List (List ℕ) → Bool
 are_parts_with part [] = is_part_with part []
 are_parts_with part (rest ∷ later) = is_part_with part rest && not (list_any is_no_part later)
 
 -- whether what follows goes on with a file's name
-abbrev pub goes_on : Part → List ℕ → Bool
+abbrev pub goes_on : NamePart → List ℕ → Bool
 goes_on part bytes = list_all is_file_byte bytes && are_parts_with part (parts bytes)
 
 -- seen of a part before the byte, and behind it
-abbrev pub Becomes : Part → ℕ → Part → Type 0
+abbrev pub Becomes : NamePart → ℕ → NamePart → Type 0
 Becomes part b next = (rest : List ℕ) → is_part_with part (b ∷ rest) ≡ is_part_with next rest
 
-onto : (part : Part) (b : ℕ) (next : Part) → Becomes part b next → (all : List (List ℕ)) → are_parts_with part (onto_first b all) ≡ are_parts_with next all
+onto : (part : NamePart) (b : ℕ) (next : NamePart) → Becomes part b next → (all : List (List ℕ)) → are_parts_with part (onto_first b all) ≡ are_parts_with next all
 onto part b next becomes [] = ap (λ r. r && true) (becomes []) ∙ and-true (is_part_with next [])
 onto part b next becomes (rest ∷ later) = ap (λ r. r && not (list_any is_no_part later)) (becomes rest)
 
-next_byte : (part : Part) (b : ℕ) (next : Part) (rest : List ℕ) → eqb b 47 ≡ false → is_file_byte b ≡ true → Becomes part b next → goes_on part (b ∷ rest) ≡ goes_on next rest
+next_byte : (part : NamePart) (b : ℕ) (next : NamePart) (rest : List ℕ) → eqb b 47 ≡ false → is_file_byte b ≡ true → Becomes part b next → goes_on part (b ∷ rest) ≡ goes_on next rest
 next_byte part b next rest other is becomes =
     (λ i. (is i && list_all is_file_byte rest) && are_parts_with part (cond (other i) ([] ∷ parts rest) (onto_first b (parts rest))))
     ∙ ap (λ r. list_all is_file_byte rest && r) (onto part b next becomes (parts rest))
@@ -48,16 +48,16 @@ two_dots rest = next_byte OneDot 46 TwoDots rest refl refl (λ _. refl)
 some : (n : ℕ) → eqb (suc n) 0 ≡ false
 some n = grind (arith, nat_tests)
 
-no_dot : (part : Part) (b : ℕ) → eqb b 46 ≡ false → Becomes part b Name
+no_dot : (part : NamePart) (b : ℕ) → eqb b 46 ≡ false → Becomes part b Name
 no_dot Empty b other rest = λ i. not (some (length rest) i || other i && bytes_eq rest [] || other i && bytes_eq rest (46 ∷ []))
 no_dot OneDot b other rest = λ i. not (some (suc (length rest)) i || false || other i && bytes_eq rest [])
 no_dot TwoDots b other rest = λ i. not (some (suc (suc (length rest))) i || false || false)
 no_dot Name b other rest = refl
 
-pub named : (part : Part) (b : ℕ) (rest : List ℕ) → eqb b 47 ≡ false → eqb b 46 ≡ false → is_file_byte b ≡ true → goes_on part (b ∷ rest) ≡ goes_on Name rest
+pub named : (part : NamePart) (b : ℕ) (rest : List ℕ) → eqb b 47 ≡ false → eqb b 46 ≡ false → is_file_byte b ≡ true → goes_on part (b ∷ rest) ≡ goes_on Name rest
 named part b rest no_slash other is = next_byte part b Name rest no_slash is (no_dot part b other)
 
-pub letter : (part : Part) (b : ℕ) (rest : List ℕ) → is_ascii_lowercase b ≡ true → goes_on part (b ∷ rest) ≡ goes_on Name rest
+pub letter : (part : NamePart) (b : ℕ) (rest : List ℕ) → is_ascii_lowercase b ≡ true → goes_on part (b ∷ rest) ≡ goes_on Name rest
 letter part b rest is = named part b rest (grind (arith, nat_tests)) (grind (arith, nat_tests)) (grind (arith, nat_tests))
 
 pub three_dots : (rest : List ℕ) → goes_on TwoDots (46 ∷ rest) ≡ goes_on Name rest
@@ -88,6 +88,6 @@ from_start (b ∷ bytes) few =
     ∙ ap (λ r. list_all is_file_byte (b ∷ bytes) && r) (all_parts all (omega (arith, length-slice_split (λ b. eqb b 47) (b ∷ bytes))))
 
 -- a step by what is known of the part before and behind it, and of the byte
-pub step : (part before : Part) (b is : ℕ) (next behind : Part) (rest : List ℕ) → part ≡ before → b ≡ is → next ≡ behind
+pub step : (part before : NamePart) (b is : ℕ) (next behind : NamePart) (rest : List ℕ) → part ≡ before → b ≡ is → next ≡ behind
     → goes_on before (is ∷ rest) ≡ goes_on behind rest → goes_on part (b ∷ rest) ≡ goes_on next rest
 step part before b is next behind rest e d f known = (λ i. goes_on (e i) (d i ∷ rest)) ∙ known ∙ ap (λ p. goes_on p rest) (sym f)

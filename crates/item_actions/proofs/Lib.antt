@@ -9,3 +9,7 @@ mod OneByte
 mod Padding
 mod Vectors
 mod Finding
+mod NeedleCounts
+mod PieceStates
+mod Runs
+mod Words

@@ -5,3 +5,7 @@ pub mod Needles
 pub mod Pieces
 pub mod Value
 pub mod Words
+pub mod NeedleMatches
+pub mod Runs
+pub mod States
+pub mod WordPieces

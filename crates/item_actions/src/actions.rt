@@ -7,11 +7,9 @@ use crate::needles::Needle;
 use crate::occurrences::count_of_needle;
 use crate::outcomes::Outcome;
 use crate::pieces::longest_piece;
+use crate::separators::LINE_END;
 use crate::word_counts::count_of_words;
 use sha2::{Digest, Sha256};
-
-// The byte that ends a line.
-const LINE_END: u8 = b'\n';
 
 /// What is worked out of a file's bytes.
 #[derive(Clone, Copy)]

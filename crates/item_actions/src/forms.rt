@@ -6,7 +6,7 @@ use crate::limits::MAX_FILE_NAME_BYTES;
 
 // What has been seen of a part of a file's name. With `.` or `..` alone it names nothing of its own.
 #[derive(Clone, Copy)]
-enum Part {
+enum NamePart {
     Empty,
     OneDot,
     TwoDots,
@@ -28,23 +28,23 @@ pub fn is_file_name(bytes: &[u8]) -> bool
     if MAX_FILE_NAME_BYTES < bytes.len() {
         return false;
     }
-    let mut part = Part::Empty;
+    let mut part = NamePart::Empty;
     for byte in bytes {
         // Most bytes of names are small letters, so these are tested first.
         part = match *byte {
-            letter if letter.is_ascii_lowercase() => Part::Name,
+            letter if letter.is_ascii_lowercase() => NamePart::Name,
             b'.' => match part {
-                Part::Empty => Part::OneDot,
-                Part::OneDot => Part::TwoDots,
-                Part::TwoDots | Part::Name => Part::Name,
+                NamePart::Empty => NamePart::OneDot,
+                NamePart::OneDot => NamePart::TwoDots,
+                NamePart::TwoDots | NamePart::Name => NamePart::Name,
             },
             b'/' => match part {
-                Part::Name => Part::Empty,
+                NamePart::Name => NamePart::Empty,
                 _ => return false,
             },
-            other if is_file_byte(other) => Part::Name,
+            other if is_file_byte(other) => NamePart::Name,
             _ => return false,
         };
     }
-    matches!(part, Part::Name)
+    matches!(part, NamePart::Name)
 }

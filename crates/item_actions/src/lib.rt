@@ -3,20 +3,29 @@
 
 mod action_kinds;
 mod actions;
+mod counted;
 mod counting;
+mod edge;
 mod forms;
 mod keep_alive;
 mod lanes;
 mod laws;
 mod limits;
+mod needle_matches;
+mod needle_state;
 mod needles;
+mod numbers;
 mod occurrences;
 mod outcome_kinds;
 mod outcomes;
+mod piece_state;
 mod pieces;
 mod places;
+mod run_state;
+mod separators;
 mod texts;
 mod word_counts;
+mod word_state;
 
 pub use action_kinds::ActionKind;
 pub use actions::{ItemAction, act};
@@ -31,4 +40,6 @@ pub use limits::{MAX_FILE_BYTES, MAX_FILE_NAME_BYTES, MAX_NEEDLE_BYTES};
 pub use needles::Needle;
 pub use outcome_kinds::OutcomeKind;
 pub use outcomes::Outcome;
+pub use piece_state::PieceState;
+pub use separators::{LINE_END, is_space};
 pub use texts::{Text, TextRefusal};

@@ -17,7 +17,7 @@ pub(crate) fn count_of_needle(bytes: &[u8], needle: &Needle) -> usize
     }
 }
 
-// The same of a needle's bytes, by one search after the other.
+// How often a needle of these bytes is found from the left, by one search after the other.
 fn count_of_several(bytes: &[u8], needle: &[u8]) -> usize
     requires { 1 ≤ length needle.now }
     ensures { result ≡ occurrences needle.now bytes.now }

@@ -1,8 +1,9 @@
 ghost use Rattle.std.specs.Prelude.{◌≡◌, ◌+◌, ◌<◌, ◌≤◌, length, slice_index, count_by, if◌then◌else◌};
 ghost use Rattle.std.specs.List.{range_with_len};
-ghost use Rattle.item_actions.specs.Bytes.{is_space, begins_word, follows_space, word_count};
+ghost use Rattle.item_actions.specs.Bytes.{begins_word, follows_space, word_count};
 
 use crate::lanes::{both, count_of_tops, flipped, later, load, spaces};
+use crate::separators::is_space;
 use std::simd::prelude::*;
 
 // How many bytes are looked at together.
@@ -48,11 +49,4 @@ fn begins_word(bytes: &[u8], place: usize) -> bool
     ensures { result ≡ begins_word bytes.now place }
 {
     !is_space(bytes[place]) && (place == 0 || is_space(bytes[place - 1]))
-}
-
-// Whether the byte stands between words.
-fn is_space(byte: u8) -> bool
-    ensures { result ≡ is_space byte }
-{
-    matches!(byte, b'\t'..=b'\r' | b' ')
 }

@@ -4,6 +4,7 @@ ghost use Rattle.daemon_requirements.specs.Covers.{Covers};
 ghost use Rattle.daemon_manager.specs.Counts.{after_search, and_failed, and_reserved};
 ghost use Rattle.file_access.specs.ReadView.{IsFaultCounted};
 
+use crate::ran::Wanted;
 use daemon_desk::Desk;
 use daemon_manager::{CountedPool, Reserved, Tally};
 use daemon_requirements::{Linked, Requirements};
@@ -24,10 +25,9 @@ pub(crate) fn reserve<R: Wait, D: Desk, U: Ledger, F: Ledger>(
     desk: &mut D,
     pool: &PoolLock<D::Link, U, F>,
     mine: &mut Tally<U, F>,
-    unit: u32,
-    asked: &Requirements,
+    wanted: &Wanted<'_>,
 ) -> Result<Reserved<D::Link>, DeskFail>
-    ensures covers { IfOk result (λ reserved. Covers (D.Link.requirements reserved.link) asked.now) }
+    ensures covers { IfOk result (λ reserved. Covers (D.Link.requirements reserved.link) wanted.now.requirements.now) }
     ensures settled { IfOk result (λ reserved. D.Link.settled reserved.link ≡ true) }
     ensures files { D.files desk.new ≡ D.files desk.old }
     ensures reads { D.reads desk.new ≡ D.reads desk.old }
@@ -36,23 +36,22 @@ pub(crate) fn reserve<R: Wait, D: Desk, U: Ledger, F: Ledger>(
     ensures sent { D.sent desk.new ≡ D.sent desk.old }
     ensures counted { MatchResult result (λ _. mine.new ≡ and_reserved mine.old) (λ _. mine.new ≡ mine.old) }
 {
-    match reserve_idle(rt, pool, mine, unit, asked)? {
+    match reserve_idle(rt, pool, mine, wanted.request.unit, wanted.requirements)? {
         Some(reserved) => Ok(reserved),
-        None => start(rt, alloc, desk, pool, mine, unit, asked),
+        None => start(rt, alloc, desk, pool, mine, wanted),
     }
 }
 
-// Starts a daemon, reserved for the unit.
+// Starts a daemon, reserved for the request's unit. Where there is no memory to keep it, it is stopped.
 fn start<R: Wait, D: Desk, U: Ledger, F: Ledger>(
     rt: &R,
     alloc: Global,
     desk: &mut D,
     pool: &PoolLock<D::Link, U, F>,
     mine: &mut Tally<U, F>,
-    unit: u32,
-    asked: &Requirements,
+    wanted: &Wanted<'_>,
 ) -> Result<Reserved<D::Link>, DeskFail>
-    ensures made { IfOk result (λ reserved. D.Link.requirements reserved.link ≡ asked.now) }
+    ensures made { IfOk result (λ reserved. D.Link.requirements reserved.link ≡ wanted.now.requirements.now) }
     ensures settled { IfOk result (λ reserved. D.Link.settled reserved.link ≡ true) }
     ensures files { D.files desk.new ≡ D.files desk.old }
     ensures reads { D.reads desk.new ≡ D.reads desk.old }
@@ -61,32 +60,9 @@ fn start<R: Wait, D: Desk, U: Ledger, F: Ledger>(
     ensures sent { D.sent desk.new ≡ D.sent desk.old }
     ensures counted { MatchResult result (λ _. mine.new ≡ and_reserved mine.old) (λ _. mine.new ≡ mine.old) }
 {
-    let requirements = asked.copy(alloc)?;
-    let link = desk.start(alloc, asked)?;
-    adopt_or_stop(rt, desk, pool, mine, link, requirements, unit)
-}
-
-// Takes a daemon in that was started with these requirements. Where there is no memory to keep it, it is stopped.
-fn adopt_or_stop<R: Wait, D: Desk, U: Ledger, F: Ledger>(
-    rt: &R,
-    desk: &mut D,
-    pool: &PoolLock<D::Link, U, F>,
-    mine: &mut Tally<U, F>,
-    link: D::Link,
-    requirements: Requirements,
-    unit: u32,
-) -> Result<Reserved<D::Link>, DeskFail>
-    requires { D.Link.requirements link ≡ requirements }
-    ensures adopted { IfOk result (λ reserved. reserved.link ≡ link) }
-    ensures stopped { IfErr result (λ fail. fail ≡ DeskFail.NoMemory) }
-    ensures files { D.files desk.new ≡ D.files desk.old }
-    ensures reads { D.reads desk.new ≡ D.reads desk.old }
-    ensures faults { D.faults desk.new ≡ D.faults desk.old }
-    ensures sends { D.sends desk.new ≡ D.sends desk.old }
-    ensures sent { D.sent desk.new ≡ D.sent desk.old }
-    ensures counted { MatchResult result (λ _. mine.new ≡ and_reserved mine.old) (λ _. mine.new ≡ mine.old) }
-{
-    match adopt(rt, pool, mine, link, requirements, unit) {
+    let requirements = wanted.requirements.copy(alloc)?;
+    let link = desk.start(alloc, wanted.requirements)?;
+    match adopt(rt, pool, mine, link, requirements, wanted.request.unit) {
         Ok(reserved) => Ok(reserved),
         Err(link) => {
             desk.stop(link);

@@ -9,8 +9,8 @@ ghost use Rattle.item_work.specs.Sends.{IsNamedFor, ReadsFileFor, SendsFor, Spar
 ghost use Rattle.item_work.specs.Tallying.{TalliesFor};
 
 use crate::daemons::PoolLock;
-use crate::processes::work_in_daemon;
-use crate::ran::Ran;
+use crate::processes::{request_for, work_in_daemon};
+use crate::ran::{Ran, Wanted};
 use daemon_desk::Desk;
 use daemon_manager::Tally;
 use daemon_requirements::{Isolation, Work};
@@ -62,7 +62,16 @@ pub fn run_item<R: Wait, D: Desk, U: Ledger, F: Ledger>(
 {
     match &work.isolation {
         Isolation::InThread => Ran::alone(work_in_thread(alloc, desk, &work.action, &work.file)),
-        Isolation::Process(asked) => work_in_daemon(rt, alloc, desk, pool, mine, unit, work, asked),
+        Isolation::Process(asked) => match request_for(alloc, unit, work) {
+            Ok(request) => {
+                let wanted = Wanted {
+                    request: &request,
+                    requirements: asked,
+                };
+                work_in_daemon(rt, alloc, desk, pool, mine, &wanted)
+            }
+            Err(_) => Ran::alone(Outcome::NoMemory),
+        },
     }
 }
 

@@ -9,4 +9,4 @@ mod ran;
 pub use daemons::PoolLock;
 pub use items::run_item;
 pub use processes::{ask, request_for};
-pub use ran::{Answered, Ran};
+pub use ran::{Answered, Ran, Wanted};

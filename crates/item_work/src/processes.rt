@@ -11,11 +11,11 @@ ghost use Rattle.item_work.specs.Requests.{Asks, Sends, mode_of, request_for};
 ghost use Rattle.item_work.specs.Tallying.{TallyRises, one_if_err, one_if_unreal};
 
 use crate::daemons::{PoolLock, fail, release, reserve};
-use crate::ran::{Answered, Ran};
+use crate::ran::{Answered, Ran, Wanted};
 use daemon_desk::Desk;
 use daemon_manager::Tally;
 use daemon_protocol::{Reply, Request};
-use daemon_requirements::{Isolation, Requirements, Work};
+use daemon_requirements::{Isolation, Work};
 use file_access::DeskFail;
 use item_actions::{KeepAlive, Outcome};
 use std::alloc::{AllocError, Global};
@@ -34,25 +34,20 @@ pub(crate) fn work_in_daemon<R: Wait, D: Desk, U: Ledger, F: Ledger>(
     desk: &mut D,
     pool: &PoolLock<D::Link, U, F>,
     mine: &mut Tally<U, F>,
-    unit: u32,
-    work: &Work,
-    asked: &Requirements,
+    wanted: &Wanted<'_>,
 ) -> Ran<Box<D::Link>>
-    requires form { is_file_name work.now.file ≡ true }
+    requires form { is_file_name wanted.now.request.now.file ≡ true }
     ensures files { D.files desk.new ≡ D.files desk.old }
     ensures reads { D.reads desk.new ≡ D.reads desk.old }
     ensures ran { result.outcome ≢ outcomes.Skipped }
     ensures faults { IsOutcomeCounted (D.faults desk.old) (D.faults desk.new) result.outcome }
-    ensures honest { IfSome (D.files desk.old) (λ known. IsHonest result.outcome (value_on known work.now.action work.now.file)) }
-    ensures sent { Sends asked.now (record { count = D.sends desk.old; requests = D.sent desk.old })
-        (record { count = D.sends desk.new; requests = D.sent desk.new }) (request_for unit work.now) result.outcome }
+    ensures honest { IfSome (D.files desk.old) (λ known. IsHonest result.outcome (value_on known wanted.now.request.now.action wanted.now.request.now.file)) }
+    ensures sent { Sends wanted.now.requirements.now (record { count = D.sends desk.old; requests = D.sent desk.old })
+        (record { count = D.sends desk.new; requests = D.sent desk.new }) wanted.now.request.now result.outcome }
     ensures counted { TallyRises mine.old mine.new (D.sends desk.old) (D.sends desk.new) (one_if_unreal result.outcome) }
     ensures spare { IfSome result.spare (λ _. result.outcome ≢ outcomes.Fault) }
 {
-    let Ok(request) = request_for(alloc, unit, work) else {
-        return Ran::alone(Outcome::NoMemory);
-    };
-    match ask_daemon(rt, alloc, desk, pool, mine, &request, asked) {
+    match ask_daemon(rt, alloc, desk, pool, mine, wanted) {
         Ok(answered) => {
             let Answered { reply, spare } = answered;
             Ran {
@@ -95,20 +90,19 @@ fn ask_daemon<R: Wait, D: Desk, U: Ledger, F: Ledger>(
     desk: &mut D,
     pool: &PoolLock<D::Link, U, F>,
     mine: &mut Tally<U, F>,
-    request: &Request,
-    asked: &Requirements,
+    wanted: &Wanted<'_>,
 ) -> Result<Answered<Box<D::Link>>, DeskFail>
-    requires { is_file_name request.now.file ≡ true }
+    requires { is_file_name wanted.now.request.now.file ≡ true }
     ensures files { D.files desk.new ≡ D.files desk.old }
     ensures reads { D.reads desk.new ≡ D.reads desk.old }
     ensures faults { IsFaultCounted (D.faults desk.old) (D.faults desk.new) result }
-    ensures reply { IfOk result (λ answered. IsReplyTo (D.files desk.old) request.now answered.reply) }
+    ensures reply { IfOk result (λ answered. IsReplyTo (D.files desk.old) wanted.now.request.now answered.reply) }
     ensures sent { Asks (record { count = D.sends desk.old; requests = D.sent desk.old })
-        (record { count = D.sends desk.new; requests = D.sent desk.new }) asked.now request.now result }
+        (record { count = D.sends desk.new; requests = D.sent desk.new }) wanted.now.requirements.now wanted.now.request.now result }
     ensures counted { TallyRises mine.old mine.new (D.sends desk.old) (D.sends desk.new) (one_if_err result) }
 {
-    let mut reserved = reserve(rt, alloc, desk, pool, mine, request.unit, asked)?;
-    match ask(alloc, desk, reserved.link(), request, asked) {
+    let mut reserved = reserve(rt, alloc, desk, pool, mine, wanted)?;
+    match ask(alloc, desk, reserved.link(), wanted) {
         Ok(reply) => {
             let spare = boxed_or_stopped(alloc, desk, release(rt, pool, reserved));
             Ok(Answered { reply, spare })
@@ -148,21 +142,20 @@ pub fn ask<D: Desk>(
     alloc: Global,
     desk: &mut D,
     link: &mut D::Link,
-    request: &Request,
-    asked: &Requirements,
+    wanted: &Wanted<'_>,
 ) -> Result<Reply, DeskFail>
-    requires covers { Covers (D.Link.requirements link.old) asked.now }
-    requires form { is_file_name request.now.file ≡ true }
+    requires covers { Covers (D.Link.requirements link.old) wanted.now.requirements.now }
+    requires form { is_file_name wanted.now.request.now.file ≡ true }
     requires settled { D.Link.settled link.old ≡ true }
     ensures settled { D.Link.settled link.new ≡ is_ok result }
     ensures files { D.files desk.new ≡ D.files desk.old }
     ensures reads { D.reads desk.new ≡ D.reads desk.old }
     ensures faults { IsFaultCounted (D.faults desk.old) (D.faults desk.new) result }
-    ensures reply { IfOk result (λ reply. IsReplyTo (D.files desk.old) request.now reply) }
+    ensures reply { IfOk result (λ reply. IsReplyTo (D.files desk.old) wanted.now.request.now reply) }
     ensures sent { Asks (record { count = D.sends desk.old; requests = D.sent desk.old })
-        (record { count = D.sends desk.new; requests = D.sent desk.new }) asked.now request.now result }
+        (record { count = D.sends desk.new; requests = D.sent desk.new }) wanted.now.requirements.now wanted.now.request.now result }
     ensures sends { D.sends desk.new ≤ D.sends desk.old + 1 }
 {
-    desk.send(alloc, link, request)?;
+    desk.send(alloc, link, wanted.request)?;
     desk.receive(alloc, link)
 }

@@ -1,8 +1,16 @@
-//! What comes of an item, and of a request.
+//! What an item wants of a daemon, and what comes of it.
 ghost use Rattle.std.specs.Prelude.{◌≡◌, None};
 
-use daemon_protocol::Reply;
+use daemon_protocol::{Reply, Request};
+use daemon_requirements::Requirements;
 use item_actions::Outcome;
+
+/// What an item wants of a daemon: the reply to a request, from one that covers these requirements.
+#[derive(Clone, Copy)]
+pub struct Wanted<'a> {
+    pub request: &'a Request,
+    pub requirements: &'a Requirements,
+}
 
 /// What an item gave, and perhaps a daemon to stop: one that was idle, where one too many was. `L` is the daemon's link, or a box of
 /// it, which costs an item that leaves none less.

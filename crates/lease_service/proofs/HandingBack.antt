@@ -12,14 +12,14 @@ use Rattle.lock_transforms.specs.Allowed.{IsFixedList, IsUnmet}
 use Rattle.lock_journal.specs.BookView.{BookView}
 use Rattle.lock_transforms.specs.Table.{condition}
 use Rattle.lock_transforms.specs.declared.entries.Kind.TheVariants as kinds
-use Rattle.history_laws.specs.OwnChanges.{after_all, claimed_after, lock_before, locks_after, without_member}
+use Rattle.lock_journal.specs.OwnChanges.{after_all, claimed_after, lock_before, locks_after, without_member}
 use Rattle.coordination.specs.declared.rule.Sight.{Sight}
 use Rattle.coordination.specs.Agrees.{Finds}
 use Rattle.coordination.specs.Calls.{HasFinished, WasStopped}
 use Rattle.coordination.specs.Shown.{blocked_shown, claimed_shown, lease_shown, locks_shown}
 use Rattle.coordination.proofs.lemmas.Shown.{shows_left}
 use Rattle.lease_service.specs.Shows.{ShowsGivenBack}
-use Rattle.history_laws.proofs.lemmas.Owned.{owns_some}
+use Rattle.lock_journal.proofs.lemmas.Owned.{owns_some}
 use Rattle.lease_service.proofs.Taking.{is_free}
 
 -- these locks, and a lease where there was one

@@ -16,9 +16,9 @@ use Rattle.lock_transforms.specs.Table.{condition}
 use Rattle.lock_transforms.specs.Taking.{acquired, can_take_all, is_open, may_acquire}
 use Rattle.lock_transforms.specs.declared.entries.Kind.{Kind}
 use Rattle.lock_transforms.specs.declared.entries.Kind.TheVariants as kinds
-use Rattle.history_laws.specs.OwnChanges.{after_all, claimed_after, lock_before, locks_after, with_member}
-use Rattle.history_laws.proofs.lemmas.Claims.{runs_nothing}
-use Rattle.history_laws.proofs.lemmas.Owned.{filter_same, stands_in_owned}
+use Rattle.lock_journal.specs.OwnChanges.{after_all, claimed_after, lock_before, locks_after, with_member}
+use Rattle.lock_journal.proofs.lemmas.Claims.{runs_nothing}
+use Rattle.lock_journal.proofs.lemmas.Owned.{filter_same, stands_in_owned}
 use Rattle.coordination.specs.declared.rule.Sight.{Sight}
 use Rattle.coordination.specs.Agrees.{Finds}
 use Rattle.coordination.specs.Calls.{HasFailed, HasFinished, WasStopped}

@@ -1,19 +1,22 @@
 //! The program: the words, the real files, standard input and output, and the one call that does the rest.
 #![tactic(auto)]
 
+mod words;
+
 ghost use Rattle.std.specs.Prelude.{◌≡◌, IfOk, length};
 ghost use Rattle.leases_cli.specs.declared.top.TheConstants.{DESKS};
 
+use crate::words::words;
 use daemon_desk::FolderDesk;
 use file_access::{AheadSource, OpenGate, StdSink};
 use item_actions::Text;
 use leases_cli::{DESKS, Status, leases};
 use std::alloc::{AllocError, AllocFailed, Global};
+use std::io;
 use std::io::{ErrorKind, Input};
 use std::process::ExitCode;
 use std::sync::Wait;
 use std::thread::Threads;
-use std::{env, io};
 
 /// Why nothing could be begun.
 #[derive(Clone, Copy)]
@@ -42,12 +45,11 @@ const RUNNING_PROGRAM: &str = "/proc/self/exe";
 
 // Reads the words that the program was called with, behind its own name.
 fn read_words(rt: &HostRuntime, alloc: Global) -> Result<Vec<Text>, Hindrance> {
-    let mut args = match env::args(rt) {
+    let args = match words(rt) {
         Ok(args) => args,
         Err(error) if error.kind() == ErrorKind::OutOfMemory => return Err(Hindrance::Memory),
         Err(_) => return Err(Hindrance::Words),
     };
-    let _ = args.next();
     let mut words = Vec::new(alloc);
     for arg in args {
         words.push(Text::from_str(alloc, arg.as_str())?)?;

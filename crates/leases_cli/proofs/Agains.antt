@@ -12,9 +12,9 @@ use Rattle.daemon_desk.specs.declared.sent.SentRequest.{SentRequest}
 use Rattle.build_runner.specs.Sent.{sent_view}
 use Rattle.history_check.specs.declared.fails.CheckFail.{CheckFail}
 use Rattle.history_check.specs.declared.fails.CheckFail.TheVariants as fails
-use Rattle.recorded_run.specs.Driving.{DrivesInput, HasDriven, IsAgain, IsAgainCounted, ReadsFor}
-use Rattle.recorded_run.specs.declared.again.Again.{Again}
-use Rattle.recorded_run.specs.declared.again.Again.TheVariants as again
+use Rattle.history_check.specs.Driving.{DrivesInput, HasDriven, IsAgain, IsAgainCounted, ReadsFor}
+use Rattle.history_check.specs.declared.again.Again.{Again}
+use Rattle.history_check.specs.declared.again.Again.TheVariants as again
 use Rattle.leases_cli.specs.Again.{AnyRead, HasOnlyRead}
 use Rattle.build_runner.proofs.lemmas.SentViews.{same_view}
 

@@ -12,8 +12,8 @@ use Rattle.command_words.specs.declared.commands.Command.TheVariants.{Run, Worke
 use Rattle.command_words.specs.declared.commands.WordsFail.{WordsFail}
 use Rattle.command_words.specs.declared.commands.WordsFail.TheVariants.{NoCommand}
 use Rattle.daemon_protocol.specs.StreamStart.{nothing}
-use Rattle.daemon_server.specs.Serving.{Outside, HasServed}
-use Rattle.daemon_server.specs.declared.serving.Served.TheVariants as ends
+use Rattle.daemon_desk.specs.Serving.{Outside, HasServed}
+use Rattle.daemon_desk.specs.declared.served_stream.Served.TheVariants as ends
 use Rattle.leases_cli.specs.Around.{Around, Call, at_first_desk, desks_used}
 use Rattle.leases_cli.specs.Answered.{Answered}
 use Rattle.leases_cli.specs.Told.{IsToldAs}

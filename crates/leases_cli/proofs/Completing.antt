@@ -15,7 +15,7 @@ use Rattle.lock_transforms.specs.Entry.{Entry}
 use Rattle.file_access.specs.Calls.{next}
 use Rattle.file_access.specs.SinkView.{SinkView, Rises}
 use Rattle.plan_reader.specs.PlanView.{PlanView}
-use Rattle.history_laws.specs.ClosedBy.{closed_by, faults_in}
+use Rattle.lock_journal.specs.ClosedBy.{closed_by, faults_in}
 use Rattle.build_runner.specs.Desks.{DeskView}
 use Rattle.build_runner.specs.Run.{IsRunOf}
 use Rattle.build_runner.proofs.lemmas.KnownFiles.{known_first}
@@ -30,13 +30,13 @@ use Rattle.history_check.specs.declared.checks.Checked.{Checked}
 use Rattle.history_check.specs.declared.checks.Checked.TheVariants as checked
 use Rattle.history_check.specs.declared.fails.CheckFail.{CheckFail}
 use Rattle.history_check.specs.declared.fails.CheckFail.TheVariants as fails
-use Rattle.recorded_run.specs.Driving.{HasDriven, IsAgainCounted}
-use Rattle.recorded_run.specs.declared.again.Again.{Again as Came}
-use Rattle.recorded_run.specs.declared.again.Again.TheVariants as again
-use Rattle.daemon_server.specs.Answer.{Answer, replies, IsHonestAnswer}
-use Rattle.daemon_server.specs.Serving.{Outside, IsEnd}
-use Rattle.daemon_server.specs.declared.serving.Served.{Served}
-use Rattle.daemon_server.specs.declared.serving.Served.TheVariants as ends
+use Rattle.history_check.specs.Driving.{HasDriven, IsAgainCounted}
+use Rattle.history_check.specs.declared.again.Again.{Again as Came}
+use Rattle.history_check.specs.declared.again.Again.TheVariants as again
+use Rattle.daemon_desk.specs.Answer.{Answer, replies, IsHonestAnswer}
+use Rattle.daemon_desk.specs.Serving.{Outside, IsEnd}
+use Rattle.daemon_desk.specs.declared.served_stream.Served.{Served}
+use Rattle.daemon_desk.specs.declared.served_stream.Served.TheVariants as ends
 use Rattle.leases_cli.specs.Around.{Call, at_first_desk, desks_used}
 use Rattle.leases_cli.specs.Answered.{Answered, EndedWith, IsNamedRun, RunEnded, all_pass, known_files, values_or_closings}
 use Rattle.leases_cli.specs.Causes.{IsFileOf, IsFileCause}

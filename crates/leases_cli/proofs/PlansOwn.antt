@@ -17,9 +17,9 @@ use Rattle.lock_transforms.specs.Table.{has_passed}
 use Rattle.plan_reader.specs.Graph.{all_projects_lock, graph_of, task_lock, tasks_from}
 use Rattle.plan_reader.specs.PlanView.{PlanTaskView, PlanView}
 use Rattle.plan_reader.specs.Units.{plan_units, unit_value}
-use Rattle.history_laws.specs.Answers.{answer_by, answers}
-use Rattle.history_laws.specs.ByNumber.{action_with, first_with, has_unit, outcome_by}
-use Rattle.history_laws.specs.Outcomes.{action_passes, earlier_pass, is_skipped, mark_by, task_outcome, task_passes, unit_outcome}
+use Rattle.lock_journal.specs.Answers.{answer_by, answers}
+use Rattle.lock_journal.specs.ByNumber.{action_with, first_with, has_unit, outcome_by}
+use Rattle.lock_journal.specs.Outcomes.{action_passes, earlier_pass, is_skipped, mark_by, task_outcome, task_passes, unit_outcome}
 use Rattle.build_runner.specs.Desks.{DeskView, known_by}
 use Rattle.build_runner.specs.Run.{IsRunOf, depth}
 use Rattle.build_runner.specs.declared.options.RunOptions.{RunOptions}

@@ -5,7 +5,7 @@ use Rattle.std.specs.Option.{option_or}
 use Rattle.std.proofs.lemmas.List.{length-replicate}
 use Rattle.item_actions.specs.Files.{Folder, file_of}
 use Rattle.item_actions.specs.Value.{max_file_bytes}
-use Rattle.task_ranks.specs.Rank.{Dependencies, IsFirstCycle}
+use Rattle.ready_work.specs.Rank.{Dependencies, IsFirstCycle}
 use Rattle.file_access.specs.ReadView.{reading, read_view as read_as, Bytes, TooLong, ReadsFrom}
 use Rattle.file_access.specs.declared.files.Read.{Read}
 use Rattle.file_access.specs.declared.files.Read.TheVariants as reads

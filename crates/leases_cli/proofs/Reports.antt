@@ -18,9 +18,9 @@ use Rattle.resource_lock.specs.declared.ids.LockId.{LockId}
 use Rattle.plan_reader.specs.Graph.{all_projects_lock, task_lock, tasks_from}
 use Rattle.plan_reader.specs.PlanView.{PlanTaskView, PlanView}
 use Rattle.plan_reader.specs.Units.{plan_units}
-use Rattle.history_laws.specs.ByNumber.{outcome_by}
-use Rattle.history_laws.specs.Outcomes.{task_outcome}
-use Rattle.history_laws.specs.Runs.{ComesTo}
+use Rattle.lock_journal.specs.ByNumber.{outcome_by}
+use Rattle.lock_journal.specs.Outcomes.{task_outcome}
+use Rattle.lock_journal.specs.Runs.{ComesTo}
 use Rattle.daemon_manager.specs.declared.events.Event.{Event}
 use Rattle.run_watch.specs.declared.boards.Watch.{Watch}
 use Rattle.build_runner.specs.Desks.{DeskView, known_by}

@@ -5,10 +5,10 @@ use Rattle.file_access.specs.SinkView.{SinkView, Wrote}
 use Rattle.plan_reader.specs.PlanView.{PlanView}
 use Rattle.history_check.specs.declared.fails.CheckFail.{CheckFail}
 use Rattle.history_check.specs.declared.fails.CheckFail.TheVariants as fails
-use Rattle.recorded_run.specs.Driving.{HasDriven, IsAgainCounted, ReadsFor}
-use Rattle.recorded_run.specs.declared.again.Again.{Again}
-use Rattle.recorded_run.specs.declared.again.Again.TheVariants as again
-use Rattle.daemon_server.specs.Serving.{Outside}
+use Rattle.history_check.specs.Driving.{HasDriven, IsAgainCounted, ReadsFor}
+use Rattle.history_check.specs.declared.again.Again.{Again}
+use Rattle.history_check.specs.declared.again.Again.TheVariants as again
+use Rattle.daemon_desk.specs.Serving.{Outside}
 use Rattle.leases_cli.specs.Causes.{IsFileOf, IsFileCause}
 use Rattle.leases_cli.specs.Lines.{same_line}
 use Rattle.leases_cli.specs.Told.{IsLineOf, IsToldAs, IsRefusedFor}

@@ -16,9 +16,9 @@ use Rattle.lock_transforms.specs.Table.{has_passed}
 use Rattle.file_access.specs.SinkView.{Wrote, Broke}
 use Rattle.plan_reader.specs.PlanView.{PlanView}
 use Rattle.plan_reader.specs.Units.{unit_value}
-use Rattle.history_laws.specs.Answers.{answers}
-use Rattle.history_laws.specs.ByNumber.{outcome_by}
-use Rattle.history_laws.specs.Outcomes.{task_outcome}
+use Rattle.lock_journal.specs.Answers.{answers}
+use Rattle.lock_journal.specs.ByNumber.{outcome_by}
+use Rattle.lock_journal.specs.Outcomes.{task_outcome}
 use Rattle.daemon_manager.specs.Counts.{failures, reservations}
 use Rattle.daemon_manager.specs.Events.{IsLegal, NoneIdle}
 use Rattle.daemon_manager.specs.declared.events.Event.{Event}

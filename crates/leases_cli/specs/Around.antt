@@ -8,7 +8,7 @@ use Rattle.run_watch.specs.declared.boards.Watch.{Watch}
 use Rattle.build_runner.specs.Desks.{DeskView}
 use Rattle.command_words.specs.declared.commands.Command.{Command}
 use Rattle.command_words.specs.declared.commands.Command.TheVariants.{Run, Worker, Check, Again, Make}
-use Rattle.daemon_server.specs.Serving.{Outside}
+use Rattle.daemon_desk.specs.Serving.{Outside}
 use Rattle.leases_cli.specs.declared.status.Status.{Status}
 
 -- what is known of the source, of the sink, and of each desk by its number

@@ -7,7 +7,7 @@ use Rattle.history_check.specs.declared.checks.Checked.{Checked}
 use Rattle.history_check.specs.declared.checks.Checked.TheVariants as checked
 use Rattle.history_check.specs.declared.fails.CheckFail.{CheckFail}
 use Rattle.history_check.specs.declared.fails.CheckFail.TheVariants as fails
-use Rattle.daemon_server.specs.Serving.{Outside}
+use Rattle.daemon_desk.specs.Serving.{Outside}
 use Rattle.leases_cli.specs.Causes.{IsFileOf, IsFileCause}
 use Rattle.leases_cli.specs.Lines.{lawful_line}
 use Rattle.leases_cli.specs.Told.{IsLineOf, IsToldAs, IsRefusedFor}

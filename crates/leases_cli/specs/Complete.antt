@@ -7,22 +7,22 @@ use Rattle.item_actions.specs.declared.outcomes.Outcome.TheVariants as outcome
 use Rattle.resource_lock.specs.declared.ids.WorkerId.{WorkerId}
 use Rattle.lock_journal.specs.BookView.{BookView}
 use Rattle.plan_reader.specs.PlanView.{PlanView}
-use Rattle.history_laws.specs.ClosedBy.{faults_by}
+use Rattle.lock_journal.specs.ClosedBy.{faults_by}
 use Rattle.command_words.specs.declared.commands.Command.{Command}
 use Rattle.command_words.specs.declared.commands.Command.TheVariants.{Run, Worker, Check, Again, Make}
 use Rattle.file_access.specs.SourceView.{SourceView}
-use Rattle.recorded_run.specs.Driving.{DrivesInput}
-use Rattle.recorded_run.specs.declared.again.Again.{Again as Came}
-use Rattle.recorded_run.specs.declared.again.Again.TheVariants as again
+use Rattle.history_check.specs.Driving.{DrivesInput}
+use Rattle.history_check.specs.declared.again.Again.{Again as Came}
+use Rattle.history_check.specs.declared.again.Again.TheVariants as again
 use Rattle.plan_reader.specs.Reading.{Reads}
 use Rattle.history_check.specs.Checking.{HasChecked}
 use Rattle.history_check.specs.declared.checks.Checked.{Checked}
 use Rattle.history_check.specs.declared.checks.Checked.TheVariants as checked
 use Rattle.build_runner.specs.Desks.{DeskView}
-use Rattle.daemon_server.specs.Answer.{Answer}
-use Rattle.daemon_server.specs.Serving.{Outside, HasServed}
-use Rattle.daemon_server.specs.declared.serving.Served.{Served}
-use Rattle.daemon_server.specs.declared.serving.Served.TheVariants as ends
+use Rattle.daemon_desk.specs.Answer.{Answer}
+use Rattle.daemon_desk.specs.Serving.{Outside, HasServed}
+use Rattle.daemon_desk.specs.declared.served_stream.Served.{Served}
+use Rattle.daemon_desk.specs.declared.served_stream.Served.TheVariants as ends
 use Rattle.leases_cli.specs.Around.{Call, at_first_desk, desks_used}
 use Rattle.leases_cli.specs.Answered.{all_pass, known_files, values_or_closings}
 use Rattle.leases_cli.specs.Again.{AnyRead}

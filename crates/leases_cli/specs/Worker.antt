@@ -1,8 +1,8 @@
 -- What the command `worker` answers.
 use Rattle.std.specs.Prelude.{◌≡◌}
-use Rattle.daemon_server.specs.Serving.{Outside, HasServed}
-use Rattle.daemon_server.specs.declared.serving.Served.{Served}
-use Rattle.daemon_server.specs.declared.serving.Served.TheVariants as ends
+use Rattle.daemon_desk.specs.Serving.{Outside, HasServed}
+use Rattle.daemon_desk.specs.declared.served_stream.Served.{Served}
+use Rattle.daemon_desk.specs.declared.served_stream.Served.TheVariants as ends
 use Rattle.leases_cli.specs.declared.status.Status.{Status}
 use Rattle.leases_cli.specs.declared.status.Status.TheVariants.{Passed, BadFrame, SourceFault, SinkFault, NoMemory}
 

@@ -10,9 +10,8 @@ use crate::plans::read;
 use crate::refusals::{told, told_but_no_memory};
 use crate::status::Status;
 use file_access::{Failed, Files, Page, Sink, Source};
-use history_check::CheckFail;
+use history_check::{Again, CheckFail, drive_input};
 use item_actions::Text;
-use recorded_run::{Again, drive_input};
 use std::alloc::Global;
 
 // Prints that a run of so many entries would give the same. It takes no memory.
@@ -51,7 +50,7 @@ fn told_again<O: Sink>(found: &Result<Again, CheckFail>, out: &mut O) -> Status
 }
 
 /// Drives the recorded run whose history the input gives again by the plan of this name, with the files as they are
-/// today, by `recorded_run::drive_input`, and prints what it came to.
+/// today, by `history_check::drive_input`, and prints what it came to.
 ///
 /// The input is touched only where the plan was read and accepted, and files only where the history is lawful. Passed
 /// comes where the run would give the same, Differs where an entry's unit gives something else, FileFault where a file

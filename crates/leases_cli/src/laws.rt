@@ -9,8 +9,8 @@ ghost use Rattle.build_runner.specs.Run.{IsRunOf};
 ghost use Rattle.build_runner.specs.declared.options.RunOptions.{RunOptions};
 ghost use Rattle.leases_cli.specs.SameResults.{HasNoTrouble, HaveSameResults};
 
-use history_laws::outcomes_go_by_number;
 use history_text::results_go_by_number;
+use lock_journal::outcomes_go_by_number;
 
 /// The results of a plan are the plan's own: where the files are known and no unit met a fault or want of memory, two runs
 /// give the same results, whatever the numbers of threads, the most leases, and whether projects have locks of their own.

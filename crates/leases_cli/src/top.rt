@@ -9,7 +9,7 @@ ghost use Rattle.file_access.specs.PageView.{Adds};
 ghost use Rattle.file_access.specs.SinkView.{Prints};
 ghost use Rattle.file_access.specs.SourceView.{SourceView};
 ghost use Rattle.plan_reader.specs.Units.{plan_units};
-ghost use Rattle.history_laws.specs.Marks.{HasEnded};
+ghost use Rattle.lock_journal.specs.Marks.{HasEnded};
 ghost use Rattle.daemon_manager.specs.Events.{IsLegal, NoneIdle};
 ghost use Rattle.build_runner.specs.Desks.{AreAlike, DeskView, desk_view, desks_view, known_by};
 ghost use Rattle.build_runner.specs.Run.{IsRunOf};
@@ -43,17 +43,16 @@ use command_words::{Command, RunWords, WordsFail, read_command};
 use daemon_desk::Desk;
 use daemon_manager::Event;
 use file_access::{Failed, Files, Gate, Page, Sink, Source};
-use history_laws::outcomes_go_by_number;
 use history_text::{results_go_by_number, write_events, write_history, write_results};
 use item_actions::Text;
-use lock_journal::Book;
+use lock_journal::{Book, outcomes_go_by_number};
 use plan_reader::Plan;
+use ready_work::first_cycle_is_unique;
 use resource_lock::{MAX_WORKERS, Mark, MarkId, State};
 use run_watch::Watch;
 use std::alloc::Global;
 use std::sync::Wait;
 use std::thread::Threads;
-use task_ranks::first_cycle_is_unique;
 
 /// How many desks a call is given: as many as a run may have threads.
 pub const DESKS: usize = MAX_WORKERS as usize;
@@ -227,6 +226,7 @@ fn report_run<O: Sink>(asked: &RunWords, plan: &Plan, end: RunEnd, out: &mut O) 
         (run_text asked.now plan.now (known_by asked.now.threads before) end.book.value result.events.items result.watch.items) result.status }
     ensures kept { (result.events ≡ end.events) × (result.watch ≡ end.watch) }
 {
+    // Of the graph, that it fits.
     let _ = end.book.graph();
     outcomes_go_by_number();
     results_go_by_number();
@@ -425,29 +425,11 @@ fn perform<R: Threads + Wait + Sync, D: Desk + Send + Drop, I: Source, G: Gate +
     }
 }
 
-/// Does what the words after the program's name ask for.
+/// Does what the words after the program's name ask for, and answers with what is told of it and its exit status.
 ///
-/// They are read by `command_words::read_command`. There are `DESKS` desks, and of those that the command may use, those
-/// that know their files know the same. For `run` the plan is read through the first desk, and run on as many threads as the words say: thread i
-/// has the desk with number i, and each item passes the gate. An item in a process is worked out by a daemon of the
-/// pool that the threads share. A thread starts one by its own desk where no idle daemon covers what is asked, and at
-/// the end the idle ones are stopped through the first desk. Where a run ended, each thread's desk sent, from the
-/// call's beginning to its end, the requests of those units that the thread closed, in the order in which it closed
-/// them, and no other request. For an item in a process that is one request, where the item ended with neither `Fault`
-/// nor `NoMemory`, and else at most one: the unit's number, its action and its file, in the keep-alive mode asked for, over a link that
-/// was made for requirements that cover those asked. For any other unit it is none. What the words ask for is written to `out`, with
-/// `--daemons` also what happened to the daemons, which the answer has too, and with `--watch` what the threads saw of the history once each
-/// item was closed: so many entries, the one that closed it among them, and the leases out after them. For `worker` the requests that the input
-/// gives are answered on `out` by the files of the first desk. For `check` the plan is read through the first desk, and
-/// the history that the input gives is checked against it; what is found is written to `out`. For `again` the same is
-/// done, and where the history is lawful each outcome is worked out anew by the files of the first desk. No other command
-/// takes anything from the input. For `make` the plan is written to `out` that the number makes for the file; no desk is
-/// used. Where no run ended, no desk sent a request; but where a run was broken off for want of memory, each thread's
-/// desk sent the requests of the units that the thread closed, and of at most one more. The answer and its cause are
-/// those of the contract.
-///
-/// At SinkFault the beginning of the text or of the replies was written, and at NoMemory nothing, but by a
-/// worker its replies up to then.
+/// `run` reads the plan through the first desk; its thread i has desk i, and what each desk sent is what its thread closed. `worker`,
+/// `check` and `again` take their input from `input`. All that is written goes to `out`: the beginning of it at SinkFault, and nothing
+/// at NoMemory, but by a worker its replies up to then.
 pub fn leases<R: Threads + Wait + Sync, D: Desk + Send + Drop, I: Source, G: Gate + Sync, O: Sink>(
     rt: &R,
     alloc: Global,

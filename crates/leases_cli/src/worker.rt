@@ -3,7 +3,7 @@ ghost use Rattle.std.specs.Prelude.{◌≡◌, ◌≤◌};
 ghost use Rattle.leases_cli.specs.Worker.{HasWorked};
 
 use crate::status::Status;
-use daemon_server::{Served, serve};
+use daemon_desk::{Served, serve};
 use file_access::{Files, Sink, Source};
 use std::alloc::Global;
 
@@ -26,7 +26,7 @@ impl From<Served> for Status {
 
 /// Answers each request of the input with a reply on `out`, from the files.
 ///
-/// It ends with Passed where `daemon_server::serve` answers Done, and else with the status of the same name.
+/// It ends with Passed where `daemon_desk::serve` answers Done, and else with the status of the same name.
 /// It writes nothing but the replies.
 pub fn serve_worker<F: Files, I: Source, O: Sink>(
     alloc: Global,

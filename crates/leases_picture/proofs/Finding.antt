@@ -3,22 +3,22 @@ use Rattle.std.proofs.Common.{◌≡◌, ◌≢◌, ℕ, ◌+◌, ◌<◌, List,
 use Rattle.std.proofs.lemmas.Bool.{eqb-true, true≢false}
 use Rattle.std.proofs.lemmas.List.{nil_from_length}
 use Rattle.history_text.specs.Text.{numbered, entry_text, end_text}
-use Rattle.history_reader.specs.HistoryView.{HistoryView}
-use Rattle.history_reader.specs.declared.heads.Version.{Version}
-use Rattle.history_reader.specs.declared.heads.Version.TheVariants.{One, Two}
-use Rattle.history_reader.specs.Lines.{is_unbroken, IsLine, IsLineBefore, IsNoFirst, BeginsWithLine, AddsEntry, TakesLine, Ends, StopsIt, IsWrongAfter, Opens, OpensNone, first_line, version_of, next_number}
-use Rattle.history_reader.specs.Grammar.{HistoryFits, StopsInHead, StopsAt, head_of, lines_of, text_of, IsHistoryText}
-use Rattle.history_reader.proofs.lemmas.Splits.{same_line}
-use Rattle.history_reader.proofs.lemmas.LineLaws.{entry_line, end_line}
-use Rattle.history_reader.proofs.lemmas.TextLaws.{head_parts, second_of, first_wrong, second_wrong, text_parts}
-use Rattle.history_reader.proofs.lemmas.ReadLaws.{ReadSoFar, opened_so_far}
+use Rattle.history_text.specs.HistoryView.{HistoryView}
+use Rattle.history_text.specs.declared.heads.Version.{Version}
+use Rattle.history_text.specs.declared.heads.Version.TheVariants.{One, Two}
+use Rattle.history_text.specs.Lines.{is_unbroken, IsLine, IsLineBefore, IsNoFirst, BeginsWithLine, AddsEntry, TakesLine, Ends, StopsIt, IsWrongAfter, Opens, OpensNone, first_line, version_of, next_number}
+use Rattle.history_text.specs.Grammar.{HistoryFits, StopsInHead, StopsAt, head_of, lines_of, text_of, IsHistoryText}
+use Rattle.history_text.proofs.lemmas.Splits.{same_line}
+use Rattle.history_text.proofs.lemmas.LineLaws.{entry_line, end_line}
+use Rattle.history_text.proofs.lemmas.TextLaws.{head_parts, second_of, first_wrong, second_wrong, text_parts}
+use Rattle.history_text.proofs.lemmas.ReadLaws.{ReadSoFar, opened_so_far}
 use Rattle.history_check.specs.Naming.{ArePassedOver, Names, Breaks, BeginsHistory, BreaksBehind}
 use Rattle.history_check.proofs.lemmas.Passed.{none_passed, one_passed}
 use Rattle.leases_picture.specs.Found.{IsBehindHead, BeginsWith, HasHistory, EndsIn, IsFoundIn}
-use Rattle.history_reader.specs.declared.histories.History.{History}
-use Rattle.history_reader.specs.declared.histories.HistoryLine.{HistoryLine}
-use Rattle.history_reader.specs.declared.fails.TextFail.{TextFail}
-use Rattle.history_reader.specs.declared.fails.TextFail.TheVariants.{Stops, NoMemory}
+use Rattle.history_text.specs.declared.read_histories.History.{History}
+use Rattle.history_text.specs.declared.read_histories.HistoryLine.{HistoryLine}
+use Rattle.history_text.specs.declared.fails.TextFail.{TextFail}
+use Rattle.history_text.specs.declared.fails.TextFail.TheVariants.{Stops, NoMemory}
 use Rattle.std.specs.Prelude.{IsErrAnd}
 
 -- whether a text is empty is asked by its length

@@ -1,13 +1,13 @@
 -- Which history stands in a text.
 use Rattle.std.specs.Prelude.{ℕ, ◌≡◌, List, ◌++◌, Result, Ok, Err}
 use Rattle.history_check.specs.Naming.{ArePassedOver, Names, Breaks, BeginsHistory, BreaksBehind}
-use Rattle.history_reader.specs.HistoryView.{HistoryView, history_view}
-use Rattle.history_reader.specs.declared.heads.Version.{Version}
-use Rattle.history_reader.specs.Lines.{first_line}
-use Rattle.history_reader.specs.Grammar.{HistoryFits, text_of}
-use Rattle.history_reader.specs.declared.histories.History.{History}
-use Rattle.history_reader.specs.declared.fails.TextFail.{TextFail}
-use Rattle.history_reader.specs.declared.fails.TextFail.TheVariants.{Stops, NoMemory}
+use Rattle.history_text.specs.HistoryView.{HistoryView, history_view}
+use Rattle.history_text.specs.declared.heads.Version.{Version}
+use Rattle.history_text.specs.Lines.{first_line}
+use Rattle.history_text.specs.Grammar.{HistoryFits, text_of}
+use Rattle.history_text.specs.declared.read_histories.History.{History}
+use Rattle.history_text.specs.declared.fails.TextFail.{TextFail}
+use Rattle.history_text.specs.declared.fails.TextFail.TheVariants.{Stops, NoMemory}
 
 -- The text is lines that are passed over, the first line of a history of this version, and the rest.
 pub record IsBehindHead (v : Version) (text rest : List ℕ) : Type 0 where

@@ -1,11 +1,11 @@
 //! The history that stands in a text.
 ghost use Rattle.std.specs.Prelude.{◌++◌, IfSome, IfNone};
 ghost use Rattle.history_check.specs.Naming.{Breaks};
-ghost use Rattle.history_reader.specs.HistoryView.{history_view};
-ghost use Rattle.history_reader.specs.Grammar.{HistoryFits, lines_of};
+ghost use Rattle.history_text.specs.HistoryView.{history_view};
+ghost use Rattle.history_text.specs.Grammar.{HistoryFits, lines_of};
 ghost use Rattle.leases_picture.specs.Found.{IsBehindHead, EndsIn, IsFoundIn};
 
-use history_reader::{History, HistoryLine, TextFail, Version, next_line, read_version};
+use history_text::{History, HistoryLine, TextFail, Version, next_line, read_version};
 use std::alloc::Global;
 
 // Which version the first line that is the first of a history begins, and the text behind it.

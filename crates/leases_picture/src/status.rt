@@ -18,7 +18,8 @@ pub(crate) enum Status {
     SinkFault,
     /// The input failed.
     SourceFault,
-    /// The text stops being a history at this number.
+    /// The text stops being a history at this number, or the entry of this number is of a worker that the head doesn't
+    /// have.
     NoHistory(u64),
     /// There was no memory. Nothing was written.
     NoMemory,

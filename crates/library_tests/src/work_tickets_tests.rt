@@ -5,7 +5,6 @@ ghost use Rattle.work_tickets.specs.Sights.{fresh};
 use std::alloc::{AllocError, Global};
 use std::process::Abort;
 use std::sync::Wait;
-use std::test::Fail;
 use std::thread;
 use std::thread::Threads;
 use work_tickets::{TicketSeat, Tickets, TicketsOpened};
@@ -77,13 +76,9 @@ fn alone<R: Wait>(rt: &R, alloc: Global) -> Result<([bool; 4], [Option<u32>; 4])
 }
 
 #[test]
-fn a_seat_alone_sees_all(rt: HostRuntime) -> Result<(), Fail> {
+fn a_seat_alone_sees_all(rt: HostRuntime) -> Result<(), AllocError> {
     let (pushed, popped) = alone(&rt, rt.alloc())?;
-    assert!(rt; pushed == [true, true, false, true], "what was pushed");
-    assert!(rt;
-        popped == [Some(5), Some(6), Some(7), None],
-        "what was popped"
-    );
+    assert!(rt; pushed == [true, true, false, true] && popped == [Some(5), Some(6), Some(7), None]);
     Ok(())
 }
 
@@ -237,19 +232,26 @@ fn none_yet(alloc: Global, units: u32) -> Result<Vec<bool>, AllocError> {
     vec![in alloc; false; units as usize]
 }
 
+/// Whether each unit came.
+fn all_came(came: &[bool]) -> bool {
+    for here in came {
+        if !*here {
+            return false;
+        }
+    }
+    true
+}
+
 #[test]
-fn each_ticket_of_eight_seats_comes_once(rt: HostRuntime) -> Result<(), Fail> {
+fn each_ticket_of_eight_seats_comes_once(rt: HostRuntime) -> Result<(), AllocError> {
     let TicketsOpened { tickets, seats } = Tickets::open(rt.alloc(), 16, WORKERS)?;
     let mut workers = workers_of(rt.alloc(), &tickets, seats)?;
     work_in_threads(&rt, &tickets, &mut workers);
     let mut came = none_yet(rt.alloc(), WORKERS * EACH)?;
     for worker in &workers {
-        assert!(rt;
-            popped_in_order(&worker.popped, &mut came),
-            "in order, each once"
-        );
+        assert!(rt; popped_in_order(&worker.popped, &mut came));
     }
-    assert!(rt; came.iter().all(|here| *here), "each comes");
+    assert!(rt; all_came(&came));
     let seats = seats_of(rt.alloc(), &tickets, workers)?;
     tickets.finish(seats);
     Ok(())

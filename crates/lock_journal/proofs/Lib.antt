@@ -4,3 +4,26 @@ pub mod Stored
 pub mod Pushed
 pub mod Adding
 pub mod TakingBack
+pub mod Conditions
+pub mod Ranges
+pub mod Marks
+pub mod Moves
+pub mod Finished
+pub mod Kept
+pub mod MarkConditions
+pub mod Steps
+pub mod History
+pub mod Runs
+pub mod Plan
+pub mod Order
+pub mod Ending
+pub mod Depth
+pub mod InOrder
+pub mod Closing
+pub mod Status
+pub mod Honest
+pub mod InTurn
+pub mod WorkedRows
+pub mod ByNumber
+pub mod Queue
+mod PlainPlans

@@ -9,3 +9,15 @@ pub mod BookView
 pub mod Book
 pub mod Ran
 pub mod Admitting
+pub mod Marks
+pub mod Outcomes
+pub mod InOrder
+pub mod Runs
+pub mod Closing
+pub mod ClosedBy
+pub mod Answers
+pub mod Own
+pub mod WorkedRows
+pub mod ByNumber
+pub mod OwnChanges
+pub mod PlainPlans

@@ -179,6 +179,7 @@ impl Book {
     pub fn all_tasks_ended(&self) -> bool
         ensures { IsTrue result ↔ All (λ m. has_ended m ≡ true) self.now.state.tasks }
     {
+        // Of the state, that it has a mark for each task of the graph.
         let _ = self.tentative.state();
         self.ready.all_ended()
     }

@@ -15,7 +15,6 @@ use resource_lock::{
 };
 use std::alloc::{AllocError, Global};
 use std::process::Abort;
-use std::test::Fail;
 
 /// Two projects, and the all-projects lock behind theirs.
 const LIMITS: Limits = Limits {
@@ -53,11 +52,10 @@ fn is_owned_alone(state: &mut State) -> bool
 }
 
 #[test]
-fn the_all_projects_lock_is_owned_alone(rt: HostRuntime) -> Result<(), Fail> {
+fn the_all_projects_lock_is_owned_alone(rt: HostRuntime) -> Result<(), AllocError> {
     owners_of_conflicting_locks_keep_others_from_them();
     let mut state = opening(&rt, rt.alloc())?;
-    assert!(rt; state.all() == Some(LockId(2)));
-    assert!(rt; is_owned_alone(&mut state));
+    assert!(rt; state.all() == Some(LockId(2)) && is_owned_alone(&mut state));
     Ok(())
 }
 
@@ -123,7 +121,7 @@ fn starts_by_owners(graph: &Graph, state: &mut State, ready: &mut ReadyWork) -> 
 }
 
 #[test]
-fn the_task_to_start_goes_by_the_owners(rt: HostRuntime) -> Result<(), Fail> {
+fn the_task_to_start_goes_by_the_owners(rt: HostRuntime) -> Result<(), AllocError> {
     let alloc = rt.alloc();
     // The first and the third task have locks of projects, and the second has the all-projects lock.
     let tasks = [task(0, 0), task(1, 2), task(2, 1)];

@@ -12,7 +12,6 @@ use lock_transforms::{Closed, Disposition, Kind};
 use resource_lock::{GraphAction, LockId, Retention, WorkerId};
 use std::alloc::{AllocError, Global};
 use std::process::Abort;
-use std::test::Fail;
 
 const LIMITS: Limits = Limits {
     locks: 2,
@@ -117,19 +116,17 @@ fn is_free(book: &Book) -> bool {
         && book.state().leases_out() == 0
 }
 
-#[test]
-fn what_was_taken_is_free_again_and_a_failed_entry_leaves_the_state(
-    rt: HostRuntime,
-) -> Result<(), Fail> {
-    let mut book = opening(&rt, rt.alloc())?;
-    assert!(rt; run(&mut book, WorkerId(0), Kind::Acquire)? == Disposition::Finished);
-    assert!(rt; is_taken(&book) && take_back_to(&mut book, 0));
-    assert!(rt; is_free(&book));
+// Whether what was taken is free again once the entry is taken back.
+fn frees_what_was_taken(book: &mut Book) -> Result<bool, AllocError> {
+    let taken = run(book, WorkerId(0), Kind::Acquire)? == Disposition::Finished;
+    Ok(taken && is_taken(book) && take_back_to(book, 0) && is_free(book))
+}
 
-    assert!(rt; run(&mut book, WorkerId(0), Kind::Acquire)? == Disposition::Finished);
-    assert!(rt; run(&mut book, WorkerId(1), Kind::Acquire)? == Disposition::Failed);
-    assert!(rt; book.len() == 2 && take_back_to(&mut book, 1) && is_taken(&book));
-    Ok(())
+// Whether a failed entry that is taken back leaves the state.
+fn leaves_the_state(book: &mut Book) -> Result<bool, AllocError> {
+    let taken = run(book, WorkerId(0), Kind::Acquire)? == Disposition::Finished;
+    let failed = run(book, WorkerId(1), Kind::Acquire)? == Disposition::Failed;
+    Ok(taken && failed && book.len() == 2 && take_back_to(book, 1) && is_taken(book))
 }
 
 const FETCHED: Closed = Closed {
@@ -205,7 +202,12 @@ fn tell_the_same(one: &Book, other: &Book) -> bool {
 // Whether each unit has the same outcome in both.
 fn have_the_same_outcomes(one: &Book, other: &Book) -> bool {
     let units = one.graph().units().min(other.graph().units());
-    (0..units).all(|unit| one.outcome(unit) == other.outcome(unit))
+    for unit in 0..units {
+        if one.outcome(unit) != other.outcome(unit) {
+            return false;
+        }
+    }
+    true
 }
 
 // Whether both have the same entries.
@@ -254,11 +256,14 @@ fn goes_the_same_way(book: &mut Book, copy: &mut Book) -> Result<bool, AllocErro
 }
 
 #[test]
-fn a_book_whose_entries_are_taken_back_goes_on_as_before(rt: HostRuntime) -> Result<(), Fail> {
+fn a_book_whose_entries_are_taken_back_goes_on_as_before(
+    rt: HostRuntime,
+) -> Result<(), AllocError> {
     let mut book = opening(&rt, rt.alloc())?;
+    assert!(rt; frees_what_was_taken(&mut book)? && leaves_the_state(&mut book)?);
+    assert!(rt; take_back_to(&mut book, 0));
     let mut copy = opening(&rt, rt.alloc())?;
-    assert!(rt; goes_the_same_way(&mut book, &mut copy)?);
-    // The walk went through the whole plan.
-    assert!(rt; book.all_tasks_ended());
+    // The walk goes through the whole plan.
+    assert!(rt; goes_the_same_way(&mut book, &mut copy)? && book.all_tasks_ended());
     Ok(())
 }

@@ -11,7 +11,6 @@ use ready_work::{NumberSet, ReadyWork};
 use resource_lock::{Change, Graph, GraphAction, Mark, MarkId, Retention, State, WorkerId};
 use std::alloc::{AllocError, Global};
 use std::process::Abort;
-use std::test::Fail;
 
 const FIRST: WorkerId = WorkerId(0);
 
@@ -98,11 +97,11 @@ fn follows_all_steps(graph: &Graph, state: &mut State, ready: &mut ReadyWork) ->
     requires belongs { BelongsTo graph.now state.old }
     requires index { IsIndexOf graph.now state.old ready.old }
 {
-    for (id, to, to_skip, to_start) in STEPS {
-        if ready.all_ended() || !move_mark(graph, state, ready, id, to) {
-            return false;
-        }
-        if !tells(ready, state, to_skip, to_start) {
+    for (id, to, to_skip, to_start) in &STEPS {
+        let goes = !ready.all_ended()
+            && move_mark(graph, state, ready, *id, *to)
+            && tells(ready, state, *to_skip, *to_start);
+        if !goes {
             return false;
         }
     }
@@ -138,7 +137,7 @@ fn open_index(rt: &impl Abort, alloc: Global) -> Result<Box<Indexed>, AllocError
 }
 
 #[test]
-fn the_lowest_are_told_as_marks_move(rt: HostRuntime) -> Result<(), Fail> {
+fn the_lowest_are_told_as_marks_move(rt: HostRuntime) -> Result<(), AllocError> {
     let mut all = open_index(&rt, rt.alloc())?;
     let Indexed {
         graph,
@@ -165,12 +164,12 @@ static PUTS: [(u32, bool, Option<u32>, Option<u32>); 8] = [
 fn tells_its_lowest(set: &mut NumberSet) -> bool
     requires { 8192 ≤ room_of set.old }
 {
-    for (number, is_member, first, next) in PUTS {
-        if number >= 8_192 {
+    for (number, is_member, first, next) in &PUTS {
+        if *number >= 8_192 {
             return false;
         }
-        set.put(number, is_member);
-        if set.first() != first || set.next_from(64) != next {
+        set.put(*number, *is_member);
+        if set.first() != *first || set.next_from(64) != *next {
             return false;
         }
     }
@@ -178,7 +177,7 @@ fn tells_its_lowest(set: &mut NumberSet) -> bool
 }
 
 #[test]
-fn a_set_tells_its_lowest_number(rt: HostRuntime) -> Result<(), Fail> {
+fn a_set_tells_its_lowest_number(rt: HostRuntime) -> Result<(), AllocError> {
     let mut set = NumberSet::new(rt.alloc(), 8_192)?;
     assert!(rt; tells_its_lowest(&mut set));
     Ok(())

@@ -14,7 +14,6 @@ use resource_lock::{
 };
 use std::alloc::{AllocError, Global};
 use std::process::Abort;
-use std::test::Fail;
 
 const LIMITS: Limits = Limits {
     locks: 2,
@@ -40,29 +39,31 @@ const SECOND: TaskRow = TaskRow {
 /// A task with a fetch and two items, and a task after it of two actions.
 static TASKS: [TaskRow; 2] = [FIRST, SECOND];
 
-static ACTIONS: [GraphAction; 3] = [
-    GraphAction {
-        task: 0,
-        retention: Retention::ReleaseAndReacquire,
-        fetch: true,
-        first_unit: 0,
-        items: 2,
-    },
-    GraphAction {
-        task: 1,
-        retention: Retention::Retain,
-        fetch: false,
-        first_unit: 3,
-        items: 1,
-    },
-    GraphAction {
-        task: 1,
-        retention: Retention::Release,
-        fetch: true,
-        first_unit: 4,
-        items: 1,
-    },
-];
+const FETCHES: GraphAction = GraphAction {
+    task: 0,
+    retention: Retention::ReleaseAndReacquire,
+    fetch: true,
+    first_unit: 0,
+    items: 2,
+};
+
+const RETAINS: GraphAction = GraphAction {
+    task: 1,
+    retention: Retention::Retain,
+    fetch: false,
+    first_unit: 3,
+    items: 1,
+};
+
+const RELEASES: GraphAction = GraphAction {
+    task: 1,
+    retention: Retention::Release,
+    fetch: true,
+    first_unit: 4,
+    items: 1,
+};
+
+static ACTIONS: [GraphAction; 3] = [FETCHES, RETAINS, RELEASES];
 
 // Whether the graph has what it was made of.
 fn has_its_parts(graph: &Graph) -> bool {
@@ -82,11 +83,11 @@ static UNITS: [(u32, u32, bool); 6] = [
 
 // Whether the graph knows the action of each unit.
 fn knows_its_units(graph: &Graph) -> bool {
-    for (unit, action, item) in UNITS {
-        if unit >= graph.units() {
-            return false;
-        }
-        if graph.action_with(unit) != action || graph.is_item(unit) != item {
+    for (unit, action, item) in &UNITS {
+        let is_known = *unit < graph.units()
+            && graph.action_with(*unit) == *action
+            && graph.is_item(*unit) == *item;
+        if !is_known {
             return false;
         }
     }
@@ -100,14 +101,14 @@ fn knows_noted_units(alloc: Global, graph: &mut Graph) -> Result<bool, AllocErro
 }
 
 #[test]
-fn a_graph_knows_its_parts_and_the_action_of_each_unit(rt: HostRuntime) -> Result<(), Fail> {
+fn a_graph_knows_its_parts_and_the_action_of_each_unit(rt: HostRuntime) -> Result<(), AllocError> {
     let mut graph = fitting_graph(&rt, rt.alloc(), &LIMITS, &TASKS, &ACTIONS)?;
     assert!(rt; has_its_parts(&graph) && knows_its_units(&graph));
     assert!(rt; knows_noted_units(rt.alloc(), &mut graph)?);
     Ok(())
 }
 
-// Whether these parts fit.
+// Whether these parts fit. Want of memory ends a test.
 fn fits(
     alloc: Global,
     limits: &Limits,
@@ -126,81 +127,94 @@ fn fits(
 }
 
 /// Limits that the tasks and actions don't fit.
-static UNFIT_LIMITS: [(u32, Option<LockId>, u32, u32); 7] = [
-    (2, None, 0, 2),
-    (2, None, 33, 2),
-    (2, None, 3, 0),
-    (2, None, 3, 33),
-    (1, None, 3, 2),
-    (4097, None, 3, 2),
-    (2, Some(LockId(2)), 3, 2),
+static UNFIT_LIMITS: [Limits; 7] = [
+    Limits {
+        workers: 0,
+        ..LIMITS
+    },
+    Limits {
+        workers: 33,
+        ..LIMITS
+    },
+    Limits {
+        max_leases: 0,
+        ..LIMITS
+    },
+    Limits {
+        max_leases: 33,
+        ..LIMITS
+    },
+    Limits { locks: 1, ..LIMITS },
+    Limits {
+        locks: 4097,
+        ..LIMITS
+    },
+    Limits {
+        all: Some(LockId(2)),
+        ..LIMITS
+    },
 ];
 
-fn some_limits_fit(alloc: Global) -> Result<bool, AllocError> {
-    for (locks, all, workers, max_leases) in UNFIT_LIMITS {
-        let limits = Limits {
-            locks,
-            all,
-            workers,
-            max_leases,
-        };
-        if fits(alloc, &limits, &TASKS, &ACTIONS)? {
-            return Ok(true);
-        }
-    }
-    Ok(false)
-}
-
-// Actions that don't fit: with no item, with a gap in the units, with the task of another, with
-// no such task, and with one too few.
-fn unfit_actions() -> [[GraphAction; 3]; 4] {
-    let [a, b, c] = ACTIONS;
-    [
-        [a, GraphAction { items: 0, ..b }, c],
-        [a, b, GraphAction { first_unit: 5, ..c }],
-        [a, GraphAction { task: 0, ..b }, c],
-        [a, b, GraphAction { task: 2, ..c }],
-    ]
-}
-
-fn some_actions_fit(alloc: Global) -> Result<bool, AllocError> {
-    for actions in unfit_actions() {
-        if fits(alloc, &LIMITS, &TASKS, &actions)? {
-            return Ok(true);
-        }
-    }
-    fits(alloc, &LIMITS, &TASKS, &ACTIONS[..2])
-}
+/// Actions that don't fit: with no item, with a gap in the units, with the task of another, with
+/// no such task, and with one too few.
+static UNFIT_ACTIONS: [&[GraphAction]; 5] = [
+    &[
+        FETCHES,
+        GraphAction {
+            items: 0,
+            ..RETAINS
+        },
+        RELEASES,
+    ],
+    &[
+        FETCHES,
+        RETAINS,
+        GraphAction {
+            first_unit: 5,
+            ..RELEASES
+        },
+    ],
+    &[FETCHES, GraphAction { task: 0, ..RETAINS }, RELEASES],
+    &[
+        FETCHES,
+        RETAINS,
+        GraphAction {
+            task: 2,
+            ..RELEASES
+        },
+    ],
+    &[FETCHES, RETAINS],
+];
 
 /// Tasks that don't fit: with the actions of another, and after no such task.
-static UNFIT_TASKS: [TaskRow; 2] = [
-    TaskRow {
-        lock: 1,
-        after: Some(0),
-        first_action: 0,
-        actions: 2,
-    },
-    TaskRow {
-        lock: 1,
-        after: Some(2),
-        first_action: 1,
-        actions: 2,
-    },
+static UNFIT_TASKS: [[TaskRow; 2]; 2] = [
+    [
+        FIRST,
+        TaskRow {
+            first_action: 0,
+            ..SECOND
+        },
+    ],
+    [
+        FIRST,
+        TaskRow {
+            after: Some(2),
+            ..SECOND
+        },
+    ],
 ];
 
-fn some_tasks_fit(alloc: Global) -> Result<bool, AllocError> {
-    for second in UNFIT_TASKS {
-        if fits(alloc, &LIMITS, &[FIRST, second], &ACTIONS)? {
-            return Ok(true);
-        }
-    }
-    Ok(false)
-}
-
 #[test]
-fn fits_refuses_each_fault(rt: HostRuntime) -> Result<(), Fail> {
-    let alloc = rt.alloc();
-    assert!(rt; !some_limits_fit(alloc)? && !some_actions_fit(alloc)? && !some_tasks_fit(alloc)?);
+fn fits_refuses_each_fault(rt: HostRuntime) -> Result<(), AllocError> {
+    for limits in &UNFIT_LIMITS {
+        assert!(rt; !fits(rt.alloc(), limits, &TASKS, &ACTIONS)?);
+    }
+    for actions in &UNFIT_ACTIONS {
+        assert!(rt; !fits(rt.alloc(), &LIMITS, &TASKS, actions)?);
+    }
+    for rows in &UNFIT_TASKS {
+        assert!(rt; !fits(rt.alloc(), &LIMITS, rows, &ACTIONS)?);
+    }
     Ok(())
 }
 
@@ -299,28 +313,27 @@ fn are_taken_back(state: &mut State) -> bool
 }
 
 #[test]
-fn a_state_follows_its_workers(rt: HostRuntime) -> Result<(), Fail> {
+fn a_state_follows_its_workers(rt: HostRuntime) -> Result<(), AllocError> {
     assert!(rt; is_owned_alone(&mut *opening(&rt, rt.alloc())?));
     let mut state = opening(&rt, rt.alloc())?;
-    assert!(rt; tells_who_runs(&mut state));
-    assert!(rt; are_leases_limited(&mut state));
-    assert!(rt; are_taken_back(&mut state));
+    assert!(rt;
+        tells_who_runs(&mut state) && are_leases_limited(&mut state) && are_taken_back(&mut state)
+    );
     Ok(())
 }
 
-// Whether the word is that of this retention, and of none where there is none.
-fn is_word_of(word: &str, expected: Option<Retention>) -> bool {
-    Retention::of_word(word) == expected
-}
+/// The words of the retentions, and some others.
+static WORDS: [&str; 3] = ["retain", "release", "release_and_reacquire"];
+
+static NO_WORDS: [&str; 5] = ["", "retai", "retains", "Release", "release-and-reacquire"];
 
 #[test]
 fn words_of_retentions(rt: HostRuntime) {
     retentions_have_words_of_their_own();
-    let words = ["retain", "release", "release_and_reacquire"];
-    for (retention, word) in Retention::ALL.iter().zip(words.iter()) {
-        assert!(rt; retention.word() == *word && is_word_of(word, Some(*retention)));
+    for (retention, word) in Retention::ALL.iter().zip(&WORDS) {
+        assert!(rt; retention.word() == *word && Retention::of_word(word) == Some(*retention));
     }
-    for word in ["", "retai", "retains", "Release", "release-and-reacquire"] {
-        assert!(rt; is_word_of(word, None));
+    for word in &NO_WORDS {
+        assert!(rt; Retention::of_word(word).is_none());
     }
 }

@@ -1,11 +1,10 @@
 //! Cycles of tasks.
 ghost use Rattle.std.specs.List.{list_all};
 ghost use Rattle.std.specs.Prelude.{◌≡◌, length, nat_lt, true};
-ghost use Rattle.task_ranks.specs.Rank.{InRange, lists_of};
+ghost use Rattle.ready_work.specs.Rank.{InRange, lists_of};
 
+use ready_work::first_cycle;
 use std::alloc::{AllocError, Global};
-use std::test::Fail;
-use task_ranks::first_cycle;
 
 fn are_below(numbers: &[u32], bound: usize) -> bool
     ensures { result ≡ list_all (λ number. nat_lt number bound) numbers.now }
@@ -56,9 +55,9 @@ fn is_first(alloc: Global, rows: &[&[u32]], expected: Option<usize>) -> Result<b
 }
 
 #[test]
-fn cycles_are_found_and_their_absence(rt: HostRuntime) -> Result<(), Fail> {
-    for (rows, expected) in ROWS {
-        assert!(rt; is_first(rt.alloc(), rows, expected)?);
+fn cycles_are_found_and_their_absence(rt: HostRuntime) -> Result<(), AllocError> {
+    for (rows, expected) in &ROWS {
+        assert!(rt; is_first(rt.alloc(), rows, *expected)?);
     }
     Ok(())
 }

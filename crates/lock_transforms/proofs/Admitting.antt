@@ -9,7 +9,7 @@ use Rattle.resource_lock.specs.Shape.{BelongsTo}
 use Rattle.resource_lock.specs.declared.ids.WorkerId.{WorkerId}
 use Rattle.resource_lock.specs.declared.changes.Change.{Change}
 use Rattle.resource_lock.specs.declared.changes.Change.TheVariants.{Lock, Unlock, Take, Give, Move, Park as ParkLock, Unpark, Enter, Leave}
-use Rattle.lock_transforms.specs.Admitting.{IsAcquire, Tried, takes_within}
+use Rattle.lock_transforms.specs.Admitting.{IsAcquire, HasTried, takes_within}
 use Rattle.lock_transforms.specs.Entry.{entry}
 use Rattle.lock_transforms.specs.Allowed.{Allowed, IsKindOf, IsListOf}
 use Rattle.lock_transforms.specs.Making.{Makes}
@@ -45,7 +45,7 @@ enabled_allowed g s w k cs other allowed =
     (ap (can_all s w) (sym (list_allowed g s w k cs other allowed)) ∙ allowed.finished.possible)
 
 -- nothing was made for an entry that isn't allowed
-pub refused_at_once : {t : TentativeView} {k : Kind} {cs : List Change} {answer : Bool} → answer ≡ false → t.made ≡ [] → ¬ Allowed t.graph t.state (entry t.worker k (Some cs)) → Tried t t k cs answer
+pub refused_at_once : {t : TentativeView} {k : Kind} {cs : List Change} {answer : Bool} → answer ≡ false → t.made ≡ [] → ¬ Allowed t.graph t.state (entry t.worker k (Some cs)) → HasTried t t k cs answer
 refused_at_once {t} is fresh refused = record {
   worked = record { graph = refl; worker = refl; room = omega (arith, ap length fresh); leads = leads_none t fresh };
   allowed = λ e. absurd (false≢true (sym is ∙ e));
@@ -125,7 +125,7 @@ pub unnamed : {g : GraphView} {s : StateView} {w : WorkerId} {k : Kind} {cs : Li
 unnamed {g} {s} {w} {k} {cs} belongs fails = λ allowed. false≢true (sym fails ∙ ap (λ n. list_all (takes_within n) cs) (sym belongs.locks) ∙ named_within s cs allowed.finished.named)
 
 -- the changes were made, or one of them can't be
-pub acquired_tried : {old new : TentativeView} {cs : List Change} {all : Bool} → old.made ≡ [] → IsAcquire old cs → Makes old new cs all → Tried old new Acquire cs all
+pub acquired_tried : {old new : TentativeView} {cs : List Change} {all : Bool} → old.made ≡ [] → IsAcquire old cs → Makes old new cs all → HasTried old new Acquire cs all
 acquired_tried {old} {new} {cs} fresh acquire makes = record {
   worked = worked_from fresh makes;
   allowed = λ e. record { worker = acquire.worker; kind = tt; finished = record { condition = acquire.condition; list = acquire.list; named = acquire.named; possible = (makes.whole e).possible } };
@@ -134,7 +134,7 @@ acquired_tried {old} {new} {cs} fresh acquire makes = record {
 }
 
 -- the changes that a kind fixes were made, and are those given or not
-pub made_tried : {old new : TentativeView} {k : Kind} {cs : List Change} {same : Bool} → Worked old new → Allowed old.graph old.state (entry old.worker k (Some new.made)) → k ≢ Acquire → Decides same (new.made ≡ cs) → Tried old new k cs same
+pub made_tried : {old new : TentativeView} {k : Kind} {cs : List Change} {same : Bool} → Worked old new → Allowed old.graph old.state (entry old.worker k (Some new.made)) → k ≢ Acquire → Decides same (new.made ≡ cs) → HasTried old new k cs same
 made_tried {old} {new} {k} {cs} worked allowed other same = record {
   worked = worked;
   allowed = λ e. subst (λ (l : List Change). Allowed old.graph old.state (entry old.worker k (Some l))) (same.0 e) allowed;
@@ -143,7 +143,7 @@ made_tried {old} {new} {k} {cs} worked allowed other same = record {
 }
 
 -- they weren't all made, since an entry of the kind can't finish
-pub stopped_tried : {old new : TentativeView} {k : Kind} {cs : List Change} → Worked old new → k ≢ Acquire → is_enabled old.graph old.state old.worker k ≡ false → Tried old new k cs false
+pub stopped_tried : {old new : TentativeView} {k : Kind} {cs : List Change} → Worked old new → k ≢ Acquire → is_enabled old.graph old.state old.worker k ≡ false → HasTried old new k cs false
 stopped_tried {old} {new} {k} {cs} worked other fails = record {
   worked = worked;
   allowed = λ e. absurd (false≢true e);
@@ -151,7 +151,7 @@ stopped_tried {old} {new} {k} {cs} worked other fails = record {
   refused = λ e given. false≢true (sym fails ∙ enabled_allowed old.graph old.state old.worker k cs other given);
 }
 
-pub outside_tried : {old new : TentativeView} {k : Kind} {cs : List Change} → Worked old new → ¬ IsKindOf old.graph k → Tried old new k cs false
+pub outside_tried : {old new : TentativeView} {k : Kind} {cs : List Change} → Worked old new → ¬ IsKindOf old.graph k → HasTried old new k cs false
 outside_tried worked outside = record {
   worked = worked;
   allowed = λ e. absurd (false≢true e);

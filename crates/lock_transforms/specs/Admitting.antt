@@ -14,7 +14,7 @@ use Rattle.lock_transforms.specs.declared.entries.Kind.{Kind}
 use Rattle.lock_transforms.specs.declared.entries.Kind.TheVariants.{Acquire}
 
 -- The answer is whether the entry is allowed with these changes; where it is, they were made.
-pub record Tried (old new : TentativeView) (kind : Kind) (cs : List Change) (answer : Bool) : Type 0 where
+pub record HasTried (old new : TentativeView) (kind : Kind) (cs : List Change) (answer : Bool) : Type 0 where
   pub worked : Worked old new
   pub allowed : answer ≡ true → Allowed old.graph old.state (entry old.worker kind (Some cs))
   pub made : answer ≡ true → new.made ≡ cs

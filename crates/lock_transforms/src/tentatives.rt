@@ -106,13 +106,12 @@ impl Tentative {
         ensures taken { self.new ≡ with_lock self.old lock }
         ensures good { Good self.old.state }
     {
-        if self.state.kept_from(self.worker, lock) {
-            return false;
+        let was_free = self.state.owner(lock).is_none();
+        let owns = self.state.try_lock(self.worker, lock);
+        if owns && was_free {
+            self.made.push_reserved(Change::Lock(lock));
         }
-        if self.state.owner(lock).is_none() {
-            self.change(Change::Lock(lock));
-        }
-        true
+        owns
     }
 
     /// Takes a lease, and answers whether the worker has one now. Where it has none and as many as
@@ -124,14 +123,12 @@ impl Tentative {
         ensures leased { result ≡ true → (holding_of self.new.state self.new.worker).lease ≡ true }
         ensures taken { self.new ≡ with_lease self.old }
     {
-        if self.state.has_lease(self.worker) {
-            return true;
+        let had_lease = self.state.has_lease(self.worker);
+        let has_lease = self.state.try_lease(self.worker);
+        if has_lease && !had_lease {
+            self.made.push_reserved(Change::Take);
         }
-        if !self.state.can(self.worker, Change::Take) {
-            return false;
-        }
-        self.change(Change::Take);
-        true
+        has_lease
     }
 
     /// Gives a lock back, where the worker owns it.

@@ -1,5 +1,5 @@
 -- What the other calls of a pool within a budget change.
-use Rattle.std.specs.Prelude.{◌≡◌, ◌⊎◌, ◌<◌, ℕ, List, length, Option, Some, slice_get, remove}
+use Rattle.std.specs.Prelude.{◌≡◌, ◌⊎◌, ℕ, List, Some, slice_get, remove, Contains}
 use Rattle.daemon_requirements.specs.RequirementsView.{RequirementsView}
 use Rattle.daemon_manager.specs.Calls.{Adopts}
 use Rattle.daemon_manager.specs.declared.reserved.Reserved.{Reserved}
@@ -14,6 +14,10 @@ pub record TakesOne (old new : List OpenPermit) (permit : OpenPermit) : Type 0 w
   pub place : ℕ
   pub there : slice_get old place ≡ Some permit
   pub others : new ≡ remove old place
+
+-- the permit isn't out any more, if it was
+abbrev pub TakesBack : List OpenPermit → List OpenPermit → Permit → Type 0
+TakesBack old new permit = TakesOne old new (open_permit permit) ⊎ ((¬ Contains old (open_permit permit)) × (new ≡ old))
 
 module _ {L : Type 0} where
   -- the permit isn't out any more

@@ -89,6 +89,7 @@ impl<L: Linked> HeldPool<L> {
         ensures no_memory { OnErr result (self.new ≡ self.old) }
         ensures held { held self.new.events ≡ held self.old.events }
     {
+        // Of the pool, that its events tell which daemons are idle.
         let _ = self.pool.events();
         let Some(mut reserved) = self.pool.reserve_idle(unit, asked)? else {
             return Ok(None);
@@ -163,6 +164,7 @@ impl<L: Linked> HeldPool<L> {
         ensures most { held self.new.events ≤ held self.old.events }
         ensures busy { busy_heaps self.new.events ≡ busy_heaps self.old.events }
     {
+        // Of the pool, that its events tell which daemons are idle.
         let _ = self.pool.events();
         let link = self.pool.stop_idle()?;
         self.held_mb -= heap_of(link.made_for());

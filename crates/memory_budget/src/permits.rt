@@ -2,16 +2,17 @@
 ghost use Rattle.std.specs.Prelude.{◌≡◌, ◌+◌, ◌<◌, ◌≤◌, ◌^◌, ◌++◌, ◌∷◌, [], MatchOption, OnOk, Some, Contains};
 ghost use Rattle.std.specs.Prelude.{length, remove, slice_get};
 ghost use Rattle.memory_budget.specs.BudgetView.{open_permit, permitted};
+ghost use Rattle.memory_budget.specs.Calls.{TakesBack};
 
 use daemon_requirements::Requirements;
 use std::alloc::{AllocError, Global};
 use std::marker::Model;
 
 /// The leave to start one daemon with these requirements. Its heap is kept free until the permit is spent, by `adopt`, or given
-/// up. So it can't be dropped, and only the pool takes it apart.
+/// up. So it can't be dropped, and only the list of those that are out makes it and takes it apart.
 pub struct Permit {
-    pub(crate) unit: u32,
-    pub(crate) requirements: Requirements,
+    unit: u32,
+    requirements: Requirements,
 }
 
 impl Permit {
@@ -27,14 +28,6 @@ impl Permit {
         ensures { result.now ≡ self.now.requirements }
     {
         &self.requirements
-    }
-
-    /// Ends a permit that isn't out any more.
-    pub(crate) fn end(self) {
-        let Permit {
-            unit: _,
-            requirements: _,
-        } = self;
     }
 }
 
@@ -90,14 +83,18 @@ impl OpenPermits {
         self.permits.reserve(1)
     }
 
-    /// One permit more is out; it takes no memory.
-    pub(crate) fn add(&mut self, permit: OpenPermit)
+    /// Gives a permit, which is out from now on. It takes no memory.
+    pub(crate) fn give(&mut self, unit: u32, requirements: Requirements) -> Permit
         requires room { 1 ≤ self.old.room }
-        requires fits { permitted self.old.permits + permit.heap_mb < 2 ^ 64 }
-        ensures { self.new.permits ≡ self.old.permits ++ permit ∷ [] }
+        requires fits { permitted self.old.permits + requirements.heap_mb < 2 ^ 64 }
+        ensures permit { (result.unit ≡ unit) × (result.requirements ≡ requirements) }
+        ensures out { self.new.permits ≡ self.old.permits ++ open_permit result ∷ [] }
     {
-        self.permits.push_reserved(permit);
-        self.sum_mb += permit.heap_mb;
+        let permit = Permit { unit, requirements };
+        let out = opened(&permit);
+        self.permits.push_reserved(out);
+        self.sum_mb += out.heap_mb;
+        permit
     }
 
     /// Where a permit like this stands among those that are out.
@@ -109,18 +106,38 @@ impl OpenPermits {
         self.permits.iter().position(|out| *out == wanted)
     }
 
-    /// The permit at this place isn't out any more.
-    pub(crate) fn remove(&mut self, place: usize)
+    /// Ends a permit, for which the one at this place isn't out any more.
+    pub(crate) fn spend(&mut self, place: usize, permit: Permit)
         requires { place < length self.old.permits }
         ensures { self.new.permits ≡ remove self.old.permits place }
     {
         let taken = self.permits.remove(place);
         self.sum_mb -= taken.heap_mb;
+        let Permit {
+            unit: _,
+            requirements: _,
+        } = permit;
+    }
+
+    /// Ends a permit, where it is out also in this list. It takes no memory.
+    pub(crate) fn take_back(&mut self, permit: Permit)
+        ensures back { TakesBack self.old.permits self.new.permits permit }
+        ensures less { permitted self.new.permits ≤ permitted self.old.permits }
+    {
+        match self.place_of(&permit) {
+            Some(place) => self.spend(place, permit),
+            None => {
+                let Permit {
+                    unit: _,
+                    requirements: _,
+                } = permit;
+            }
+        }
     }
 }
 
-/// What a pool remembers of a permit.
-pub(crate) fn opened(permit: &Permit) -> OpenPermit
+// What a pool remembers of a permit.
+fn opened(permit: &Permit) -> OpenPermit
     ensures { result ≡ open_permit permit.now }
 {
     OpenPermit {

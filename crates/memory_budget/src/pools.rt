@@ -9,7 +9,7 @@ ghost use Rattle.memory_budget.specs.Heaps.{held};
 ghost use Rattle.memory_budget.specs.Rooms.{IsSettledRoom, KeepsPermits, MakesRoom, NoneCovers};
 
 use crate::held::HeldPool;
-use crate::permits::{OpenPermit, OpenPermits, Permit, heap_of};
+use crate::permits::{OpenPermits, Permit, heap_of};
 use crate::rooms::{Room, Unadopted};
 use daemon_manager::{Event, Reserved};
 use daemon_requirements::{Linked, Requirements};
@@ -102,8 +102,8 @@ impl<L: Linked> BudgetPool<L> {
         let mut links = Vec::with_capacity(alloc, self.daemons.idle())?;
         let most_mb = self.budget_mb - (self.permits.sum_mb() + heap_mb);
         self.daemons.stop_down_to(most_mb, &mut links);
-        self.permits.add(OpenPermit { unit, heap_mb });
-        Ok(Room::Start(Permit { unit, requirements }, links))
+        let permit = self.permits.give(unit, requirements);
+        Ok(Room::Start(permit, links))
     }
 
     // The heaps of the busy daemons and of the permits that are out.
@@ -130,13 +130,12 @@ impl<L: Linked> BudgetPool<L> {
         let Some(place) = self.permits.place_of(&permit) else {
             return Err(Unadopted::NotOut(permit, link));
         };
-        let Ok(requirements) = permit.requirements.copy(alloc) else {
+        let Ok(requirements) = permit.requirements().copy(alloc) else {
             return Err(Unadopted::NoMemory(permit, link));
         };
-        match self.daemons.adopt(link, requirements, permit.unit) {
+        match self.daemons.adopt(link, requirements, permit.unit()) {
             Ok(reserved) => {
-                self.permits.remove(place);
-                permit.end();
+                self.permits.spend(place, permit);
                 Ok(reserved)
             }
             Err(link) => Err(Unadopted::NoMemory(permit, link)),
@@ -147,10 +146,7 @@ impl<L: Linked> BudgetPool<L> {
     pub fn give_up(&mut self, permit: Permit)
         ensures { GivesUpOrNot self.old self.new permit }
     {
-        if let Some(place) = self.permits.place_of(&permit) {
-            self.permits.remove(place);
-        }
-        permit.end();
+        self.permits.take_back(permit);
     }
 
     /// Takes a daemon back, as `Pool::release` does.

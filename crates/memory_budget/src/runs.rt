@@ -7,18 +7,17 @@ ghost use Rattle.daemon_requirements.specs.Covers.{Covers};
 ghost use Rattle.daemon_desk.specs.Replies.{IsReplyTo};
 ghost use Rattle.file_access.specs.ReadView.{IsFaultCounted, IsOutcomeCounted};
 ghost use Rattle.item_work.specs.Requests.{Asks, Sends, request_for};
-ghost use Rattle.memory_budget.specs.Waiting.{AsksProcess, IfDone, IsAnswered, IsCountedWithin, IsOverExactly, IsOverFor, SendsWithin, SendsWithinFor};
+ghost use Rattle.memory_budget.specs.Waiting.{AsksProcess, IfDone, IsAnswered, IsCountedWithin, IsOverFor, SendsWithinFor};
 
 use crate::locks::BudgetLock;
 use crate::permits::{Permit, heap_of};
 use crate::rooms::{Room, Unadopted};
 use daemon_desk::Desk;
 use daemon_manager::Reserved;
-use daemon_protocol::Request;
-use daemon_requirements::{Isolation, Linked, Requirements, Work};
+use daemon_requirements::{Isolation, Linked, Work};
 use file_access::DeskFail;
 use item_actions::Outcome;
-use item_work::{Answered, Ran, ask, request_for};
+use item_work::{Answered, Ran, Wanted, ask, request_for};
 use lease_service::Lease;
 use std::alloc::Global;
 use std::sync::Wait;
@@ -39,6 +38,19 @@ pub enum Budgeted {
 pub struct BudgetedRun<L> {
     pub budgeted: Budgeted,
     pub spare: Option<L>,
+}
+
+impl<L> BudgetedRun<L> {
+    // An item that was run.
+    fn of(ran: Ran<L>) -> BudgetedRun<L>
+        ensures { result ≡ record { budgeted = Budgeted.Done ran.outcome; spare = ran.spare } }
+    {
+        let Ran { outcome, spare } = ran;
+        BudgetedRun {
+            budgeted: Budgeted::Done(outcome),
+            spare,
+        }
+    }
 }
 
 /// Has a daemon of the pool work an item out, once there is room for one within the budget.
@@ -74,43 +86,25 @@ pub fn run_in_budget<R: Wait, D: Desk>(
 {
     match &work.isolation {
         Isolation::InThread => unreachable!(),
-        Isolation::Process(asked) => run_asked(rt, alloc, desk, pool, unit, work, asked),
-    }
-}
-
-// Runs an item that asks for this.
-fn run_asked<R: Wait, D: Desk>(
-    rt: &R,
-    alloc: Global,
-    desk: &mut D,
-    pool: &BudgetLock<D::Link>,
-    unit: u32,
-    work: &Work,
-    asked: &Requirements,
-) -> BudgetedRun<D::Link>
-    requires form { is_file_name work.now.file ≡ true }
-    ensures files { D.files desk.new ≡ D.files desk.old }
-    ensures reads { D.reads desk.new ≡ D.reads desk.old }
-    ensures over { IsOverExactly asked.now pool.now.budget_mb result.budgeted }
-    ensures ran { IfDone result.budgeted (λ outcome. outcome ≢ outcomes.Skipped) }
-    ensures faults { IsCountedWithin (D.faults desk.old) (D.faults desk.new) result.budgeted }
-    ensures honest { IfDone result.budgeted (λ outcome.
-        IfSome (D.files desk.old) (λ known. IsHonest outcome (value_on known work.now.action work.now.file))) }
-    ensures sent { SendsWithin asked.now (record { count = D.sends desk.old; requests = D.sent desk.old })
-        (record { count = D.sends desk.new; requests = D.sent desk.new }) (request_for unit work.now) result.budgeted }
-    ensures spare { IfSome result.spare (λ _. IsAnswered result.budgeted) }
-{
-    let heap_mb = heap_of(asked);
-    if heap_mb > pool.budget_mb() {
-        return BudgetedRun {
-            budgeted: Budgeted::Over(heap_mb),
-            spare: None,
-        };
-    }
-    let Ran { outcome, spare } = work_in_daemon(rt, alloc, desk, pool, unit, work, asked);
-    BudgetedRun {
-        budgeted: Budgeted::Done(outcome),
-        spare,
+        Isolation::Process(asked) => {
+            let heap_mb = heap_of(asked);
+            if heap_mb > pool.budget_mb() {
+                return BudgetedRun {
+                    budgeted: Budgeted::Over(heap_mb),
+                    spare: None,
+                };
+            }
+            match request_for(alloc, unit, work) {
+                Ok(request) => {
+                    let wanted = Wanted {
+                        request: &request,
+                        requirements: asked,
+                    };
+                    BudgetedRun::of(work_in_daemon(rt, alloc, desk, pool, &wanted))
+                }
+                Err(_) => BudgetedRun::of(Ran::alone(Outcome::NoMemory)),
+            }
+        }
     }
 }
 
@@ -121,24 +115,19 @@ fn work_in_daemon<R: Wait, D: Desk>(
     alloc: Global,
     desk: &mut D,
     pool: &BudgetLock<D::Link>,
-    unit: u32,
-    work: &Work,
-    asked: &Requirements,
+    wanted: &Wanted<'_>,
 ) -> Ran<D::Link>
-    requires form { is_file_name work.now.file ≡ true }
+    requires form { is_file_name wanted.now.request.now.file ≡ true }
     ensures files { D.files desk.new ≡ D.files desk.old }
     ensures reads { D.reads desk.new ≡ D.reads desk.old }
     ensures ran { result.outcome ≢ outcomes.Skipped }
     ensures faults { IsOutcomeCounted (D.faults desk.old) (D.faults desk.new) result.outcome }
-    ensures honest { IfSome (D.files desk.old) (λ known. IsHonest result.outcome (value_on known work.now.action work.now.file)) }
-    ensures sent { Sends asked.now (record { count = D.sends desk.old; requests = D.sent desk.old })
-        (record { count = D.sends desk.new; requests = D.sent desk.new }) (request_for unit work.now) result.outcome }
+    ensures honest { IfSome (D.files desk.old) (λ known. IsHonest result.outcome (value_on known wanted.now.request.now.action wanted.now.request.now.file)) }
+    ensures sent { Sends wanted.now.requirements.now (record { count = D.sends desk.old; requests = D.sent desk.old })
+        (record { count = D.sends desk.new; requests = D.sent desk.new }) wanted.now.request.now result.outcome }
     ensures spare { IfSome result.spare (λ _. result.outcome ≢ outcomes.Fault) }
 {
-    let Ok(request) = request_for(alloc, unit, work) else {
-        return Ran::alone(Outcome::NoMemory);
-    };
-    match ask_daemon(rt, alloc, desk, pool, &request, asked) {
+    match ask_daemon(rt, alloc, desk, pool, wanted) {
         Ok(answered) => {
             let Answered { reply, spare } = answered;
             Ran {
@@ -157,23 +146,22 @@ fn ask_daemon<R: Wait, D: Desk>(
     alloc: Global,
     desk: &mut D,
     pool: &BudgetLock<D::Link>,
-    request: &Request,
-    asked: &Requirements,
+    wanted: &Wanted<'_>,
 ) -> Result<Answered<D::Link>, DeskFail>
-    requires { is_file_name request.now.file ≡ true }
+    requires { is_file_name wanted.now.request.now.file ≡ true }
     ensures files { D.files desk.new ≡ D.files desk.old }
     ensures reads { D.reads desk.new ≡ D.reads desk.old }
     ensures faults { IsFaultCounted (D.faults desk.old) (D.faults desk.new) result }
-    ensures reply { IfOk result (λ answered. IsReplyTo (D.files desk.old) request.now answered.reply) }
+    ensures reply { IfOk result (λ answered. IsReplyTo (D.files desk.old) wanted.now.request.now answered.reply) }
     ensures sent { Asks (record { count = D.sends desk.old; requests = D.sent desk.old })
-        (record { count = D.sends desk.new; requests = D.sent desk.new }) asked.now request.now result }
+        (record { count = D.sends desk.new; requests = D.sent desk.new }) wanted.now.requirements.now wanted.now.request.now result }
 {
-    match pool.wait_for_room(rt, alloc, request.unit, asked)? {
-        Room::Idle(reserved) => ask_reserved(rt, alloc, desk, pool, reserved, request, asked),
+    match pool.wait_for_room(rt, alloc, wanted.request.unit, wanted.requirements)? {
+        Room::Idle(reserved) => ask_reserved(rt, alloc, desk, pool, reserved, wanted),
         Room::Start(permit, links) => {
             stop_each(rt, desk, pool, links);
             pool.wait_for_ends(rt);
-            ask_started(rt, alloc, desk, pool, permit, request, asked)
+            ask_started(rt, alloc, desk, pool, permit, wanted)
         }
         Room::Over(_) => unreachable!(),
     }
@@ -243,20 +231,19 @@ fn ask_started<R: Wait, D: Desk>(
     desk: &mut D,
     pool: &BudgetLock<D::Link>,
     permit: Permit,
-    request: &Request,
-    asked: &Requirements,
+    wanted: &Wanted<'_>,
 ) -> Result<Answered<D::Link>, DeskFail>
-    requires permit { permit.requirements ≡ asked.now }
-    requires form { is_file_name request.now.file ≡ true }
+    requires permit { permit.requirements ≡ wanted.now.requirements.now }
+    requires form { is_file_name wanted.now.request.now.file ≡ true }
     ensures files { D.files desk.new ≡ D.files desk.old }
     ensures reads { D.reads desk.new ≡ D.reads desk.old }
     ensures faults { IsFaultCounted (D.faults desk.old) (D.faults desk.new) result }
-    ensures reply { IfOk result (λ answered. IsReplyTo (D.files desk.old) request.now answered.reply) }
+    ensures reply { IfOk result (λ answered. IsReplyTo (D.files desk.old) wanted.now.request.now answered.reply) }
     ensures sent { Asks (record { count = D.sends desk.old; requests = D.sent desk.old })
-        (record { count = D.sends desk.new; requests = D.sent desk.new }) asked.now request.now result }
+        (record { count = D.sends desk.new; requests = D.sent desk.new }) wanted.now.requirements.now wanted.now.request.now result }
 {
     match desk.start(alloc, permit.requirements()) {
-        Ok(link) => ask_adopted(rt, alloc, desk, pool, permit, link, request, asked),
+        Ok(link) => ask_adopted(rt, alloc, desk, pool, Started { permit, link }, wanted),
         Err(fail) => {
             pool.give_up(rt, permit);
             Err(fail)
@@ -264,34 +251,39 @@ fn ask_started<R: Wait, D: Desk>(
     }
 }
 
-// Has the pool take a daemon in that was started on the permit, and asks it. One that isn't taken in is stopped: for want of
+// A daemon that was started on a permit.
+struct Started<L> {
+    permit: Permit,
+    link: L,
+}
+
+// Has the pool take a daemon in that was started on a permit, and asks it. One that isn't taken in is stopped: for want of
 // memory at once, and else once it was asked.
 fn ask_adopted<R: Wait, D: Desk>(
     rt: &R,
     alloc: Global,
     desk: &mut D,
     pool: &BudgetLock<D::Link>,
-    permit: Permit,
-    link: D::Link,
-    request: &Request,
-    asked: &Requirements,
+    started: Started<D::Link>,
+    wanted: &Wanted<'_>,
 ) -> Result<Answered<D::Link>, DeskFail>
-    requires permit { permit.requirements ≡ asked.now }
-    requires made { D.Link.requirements link ≡ permit.requirements }
-    requires settled { D.Link.settled link ≡ true }
-    requires form { is_file_name request.now.file ≡ true }
+    requires permit { started.permit.requirements ≡ wanted.now.requirements.now }
+    requires made { D.Link.requirements started.link ≡ started.permit.requirements }
+    requires settled { D.Link.settled started.link ≡ true }
+    requires form { is_file_name wanted.now.request.now.file ≡ true }
     ensures files { D.files desk.new ≡ D.files desk.old }
     ensures reads { D.reads desk.new ≡ D.reads desk.old }
     ensures faults { IsFaultCounted (D.faults desk.old) (D.faults desk.new) result }
-    ensures reply { IfOk result (λ answered. IsReplyTo (D.files desk.old) request.now answered.reply) }
+    ensures reply { IfOk result (λ answered. IsReplyTo (D.files desk.old) wanted.now.request.now answered.reply) }
     ensures sent { Asks (record { count = D.sends desk.old; requests = D.sent desk.old })
-        (record { count = D.sends desk.new; requests = D.sent desk.new }) asked.now request.now result }
+        (record { count = D.sends desk.new; requests = D.sent desk.new }) wanted.now.requirements.now wanted.now.request.now result }
 {
+    let Started { permit, link } = started;
     match pool.adopt(rt, alloc, permit, link) {
-        Ok(reserved) => ask_reserved(rt, alloc, desk, pool, reserved, request, asked),
+        Ok(reserved) => ask_reserved(rt, alloc, desk, pool, reserved, wanted),
         Err(Unadopted::NotOut(permit, link)) => {
             pool.give_up(rt, permit);
-            ask_once(alloc, desk, link, request, asked)
+            ask_once(alloc, desk, link, wanted)
         }
         Err(Unadopted::NoMemory(permit, link)) => {
             desk.stop(link);
@@ -306,21 +298,20 @@ fn ask_once<D: Desk>(
     alloc: Global,
     desk: &mut D,
     link: D::Link,
-    request: &Request,
-    asked: &Requirements,
+    wanted: &Wanted<'_>,
 ) -> Result<Answered<D::Link>, DeskFail>
-    requires covers { Covers (D.Link.requirements link) asked.now }
+    requires covers { Covers (D.Link.requirements link) wanted.now.requirements.now }
     requires settled { D.Link.settled link ≡ true }
-    requires form { is_file_name request.now.file ≡ true }
+    requires form { is_file_name wanted.now.request.now.file ≡ true }
     ensures files { D.files desk.new ≡ D.files desk.old }
     ensures reads { D.reads desk.new ≡ D.reads desk.old }
     ensures faults { IsFaultCounted (D.faults desk.old) (D.faults desk.new) result }
-    ensures reply { IfOk result (λ answered. IsReplyTo (D.files desk.old) request.now answered.reply) }
+    ensures reply { IfOk result (λ answered. IsReplyTo (D.files desk.old) wanted.now.request.now answered.reply) }
     ensures sent { Asks (record { count = D.sends desk.old; requests = D.sent desk.old })
-        (record { count = D.sends desk.new; requests = D.sent desk.new }) asked.now request.now result }
+        (record { count = D.sends desk.new; requests = D.sent desk.new }) wanted.now.requirements.now wanted.now.request.now result }
 {
     let mut link = link;
-    let answer = ask(alloc, desk, &mut link, request, asked);
+    let answer = ask(alloc, desk, &mut link, wanted);
     desk.stop(link);
     match answer {
         Ok(reply) => Ok(Answered { reply, spare: None }),
@@ -335,21 +326,20 @@ fn ask_reserved<R: Wait, D: Desk>(
     desk: &mut D,
     pool: &BudgetLock<D::Link>,
     reserved: Reserved<D::Link>,
-    request: &Request,
-    asked: &Requirements,
+    wanted: &Wanted<'_>,
 ) -> Result<Answered<D::Link>, DeskFail>
-    requires covers { Covers (D.Link.requirements reserved.link) asked.now }
+    requires covers { Covers (D.Link.requirements reserved.link) wanted.now.requirements.now }
     requires settled { D.Link.settled reserved.link ≡ true }
-    requires form { is_file_name request.now.file ≡ true }
+    requires form { is_file_name wanted.now.request.now.file ≡ true }
     ensures files { D.files desk.new ≡ D.files desk.old }
     ensures reads { D.reads desk.new ≡ D.reads desk.old }
     ensures faults { IsFaultCounted (D.faults desk.old) (D.faults desk.new) result }
-    ensures reply { IfOk result (λ answered. IsReplyTo (D.files desk.old) request.now answered.reply) }
+    ensures reply { IfOk result (λ answered. IsReplyTo (D.files desk.old) wanted.now.request.now answered.reply) }
     ensures sent { Asks (record { count = D.sends desk.old; requests = D.sent desk.old })
-        (record { count = D.sends desk.new; requests = D.sent desk.new }) asked.now request.now result }
+        (record { count = D.sends desk.new; requests = D.sent desk.new }) wanted.now.requirements.now wanted.now.request.now result }
 {
     let mut reserved = reserved;
-    match ask(alloc, desk, reserved.link(), request, asked) {
+    match ask(alloc, desk, reserved.link(), wanted) {
         Ok(reply) => {
             let spare = pool.release(rt, reserved);
             Ok(Answered { reply, spare })

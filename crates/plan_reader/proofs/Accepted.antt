@@ -12,7 +12,7 @@ use Rattle.toml.specs.Data.{Data}
 use Rattle.resource_lock.specs.declared.graphs.Retention.{Retention}
 use Rattle.resource_lock.specs.declared.graphs.Retention.TheVariants.{Retain, Release, ReleaseAndReacquire}
 use Rattle.resource_lock.specs.Words.{retention_word}
-use Rattle.task_ranks.specs.Rank.{Ranked}
+use Rattle.ready_work.specs.Rank.{Ranked}
 use Rattle.plan_table.specs.declared.refusals.Part.{Part}
 use Rattle.plan_table.specs.declared.refusals.Part.TheVariants.{Plan, Project, Task, Requirements}
 use Rattle.plan_table.specs.declared.refusals.Which.{Which}

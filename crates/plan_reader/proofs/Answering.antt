@@ -3,7 +3,7 @@ use Rattle.std.proofs.Common.{◌≡◌, ℕ, ◌<◌, List, [], ◌∷◌, map,
 use Rattle.std.specs.Option.{option_or}
 use Rattle.std.proofs.lemmas.List.{length-map, get_or-map}
 use Rattle.toml.specs.Data.{Data}
-use Rattle.task_ranks.specs.Rank.{Dependencies, after, InRange, IsFirstCycle}
+use Rattle.ready_work.specs.Rank.{Dependencies, after, InRange, IsFirstCycle}
 use Rattle.plan_table.specs.declared.refusals.Part.TheVariants.{Project, Task, Requirements}
 use Rattle.plan_table.specs.declared.refusals.PlanRefusal.{PlanRefusal}
 use Rattle.plan_table.specs.declared.refusals.PlanFail.{PlanFail}

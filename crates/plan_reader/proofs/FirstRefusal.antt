@@ -5,7 +5,7 @@ use Rattle.std.proofs.lemmas.Bool.{cases_eq, cases_lt}
 use Rattle.std.proofs.lemmas.List.{length-map}
 use Rattle.std.proofs.lemmas.Option.{none-some}
 use Rattle.toml.specs.Data.{Data}
-use Rattle.task_ranks.specs.Rank.{IsFirstCycle}
+use Rattle.ready_work.specs.Rank.{IsFirstCycle}
 use Rattle.plan_table.specs.declared.refusals.Part.TheVariants.{Task}
 use Rattle.plan_table.specs.declared.refusals.Place.{Place}
 use Rattle.plan_table.specs.declared.refusals.Which.{Which}

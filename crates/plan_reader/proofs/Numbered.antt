@@ -12,7 +12,7 @@ use Rattle.std.specs.Cmp.Lexicographic.{slice_cmp}
 use Rattle.std.specs.Option.{option_or}
 use Rattle.std.specs.Ordering.{nat_cmp}
 use Rattle.indexmap.specs.IndexSet.{insert_key}
-use Rattle.task_ranks.specs.Rank.{lists_of}
+use Rattle.ready_work.specs.Rank.{lists_of}
 use Rattle.plan_table.specs.Forms.{Text}
 use Rattle.plan_reader.specs.NameNumbers.{is_repeat, AreNumbered}
 use Rattle.plan_reader.specs.Names.{once}

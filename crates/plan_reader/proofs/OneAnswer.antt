@@ -2,7 +2,7 @@
 use Rattle.std.proofs.Common.{◌≡◌, ℕ, Option, Some, None, Result, Ok, Err, ap, sym, ◌∙◌}
 use Rattle.std.specs.Option.{option_or}
 use Rattle.toml.specs.Data.{Data}
-use Rattle.task_ranks.specs.Rank.{Dependencies, IsFirstCycle}
+use Rattle.ready_work.specs.Rank.{Dependencies, IsFirstCycle}
 use Rattle.plan_table.specs.declared.refusals.PlanRefusal.{PlanRefusal}
 use Rattle.plan_reader.specs.Names.{dependencies_of}
 use Rattle.plan_reader.specs.Planned.{plan_of}

@@ -7,7 +7,7 @@ use Rattle.toml.specs.declared.value.Value.{Value}
 use Rattle.toml.specs.Data.{Data}
 use Rattle.toml.specs.View.{view}
 use Rattle.daemon_requirements.specs.RequirementsView.{RequirementsView}
-use Rattle.task_ranks.specs.Rank.{lists_of}
+use Rattle.ready_work.specs.Rank.{lists_of}
 use Rattle.plan_table.specs.Forms.{Text}
 use Rattle.plan_table.specs.Keys.{tasks_of}
 use Rattle.plan_reader.specs.Names.{NameLists, names_in, dependency_numbers, dependencies_of}

@@ -3,7 +3,7 @@ use Rattle.std.specs.Prelude.{ℕ, ◌≡◌, ◌<◌, Bool, true, false, not, n
 use Rattle.std.specs.Prelude.{Ok, Err}
 use Rattle.toml.specs.Data.{Data}
 use Rattle.item_actions.specs.Value.{max_file_bytes}
-use Rattle.task_ranks.specs.Rank.{Ranked}
+use Rattle.ready_work.specs.Rank.{Ranked}
 use Rattle.plan_table.specs.declared.refusals.Part.{Part}
 use Rattle.plan_table.specs.declared.refusals.Part.TheVariants as part
 use Rattle.plan_table.specs.declared.refusals.Place.{Place}

@@ -4,7 +4,7 @@ use Rattle.std.specs.List.{All, AllPairs}
 use Rattle.resource_lock.specs.declared.graphs.Retention.TheVariants.{Release}
 use Rattle.resource_lock.specs.declared.limits.TheConstants.{MAX_TASKS, MAX_UNITS, MAX_ACTIONS_PER_TASK, MAX_AFTER}
 use Rattle.daemon_requirements.specs.RequirementsView.{RequirementsView}
-use Rattle.task_ranks.specs.Rank.{Ranked}
+use Rattle.ready_work.specs.Rank.{Ranked}
 use Rattle.item_actions.specs.Forms.{is_file_name}
 use Rattle.plan_table.specs.Forms.{is_name}
 use Rattle.plan_table.specs.Formed.{IsFetch}

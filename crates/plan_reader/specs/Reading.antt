@@ -2,7 +2,7 @@
 use Rattle.std.specs.Prelude.{ℕ, ◌≡◌, List, Option, None, Some, Result, Ok, Err}
 use Rattle.std.specs.Option.{option_or}
 use Rattle.toml.specs.Data.{Data}
-use Rattle.task_ranks.specs.Rank.{Dependencies, IsFirstCycle}
+use Rattle.ready_work.specs.Rank.{Dependencies, IsFirstCycle}
 use Rattle.plan_table.specs.declared.refusals.PlanRefusal.{PlanRefusal}
 use Rattle.plan_table.specs.declared.refusals.PlanFail.{PlanFail}
 use Rattle.plan_table.specs.declared.refusals.PlanFail.TheVariants as fail

@@ -11,7 +11,7 @@ ghost use Rattle.plan_reader.specs.Rows.{holds};
 ghost use Rattle.plan_reader.specs.Search.{row_refusal};
 ghost use Rattle.plan_reader.specs.Reading.{Answer, Reads};
 
-use task_ranks::first_cycle_is_unique;
+use ready_work::first_cycle_is_unique;
 
 /// There is one answer to a text at most.
 pub fn a_text_has_one_answer()

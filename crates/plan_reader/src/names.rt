@@ -12,7 +12,7 @@ ghost use Rattle.plan_reader.specs.Names.{names_in, known_numbers, known_rows, A
 ghost use Rattle.indexmap.specs.IndexSet.{insert_key};
 ghost use Rattle.plan_reader.specs.Search.{first_twice, twice_in};
 ghost use Rattle.plan_reader.specs.Reading.{RefusesBy};
-ghost use Rattle.task_ranks.specs.Rank.{lists_of};
+ghost use Rattle.ready_work.specs.Rank.{lists_of};
 
 use crate::name_table::NameTable;
 use plan_table::{

@@ -192,7 +192,7 @@ fn known_tasks(
     Ok(tasks)
 }
 
-// The same in a plan of these names and requirements.
+// The tasks of these tables in a plan of these names and requirements.
 fn tasks_by_names<'a>(
     alloc: Global,
     projects: &NameTable<'a>,
@@ -215,7 +215,7 @@ fn tasks_by_names<'a>(
     known_tasks(alloc, &known, tables, dependencies)
 }
 
-// The same in a plan of these projects' names, of which each stands once, and requirements.
+// The tasks of these tables in a plan of these projects and requirements, each of whose names stands once.
 fn tasks_by_projects<'a>(
     alloc: Global,
     projects: &NameTable<'a>,

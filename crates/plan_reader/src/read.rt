@@ -1,7 +1,7 @@
 //! Reading a plan.
 ghost use Rattle.std.specs.Prelude.{◌≡◌, ◌≤◌, true, None, map, length, IfOk, IfErr};
 ghost use Rattle.toml.specs.View.{view};
-ghost use Rattle.task_ranks.specs.Rank.{lists_of, InRange, IsFirstCycle};
+ghost use Rattle.ready_work.specs.Rank.{lists_of, InRange, IsFirstCycle};
 ghost use Rattle.plan_table.specs.Document.{is_numbered};
 ghost use Rattle.plan_table.specs.declared.document.TheConstants.{MAX_PARTS};
 ghost use Rattle.plan_table.specs.Search.{places, table_refusal};
@@ -20,8 +20,8 @@ use crate::search::row_refusal;
 use plan_table::{
     Part, Place, PlanFail, PlanRefusal, read_document, table_refusal, take_projects, take_tasks,
 };
+use ready_work::first_cycle;
 use std::alloc::Global;
-use task_ranks::first_cycle;
 use toml::Value;
 
 // Refuses a document of which the row holds somewhere, at its first place.
@@ -58,7 +58,7 @@ fn known_dependencies(
     }
 }
 
-// The same, where no row before Cycle refuses anything.
+// The numbers of the tasks that each task comes after, where no row before Cycle refuses anything.
 fn check_before(alloc: Global, names: &Names, document: &Value) -> Result<Vec<Vec<u32>>, PlanFail>
     requires names { name_lists names.now ≡ names_in (view document.now) }
     requires numbered { is_numbered (view document.now) ≡ true }
@@ -70,7 +70,7 @@ fn check_before(alloc: Global, names: &Names, document: &Value) -> Result<Vec<Ve
     known_dependencies(alloc, names, document)
 }
 
-// The same for each row that is looked at once the names and the ranks are known, in their order.
+// Refuses by the first of the rows that does so, of those that are looked at once the names and the ranks are known.
 fn check_behind(names: &Names, document: &Value) -> Result<(), PlanFail>
     requires names { name_lists names.now ≡ names_in (view document.now) }
     requires numbered { is_numbered (view document.now) ≡ true }
@@ -144,7 +144,7 @@ fn check_named(alloc: Global, names: &Names, document: &Value) -> Result<Vec<Vec
     Ok(dependencies)
 }
 
-// The same behind the names of the projects and the tasks, each of which stands once.
+// `check_named` behind the names of the projects and the tasks, each of which stands once: it numbers those of the requirements.
 fn check_requirement_names<'a>(
     alloc: Global,
     projects: &NameTable<'a>,
@@ -170,7 +170,7 @@ fn check_requirement_names<'a>(
     check_named(alloc, &names, document)
 }
 
-// The same behind the names of the projects, each of which stands once.
+// `check_named` behind the names of the projects, each of which stands once: it numbers those of the tasks first.
 fn check_task_names<'a>(
     alloc: Global,
     projects: &NameTable<'a>,
@@ -188,8 +188,8 @@ fn check_task_names<'a>(
     check_requirement_names(alloc, projects, &tasks, document)
 }
 
-// The same, or the first refusal behind those of the text. The names are borrowed from the document for as long as
-// this takes.
+// The numbers of the tasks that each task comes after, or the first refusal behind those of the text. The names are borrowed from
+// the document for as long as this takes.
 fn check_tables(alloc: Global, document: &Value) -> Result<Vec<Vec<u32>>, PlanFail>
     requires { is_numbered (view document.now) ≡ true }
     ensures dependencies { IfOk result (λ rows. lists_of rows.items ≡ dependencies_of (view document.now)) }

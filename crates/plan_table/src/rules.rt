@@ -191,7 +191,7 @@ fn are_settings(table: &Table) -> bool
     table.iter().all(|(key, value)| is_key(key.as_bytes()) && is_value(text_of(value).as_bytes()))
 }
 
-// The same of a value. One of another type has none.
+// Whether all settings of a value have their forms. One that is no table has no settings.
 #[tactic(auto, using(crate::proofs::lemmas::Lists::settings_of_table))]
 fn has_settings(value: &Value) -> bool
     ensures { result ≡ list_all is_setting (table_pairs (Some (view value.now))) }

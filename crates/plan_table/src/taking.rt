@@ -56,7 +56,7 @@ fn take_text(alloc: Global, table: &mut Value, key: &str) -> Text
     }
 }
 
-// The same, with a copy of the default where none stands there.
+// Takes the text under a key out of the table. It is a copy of the default where none stands there.
 fn take_text_or(
     alloc: Global,
     table: &mut Value,

@@ -78,8 +78,8 @@ fn asked(item: &Work) -> Option<&Requirements> {
 fn are_asked(items: &[Work]) -> bool {
     match items {
         [first, second] => {
-            asked(first).is_some_and(|requirements| is_big(requirements))
-                && asked(second).is_some_and(|requirements| is_default(requirements))
+            matches!(asked(first), Some(requirements) if is_big(requirements))
+                && matches!(asked(second), Some(requirements) if is_default(requirements))
         }
         _ => false,
     }
@@ -109,8 +109,7 @@ fn has_tasks(plan: &Plan) -> bool {
 #[test]
 fn items_have_the_requirements_that_they_name(rt: HostRuntime) -> Result<(), Fail> {
     let plan = read_plan(rt.alloc(), PLAN.as_bytes())?;
-    assert!(rt; has_requirements(&plan));
-    assert!(rt; has_tasks(&plan));
+    assert!(rt; has_requirements(&plan) && has_tasks(&plan));
     Ok(())
 }
 
@@ -152,18 +151,19 @@ fn has_locks(
 }
 
 fn has_tasks_of(graph: &Graph, locks: &[u32]) -> bool {
-    graph
-        .tasks()
-        .iter()
-        .map(|task| task.lock.0)
-        .eq(locks.iter().copied())
+    for (task, lock) in graph.tasks().iter().zip(locks) {
+        if task.lock.0 != *lock {
+            return false;
+        }
+    }
+    graph.tasks().len() == locks.len()
 }
 
 #[test]
 fn a_task_that_asks_for_all_projects_has_their_lock(rt: HostRuntime) -> Result<(), Fail> {
     let plan = read_plan(rt.alloc(), ALL_PROJECTS.as_bytes())?;
-    assert!(rt; ask_in_turn(&plan));
-    assert!(rt; has_locks(rt.alloc(), &plan, true, [0, 3, 2, 4])?);
-    assert!(rt; has_locks(rt.alloc(), &plan, false, [0, 1, 0, 2])?);
+    let parallel = has_locks(rt.alloc(), &plan, true, [0, 3, 2, 4])?;
+    let alone = has_locks(rt.alloc(), &plan, false, [0, 1, 0, 2])?;
+    assert!(rt; ask_in_turn(&plan) && parallel && alone);
     Ok(())
 }

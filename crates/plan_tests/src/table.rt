@@ -23,8 +23,8 @@ fn has_properties(requirements: &Value) -> bool {
         Some(properties) => properties.keys(),
         None => return false,
     };
-    names.next().is_some_and(|name| name.as_str() == "a")
-        && names.next().is_some_and(|name| name.as_str() == "b")
+    matches!(names.next(), Some(name) if name.as_str() == "a")
+        && matches!(names.next(), Some(name) if name.as_str() == "b")
         && names.next().is_none()
 }
 
@@ -40,7 +40,7 @@ fn is_large(requirements: &Value) -> bool {
         && heap_of(requirements) == 2048
         && has_args(requirements)
         && has_properties(requirements)
-        && variables_of(requirements).is_some_and(|variables| variables.len() == 1)
+        && matches!(variables_of(requirements), Some(variables) if variables.len() == 1)
         && debug_of(requirements)
         && assertions_of(requirements)
         && keep_alive_of(requirements) == "daemon"
@@ -49,11 +49,7 @@ fn is_large(requirements: &Value) -> bool {
 #[test]
 fn every_key_of_requirements_is_read(rt: HostRuntime) -> Result<(), Fail> {
     let document = read_document(rt.alloc(), EVERY_KEY.as_bytes())?;
-    assert!(rt;
-        requirements_of(&document)
-            .first()
-            .is_some_and(|large| is_large(large))
-    );
+    assert!(rt; matches!(requirements_of(&document).first(), Some(large) if is_large(large)));
     Ok(())
 }
 
@@ -70,17 +66,13 @@ fn is_plain_item(item: &Value) -> bool {
 fn is_plain_action(action: &Value) -> bool {
     wait_of(action) == "release_and_reacquire"
         && fetch_of(action).is_none()
-        && items_of(action)
-            .first()
-            .is_some_and(|item| is_plain_item(item))
+        && matches!(items_of(action).first(), Some(item) if is_plain_item(item))
 }
 
 fn is_plain_task(task: &Value) -> bool {
     after_of(task).is_empty()
         && !all_projects_of(task)
-        && actions_of(task)
-            .first()
-            .is_some_and(|action| is_plain_action(action))
+        && matches!(actions_of(task).first(), Some(action) if is_plain_action(action))
 }
 
 fn are_plain(requirements: &Value) -> bool {
@@ -95,19 +87,14 @@ fn are_plain(requirements: &Value) -> bool {
 
 fn is_plain(document: &Value) -> bool {
     projects_of(document).is_empty()
-        && tasks_of(document)
-            .first()
-            .is_some_and(|task| is_plain_task(task))
-        && requirements_of(document)
-            .first()
-            .is_some_and(|plain| are_plain(plain))
+        && matches!(tasks_of(document).first(), Some(task) if is_plain_task(task))
+        && matches!(requirements_of(document).first(), Some(plain) if are_plain(plain))
 }
 
 #[test]
 fn absent_keys_have_their_defaults(rt: HostRuntime) -> Result<(), Fail> {
     let document = read_document(rt.alloc(), NO_KEY.as_bytes())?;
-    assert!(rt; table_refusal(&document).is_none());
-    assert!(rt; is_plain(&document));
+    assert!(rt; table_refusal(&document).is_none() && is_plain(&document));
     Ok(())
 }
 
@@ -129,8 +116,7 @@ fn says_both(document: &Value) -> bool {
 #[test]
 fn tasks_say_whether_they_ask_for_all_projects(rt: HostRuntime) -> Result<(), Fail> {
     let document = read_document(rt.alloc(), SAID.as_bytes())?;
-    assert!(rt; table_refusal(&document).is_none());
-    assert!(rt; says_both(&document));
+    assert!(rt; table_refusal(&document).is_none() && says_both(&document));
     Ok(())
 }
 
@@ -195,13 +181,12 @@ fn has_lists(alloc: Global, large: &mut Value) -> bool {
 fn texts_of_requirements_are_taken(rt: HostRuntime) -> Result<(), Fail> {
     let mut document = read_document(rt.alloc(), EVERY_KEY.as_bytes())?;
     let mut taken = take_requirements(rt.alloc(), &mut document);
-    assert!(rt; taken.len() == 1);
+    assert!(rt; taken.len() == 1 && requirements_of(&document).is_empty());
     for large in &mut taken {
-        assert!(rt; has_texts(rt.alloc(), large, "java", "US-ASCII")?);
-        assert!(rt; has_lists(rt.alloc(), large));
+        let has_texts = has_texts(rt.alloc(), large, "java", "US-ASCII")?;
+        assert!(rt; has_texts && has_lists(rt.alloc(), large));
         assert!(rt; name_of(large) == "large" && args_of(large).is_empty());
     }
-    assert!(rt; requirements_of(&document).is_empty());
     Ok(())
 }
 

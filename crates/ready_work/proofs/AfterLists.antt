@@ -8,8 +8,8 @@ use Rattle.std.proofs.lemmas.List.{get_or_default, get_or_past, length-map, take
 use Rattle.resource_lock.specs.Fits.{Fits}
 use Rattle.resource_lock.specs.GraphView.{GraphView, GraphTaskView, graph_view, task_of, no_task}
 use Rattle.resource_lock.specs.declared.graphs.GraphTask.{GraphTask}
-use Rattle.task_ranks.specs.Rank.{Dependencies, InRange, after, lists_of}
-use Rattle.task_ranks.specs.Dependents.{ListsDependents, times}
+use Rattle.ready_work.specs.Rank.{Dependencies, InRange, after, lists_of}
+use Rattle.ready_work.specs.DependentLists.{ListsDependents, times}
 use Rattle.ready_work.specs.Dependents.{AreDependents}
 
 -- for each task, the tasks that it comes after

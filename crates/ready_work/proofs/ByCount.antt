@@ -9,13 +9,13 @@ use Rattle.resource_lock.specs.StateView.{StateView, mark_of}
 use Rattle.resource_lock.specs.declared.marks.MarkId.TheVariants.{Task as TaskOf}
 use Rattle.ready_work.specs.Choices.{CanSkip, IsStartable, IsUnended}
 use Rattle.ready_work.specs.Sets.{NoNumber}
-use Rattle.ready_work.specs.Tally.{count_of, is_counted}
-use Rattle.ready_work.specs.TaskSets.{AreCounted, AreSetsByCount, AreTaskSets, CanSkipByCount, HasTallies, IsCountedAt, IsStartableByCount, IsUnendedIn}
+use Rattle.ready_work.specs.DependencyCounts.{count_of, is_counted}
+use Rattle.ready_work.specs.TaskSets.{AreCounted, AreSetsByCount, AreTaskSets, CanSkipByCount, HasDependencyCounts, IsCountedAt, IsStartableByCount, IsUnendedIn}
 use Rattle.ready_work.specs.declared.task_sets.TaskSets.{TaskSets}
 use Rattle.ready_work.proofs.Counting.{all_from_none, any_from_some, count_eq, none_from_all, some_from_any}
 use Rattle.ready_work.proofs.Looking.{set_moved}
 
-module _ (g : GraphView) (s : StateView) (sets : TaskSets) (fits : Fits g) (size : length s.tasks ≡ length g.tasks) (tallies : HasTallies g sets) (counted : AreCounted s NoNumber sets) where
+module _ (g : GraphView) (s : StateView) (sets : TaskSets) (fits : Fits g) (size : length s.tasks ≡ length g.tasks) (dependency_counts : HasDependencyCounts g sets) (counted : AreCounted s NoNumber sets) where
   counted_at : (k : ℕ) → k < length g.tasks → IsCountedAt s sets k
   counted_at k lt = at (counted.each k (omega (arith, size, lt)))
     where
@@ -24,10 +24,10 @@ module _ (g : GraphView) (s : StateView) (sets : TaskSets) (fits : Fits g) (size
       at (inr is) = is
 
   fallen_count : (t : ℕ) → t < length g.tasks → count_of sets.fallen t ≡ count_by (λ k. has_fallen (mark_of s (TaskOf k))) (task_of g t).after
-  fallen_count t lt = tallies.fallen.each t ∙ count_eq (is_counted sets.fallen) (λ k. has_fallen (mark_of s (TaskOf k))) (length g.tasks) (λ k low. (counted_at k low).fallen) (task_of g t).after (fits.after_within t no_task lt)
+  fallen_count t lt = dependency_counts.fallen.each t ∙ count_eq (is_counted sets.fallen) (λ k. has_fallen (mark_of s (TaskOf k))) (length g.tasks) (λ k low. (counted_at k low).fallen) (task_of g t).after (fits.after_within t no_task lt)
 
   unpassed_count : (t : ℕ) → t < length g.tasks → count_of sets.unpassed t ≡ count_by (λ k. not (has_passed (mark_of s (TaskOf k)))) (task_of g t).after
-  unpassed_count t lt = tallies.unpassed.each t ∙ count_eq (is_counted sets.unpassed) (λ k. not (has_passed (mark_of s (TaskOf k)))) (length g.tasks) (λ k low. (counted_at k low).unpassed) (task_of g t).after (fits.after_within t no_task lt)
+  unpassed_count t lt = dependency_counts.unpassed.each t ∙ count_eq (is_counted sets.unpassed) (λ k. not (has_passed (mark_of s (TaskOf k)))) (length g.tasks) (λ k low. (counted_at k low).unpassed) (task_of g t).after (fits.after_within t no_task lt)
 
   pub skip_by_count : (t : ℕ) → CanSkip g s t ↔ CanSkipByCount s sets.fallen t
   skip_by_count t = (

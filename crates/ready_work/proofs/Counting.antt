@@ -10,11 +10,11 @@ use Rattle.resource_lock.proofs.lemmas.Lists.{one_if}
 use Rattle.resource_lock.specs.Fits.{Fits}
 use Rattle.resource_lock.specs.GraphView.{GraphView, GraphTaskView, no_task, task_of}
 use Rattle.resource_lock.specs.declared.limits.TheConstants.{MAX_AFTER}
-use Rattle.task_ranks.specs.Dependents.{times}
-use Rattle.task_ranks.specs.Rank.{after, lists_of}
+use Rattle.ready_work.specs.DependentLists.{times}
+use Rattle.ready_work.specs.Rank.{after, lists_of}
 use Rattle.ready_work.specs.Dependents.{AreDependents}
-use Rattle.ready_work.specs.Tally.{count_of, is_counted, weight, CanPut, IsOfSize, IsTallyOf, PutsTally}
-use Rattle.ready_work.specs.declared.tallies.Tally.{Tally}
+use Rattle.ready_work.specs.DependencyCounts.{count_of, is_counted, weight, CanPut, IsOfSize, AreCountsOf, PutsCount}
+use Rattle.ready_work.specs.declared.dependency_counts.DependencyCounts.{DependencyCounts}
 use Rattle.ready_work.proofs.AfterLists.{all_within}
 use Rattle.ready_work.proofs.Members.{contains_more}
 use Rattle.ready_work.proofs.Places.{no_more, one_more}
@@ -59,12 +59,12 @@ lowered_next tasks old now i v lt within made is = record { size = length-set no
 pub times_before : (tasks : List ℕ) (i : ℕ) → i < length tasks → times (take i tasks) (get_or tasks i 0) + 1 ≤ times tasks (get_or tasks i 0)
 times_before tasks i lt = omega (arith, one_more tasks i (get_or tasks i 0) lt refl, sum_by-take-le (λ x. one_if (eqb x (get_or tasks i 0))) tasks (i + 1))
 
--- ---- a tally after a task was put
+-- ---- a dependency_counts after a task was put
 
-pub puts_same : (row : List ℕ) (task : ℕ) (b : Bool) (tally : Tally) → is_counted tally task ≡ b → PutsTally row task b tally tally
-puts_same row task b tally known = record { size = refl; counts_size = refl; put = known; others = λ k ne. refl; counts = λ k. ap (λ c. count_of tally k + weight c (times row k)) known }
+pub puts_same : (row : List ℕ) (task : ℕ) (b : Bool) (dependency_counts : DependencyCounts) → is_counted dependency_counts task ≡ b → PutsCount row task b dependency_counts dependency_counts
+puts_same row task b dependency_counts known = record { size = refl; counts_size = refl; put = known; others = λ k ne. refl; counts = λ k. ap (λ c. count_of dependency_counts k + weight c (times row k)) known }
 
-pub puts_risen : (row : List ℕ) (task : ℕ) (b : Bool) (old new : Tally) → task < length old.counted.items → is_counted old task ≡ false → b ≡ true → new.counted.items ≡ set old.counted.items task b → Raised row old.counts.items new.counts.items → PutsTally row task b old new
+pub puts_risen : (row : List ℕ) (task : ℕ) (b : Bool) (old new : DependencyCounts) → task < length old.counted.items → is_counted old task ≡ false → b ≡ true → new.counted.items ≡ set old.counted.items task b → Raised row old.counts.items new.counts.items → PutsCount row task b old new
 puts_risen row task b old new within was is made risen = record {
   size = ap length made ∙ length-set old.counted.items task b;
   counts_size = risen.size;
@@ -73,7 +73,7 @@ puts_risen row task b old new within was is made risen = record {
   counts = λ k. omega (arith, risen.each k, ap (λ c. weight c (times row k)) was, ap (λ c. weight c (times row k)) is);
 }
 
-pub puts_lowered : (row : List ℕ) (task : ℕ) (b : Bool) (old new : Tally) → task < length old.counted.items → is_counted old task ≡ true → b ≡ false → new.counted.items ≡ set old.counted.items task b → Lowered row old.counts.items new.counts.items → PutsTally row task b old new
+pub puts_lowered : (row : List ℕ) (task : ℕ) (b : Bool) (old new : DependencyCounts) → task < length old.counted.items → is_counted old task ≡ true → b ≡ false → new.counted.items ≡ set old.counted.items task b → Lowered row old.counts.items new.counts.items → PutsCount row task b old new
 puts_lowered row task b old new within was is made lowered = record {
   size = ap length made ∙ length-set old.counted.items task b;
   counts_size = lowered.size;
@@ -163,10 +163,10 @@ some_from_any q (x ∷ xs) any = at (or_cases (q x) (list_any q xs) any) (some_f
     at (inl e) rest = omega (arith, counted_cons q x xs, ap one_if e)
     at (inr any') rest = omega (arith, counted_cons q x xs, rest any')
 
--- ---- a tally of a graph
+-- ---- a dependency_counts of a graph
 
-pub no_tally : (g : GraphView) (tally : Tally) → ((t : ℕ) → is_counted tally t ≡ false) → ((t : ℕ) → count_of tally t ≡ 0) → IsTallyOf g tally
-no_tally g tally none zero' = record { each = λ t. zero' t ∙ sym (count_all (is_counted tally) (λ k. false) none (task_of g t).after ∙ nothing (task_of g t).after) }
+pub no_counts : (g : GraphView) (dependency_counts : DependencyCounts) → ((t : ℕ) → is_counted dependency_counts t ≡ false) → ((t : ℕ) → count_of dependency_counts t ≡ 0) → AreCountsOf g dependency_counts
+no_counts g dependency_counts none zero' = record { each = λ t. zero' t ∙ sym (count_all (is_counted dependency_counts) (λ k. false) none (task_of g t).after ∙ nothing (task_of g t).after) }
   where
     nothing : (xs : List ℕ) → count_by (λ (k : ℕ). false) xs ≡ 0
     nothing [] = refl
@@ -179,16 +179,16 @@ few_after g fits k = at (cases_lt k (length g.tasks))
     at (inl lt) = fits.few_after k no_task lt
     at (inr past) = omega (arith, ap (λ (t : GraphTaskView). length t.after) (get_or_past g.tasks k no_task past))
 
-pub can_put : (g : GraphView) (all : List (Vec ℕ Global)) (t : ℕ) (tally : Tally) → Fits g → AreDependents g all → IsOfSize (length g.tasks) tally → IsTallyOf g tally → t < length g.tasks → CanPut (after (lists_of all) t) t tally
-can_put g all t tally fits are size is lt = record {
+pub can_put : (g : GraphView) (all : List (Vec ℕ Global)) (t : ℕ) (dependency_counts : DependencyCounts) → Fits g → AreDependents g all → IsOfSize (length g.tasks) dependency_counts → AreCountsOf g dependency_counts → t < length g.tasks → CanPut (after (lists_of all) t) t dependency_counts
+can_put g all t dependency_counts fits are size is lt = record {
   within = omega (arith, size.counted, lt);
   in_range = subst (λ n. All (λ k. k < n) (after (lists_of all) t)) (sym size.counts) (all_within g all t are);
-  falls = λ counted k. omega (arith, are.as_often t k, is.each k, times_counted (is_counted tally) t counted (task_of g k).after);
-  rises = λ counted k. omega (arith, are.as_often t k, is.each k, times_uncounted (is_counted tally) t counted (task_of g k).after, few_after g fits k);
+  falls = λ counted k. omega (arith, are.as_often t k, is.each k, times_counted (is_counted dependency_counts) t counted (task_of g k).after);
+  rises = λ counted k. omega (arith, are.as_often t k, is.each k, times_uncounted (is_counted dependency_counts) t counted (task_of g k).after, few_after g fits k);
 }
 
-pub tally_put : (g : GraphView) (all : List (Vec ℕ Global)) (t : ℕ) (counted : Bool) (old new : Tally) → AreDependents g all → PutsTally (after (lists_of all) t) t counted old new → IsTallyOf g old → IsTallyOf g new
-tally_put g all t counted old new are puts is = record { each = λ k. each k (is_counted old t) counted refl refl }
+pub counts_put : (g : GraphView) (all : List (Vec ℕ Global)) (t : ℕ) (counted : Bool) (old new : DependencyCounts) → AreDependents g all → PutsCount (after (lists_of all) t) t counted old new → AreCountsOf g old → AreCountsOf g new
+counts_put g all t counted old new are puts is = record { each = λ k. each k (is_counted old t) counted refl refl }
   where
     as_before : is_counted new t ≡ is_counted old t → (k : ℕ) → (k ≡ t) ⊎ (k ≡ t → ⊥) → is_counted new k ≡ is_counted old k
     as_before at_task k (inl e) = ap (is_counted new) e ∙ at_task ∙ ap (is_counted old) (sym e)

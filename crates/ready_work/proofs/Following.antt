@@ -16,17 +16,17 @@ use Rattle.resource_lock.specs.declared.ids.WorkerId.{WorkerId}
 use Rattle.resource_lock.specs.declared.marks.Mark.TheVariants.{Waiting}
 use Rattle.resource_lock.specs.declared.marks.MarkId.TheVariants.{Task as TaskOf, Action as ActionOf, Unit as UnitOf}
 use Rattle.resource_lock.proofs.lemmas.Runs.{all_named_along, same_shape-make_all}
-use Rattle.task_ranks.specs.Rank.{after, lists_of}
+use Rattle.ready_work.specs.Rank.{after, lists_of}
 use Rattle.ready_work.specs.Choices.{CanSkip, IsFree, IsStartable, IsOpenUnit, IsUnended}
 use Rattle.ready_work.specs.Dependents.{AreDependents}
 use Rattle.ready_work.specs.ReadyWork.{Follows, IsIndexBut, IsIndexOf, Lead, Notes, TouchLock, TouchTask, TouchUnit, TouchesLock, TouchesTask, TouchesUnit}
 use Rattle.ready_work.specs.Sets.{Looks, NoNumber}
 use Rattle.ready_work.specs.TaskSets.{CanSkipByCount, IsCountedAt, IsStartableByCount, IsUnendedIn, LooksAt, MovesTasks, NotesTask}
 use Rattle.ready_work.specs.declared.ready_works.ReadyWork.{ReadyWork}
-use Rattle.ready_work.specs.declared.tallies.Tally.{Tally}
+use Rattle.ready_work.specs.declared.dependency_counts.DependencyCounts.{DependencyCounts}
 use Rattle.ready_work.specs.declared.task_sets.TaskSets.{TaskSets}
 use Rattle.ready_work.proofs.ByCount.{skip_by_count, startable_by_count, task_sets_by_count, unended_in}
-use Rattle.ready_work.proofs.Counting.{tally_put}
+use Rattle.ready_work.proofs.Counting.{counts_put}
 use Rattle.ready_work.proofs.Looking.{looks_fewer, looks_nowhere, set_looked, set_moved, set_moves}
 use Rattle.ready_work.proofs.TaskLooks.{looks_at_fewer, looks_at_nowhere, looks_move}
 
@@ -124,10 +124,10 @@ same_open : (g : GraphView) (r s : StateView) (u : ℕ) → mark_of s (UnitOf u)
 same_open g r s u same = (λ o. record { within = o.within; unended = ap has_ended same ∙ o.unended }, λ o. record { within = o.within; unended = ap has_ended (sym same) ∙ o.unended })
 
 -- a task by its counts, which are the same in both states
-same_skip : (r s : StateView) (fallen : Tally) (t : ℕ) → length s.tasks ≡ length r.tasks → mark_of s (TaskOf t) ≡ mark_of r (TaskOf t) → CanSkipByCount r fallen t → CanSkipByCount s fallen t
+same_skip : (r s : StateView) (fallen : DependencyCounts) (t : ℕ) → length s.tasks ≡ length r.tasks → mark_of s (TaskOf t) ≡ mark_of r (TaskOf t) → CanSkipByCount r fallen t → CanSkipByCount s fallen t
 same_skip r s fallen t size same p = let lt = p.within in record { within = omega (arith, lt, size); waits = same ∙ p.waits; some = p.some }
 
-same_startable : (r s : StateView) (unpassed : Tally) (t : ℕ) → length s.tasks ≡ length r.tasks → mark_of s (TaskOf t) ≡ mark_of r (TaskOf t) → IsStartableByCount r unpassed t → IsStartableByCount s unpassed t
+same_startable : (r s : StateView) (unpassed : DependencyCounts) (t : ℕ) → length s.tasks ≡ length r.tasks → mark_of s (TaskOf t) ≡ mark_of r (TaskOf t) → IsStartableByCount r unpassed t → IsStartableByCount s unpassed t
 same_startable r s unpassed t size same p = let lt = p.within in record { within = omega (arith, lt, size); waits = same ∙ p.waits; none = p.none }
 
 same_unended : (r s : StateView) (t : ℕ) → length s.tasks ≡ length r.tasks → mark_of s (TaskOf t) ≡ mark_of r (TaskOf t) → IsUnendedIn r t → IsUnendedIn s t
@@ -193,13 +193,13 @@ index_open g before w changes s ready f = record {
     size = sym spare.size ∙ f.belongs.tasks
 
     skip : (t : ℕ) → mark_of s (TaskOf t) ≡ mark_of before (TaskOf t) → CanSkip g before t ↔ CanSkipByCount s ready.tasks.fallen t
-    skip t same = both (skip_by_count g before ready.tasks f.index.made.fits size f.index.made.tallies f.index.counted t) (same_skip before s ready.tasks.fallen t spare.size same) (same_skip s before ready.tasks.fallen t (sym spare.size) (sym same))
+    skip t same = both (skip_by_count g before ready.tasks f.index.made.fits size f.index.made.dependency_counts f.index.counted t) (same_skip before s ready.tasks.fallen t spare.size same) (same_skip s before ready.tasks.fallen t (sym spare.size) (sym same))
 
     startable : (t : ℕ) → mark_of s (TaskOf t) ≡ mark_of before (TaskOf t) → IsStartable g before t ↔ IsStartableByCount s ready.tasks.unpassed t
-    startable t same = both (startable_by_count g before ready.tasks f.index.made.fits size f.index.made.tallies f.index.counted t) (same_startable before s ready.tasks.unpassed t spare.size same) (same_startable s before ready.tasks.unpassed t (sym spare.size) (sym same))
+    startable t same = both (startable_by_count g before ready.tasks f.index.made.fits size f.index.made.dependency_counts f.index.counted t) (same_startable before s ready.tasks.unpassed t spare.size same) (same_startable s before ready.tasks.unpassed t (sym spare.size) (sym same))
 
     unended : (t : ℕ) → mark_of s (TaskOf t) ≡ mark_of before (TaskOf t) → IsUnended g before t ↔ IsUnendedIn s t
-    unended t same = both (unended_in g before ready.tasks f.index.made.fits size f.index.made.tallies f.index.counted t) (same_unended before s t spare.size same) (same_unended s before t (sym spare.size) (sym same))
+    unended t same = both (unended_in g before ready.tasks f.index.made.fits size f.index.made.dependency_counts f.index.counted t) (same_unended before s t spare.size same) (same_unended s before t (sym spare.size) (sym same))
 
     counted : (t : ℕ) → NoNumber t ⊎ IsCountedAt before ready.tasks t → TouchTask changes t ⊎ (mark_of s (TaskOf t) ≡ mark_of before (TaskOf t)) → TouchTask changes t ⊎ IsCountedAt s ready.tasks t
     counted t (inl none) _ = absurd none
@@ -211,7 +211,7 @@ pub index_closed : (g : GraphView) (s : StateView) (ready : ReadyWork) → Belon
 index_closed g s ready belongs is = record {
   made = is.made;
   open_units = is.open_units;
-  tasks = task_sets_by_count g s ready.tasks is.made.fits belongs.tasks is.made.tallies is.counted is.tasks;
+  tasks = task_sets_by_count g s ready.tasks is.made.fits belongs.tasks is.made.dependency_counts is.counted is.tasks;
   counted = is.counted;
   free = is.free;
 }
@@ -252,7 +252,7 @@ next_looked g s c cs old new notes is = record {
     dependents = subst (λ all. AreDependents g all.items) (sym notes.dependents) is.made.dependents;
     units = let a = is.made.units in let b = notes.open_units.room in omega arith;
     tasks = notes.tasks.room (length g.tasks) is.made.tasks;
-    tallies = notes.tasks.tallies is.made.tallies;
+    dependency_counts = notes.tasks.dependency_counts is.made.dependency_counts;
     locks = let a = is.made.locks in let b = notes.free.room in omega arith;
     task_locks = notes.tasks.locks ∙ is.made.task_locks;
   };
@@ -288,9 +288,9 @@ noted_task g s all task old new are notes = record {
     unpassed = record { counted = notes.unpassed.size ∙ room.unpassed.counted; counts = notes.unpassed.counts_size ∙ room.unpassed.counts };
     fallen = record { counted = notes.fallen.size ∙ room.fallen.counted; counts = notes.fallen.counts_size ∙ room.fallen.counts };
   };
-  tallies = λ is. record {
-    unpassed = tally_put g all task (not (has_passed (mark_of s (TaskOf task)))) old.unpassed new.unpassed are notes.unpassed is.unpassed;
-    fallen = tally_put g all task (has_fallen (mark_of s (TaskOf task))) old.fallen new.fallen are notes.fallen is.fallen;
+  dependency_counts = λ is. record {
+    unpassed = counts_put g all task (not (has_passed (mark_of s (TaskOf task)))) old.unpassed new.unpassed are notes.unpassed is.unpassed;
+    fallen = counts_put g all task (has_fallen (mark_of s (TaskOf task))) old.fallen new.fallen are notes.fallen is.fallen;
   };
   counted = λ t e. subst (IsCountedAt s new) (sym e) (record { unpassed = notes.unpassed.put; fallen = notes.fallen.put });
   still = λ t is. still t is (cases_eq t task);

@@ -11,3 +11,10 @@ pub mod Opening
 pub mod Following
 pub mod Unowned
 pub mod Heads
+pub mod lemmas
+pub mod First
+pub mod Marking
+pub mod Ordering
+pub mod Popping
+pub mod Listed
+pub mod DependentLists

@@ -8,24 +8,24 @@ use Rattle.resource_lock.specs.StateView.{StateView, mark_of}
 use Rattle.resource_lock.specs.declared.marks.Mark.{Mark}
 use Rattle.resource_lock.specs.declared.marks.Mark.TheVariants.{Waiting}
 use Rattle.resource_lock.specs.declared.marks.MarkId.TheVariants.{Task as TaskOf}
-use Rattle.task_ranks.specs.Dependents.{times}
+use Rattle.ready_work.specs.DependentLists.{times}
 use Rattle.ready_work.specs.NumberSetView.{has}
 use Rattle.ready_work.specs.Sets.{IsSetOf, Looks, Moves, NoNumber, SameNumbers}
 use Rattle.ready_work.specs.StartableTasksView.{StartableTasksView}
-use Rattle.ready_work.specs.Tally.{count_of, is_counted, weight, IsOfSize, IsTallyOf, PutsTally}
+use Rattle.ready_work.specs.DependencyCounts.{count_of, is_counted, weight, IsOfSize, AreCountsOf, PutsCount}
 use Rattle.ready_work.specs.TaskSets.{AreEmpty, AreSetsBelow, AreSetsByCount, CanSkipByCount, HasClosedLocks, HasTaskRoom, IsSeen, IsStartableByCount, IsUnendedIn, LooksAt, MovesTasks, NotesTask}
-use Rattle.ready_work.specs.declared.tallies.Tally.{Tally}
+use Rattle.ready_work.specs.declared.dependency_counts.DependencyCounts.{DependencyCounts}
 use Rattle.ready_work.specs.declared.task_sets.TaskSets.{TaskSets}
 use Rattle.ready_work.proofs.Counting.{contains_times}
 use Rattle.ready_work.proofs.Members.{in_more, one_member}
 use Rattle.ready_work.proofs.Looking.{all_below, looks_fewer, looks_nowhere, looks_then, moves_looked, moves_seen, none_below, one_below, set_same}
 
 -- what was looked at by the same counts
-skip_of : (s : StateView) (Seen : ℕ → Type 0) (f h : Tally) (old new : TaskSets) → f ≡ h → Looks (CanSkipByCount s f) Seen old.skippable new.skippable → Looks (CanSkipByCount s h) Seen old.skippable new.skippable
-skip_of s Seen f h old new is looks = subst (λ (t : Tally). Looks (CanSkipByCount s t) Seen old.skippable new.skippable) is looks
+skip_of : (s : StateView) (Seen : ℕ → Type 0) (f h : DependencyCounts) (old new : TaskSets) → f ≡ h → Looks (CanSkipByCount s f) Seen old.skippable new.skippable → Looks (CanSkipByCount s h) Seen old.skippable new.skippable
+skip_of s Seen f h old new is looks = subst (λ (t : DependencyCounts). Looks (CanSkipByCount s t) Seen old.skippable new.skippable) is looks
 
-start_of : (s : StateView) (Seen : ℕ → Type 0) (u v : Tally) (old new : TaskSets) → u ≡ v → Looks (IsStartableByCount s u) Seen old.startable.tasks new.startable.tasks → Looks (IsStartableByCount s v) Seen old.startable.tasks new.startable.tasks
-start_of s Seen u v old new is looks = subst (λ (t : Tally). Looks (IsStartableByCount s t) Seen old.startable.tasks new.startable.tasks) is looks
+start_of : (s : StateView) (Seen : ℕ → Type 0) (u v : DependencyCounts) (old new : TaskSets) → u ≡ v → Looks (IsStartableByCount s u) Seen old.startable.tasks new.startable.tasks → Looks (IsStartableByCount s v) Seen old.startable.tasks new.startable.tasks
+start_of s Seen u v old new is looks = subst (λ (t : DependencyCounts). Looks (IsStartableByCount s t) Seen old.startable.tasks new.startable.tasks) is looks
 
 pub looks_at_nowhere : (s : StateView) (Seen : ℕ → Type 0) (sets : TaskSets) → ((k : ℕ) → Seen k → ⊥) → LooksAt s Seen sets sets
 looks_at_nowhere s Seen sets none = record {
@@ -68,13 +68,13 @@ room_after n s Seen old new looks room = record {
 
 -- ---- one task
 
-pub skip_right : (s : StateView) (fallen : Tally) (t n : ℕ) (m : Mark) (b : Bool) → t < length s.tasks → m ≡ mark_of s (TaskOf t) → n ≡ count_of fallen t → IsTrue b ↔ ((m ≡ Waiting) × (0 < n)) → (b ≡ true) ↔ CanSkipByCount s fallen t
+pub skip_right : (s : StateView) (fallen : DependencyCounts) (t n : ℕ) (m : Mark) (b : Bool) → t < length s.tasks → m ≡ mark_of s (TaskOf t) → n ≡ count_of fallen t → IsTrue b ↔ ((m ≡ Waiting) × (0 < n)) → (b ≡ true) ↔ CanSkipByCount s fallen t
 skip_right s fallen t n m b within is count means = (
   λ yes'. let p = means.0 yes' in record { within = within; waits = sym is ∙ p.0; some = omega (arith, count, p.1) },
   λ p. let some = p.some in means.1 (is ∙ p.waits, omega (arith, count, some)),
 )
 
-pub startable_right : (s : StateView) (unpassed : Tally) (t n : ℕ) (m : Mark) (b : Bool) → t < length s.tasks → m ≡ mark_of s (TaskOf t) → n ≡ count_of unpassed t → IsTrue b ↔ ((m ≡ Waiting) × (n ≡ 0)) → (b ≡ true) ↔ IsStartableByCount s unpassed t
+pub startable_right : (s : StateView) (unpassed : DependencyCounts) (t n : ℕ) (m : Mark) (b : Bool) → t < length s.tasks → m ≡ mark_of s (TaskOf t) → n ≡ count_of unpassed t → IsTrue b ↔ ((m ≡ Waiting) × (n ≡ 0)) → (b ≡ true) ↔ IsStartableByCount s unpassed t
 startable_right s unpassed t n m b within is count means = (
   λ yes'. let p = means.0 yes' in record { within = within; waits = sym is ∙ p.0; none = sym count ∙ p.1 },
   λ p. means.1 (is ∙ p.waits, count ∙ p.none),
@@ -88,11 +88,11 @@ unended_right s t m true within is ended = (λ no_end. absurd (true≢false (sym
 -- ---- a task and its dependents
 
 -- the counts come to the same for a task
-pub record SameFor (old : TaskSets) (unpassed fallen : Tally) (k : ℕ) : Type 0 where
+pub record SameFor (old : TaskSets) (unpassed fallen : DependencyCounts) (k : ℕ) : Type 0 where
   pub some : (0 < count_of old.fallen k) ↔ (0 < count_of fallen k)
   pub none : (count_of old.unpassed k ≡ 0) ↔ (count_of unpassed k ≡ 0)
 
-equal_for : (old : TaskSets) (unpassed fallen : Tally) (k : ℕ) → count_of unpassed k ≡ count_of old.unpassed k → count_of fallen k ≡ count_of old.fallen k → SameFor old unpassed fallen k
+equal_for : (old : TaskSets) (unpassed fallen : DependencyCounts) (k : ℕ) → count_of unpassed k ≡ count_of old.unpassed k → count_of fallen k ≡ count_of old.fallen k → SameFor old unpassed fallen k
 equal_for old unpassed fallen k u f = record {
   some = (λ p. omega (arith, f, p), λ p. omega (arith, f, p));
   none = (λ p. u ∙ p, λ p. sym u ∙ p);
@@ -102,18 +102,18 @@ weight_none : (b : Bool) (n : ℕ) → n ≡ 0 → weight b n ≡ 0
 weight_none true n e = e
 weight_none false n e = refl
 
-put_known : (row : List ℕ) (task k : ℕ) (b : Bool) (old new : Tally) → PutsTally row task b old new → is_counted old task ≡ b → count_of new k ≡ count_of old k
+put_known : (row : List ℕ) (task k : ℕ) (b : Bool) (old new : DependencyCounts) → PutsCount row task b old new → is_counted old task ≡ b → count_of new k ≡ count_of old k
 put_known row task k b old new puts known = omega (arith, puts.counts k, ap (λ was. weight was (times row k)) known)
 
-put_elsewhere : (row : List ℕ) (task k : ℕ) (b : Bool) (old new : Tally) → PutsTally row task b old new → times row k ≡ 0 → count_of new k ≡ count_of old k
+put_elsewhere : (row : List ℕ) (task k : ℕ) (b : Bool) (old new : DependencyCounts) → PutsCount row task b old new → times row k ≡ 0 → count_of new k ≡ count_of old k
 put_elsewhere row task k b old new puts none = omega (arith, puts.counts k, weight_none (is_counted old task) (times row k) none, weight_none b (times row k) none)
 
 -- nothing that is counted is new
-pub same_for_known : (row : List ℕ) (task : ℕ) (old : TaskSets) (unpassed fallen : Tally) (bu bf : Bool) → PutsTally row task bu old.unpassed unpassed → PutsTally row task bf old.fallen fallen → is_counted old.unpassed task ≡ bu → is_counted old.fallen task ≡ bf → (k : ℕ) → SameFor old unpassed fallen k
+pub same_for_known : (row : List ℕ) (task : ℕ) (old : TaskSets) (unpassed fallen : DependencyCounts) (bu bf : Bool) → PutsCount row task bu old.unpassed unpassed → PutsCount row task bf old.fallen fallen → is_counted old.unpassed task ≡ bu → is_counted old.fallen task ≡ bf → (k : ℕ) → SameFor old unpassed fallen k
 same_for_known row task old unpassed fallen bu bf pu pf ku kf k = equal_for old unpassed fallen k (put_known row task k bu old.unpassed unpassed pu ku) (put_known row task k bf old.fallen fallen pf kf)
 
 -- a dependent is due to be looked at, or its counts come to the same
-pub seen_or_same : (row : List ℕ) (task : ℕ) (old : TaskSets) (unpassed fallen : Tally) (bu bf each : Bool) → PutsTally row task bu old.unpassed unpassed → PutsTally row task bf old.fallen fallen → (each ≡ false → (is_counted old.fallen task ≡ bf) × (bu ≡ false)) → (k : ℕ) → IsSeen each unpassed row k ⊎ SameFor old unpassed fallen k
+pub seen_or_same : (row : List ℕ) (task : ℕ) (old : TaskSets) (unpassed fallen : DependencyCounts) (bu bf each : Bool) → PutsCount row task bu old.unpassed unpassed → PutsCount row task bf old.fallen fallen → (each ≡ false → (is_counted old.fallen task ≡ bf) × (bu ≡ false)) → (k : ℕ) → IsSeen each unpassed row k ⊎ SameFor old unpassed fallen k
 seen_or_same row task old unpassed fallen bu bf each pu pf quiet k = at (cases_eq (times row k) 0)
   where
     fewer : bu ≡ false → count_of unpassed k ≤ count_of old.unpassed k
@@ -134,7 +134,7 @@ seen_or_same row task old unpassed fallen bu bf each pu pf quiet k = at (cases_e
     at (inl none) = inr (equal_for old unpassed fallen k (put_elsewhere row task k bu old.unpassed unpassed pu none) (put_elsewhere row task k bf old.fallen fallen pf none))
     at (inr ne) = due (contains_times row k (omega (arith, ne))) (cases_Bool each) (cases_eq (count_of unpassed k) 0)
 
-pub room_put : (n : ℕ) (row : List ℕ) (task : ℕ) (old : TaskSets) (unpassed fallen : Tally) (bu bf : Bool) → PutsTally row task bu old.unpassed unpassed → PutsTally row task bf old.fallen fallen → HasTaskRoom n old → HasTaskRoom n (record old { unpassed = unpassed; fallen = fallen })
+pub room_put : (n : ℕ) (row : List ℕ) (task : ℕ) (old : TaskSets) (unpassed fallen : DependencyCounts) (bu bf : Bool) → PutsCount row task bu old.unpassed unpassed → PutsCount row task bf old.fallen fallen → HasTaskRoom n old → HasTaskRoom n (record old { unpassed = unpassed; fallen = fallen })
 room_put n row task old unpassed fallen bu bf pu pf room = record {
   skippable = room.skippable;
   startable = room.startable;
@@ -144,16 +144,16 @@ room_put n row task old unpassed fallen bu bf pu pf room = record {
 }
 
 -- the counts were put, and tasks were looked at, the task among them
-pub noted : (s : StateView) (row : List ℕ) (task : ℕ) (Seen : ℕ → Type 0) (old : TaskSets) (unpassed fallen : Tally) (new : TaskSets) → PutsTally row task (not (has_passed (mark_of s (TaskOf task)))) old.unpassed unpassed → PutsTally row task (has_fallen (mark_of s (TaskOf task))) old.fallen fallen → ((k : ℕ) → k ≡ task → Seen k) → ((k : ℕ) → Seen k ⊎ SameFor old unpassed fallen k) → LooksAt s Seen (record old { unpassed = unpassed; fallen = fallen }) new → NotesTask s row task old new
+pub noted : (s : StateView) (row : List ℕ) (task : ℕ) (Seen : ℕ → Type 0) (old : TaskSets) (unpassed fallen : DependencyCounts) (new : TaskSets) → PutsCount row task (not (has_passed (mark_of s (TaskOf task)))) old.unpassed unpassed → PutsCount row task (has_fallen (mark_of s (TaskOf task))) old.fallen fallen → ((k : ℕ) → k ≡ task → Seen k) → ((k : ℕ) → Seen k ⊎ SameFor old unpassed fallen k) → LooksAt s Seen (record old { unpassed = unpassed; fallen = fallen }) new → NotesTask s row task old new
 noted s row task Seen old unpassed fallen new pu pf into known looks = record {
-  skippable = subst (λ (t : Tally). Moves (CanSkipByCount s old.fallen) (CanSkipByCount s t) (λ k. k ≡ task) old.skippable new.skippable) (sym looks.fallen)
+  skippable = subst (λ (t : DependencyCounts). Moves (CanSkipByCount s old.fallen) (CanSkipByCount s t) (λ k. k ≡ task) old.skippable new.skippable) (sym looks.fallen)
       (moves_seen (CanSkipByCount s old.fallen) (CanSkipByCount s fallen) Seen (λ k. k ≡ task) old.skippable new.skippable into (λ k. skip_known k (known k)) looks.skippable);
-  startable = subst (λ (t : Tally). Moves (IsStartableByCount s old.unpassed) (IsStartableByCount s t) (λ k. k ≡ task) old.startable.tasks new.startable.tasks) (sym looks.unpassed)
+  startable = subst (λ (t : DependencyCounts). Moves (IsStartableByCount s old.unpassed) (IsStartableByCount s t) (λ k. k ≡ task) old.startable.tasks new.startable.tasks) (sym looks.unpassed)
       (moves_seen (IsStartableByCount s old.unpassed) (IsStartableByCount s unpassed) Seen (λ k. k ≡ task) old.startable.tasks new.startable.tasks into (λ k. start_known k (known k)) looks.startable);
   unended = moves_seen (IsUnendedIn s) (IsUnendedIn s) Seen (λ k. k ≡ task) old.unended new.unended into (λ k. inr (λ u. u, λ u. u)) looks.unended;
   locks = looks.locks;
-  unpassed = subst (PutsTally row task (not (has_passed (mark_of s (TaskOf task)))) old.unpassed) (sym looks.unpassed) pu;
-  fallen = subst (PutsTally row task (has_fallen (mark_of s (TaskOf task))) old.fallen) (sym looks.fallen) pf;
+  unpassed = subst (PutsCount row task (not (has_passed (mark_of s (TaskOf task)))) old.unpassed) (sym looks.unpassed) pu;
+  fallen = subst (PutsCount row task (has_fallen (mark_of s (TaskOf task))) old.fallen) (sym looks.fallen) pf;
 }
   where
     skip_known : (k : ℕ) → Seen k ⊎ SameFor old unpassed fallen k → Seen k ⊎ (CanSkipByCount s old.fallen k ↔ CanSkipByCount s fallen k)
@@ -171,11 +171,11 @@ noted s row task Seen old unpassed fallen new pu pf into known looks = record {
     )
 
 -- the task is looked at, and no other matters
-pub noted_alone : (s : StateView) (row : List ℕ) (task : ℕ) (old : TaskSets) (unpassed fallen : Tally) (new : TaskSets) → PutsTally row task (not (has_passed (mark_of s (TaskOf task)))) old.unpassed unpassed → PutsTally row task (has_fallen (mark_of s (TaskOf task))) old.fallen fallen → ((k : ℕ) → SameFor old unpassed fallen k) → LooksAt s (λ k. k ≡ task) (record old { unpassed = unpassed; fallen = fallen }) new → NotesTask s row task old new
+pub noted_alone : (s : StateView) (row : List ℕ) (task : ℕ) (old : TaskSets) (unpassed fallen : DependencyCounts) (new : TaskSets) → PutsCount row task (not (has_passed (mark_of s (TaskOf task)))) old.unpassed unpassed → PutsCount row task (has_fallen (mark_of s (TaskOf task))) old.fallen fallen → ((k : ℕ) → SameFor old unpassed fallen k) → LooksAt s (λ k. k ≡ task) (record old { unpassed = unpassed; fallen = fallen }) new → NotesTask s row task old new
 noted_alone s row task old unpassed fallen new pu pf same looks = noted s row task (λ k. k ≡ task) old unpassed fallen new pu pf (λ k e. e) (λ k. inr (same k)) looks
 
 -- the task is looked at, and then those of its dependents that are due
-pub noted_all : (s : StateView) (row : List ℕ) (task : ℕ) (each : Bool) (old : TaskSets) (unpassed fallen : Tally) (mid new : TaskSets) → PutsTally row task (not (has_passed (mark_of s (TaskOf task)))) old.unpassed unpassed → PutsTally row task (has_fallen (mark_of s (TaskOf task))) old.fallen fallen → ((k : ℕ) → IsSeen each unpassed row k ⊎ SameFor old unpassed fallen k) → LooksAt s (λ k. k ≡ task) (record old { unpassed = unpassed; fallen = fallen }) mid → LooksAt s (IsSeen each mid.unpassed row) mid new → NotesTask s row task old new
+pub noted_all : (s : StateView) (row : List ℕ) (task : ℕ) (each : Bool) (old : TaskSets) (unpassed fallen : DependencyCounts) (mid new : TaskSets) → PutsCount row task (not (has_passed (mark_of s (TaskOf task)))) old.unpassed unpassed → PutsCount row task (has_fallen (mark_of s (TaskOf task))) old.fallen fallen → ((k : ℕ) → IsSeen each unpassed row k ⊎ SameFor old unpassed fallen k) → LooksAt s (λ k. k ≡ task) (record old { unpassed = unpassed; fallen = fallen }) mid → LooksAt s (IsSeen each mid.unpassed row) mid new → NotesTask s row task old new
 noted_all s row task each old unpassed fallen mid new pu pf known first second =
     noted s row task (λ k. (k ≡ task) ⊎ IsSeen each unpassed row k) old unpassed fallen new pu pf (λ k e. inl e) (λ k. wider k (known k))
     (looks_at_then s (λ k. k ≡ task) (IsSeen each mid.unpassed row) (λ k. (k ≡ task) ⊎ IsSeen each unpassed row k) (record old { unpassed = unpassed; fallen = fallen }) mid new cover first second)
@@ -186,41 +186,41 @@ noted_all s row task each old unpassed fallen mid new pu pf known first second =
 
     cover : (k : ℕ) → (k ≡ task) ⊎ IsSeen each unpassed row k → (k ≡ task) ⊎ IsSeen each mid.unpassed row k
     cover k (inl e) = inl e
-    cover k (inr seen) = inr (subst (λ (t : Tally). IsSeen each t row k) (sym first.unpassed) seen)
+    cover k (inr seen) = inr (subst (λ (t : DependencyCounts). IsSeen each t row k) (sym first.unpassed) seen)
 
 -- a look moves no counts
 pub looks_move : (g : GraphView) (s : StateView) (Seen : ℕ → Type 0) (old new : TaskSets) → ((k : ℕ) → Seen k → ⊥) → LooksAt s Seen old new → MovesTasks g s Seen old new
 looks_move g s Seen old new none looks = record {
-  skippable = subst (λ (t : Tally). Moves (CanSkipByCount s old.fallen) (CanSkipByCount s t) Seen old.skippable new.skippable) (sym looks.fallen) (moves_looked (CanSkipByCount s old.fallen) Seen old.skippable new.skippable looks.skippable);
-  startable = subst (λ (t : Tally). Moves (IsStartableByCount s old.unpassed) (IsStartableByCount s t) Seen old.startable.tasks new.startable.tasks) (sym looks.unpassed) (moves_looked (IsStartableByCount s old.unpassed) Seen old.startable.tasks new.startable.tasks looks.startable);
+  skippable = subst (λ (t : DependencyCounts). Moves (CanSkipByCount s old.fallen) (CanSkipByCount s t) Seen old.skippable new.skippable) (sym looks.fallen) (moves_looked (CanSkipByCount s old.fallen) Seen old.skippable new.skippable looks.skippable);
+  startable = subst (λ (t : DependencyCounts). Moves (IsStartableByCount s old.unpassed) (IsStartableByCount s t) Seen old.startable.tasks new.startable.tasks) (sym looks.unpassed) (moves_looked (IsStartableByCount s old.unpassed) Seen old.startable.tasks new.startable.tasks looks.startable);
   unended = moves_looked (IsUnendedIn s) Seen old.unended new.unended looks.unended;
   locks = looks.locks;
   room = λ n. room_after n s Seen old new looks;
-  tallies = λ is. record { unpassed = subst (IsTallyOf g) (sym looks.unpassed) is.unpassed; fallen = subst (IsTallyOf g) (sym looks.fallen) is.fallen };
+  dependency_counts = λ is. record { unpassed = subst (AreCountsOf g) (sym looks.unpassed) is.unpassed; fallen = subst (AreCountsOf g) (sym looks.fallen) is.fallen };
   counted = λ t seen. absurd (none t seen);
-  still = λ t is. record { unpassed = ap (λ (y : Tally). is_counted y t) looks.unpassed ∙ is.unpassed; fallen = ap (λ (y : Tally). is_counted y t) looks.fallen ∙ is.fallen };
+  still = λ t is. record { unpassed = ap (λ (y : DependencyCounts). is_counted y t) looks.unpassed ∙ is.unpassed; fallen = ap (λ (y : DependencyCounts). is_counted y t) looks.fallen ∙ is.fallen };
 }
 
 -- ---- those that are due, one after another
 
 -- the one that is due was looked at
-pub seen_one : (each : Bool) (unpassed : Tally) (task k : ℕ) → IsSeen each unpassed (task ∷ []) k → k ≡ task
+pub seen_one : (each : Bool) (unpassed : DependencyCounts) (task k : ℕ) → IsSeen each unpassed (task ∷ []) k → k ≡ task
 seen_one each unpassed task k seen = one_member task k seen.listed
 
 -- it isn't due
-pub none_due : (each : Bool) (unpassed : Tally) (task : ℕ) → each ≡ false → count_of unpassed task ≢ 0 → (k : ℕ) → IsSeen each unpassed (task ∷ []) k → ⊥
+pub none_due : (each : Bool) (unpassed : DependencyCounts) (task : ℕ) → each ≡ false → count_of unpassed task ≢ 0 → (k : ℕ) → IsSeen each unpassed (task ∷ []) k → ⊥
 none_due each unpassed task e ne k seen = at (seen_one each unpassed task k seen) seen.due
   where
     at : k ≡ task → (each ≡ true) ⊎ (count_of unpassed k ≡ 0) → ⊥
     at here (inl yes') = true≢false (sym yes' ∙ e)
     at here (inr none) = ne (sym (ap (count_of unpassed) here) ∙ none)
 
-pub seen_next : (each : Bool) (unpassed now : Tally) (tasks : List ℕ) (i : ℕ) → now ≡ unpassed → i < length tasks → (k : ℕ) → IsSeen each unpassed (take (i + 1) tasks) k → IsSeen each unpassed (take i tasks) k ⊎ IsSeen each now (get_or tasks i 0 ∷ []) k
+pub seen_next : (each : Bool) (unpassed now : DependencyCounts) (tasks : List ℕ) (i : ℕ) → now ≡ unpassed → i < length tasks → (k : ℕ) → IsSeen each unpassed (take (i + 1) tasks) k → IsSeen each unpassed (take i tasks) k ⊎ IsSeen each now (get_or tasks i 0 ∷ []) k
 seen_next each unpassed now tasks i same lt k seen = at (in_more tasks i lt k seen.listed)
   where
     at : Contains (take i tasks) k ⊎ (k ≡ get_or tasks i 0) → IsSeen each unpassed (take i tasks) k ⊎ IsSeen each now (get_or tasks i 0 ∷ []) k
     at (inl c) = inl (record { listed = c; due = seen.due })
-    at (inr e) = inr (subst (λ (t : Tally). IsSeen each t (get_or tasks i 0 ∷ []) k) (sym same) (record { listed = (zero, omega arith, sym e); due = seen.due }))
+    at (inr e) = inr (subst (λ (t : DependencyCounts). IsSeen each t (get_or tasks i 0 ∷ []) k) (sym same) (record { listed = (zero, omega arith, sym e); due = seen.due }))
 
 -- ---- all tasks are looked at, one after another
 
@@ -233,7 +233,7 @@ no_task_below s sets none = record {
   same_fallen = refl;
 }
 
-pub one_task_below : (s : StateView) (n : ℕ) (unpassed fallen : Tally) (old new : TaskSets) → LooksAt s (λ k. k ≡ n) old new → AreSetsBelow s n unpassed fallen old → AreSetsBelow s (n + 1) unpassed fallen new
+pub one_task_below : (s : StateView) (n : ℕ) (unpassed fallen : DependencyCounts) (old new : TaskSets) → LooksAt s (λ k. k ≡ n) old new → AreSetsBelow s n unpassed fallen old → AreSetsBelow s (n + 1) unpassed fallen new
 one_task_below s n unpassed fallen old new looks are = record {
   skippable = one_below (CanSkipByCount s fallen) n old.skippable new.skippable (skip_of s (λ k. k ≡ n) old.fallen fallen old new are.same_fallen looks.skippable) are.skippable;
   startable = one_below (IsStartableByCount s unpassed) n old.startable.tasks new.startable.tasks (start_of s (λ k. k ≡ n) old.unpassed unpassed old new are.same_unpassed looks.startable) are.startable;
@@ -242,10 +242,10 @@ one_task_below s n unpassed fallen old new looks are = record {
   same_fallen = looks.fallen ∙ are.same_fallen;
 }
 
-pub all_tasks_below : (s : StateView) (n : ℕ) (unpassed fallen : Tally) (sets : TaskSets) → length s.tasks ≤ n → AreSetsBelow s n unpassed fallen sets → AreSetsByCount s NoNumber sets
+pub all_tasks_below : (s : StateView) (n : ℕ) (unpassed fallen : DependencyCounts) (sets : TaskSets) → length s.tasks ≤ n → AreSetsBelow s n unpassed fallen sets → AreSetsByCount s NoNumber sets
 all_tasks_below s n unpassed fallen sets all are = record {
-  skippable = subst (λ (t : Tally). IsSetOf (CanSkipByCount s t) NoNumber sets.skippable) (sym are.same_fallen) (all_below (CanSkipByCount s fallen) n sets.skippable (λ k p. let a = p.within in omega arith) are.skippable);
-  startable = subst (λ (t : Tally). IsSetOf (IsStartableByCount s t) NoNumber sets.startable.tasks) (sym are.same_unpassed) (all_below (IsStartableByCount s unpassed) n sets.startable.tasks (λ k p. let a = p.within in omega arith) are.startable);
+  skippable = subst (λ (t : DependencyCounts). IsSetOf (CanSkipByCount s t) NoNumber sets.skippable) (sym are.same_fallen) (all_below (CanSkipByCount s fallen) n sets.skippable (λ k p. let a = p.within in omega arith) are.skippable);
+  startable = subst (λ (t : DependencyCounts). IsSetOf (IsStartableByCount s t) NoNumber sets.startable.tasks) (sym are.same_unpassed) (all_below (IsStartableByCount s unpassed) n sets.startable.tasks (λ k p. let a = p.within in omega arith) are.startable);
   unended = all_below (IsUnendedIn s) n sets.unended (λ k p. let a = p.within in omega arith) are.unended;
 }
 

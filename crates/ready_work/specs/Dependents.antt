@@ -2,8 +2,8 @@
 use Rattle.std.specs.Prelude.{ℕ, ◌≡◌, ◌↔◌, List, Vec, length, Contains}
 use Rattle.std.specs.declared.alloc.Global.{Global}
 use Rattle.resource_lock.specs.GraphView.{GraphView, task_of}
-use Rattle.task_ranks.specs.Dependents.{times}
-use Rattle.task_ranks.specs.Rank.{after, lists_of}
+use Rattle.ready_work.specs.DependentLists.{times}
+use Rattle.ready_work.specs.Rank.{after, lists_of}
 
 -- among the dependents of a task stand exactly the tasks of the graph that come after it, each as often as it names the task
 pub record AreDependents (g : GraphView) (all : List (Vec ℕ Global)) : Type 0 where

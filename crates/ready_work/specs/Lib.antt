@@ -10,7 +10,11 @@ pub mod LockOrderView
 pub mod LockOrder
 pub mod StartableTasksView
 pub mod StartableTasks
-pub mod Tally
+pub mod DependencyCounts
 pub mod TaskSets
 pub mod Dependents
 pub mod ReadyWork
+pub mod Rank
+pub mod Numbering
+pub mod Search
+pub mod DependentLists

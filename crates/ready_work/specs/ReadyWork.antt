@@ -14,7 +14,7 @@ use Rattle.ready_work.specs.Choices.{IsFree, IsOpenUnit}
 use Rattle.ready_work.specs.Dependents.{AreDependents}
 use Rattle.ready_work.specs.NumberSetView.{room_of}
 use Rattle.ready_work.specs.Sets.{IsSetOf, Looks, NoNumber}
-use Rattle.ready_work.specs.TaskSets.{AreCounted, AreSetsByCount, AreTaskSets, HasTallies, HasTaskRoom, MovesTasks}
+use Rattle.ready_work.specs.TaskSets.{AreCounted, AreSetsByCount, AreTaskSets, HasDependencyCounts, HasTaskRoom, MovesTasks}
 use Rattle.ready_work.specs.declared.ready_works.ReadyWork.{ReadyWork}
 
 -- the graph fits, the dependents, the counts and the tasks' locks are its own, and there is room for its units, tasks and locks
@@ -23,7 +23,7 @@ pub record IsMadeFor (g : GraphView) (ready : ReadyWork) : Type 0 where
   pub dependents : AreDependents g ready.dependents.items
   pub units : g.units ≤ room_of ready.open_units
   pub tasks : HasTaskRoom (length g.tasks) ready.tasks
-  pub tallies : HasTallies g ready.tasks
+  pub dependency_counts : HasDependencyCounts g ready.tasks
   pub locks : g.locks ≤ room_of ready.tasks.startable.free
   pub task_locks : ready.tasks.startable.locks ≡ map (λ t. t.lock.0) g.tasks
 

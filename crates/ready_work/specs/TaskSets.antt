@@ -9,8 +9,8 @@ use Rattle.ready_work.specs.Choices.{CanSkip, IsFree, IsStartable, IsUnended}
 use Rattle.ready_work.specs.NumberSetView.{has, room_of}
 use Rattle.ready_work.specs.Sets.{IsSetBelow, IsSetOf, Looks, Moves, NoNumber}
 use Rattle.ready_work.specs.StartableTasksView.{StartableTasksView}
-use Rattle.ready_work.specs.Tally.{count_of, is_counted, IsOfSize, IsTallyOf, PutsTally}
-use Rattle.ready_work.specs.declared.tallies.Tally.{Tally}
+use Rattle.ready_work.specs.DependencyCounts.{count_of, is_counted, IsOfSize, AreCountsOf, PutsCount}
+use Rattle.ready_work.specs.declared.dependency_counts.DependencyCounts.{DependencyCounts}
 use Rattle.ready_work.specs.declared.task_sets.TaskSets.{TaskSets}
 
 -- each task has its lock, and no lock is free yet
@@ -42,13 +42,13 @@ pub record AreEmpty (sets : TaskSets) : Type 0 where
 -- ---- a task by the counts of those that it comes after
 
 -- it waits, and one that it comes after is counted
-pub record CanSkipByCount (s : StateView) (fallen : Tally) (t : ℕ) : Type 0 where
+pub record CanSkipByCount (s : StateView) (fallen : DependencyCounts) (t : ℕ) : Type 0 where
   pub within : t < length s.tasks
   pub waits : mark_of s (TaskOf t) ≡ Waiting
   pub some : 0 < count_of fallen t
 
 -- it waits, and none that it comes after is counted
-pub record IsStartableByCount (s : StateView) (unpassed : Tally) (t : ℕ) : Type 0 where
+pub record IsStartableByCount (s : StateView) (unpassed : DependencyCounts) (t : ℕ) : Type 0 where
   pub within : t < length s.tasks
   pub waits : mark_of s (TaskOf t) ≡ Waiting
   pub none : count_of unpassed t ≡ 0
@@ -68,9 +68,9 @@ pub record AreCounted (s : StateView) (Open : ℕ → Type 0) (sets : TaskSets) 
   pub each : (t : ℕ) → t < length s.tasks → Open t ⊎ IsCountedAt s sets t
 
 -- the counts are those of the graph
-pub record HasTallies (g : GraphView) (sets : TaskSets) : Type 0 where
-  pub unpassed : IsTallyOf g sets.unpassed
-  pub fallen : IsTallyOf g sets.fallen
+pub record HasDependencyCounts (g : GraphView) (sets : TaskSets) : Type 0 where
+  pub unpassed : AreCountsOf g sets.unpassed
+  pub fallen : AreCountsOf g sets.fallen
 
 -- ---- the sets
 
@@ -87,7 +87,7 @@ pub record AreSetsByCount (s : StateView) (Open : ℕ → Type 0) (sets : TaskSe
   pub unended : IsSetOf (IsUnendedIn s) Open sets.unended
 
 -- the sets are those of the state and the counts below a task, and no further
-pub record AreSetsBelow (s : StateView) (n : ℕ) (unpassed fallen : Tally) (sets : TaskSets) : Type 0 where
+pub record AreSetsBelow (s : StateView) (n : ℕ) (unpassed fallen : DependencyCounts) (sets : TaskSets) : Type 0 where
   pub skippable : IsSetBelow (CanSkipByCount s fallen) n sets.skippable
   pub startable : IsSetBelow (IsStartableByCount s unpassed) n sets.startable.tasks
   pub unended : IsSetBelow (IsUnendedIn s) n sets.unended
@@ -104,7 +104,7 @@ pub record LooksAt (s : StateView) (Seen : ℕ → Type 0) (old new : TaskSets) 
   pub fallen : new.fallen ≡ old.fallen
 
 -- the task stands in the list, where each is looked at or none that it comes after is counted
-pub record IsSeen (is_each : Bool) (unpassed : Tally) (tasks : List ℕ) (t : ℕ) : Type 0 where
+pub record IsSeen (is_each : Bool) (unpassed : DependencyCounts) (tasks : List ℕ) (t : ℕ) : Type 0 where
   pub listed : Contains tasks t
   pub due : (is_each ≡ true) ⊎ (count_of unpassed t ≡ 0)
 
@@ -113,7 +113,7 @@ pub record CountsAll (g : GraphView) (s : StateView) (n : ℕ) (old new : TaskSe
   pub same : new ≡ record old { unpassed = new.unpassed; fallen = new.fallen }
   pub unpassed : IsOfSize (length g.tasks) new.unpassed
   pub fallen : IsOfSize (length g.tasks) new.fallen
-  pub tallies : HasTallies g new
+  pub dependency_counts : HasDependencyCounts g new
   pub counted : (t : ℕ) → t < n → IsCountedAt s new t
 
 -- a task was counted by its mark, and it and those of its dependents for which that matters were looked at
@@ -122,8 +122,8 @@ pub record NotesTask (s : StateView) (dependents : List ℕ) (task : ℕ) (old n
   pub startable : Moves (IsStartableByCount s old.unpassed) (IsStartableByCount s new.unpassed) (λ k. k ≡ task) old.startable.tasks new.startable.tasks
   pub unended : Moves (IsUnendedIn s) (IsUnendedIn s) (λ k. k ≡ task) old.unended new.unended
   pub locks : new.startable.locks ≡ old.startable.locks
-  pub unpassed : PutsTally dependents task (not (has_passed (mark_of s (TaskOf task)))) old.unpassed new.unpassed
-  pub fallen : PutsTally dependents task (has_fallen (mark_of s (TaskOf task))) old.fallen new.fallen
+  pub unpassed : PutsCount dependents task (not (has_passed (mark_of s (TaskOf task)))) old.unpassed new.unpassed
+  pub fallen : PutsCount dependents task (has_fallen (mark_of s (TaskOf task))) old.fallen new.fallen
 
 -- The sets and the counts are right for the state at tasks that were seen, and stay right elsewhere.
 pub record MovesTasks (g : GraphView) (s : StateView) (Seen : ℕ → Type 0) (old new : TaskSets) : Type 0 where
@@ -132,6 +132,6 @@ pub record MovesTasks (g : GraphView) (s : StateView) (Seen : ℕ → Type 0) (o
   pub unended : Moves (IsUnendedIn s) (IsUnendedIn s) Seen old.unended new.unended
   pub locks : new.startable.locks ≡ old.startable.locks
   pub room : (n : ℕ) → HasTaskRoom n old → HasTaskRoom n new
-  pub tallies : HasTallies g old → HasTallies g new
+  pub dependency_counts : HasDependencyCounts g old → HasDependencyCounts g new
   pub counted : (t : ℕ) → Seen t → IsCountedAt s new t
   pub still : (t : ℕ) → IsCountedAt s old t → IsCountedAt s new t

@@ -1,12 +1,12 @@
 //! For each task its dependents: the tasks that come after it.
 ghost use Rattle.std.specs.Prelude.{◌≡◌, IfOk, map};
 ghost use Rattle.resource_lock.specs.Fits.{Fits};
-ghost use Rattle.task_ranks.specs.Rank.{lists_of};
+ghost use Rattle.ready_work.specs.Rank.{lists_of};
 ghost use Rattle.ready_work.specs.Dependents.{AreDependents};
 
+use crate::dependents_of;
 use resource_lock::Graph;
 use std::alloc::{AllocError, Global};
-use task_ranks::dependents_of;
 
 // For each task, the tasks that it comes after.
 fn dependencies_of(alloc: Global, graph: &Graph) -> Result<Vec<Vec<u32>>, AllocError>

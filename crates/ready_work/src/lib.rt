@@ -4,13 +4,20 @@
 
 mod bits;
 mod choices;
+mod cycles;
+mod dependency_counts;
+mod dependent_lists;
 mod dependents;
 mod lock_orders;
 mod number_sets;
+mod rank_laws;
+mod rank_search;
 mod ready_works;
 mod startable_tasks;
-mod tallies;
 mod task_sets;
 
+pub use cycles::first_cycle;
+pub use dependent_lists::{dependents_at, dependents_of};
 pub use number_sets::NumberSet;
+pub use rank_laws::{first_cycle_is_unique, ranks_give_a_numbering};
 pub use ready_works::ReadyWork;

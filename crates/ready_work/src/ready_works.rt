@@ -15,11 +15,11 @@ ghost use Rattle.ready_work.specs.TaskSets.{LooksAt, MovesTasks};
 
 use crate::choices::{closed_lock, is_free, is_open};
 use crate::dependents::all_dependents;
+use crate::dependents_at;
 use crate::number_sets::NumberSet;
 use crate::task_sets::TaskSets;
 use resource_lock::{Change, Graph, LockId, MarkId, State};
 use std::alloc::{AllocError, Global};
-use task_ranks::dependents_at;
 
 /// The tasks that can be skipped or started, and the units and tasks that haven't ended, of a graph
 /// and its state. It takes memory only when it is made.

@@ -5,17 +5,17 @@ ghost use Rattle.resource_lock.specs.Shape.{BelongsTo};
 ghost use Rattle.resource_lock.specs.declared.limits.TheConstants.{MAX_TASKS};
 ghost use Rattle.ready_work.specs.Dependents.{AreDependents};
 ghost use Rattle.ready_work.specs.Sets.{NoNumber, SameNumbers};
-ghost use Rattle.ready_work.specs.Tally.{CanPut};
+ghost use Rattle.ready_work.specs.DependencyCounts.{CanPut};
 ghost use Rattle.ready_work.specs.TaskSets.{AreCounted, AreEmpty, AreSetsByCount, AreTaskSets, CountsAll, HasClosedLocks, HasLocks};
-ghost use Rattle.ready_work.specs.TaskSets.{HasTallies, HasTaskRoom, IsSeen, LooksAt, NotesTask};
+ghost use Rattle.ready_work.specs.TaskSets.{HasDependencyCounts, HasTaskRoom, IsSeen, LooksAt, NotesTask};
 
 use crate::choices::{can_skip, is_startable};
+use crate::dependency_counts::DependencyCounts;
+use crate::dependents_at;
 use crate::number_sets::NumberSet;
 use crate::startable_tasks::StartableTasks;
-use crate::tallies::Tally;
 use resource_lock::{Graph, MarkId, State};
 use std::alloc::{AllocError, Global};
-use task_ranks::dependents_at;
 
 /// The tasks that can be started, those that can be skipped, and those that haven't ended. For
 /// each task it is counted how many of those that it comes after keep it from a start, and how
@@ -26,9 +26,9 @@ pub(crate) struct TaskSets {
     pub(crate) skippable: NumberSet,
     pub(crate) unended: NumberSet,
     /// Those that haven't passed.
-    unpassed: Tally,
+    unpassed: DependencyCounts,
     /// Those that failed or were skipped.
-    fallen: Tally,
+    fallen: DependencyCounts,
 }
 
 impl TaskSets {
@@ -43,7 +43,7 @@ impl TaskSets {
         requires dependents { AreDependents graph.now dependents.now }
         ensures sets { IfOk result (AreTaskSets graph.now state.now) }
         ensures counted { IfOk result (AreCounted state.now NoNumber) }
-        ensures tallies { IfOk result (HasTallies graph.now) }
+        ensures dependency_counts { IfOk result (HasDependencyCounts graph.now) }
         ensures room { IfOk result (HasTaskRoom (length graph.now.tasks)) }
         ensures locks { IfOk result (λ sets. HasLocks graph.now state.now sets.startable) }
         ensures fits { Fits graph.now }
@@ -57,7 +57,7 @@ impl TaskSets {
     // No task and no free lock, and nothing counted.
     fn empty(alloc: Global, graph: &Graph) -> Result<TaskSets, AllocError>
         ensures empty { IfOk result AreEmpty }
-        ensures tallies { IfOk result (HasTallies graph.now) }
+        ensures dependency_counts { IfOk result (HasDependencyCounts graph.now) }
         ensures room { IfOk result (HasTaskRoom (length graph.now.tasks)) }
         ensures locks { IfOk result (λ sets. HasClosedLocks graph.now sets.startable) }
         ensures fits { Fits graph.now }
@@ -65,8 +65,8 @@ impl TaskSets {
         let tasks = graph.tasks().len();
         let skippable = NumberSet::new(alloc, tasks as u32)?;
         let unended = NumberSet::new(alloc, tasks as u32)?;
-        let unpassed = Tally::none(alloc, tasks)?;
-        let fallen = Tally::none(alloc, tasks)?;
+        let unpassed = DependencyCounts::none(alloc, tasks)?;
+        let fallen = DependencyCounts::none(alloc, tasks)?;
         let startable = StartableTasks::closed(alloc, graph)?;
         Ok(TaskSets {
             startable,
@@ -83,7 +83,7 @@ impl TaskSets {
         requires belongs { BelongsTo graph.now state.now }
         requires dependents { AreDependents graph.now dependents.now }
         requires room { HasTaskRoom (length graph.now.tasks) self.old }
-        requires tallies { HasTallies graph.now self.old }
+        requires dependency_counts { HasDependencyCounts graph.now self.old }
         ensures { CountsAll graph.now state.now (length graph.now.tasks) self.old self.new }
     {
         for task in 0..dependents.len() {

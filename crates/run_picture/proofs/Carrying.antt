@@ -1,4 +1,4 @@
--- What a part shows is found among what the part above shows, and the spans that begin in it.
+-- What a panel shows is found among what the panel above shows, and the spans that begin in it.
 use Rattle.std.proofs.Common.{◌≡◌, ◌≤◌, ◌<◌, ℕ, ◌+◌, List, [], ◌∷◌, ◌++◌, Bool, true, false, cond, refl, sym, ap, subst, ◌∙◌, append_assoc, append-nil, arith, take, drop, length, get_or}
 use Rattle.std.specs.Prelude.{nat_lt, ◌&&◌}
 use Rattle.std.specs.List.{filter, AllByRecursion}
@@ -6,7 +6,7 @@ use Rattle.std.proofs.lemmas.Bool.{lt-ltb, le-ltb, ltb-true, ltb-false, and_from
 use Rattle.std.proofs.lemmas.List.{at_drop_more, at_drop_all, take_more}
 use Rattle.std.proofs.lemmas.List.Elements.{filter-append}
 use Rattle.run_spans.specs.declared.spans.Span.{Span}
-use Rattle.run_picture.specs.Parts.{touches, Rising, begun_before, begun_from}
+use Rattle.run_picture.specs.Panels.{touches, Rising, begun_before, begun_from}
 use Rattle.run_picture.proofs.Rising.{rising_lower}
 
 -- both together are all
@@ -37,7 +37,7 @@ pub from_rises : (n b : ℕ) (ss : List Span) → Rising n ss → Rising b (begu
 from_rises n b [] r = tt
 from_rises n b (s ∷ ss) r = from_cons (nat_lt s.from b) b s ss (begun_from b ss) refl r.1 (from_rises s.from b ss r.1)
 
--- a part shows nothing of what begins behind it
+-- a panel shows nothing of what begins behind it
 filter_out : {X : Type 0} (p : X → Bool) (x : X) (xs : List X) → p x ≡ false → filter p (x ∷ xs) ≡ filter p xs
 filter_out p x xs is = ap (λ b. cond b (x ∷ filter p xs) (filter p xs)) is
 
@@ -79,7 +79,7 @@ touched f b s is =
     let front = and_parts (nat_lt s.from b) (nat_lt f s.until) both.0 in
     record { begun = ltb-true s.from b front.0; reaches = ltb-true f s.until front.1; some = ltb-true s.from s.until both.1 }
 
--- what the part below shows would be shown by one that begins above
+-- what the panel below shows would be shown by one that begins above
 begins_above : (f b c : ℕ) (ss : List Span) → f ≤ b → AllByRecursion (λ (s : Span). touches b c s ≡ true → touches f c s ≡ true) ss
 begins_above f b c [] less = tt
 begins_above f b c (s ∷ ss) less = (λ is. let t = touched b c s is in touching f c s t.begun (omega (arith, less, t.reaches)) t.some, begins_above f b c ss less)
@@ -105,7 +105,7 @@ before_both : (b : ℕ) (xs ys : List Span) → AllBefore b xs → AllBefore b y
 before_both b [] ys all more = more
 before_both b (x ∷ xs) ys all more = (all.0, before_both b xs ys all.1 more)
 
--- What parts from an entry on show is found among some spans that begin before it, and the rest.
+-- What panels from an entry on show is found among some spans that begin before it, and the rest.
 pub record Carries (spans : List Span) (first : ℕ) (before rest : List Span) : Type 0 where
   pub same : (b : ℕ) → filter (touches first b) (before ++ rest) ≡ filter (touches first b) spans
   pub begun : AllByRecursion (λ (s : Span). s.from < first) before
@@ -115,12 +115,12 @@ pub carries_all : (spans : List Span) → Rising 1 spans → Carries spans 1 [] 
 carries_all spans r = record { same = λ b. refl; begun = tt; rising = r }
 
 -- all that is left is what begins before an entry, and what doesn't
-parts_of_rest : (b : ℕ) (before rest : List Span) → before ++ rest ≡ (before ++ begun_before b rest) ++ begun_from b rest
-parts_of_rest b before rest = ap (λ l. before ++ l) (parted b rest) ∙ sym (append_assoc before (begun_before b rest) (begun_from b rest))
+panels_of_rest : (b : ℕ) (before rest : List Span) → before ++ rest ≡ (before ++ begun_before b rest) ++ begun_from b rest
+panels_of_rest b before rest = ap (λ l. before ++ l) (parted b rest) ∙ sym (append_assoc before (begun_before b rest) (begun_from b rest))
 
 found_in : (f b : ℕ) (before rest : List Span) → Rising f rest → filter (touches f b) (before ++ rest) ≡ filter (touches f b) (before ++ begun_before b rest)
 found_in f b before rest r =
-    ap (filter (touches f b)) (parts_of_rest b before rest)
+    ap (filter (touches f b)) (panels_of_rest b before rest)
     ∙ (filter-append (touches f b) (before ++ begun_before b rest) (begun_from b rest)
     ∙ (ap (λ l. filter (touches f b) (before ++ begun_before b rest) ++ l) (none_shown f b (begun_from b rest) (from_rises f b rest r))
     ∙ append-nil (filter (touches f b) (before ++ begun_before b rest))))
@@ -138,7 +138,7 @@ carries_on {spans} {before} {rest} {first} b less c = record {
       (within (touches first b) (touches b e) (before ++ begun_before b rest)
       (shown_above first b e (before ++ begun_before b rest) less (before_both b before (begun_before b rest) (before_more first b before less c.begun) (all_before b rest))))
       ∙ (sym (filter-append (touches b e) (before ++ begun_before b rest) (begun_from b rest))
-      ∙ (sym (ap (filter (touches b e)) (parts_of_rest b before rest))
+      ∙ (sym (ap (filter (touches b e)) (panels_of_rest b before rest))
       ∙ (sym (within (touches first e) (touches b e) (before ++ rest) (begins_above first b e (before ++ rest) less))
       ∙ (ap (filter (touches b e)) (c.same e)
       ∙ within (touches first e) (touches b e) spans (begins_above first b e spans less))))));

@@ -5,33 +5,33 @@ use Rattle.std.proofs.lemmas.Fmt.{decimal_injective}
 use Rattle.std.proofs.lemmas.List.{append_cancel_left}
 use Rattle.history_text.specs.Text.{locks_text, parallel_text}
 use Rattle.history_text.specs.Fitting.{HeadFits}
-use Rattle.history_reader.specs.HistoryView.{HistoryView}
-use Rattle.history_reader.specs.Grammar.{HistoryFits}
+use Rattle.history_text.specs.HistoryView.{HistoryView}
+use Rattle.history_text.specs.Grammar.{HistoryFits}
 use Rattle.run_spans.specs.Levels.{levels_of, nothing_out}
 use Rattle.run_spans.specs.Spans.{spans_of}
-use Rattle.run_picture.specs.Heads.{opening_text, desc_text, title_text, second_text}
-use Rattle.run_picture.specs.Laws.{frame_at}
-use Rattle.run_picture.specs.Parts.{height_of}
-use Rattle.run_picture.specs.Picture.{head_text, style_text, legend_text, parts_text, ticks_of, parts_in, picture_text, totals_of, whole_text}
-use Rattle.run_picture.specs.declared.frames.Frame.{Frame}
+use Rattle.run_picture.specs.Header.{opening_text, desc_text, title_text, second_text}
+use Rattle.run_picture.specs.Laws.{layout_at}
+use Rattle.run_picture.specs.Panels.{height_of}
+use Rattle.run_picture.specs.Picture.{head_text, style_text, legend_text, panels_text, ticks_of, width_of, plot_in, panels_in, picture_text, totals_of, whole_text}
+use Rattle.run_picture.specs.declared.layout.Layout.{Layout}
 use Rattle.run_picture.proofs.Marked.{calm, calm_both, calm_ticks, last_mark}
 use Rattle.run_picture.proofs.Telling.{foot, ticks_by, same_number, same_ticks}
 use Rattle.run_picture.proofs.Ticking.{all_ticks}
 
 -- the whole run, where it is drawn
 abbrev whole_in : HistoryView → List ℕ
-whole_in h = whole_text h (levels_of nothing_out h.entries) (spans_of h.entries) (parts_in h)
+whole_in h = whole_text h (levels_of nothing_out h.entries) (spans_of h.entries) (panels_in h)
 
 -- what stands above the ticks
 unfoldable above : HistoryView → List ℕ
-above h = head_text h (height_of (parts_in h)) (totals_of h (levels_of nothing_out h.entries) (spans_of h.entries))
-    ++ whole_in h ++ parts_text h (levels_of nothing_out h.entries) (parts_in h)
+above h = head_text h (plot_in h) (height_of (panels_in h)) (totals_of h (levels_of nothing_out h.entries) (spans_of h.entries))
+    ++ whole_in h ++ panels_text h (levels_of nothing_out h.entries) (panels_in h)
 
-no_frame : Frame
-no_frame = record { first = 0; behind = 0; per = 0; top = 0; workers = 0; locks = 0 }
+no_layout : Layout
+no_layout = record { first = 0; behind = 0; per = 0; top = 0; workers = 0; locks = 0; lanes = 0 }
 
 abbrev ticks_in : HistoryView → List ℕ
-ticks_in h = ticks_by (λ n. frame_at no_frame (parts_in h) n) 1 h.entries
+ticks_in h = ticks_by (λ n. layout_at no_layout (panels_in h) n) 1 h.entries
 
 nested_ticks : (a g t f : List ℕ) → a ++ g ++ t ++ f ≡ a ++ (g ++ (t ++ f))
 nested_ticks a g t f = simp append_assoc
@@ -39,34 +39,42 @@ nested_ticks a g t f = simp append_assoc
 picture_form : (h : HistoryView) → picture_text h ≡ above h ++ (codes "<g>\n" ++ (ticks_in h ++ foot))
 unfolding above
 picture_form h =
-    let ticks : flat_map (ticks_of h) (parts_in h) ≡ ticks_in h = all_ticks h no_frame in
-    nested_ticks (above h) (codes "<g>\n") (flat_map (ticks_of h) (parts_in h)) foot ∙ ap (λ l. above h ++ (codes "<g>\n" ++ (l ++ foot))) ticks
+    let ticks : flat_map (ticks_of h) (panels_in h) ≡ ticks_in h = all_ticks h no_layout in
+    nested_ticks (above h) (codes "<g>\n") (flat_map (ticks_of h) (panels_in h)) foot ∙ ap (λ l. above h ++ (codes "<g>\n" ++ (l ++ foot))) ticks
 
 calm_foot : (h : HistoryView) → calm (ticks_in h ++ foot) ≡ true
-calm_foot h = calm_both (ticks_in h) foot (calm_ticks (λ n. frame_at no_frame (parts_in h) n) 1 h.entries) refl
+calm_foot h = calm_both (ticks_in h) foot (calm_ticks (λ n. layout_at no_layout (panels_in h) n) 1 h.entries) refl
 
 same_entries : (h k : HistoryView) → HistoryFits h → HistoryFits k → picture_text h ≡ picture_text k → h.entries ≡ k.entries
 same_entries h k a b is =
-    same_ticks (λ n. frame_at no_frame (parts_in h) n) (λ n. frame_at no_frame (parts_in k) n) 1 h.entries k.entries a.entries b.entries
+    same_ticks (λ n. layout_at no_layout (panels_in h) n) (λ n. layout_at no_layout (panels_in k) n) 1 h.entries k.entries a.entries b.entries
     (last_mark (above h) (above k) (ticks_in h ++ foot) (ticks_in k ++ foot) (calm_foot h) (calm_foot k) (sym (picture_form h) ∙ (is ∙ picture_form k)))
 
 -- the settings stand in front
-nested_opening : (a b c d e h r : List ℕ) → (a ++ h) ++ (b ++ h) ++ c ++ (d ++ h) ++ e ++ r ≡ a ++ (h ++ (b ++ (h ++ (c ++ (d ++ (h ++ (e ++ r)))))))
-nested_opening a b c d e h r = simp append_assoc
+nested_opening : (a b c d e f k x h r : List ℕ) → ((a ++ x) ++ (b ++ h)) ++ ((c ++ x) ++ (d ++ h)) ++ e ++ ((f ++ x) ++ (d ++ h)) ++ k ++ r
+    ≡ a ++ (x ++ (b ++ (h ++ (c ++ (x ++ (d ++ (h ++ (e ++ (f ++ (x ++ (d ++ (h ++ (k ++ r)))))))))))))
+nested_opening a b c d e f k x h r = simp append_assoc
 
-opening_form : (height : ℕ) (r : List ℕ) → opening_text height ++ r
-    ≡ codes "<svg xmlns=\"http://www.w3.org/2000/svg\" viewBox=\"0 0 1280 " ++ (decimal height ++ (codes "\" width=\"1280\" height=\"" ++ (decimal height
-    ++ (codes "\" font-family=\"DejaVu Sans, Verdana, Arial, sans-serif\">\n<rect class=\"z\" width=\"1280\" height=\"" ++ (decimal height ++ (codes "\"/>\n" ++ r))))))
+opening_form : (width height : ℕ) (r : List ℕ) → opening_text width height ++ r
+    ≡ codes "<svg xmlns=\"http://www.w3.org/2000/svg\" viewBox=\"0 0 " ++ (decimal width ++ (codes " " ++ (decimal height
+    ++ (codes "\" width=\"" ++ (decimal width ++ (codes "\" height=\"" ++ (decimal height
+    ++ (codes "\" font-family=\"DejaVu Sans, Verdana, Arial, sans-serif\">\n" ++ (codes "<rect class=\"z\" width=\"" ++ (decimal width
+    ++ (codes "\" height=\"" ++ (decimal height ++ (codes "\"/>\n" ++ r)))))))))))))
 unfolding opening_text
-opening_form height r = nested_opening (codes "<svg xmlns=\"http://www.w3.org/2000/svg\" viewBox=\"0 0 1280 ") (codes "\" width=\"1280\" height=\"")
-    (codes "\" font-family=\"DejaVu Sans, Verdana, Arial, sans-serif\">\n") (codes "<rect class=\"z\" width=\"1280\" height=\"") (codes "\"/>\n") (decimal height) r
+opening_form width height r =
+    nested_opening (codes "<svg xmlns=\"http://www.w3.org/2000/svg\" viewBox=\"0 0 ") (codes " ") (codes "\" width=\"") (codes "\" height=\"")
+    (codes "\" font-family=\"DejaVu Sans, Verdana, Arial, sans-serif\">\n") (codes "<rect class=\"z\" width=\"") (codes "\"/>\n") (decimal width) (decimal height) r
 
-same_opening : (m n : ℕ) (r s : List ℕ) → opening_text m ++ r ≡ opening_text n ++ s → r ≡ s
-same_opening m n r s is =
-    let a = same_number m n _ _ refl refl (append_cancel_left (codes "<svg xmlns=\"http://www.w3.org/2000/svg\" viewBox=\"0 0 1280 ") _ _ (sym (opening_form m r) ∙ (is ∙ opening_form n s))) in
-    let b = same_number m n _ _ refl refl (append_cancel_left (codes "\" width=\"1280\" height=\"") _ _ a.rest) in
-    let c = same_number m n _ _ refl refl (append_cancel_left (codes "<rect class=\"z\" width=\"1280\" height=\"") _ _ (append_cancel_left (codes "\" font-family=\"DejaVu Sans, Verdana, Arial, sans-serif\">\n") _ _ b.rest)) in
-    append_cancel_left (codes "\"/>\n") _ _ c.rest
+same_opening : (v w m n : ℕ) (r s : List ℕ) → opening_text v m ++ r ≡ opening_text w n ++ s → r ≡ s
+same_opening v w m n r s is =
+    let a = same_number v w _ _ refl refl (append_cancel_left (codes "<svg xmlns=\"http://www.w3.org/2000/svg\" viewBox=\"0 0 ") _ _ (sym (opening_form v m r) ∙ (is ∙ opening_form w n s))) in
+    let b = same_number m n _ _ refl refl (append_cancel_left (codes " ") _ _ a.rest) in
+    let c = same_number v w _ _ refl refl (append_cancel_left (codes "\" width=\"") _ _ b.rest) in
+    let d = same_number m n _ _ refl refl (append_cancel_left (codes "\" height=\"") _ _ c.rest) in
+    let font = append_cancel_left (codes "\" font-family=\"DejaVu Sans, Verdana, Arial, sans-serif\">\n") _ _ d.rest in
+    let e = same_number v w _ _ refl refl (append_cancel_left (codes "<rect class=\"z\" width=\"") _ _ font) in
+    let f = same_number m n _ _ refl refl (append_cancel_left (codes "\" height=\"") _ _ e.rest) in
+    append_cancel_left (codes "\"/>\n") _ _ f.rest
 
 nested_desc : (a w b m c p k d r : List ℕ) → (a ++ w) ++ (b ++ m) ++ c ++ p ++ k ++ d ++ r ≡ a ++ (w ++ (b ++ (m ++ (c ++ (p ++ (k ++ (d ++ r)))))))
 nested_desc a w b m c p k d r = simp append_assoc
@@ -116,22 +124,22 @@ same_desc w v m n p q l k r s a b is =
 unfoldable behind_of : HistoryView → List ℕ
 behind_of h =
     style_text ++ (title_text h.workers h.max (length h.entries) ++ (second_text (totals_of h (levels_of nothing_out h.entries) (spans_of h.entries)) ++ (legend_text
-    ++ (whole_in h ++ (parts_text h (levels_of nothing_out h.entries) (parts_in h) ++ (codes "<g>\n" ++ (flat_map (ticks_of h) (parts_in h) ++ foot)))))))
+    ++ (whole_in h ++ (panels_text h (levels_of nothing_out h.entries) (panels_in h) ++ (codes "<g>\n" ++ (flat_map (ticks_of h) (panels_in h) ++ foot)))))))
 
 nested_front : (a b c d e f w g h i j : List ℕ) → (a ++ b ++ c ++ d ++ e ++ f) ++ w ++ g ++ h ++ i ++ j ≡ a ++ (b ++ (c ++ (d ++ (e ++ (f ++ (w ++ (g ++ (h ++ (i ++ j)))))))))
 nested_front a b c d e f w g h i j = simp append_assoc
 
-front_form : (h : HistoryView) → picture_text h ≡ opening_text (height_of (parts_in h)) ++ (desc_text h.workers h.max h.parallel h.locks ++ behind_of h)
+front_form : (h : HistoryView) → picture_text h ≡ opening_text (width_of (plot_in h)) (height_of (panels_in h)) ++ (desc_text h.workers h.max h.parallel h.locks ++ behind_of h)
 unfolding head_text behind_of
 front_form h =
-    nested_front (opening_text (height_of (parts_in h))) (desc_text h.workers h.max h.parallel h.locks) style_text (title_text h.workers h.max (length h.entries))
-    (second_text (totals_of h (levels_of nothing_out h.entries) (spans_of h.entries))) legend_text (whole_in h) (parts_text h (levels_of nothing_out h.entries) (parts_in h))
-    (codes "<g>\n") (flat_map (ticks_of h) (parts_in h)) foot
+    nested_front (opening_text (width_of (plot_in h)) (height_of (panels_in h))) (desc_text h.workers h.max h.parallel h.locks) style_text (title_text h.workers h.max (length h.entries))
+    (second_text (totals_of h (levels_of nothing_out h.entries) (spans_of h.entries))) legend_text (whole_in h) (panels_text h (levels_of nothing_out h.entries) (panels_in h))
+    (codes "<g>\n") (flat_map (ticks_of h) (panels_in h)) foot
 
 same_settings : (h k : HistoryView) → HistoryFits h → HistoryFits k → picture_text h ≡ picture_text k → SameSettings h.workers k.workers h.max k.max h.parallel k.parallel h.locks k.locks
 same_settings h k a b is =
     same_desc h.workers k.workers h.max k.max h.parallel k.parallel h.locks k.locks (behind_of h) (behind_of k) a.head b.head
-    (same_opening (height_of (parts_in h)) (height_of (parts_in k)) _ _ (sym (front_form h) ∙ (is ∙ front_form k)))
+    (same_opening (width_of (plot_in h)) (width_of (plot_in k)) (height_of (panels_in h)) (height_of (panels_in k)) _ _ (sym (front_form h) ∙ (is ∙ front_form k)))
 
 history_is : (h k : HistoryView) → SameSettings h.workers k.workers h.max k.max h.parallel k.parallel h.locks k.locks → h.entries ≡ k.entries → h ≡ k
 history_is h k same es =

@@ -1,6 +1,8 @@
 pub mod Next
 pub mod Counts
-pub mod Numbers
+pub mod Placed
+pub mod Straying
+pub mod Viewed
 pub mod Ranges
 pub mod Below
 pub mod Levels

@@ -10,7 +10,7 @@ use Rattle.history_text.specs.Text.{numbered}
 use Rattle.run_picture.specs.Laws.{is_plain, all_plain}
 use Rattle.run_picture.specs.Shapes.{area_text, rect_begin}
 use Rattle.run_picture.specs.Ticks.{line_of, line_title, tick_area, tick_bar, skip_area, skip_bar, skip_where, cross_at, cross_text, more_marks, marks_of}
-use Rattle.run_picture.specs.declared.frames.Frame.{Frame}
+use Rattle.run_picture.specs.declared.layout.Layout.{Layout}
 use Rattle.run_picture.specs.declared.shapes.Area.{Area}
 use Rattle.run_picture.proofs.Plain.{number_plain, line_plain}
 
@@ -85,7 +85,7 @@ calm_skip a n w t =
     (calm_both (begin ++ task) worker (calm_both begin task (calm_begin (codes "n") a refl) (calm_number (codes "><title>task ") t refl)) (calm_number (codes " is skipped by w") w refl))
     (calm_number (codes ", entry ") n refl)) refl
 
-calm_skip_where : (f : Frame) (n w : ℕ) (k : Kind) → calm (skip_where f n w k) ≡ true
+calm_skip_where : (f : Layout) (n w : ℕ) (k : Kind) → calm (skip_where f n w k) ≡ true
 calm_skip_where f n w (kinds.Skip t) = calm_skip (skip_area f n w) n w t
 calm_skip_where f n w (kinds.Start t) = refl
 calm_skip_where f n w (kinds.End t) = refl
@@ -99,21 +99,21 @@ calm_skip_where f n w (kinds.Unblock d) = refl
 calm_skip_where f n w kinds.Acquire = refl
 calm_skip_where f n w kinds.HandBack = refl
 
-calm_cross_text : (f : Frame) (n : ℕ) (e : Entry) → calm (cross_text f n e) ≡ true
+calm_cross_text : (f : Layout) (n : ℕ) (e : Entry) → calm (cross_text f n e) ≡ true
 unfolding cross_text
 calm_cross_text f n e = calm_cross _ _ n e
 
-calm_more : (f : Frame) (n : ℕ) (e : Entry) → calm (more_marks f n e) ≡ true
+calm_more : (f : Layout) (n : ℕ) (e : Entry) → calm (more_marks f n e) ≡ true
 calm_more f n e = at (is_some e.changes)
   where
     at : (b : Bool) → calm (cond b (skip_where f n e.worker.0 e.kind) (cross_text f n e)) ≡ true
     at true = calm_skip_where f n e.worker.0 e.kind
     at false = calm_cross_text f n e
 
-calm_marks : (f : Frame) (n : ℕ) (e : Entry) → calm (marks_of f n e) ≡ true
+calm_marks : (f : Layout) (n : ℕ) (e : Entry) → calm (marks_of f n e) ≡ true
 calm_marks f n e = calm_both (tick_bar (tick_area f n e.worker.0) n e) (more_marks f n e) (calm_tick (tick_area f n e.worker.0) n e) (calm_more f n e)
 
-pub calm_ticks : (f : ℕ → Frame) (n : ℕ) (es : List Entry) → calm (numbered (λ m e. marks_of (f m) m e) n es) ≡ true
+pub calm_ticks : (f : ℕ → Layout) (n : ℕ) (es : List Entry) → calm (numbered (λ m e. marks_of (f m) m e) n es) ≡ true
 calm_ticks f n [] = refl
 calm_ticks f n (e ∷ es) = calm_both (marks_of (f n) n e) (numbered (λ m x. marks_of (f m) m x) (n + 1) es) (calm_marks (f n) n e) (calm_ticks f (n + 1) es)
 

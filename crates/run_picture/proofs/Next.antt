@@ -9,7 +9,7 @@ use Rattle.file_access.specs.PageView.{PageView, Adds}
 use Rattle.file_access.proofs.lemmas.Telling.{adds_as, adds_then}
 use Rattle.history_text.specs.Text.{numbered}
 use Rattle.run_picture.specs.Picture.{within}
-use Rattle.run_picture.specs.declared.frames.Frame.{Frame}
+use Rattle.run_picture.specs.declared.layout.Layout.{Layout}
 use Rattle.history_text.proofs.lemmas.Numbering.{adds_next, slice_get_through, take_next}
 
 pub adds_read : {X : Type 0} {a b c : SinkView} {p q r : PageView} (line : ℕ → X → List ℕ) (n : ℕ) (xs : List X) (i m : ℕ) (x : X) → m ≡ n + i → i < length xs → x ≡ get_or xs i x
@@ -31,8 +31,8 @@ pub adds_mapped : {X Y : Type 0} {a b c : SinkView} {p q r : PageView} (view : X
 adds_mapped view f xs i x within is before one =
     adds_as (sym (flat_map_next f (map view xs) i (view x) (slice_get_through view xs i x (slice_get_read xs (length xs) i x refl within is)))) (adds_then before one)
 
--- those of a part, of what the members stand for
-pub within_viewed : {X Y : Type 0} (view : X → Y) (f : Frame) (xs : List X) → map view (within f xs) ≡ within f (map view xs)
+-- those of a panel, of what the members stand for
+pub within_viewed : {X Y : Type 0} (view : X → Y) (f : Layout) (xs : List X) → map view (within f xs) ≡ within f (map view xs)
 within_viewed view f xs = sym (take-map view (f.behind - f.first) (drop (f.first - 1) xs)) ∙ ap (take (f.behind - f.first)) (sym (drop-map view (f.first - 1) xs))
 
 pub adds_at : {X : Type 0} {a b c : SinkView} {p q r : PageView} (f : X → List ℕ) (xs : List X) (i : ℕ) (x : X) → slice_get xs i ≡ Some x

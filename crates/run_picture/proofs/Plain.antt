@@ -6,8 +6,8 @@ use Rattle.std.proofs.lemmas.Bool.{and_from, ne_eqb, le-leb, ltb-true}
 use Rattle.std.proofs.lemmas.List.Folds.{list_all-append}
 use Rattle.lock_transforms.specs.Entry.{Entry}
 use Rattle.history_text.specs.Text.{mark_text, id_text, change_text, further_text, effect_text, hex_text, outcome_text, closed_text, kind_text}
-use Rattle.history_reader.specs.Plain.{MarkId, TaskOf, ActionOf, UnitOf, Mark, Waiting, Queued, Running, Passed, Failed, Skipped, Change, Lock, Unlock, Take, Give, Move, Park, Unpark, Enter, Leave, Outcome, Number, Digest, NotThere, TooLong, Fault, NoMemory, NotRun, Closed, Kind, Start, Skip, Submit, ParkFor, Resume, Claim, Close, Block, Unblock, End, Acquire, HandBack}
-use Rattle.history_reader.proofs.lemmas.Spelled.{decimal_passes}
+use Rattle.history_text.specs.Plain.{MarkId, TaskOf, ActionOf, UnitOf, Mark, Waiting, Queued, Running, Passed, Failed, Skipped, Change, Lock, Unlock, Take, Give, Move, Park, Unpark, Enter, Leave, Outcome, Number, Digest, NotThere, TooLong, Fault, NoMemory, NotRun, Closed, Kind, Start, Skip, Submit, ParkFor, Resume, Claim, Close, Block, Unblock, End, Acquire, HandBack}
+use Rattle.history_text.proofs.lemmas.Spelled.{decimal_passes}
 use Rattle.run_picture.specs.Laws.{is_plain, all_plain}
 use Rattle.run_picture.specs.Ticks.{line_of}
 

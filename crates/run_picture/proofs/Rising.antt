@@ -8,7 +8,7 @@ use Rattle.run_spans.specs.Spans.{spans_in, spans_of, span_with, first_saying, s
 use Rattle.run_spans.specs.Steps.{Step, steps_of, steps_from, changes_in}
 use Rattle.run_spans.specs.Subjects.{begins}
 use Rattle.run_spans.specs.declared.spans.Span.{Span}
-use Rattle.run_picture.specs.Parts.{Rising}
+use Rattle.run_picture.specs.Panels.{Rising}
 
 pub rising_lower : (m n : ℕ) (ss : List Span) → m ≤ n → Rising n ss → Rising m ss
 rising_lower m n [] less r = tt

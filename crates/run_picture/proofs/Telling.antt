@@ -9,13 +9,13 @@ use Rattle.lock_transforms.specs.declared.entries.Kind.{Kind}
 use Rattle.lock_transforms.specs.declared.entries.Kind.TheVariants as kinds
 use Rattle.history_text.specs.Text.{entry_text, numbered, kind_text, effect_text}
 use Rattle.history_text.specs.Fitting.{EntryFits}
-use Rattle.history_reader.specs.Reading.{is_digit, entry_at}
-use Rattle.history_reader.proofs.lemmas.Spelled.{decimal_passes, entry_read_back}
-use Rattle.history_reader.proofs.lemmas.Splits.{SameParts}
+use Rattle.history_text.specs.Reading.{is_digit, entry_at}
+use Rattle.history_text.proofs.lemmas.Spelled.{decimal_passes, entry_read_back}
+use Rattle.history_text.proofs.lemmas.Splits.{SameParts}
 use Rattle.run_picture.specs.Laws.{is_plain}
 use Rattle.run_picture.specs.Shapes.{area_text}
 use Rattle.run_picture.specs.Ticks.{line_of, tick_area, skip_area, skip_bar, skip_where, cross_at, cross_text, more_marks, marks_of}
-use Rattle.run_picture.specs.declared.frames.Frame.{Frame}
+use Rattle.run_picture.specs.declared.layout.Layout.{Layout}
 use Rattle.run_picture.specs.declared.shapes.Area.{Area}
 use Rattle.run_picture.proofs.Plain.{line_plain}
 
@@ -95,7 +95,7 @@ same_cross x y v z n e r s is =
     let line = append_cancel_left (codes "><title>") _ _ (append_cancel_left (codes "l6 6m0-6l-6 6\"") _ _ down.rest) in
     append_cancel_left (codes "</path>\n") _ _ (append_cancel_left (codes "</title>") _ _ (append_cancel_left (line_of n e) _ _ line))
 
-same_skip_where : (f g : Frame) (n w : ℕ) (k : Kind) (r s : List ℕ) → skip_where f n w k ++ r ≡ skip_where g n w k ++ s → r ≡ s
+same_skip_where : (f g : Layout) (n w : ℕ) (k : Kind) (r s : List ℕ) → skip_where f n w k ++ r ≡ skip_where g n w k ++ s → r ≡ s
 same_skip_where f g n w (kinds.Skip t) r s e = same_skip (skip_area f n w) (skip_area g n w) n w t r s e
 same_skip_where f g n w (kinds.Start t) r s e = e
 same_skip_where f g n w (kinds.End t) r s e = e
@@ -109,11 +109,11 @@ same_skip_where f g n w (kinds.Unblock d) r s e = e
 same_skip_where f g n w kinds.Acquire r s e = e
 same_skip_where f g n w kinds.HandBack r s e = e
 
-same_cross_text : (f g : Frame) (n : ℕ) (e : Entry) (r s : List ℕ) → cross_text f n e ++ r ≡ cross_text g n e ++ s → r ≡ s
+same_cross_text : (f g : Layout) (n : ℕ) (e : Entry) (r s : List ℕ) → cross_text f n e ++ r ≡ cross_text g n e ++ s → r ≡ s
 unfolding cross_text
 same_cross_text f g n e r s is = same_cross _ _ _ _ n e r s is
 
-same_more : (f g : Frame) (n : ℕ) (e : Entry) (r s : List ℕ) → more_marks f n e ++ r ≡ more_marks g n e ++ s → r ≡ s
+same_more : (f g : Layout) (n : ℕ) (e : Entry) (r s : List ℕ) → more_marks f n e ++ r ≡ more_marks g n e ++ s → r ≡ s
 same_more f g n e r s is = at (is_some e.changes) is
   where
     at : (b : Bool) → cond b (skip_where f n e.worker.0 e.kind) (cross_text f n e) ++ r ≡ cond b (skip_where g n e.worker.0 e.kind) (cross_text g n e) ++ s → r ≡ s
@@ -131,7 +131,7 @@ line_form n e = nested_line (decimal n) (codes " w") (decimal e.worker.0) (codes
 nested_marks : (a b c d e f g r : List ℕ) → a ++ b ++ (c ++ d ++ e) ++ f ++ g ++ r ≡ a ++ (b ++ (c ++ (d ++ (e ++ (f ++ (g ++ r))))))
 nested_marks a b c d e f g r = simp append_assoc
 
-marks_form : (f : Frame) (n : ℕ) (e : Entry) (r : List ℕ) → marks_of f n e ++ r
+marks_form : (f : Layout) (n : ℕ) (e : Entry) (r : List ℕ) → marks_of f n e ++ r
     ≡ (codes "<rect class=\"" ++ codes "t") ++ (area_text (tick_area f n e.worker.0) ++ (codes "><title>" ++ (line_of n e ++ (codes "</title>" ++ (codes "</rect>\n" ++ (more_marks f n e ++ r))))))
 marks_form f n e r =
     nested_marks (codes "<rect class=\"" ++ codes "t") (area_text (tick_area f n e.worker.0)) (codes "><title>") (line_of n e) (codes "</title>") (codes "</rect>\n") (more_marks f n e) r
@@ -145,7 +145,7 @@ record SameEntry (d e : Entry) (r s : List ℕ) : Type 0 where
   entry : d ≡ e
   rest : r ≡ s
 
-same_marks : (f g : Frame) (n : ℕ) (d e : Entry) (r s : List ℕ) → EntryFits d → EntryFits e → marks_of f n d ++ r ≡ marks_of g n e ++ s → SameEntry d e r s
+same_marks : (f g : Layout) (n : ℕ) (d e : Entry) (r s : List ℕ) → EntryFits d → EntryFits e → marks_of f n d ++ r ≡ marks_of g n e ++ s → SameEntry d e r s
 same_marks f g n d e r s fits fits' is =
     let behind = same_area (tick_area f n d.worker.0) (tick_area g n e.worker.0) _ _ (append_cancel_left (codes "<rect class=\"" ++ codes "t") _ _ (sym (marks_form f n d r) ∙ (is ∙ marks_form g n e s))) in
     let lines = same_front is_plain (line_of n d) (line_of n e) _ _ (line_plain n d) (line_plain n e) refl refl (append_cancel_left (codes "><title>") _ _ behind) in
@@ -157,15 +157,15 @@ abbrev pub foot : List ℕ
 foot = codes "</g>\n</svg>\n"
 
 -- the foot is no mark
-no_mark : (f : Frame) (n : ℕ) (e : Entry) (r : List ℕ) → foot ≡ marks_of f n e ++ r → ⊥
+no_mark : (f : Layout) (n : ℕ) (e : Entry) (r : List ℕ) → foot ≡ marks_of f n e ++ r → ⊥
 no_mark f n e r is =
     let second : 47 ≡ 114 = ap (λ (l : List ℕ). get_or l 1 0) (is ∙ marks_form f n e r) in
     absurd (omega (arith, second))
 
-abbrev pub ticks_by : (ℕ → Frame) → ℕ → List Entry → List ℕ
+abbrev pub ticks_by : (ℕ → Layout) → ℕ → List Entry → List ℕ
 ticks_by f n es = numbered (λ m e. marks_of (f m) m e) n es
 
-pub same_ticks : (f g : ℕ → Frame) (n : ℕ) (ds es : List Entry) → AllByRecursion EntryFits ds → AllByRecursion EntryFits es → ticks_by f n ds ++ foot ≡ ticks_by g n es ++ foot → ds ≡ es
+pub same_ticks : (f g : ℕ → Layout) (n : ℕ) (ds es : List Entry) → AllByRecursion EntryFits ds → AllByRecursion EntryFits es → ticks_by f n ds ++ foot ≡ ticks_by g n es ++ foot → ds ≡ es
 same_ticks f g n [] [] a b is = refl
 same_ticks f g n [] (e ∷ es) a b is = absurd (no_mark (g n) n e (ticks_by g (n + 1) es ++ foot) (is ∙ append_assoc (marks_of (g n) n e) (ticks_by g (n + 1) es) foot))
 same_ticks f g n (d ∷ ds) [] a b is = absurd (no_mark (f n) n d (ticks_by f (n + 1) ds ++ foot) (sym is ∙ append_assoc (marks_of (f n) n d) (ticks_by f (n + 1) ds) foot))

@@ -1,4 +1,4 @@
--- The parts show each entry once, in order.
+-- The panels show each entry once, in order.
 use Rattle.std.proofs.Common.{◌≡◌, ◌≤◌, ◌<◌, ℕ, suc, zero, ◌+◌, ◌-◌, ◌*◌, ◌/◌, List, [], ◌∷◌, ◌++◌, Bool, true, false, cond, length, take, drop, refl, sym, ap, ap₂, subst, ◌∙◌, append_assoc, arith}
 use Rattle.std.specs.Prelude.{min, max, nat_le}
 use Rattle.std.specs.List.{flat_map}
@@ -6,17 +6,17 @@ use Rattle.std.proofs.Math.Nat.{lt-div-mul-add}
 use Rattle.std.proofs.lemmas.Bool.{lt-ltb, le-ltb, leb-false}
 use Rattle.std.proofs.lemmas.List.{take-append-drop, length-take, length-drop, drop-drop, drop_all}
 use Rattle.lock_transforms.specs.Entry.{Entry}
-use Rattle.history_reader.specs.HistoryView.{HistoryView}
+use Rattle.history_text.specs.HistoryView.{HistoryView}
 use Rattle.history_text.specs.Text.{numbered}
 use Rattle.run_spans.specs.Spans.{spans_of}
 use Rattle.run_spans.specs.declared.spans.Span.{Span}
-use Rattle.run_picture.specs.Frames.{scale_of, whole, cut, ceil_div, narrow, rows_bottom}
-use Rattle.run_picture.specs.Laws.{frame_at}
-use Rattle.run_picture.specs.Parts.{PartView, part_of, parts_from, heading, first_top}
-use Rattle.run_picture.specs.Picture.{ticks_of, parts_in}
+use Rattle.run_picture.specs.Layout.{scale_of, whole, cut, ceil_div, narrow, entries_in, rows_bottom}
+use Rattle.run_picture.specs.Laws.{layout_at}
+use Rattle.run_picture.specs.Panels.{PanelView, panel_of, panels_from, heading, first_top}
+use Rattle.run_picture.specs.Picture.{ticks_of, plot_in, panels_in}
 use Rattle.run_picture.specs.Ticks.{marks_of}
-use Rattle.run_picture.specs.declared.frames.Frame.{Frame}
-use Rattle.run_picture.specs.declared.frames.Scale.{Scale}
+use Rattle.run_picture.specs.declared.layout.Layout.{Layout}
+use Rattle.run_picture.specs.declared.layout.Scale.{Scale}
 
 pub numbered_append : {X : Type 0} (line : ℕ → X → List ℕ) (n : ℕ) (xs ys : List X) → numbered line n (xs ++ ys) ≡ numbered line n xs ++ numbered line (n + length xs) ys
 numbered_append line n [] ys = let at : n ≡ n + 0 = omega arith in ap (λ m. numbered line m ys) at
@@ -32,16 +32,16 @@ numbered_same f g n behind [] same few = refl
 numbered_same f g n behind (x ∷ xs) same few =
     ap₂ (λ a b. a ++ b) (same n x (omega arith) (omega arith)) (numbered_same f g (n + 1) behind xs (λ k y from to. same k y (omega arith) to) (omega arith))
 
-abbrev mark_at : Frame → List PartView → ℕ → Entry → List ℕ
-mark_at other ps n e = marks_of (frame_at other ps n) n e
+abbrev mark_at : Layout → List PanelView → ℕ → Entry → List ℕ
+mark_at other ps n e = marks_of (layout_at other ps n) n e
 
-in_front : (other : Frame) (p : PartView) (ps : List PartView) (n : ℕ) → n < p.frame.behind → frame_at other (p ∷ ps) n ≡ p.frame
-in_front other p ps n less = ap (λ b. cond b p.frame (frame_at other ps n)) (lt-ltb n p.frame.behind less)
+in_front : (other : Layout) (p : PanelView) (ps : List PanelView) (n : ℕ) → n < p.layout.behind → layout_at other (p ∷ ps) n ≡ p.layout
+in_front other p ps n less = ap (λ b. cond b p.layout (layout_at other ps n)) (lt-ltb n p.layout.behind less)
 
-behind_front : (other : Frame) (p : PartView) (ps : List PartView) (n : ℕ) → p.frame.behind ≤ n → frame_at other (p ∷ ps) n ≡ frame_at other ps n
-behind_front other p ps n past = ap (λ b. cond b p.frame (frame_at other ps n)) (le-ltb n p.frame.behind past)
+behind_front : (other : Layout) (p : PanelView) (ps : List PanelView) (n : ℕ) → p.layout.behind ≤ n → layout_at other (p ∷ ps) n ≡ layout_at other ps n
+behind_front other p ps n past = ap (λ b. cond b p.layout (layout_at other ps n)) (le-ltb n p.layout.behind past)
 
--- so far the parts from an entry on reach
+-- so far the panels from an entry on reach
 abbrev reached : ℕ → ℕ → ℕ → ℕ → ℕ
 reached zero size end first = first
 reached (suc n) size end first = reached n size end (min (first + size) end)
@@ -58,16 +58,16 @@ exactly_within es first behind some less few =
     let rest = length-drop (first - 1) es in
     omega (arith, long, rest, some, less, few)
 
--- where the parts reach the end, their ticks are those of all entries
-ticks_from : (h : HistoryView) (other : Frame) (n workers : ℕ) (s : Scale) (spans : List Span) (end gap first top : ℕ) → 1 ≤ first → first ≤ end → end ≡ length h.entries + 1
+-- where the panels reach the end, their ticks are those of all entries
+ticks_from : (h : HistoryView) (other : Layout) (n workers : ℕ) (s : Scale) (spans : List Span) (end gap first top : ℕ) → 1 ≤ first → first ≤ end → end ≡ length h.entries + 1
     → reached n s.size end first ≡ end
-    → numbered (mark_at other (parts_from n workers s spans end gap first top)) first (drop (first - 1) h.entries) ≡ flat_map (ticks_of h) (parts_from n workers s spans end gap first top)
+    → numbered (mark_at other (panels_from n workers s spans end gap first top)) first (drop (first - 1) h.entries) ≡ flat_map (ticks_of h) (panels_from n workers s spans end gap first top)
 ticks_from h other zero workers s spans end gap first top some less all at =
     ap (numbered (mark_at other []) first) (drop_all (first - 1) h.entries (omega (arith, at, all)))
 ticks_from h other (suc n) workers s spans end gap first top some less all at =
     let behind = min (first + s.size) end in
-    let p = part_of workers s spans first behind top in
-    let ps = parts_from n workers s spans end gap behind (rows_bottom p.frame + gap) in
+    let p = panel_of workers s spans first behind top in
+    let ps = panels_from n workers s spans end gap behind (rows_bottom p.layout + gap) in
     let here = take (behind - first) (drop (first - 1) h.entries) in
     let rest = drop (behind - 1) h.entries in
     let long : length here ≡ behind - first = exactly_within h.entries first behind some (omega (arith, less)) (omega (arith, all)) in
@@ -77,13 +77,13 @@ ticks_from h other (suc n) workers s spans end gap first top some less all at =
     ∙ ap (λ l. here ++ l) (drop-drop (behind - first) (first - 1) h.entries ∙ ap (λ m. drop m h.entries) place) in
     let next : first + length here ≡ behind = omega (arith, long, less) in
     let mine : numbered (mark_at other (p ∷ ps)) first here ≡ ticks_of h p =
-    numbered_same (mark_at other (p ∷ ps)) (marks_of p.frame) first behind here (λ k e from to. ap (λ f. marks_of f k e) (in_front other p ps k to)) (omega (arith, next)) in
+    numbered_same (mark_at other (p ∷ ps)) (marks_of p.layout) first behind here (λ k e from to. ap (λ f. marks_of f k e) (in_front other p ps k to)) (omega (arith, next)) in
     let others : numbered (mark_at other (p ∷ ps)) behind rest ≡ numbered (mark_at other ps) behind rest =
     numbered_same (mark_at other (p ∷ ps)) (mark_at other ps) behind (behind + length rest) rest (λ k e from to. ap (λ f. marks_of f k e) (behind_front other p ps k from)) (omega arith) in
     ap (numbered (mark_at other (p ∷ ps)) first) split
     ∙ (numbered_append (mark_at other (p ∷ ps)) first here rest
     ∙ ap₂ (λ a b. a ++ b) mine
-    (ap (λ m. numbered (mark_at other (p ∷ ps)) m rest) next ∙ (others ∙ ticks_from h other n workers s spans end gap behind (rows_bottom p.frame + gap) (omega (arith, some, less)) (omega arith) all at)))
+    (ap (λ m. numbered (mark_at other (p ∷ ps)) m rest) next ∙ (others ∙ ticks_from h other n workers s spans end gap behind (rows_bottom p.layout + gap) (omega (arith, some, less)) (omega arith) all at)))
 
 some_quotient : (a b : ℕ) → 0 < b → b ≤ a → 1 ≤ a / b
 some_quotient a b some less = at (a / b) (lt-div-mul-add some)
@@ -98,11 +98,10 @@ ceil_covers n d some = let few : n + (d - 1) < ceil_div n d * d + d = lt-div-mul
 ceil_some : (n d : ℕ) → 0 < d → 1 ≤ n → 1 ≤ ceil_div n d
 ceil_some n d some one = some_quotient (n + (d - 1)) d some (omega (arith, some, one))
 
-cut_covers : (workers count : ℕ) → 1 ≤ count → count ≤ ceil_div count (ceil_div count (ceil_div count (1190 / narrow workers))) * ceil_div count (ceil_div count (1190 / narrow workers))
-cut_covers workers count one =
-    let wide : 1 ≤ 1190 / narrow workers = some_quotient 1190 (narrow workers) (omega arith) (omega arith) in
-    let parts : 1 ≤ ceil_div count (1190 / narrow workers) = ceil_some count (1190 / narrow workers) wide one in
-    ceil_covers count (ceil_div count (ceil_div count (1190 / narrow workers))) (ceil_some count (ceil_div count (1190 / narrow workers)) parts one)
+cut_covers : (plot workers count : ℕ) → 1 ≤ count → count ≤ ceil_div count (ceil_div count (ceil_div count (entries_in plot workers))) * ceil_div count (ceil_div count (entries_in plot workers))
+cut_covers plot workers count one =
+    let panels : 1 ≤ ceil_div count (entries_in plot workers) = ceil_some count (entries_in plot workers) (omega arith) one in
+    ceil_covers count (ceil_div count (ceil_div count (entries_in plot workers))) (ceil_some count (ceil_div count (entries_in plot workers)) panels one)
 
 whole_covers : (count : ℕ) → count ≤ min count 1 * max count 1
 whole_covers zero = omega arith
@@ -112,19 +111,20 @@ whole_covers (suc n) =
     let same : min (suc n) 1 * max (suc n) 1 ≡ 1 * suc n = ap₂ (λ a b. a * b) one all in
     omega (arith, same)
 
-scale_covers : (workers count : ℕ) → count ≤ (scale_of workers count).parts * (scale_of workers count).size
-scale_covers workers count = at (nat_le count (1190 / narrow workers)) refl
+scale_covers : (plot workers count : ℕ) → count ≤ (scale_of plot workers count).panels * (scale_of plot workers count).size
+scale_covers plot workers count = at (nat_le count (entries_in plot workers)) refl
   where
-    at : (b : Bool) → nat_le count (1190 / narrow workers) ≡ b → count ≤ (scale_of workers count).parts * (scale_of workers count).size
-    at true s = subst (λ (z : Scale). count ≤ z.parts * z.size) (sym (ap (λ b. cond b (whole count) (cut count (narrow workers) (ceil_div count (ceil_div count (1190 / narrow workers))))) s)) (whole_covers count)
+    at : (b : Bool) → nat_le count (entries_in plot workers) ≡ b → count ≤ (scale_of plot workers count).panels * (scale_of plot workers count).size
+    at true s =
+        subst (λ (z : Scale). count ≤ z.panels * z.size) (sym (ap (λ b. cond b (whole plot count) (cut count (narrow workers) (ceil_div count (ceil_div count (entries_in plot workers))))) s)) (whole_covers count)
     at false s =
-        subst (λ (z : Scale). count ≤ z.parts * z.size) (sym (ap (λ b. cond b (whole count) (cut count (narrow workers) (ceil_div count (ceil_div count (1190 / narrow workers))))) s))
-        (cut_covers workers count (omega (arith, leb-false count (1190 / narrow workers) s)))
+        subst (λ (z : Scale). count ≤ z.panels * z.size) (sym (ap (λ b. cond b (whole plot count) (cut count (narrow workers) (ceil_div count (ceil_div count (entries_in plot workers))))) s))
+        (cut_covers plot workers count (omega (arith, leb-false count (entries_in plot workers) s)))
 
-pub all_ticks : (h : HistoryView) (other : Frame) → flat_map (ticks_of h) (parts_in h) ≡ numbered (mark_at other (parts_in h)) 1 h.entries
+pub all_ticks : (h : HistoryView) (other : Layout) → flat_map (ticks_of h) (panels_in h) ≡ numbered (mark_at other (panels_in h)) 1 h.entries
 all_ticks h other =
     let count = length h.entries in
-    let s = scale_of h.workers count in
-    let far : reached s.parts s.size (count + 1) 1 ≡ count + 1 =
-    (let is = reached_is s.parts s.size (count + 1) 1 (omega arith) in omega (arith, is, scale_covers h.workers count)) in
-    sym (ticks_from h other s.parts h.workers s (spans_of h.entries) (count + 1) (30 + heading s) 1 (first_top h.workers s) (omega arith) (omega arith) refl far)
+    let s = scale_of (plot_in h) h.workers count in
+    let far : reached s.panels s.size (count + 1) 1 ≡ count + 1 =
+    (let is = reached_is s.panels s.size (count + 1) 1 (omega arith) in omega (arith, is, scale_covers (plot_in h) h.workers count)) in
+    sym (ticks_from h other s.panels h.workers s (spans_of h.entries) (count + 1) (30 + heading s) 1 (first_top h.workers s) (omega arith) (omega arith) refl far)

@@ -4,13 +4,13 @@ use Rattle.std.specs.List.{range_with_len}
 use Rattle.run_spans.specs.declared.levels.Level.{Level}
 use Rattle.run_spans.specs.declared.spans.Span.{Span}
 use Rattle.run_picture.specs.Curve.{height_of}
-use Rattle.run_picture.specs.Frames.{ceil_div}
-use Rattle.run_picture.specs.Shares.{standing}
+use Rattle.run_picture.specs.Layout.{ceil_div}
+use Rattle.run_picture.specs.Occupancy.{standing}
 use Rattle.run_picture.specs.Totals.{most_queued, total_out}
 use Rattle.run_picture.specs.declared.columns.Columns.{Columns}
 use Rattle.run_picture.specs.declared.columns.Fill.{Fill}
 use Rattle.run_picture.specs.declared.columns.RunRow.{RunRow}
-use Rattle.run_picture.specs.declared.shares.Share.TheVariants.{Leased, Engaged}
+use Rattle.run_picture.specs.declared.occupancy.Occupancy.TheVariants.{Leased, Engaged}
 
 -- how many entries a column has
 abbrev pub column_size : ℕ → ℕ
@@ -25,7 +25,7 @@ column size xs c = take size (drop (c * size) xs)
 
 -- the mean of the leases out, and the most units queued, of a column's entries, 48 px up
 abbrev pub out_height : ℕ → List Level → ℕ
-out_height max_leases levels = height_of (total_out levels) (max (length levels * max_leases) 1)
+out_height top levels = height_of (total_out levels) (max (length levels * top) 1)
 
 abbrev pub queue_height : ℕ → List Level → ℕ
 queue_height most levels = height_of (most_queued levels) most

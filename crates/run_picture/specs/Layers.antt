@@ -6,14 +6,14 @@ use Rattle.lock_transforms.specs.Entry.{Entry}
 use Rattle.run_spans.specs.declared.spans.Span.{Span}
 use Rattle.run_spans.specs.declared.subjects.Subject.{Subject}
 use Rattle.run_spans.specs.declared.subjects.Subject.TheVariants as subjects
-use Rattle.run_picture.specs.Bars.{task_text, lane_area, parked_bar, blocked_bar, lease_bar}
-use Rattle.run_picture.specs.Items.{item_text}
-use Rattle.run_picture.specs.declared.bars.Layer.{Layer}
-use Rattle.run_picture.specs.declared.bars.Layer.TheVariants.{Tasks, Parked, Blocked, Leases, Items}
-use Rattle.run_picture.specs.declared.frames.Frame.{Frame}
+use Rattle.run_picture.specs.WorkerBars.{task_text, lane_area, parked_bar, blocked_bar, lease_bar}
+use Rattle.run_picture.specs.ItemBars.{item_text}
+use Rattle.run_picture.specs.declared.worker_bars.Layer.{Layer}
+use Rattle.run_picture.specs.declared.worker_bars.Layer.TheVariants.{Tasks, Parked, Blocked, Leases, Items}
+use Rattle.run_picture.specs.declared.layout.Layout.{Layout}
 
 -- the bar of a span, by its subject, where it is of the layer
-abbrev pub bar_of : Layer → Frame → List Entry → Span → Subject → List ℕ
+abbrev pub bar_of : Layer → Layout → List Entry → Span → Subject → List ℕ
 bar_of Tasks f es s (subjects.Running (TaskOf n)) = task_text f s n
 bar_of Parked f es s (subjects.Running (ActionOf n)) = parked_bar (lane_area f s) s n
 bar_of Blocked f es s (subjects.Blocked w) = blocked_bar (lane_area f s) s
@@ -21,11 +21,11 @@ bar_of Leases f es s (subjects.Lease w) = lease_bar (lane_area f s) s
 bar_of Items f es s (subjects.Running (UnitOf u)) = item_text f es s u
 bar_of _ f es s _ = []
 
-abbrev pub bar_text : Layer → Frame → List Entry → Span → List ℕ
+abbrev pub bar_text : Layer → Layout → List Entry → Span → List ℕ
 bar_text layer f es s = bar_of layer f es s s.subject
 
 -- from below to above
-unfoldable pub bars_text : Frame → List Entry → List Span → List ℕ
+unfoldable pub bars_text : Layout → List Entry → List Span → List ℕ
 bars_text f es spans =
     flat_map (bar_text Tasks f es) spans ++ flat_map (bar_text Parked f es) spans ++ flat_map (bar_text Blocked f es) spans
     ++ flat_map (bar_text Leases f es) spans ++ flat_map (bar_text Items f es) spans

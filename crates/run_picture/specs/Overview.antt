@@ -1,22 +1,23 @@
--- The whole run, above the parts where there are several: a strip of the parts, the curve, and a row a worker.
-use Rattle.std.specs.Prelude.{ℕ, ◌≡◌, ◌+◌, ◌-◌, ◌*◌, ◌/◌, ◌%◌, nat_le, nat_lt, nat_eq, max, ◌&&◌, List, [], ◌++◌, map, length, codes, decimal}
+-- The whole run, above the panels where there are several: a strip of the panels, the curve, and a row a worker.
+use Rattle.std.specs.Prelude.{ℕ, ◌≡◌, ◌+◌, ◌-◌, ◌*◌, ◌/◌, ◌%◌, nat_le, nat_lt, nat_eq, ◌&&◌, List, [], ◌++◌, map, length, codes, decimal}
 use Rattle.std.specs.Prelude.{if◌then◌else◌}
 use Rattle.std.specs.List.{flat_map, range_with_len}
 use Rattle.history_text.specs.Text.{numbered}
-use Rattle.history_reader.specs.declared.histories.History.{History}
+use Rattle.history_text.specs.declared.read_histories.History.{History}
 use Rattle.run_spans.specs.declared.levels.Level.{Level}
 use Rattle.run_spans.specs.declared.spans.Span.{Span}
-use Rattle.run_picture.specs.Bars.{room_for}
+use Rattle.run_picture.specs.WorkerBars.{room_for}
 use Rattle.run_picture.specs.Columns.{columns_of, by_column, out_height, queue_height, FillView, RunRowView, row_view, run_rows}
 use Rattle.run_picture.specs.Curve.{scale_text}
-use Rattle.run_picture.specs.Frames.{run_row_height, run_foot}
-use Rattle.run_picture.specs.Parts.{PartView}
+use Rattle.run_picture.specs.Layout.{run_row_height, run_foot}
+use Rattle.run_picture.specs.Panels.{PanelView}
 use Rattle.run_picture.specs.Shapes.{number_words, hued, titled, label, label_number, down, across}
-use Rattle.run_picture.specs.Totals.{most_queued}
+use Rattle.run_picture.specs.Totals.{peaks_of, queue_scale}
 use Rattle.run_picture.specs.declared.columns.Columns.{Columns}
-use Rattle.run_picture.specs.declared.frames.Frame.{Frame}
-use Rattle.run_picture.specs.declared.whole.Overview.{Overview}
+use Rattle.run_picture.specs.declared.layout.Layout.{Layout}
+use Rattle.run_picture.specs.declared.overview.Overview.{Overview}
 use Rattle.run_picture.specs.declared.shapes.Area.{Area}
+use Rattle.run_picture.specs.declared.totals.Peaks.{Peaks}
 
 -- what it shows
 pub record RunView : Type 0 where
@@ -28,37 +29,37 @@ pub record RunView : Type 0 where
 abbrev pub run_view : Overview → RunView
 run_view o = record { columns = o.columns; out = o.out.items; queued = o.queued.items; rows = map row_view o.rows.items }
 
-abbrev pub run_of : ℕ → ℕ → List Level → List Span → ℕ → RunView
-run_of workers max_leases levels spans count = record {
+abbrev pub run_of : ℕ → Peaks → List Level → List Span → ℕ → RunView
+run_of workers peaks levels spans count = record {
   columns = columns_of count;
-  out = by_column (columns_of count) (out_height max_leases) levels;
-  queued = by_column (columns_of count) (queue_height (max max_leases (most_queued levels))) levels;
+  out = by_column (columns_of count) (out_height peaks.out) levels;
+  queued = by_column (columns_of count) (queue_height (queue_scale peaks)) levels;
   rows = run_rows (columns_of count) (run_row_height workers - 2) workers spans count;
 }
 
 -- it is that of a history, by its levels and its spans
 abbrev pub IsOverview : History → List Level → List Span → Overview → Type 0
-IsOverview h levels spans o = run_view o ≡ run_of h.workers h.max levels spans (length h.entries.items)
+IsOverview h levels spans o = run_view o ≡ run_of h.workers (peaks_of levels) levels spans (length h.entries.items)
 
 -- where an entry begins
 abbrev pub run_x : ℕ → ℕ → ℕ
 run_x size k = 76 + (k - 1) * 4 / size
 
--- the part of a number in the strip: its number where that fits
-abbrev pub band_area : ℕ → Frame → Area
+-- the panel of a number in the strip: its number where that fits
+abbrev pub band_area : ℕ → Layout → Area
 band_area size f = record { x = run_x size f.first; y = 100; width = run_x size f.behind - run_x size f.first; height = 12 }
 
 abbrev pub band_class : ℕ → List ℕ
 band_class n = if nat_eq (n % 2) 0 then codes "even" else codes "odd"
 
-abbrev pub band_title : ℕ → Frame → List ℕ
+abbrev pub band_title : ℕ → Layout → List ℕ
 band_title n f = number_words (codes "part ") n ++ number_words (codes ": entries ") f.first ++ number_words (codes " to ") (f.behind - 1)
 
 abbrev pub band_number : ℕ → Area → List ℕ
 band_number n a = if room_for (length (decimal n)) 6 a.width then label_number (codes "n") (a.x + a.width / 2) 109 [] n else []
 
-unfoldable pub band_text : ℕ → ℕ → PartView → List ℕ
-band_text size n p = titled (band_class n) (band_area size p.frame) (band_title n p.frame) ++ band_number n (band_area size p.frame)
+unfoldable pub band_text : ℕ → ℕ → PanelView → List ℕ
+band_text size n p = titled (band_class n) (band_area size p.layout) (band_title n p.layout) ++ band_number n (band_area size p.layout)
 
 -- so many entries lie between two numbers of the axis: the first of 20, 50, 100 and so on that gives 46 px
 abbrev pub run_distance : ℕ → ℕ
@@ -102,9 +103,9 @@ step_text foot h = number_words (codes "V") (foot - h) ++ codes "h4"
 abbrev pub steps_text : ℕ → List ℕ → List ℕ
 steps_text foot heights = flat_map (step_text foot) heights
 
--- the overview is laid out as a part whose entries are the columns
-abbrev pub run_frame : ℕ → Columns → Frame
-run_frame workers cs = record { first = 1; behind = cs.number + 1; per = 4; top = 116; workers = workers; locks = 0 }
+-- the overview is laid out as a panel whose entries are the columns
+abbrev pub run_layout : ℕ → Columns → Layout
+run_layout workers cs = record { first = 1; behind = cs.number + 1; per = 4; top = 116; workers = workers; locks = 0; lanes = 0 }
 
 abbrev pub run_leases : List ℕ → List ℕ
 run_leases heights =
@@ -116,8 +117,8 @@ run_queue heights =
     codes "<path class=\"q\" d=\"M76 164" ++ steps_text 164 heights
     ++ codes "\"><title>items queued, the most over the entries of each column</title></path>\n"
 
-unfoldable pub run_curve : ℕ → ℕ → ℕ → RunView → List ℕ
-run_curve workers max_leases most v = run_leases v.out ++ run_queue v.queued ++ scale_text (run_frame workers v.columns) max_leases most
+unfoldable pub run_curve : ℕ → ℕ → Peaks → RunView → List ℕ
+run_curve workers max_leases peaks v = run_leases v.out ++ run_queue v.queued ++ scale_text (run_layout workers v.columns) max_leases peaks
 
 -- how much of a row is filled in a worker's hue
 abbrev pub fill_title : ℕ → List ℕ → ℕ → ℕ → List ℕ
@@ -155,7 +156,7 @@ run_axis workers count v =
     label (codes "e") 70 178 (codes "entry")
     ++ run_grid v.columns.size (run_right v) (186 + workers * run_row_height workers) count
 
-unfoldable pub overview_text : ℕ → ℕ → ℕ → ℕ → List PartView → RunView → List ℕ
-overview_text workers max_leases most count ps v =
+unfoldable pub overview_text : ℕ → ℕ → Peaks → ℕ → List PanelView → RunView → List ℕ
+overview_text workers max_leases peaks count ps v =
     label (codes "w") 8 95 (codes "Whole run") ++ numbered (band_text v.columns.size) 1 ps ++ run_axis workers count v
-    ++ run_curve workers max_leases most v ++ run_rows_text workers (run_right v) count v.rows
+    ++ run_curve workers max_leases peaks v ++ run_rows_text workers (run_right v) count v.rows

@@ -1,12 +1,12 @@
 -- A tick for each entry, whose title is the entry's line.
-use Rattle.std.specs.Prelude.{ℕ, ◌+◌, ◌-◌, ◌/◌, max, List, [], ◌++◌, codes, decimal, is_some, if◌then◌else◌}
+use Rattle.std.specs.Prelude.{ℕ, ◌+◌, ◌-◌, ◌/◌, ◌%◌, nat_le, max, List, [], ◌++◌, codes, decimal, is_some, if◌then◌else◌}
 use Rattle.lock_transforms.specs.Entry.{Entry}
 use Rattle.lock_transforms.specs.declared.entries.Kind.{Kind}
 use Rattle.lock_transforms.specs.declared.entries.Kind.TheVariants.{Skip}
 use Rattle.history_text.specs.Text.{kind_text, effect_text}
-use Rattle.run_picture.specs.Frames.{x_of, row_y, rows_of}
+use Rattle.run_picture.specs.Layout.{x_of, row_y, rows_of}
 use Rattle.run_picture.specs.Shapes.{number_words, rect_begin}
-use Rattle.run_picture.specs.declared.frames.Frame.{Frame}
+use Rattle.run_picture.specs.declared.layout.Layout.{Layout}
 use Rattle.run_picture.specs.declared.shapes.Area.{Area}
 
 -- the line of an entry, without its end
@@ -17,7 +17,7 @@ line_of n e = decimal n ++ number_words (codes " w") e.worker.0 ++ (codes " " ++
 abbrev pub line_title : ℕ → Entry → List ℕ
 line_title n e = codes "><title>" ++ line_of n e ++ codes "</title>"
 
-abbrev pub tick_area : Frame → ℕ → ℕ → Area
+abbrev pub tick_area : Layout → ℕ → ℕ → Area
 tick_area f n w = record { x = x_of f n; y = row_y f w + (rows_of f.workers).tick_y; width = max (f.per / 2) 1; height = (rows_of f.workers).tick_height }
 
 abbrev pub tick_bar : Area → ℕ → Entry → List ℕ
@@ -29,11 +29,20 @@ cross_at x y n e =
     ++ codes "l6 6m0-6l-6 6\"" ++ line_title n e ++ codes "</path>\n"
 
 -- where the entry failed
-unfoldable pub cross_text : Frame → ℕ → Entry → List ℕ
+unfoldable pub cross_text : Layout → ℕ → Entry → List ℕ
 cross_text f n e = cross_at (x_of f n) (row_y f e.worker.0 + (rows_of f.workers).lane_y + (rows_of f.workers).lane_height / 2 - 3) n e
 
-abbrev pub skip_area : Frame → ℕ → ℕ → Area
-skip_area f n w = record { x = x_of f n; y = row_y f w + (rows_of f.workers).task_y; width = max f.per 2; height = (rows_of f.workers).task_height }
+-- skips beside each other lie apart: where an entry has no room for a gap, every other one begins lower
+abbrev pub skip_step : Layout → ℕ → ℕ
+skip_step f n = if nat_le f.per 1 then n % 2 else 0
+
+abbrev pub skip_area : Layout → ℕ → ℕ → Area
+skip_area f n w = record {
+  x = x_of f n;
+  y = row_y f w + (rows_of f.workers).task_y + skip_step f n;
+  width = max (f.per - 1) 1;
+  height = (rows_of f.workers).task_height - skip_step f n;
+}
 
 abbrev pub skip_bar : Area → ℕ → ℕ → ℕ → List ℕ
 skip_bar a n w t =
@@ -41,13 +50,13 @@ skip_bar a n w t =
     ++ number_words (codes ", entry ") n ++ codes "</title></rect>\n"
 
 -- where the entry skips a task
-abbrev pub skip_where : Frame → ℕ → ℕ → Kind → List ℕ
+abbrev pub skip_where : Layout → ℕ → ℕ → Kind → List ℕ
 skip_where f n w (Skip t) = skip_bar (skip_area f n w) n w t
 skip_where f n w _ = []
 
 -- what an entry shows beside its tick: a finished one, and one that failed
-abbrev pub more_marks : Frame → ℕ → Entry → List ℕ
+abbrev pub more_marks : Layout → ℕ → Entry → List ℕ
 more_marks f n e = if is_some e.changes then skip_where f n e.worker.0 e.kind else cross_text f n e
 
-abbrev pub marks_of : Frame → ℕ → Entry → List ℕ
+abbrev pub marks_of : Layout → ℕ → Entry → List ℕ
 marks_of f n e = tick_bar (tick_area f n e.worker.0) n e ++ more_marks f n e

@@ -11,6 +11,7 @@ use Rattle.run_spans.specs.declared.levels.Level.{Level}
 use Rattle.run_spans.specs.declared.spans.Span.{Span}
 use Rattle.run_spans.specs.declared.subjects.Subject.{Subject}
 use Rattle.run_spans.specs.declared.subjects.Subject.TheVariants.{Running}
+use Rattle.run_picture.specs.declared.totals.Peaks.{Peaks}
 
 abbrev pub runs_task : Subject → Bool
 runs_task (Running (TaskOf n)) = true
@@ -39,6 +40,17 @@ skips e = is_some e.changes && is_skip e.kind
 abbrev pub most_queued : List Level → ℕ
 most_queued [] = 0
 most_queued (v ∷ vs) = max v.queued (most_queued vs)
+
+abbrev pub most_out : List Level → ℕ
+most_out [] = 0
+most_out (v ∷ vs) = max v.out (most_out vs)
+
+-- what the scales of the curves reach to
+abbrev pub peaks_of : List Level → Peaks
+peaks_of vs = record { out = max (most_out vs) 1; queued = most_queued vs }
+
+abbrev pub queue_scale : Peaks → ℕ
+queue_scale p = max p.out p.queued
 
 abbrev pub total_out : List Level → ℕ
 total_out vs = sum_by (λ v. v.out) vs

@@ -2,11 +2,12 @@
 ghost use Rattle.std.specs.Prelude.{◌≡◌, ◌<◌, ◌≤◌, ◌^◌};
 ghost use Rattle.std.specs.List.{flat_map, range_with_len};
 ghost use Rattle.file_access.specs.PageView.{Adds};
-ghost use Rattle.run_picture.specs.Axis.{distance_of, grid_line, mark_number, mark_text, nth_mark, marks_text, grid_text, axis_text, stripe_text};
+ghost use Rattle.run_picture.specs.Axis.{distance_of, grid_line, mark_number, mark_text, nth_mark, marks_text, grid_text, axis_text, swatch_area, swatch_text};
 ghost use Rattle.run_picture.specs.Axis.{name_text, row_text, worker_rows_text};
 
-use crate::frames::{Frame, LEFT};
+use crate::layout::{LEFT, Layout};
 use crate::shapes::{Area, write_across, write_down, write_hued, write_label, write_label_number};
+use crate::worker_marks;
 use file_access::{Page, Sink};
 use resource_lock::WorkerId;
 
@@ -52,7 +53,7 @@ fn write_mark_number<K: Sink>(
     page: &mut Page,
     sink: &mut K,
 )
-    requires x { x < 2 ^ 19 }
+    requires x { x < 2 ^ 23 }
     requires top { top < 2 ^ 32 }
     ensures { Adds (K.seen sink.old) page.old (K.seen sink.new) page.new (mark_number entry x top right) }
 {
@@ -62,64 +63,75 @@ fn write_mark_number<K: Sink>(
 }
 
 /// Writes a line of the grid, and its number.
-fn write_mark<K: Sink>(frame: &Frame, entry: u64, is_fifth: bool, page: &mut Page, sink: &mut K)
-    ensures { Adds (K.seen sink.old) page.old (K.seen sink.new) page.new (mark_text frame.now entry is_fifth) }
+fn write_mark<K: Sink>(layout: &Layout, entry: u64, is_fifth: bool, page: &mut Page, sink: &mut K)
+    ensures { Adds (K.seen sink.old) page.old (K.seen sink.new) page.new (mark_text layout.now entry is_fifth) }
 {
-    let x = frame.x_of(entry);
-    let top = u64::from(frame.top);
-    write_grid_line(is_fifth, x, top, frame.bottom(), page, sink);
-    write_mark_number(entry, x, top, frame.right(), page, sink);
+    let x = layout.x_of(entry);
+    let top = u64::from(layout.top);
+    write_grid_line(is_fifth, x, top, layout.bottom(), page, sink);
+    write_mark_number(entry, x, top, layout.right(), page, sink);
 }
 
 /// Writes the mark of a number from 0.
-fn write_nth_mark<K: Sink>(frame: &Frame, place: u64, page: &mut Page, sink: &mut K)
+fn write_nth_mark<K: Sink>(layout: &Layout, place: u64, page: &mut Page, sink: &mut K)
     requires { place < 2 ^ 40 }
-    ensures { Adds (K.seen sink.old) page.old (K.seen sink.new) page.new (nth_mark frame.now place) }
+    ensures { Adds (K.seen sink.old) page.old (K.seen sink.new) page.new (nth_mark layout.now place) }
 {
-    let entry = place * u64::from(distance_of(frame.per));
-    write_mark(frame, entry, place % 5 == 0, page, sink);
+    let entry = place * u64::from(distance_of(layout.per));
+    write_mark(layout, entry, place % 5 == 0, page, sink);
 }
 
 /// Writes so many marks, from one of them on.
-fn write_marks<K: Sink>(frame: &Frame, from: u32, count: u32, page: &mut Page, sink: &mut K)
-    ensures { Adds (K.seen sink.old) page.old (K.seen sink.new) page.new (marks_text frame.now from count) }
+fn write_marks<K: Sink>(layout: &Layout, from: u32, count: u32, page: &mut Page, sink: &mut K)
+    ensures { Adds (K.seen sink.old) page.old (K.seen sink.new) page.new (marks_text layout.now from count) }
 {
     for step in 0..count {
-        write_nth_mark(frame, u64::from(from) + u64::from(step), page, sink);
+        write_nth_mark(layout, u64::from(from) + u64::from(step), page, sink);
     }
 }
 
 /// Writes the grid.
-fn write_grid<K: Sink>(frame: &Frame, page: &mut Page, sink: &mut K)
-    ensures { Adds (K.seen sink.old) page.old (K.seen sink.new) page.new (grid_text frame.now) }
+fn write_grid<K: Sink>(layout: &Layout, page: &mut Page, sink: &mut K)
+    ensures { Adds (K.seen sink.old) page.old (K.seen sink.new) page.new (grid_text layout.now) }
 {
-    let distance = distance_of(frame.per);
-    let from = frame.first.div_ceil(distance);
-    let behind = frame.behind.div_ceil(distance);
-    write_marks(frame, from, behind.saturating_sub(from), page, sink);
+    let distance = distance_of(layout.per);
+    let from = layout.first.div_ceil(distance);
+    let behind = layout.behind.div_ceil(distance);
+    write_marks(layout, from, behind.saturating_sub(from), page, sink);
 }
 
 /// Writes the grid, and the numbers of the axis.
-pub(crate) fn write_axis<K: Sink>(frame: &Frame, page: &mut Page, sink: &mut K)
-    ensures { Adds (K.seen sink.old) page.old (K.seen sink.new) page.new (axis_text frame.now) }
+pub(crate) fn write_axis<K: Sink>(layout: &Layout, page: &mut Page, sink: &mut K)
+    ensures { Adds (K.seen sink.old) page.old (K.seen sink.new) page.new (axis_text layout.now) }
 {
-    let y = u64::from(frame.top) + 62;
-    write_grid(frame, page, sink);
+    let y = u64::from(layout.top) + 62;
+    write_grid(layout, page, sink);
     write_label(b"e", LEFT - 6, y, b"entry", page, sink);
 }
 
-/// Writes the stripe of a worker's row in the worker's hue.
-fn write_stripe<K: Sink>(worker: u32, y: u64, height: u8, page: &mut Page, sink: &mut K)
+/// Where the swatch of a worker lies in its row.
+fn swatch_area(y: u64, height: u8) -> Area
     requires { y < 2 ^ 40 }
-    ensures { Adds (K.seen sink.old) page.old (K.seen sink.new) page.new (stripe_text worker y height) }
+    ensures is { result ≡ swatch_area y height }
+    ensures y { result.y < 2 ^ 63 }
+    ensures height { result.height < 2 ^ 8 }
 {
-    let stripe = Area {
+    Area {
         x: 8,
         y: y + 4,
         width: 5,
         height: u64::from(height).saturating_sub(8),
-    };
-    write_hued(b"m", WorkerId(worker), stripe, page, sink);
+    }
+}
+
+/// Writes the swatch of a worker: its hue, and its second mark.
+fn write_swatch<K: Sink>(worker: u32, y: u64, height: u8, page: &mut Page, sink: &mut K)
+    requires { y < 2 ^ 40 }
+    ensures { Adds (K.seen sink.old) page.old (K.seen sink.new) page.new (swatch_text worker y height) }
+{
+    let swatch = swatch_area(y, height);
+    write_hued(b"m", WorkerId(worker), swatch, page, sink);
+    worker_marks::write_marks(worker, swatch, page, sink);
 }
 
 /// Writes a worker's name.
@@ -134,13 +146,13 @@ fn write_name<K: Sink>(is_large: bool, worker: u64, y: u64, page: &mut Page, sin
 }
 
 /// Writes a worker's name, and the line above its row.
-fn write_row<K: Sink>(frame: &Frame, worker: u32, page: &mut Page, sink: &mut K)
-    ensures { Adds (K.seen sink.old) page.old (K.seen sink.new) page.new (row_text frame.now worker) }
+fn write_row<K: Sink>(layout: &Layout, worker: u32, page: &mut Page, sink: &mut K)
+    ensures { Adds (K.seen sink.old) page.old (K.seen sink.new) page.new (row_text layout.now worker) }
 {
-    let rows = frame.rows();
-    let y = frame.row_y(worker);
-    write_across(b"u", 8, y, frame.right(), page, sink);
-    write_stripe(worker, y, rows.height, page, sink);
+    let rows = layout.rows();
+    let y = layout.row_y(worker);
+    write_across(b"u", 8, y, layout.right(), page, sink);
+    write_swatch(worker, y, rows.height, page, sink);
     write_name(
         rows.large,
         u64::from(worker),
@@ -151,24 +163,24 @@ fn write_row<K: Sink>(frame: &Frame, worker: u32, page: &mut Page, sink: &mut K)
 }
 
 /// Writes the row of each worker.
-fn write_each_row<K: Sink>(frame: &Frame, page: &mut Page, sink: &mut K)
-    ensures { Adds (K.seen sink.old) page.old (K.seen sink.new) page.new (flat_map (row_text frame.now) (range_with_len 0 frame.now.workers)) }
+fn write_each_row<K: Sink>(layout: &Layout, page: &mut Page, sink: &mut K)
+    ensures { Adds (K.seen sink.old) page.old (K.seen sink.new) page.new (flat_map (row_text layout.now) (range_with_len 0 layout.now.workers)) }
 {
-    for worker in 0..frame.workers {
-        write_row(frame, worker, page, sink);
+    for worker in 0..layout.workers {
+        write_row(layout, worker, page, sink);
     }
 }
 
 /// Writes the names of the workers, and the lines between their rows.
-pub(crate) fn write_rows<K: Sink>(frame: &Frame, page: &mut Page, sink: &mut K)
-    ensures { Adds (K.seen sink.old) page.old (K.seen sink.new) page.new (worker_rows_text frame.now) }
+pub(crate) fn write_rows<K: Sink>(layout: &Layout, page: &mut Page, sink: &mut K)
+    ensures { Adds (K.seen sink.old) page.old (K.seen sink.new) page.new (worker_rows_text layout.now) }
 {
-    write_each_row(frame, page, sink);
+    write_each_row(layout, page, sink);
     write_across(
         b"u",
         8,
-        frame.row_y(frame.workers),
-        frame.right(),
+        layout.row_y(layout.workers),
+        layout.right(),
         page,
         sink,
     );

@@ -4,12 +4,12 @@ ghost use Rattle.std.specs.List.{range_with_len};
 ghost use Rattle.run_picture.specs.Columns.{columns_of, column, out_height, queue_height, held_height, fill_of, fill_view, by_column};
 ghost use Rattle.run_picture.specs.Columns.{row_view, run_row, run_rows};
 ghost use Rattle.run_picture.specs.Curve.{height_of};
-ghost use Rattle.run_picture.specs.Parts.{Rising};
-ghost use Rattle.run_picture.specs.Shares.{standing};
+ghost use Rattle.run_picture.specs.Panels.{Rising};
+ghost use Rattle.run_picture.specs.Occupancy.{standing};
 
 use crate::curve::height_of;
-use crate::frames::{CURVE, ceil_div};
-use crate::shares::{Share, standing};
+use crate::layout::{CURVE, ceil_div};
+use crate::occupancy::{Occupancy, standing};
 use crate::totals::{most_queued, total_out};
 use run_spans::{Level, Span};
 use std::alloc::{AllocError, Global};
@@ -46,21 +46,22 @@ fn column<T>(columns: Columns, all: &[T], place: u32) -> &[T]
 }
 
 /// How high a total stands, where the most is at the top.
-fn total_height(total: u128, most: u64) -> u64
-    requires { 1 ≤ most }
+fn total_height(total: u128, most: u128) -> u64
+    requires some { 1 ≤ most }
+    requires few { most < 2 ^ 100 }
     ensures is { result ≡ height_of total most }
     ensures within { result ≤ 48 }
 {
-    let scaled = u128::from(CURVE) * total.min(u128::from(most)) / u128::from(most);
+    let scaled = u128::from(CURVE) * total.min(most) / most;
     scaled as u64
 }
 
-/// How high the leases out of a column's entries stand, on average.
-fn out_height(max: u32, levels: &[Level]) -> u64
+/// How high the leases out of a column's entries stand, on average, where so many are at the top.
+fn out_height(top: u64, levels: &[Level]) -> u64
     requires few { length levels.now < 2 ^ 30 }
-    ensures { result ≡ out_height max levels.now }
+    ensures { result ≡ out_height top levels.now }
 {
-    let most = (levels.len() as u64 * u64::from(max)).max(1);
+    let most = (levels.len() as u128 * u128::from(top)).max(1);
     total_height(total_out(levels), most)
 }
 
@@ -92,15 +93,15 @@ fn held_height(room: u8, held: &[bool]) -> u64
 pub(crate) fn out_heights(
     alloc: Global,
     columns: Columns,
-    max: u32,
+    top: u64,
     levels: &[Level],
 ) -> Result<Vec<u64>, AllocError>
     requires few { length levels.now < 2 ^ 30 }
-    ensures { IfOk result (λ heights. heights.items ≡ by_column columns (out_height max) levels.now) }
+    ensures { IfOk result (λ heights. heights.items ≡ by_column columns (out_height top) levels.now) }
 {
     let mut heights = Vec::with_capacity(alloc, columns.number as usize)?;
     for place in 0..columns.number {
-        heights.push(out_height(max, column(columns, levels, place)))?;
+        heights.push(out_height(top, column(columns, levels, place)))?;
     }
     Ok(heights)
 }
@@ -164,21 +165,21 @@ pub(crate) struct RunRow {
     pub(crate) engaged: Fill,
 }
 
-/// What a share of a worker's row shows.
-fn share_fill(
+/// What a occupancy of a worker's row shows.
+fn occupancy_fill(
     alloc: Global,
     columns: Columns,
     room: u8,
     spans: &[Span],
     count: u32,
-    share: Share,
+    occupancy: Occupancy,
     worker: u32,
 ) -> Result<Fill, AllocError>
     requires rising { Rising 1 spans.now }
     requires few { count < 2 ^ 30 }
-    ensures { IfOk result (λ fill. fill_view fill ≡ fill_of columns room (standing share worker spans.now count)) }
+    ensures { IfOk result (λ fill. fill_view fill ≡ fill_of columns room (standing occupancy worker spans.now count)) }
 {
-    let held = standing(alloc, share, worker, spans, count)?;
+    let held = standing(alloc, occupancy, worker, spans, count)?;
     fill_of(alloc, columns, room, &held)
 }
 
@@ -194,8 +195,24 @@ fn run_row(
     requires few { count < 2 ^ 30 }
     ensures { IfOk result (λ row. row_view row ≡ run_row columns room spans.now count worker) }
 {
-    let leased = share_fill(alloc, columns, room, spans, count, Share::Leased, worker)?;
-    let engaged = share_fill(alloc, columns, room, spans, count, Share::Engaged, worker)?;
+    let leased = occupancy_fill(
+        alloc,
+        columns,
+        room,
+        spans,
+        count,
+        Occupancy::Leased,
+        worker,
+    )?;
+    let engaged = occupancy_fill(
+        alloc,
+        columns,
+        room,
+        spans,
+        count,
+        Occupancy::Engaged,
+        worker,
+    )?;
     Ok(RunRow { leased, engaged })
 }
 

@@ -2,10 +2,13 @@
 ghost use Rattle.std.specs.Prelude.{◌≡◌, ◌++◌, ◌≤◌, ◌+◌, codes, decimal};
 ghost use Rattle.file_access.specs.PageView.{Adds};
 ghost use Rattle.history_text.specs.Text.{numbered};
-ghost use Rattle.run_picture.specs.Curve.{height_of, stair, out_stair, queue_stair, leases_text, queue_text, scale_text, curve_text};
+ghost use Rattle.run_picture.specs.Curve.{height_of, stair, out_stair, queue_stair, leases_text, queue_text, max_line, scale_top, scale_text, curve_text};
 
-use crate::frames::{CURVE, Frame, LEFT};
-use crate::shapes::{write_across, write_label, write_label_number, write_number};
+use crate::layout::{CURVE, LEFT, Layout};
+use crate::shapes::{
+    begin_text, write_across, write_label, write_label_number, write_number, write_short,
+};
+use crate::totals::Peaks;
 use file_access::{Page, Sink};
 use run_spans::Level;
 
@@ -20,43 +23,43 @@ pub(crate) fn height_of(value: u64, most: u64) -> u64
 }
 
 /// Writes one step of a curve: to the height of a value, and over the entry.
-fn write_stair<K: Sink>(frame: &Frame, entry: u64, height: u64, page: &mut Page, sink: &mut K)
+fn write_stair<K: Sink>(layout: &Layout, entry: u64, height: u64, page: &mut Page, sink: &mut K)
     requires { height ≤ 48 }
-    ensures { Adds (K.seen sink.old) page.old (K.seen sink.new) page.new (stair frame.now entry height) }
+    ensures { Adds (K.seen sink.old) page.old (K.seen sink.new) page.new (stair layout.now entry height) }
 {
-    write_number(b"V", frame.base().saturating_sub(height), page, sink);
-    write_number(b"H", frame.x_of(entry.saturating_add(1)), page, sink);
+    write_number(b"V", layout.base().saturating_sub(height), page, sink);
+    write_number(b"H", layout.x_of(entry.saturating_add(1)), page, sink);
 }
 
 /// Writes the step of the leases out after an entry.
 fn write_out<K: Sink>(
-    frame: &Frame,
-    max: u64,
+    layout: &Layout,
+    top: u64,
     entry: u64,
     level: &Level,
     page: &mut Page,
     sink: &mut K,
 )
-    requires { 1 ≤ max }
-    ensures { Adds (K.seen sink.old) page.old (K.seen sink.new) page.new (out_stair frame.now max entry level.now) }
+    requires { 1 ≤ top }
+    ensures { Adds (K.seen sink.old) page.old (K.seen sink.new) page.new (out_stair layout.now top entry level.now) }
 {
-    write_stair(frame, entry, height_of(level.out, max), page, sink);
+    write_stair(layout, entry, height_of(level.out, top), page, sink);
 }
 
 /// Writes the steps of the leases out.
-fn write_outs<K: Sink>(frame: &Frame, max: u64, levels: &[Level], page: &mut Page, sink: &mut K)
-    requires { 1 ≤ max }
-    ensures { Adds (K.seen sink.old) page.old (K.seen sink.new) page.new (numbered (out_stair frame.now max) frame.now.first levels.now) }
+fn write_outs<K: Sink>(layout: &Layout, top: u64, levels: &[Level], page: &mut Page, sink: &mut K)
+    requires { 1 ≤ top }
+    ensures { Adds (K.seen sink.old) page.old (K.seen sink.new) page.new (numbered (out_stair layout.now top) layout.now.first levels.now) }
 {
     for place in 0..levels.len() {
-        let entry = u64::from(frame.first) + place as u64;
-        write_out(frame, max, entry, &levels[place], page, sink);
+        let entry = u64::from(layout.first) + place as u64;
+        write_out(layout, top, entry, &levels[place], page, sink);
     }
 }
 
 /// Writes the step of the queued items after an entry.
 fn write_queue_step<K: Sink>(
-    frame: &Frame,
+    layout: &Layout,
     most: u64,
     entry: u64,
     level: &Level,
@@ -64,30 +67,30 @@ fn write_queue_step<K: Sink>(
     sink: &mut K,
 )
     requires { 1 ≤ most }
-    ensures { Adds (K.seen sink.old) page.old (K.seen sink.new) page.new (queue_stair frame.now most entry level.now) }
+    ensures { Adds (K.seen sink.old) page.old (K.seen sink.new) page.new (queue_stair layout.now most entry level.now) }
 {
-    write_stair(frame, entry, height_of(level.queued, most), page, sink);
+    write_stair(layout, entry, height_of(level.queued, most), page, sink);
 }
 
 /// Writes the steps of the queued items.
-fn write_queue<K: Sink>(frame: &Frame, most: u64, levels: &[Level], page: &mut Page, sink: &mut K)
+fn write_queue<K: Sink>(layout: &Layout, most: u64, levels: &[Level], page: &mut Page, sink: &mut K)
     requires { 1 ≤ most }
-    ensures { Adds (K.seen sink.old) page.old (K.seen sink.new) page.new (numbered (queue_stair frame.now most) frame.now.first levels.now) }
+    ensures { Adds (K.seen sink.old) page.old (K.seen sink.new) page.new (numbered (queue_stair layout.now most) layout.now.first levels.now) }
 {
     for place in 0..levels.len() {
-        let entry = u64::from(frame.first) + place as u64;
-        write_queue_step(frame, most, entry, &levels[place], page, sink);
+        let entry = u64::from(layout.first) + place as u64;
+        write_queue_step(layout, most, entry, &levels[place], page, sink);
     }
 }
 
 /// Writes the curve of leases out, as an area under a line.
-fn write_leases<K: Sink>(frame: &Frame, max: u64, levels: &[Level], page: &mut Page, sink: &mut K)
-    requires { 1 ≤ max }
-    ensures { Adds (K.seen sink.old) page.old (K.seen sink.new) page.new (leases_text frame.now max levels.now) }
+fn write_leases<K: Sink>(layout: &Layout, top: u64, levels: &[Level], page: &mut Page, sink: &mut K)
+    requires { 1 ≤ top }
+    ensures { Adds (K.seen sink.old) page.old (K.seen sink.new) page.new (leases_text layout.now top levels.now) }
 {
-    let base = frame.base();
+    let base = layout.base();
     write_number(b"<path class=\"c\" d=\"M76 ", base, page, sink);
-    write_outs(frame, max, levels, page, sink);
+    write_outs(layout, top, levels, page, sink);
     write_number(b"V", base, page, sink);
     page.text(
         sink,
@@ -97,7 +100,7 @@ fn write_leases<K: Sink>(frame: &Frame, max: u64, levels: &[Level], page: &mut P
 
 /// Writes the queued items as a line.
 fn write_queued<K: Sink>(
-    frame: &Frame,
+    layout: &Layout,
     queued: u64,
     most: u64,
     levels: &[Level],
@@ -105,11 +108,11 @@ fn write_queued<K: Sink>(
     sink: &mut K,
 )
     requires { 1 ≤ most }
-    ensures { Adds (K.seen sink.old) page.old (K.seen sink.new) page.new (queue_text frame.now queued most levels.now) }
+    ensures { Adds (K.seen sink.old) page.old (K.seen sink.new) page.new (queue_text layout.now queued most levels.now) }
 {
-    let base = frame.base();
+    let base = layout.base();
     write_number(b"<path class=\"q\" d=\"M76 ", base, page, sink);
-    write_queue(frame, most, levels, page, sink);
+    write_queue(layout, most, levels, page, sink);
     write_number(
         b"\"><title>items queued after each entry, ",
         queued,
@@ -119,41 +122,78 @@ fn write_queued<K: Sink>(
     page.text(sink, b" at most in the run</title></path>\n");
 }
 
-/// Writes the scale of the curve.
+/// Writes up to where the curve goes, beside the maximum of leases.
+fn write_scale_top<K: Sink>(y: u64, out: u64, max: u32, page: &mut Page, sink: &mut K)
+    ensures { Adds (K.seen sink.old) page.old (K.seen sink.new) page.new (scale_top y out max) }
+{
+    begin_text(b"e", LEFT - 6, y, page, sink);
+    page.number(sink, out);
+    write_short(b" of max ", max, page, sink);
+    page.text(sink, b"</text>\n");
+}
+
+/// Writes a dashed line at the maximum of leases, where the scale reaches so far, and else a line where it ends.
+fn write_max_line<K: Sink>(layout: &Layout, max: u32, out: u64, page: &mut Page, sink: &mut K)
+    requires { 1 ≤ out }
+    ensures { Adds (K.seen sink.old) page.old (K.seen sink.new) page.new (max_line layout.now max out) }
+{
+    let max = u64::from(max);
+    if max <= out {
+        let y = layout.base().saturating_sub(height_of(max, out));
+        write_across(b"h", LEFT, y, layout.right(), page, sink);
+    } else {
+        write_across(
+            b"f",
+            LEFT,
+            u64::from(layout.top),
+            layout.right(),
+            page,
+            sink,
+        );
+    }
+}
+
+/// Writes the scale of the curves.
 pub(crate) fn write_scale<K: Sink>(
-    frame: &Frame,
-    max: u64,
-    most: u64,
+    layout: &Layout,
+    max: u32,
+    peaks: Peaks,
     page: &mut Page,
     sink: &mut K,
 )
-    ensures { Adds (K.seen sink.old) page.old (K.seen sink.new) page.new (scale_text frame.now max most) }
+    requires { 1 ≤ peaks.out }
+    ensures { Adds (K.seen sink.old) page.old (K.seen sink.new) page.new (scale_text layout.now max peaks) }
 {
-    let top = u64::from(frame.top);
-    let right = frame.right();
-    write_across(b"h", LEFT, top, right, page, sink);
-    write_across(b"o", LEFT, frame.base(), right, page, sink);
-    write_label_number(b"e", LEFT - 6, top + 4, b"max ", max, page, sink);
+    let top = u64::from(layout.top);
+    write_max_line(layout, max, peaks.out, page, sink);
+    write_across(b"o", LEFT, layout.base(), layout.right(), page, sink);
+    write_scale_top(top + 4, peaks.out, max, page, sink);
     write_label(b"x", LEFT - 6, top + 22, b"leases out", page, sink);
-    write_label_number(b"y", LEFT - 6, top + 36, b"queued /", most, page, sink);
+    write_label_number(
+        b"y",
+        LEFT - 6,
+        top + 36,
+        b"queued /",
+        peaks.scale(),
+        page,
+        sink,
+    );
     write_label(b"e", LEFT - 6, top + 49, b"0", page, sink);
 }
 
-/// Writes the curve of a part, by how many items are queued at most in the run.
+/// Writes the curves of a panel, by the peaks of the run.
 pub(crate) fn write_curve<K: Sink>(
-    frame: &Frame,
+    layout: &Layout,
     max: u32,
-    queued: u64,
+    peaks: Peaks,
     levels: &[Level],
     page: &mut Page,
     sink: &mut K,
 )
-    requires { 1 ≤ max }
-    ensures { Adds (K.seen sink.old) page.old (K.seen sink.new) page.new (curve_text frame.now max queued levels.now) }
+    requires { 1 ≤ peaks.out }
+    ensures { Adds (K.seen sink.old) page.old (K.seen sink.new) page.new (curve_text layout.now max peaks levels.now) }
 {
-    let max = u64::from(max);
-    let most = max.max(queued);
-    write_leases(frame, max, levels, page, sink);
-    write_queued(frame, queued, most, levels, page, sink);
-    write_scale(frame, max, most, page, sink);
+    write_leases(layout, peaks.out, levels, page, sink);
+    write_queued(layout, peaks.queued, peaks.scale(), levels, page, sink);
+    write_scale(layout, max, peaks, page, sink);
 }

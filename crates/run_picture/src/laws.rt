@@ -2,18 +2,18 @@
 ghost use Rattle.std.specs.Prelude.{ℕ, ◌≡◌, true};
 ghost use Rattle.std.specs.List.{flat_map};
 ghost use Rattle.history_text.specs.Text.{numbered};
-ghost use Rattle.history_reader.specs.Grammar.{HistoryFits};
-ghost use Rattle.history_reader.specs.HistoryView.{HistoryView};
+ghost use Rattle.history_text.specs.Grammar.{HistoryFits};
+ghost use Rattle.history_text.specs.HistoryView.{HistoryView};
 ghost use Rattle.lock_transforms.specs.Entry.{Entry};
-ghost use Rattle.run_picture.specs.Laws.{all_plain, frame_at};
-ghost use Rattle.run_picture.specs.Picture.{parts_in, picture_text, ticks_of};
+ghost use Rattle.run_picture.specs.Laws.{all_plain, layout_at};
+ghost use Rattle.run_picture.specs.Picture.{panels_in, picture_text, ticks_of};
 ghost use Rattle.run_picture.specs.Ticks.{line_of, marks_of};
-ghost use Rattle.run_picture.specs.declared.frames.Frame.{Frame};
+ghost use Rattle.run_picture.specs.declared.layout.Layout.{Layout};
 
-/// The ticks of all parts are one for each entry of the history, in order, each in the part that shows the entry.
+/// The ticks of all panels are one for each entry of the history, in order, each in the panel that shows the entry.
 pub fn each_entry_has_one_tick()
-    ensures { (h : HistoryView) (other : Frame)
-        → flat_map (ticks_of h) (parts_in h) ≡ numbered (λ n e. marks_of (frame_at other (parts_in h) n) n e) 1 h.entries }
+    ensures { (h : HistoryView) (other : Layout)
+        → flat_map (ticks_of h) (panels_in h) ≡ numbered (λ n e. marks_of (layout_at other (panels_in h) n) n e) 1 h.entries }
 {}
 
 /// Each byte of an entry's line stands for itself in XML, so a title is the line, byte for byte.

@@ -2,27 +2,28 @@
 #![tactic(auto)]
 
 mod axis;
-mod bars;
 mod columns;
 mod curve;
-mod fills;
-mod frames;
-mod heads;
-mod items;
+mod header;
+mod item_bars;
 mod laws;
-mod locks;
+mod layout;
+mod lock_rows;
+mod occupancy;
 mod overview;
-mod parts;
+mod overview_axis;
+mod overview_chart;
+mod overview_rows;
+mod panel;
+mod panels;
+mod picture;
 mod shapes;
-mod shares;
-mod sheets;
-mod staves;
-mod strip;
 mod style;
 mod ticks;
 mod titles;
 mod totals;
-mod whole;
+mod worker_bars;
+mod worker_marks;
 
 pub use laws::{a_picture_has_one_history, each_entry_has_one_tick, lines_stand_for_themselves};
-pub use sheets::{DrawFail, draw};
+pub use picture::{DrawFail, draw};

@@ -1,136 +1,16 @@
-//! The whole run, above the parts where there are several.
-ghost use Rattle.std.specs.Prelude.{◌≡◌, ◌≤◌, ◌<◌, ◌^◌, ◌++◌, map, max, length, IfOk};
-ghost use Rattle.file_access.specs.PageView.{Adds};
-ghost use Rattle.run_picture.specs.Columns.{row_view};
-ghost use Rattle.run_picture.specs.Overview.{run_view, run_of, run_frame, run_axis, run_curve, run_right, overview_text};
-ghost use Rattle.run_picture.specs.Parts.{Rising, part_view};
-ghost use Rattle.run_picture.specs.Totals.{most_queued};
+//! What the whole run above the panels shows.
+ghost use Rattle.std.specs.Prelude.{◌≤◌, ◌<◌, ◌^◌, length};
 
-use crate::columns::{Columns, columns_of, out_heights, queue_heights, run_rows};
-use crate::curve::write_scale;
-use crate::fills::{write_run_leases, write_run_queue, write_run_rows};
-use crate::frames::{Frame, LEFT, run_row_height};
-use crate::shapes::write_label;
-use crate::staves::Part;
-use crate::strip::{write_run_grid, write_strip};
-use crate::totals::most_queued;
-use crate::whole::Overview;
-use file_access::{Page, Sink};
-use run_spans::{Level, Span};
-use std::alloc::{AllocError, Global};
+use crate::columns::{Columns, RunRow};
 
-/// The overview of so many entries, by their levels and spans.
-pub(crate) fn overview_of(
-    alloc: Global,
-    workers: u32,
-    max: u32,
-    levels: &[Level],
-    spans: &[Span],
-    count: u32,
-) -> Result<Overview, AllocError>
-    requires some { 1 ≤ max }
-    requires levels { length levels.now < 2 ^ 30 }
-    requires few { count < 2 ^ 30 }
-    requires rising { Rising 1 spans.now }
-    ensures { IfOk result (λ overview. run_view overview ≡ run_of workers max levels.now spans.now count) }
-{
-    let columns = columns_of(count);
-    let most = most_queued(levels).max(u64::from(max));
-    let out = out_heights(alloc, columns, max, levels)?;
-    let queued = queue_heights(alloc, columns, most, levels)?;
-    let room = run_row_height(workers) - 2;
-    let rows = run_rows(alloc, columns, room, workers, spans, count)?;
-    Ok(Overview {
-        columns,
-        out,
-        queued,
-        rows,
-    })
-}
-
-/// The overview is laid out as a part whose entries are the columns.
-fn run_frame(workers: u32, columns: Columns) -> Frame
-    requires { columns.number < 2 ^ 30 }
-    ensures { result ≡ run_frame workers columns }
-{
-    Frame {
-        first: 1,
-        behind: columns.number + 1,
-        per: 4,
-        top: 116,
-        workers,
-        locks: 0,
-    }
-}
-
-/// Writes the curve of the whole run, by how many items are queued at most.
-fn write_run_curve<K: Sink>(
-    workers: u32,
-    max: u64,
-    most: u64,
-    overview: &Overview,
-    page: &mut Page,
-    sink: &mut K,
-)
-    ensures { Adds (K.seen sink.old) page.old (K.seen sink.new) page.new (run_curve workers max most (run_view overview.now)) }
-{
-    write_run_leases(&overview.out, page, sink);
-    write_run_queue(&overview.queued, page, sink);
-    write_scale(&run_frame(workers, overview.columns), max, most, page, sink);
-}
-
-/// Writes the axis of the whole run.
-fn write_run_axis<K: Sink>(
-    workers: u32,
-    count: u32,
-    overview: &Overview,
-    page: &mut Page,
-    sink: &mut K,
-)
-    ensures { Adds (K.seen sink.old) page.old (K.seen sink.new) page.new (run_axis workers count (run_view overview.now)) }
-{
-    write_label(b"e", LEFT - 6, 178, b"entry", page, sink);
-    write_run_grid(
-        overview.columns.size,
-        right_of(overview),
-        186 + u64::from(workers) * u64::from(run_row_height(workers)),
-        count,
-        page,
-        sink,
-    );
-}
-
-/// Where the whole run ends.
-fn right_of(overview: &Overview) -> u64
-    ensures { result ≡ run_right (run_view overview.now) }
-{
-    LEFT + u64::from(overview.columns.number) * 4
-}
-
-/// Writes the whole run, by how many items are queued at most in it.
-pub(crate) fn write_overview<K: Sink>(
-    workers: u32,
-    max: u64,
-    most: u64,
-    count: u32,
-    parts: &[Part],
-    overview: &Overview,
-    page: &mut Page,
-    sink: &mut K,
-)
-    ensures { Adds (K.seen sink.old) page.old (K.seen sink.new) page.new
-        (overview_text workers max most count (map part_view parts.now) (run_view overview.now)) }
-{
-    write_label(b"w", 8, 95, b"Whole run", page, sink);
-    write_strip(overview.columns.size, parts, page, sink);
-    write_run_axis(workers, count, overview, page, sink);
-    write_run_curve(workers, max, most, overview, page, sink);
-    write_run_rows(
-        workers,
-        right_of(overview),
-        u64::from(count),
-        &overview.rows,
-        page,
-        sink,
-    );
+/// What the overview shows: how high the leases out and the queued items stand in each column, and the rows of the workers.
+#[derive(Drop)]
+pub(crate) struct Overview {
+    pub(crate) columns: Columns,
+    pub(crate) out: Vec<u64>,
+    pub(crate) queued: Vec<u64>,
+    pub(crate) rows: Vec<RunRow>,
+    ghost some: { 1 ≤ columns.size },
+    ghost few: { columns.number < 2 ^ 30 },
+    ghost rows_few: { length rows.items < 2 ^ 32 },
 }

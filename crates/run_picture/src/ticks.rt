@@ -1,16 +1,15 @@
 //! A tick for each entry, whose title is the entry's line.
-ghost use Rattle.std.specs.Prelude.{◌≡◌, map, option_map};
+ghost use Rattle.std.specs.Prelude.{◌≡◌, ◌<◌, map, option_map};
 ghost use Rattle.file_access.specs.PageView.{Adds};
 ghost use Rattle.history_text.specs.Text.{numbered, effect_text};
-ghost use Rattle.history_reader.specs.HistoryView.{entry_read};
-ghost use Rattle.run_picture.specs.Ticks.{line_of, line_title, tick_area, tick_bar, cross_at, cross_text, skip_area, skip_bar, skip_where};
+ghost use Rattle.history_text.specs.HistoryView.{entry_read};
+ghost use Rattle.run_picture.specs.Ticks.{line_of, line_title, tick_area, tick_bar, cross_at, cross_text, skip_step, skip_area, skip_bar, skip_where};
 ghost use Rattle.run_picture.specs.Ticks.{more_marks, marks_of};
 
-use crate::frames::Frame;
+use crate::layout::Layout;
 use crate::shapes::{Area, begin_rect, write_number, write_short};
 use file_access::{Page, Sink};
-use history_reader::HistoryEntry;
-use history_text::{write_effect, write_kind};
+use history_text::{HistoryEntry, write_effect, write_kind};
 use lock_transforms::Kind;
 use resource_lock::Change;
 
@@ -44,14 +43,14 @@ fn write_line_title<K: Sink>(number: u64, entry: &HistoryEntry, page: &mut Page,
 }
 
 /// Where the tick of an entry lies.
-fn tick_area(frame: &Frame, number: u64, worker: u32) -> Area
-    ensures { result ≡ tick_area frame.now number worker }
+fn tick_area(layout: &Layout, number: u64, worker: u32) -> Area
+    ensures { result ≡ tick_area layout.now number worker }
 {
-    let rows = frame.rows();
+    let rows = layout.rows();
     Area {
-        x: frame.x_of(number),
-        y: frame.row_y(worker) + u64::from(rows.tick_y),
-        width: u64::from(frame.per / 2).max(1),
+        x: layout.x_of(number),
+        y: layout.row_y(worker) + u64::from(rows.tick_y),
+        width: u64::from(layout.per / 2).max(1),
         height: u64::from(rows.tick_height),
     }
 }
@@ -85,19 +84,19 @@ fn write_cross_at<K: Sink>(
 
 /// Writes the red cross of an entry that failed.
 fn write_cross<K: Sink>(
-    frame: &Frame,
+    layout: &Layout,
     number: u64,
     entry: &HistoryEntry,
     page: &mut Page,
     sink: &mut K,
 )
-    ensures { Adds (K.seen sink.old) page.old (K.seen sink.new) page.new (cross_text frame.now number (entry_read entry.now)) }
+    ensures { Adds (K.seen sink.old) page.old (K.seen sink.new) page.new (cross_text layout.now number (entry_read entry.now)) }
 {
-    let rows = frame.rows();
-    let row_y = frame.row_y(entry.worker.0);
+    let rows = layout.rows();
+    let row_y = layout.row_y(entry.worker.0);
     let y = row_y + u64::from(rows.lane_y) + u64::from(rows.lane_height / 2);
     write_cross_at(
-        frame.x_of(number),
+        layout.x_of(number),
         y.saturating_sub(3),
         number,
         entry,
@@ -106,16 +105,25 @@ fn write_cross<K: Sink>(
     );
 }
 
-/// Where the grey bar of an entry lies that skips a task.
-fn skip_area(frame: &Frame, number: u64, worker: u32) -> Area
-    ensures { result ≡ skip_area frame.now number worker }
+/// How much lower a skip begins: where an entry has no room for a gap, every other one does.
+fn skip_step(layout: &Layout, number: u64) -> u64
+    ensures is { result ≡ skip_step layout.now number }
+    ensures few { result < 2 }
 {
-    let rows = frame.rows();
+    if layout.per <= 1 { number % 2 } else { 0 }
+}
+
+/// Where the grey bar of an entry lies that skips a task: apart from those beside it.
+fn skip_area(layout: &Layout, number: u64, worker: u32) -> Area
+    ensures { result ≡ skip_area layout.now number worker }
+{
+    let rows = layout.rows();
+    let step = skip_step(layout, number);
     Area {
-        x: frame.x_of(number),
-        y: frame.row_y(worker) + u64::from(rows.task_y),
-        width: u64::from(frame.per).max(2),
-        height: u64::from(rows.task_height),
+        x: layout.x_of(number),
+        y: layout.row_y(worker) + u64::from(rows.task_y) + step,
+        width: u64::from(layout.per).saturating_sub(1).max(1),
+        height: u64::from(rows.task_height).saturating_sub(step),
     }
 }
 
@@ -139,18 +147,18 @@ fn write_skip<K: Sink>(
 
 /// Writes that bar where the entry is for skipping a task.
 fn write_skip_where<K: Sink>(
-    frame: &Frame,
+    layout: &Layout,
     number: u64,
     worker: u32,
     kind: Kind,
     page: &mut Page,
     sink: &mut K,
 )
-    ensures { Adds (K.seen sink.old) page.old (K.seen sink.new) page.new (skip_where frame.now number worker kind) }
+    ensures { Adds (K.seen sink.old) page.old (K.seen sink.new) page.new (skip_where layout.now number worker kind) }
 {
     if let Kind::Skip(task) = kind {
         write_skip(
-            skip_area(frame, number, worker),
+            skip_area(layout, number, worker),
             number,
             worker,
             task,
@@ -162,52 +170,52 @@ fn write_skip_where<K: Sink>(
 
 /// Writes a cross where the entry failed, and a grey bar where it skips a task.
 fn write_more<K: Sink>(
-    frame: &Frame,
+    layout: &Layout,
     number: u64,
     entry: &HistoryEntry,
     page: &mut Page,
     sink: &mut K,
 )
-    ensures { Adds (K.seen sink.old) page.old (K.seen sink.new) page.new (more_marks frame.now number (entry_read entry.now)) }
+    ensures { Adds (K.seen sink.old) page.old (K.seen sink.new) page.new (more_marks layout.now number (entry_read entry.now)) }
 {
     if entry.changes.is_some() {
-        write_skip_where(frame, number, entry.worker.0, entry.kind, page, sink);
+        write_skip_where(layout, number, entry.worker.0, entry.kind, page, sink);
     } else {
-        write_cross(frame, number, entry, page, sink);
+        write_cross(layout, number, entry, page, sink);
     }
 }
 
 /// Writes what an entry itself shows.
 fn write_marks<K: Sink>(
-    frame: &Frame,
+    layout: &Layout,
     number: u64,
     entry: &HistoryEntry,
     page: &mut Page,
     sink: &mut K,
 )
-    ensures { Adds (K.seen sink.old) page.old (K.seen sink.new) page.new (marks_of frame.now number (entry_read entry.now)) }
+    ensures { Adds (K.seen sink.old) page.old (K.seen sink.new) page.new (marks_of layout.now number (entry_read entry.now)) }
 {
     write_tick(
-        tick_area(frame, number, entry.worker.0),
+        tick_area(layout, number, entry.worker.0),
         number,
         entry,
         page,
         sink,
     );
-    write_more(frame, number, entry, page, sink);
+    write_more(layout, number, entry, page, sink);
 }
 
-/// Writes what the entries of a part show.
+/// Writes what the entries of a panel show.
 pub(crate) fn write_ticks<K: Sink>(
-    frame: &Frame,
+    layout: &Layout,
     entries: &[HistoryEntry],
     page: &mut Page,
     sink: &mut K,
 )
-    ensures { Adds (K.seen sink.old) page.old (K.seen sink.new) page.new (numbered (marks_of frame.now) frame.now.first (map entry_read entries.now)) }
+    ensures { Adds (K.seen sink.old) page.old (K.seen sink.new) page.new (numbered (marks_of layout.now) layout.now.first (map entry_read entries.now)) }
 {
     for place in 0..entries.len() {
-        let number = u64::from(frame.first) + place as u64;
-        write_marks(frame, number, &entries[place], page, sink);
+        let number = u64::from(layout.first) + place as u64;
+        write_marks(layout, number, &entries[place], page, sink);
     }
 }

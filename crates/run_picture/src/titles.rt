@@ -1,14 +1,13 @@
 //! What is told where one points at a bar.
 ghost use Rattle.std.specs.Prelude.{◌≡◌, ◌++◌, codes, decimal, map};
 ghost use Rattle.file_access.specs.PageView.{Adds};
-ghost use Rattle.history_reader.specs.HistoryView.{entry_read};
+ghost use Rattle.history_text.specs.HistoryView.{entry_read};
 ghost use Rattle.history_text.specs.Text.{mark_text, outcome_text};
 ghost use Rattle.run_picture.specs.Titles.{over_text, note_text, two_text, at_worker, kind_at, is_fetch};
 
 use crate::shapes::{write_number, write_short};
 use file_access::{Page, Sink};
-use history_reader::HistoryEntry;
-use history_text::{write_mark, write_outcome};
+use history_text::{HistoryEntry, write_mark, write_outcome};
 use lock_transforms::Kind;
 use resource_lock::Mark;
 use run_spans::Span;

@@ -1,10 +1,10 @@
 //! What the head of a picture counts.
 ghost use Rattle.std.specs.Prelude.{◌≡◌, ◌≤◌, ◌*◌, ◌^◌, length, map, count_by};
 ghost use Rattle.resource_lock.specs.declared.marks.Mark.TheVariants.{Failed};
-ghost use Rattle.history_reader.specs.HistoryView.{entry_read};
-ghost use Rattle.run_picture.specs.Totals.{is_task, is_unit, ended_with, skips, most_queued, total_out};
+ghost use Rattle.history_text.specs.HistoryView.{entry_read};
+ghost use Rattle.run_picture.specs.Totals.{is_task, is_unit, ended_with, skips, most_queued, most_out, peaks_of, queue_scale, total_out};
 
-use history_reader::HistoryEntry;
+use history_text::HistoryEntry;
 use lock_transforms::Kind;
 use resource_lock::{Mark, MarkId};
 use run_spans::{Level, Span, Subject};
@@ -76,6 +76,46 @@ pub(crate) fn most_queued(levels: &[Level]) -> u64
         most = level.queued.max(most);
     }
     most
+}
+
+/// How many leases were out at most.
+pub(crate) fn most_out(levels: &[Level]) -> u64
+    ensures { result ≡ most_out levels.now }
+{
+    let mut most = 0;
+    for level in levels {
+        most = level.out.max(most);
+    }
+    most
+}
+
+/// What the scales of the curves reach to.
+#[derive(Clone, Copy)]
+pub(crate) struct Peaks {
+    /// The most leases that were out, and 1 at least.
+    pub(crate) out: u64,
+    /// The most units that were queued.
+    pub(crate) queued: u64,
+}
+
+pub(crate) fn peaks_of(levels: &[Level]) -> Peaks
+    ensures are { result ≡ peaks_of levels.now }
+    ensures some { 1 ≤ result.out }
+{
+    Peaks {
+        out: most_out(levels).max(1),
+        queued: most_queued(levels),
+    }
+}
+
+impl Peaks {
+    /// The scale of the queued units reaches to that of the leases, or higher.
+    pub(crate) fn scale(&self) -> u64
+        ensures is { result ≡ queue_scale self.now }
+        ensures some { 1 ≤ self.now.out → 1 ≤ result }
+    {
+        self.out.max(self.queued)
+    }
 }
 
 /// The leases out after all entries together.

@@ -1,9 +1,9 @@
 //! How many leases are out, and how many items are queued, after each entry.
 ghost use Rattle.std.specs.Prelude.{◌≡◌, map, IfOk, option_map};
-ghost use Rattle.history_reader.specs.HistoryView.{entry_read};
+ghost use Rattle.history_text.specs.HistoryView.{entry_read};
 ghost use Rattle.run_spans.specs.Levels.{after_change, after_changes, levels_of, nothing_out};
 
-use history_reader::HistoryEntry;
+use history_text::HistoryEntry;
 use resource_lock::{Change, Mark, MarkId};
 use std::alloc::{AllocError, Global};
 

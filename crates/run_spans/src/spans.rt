@@ -1,12 +1,12 @@
 //! The spans of a history, in the order in which they begin.
 ghost use Rattle.std.specs.Prelude.{◌≡◌, ◌+◌, ℕ, List, ◌∷◌, ◌++◌, [], map, length, IfOk, OnOk, Option, option_map};
-ghost use Rattle.history_reader.specs.HistoryView.{entry_read};
+ghost use Rattle.history_text.specs.HistoryView.{entry_read};
 ghost use Rattle.run_spans.specs.Steps.{Step, step, steps_of, changes_in};
 ghost use Rattle.run_spans.specs.Spans.{span_with, spans_of};
 ghost use Rattle.run_spans.specs.Tail.{IsTail};
 
 use crate::subjects::{Subject, begins, mark_left, subject_of};
-use history_reader::HistoryEntry;
+use history_text::HistoryEntry;
 use resource_lock::{Change, Mark, WorkerId};
 use std::alloc::{AllocError, Global};
 use std::collections::BTreeMap;

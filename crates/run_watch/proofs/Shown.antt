@@ -6,7 +6,7 @@ use Rattle.std.proofs.lemmas.List.Elements.{All-weaker}
 use mathlib.Core.List.{IsPrefix}
 use Rattle.resource_lock.specs.GraphView.{GraphView}
 use Rattle.resource_lock.specs.declared.ids.WorkerId.{WorkerId}
-use Rattle.coordination.specs.Lasts.{last_in, last_of}
+use Rattle.coordination.specs.WorkerEntries.{last_in, last_of}
 use Rattle.resource_lock.specs.StateView.{leases_out}
 use Rattle.lock_transforms.specs.Entry.{Entry, prefix_state, replay}
 use Rattle.lock_journal.specs.BookView.{BookView}

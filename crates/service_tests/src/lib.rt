@@ -9,3 +9,5 @@ mod replays;
 mod service_jobs_tests;
 #[cfg(test)]
 mod shared_services_tests;
+#[cfg(test)]
+mod uses_tests;

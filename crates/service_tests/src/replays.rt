@@ -3,7 +3,7 @@ ghost use Rattle.std.specs.Prelude.{◌≡◌, ◌<◌, true};
 
 use lock_journal::Book;
 use resource_lock::Change;
-use service_jobs::{Job, JobDone, JobsEnd};
+use shared_services::{Job, JobDone, JobsEnd};
 use std::alloc::{AllocError, Global};
 
 /// How many may use each of the services at once.

@@ -1,15 +1,14 @@
 //! Runs of jobs on one desk and on several.
 ghost use Rattle.std.specs.Prelude.{◌≡◌, All, true};
 ghost use Rattle.shared_services.specs.Services.{AreServices};
-ghost use Rattle.service_jobs.specs.Fit.{FitJobs};
+ghost use Rattle.shared_services.specs.Fit.{FitJobs};
 
 use crate::books::{EntryRow, TWO_SERVICES, has_entries, table_of};
 use crate::replays::{MAXIMA, is_run_of};
 use file_access::{FileEntry, FileMap};
 use item_actions::{ItemAction, Outcome, Text};
 use resource_lock::{Change, LockId};
-use service_jobs::{Job, JobDone, JobsEnd, MAX_JOBS, run_jobs};
-use shared_services::ServiceTable;
+use shared_services::{Job, JobDone, JobsEnd, MAX_JOBS, ServiceTable, run_jobs};
 use std::alloc::{AllocError, Global};
 use std::process::Abort;
 use std::sync::Wait;

@@ -2,3 +2,15 @@ pub mod lemmas
 pub mod Chosen
 pub mod Waiting
 pub mod TakenUses
+pub mod Owning
+pub mod Prefixes
+pub mod Stops
+pub mod OneJob
+pub mod ManyJobs
+pub mod NoTasks
+pub mod Seated
+pub mod Places
+pub mod Back
+pub mod Sharing
+pub mod Joining
+pub mod WholeRun

@@ -12,9 +12,9 @@ use Rattle.resource_lock.specs.declared.marks.MarkId.{MarkId}
 use Rattle.lock_transforms.specs.Taking.{rises}
 use Rattle.lock_transforms.specs.declared.entries.Kind.TheVariants as kinds
 use Rattle.lock_journal.specs.BookView.{BookView}
-use Rattle.history_laws.specs.Own.{claimed}
-use Rattle.history_laws.specs.OwnChanges.{after_all, claimed_after, lock_before, locks_after, with_member}
-use Rattle.history_laws.proofs.lemmas.Claims.{runs_nothing}
+use Rattle.lock_journal.specs.Own.{claimed}
+use Rattle.lock_journal.specs.OwnChanges.{after_all, claimed_after, lock_before, locks_after, with_member}
+use Rattle.lock_journal.proofs.lemmas.Claims.{runs_nothing}
 use Rattle.coordination.specs.Agrees.{Finds}
 use Rattle.coordination.specs.Calls.{HasFinished, WasStopped}
 use Rattle.coordination.specs.declared.rule.Sight.{Sight}

@@ -2,3 +2,10 @@ pub mod Services
 pub mod ServiceTable
 pub mod Takings
 pub mod Shows
+pub mod OneByOne
+pub mod Done
+pub mod Worked
+pub mod Fit
+pub mod Shares
+pub mod Team
+pub mod Run

@@ -7,7 +7,7 @@ use Rattle.std.proofs.lemmas.List.Elements.{Contains-append_left, Contains-push,
 use Rattle.std.proofs.lemmas.Option.{slice_get_within, get_or_from_slice_get}
 use Rattle.lock_transforms.specs.Entry.{Entry}
 use Rattle.ready_work.specs.Lowest.{IsLowest, IsNone}
-use Rattle.task_ranks.specs.Rank.{Dependencies, InRange, after}
+use Rattle.ready_work.specs.Rank.{Dependencies, InRange, after}
 use Rattle.task_ordering.specs.Marks.{IsMarked}
 use Rattle.task_ordering.specs.Befores.{IsListedBefore}
 use Rattle.task_ordering.specs.Checking.{ended_by, started_by, HasEnded, IsEarly, StartsEarly}

@@ -3,7 +3,7 @@ use Rattle.std.proofs.Common.{◌≡◌, ◌≢◌, ◌⊎◌, ◌<◌, ◌≤�
 use Rattle.std.proofs.lemmas.Bool.{cases_eq, cases_lt}
 use Rattle.std.proofs.lemmas.List.{get_or-map, length-map, map-set, take_more}
 use Rattle.std.proofs.lemmas.List.Elements.{Contains-append_left, Contains-push, Contains-push_cases}
-use Rattle.task_ranks.specs.Rank.{Dependencies, lists_of, after as listed}
+use Rattle.ready_work.specs.Rank.{Dependencies, lists_of, after as listed}
 use Rattle.task_ordering.specs.Marks.{IsMarked}
 use Rattle.task_ordering.specs.Tasks.{after, must_after, finalized_by}
 use Rattle.task_ordering.specs.Befores.{IsListedBefore, AddsPairs, HasBoth, TellsBefore}

@@ -1,7 +1,7 @@
 -- Orders of a set and of its marks are the same.
 use Rattle.std.proofs.Common.{◌≡◌, ◌⊎◌, ℕ, Bool, false, List, length, get_or, inl, inr, Contains, sym, ◌∙◌}
 use Rattle.std.proofs.lemmas.Bool.{both_ways, cases_Bool}
-use Rattle.task_ranks.specs.Rank.{Dependencies}
+use Rattle.ready_work.specs.Rank.{Dependencies}
 use Rattle.task_ordering.specs.Marks.{IsMarked, MarksExactly, IsFirstUnplaced}
 use Rattle.task_ordering.specs.Orders.{HasRank, has_rank, IsOrder, IsLeastOrder}
 use Rattle.task_ordering.specs.Tasks.{IsToRun, IsBefore}

@@ -5,7 +5,7 @@ use Rattle.std.proofs.lemmas.Bool.{cases_eq, cases_lt, both_ways}
 use Rattle.std.proofs.lemmas.List.{drop_more, get_or_default}
 use Rattle.std.proofs.lemmas.List.Elements.{Contains-get_or, Contains-append_cases}
 use Rattle.ready_work.specs.NumberSetView.{has, room_of}
-use Rattle.task_ranks.specs.Rank.{Dependencies, after, InRange}
+use Rattle.ready_work.specs.Rank.{Dependencies, after, InRange}
 use Rattle.task_ordering.specs.Marks.{IsMarked}
 use Rattle.task_ordering.specs.Befores.{IsListedBefore}
 use Rattle.task_ordering.specs.Placed.{IsFront, MarksPlaced, AreBefores}

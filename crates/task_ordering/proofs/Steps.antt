@@ -6,8 +6,8 @@ use Rattle.std.proofs.lemmas.List.{get_or_default}
 use Rattle.std.proofs.lemmas.List.Elements.{Contains-append_left, Contains-push, Contains-push_cases, Contains-get_or}
 use Rattle.ready_work.specs.NumberSetView.{has, room_of, IsMember}
 use Rattle.ready_work.specs.Lowest.{IsLowest, IsNone}
-use Rattle.task_ranks.specs.Rank.{Dependencies, after}
-use Rattle.task_ranks.specs.Dependents.{ListsDependents}
+use Rattle.ready_work.specs.Rank.{Dependencies, after}
+use Rattle.ready_work.specs.DependentLists.{ListsDependents}
 use Rattle.task_ordering.specs.Marks.{IsMarked}
 use Rattle.task_ordering.specs.Befores.{IsListedBefore}
 use Rattle.task_ordering.specs.Placed.{IsFront, IsReady, MarksPlaced, AreBefores, AreAllPlaced}

@@ -1,6 +1,6 @@
 -- For each task those that stand before it.
 use Rattle.std.specs.Prelude.{ℕ, ◌≡◌, ◌⊎◌, Bool, List, length, Contains}
-use Rattle.task_ranks.specs.Rank.{Dependencies, after}
+use Rattle.ready_work.specs.Rank.{Dependencies, after}
 use Rattle.task_ordering.specs.Marks.{IsMarked}
 use Rattle.task_ordering.specs.Tasks.{SaysBefore}
 use Rattle.task_ordering.specs.declared.tasks.OrderTask.{OrderTask}

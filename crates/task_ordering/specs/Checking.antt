@@ -5,7 +5,7 @@ use Rattle.lock_transforms.specs.Entry.{Entry}
 use Rattle.lock_transforms.specs.declared.entries.Kind.{Kind}
 use Rattle.lock_transforms.specs.declared.entries.Kind.TheVariants.{Start, Skip, End}
 use Rattle.ready_work.specs.Lowest.{IsLowest, IsNone}
-use Rattle.task_ranks.specs.Rank.{Dependencies}
+use Rattle.ready_work.specs.Rank.{Dependencies}
 use Rattle.task_ordering.specs.Befores.{IsListedBefore}
 use Rattle.task_ordering.specs.declared.checking.Kept.{Kept}
 use Rattle.task_ordering.specs.declared.checking.Kept.TheVariants as found

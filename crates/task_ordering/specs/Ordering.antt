@@ -1,5 +1,5 @@
 -- What the fields of an `Ordering` stand for, and what holds of them.
-use Rattle.task_ranks.specs.Rank.{InRange, lists_of}
+use Rattle.ready_work.specs.Rank.{InRange, lists_of}
 use Rattle.task_ordering.specs.OrderingView.{OrderingView}
 use Rattle.task_ordering.specs.declared.orderings.Ordering.TheInside.{Inside}
 

@@ -1,6 +1,6 @@
 -- What is placed of the members of a set.
 use Rattle.std.specs.Prelude.{ℕ, ◌≡◌, ◌⊎◌, ◌<◌, ◌≤◌, Bool, List, length, slice_index, Contains}
-use Rattle.task_ranks.specs.Rank.{Dependencies}
+use Rattle.ready_work.specs.Rank.{Dependencies}
 use Rattle.task_ordering.specs.Befores.{IsListedBefore, HasBoth}
 use Rattle.task_ordering.specs.Marks.{IsMarked}
 use Rattle.task_ordering.specs.Orders.{HasRank, IsLesser, IsOrder, StandsAt}

@@ -2,7 +2,7 @@
 use Rattle.std.specs.Prelude.{ℕ, ◌≡◌, ◌≢◌, ◌⊎◌, ◌<◌, ◌≤◌, ◌++◌, ◌∷◌, [], Bool, true, false, not, List, length}
 use Rattle.std.specs.Prelude.{slice_index_or, slice_index, slice_set, Contains, count_by}
 use Rattle.ready_work.specs.NumberSetView.{has, room_of}
-use Rattle.task_ranks.specs.Rank.{Dependencies, after}
+use Rattle.ready_work.specs.Rank.{Dependencies, after}
 use Rattle.task_ordering.specs.Befores.{IsListedBefore}
 use Rattle.task_ordering.specs.Marks.{IsMarked}
 use Rattle.task_ordering.specs.Placed.{IsFront, MarksPlaced}

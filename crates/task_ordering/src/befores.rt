@@ -1,6 +1,6 @@
 //! For each task to run those before it.
 ghost use Rattle.std.specs.Prelude.{◌^◌, ◌<◌, ◌≡◌, [], ℕ, length, All, Contains, IfOk, IsTrue, OnOk, ◌↔◌};
-ghost use Rattle.task_ranks.specs.Rank.{after, lists_of};
+ghost use Rattle.ready_work.specs.Rank.{after, lists_of};
 ghost use Rattle.task_ordering.specs.Befores.{AddsPairs, HasBoth, TellsBefore};
 ghost use Rattle.task_ordering.specs.Refusals.{AllNameTasks};
 

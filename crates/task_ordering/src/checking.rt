@@ -1,7 +1,7 @@
 //! Whether the entries of a history keep an order.
 ghost use Rattle.std.specs.Prelude.{false, length, slice_index_or, IfOk, IsTrue, Some, ◌<◌, ◌≡◌, ◌⊎◌, ℕ};
 ghost use Rattle.lock_journal.specs.Shown.{entry_shown};
-ghost use Rattle.task_ranks.specs.Rank.{lists_of, InRange};
+ghost use Rattle.ready_work.specs.Rank.{lists_of, InRange};
 ghost use Rattle.task_ordering.specs.Checking.{StartsEarly, ended_by, started_by};
 ghost use Rattle.task_ordering.specs.Marks.{IsMarked};
 

@@ -51,7 +51,7 @@ impl Ordering {
         Ordering::of_named(alloc, tasks, asked)
     }
 
-    // The same, where each number is that of a task.
+    // `of`, where each number is that of a task.
     fn of_named(alloc: Global, tasks: &[OrderTask], asked: &[u32]) -> Result<Ordering, OrderFail>
         requires { AreNamed tasks.now asked.now }
         ensures accepted { IfOk result (λ _. IsAccepted tasks.now asked.now) }

@@ -1,14 +1,13 @@
 //! Tasks are placed one behind the other: each time the lowest of those whose befores have all been placed.
 ghost use Rattle.std.specs.Prelude.{false, length, slice_index, slice_index_or, All, IfOk, OnOk, ◌<◌, ◌≡◌, ◌≤◌, ◌^◌, [], ℕ};
 ghost use Rattle.ready_work.specs.NumberSetView.{has, room_of};
-ghost use Rattle.task_ranks.specs.Rank.{after, lists_of};
+ghost use Rattle.ready_work.specs.Rank.{after, lists_of};
 ghost use Rattle.task_ordering.specs.Marks.{IsMarked};
 ghost use Rattle.task_ordering.specs.Placed.{AreAllPlaced, AreBefores};
 
 use crate::marks::no_marks;
-use ready_work::NumberSet;
+use ready_work::{NumberSet, dependents_at, dependents_of};
 use std::alloc::{AllocError, Global};
-use task_ranks::{dependents_at, dependents_of};
 
 /// A task has a mark once it is placed. `next` is the place of the task before it that it waits for, and `ready` has
 /// those that wait for none.

@@ -9,7 +9,6 @@ use lease_service::{hand_back, run_as_worker};
 use std::alloc::{AllocError, Global};
 use std::process::Abort;
 use std::sync::Wait;
-use std::test::Fail;
 use std::thread;
 use std::thread::Threads;
 
@@ -54,19 +53,18 @@ impl<'a, R: Wait + Drop> Player<'a, R> {
     // Takes a lease and hands it back. The view shows each entry at once.
     fn take_and_hand_back<W: Wait + Abort>(&mut self, rt: &W) {
         assert!(rt; is_free(&self.pass) && !self.pass.has_lease());
-        assert!(rt; run_as_worker(rt, self.service, &mut self.pass).is_ok());
-        let taken = self.look_at_own_entry();
-        assert!(rt; taken.entries >= self.pass.last() && taken.leases <= LIMITS.max_leases);
-        assert!(rt; is_free(&self.pass) && self.pass.has_lease());
-        assert!(rt; hand_back(rt, self.service, &mut self.pass).is_ok());
-        let free = self.look_at_own_entry();
-        assert!(rt; free.entries >= self.pass.last() && free.leases <= LIMITS.max_leases);
+        let taken = run_as_worker(rt, self.service, &mut self.pass).is_ok()
+            && self.sees_own_entry();
+        assert!(rt; taken && is_free(&self.pass) && self.pass.has_lease());
+        let back = hand_back(rt, self.service, &mut self.pass).is_ok() && self.sees_own_entry();
+        assert!(rt; back);
     }
 
-    // Learns from the pass, and looks.
-    fn look_at_own_entry(&mut self) -> Extent {
+    // Learns from the pass, and looks. Whether what is seen has the own entry and is never too much.
+    fn sees_own_entry(&mut self) -> bool {
         self.pass.teach(&mut self.view);
-        self.view.look()
+        let seen = self.view.look();
+        seen.entries >= self.pass.last() && seen.leases <= LIMITS.max_leases
     }
 
     // Looks over and over. What is seen never goes back, and is never too much.
@@ -74,8 +72,8 @@ impl<'a, R: Wait + Drop> Player<'a, R> {
         let mut last = self.view.look();
         for _ in 0..LOOKS {
             let seen = self.view.look();
-            assert!(rt; seen.entries >= last.entries && seen.leases <= LIMITS.max_leases);
-            assert!(rt; seen.entries > last.entries || seen == last);
+            let goes_on = seen.entries > last.entries || seen == last;
+            assert!(rt; goes_on && seen.leases <= LIMITS.max_leases);
             last = seen;
         }
     }
@@ -141,7 +139,7 @@ fn play_in_threads<R: Threads + Wait + Abort + Sync>(rt: &R, players: &mut [Play
 #[test]
 fn a_view_never_goes_back_while_eight_workers_take_and_hand_back(
     rt: HostRuntime,
-) -> Result<(), Fail> {
+) -> Result<(), AllocError> {
     let opened = open(&rt, rt.alloc(), &rt, &LIMITS, LIMITS.workers)?;
     let OpenedWithViews {
         service,

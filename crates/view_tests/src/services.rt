@@ -18,8 +18,8 @@ pub struct Limits {
     pub max_leases: u32,
 }
 
-// A book without entries, whose graph has no tasks.
-fn book_of(rt: &impl Abort, alloc: Global, limits: &Limits) -> Result<Box<Book>, AllocError>
+/// A book without entries, whose graph has no tasks.
+pub fn book_of(rt: &impl Abort, alloc: Global, limits: &Limits) -> Result<Box<Book>, AllocError>
     ensures state { IfOk result (λ book. book.value.state ≡ opening_of book.value.graph) }
     ensures workers { IfOk result (λ book. book.value.graph.workers ≡ limits.now.workers) }
 {

@@ -6,8 +6,8 @@ use coordination::{Halt, OpenedWithViews, Pass, ShownService};
 use history_views::{Extent, View};
 use lock_transforms::kinds::{Acquire, HandBack, Shortage};
 use resource_lock::LockId;
+use std::alloc::AllocError;
 use std::sync::Wait;
-use std::test::Fail;
 
 // Two workers, of whom one can have the one lock and the one lease.
 fn two_workers() -> Limits
@@ -96,8 +96,21 @@ const fn extent(entries: u64, leases: u32) -> Extent {
     Extent { entries, leases }
 }
 
+/// What the two views show in turn: the number of entries, and of leases.
+static SEEN: [(u64, u32); 7] = [(0, 0), (1, 1), (1, 1), (2, 0), (2, 0), (2, 0), (2, 0)];
+
+// Whether the views show what they have to.
+fn is_shown(seen: &[Extent; 7]) -> bool {
+    for (seen, (entries, leases)) in seen.iter().zip(&SEEN) {
+        if *seen != extent(*entries, *leases) {
+            return false;
+        }
+    }
+    true
+}
+
 #[test]
-fn views_show_what_their_reader_was_told_of(rt: HostRuntime) -> Result<(), Fail> {
+fn views_show_what_their_reader_was_told_of(rt: HostRuntime) -> Result<(), AllocError> {
     let mut opened = open(&rt, rt.alloc(), &rt, &two_workers(), 2)?;
     let OpenedWithViews {
         service,
@@ -106,25 +119,12 @@ fn views_show_what_their_reader_was_told_of(rt: HostRuntime) -> Result<(), Fail>
     } = &mut *opened;
     let (first, second) = views.split_at_mut(1);
     let seen = look_in_turn(&rt, service, &mut passes[0], &mut first[0], &mut second[0]);
-    let Ok(seen) = seen else {
-        return Err(Fail::new("no entry"));
-    };
-    assert!(rt;
-        seen == [
-            extent(0, 0),
-            extent(1, 1),
-            extent(1, 1),
-            extent(2, 0),
-            extent(2, 0),
-            extent(2, 0),
-            extent(2, 0)
-        ]
-    );
+    assert!(rt; matches!(seen, Ok(seen) if is_shown(&seen)));
     Ok(())
 }
 
 #[test]
-fn a_service_with_views_gives_its_book_back(rt: HostRuntime) -> Result<(), Fail> {
+fn a_service_with_views_gives_its_book_back(rt: HostRuntime) -> Result<(), AllocError> {
     let opened = open(&rt, rt.alloc(), &rt, &two_workers(), 1)?;
     let OpenedWithViews {
         service,
@@ -183,7 +183,7 @@ fn are_whole<R: Wait, S: Wait + Drop>(
 }
 
 #[test]
-fn an_entry_that_cannot_be_shown_is_taken_back(rt: HostRuntime) -> Result<(), Fail> {
+fn an_entry_that_cannot_be_shown_is_taken_back(rt: HostRuntime) -> Result<(), AllocError> {
     let mut opened = open(&rt, rt.alloc(), &rt, &two_workers(), 1)?;
     let OpenedWithViews {
         service,
@@ -206,7 +206,7 @@ fn takes_unseen<R: Wait, S: Wait + Drop>(
 }
 
 #[test]
-fn a_service_without_views_works_the_same(rt: HostRuntime) -> Result<(), Fail> {
+fn a_service_without_views_works_the_same(rt: HostRuntime) -> Result<(), AllocError> {
     let mut opened = open(&rt, rt.alloc(), &rt, &two_workers(), 0)?;
     let OpenedWithViews {
         service,

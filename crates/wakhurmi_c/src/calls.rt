@@ -34,7 +34,7 @@ pub extern "C" fn wakhurmi_c_take(alloc: Global, handle: &mut Handle, locks: &[u
     outcome.told()
 }
 
-/// The same, but where it can't have all of them it answers `Refused`, with a failed entry.
+/// Takes what `wakhurmi_c_take` takes. Where it can't have all of it it answers `Refused`, with a failed entry.
 #[unsafe(no_mangle)]
 pub extern "C" fn wakhurmi_c_try_take(alloc: Global, handle: &mut Handle, locks: &[u32]) -> Told
     ensures full { handle.new.full ≡ handle.old.full }

@@ -46,7 +46,7 @@ impl Held {
         }
     }
 
-    /// The same pointer with nothing, and what it had.
+    /// Parts the pointer from the worker that it has: the pointer is empty then.
     pub(crate) fn part(self, alloc: Global) -> (Held, Loose<Worker, Global>)
         requires { self.full ≡ true }
         ensures empty { result.0.full ≡ false }

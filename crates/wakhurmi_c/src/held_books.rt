@@ -40,7 +40,7 @@ impl HeldBook {
         }
     }
 
-    /// The same pointer with nothing, and what it had.
+    /// Parts the pointer from the book that it has: the pointer is empty then.
     pub(crate) fn part(self, alloc: Global) -> (HeldBook, Loose<Book, Global>)
         requires { self.full ≡ true }
         ensures empty { result.0.full ≡ false }

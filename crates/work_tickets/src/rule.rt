@@ -70,13 +70,13 @@ impl Join<PassView> for OneSeat {
 }
 
 /// How many tickets there is room for. Each push picks it: the rule has no word for it.
-pub trait Room {
+pub trait Capacity {
     ghost use Rattle.std.specs.Prelude.{ℕ};
 
     ghost capacity: { ℕ };
 }
 
-impl Room for Brand {
+impl Capacity for Brand {
     ghost capacity = { 0 };
 }
 
@@ -85,11 +85,11 @@ pub struct Push<C> {
     room: PhantomData<C>,
 }
 
-impl<C: Room> Outcome<u32, PassView> for Push<C> {
+impl<C: Capacity> Outcome<u32, PassView> for Push<C> {
     ghost then = { has_pushed C.capacity };
 }
 
-impl<C: Room> Lesson<u32, PassView> for Push<C> {
+impl<C: Capacity> Lesson<u32, PassView> for Push<C> {
     ghost fact = { finds };
 }
 

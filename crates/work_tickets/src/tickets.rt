@@ -9,7 +9,7 @@ ghost use Rattle.work_tickets.specs.Sights.{all_of, fresh, one, sight_of};
 ghost use Rattle.work_tickets.specs.Together.{ComeTo};
 
 use crate::opening::{cut_seats, make_room};
-use crate::rule::{End, FirstInFirstOut, OneSeat, PassView, Pop, Push, Room};
+use crate::rule::{Capacity, End, FirstInFirstOut, OneSeat, PassView, Pop, Push};
 use crate::seats::TicketSeat;
 use crossbeam_queue::{Pass, RuledArrayQueue};
 use std::alloc::{AllocError, Global};
@@ -139,7 +139,7 @@ fn join(queue: &RuledQueue, first: TicketSeat, rest: IntoIter<TicketSeat>) -> Pa
 }
 
 // Puts a ticket at the end of the line, in a queue with room for so many.
-fn push_within<C: Room, R: Wait>(
+fn push_within<C: Capacity, R: Wait>(
     rt: &R,
     queue: &RuledQueue,
     pass: &mut Pass<u32, PassView>,

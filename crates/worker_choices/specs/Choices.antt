@@ -5,7 +5,7 @@ use Rattle.resource_lock.specs.StateView.{StateView}
 use Rattle.resource_lock.specs.declared.ids.WorkerId.{WorkerId}
 use Rattle.ready_work.specs.Choices.{CanSkip}
 use Rattle.ready_work.specs.Lowest.{IsLowest, IsNone}
-use Rattle.history_laws.specs.Marks.{IsEnded}
+use Rattle.lock_journal.specs.Marks.{IsEnded}
 use Rattle.worker_choices.specs.NextSteps.{CanBegin, CanGoOn, can_pop}
 use Rattle.worker_choices.specs.declared.choices.Choice.{Choice}
 use Rattle.worker_choices.specs.declared.choices.Choice.TheVariants as idle

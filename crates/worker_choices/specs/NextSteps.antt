@@ -13,7 +13,7 @@ use Rattle.resource_lock.specs.declared.marks.MarkId.TheVariants.{Unit as UnitOf
 use Rattle.ready_work.specs.Choices.{CanSkip, CanStart}
 use Rattle.ready_work.specs.Lowest.{IsNone}
 use Rattle.lock_transforms.specs.Table.{has_ended}
-use Rattle.history_laws.specs.Marks.{IsEnded}
+use Rattle.lock_journal.specs.Marks.{IsEnded}
 use Rattle.worker_choices.specs.declared.awaited.Awaited.{Awaited}
 use Rattle.worker_choices.specs.declared.awaited.Awaited.TheVariants.{Work, Items}
 use Rattle.worker_choices.specs.declared.stances.Stance.{Stance}

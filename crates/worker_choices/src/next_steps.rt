@@ -5,7 +5,7 @@ ghost use Rattle.resource_lock.specs.Ranges.{lock_with};
 ghost use Rattle.resource_lock.specs.StateView.{kept_from, owner_of};
 ghost use Rattle.resource_lock.specs.Trying.{can_lease};
 ghost use Rattle.ready_work.specs.Lowest.{IsLowest, IsNone};
-ghost use Rattle.history_laws.specs.Marks.{IsEnded};
+ghost use Rattle.lock_journal.specs.Marks.{IsEnded};
 ghost use Rattle.worker_choices.specs.NextSteps.{CanBegin, CanGoOn, can_pop, can_take_again, first_open};
 
 use crate::open_items::first_open;

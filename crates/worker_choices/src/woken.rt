@@ -1,7 +1,7 @@
 //! Whom of the workers that sleep the end of a hold of the state lock wakes.
 ghost use Rattle.std.specs.Prelude.{◌≡◌, ◌<◌, Some, All, false, slice_get, true};
 ghost use Rattle.resource_lock.specs.declared.ids.WorkerId.{WorkerId};
-ghost use Rattle.history_laws.specs.Marks.{IsEnded};
+ghost use Rattle.lock_journal.specs.Marks.{IsEnded};
 ghost use Rattle.worker_choices.specs.NextSteps.{StillWait, Waits};
 ghost use Rattle.worker_choices.specs.declared.awaited.Awaited.{Awaited};
 ghost use Rattle.worker_choices.specs.declared.stances.Stance.TheVariants as stance;

@@ -1,4 +1,4 @@
--- A task with one action of two items, as the worked example runs it.
+-- A task with one action of two items, as the worked example runs it, and one that comes after it and has no actions.
 use Rattle.std.specs.Prelude.{◌≡◌, false, [], ◌∷◌, None}
 use Rattle.resource_lock.specs.GraphView.{GraphView}
 use Rattle.resource_lock.specs.declared.graphs.Retention.{Retention}
@@ -17,7 +17,8 @@ two_items retention = record {
   workers = 2;
   max_leases = 1;
   units = 2;
-  tasks = record { lock = record { 0 = 0 }; after = []; first_action = 0; actions = 1 } ∷ [];
+  tasks = record { lock = record { 0 = 0 }; after = []; first_action = 0; actions = 1 }
+      ∷ record { lock = record { 0 = 0 }; after = 0 ∷ []; first_action = 1; actions = 0 } ∷ [];
   actions = record { task = 0; retention = retention; fetch = false; first_unit = 0; items = 2 } ∷ [];
 }
 

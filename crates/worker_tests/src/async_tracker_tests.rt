@@ -21,7 +21,6 @@ use resource_lock::{Change, GraphAction, LockId, Mark, MarkId, Retention, Worker
 use std::alloc::{AllocError, Global};
 use std::process::Abort;
 use std::sync::Wait;
-use std::test::Fail;
 use worker_choices::Choice;
 
 // Starts the task. False says that it can't be started.
@@ -57,7 +56,7 @@ pub(crate) fn wait_for_items<R: Wait>(
     Ok(Some(park(rt, service, pass, 0)?))
 }
 
-/// Claims an item and closes it. False says that it isn't Queued.
+/// Claims an item and closes it with a number. False says that it isn't Queued.
 pub(crate) fn run_item<R: Wait>(
     rt: &R,
     service: &Coordination,
@@ -72,11 +71,30 @@ pub(crate) fn run_item<R: Wait>(
     ensures service { pass.new.service ≡ pass.old.service }
     ensures helps { OnOk result (CanHelp pass.new.sight parked.now) }
 {
+    run_item_to(rt, service, pass, parked, unit, Outcome::Number(number))
+}
+
+/// Claims an item and closes it with an outcome. False says that it isn't Queued.
+pub(crate) fn run_item_to<R: Wait>(
+    rt: &R,
+    service: &Coordination,
+    pass: &mut Pass,
+    parked: &Parked,
+    unit: u32,
+    outcome: Outcome,
+) -> Result<bool, Halt>
+    requires service { pass.old.service ≡ service.now.service }
+    requires helps { CanHelp pass.old.sight parked.now }
+    requires in_range { unit < 2 }
+    requires worked { outcome ≢ outcomes.Skipped }
+    ensures service { pass.new.service ≡ pass.old.service }
+    ensures helps { OnOk result (CanHelp pass.new.sight parked.now) }
+{
     closing_undoes_claiming();
     if !claim(rt, service, pass, unit)? {
         return Ok(false);
     }
-    match close(rt, service, pass, unit, Outcome::Number(number)) {
+    match close(rt, service, pass, unit, outcome) {
         Ok(()) => Ok(true),
         Err(_) => Err(Halt::NoMemory),
     }
@@ -137,7 +155,7 @@ fn run_task<R: Wait>(rt: &R, service: &Coordination, pass: &mut Pass) -> Result<
     Ok(ran)
 }
 
-/// A service with two workers, one lock and one lease, and the task with two items.
+/// A service with two workers, one lock and one lease, the task with two items, and one that comes after it.
 pub(crate) fn open_task(
     rt: &impl Abort,
     alloc: Global,
@@ -160,6 +178,12 @@ pub(crate) fn open_task(
         first_action: 0,
         actions: 1,
     };
+    let dependent = TaskRow {
+        lock: 0,
+        after: Some(0),
+        first_action: 1,
+        actions: 0,
+    };
     let action = GraphAction {
         task: 0,
         retention,
@@ -167,7 +191,7 @@ pub(crate) fn open_task(
         first_unit: 0,
         items: 2,
     };
-    open(rt, alloc, &limits, &[task], &[action])
+    open(rt, alloc, &limits, &[task, dependent], &[action])
 }
 
 const LOCK: LockId = LockId(0);
@@ -255,7 +279,7 @@ const ENDS_WITH_LEASE: EntryRow<'static> = EntryRow {
     ]),
 };
 
-static RETAINS: [EntryRow<'static>; 3] = [
+const RETAINS: &[EntryRow<'static>] = &[
     EntryRow {
         place: 2,
         kind: Kind::Park(0),
@@ -269,7 +293,7 @@ static RETAINS: [EntryRow<'static>; 3] = [
     ENDS_WITH_LEASE,
 ];
 
-static REACQUIRES: [EntryRow<'static>; 3] = [
+const REACQUIRES: &[EntryRow<'static>] = &[
     PARKS_RELEASING,
     EntryRow {
         place: 7,
@@ -284,7 +308,7 @@ static REACQUIRES: [EntryRow<'static>; 3] = [
     ENDS_WITH_LEASE,
 ];
 
-static RELEASES: [EntryRow<'static>; 3] = [
+const RELEASES: &[EntryRow<'static>] = &[
     PARKS_RELEASING,
     EntryRow {
         place: 7,
@@ -314,20 +338,6 @@ fn makes<R: Wait>(rt: &R, service: &Coordination, pass: &mut Pass, rows: &[Entry
         && are_entries(rt, service, pass, rows)
 }
 
-#[test]
-fn each_retention_makes_its_entries(rt: HostRuntime) -> Result<(), Fail> {
-    for (retention, rows) in [
-        (Retention::Retain, &RETAINS),
-        (Retention::ReleaseAndReacquire, &REACQUIRES),
-        (Retention::Release, &RELEASES),
-    ] {
-        let mut opened = open_task(&rt, rt.alloc(), retention)?;
-        let Opened { service, passes } = &mut *opened;
-        assert!(rt; makes(&rt, service, &mut passes[0], rows));
-    }
-    Ok(())
-}
-
 // Resumes too early, claims an item twice, and then goes on. False says that a call answered
 // otherwise than one expects.
 fn try_too_early<R: Wait>(rt: &R, service: &Coordination, pass: &mut Pass) -> Result<bool, Halt>
@@ -348,14 +358,6 @@ fn try_too_early<R: Wait>(rt: &R, service: &Coordination, pass: &mut Pass) -> Re
     Ok(first && unit == 1 && !again && second && resume(rt, service, pass, parked).is_ok())
 }
 
-#[test]
-fn an_open_item_holds_the_worker(rt: HostRuntime) -> Result<(), Fail> {
-    let mut opened = open_task(&rt, rt.alloc(), Retention::Retain)?;
-    let Opened { service, passes } = &mut *opened;
-    assert!(rt; matches!(try_too_early(&rt, service, &mut passes[0]), Ok(true)));
-    Ok(())
-}
-
 // Whether the worker starts the task as what is next.
 fn starts_what_is_next<R: Wait>(rt: &R, service: &Coordination, pass: &mut Pass) -> bool
     requires service { pass.old.service ≡ service.now.service }
@@ -365,14 +367,6 @@ fn starts_what_is_next<R: Wait>(rt: &R, service: &Coordination, pass: &mut Pass)
         && pass.last() == 1
         && pass.has_lease()
         && are_entries(rt, service, pass, &WORKED[..1])
-}
-
-#[test]
-fn the_task_that_is_next_is_started_at_once(rt: HostRuntime) -> Result<(), Fail> {
-    let mut opened = open_task(&rt, rt.alloc(), Retention::Retain)?;
-    let Opened { service, passes } = &mut *opened;
-    assert!(rt; starts_what_is_next(&rt, service, &mut passes[0]));
-    Ok(())
 }
 
 // Whether the worker queues the items of the task that it starts and waits for them, in one call.
@@ -385,13 +379,52 @@ fn queues_and_waits<R: Wait>(rt: &R, service: &Coordination, pass: &mut Pass) ->
         && submit_and_park(rt, service, pass, 0).is_ok()
         && pass.last() == 3
         && are_entries(rt, service, pass, &WORKED[..2])
-        && are_entries(rt, service, pass, &RELEASES[..1])
+        && are_entries(rt, service, pass, &[PARKS_RELEASING])
+}
+
+/// How a worker works the task.
+#[derive(Clone, Copy)]
+enum Work {
+    /// Call by call, with these entries for its lock.
+    Whole(&'static [EntryRow<'static>]),
+    /// It resumes while an item is open, which holds it.
+    TooEarly,
+    /// It starts what is next.
+    Next,
+    /// It queues the items and waits for them in one call.
+    QueueAndWait,
+}
+
+/// Each retention makes its entries, and then the other ways.
+static WORKS: [(Retention, Work); 6] = [
+    (Retention::Retain, Work::Whole(RETAINS)),
+    (Retention::ReleaseAndReacquire, Work::Whole(REACQUIRES)),
+    (Retention::Release, Work::Whole(RELEASES)),
+    (Retention::Retain, Work::TooEarly),
+    (Retention::Retain, Work::Next),
+    (Retention::Release, Work::QueueAndWait),
+];
+
+// Whether the task is worked so.
+fn works<R: Wait>(rt: &R, service: &Coordination, pass: &mut Pass, work: Work) -> bool
+    requires service { pass.old.service ≡ service.now.service }
+    requires graph { HasTwoItems pass.old.sight.seen.graph }
+    requires rests { HoldsNothing pass.old.sight }
+{
+    match work {
+        Work::Whole(rows) => makes(rt, service, pass, rows),
+        Work::TooEarly => matches!(try_too_early(rt, service, pass), Ok(true)),
+        Work::Next => starts_what_is_next(rt, service, pass),
+        Work::QueueAndWait => queues_and_waits(rt, service, pass),
+    }
 }
 
 #[test]
-fn items_are_queued_and_waited_for_in_one_call(rt: HostRuntime) -> Result<(), Fail> {
-    let mut opened = open_task(&rt, rt.alloc(), Retention::Release)?;
-    let Opened { service, passes } = &mut *opened;
-    assert!(rt; queues_and_waits(&rt, service, &mut passes[0]));
+fn a_task_is_worked_call_by_call(rt: HostRuntime) -> Result<(), AllocError> {
+    for (retention, work) in &WORKS {
+        let mut opened = open_task(&rt, rt.alloc(), *retention)?;
+        let Opened { service, passes } = &mut *opened;
+        assert!(rt; works(&rt, service, &mut passes[0], *work));
+    }
     Ok(())
 }

@@ -4,7 +4,7 @@ ghost use Rattle.std.specs.List.{list_any};
 ghost use Rattle.lock_transforms.specs.Taking.{rises};
 ghost use Rattle.coordination.specs.Shown.{blocked_shown, claimed_shown, lease_shown, locks_shown, parked_shown};
 ghost use Rattle.lease_service.specs.Shows.{MayTake};
-ghost use Rattle.history_laws.specs.Own.{is_unit};
+ghost use Rattle.lock_journal.specs.Own.{is_unit};
 
 use crate::entries::{EntriesFrom, EntryRow, are_entries};
 use crate::services::{open, yield_a_while};
@@ -15,9 +15,9 @@ use lock_tests::rows::Limits;
 use lock_transforms::Kind;
 use lock_transforms::kinds::{Acquire, HandBack, Shortage};
 use resource_lock::{Change, LockId, WorkerId};
+use std::alloc::AllocError;
 use std::process::Abort;
 use std::sync::Wait;
-use std::test::Fail;
 use std::thread;
 use std::thread::Threads;
 
@@ -202,7 +202,7 @@ fn lends_and_steps_aside<R: Wait>(rt: &R, service: &Coordination, passes: &mut [
 }
 
 #[test]
-fn a_section_gives_back_all_meanwhile(rt: HostRuntime) -> Result<(), Fail> {
+fn a_section_gives_back_all_meanwhile(rt: HostRuntime) -> Result<(), AllocError> {
     let mut opened = open(&rt, rt.alloc(), &LIMITS, &[], &[])?;
     let Opened { service, passes } = &mut *opened;
     assert!(rt; lends_and_steps_aside(&rt, service, passes));
@@ -282,18 +282,15 @@ fn play_in_threads<R: Threads + Wait + Abort + Sync>(
     thread::for_each_mut(rt, passes, 2, &|_, pass| { play(rt, service, pass, stops) });
 }
 
+// The lease of another thread ends the wait of leaving, or a stop does.
 #[test]
-fn leaving_waits_for_the_lease_of_another_thread(rt: HostRuntime) -> Result<(), Fail> {
-    let mut opened = open(&rt, rt.alloc(), &ONE_LEASE, &[], &[])?;
-    let Opened { service, passes } = &mut *opened;
-    play_in_threads(&rt, service, passes, false);
-    Ok(())
-}
-
-#[test]
-fn a_stop_ends_leaving(rt: HostRuntime) -> Result<(), Fail> {
-    let mut opened = open(&rt, rt.alloc(), &ONE_LEASE, &[], &[])?;
-    let Opened { service, passes } = &mut *opened;
-    play_in_threads(&rt, service, passes, true);
+fn leaving_waits_for_the_lease_of_another_thread_or_a_stop(
+    rt: HostRuntime,
+) -> Result<(), AllocError> {
+    for stops in [false, true] {
+        let mut opened = open(&rt, rt.alloc(), &ONE_LEASE, &[], &[])?;
+        let Opened { service, passes } = &mut *opened;
+        play_in_threads(&rt, service, passes, stops);
+    }
     Ok(())
 }

@@ -15,8 +15,7 @@ use crate::services::{open, yield_a_while};
 use coordination::{
     Coordination, Decided, Decision, Halt, Opened, Pass, sound_books_have_good_states,
 };
-use history_laws::own_changes_say_all;
-use lock_journal::Book;
+use lock_journal::{Book, own_changes_say_all};
 use lock_tests::rows::{Limits, TaskRow};
 use lock_transforms::kinds::{End, Start};
 use lock_transforms::{Disposition, Kind, Tentative, Transform};
@@ -24,7 +23,6 @@ use resource_lock::{LockId, Mark, MarkId, WorkerId};
 use std::alloc::{AllocError, Global};
 use std::process::Abort;
 use std::sync::Wait;
-use std::test::Fail;
 use std::thread;
 use std::thread::Threads;
 
@@ -141,7 +139,7 @@ fn takes_by_a_try<R: Wait>(rt: &R, service: &Coordination, pass: &mut Pass) -> b
 }
 
 #[test]
-fn a_free_lock_is_taken_by_a_try(rt: HostRuntime) -> Result<(), Fail> {
+fn a_free_lock_is_taken_by_a_try(rt: HostRuntime) -> Result<(), AllocError> {
     let limits = Limits {
         locks: 1,
         all: None,
@@ -367,7 +365,11 @@ struct Scene {
 fn rows_of(alloc: Global, scene: &Scene) -> Result<Vec<TaskRow>, AllocError> {
     let mut rows = Vec::new(alloc);
     for number in 0..scene.tasks {
-        let after = number.checked_sub(1).filter(|_| scene.chained);
+        let after = if scene.chained {
+            number.checked_sub(1)
+        } else {
+            None
+        };
         rows.push(task(number % 4, after))?;
     }
     Ok(rows)
@@ -428,72 +430,61 @@ fn comes_to_its_end<R: Threads + Wait + Abort + Sync>(
     Ok(book.len() == scene.entries && (scene.entries == 0 || is_at_rest(&book)))
 }
 
-#[test]
-fn two_threads_that_retry_take_turns(rt: HostRuntime) -> Result<(), Fail> {
-    let scene = Scene {
+/// Two threads that retry take turns; many threads share few locks; a question waits for the failed entry of another thread;
+/// nobody comes between a decision and its entry; a stop ends all waits.
+static SCENES: [Scene; 5] = [
+    Scene {
         play: Play::RunInTurn,
         workers: 2,
         tasks: 2000,
         chained: true,
         turns: 2000,
         entries: 4000,
-    };
-    assert!(rt; comes_to_its_end(&rt, rt.alloc(), &scene)?);
-    Ok(())
-}
-
-#[test]
-fn many_threads_share_few_locks(rt: HostRuntime) -> Result<(), Fail> {
-    let scene = Scene {
+    },
+    Scene {
         play: Play::RunOwn,
         workers: 32,
         tasks: 1280,
         chained: false,
         turns: 40,
         entries: 2560,
-    };
-    assert!(rt; comes_to_its_end(&rt, rt.alloc(), &scene)?);
-    Ok(())
-}
-
-#[test]
-fn a_question_waits_for_the_failed_entry_of_another_thread(rt: HostRuntime) -> Result<(), Fail> {
-    let scene = Scene {
+    },
+    Scene {
         play: Play::FailInTurn,
         workers: 2,
         tasks: 0,
         chained: false,
         turns: 2000,
         entries: 2000,
-    };
-    assert!(rt; comes_to_its_end(&rt, rt.alloc(), &scene)?);
-    Ok(())
-}
-
-#[test]
-fn nobody_comes_between_a_decision_and_its_entry(rt: HostRuntime) -> Result<(), Fail> {
-    let scene = Scene {
+    },
+    Scene {
         play: Play::CountAndFail,
         workers: 8,
         tasks: 0,
         chained: false,
         turns: 500,
         entries: 4000,
-    };
-    assert!(rt; comes_to_its_end(&rt, rt.alloc(), &scene)?);
-    Ok(())
-}
-
-#[test]
-fn a_stop_ends_all_waits(rt: HostRuntime) -> Result<(), Fail> {
-    let scene = Scene {
+    },
+    Scene {
         play: Play::StopOthers,
         workers: 8,
         tasks: 2,
         chained: true,
         turns: 1,
         entries: 0,
-    };
-    assert!(rt; comes_to_its_end(&rt, rt.alloc(), &scene)?);
+    },
+];
+
+#[test]
+fn workers_come_to_their_ends_in_turns_on_few_locks_and_by_a_stop(
+    rt: HostRuntime,
+) -> Result<(), AllocError> {
+    for scene in &SCENES {
+        assert!(rt;
+            comes_to_its_end(&rt, rt.alloc(), scene)?,
+            "{} entries",
+            scene.entries
+        );
+    }
     Ok(())
 }

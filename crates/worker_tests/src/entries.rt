@@ -32,6 +32,16 @@ fn has_entry(book: &Book, row: &EntryRow<'_>) -> bool {
     as_changed && shown.kind == row.kind
 }
 
+// Whether the history has all of these entries.
+fn has_entries(book: &Book, rows: &[EntryRow<'_>]) -> bool {
+    for row in rows {
+        if !has_entry(book, row) {
+            return false;
+        }
+    }
+    true
+}
+
 /// Whether the history has these entries.
 #[derive(Clone, Copy)]
 struct HasEntries<'a> {
@@ -52,7 +62,7 @@ impl Question for HasEntries<'_> {
     }
 
     fn ask(&self, _worker: WorkerId, book: &Book, _queued: bool) -> Option<bool> {
-        Some(self.rows.iter().all(|row| has_entry(book, row)))
+        Some(has_entries(book, self.rows))
     }
 }
 

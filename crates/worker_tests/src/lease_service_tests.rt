@@ -14,11 +14,10 @@ use lease_service::{
 };
 use lock_tests::rows::Limits;
 use lock_transforms::Kind;
-use resource_lock::{Change, LockId, WorkerId};
+use resource_lock::{Change, Graph, LockId, WorkerId};
 use std::alloc::{AllocError, Global};
 use std::process::Abort;
 use std::sync::Wait;
-use std::test::Fail;
 use std::thread;
 use std::thread::Threads;
 
@@ -120,14 +119,14 @@ type Turn = (usize, Call, bool, usize, bool);
 
 /// Two workers share three locks. The second can't get the second and third while the first has
 /// the first and third, but the second alone, which it hands back.
-static SHARE: [Turn; 4] = [
+const SHARE: &[Turn] = &[
     (0, Call::Take(Asked::FirstAndThird), true, 2, true),
     (1, Call::Try(Asked::SecondAndThird), false, 0, false),
     (1, Call::Try(Asked::Second), true, 1, true),
     (1, Call::HandBack, true, 0, false),
 ];
 
-static SHARED: [EntryRow<'static>; 2] = [
+const SHARED: &[EntryRow<'static>] = &[
     EntryRow {
         place: 0,
         kind: Kind::Acquire,
@@ -141,7 +140,7 @@ static SHARED: [EntryRow<'static>; 2] = [
 ];
 
 /// A busy lock is free once it was handed back by a worker, which then takes a lease alone.
-static FREE: [Turn; 5] = [
+const FREE: &[Turn] = &[
     (0, Call::Take(Asked::First), true, 1, true),
     (1, Call::Try(Asked::First), false, 0, false),
     (0, Call::HandBack, true, 0, false),
@@ -183,19 +182,16 @@ fn all_go<R: Wait + Abort>(
     are_entries(rt, service, &mut passes[0], rows)
 }
 
-#[test]
-fn two_workers_share_three_locks(rt: HostRuntime) -> Result<(), Fail> {
-    let mut opened = open(&rt, rt.alloc(), &LIMITS, &[], &[])?;
-    let Opened { service, passes } = &mut *opened;
-    assert!(rt; all_go(&rt, service, passes, &SHARE, &SHARED));
-    Ok(())
-}
+/// Turns, and entries that the history then has.
+static PLAYS: [(&[Turn], &[EntryRow<'static>]); 2] = [(SHARE, SHARED), (FREE, &[])];
 
 #[test]
-fn a_busy_lock_is_free_once_handed_back(rt: HostRuntime) -> Result<(), Fail> {
-    let mut opened = open(&rt, rt.alloc(), &LIMITS, &[], &[])?;
-    let Opened { service, passes } = &mut *opened;
-    assert!(rt; all_go(&rt, service, passes, &FREE, &[]));
+fn workers_take_free_locks_and_no_busy_ones(rt: HostRuntime) -> Result<(), AllocError> {
+    for (turns, rows) in &PLAYS {
+        let mut opened = open(&rt, rt.alloc(), &LIMITS, &[], &[])?;
+        let Opened { service, passes } = &mut *opened;
+        assert!(rt; all_go(&rt, service, passes, turns, rows));
+    }
     Ok(())
 }
 
@@ -227,11 +223,24 @@ fn has_lock(
     Ok(locks.lock_of(&name) == expected && locks.count() == 1 + u32::from(parallel))
 }
 
+// Whether a graph of two workers has the locks of both projects, and one for all projects behind them.
+fn has_lock_for_all(alloc: Global, parallel: bool) -> Result<bool, AllocError> {
+    let locks = two_projects(alloc, parallel)?;
+    let all = locks.all_lock();
+    Ok(all.0 == locks.count() && Graph::fits(all.0.saturating_add(1), Some(all), 2, 2, &[], &[]))
+}
+
 #[test]
-fn projects_have_locks_of_their_own_in_parallel(rt: HostRuntime) -> Result<(), Fail> {
-    for (name, parallel, expected) in PROJECTS {
-        assert!(rt; has_lock(rt.alloc(), name, parallel, expected)?);
+fn projects_have_locks_of_their_own_in_parallel(rt: HostRuntime) -> Result<(), AllocError> {
+    for (name, parallel, expected) in &PROJECTS {
+        assert!(rt; has_lock(rt.alloc(), name, *parallel, *expected)?);
     }
+    Ok(())
+}
+
+#[test]
+fn all_projects_have_one_lock_behind_their_own(rt: HostRuntime) -> Result<(), AllocError> {
+    assert!(rt; has_lock_for_all(rt.alloc(), false)? && has_lock_for_all(rt.alloc(), true)?);
     Ok(())
 }
 
@@ -294,17 +303,13 @@ fn wait_in_threads<R: Threads + Wait + Abort + Sync>(
 }
 
 #[test]
-fn a_lock_is_waited_for_until_it_is_handed_back(rt: HostRuntime) -> Result<(), Fail> {
-    let mut opened = open(&rt, rt.alloc(), &LIMITS, &[], &[])?;
-    let Opened { service, passes } = &mut *opened;
-    wait_in_threads(&rt, service, passes, false);
-    Ok(())
-}
-
-#[test]
-fn a_stop_ends_the_wait_for_a_lock(rt: HostRuntime) -> Result<(), Fail> {
-    let mut opened = open(&rt, rt.alloc(), &LIMITS, &[], &[])?;
-    let Opened { service, passes } = &mut *opened;
-    wait_in_threads(&rt, service, passes, true);
+fn a_lock_is_waited_for_until_it_is_handed_back_or_a_stop(
+    rt: HostRuntime,
+) -> Result<(), AllocError> {
+    for stops in [false, true] {
+        let mut opened = open(&rt, rt.alloc(), &LIMITS, &[], &[])?;
+        let Opened { service, passes } = &mut *opened;
+        wait_in_threads(&rt, service, passes, stops);
+    }
     Ok(())
 }

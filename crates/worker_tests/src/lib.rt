@@ -14,4 +14,6 @@ mod lease_service_tests;
 #[cfg(test)]
 mod services;
 #[cfg(test)]
+mod skipping_tests;
+#[cfg(test)]
 mod waiting_tests;

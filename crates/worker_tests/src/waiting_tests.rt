@@ -9,8 +9,8 @@ use async_tracker::Parked;
 use coordination::{Coordination, Halt, Opened, Pass};
 use lock_transforms::kinds::{Acquire, HandBack, Shortage};
 use resource_lock::{LockId, Retention, WorkerId};
+use std::alloc::AllocError;
 use std::sync::Wait;
-use std::test::Fail;
 use std::thread::{Threads, join};
 
 const LOCK: LockId = LockId(0);
@@ -142,22 +142,22 @@ fn ends<R: Threads + Wait + Sync>(
     }
 }
 
-#[test]
-fn a_claim_waits_for_a_lease(rt: HostRuntime) -> Result<(), Fail> {
-    for stops in [false, true] {
-        let mut opened = open_task(&rt, rt.alloc(), Retention::Release)?;
-        let Opened { service, passes } = &mut *opened;
-        assert!(rt; ends(&rt, service, passes, Wanted::Lease, stops));
-    }
-    Ok(())
-}
+/// What becomes of the task's lock while it is parked, what its worker waits for then, and whether the other stops the service.
+static WAITS: [(Retention, Wanted, bool); 4] = [
+    (Retention::Release, Wanted::Lease, false),
+    (Retention::Release, Wanted::Lease, true),
+    (Retention::ReleaseAndReacquire, Wanted::LockAndLease, false),
+    (Retention::ReleaseAndReacquire, Wanted::LockAndLease, true),
+];
 
 #[test]
-fn a_resume_waits_for_the_lock_and_a_lease(rt: HostRuntime) -> Result<(), Fail> {
-    for stops in [false, true] {
-        let mut opened = open_task(&rt, rt.alloc(), Retention::ReleaseAndReacquire)?;
+fn a_claim_waits_for_a_lease_and_a_resume_for_the_lock_too(
+    rt: HostRuntime,
+) -> Result<(), AllocError> {
+    for (retention, wanted, stops) in &WAITS {
+        let mut opened = open_task(&rt, rt.alloc(), *retention)?;
         let Opened { service, passes } = &mut *opened;
-        assert!(rt; ends(&rt, service, passes, Wanted::LockAndLease, stops));
+        assert!(rt; ends(&rt, service, passes, *wanted, *stops));
     }
     Ok(())
 }

@@ -30,10 +30,10 @@ use Rattle.lock_transforms.specs.Allowed.{Lawful}
 use Rattle.lock_transforms.specs.Table.{condition, has_ended, on_resume}
 use Rattle.lock_transforms.specs.Taking.{can_take_all}
 use Rattle.lock_transforms.specs.declared.entries.Kind.TheVariants.{Resume}
-use Rattle.history_laws.specs.Marks.{IsEnded}
-use Rattle.history_laws.specs.OwnChanges.{mark_before, with_if, without_if, without_member}
-use Rattle.history_laws.proofs.lemmas.Growing.{marks_stay}
-use Rattle.history_laws.proofs.lemmas.OwnChanges.{own_holding_all}
+use Rattle.lock_journal.specs.Marks.{IsEnded}
+use Rattle.lock_journal.specs.OwnChanges.{mark_before, with_if, without_if, without_member}
+use Rattle.lock_journal.proofs.lemmas.Growing.{marks_stay}
+use Rattle.lock_journal.proofs.lemmas.OwnChanges.{own_holding_all}
 use Rattle.coordination.specs.Agrees.{Finds, IsSoundBook}
 use Rattle.coordination.specs.Calls.{HasFinished, HasLooked, IsAnswered}
 use Rattle.coordination.specs.Shown.{blocked_shown, claimed_shown, lease_shown, locks_shown, parked_shown}
@@ -44,7 +44,7 @@ use Rattle.async_tracker.specs.Shows.{HasParkedLast, IsFree, IsParkedBy, ShowsRe
 use Rattle.worker_choices.specs.NextSteps.{CanGoOn, can_take_again, first_open}
 use Rattle.async_tracker.specs.Waits.{CannotResume, CannotTakeAgain, IsFirstOpen}
 use Rattle.coordination.proofs.lemmas.Shown.{Leaves, shows_left}
-use Rattle.history_laws.proofs.lemmas.Claims.{action_runs, unit_claimed}
+use Rattle.lock_journal.proofs.lemmas.Claims.{action_runs, unit_claimed}
 use Rattle.async_tracker.proofs.Parking.{stands_in-last}
 
 -- no item is open where all have ended

@@ -20,8 +20,8 @@ use Rattle.coordination.specs.Shown.{ShowsTheSame}
 use Rattle.coordination.specs.declared.rule.Sight.{Sight}
 use Rattle.coordination.proofs.lemmas.Growing.{agrees_then}
 use Rattle.async_tracker.specs.ParkedView.{ParkedView}
-use Rattle.history_laws.specs.Own.{is_action, is_unit}
-use Rattle.history_laws.specs.OwnChanges.{mark_before, with_member, without_member}
+use Rattle.lock_journal.specs.Own.{is_action, is_unit}
+use Rattle.lock_journal.specs.OwnChanges.{mark_before, with_member, without_member}
 use Rattle.async_tracker.specs.Shows.{HasParkedLast, IsFree, IsIdleOrParked, IsParkedBy, ShowsParked, ShowsResumed, locks_on_park, locks_on_resume, parked_on_park, parked_on_resume}
 
 module _ {A : Type 0} {answers : WorkerId → BookView → A → Type 0} {a : A} {old mid : Sight} (q : IsAnswered answers a old mid) where

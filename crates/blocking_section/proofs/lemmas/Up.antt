@@ -31,8 +31,8 @@ use Rattle.lock_transforms.specs.Table.{condition, is_enabled, list_of, mark_fro
 use Rattle.lock_transforms.specs.Taking.{can_take_all, rises}
 use Rattle.lock_transforms.specs.declared.entries.Closed.{Closed}
 use Rattle.lock_transforms.specs.declared.entries.Kind.TheVariants.{Unblock}
-use Rattle.history_laws.specs.OwnChanges.{after_all, claimed_after, lock_before, locks_after, with_member}
-use Rattle.history_laws.proofs.lemmas.OwnChanges.{own_holding_all}
+use Rattle.lock_journal.specs.OwnChanges.{after_all, claimed_after, lock_before, locks_after, with_member}
+use Rattle.lock_journal.proofs.lemmas.OwnChanges.{own_holding_all}
 use Rattle.blocking_section.proofs.After.{after_all-append}
 
 -- lists backwards

@@ -5,7 +5,7 @@ use Rattle.lock_journal.specs.BookView.{BookView}
 use Rattle.item_work.specs.Requests.{SentView}
 use Rattle.plan_reader.specs.PlanView.{PlanView}
 use Rattle.plan_reader.specs.Units.{plan_units}
-use Rattle.history_laws.specs.ClosedBy.{closed_by}
+use Rattle.lock_journal.specs.ClosedBy.{closed_by}
 use Rattle.build_runner.specs.Desks.{DeskView}
 use Rattle.build_runner.specs.Run.{HasResults, IsRunOf, WasBrokenOff}
 use Rattle.build_runner.specs.Sent.{AreSentAndOneMore, AreSentFor}

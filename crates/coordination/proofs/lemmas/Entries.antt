@@ -15,9 +15,9 @@ use Rattle.lock_journal.specs.BookView.{BookView}
 use Rattle.lock_journal.specs.LastChanges.{last_changes, made_by}
 use Rattle.lock_transforms.specs.declared.transforms.Disposition.{Disposition}
 use Rattle.lock_transforms.specs.declared.transforms.Disposition.TheVariants.{Finished, Failed}
-use Rattle.history_laws.proofs.lemmas.Named.{belongs, good}
+use Rattle.lock_journal.proofs.lemmas.Named.{belongs, good}
 use Rattle.coordination.specs.Agrees.{IsSoundBook}
-use Rattle.coordination.specs.Lasts.{last_of}
+use Rattle.coordination.specs.WorkerEntries.{last_of}
 use Rattle.coordination.specs.Parts.{Follows, Has, HasListRoom, IsPartOf, LeadsOn, mark_count, marks_of}
 use Rattle.coordination.specs.declared.parts.Part.{Part}
 use Rattle.coordination.proofs.lemmas.Growing.{last_of-own}

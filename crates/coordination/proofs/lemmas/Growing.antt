@@ -10,11 +10,11 @@ use Rattle.resource_lock.specs.declared.ids.WorkerId.{WorkerId}
 use Rattle.lock_transforms.specs.Allowed.{Lawful}
 use Rattle.lock_transforms.specs.Entry.{Entry, replay}
 use Rattle.lock_journal.specs.BookView.{BookView}
-use Rattle.history_laws.specs.ClosedBy.{closed_by}
-use Rattle.history_laws.specs.Own.{NoneOf, SameFor}
-use Rattle.history_laws.proofs.lemmas.Growing.{closed_by-own, same_by_own}
+use Rattle.lock_journal.specs.ClosedBy.{closed_by}
+use Rattle.lock_journal.specs.Own.{NoneOf, SameFor}
+use Rattle.lock_journal.proofs.lemmas.Growing.{closed_by-own, same_by_own}
 use Rattle.coordination.specs.Agrees.{Agrees, IsSoundBook}
-use Rattle.coordination.specs.Lasts.{last_in, last_of, entry_count_of}
+use Rattle.coordination.specs.WorkerEntries.{last_in, last_of, entry_count_of}
 
 pub none_of-append : (w : WorkerId) (xs ys : List Entry) → NoneOf w xs → NoneOf w ys → NoneOf w (xs ++ ys)
 none_of-append w [] ys p q = q

@@ -10,10 +10,10 @@ use Rattle.resource_lock.specs.declared.marks.MarkId.{MarkId}
 use Rattle.resource_lock.specs.declared.marks.MarkId.TheVariants.{Task as TaskOf, Action as ActionOf, Unit as UnitOf}
 use Rattle.lock_journal.specs.BookView.{BookView}
 use Rattle.lock_transforms.specs.Table.{owned, owned_from}
-use Rattle.history_laws.specs.Own.{action_at, claimed, marks_in, places_from, task_at, unit_at}
-use Rattle.history_laws.proofs.lemmas.Others.{running_of}
+use Rattle.lock_journal.specs.Own.{action_at, claimed, marks_in, places_from, task_at, unit_at}
+use Rattle.lock_journal.proofs.lemmas.Others.{running_of}
 use Rattle.resource_lock.specs.AtRest.{IsAtRest}
-use Rattle.coordination.specs.Lasts.{last_of}
+use Rattle.coordination.specs.WorkerEntries.{last_of}
 use Rattle.coordination.specs.Parts.{ArePartsFrom, HasListRoom, IsFreshPart, IsPartOf, marks_of}
 use Rattle.coordination.specs.declared.parts.Part.{Part}
 use Rattle.coordination.specs.declared.parts.Room.{Room}

@@ -10,9 +10,9 @@ use Rattle.resource_lock.proofs.lemmas.Runs.{worker_from}
 use Rattle.lock_journal.specs.BookView.{BookView}
 use Rattle.lock_transforms.specs.Table.{owned}
 use Rattle.lock_transforms.specs.declared.entries.Kind.{Kind}
-use Rattle.history_laws.specs.Own.{claimed}
-use Rattle.history_laws.specs.OwnChanges.{after_all, claimed_after, locks_after}
-use Rattle.history_laws.proofs.lemmas.OwnChanges.{own_claimed_all, own_holding_all, own_locks_all}
+use Rattle.lock_journal.specs.Own.{claimed}
+use Rattle.lock_journal.specs.OwnChanges.{after_all, claimed_after, locks_after}
+use Rattle.lock_journal.proofs.lemmas.OwnChanges.{own_claimed_all, own_holding_all, own_locks_all}
 use Rattle.coordination.specs.declared.rule.Sight.{Sight}
 use Rattle.coordination.specs.Agrees.{Agrees}
 use Rattle.coordination.specs.Attempts.{Cause, Making}

@@ -11,11 +11,11 @@ use Rattle.daemon_manager.specs.declared.events.DaemonState.TheVariants.{Busy, I
 use Rattle.daemon_manager.specs.declared.idle.IdleDaemon.{IdleDaemon}
 use Rattle.daemon_manager.specs.declared.idle.TheConstants.{MAX_IDLE_DAEMONS}
 use Rattle.daemon_manager.specs.Events.{daemon_of, started_with, started, DaemonView, pool, idle, IsBusy, IsLegal}
-use Rattle.daemon_manager.specs.LedgerView.{one_if_busy}
+use Rattle.daemon_manager.specs.EventLogView.{one_if_busy}
 use Rattle.daemon_manager.specs.PoolView.{IsPool}
 use Rattle.daemon_manager.proofs.Order.{Some-is, length-mapped, map-remove}
 use Rattle.daemon_manager.proofs.IdleKept.{stood, differ}
-use Rattle.daemon_manager.proofs.LedgerKept.{None-is-not}
+use Rattle.daemon_manager.proofs.EventLogKept.{None-is-not}
 use Rattle.daemon_manager.proofs.lemmas.Appending.{pool_other, pool_same, pool_before, pool_next, next_is_none}
 use Rattle.daemon_manager.proofs.Ordering.{left_by, released, idle_more, idle_distinct, left_all, left_one}
 use Rattle.daemon_manager.proofs.Legality.{legal_more}

@@ -6,7 +6,7 @@ use daemon_desk::FolderDesk;
 use file_access::{DeskFail, Files, Read};
 use item_actions::{KeepAlive, Text};
 use std::alloc::{AllocError, Global};
-use std::process::{Abort, Processes, SystemProcess};
+use std::process::{Processes, SystemProcess};
 use std::{fs, io, rt};
 
 // It replies from the file that its argument names, and from the one that a variable names. Then it keeps what comes until
@@ -24,7 +24,7 @@ static FILES: [(&str, &[u8]); 4] = [
         "daemon_desk_bytes",
         b"\x12\0\0\0\x0e\0\0\0\x01\x01\x01\0\0\0\0\0\0\0\x0e",
     ),
-    // The same replies of version 1.
+    // The replies of both, in version 1.
     (
         "daemon_desk_before",
         b"\x02\0\0\0\x0d\0\0\0\0\x01\0\0\0\0\0\0\0\x03\x02\0\0\0\x0d\0\0\0\x01\x01\0\0\0\0\0\0\0\x0e",
@@ -49,34 +49,20 @@ fn remove_files(rt: &HostRuntime) -> io::Result<()> {
     fs::remove_file(rt, "daemon_desk_came")
 }
 
-// What a desk whose own program is `program` gets of a child for what is asked, and how many of its calls failed.
-fn add_child<R: rt::Files + Processes<Started = SystemProcess> + Abort>(
+// What a desk whose own program is `program` gets of a child for what is asked, and how many of its calls failed. Whether a
+// request can still be sent to a child that ended isn't known, so both steps have one name here.
+fn seen<R: rt::Files + Processes<Started = SystemProcess>>(
     rt: &R,
     alloc: Global,
     program: &str,
     asked: &Asked,
-    line: &mut String,
-) -> Result<(), AllocError> {
+) -> Result<String, AllocError> {
     let program = Text::from_str(alloc, program)?;
     let mut desk = FolderDesk::new(rt, alloc, program);
-    ask_twice(rt, alloc, &mut desk, asked, Some(asked.keep), line)?;
-    write!(line, "{} failed", desk.count())
-}
-
-// That this comes of a child. Whether a request can still be sent to a child that ended isn't known, so both steps have one
-// name here.
-fn check_child<R: rt::Files + Processes<Started = SystemProcess> + Abort>(
-    rt: &R,
-    alloc: Global,
-    program: &str,
-    asked: &Asked,
-    expected: &str,
-) -> Result<(), AllocError> {
     let mut line = String::new(alloc);
-    add_child(rt, alloc, program, asked, &mut line)?;
-    let line = line.as_str().replace(alloc, "send", "receive")?;
-    check(rt, &line, expected);
-    Ok(())
+    ask_twice(alloc, &mut desk, asked, Some(asked.keep), &mut line)?;
+    write!(line, "{} failed", desk.count())?;
+    line.as_str().replace(alloc, "send", "receive")
 }
 
 // Whether each frame came once to the child that ended last.
@@ -85,70 +71,62 @@ fn has_come(rt: &HostRuntime) -> io::Result<bool> {
     Ok(came.as_slice() == CAME)
 }
 
-const CHILD: Asked = Asked {
+const OWN: Asked = Asked {
     args: &["daemon_desk_lines"],
     variables: &[("BYTES", "daemon_desk_bytes")],
     ..PLAIN
 };
 
-static OWN: Asked = CHILD;
-
-const NAMED_CHILD: Asked = Asked {
+const NAMED: Asked = Asked {
     program: "sh",
-    ..CHILD
+    ..OWN
 };
-
-static NAMED: Asked = NAMED_CHILD;
 
 // It answers in version 1, whatever it is asked.
-static BEFORE: Asked = Asked {
+const BEFORE: Asked = Asked {
     args: &["daemon_desk_before"],
     variables: &[("BYTES", "daemon_desk_none")],
-    ..NAMED_CHILD
+    ..NAMED
 };
 
-#[test]
-fn a_child_gets_its_argument_its_variable_and_each_frame_once(rt: HostRuntime) -> io::Result<()> {
-    write_files(&rt)?;
-    check_child(
-        &rt,
-        rt.alloc(),
-        "daemon_desk_none",
-        &NAMED,
-        "3. 14. 0 failed",
-    )?;
-    assert!(rt; has_come(&rt)?);
-    check_child(&rt, rt.alloc(), "sh", &OWN, "3. 14. 0 failed")?;
-    check_child(
-        &rt,
-        rt.alloc(),
-        "daemon_desk_none",
-        &BEFORE,
-        "receive failed. receive failed. 2 failed",
-    )?;
-    remove_files(&rt)
-}
-
-static MISSING: Asked = Asked {
+const MISSING: Asked = Asked {
     program: "daemon_desk_none",
     ..PLAIN
 };
 
-static ENDS: Asked = Asked {
+const ENDS: Asked = Asked {
     program: "true",
     ..PLAIN
 };
 
-#[test]
-fn a_missing_program_and_a_child_that_ends_are_faults(rt: HostRuntime) -> Result<(), AllocError> {
-    check_child(&rt, rt.alloc(), "sh", &MISSING, "start failed. 1 failed")?;
-    check_child(
-        &rt,
-        rt.alloc(),
-        "sh",
-        &ENDS,
+/// The program of a desk, what is asked, what comes of it, and whether each frame came once to the child that ended last.
+static CHILDREN: [(&str, Asked, &str, bool); 5] = [
+    ("daemon_desk_none", NAMED, "3. 14. 0 failed", true),
+    ("sh", OWN, "3. 14. 0 failed", false),
+    (
+        "daemon_desk_none",
+        BEFORE,
         "receive failed. receive failed. 2 failed",
-    )
+        false,
+    ),
+    // A missing program and a child that ends are faults.
+    ("sh", MISSING, "start failed. 1 failed", false),
+    (
+        "sh",
+        ENDS,
+        "receive failed. receive failed. 2 failed",
+        false,
+    ),
+];
+
+#[test]
+fn a_child_gets_its_argument_its_variable_and_each_frame_once(rt: HostRuntime) -> io::Result<()> {
+    write_files(&rt)?;
+    for (program, asked, expected, comes) in &CHILDREN {
+        check(&rt, &seen(&rt, rt.alloc(), program, asked)?, expected);
+        assert!(rt; !*comes || has_come(&rt)?);
+    }
+    remove_files(&rt)
 }
 
 // What came of a read.
@@ -174,17 +152,21 @@ fn add_read<R: rt::Files>(
 }
 
 // What comes of reading a file that isn't there, and then the folder itself.
-fn add_reads<R: rt::Files>(rt: &R, alloc: Global, line: &mut String) -> Result<(), AllocError> {
+fn reads<R: rt::Files>(rt: &R, alloc: Global) -> Result<String, AllocError> {
     let program = Text::from_str(alloc, "sh")?;
     let mut desk = FolderDesk::new(rt, alloc, program);
-    add_read(alloc, &mut desk, "daemon_desk_none", line)?;
-    add_read(alloc, &mut desk, ".", line)
+    let mut line = String::new(alloc);
+    add_read(alloc, &mut desk, "daemon_desk_none", &mut line)?;
+    add_read(alloc, &mut desk, ".", &mut line)?;
+    Ok(line)
 }
 
 #[test]
 fn reads_of_the_folder_are_counted_where_they_fail(rt: HostRuntime) -> Result<(), AllocError> {
-    let mut line = String::new(rt.alloc());
-    add_reads(&rt, rt.alloc(), &mut line)?;
-    check(&rt, &line, "not there, 0 failed. a fault, 1 failed. ");
+    check(
+        &rt,
+        &reads(&rt, rt.alloc())?,
+        "not there, 0 failed. a fault, 1 failed. ",
+    );
     Ok(())
 }

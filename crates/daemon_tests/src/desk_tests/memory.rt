@@ -3,10 +3,8 @@ use super::ask_twice;
 use crate::asked::{Asked, PLAIN};
 use crate::lines::check;
 use crate::memory_desks::desk;
-use daemon_desk::MemoryDesk;
 use item_actions::KeepAlive;
 use std::alloc::{AllocError, Global};
-use std::process::Abort;
 
 const SESSION: Option<KeepAlive> = Some(KeepAlive::Session);
 
@@ -16,51 +14,25 @@ static ASKED: Asked = Asked {
     ..PLAIN
 };
 
-// What two requests in this mode come to, how many calls failed, and how many requests were sent.
-fn add_seen(
-    rt: &impl Abort,
-    alloc: Global,
-    desk: &mut MemoryDesk,
-    keep: Option<KeepAlive>,
-    line: &mut String,
-) -> Result<(), AllocError> {
-    ask_twice(rt, alloc, desk, &ASKED, keep, line)?;
-    write!(line, "{} failed, {} sent", desk.count(), desk.sent().len())
-}
+/// Calls that fail, a lie in place of the first reply, and what comes of two requests.
+type Row = (&'static [u64], Option<&'static [u8]>, &'static str);
 
-// That this comes of requests in this mode, and of a desk with these failing calls and this lie.
-fn check_seen(
-    rt: &impl Abort,
+// What two requests in this mode come to, how many calls failed, and how many requests were sent.
+fn seen(
     alloc: Global,
     keep: Option<KeepAlive>,
     failing: &[u64],
     lie: Option<&[u8]>,
-    expected: &str,
-) -> Result<(), AllocError> {
+) -> Result<String, AllocError> {
     let mut desk = desk(alloc, failing, lie)?;
     let mut line = String::new(alloc);
-    add_seen(rt, alloc, &mut desk, keep, &mut line)?;
-    check(rt, &line, expected);
-    Ok(())
-}
-
-/// Calls that fail, a lie in place of the first reply, and what comes of them.
-type Row = (&'static [u64], Option<&'static [u8]>, &'static str);
-
-fn check_rows(
-    rt: &impl Abort,
-    alloc: Global,
-    keep: Option<KeepAlive>,
-    rows: &[Row],
-) -> Result<(), AllocError> {
-    for (failing, lie, expected) in rows {
-        check_seen(rt, alloc, keep, failing, *lie, expected)?;
-    }
-    Ok(())
+    ask_twice(alloc, &mut *desk, &ASKED, keep, &mut line)?;
+    write!(line, "{} failed, {} sent", desk.count(), desk.sent().len())?;
+    Ok(line)
 }
 
 // The calls are start, send, receive, send, receive and stop. A stop that fails isn't counted.
-static FAILING: [Row; 7] = [
+const FAILING: &[Row] = &[
     (&[0], None, "start failed. 1 failed, 0 sent"),
     (&[1], None, "send failed. 14. 1 failed, 1 sent"),
     (&[2], None, "receive failed. 14. 1 failed, 2 sent"),
@@ -69,12 +41,6 @@ static FAILING: [Row; 7] = [
     (&[5], None, "3. 14. 0 failed, 2 sent"),
     (&[6], None, "3. 14. 0 failed, 2 sent"),
 ];
-
-#[test]
-fn each_call_fails_in_turn(rt: HostRuntime) -> Result<(), AllocError> {
-    check_rows(&rt, rt.alloc(), None, &FAILING)?;
-    check_rows(&rt, rt.alloc(), SESSION, &FAILING)
-}
 
 // The reply for unit 0 with the number 3, of version 1, and of version 2 in both modes.
 const FIRST: &[u8] = b"\x02\0\0\0\x0d\0\0\0\0\x01\0\0\0\0\0\0\0\x03";
@@ -86,17 +52,9 @@ const LASTING: &[u8] = b"\x12\0\0\0\x0e\0\0\0\0\x02\x01\0\0\0\0\0\0\0\x03";
 // The second request is answered all the same.
 const REFUSED: &str = "receive failed. 14. 1 failed, 2 sent";
 
-#[test]
-fn a_beginning_of_a_reply_is_none(rt: HostRuntime) -> Result<(), AllocError> {
-    for len in 0..RIGHT.len() {
-        check_seen(&rt, rt.alloc(), SESSION, &[], Some(&RIGHT[..len]), REFUSED)?;
-    }
-    Ok(())
-}
-
 // The right reply; another number, and a byte behind it; want of memory. Then a reply of a shorter body; a request; a
 // Stop; a reply for unit 1; a fault; a reply of version 1; one in the other mode.
-static LIES: [Row; 10] = [
+const LIES: &[Row] = &[
     (&[], Some(RIGHT), "3. 14. 0 failed, 2 sent"),
     (
         &[],
@@ -129,26 +87,45 @@ static LIES: [Row; 10] = [
     (&[], Some(LASTING), REFUSED),
 ];
 
-#[test]
-fn replies_for_the_unit_without_a_fault_are_believed(rt: HostRuntime) -> Result<(), AllocError> {
-    check_rows(&rt, rt.alloc(), SESSION, &LIES)
-}
-
 // To a request of version 1, and then to one in the mode that lasts: each of the three replies.
-static IN_VERSION_1: [Row; 3] = [
+const IN_VERSION_1: &[Row] = &[
     (&[], Some(FIRST), "3. 14. 0 failed, 2 sent"),
     (&[], Some(RIGHT), REFUSED),
     (&[], Some(LASTING), REFUSED),
 ];
 
-static IN_THE_OTHER_MODE: [Row; 3] = [
+const IN_THE_OTHER_MODE: &[Row] = &[
     (&[], Some(FIRST), REFUSED),
     (&[], Some(RIGHT), REFUSED),
     (&[], Some(LASTING), "3. 14. 0 failed, 2 sent"),
 ];
 
+/// The mode of both requests, and the rows that are tried in it.
+static MODES: [(Option<KeepAlive>, &[Row]); 5] = [
+    (None, FAILING),
+    (SESSION, FAILING),
+    (SESSION, LIES),
+    (None, IN_VERSION_1),
+    (Some(KeepAlive::Daemon), IN_THE_OTHER_MODE),
+];
+
 #[test]
-fn a_reply_is_of_its_requests_version_and_mode(rt: HostRuntime) -> Result<(), AllocError> {
-    check_rows(&rt, rt.alloc(), None, &IN_VERSION_1)?;
-    check_rows(&rt, rt.alloc(), Some(KeepAlive::Daemon), &IN_THE_OTHER_MODE)
+fn each_call_fails_in_turn_and_right_replies_are_believed(
+    rt: HostRuntime,
+) -> Result<(), AllocError> {
+    for (keep, rows) in &MODES {
+        for (failing, lie, expected) in *rows {
+            check(&rt, &seen(rt.alloc(), *keep, failing, *lie)?, expected);
+        }
+    }
+    Ok(())
+}
+
+#[test]
+fn a_beginning_of_a_reply_is_none(rt: HostRuntime) -> Result<(), AllocError> {
+    for len in 0..RIGHT.len() {
+        let seen = seen(rt.alloc(), SESSION, &[], Some(&RIGHT[..len]))?;
+        check(&rt, &seen, REFUSED);
+    }
+    Ok(())
 }

@@ -3,7 +3,7 @@ ghost use Rattle.std.specs.Prelude.{◌≡◌, ◌≤◌, ◌↔◌, ◌+◌, Is
 ghost use Rattle.std.specs.Bool.{Decides};
 ghost use Rattle.std.specs.List.{list_all};
 ghost use Rattle.resource_lock.specs.StateView.{holding_of};
-ghost use Rattle.lock_transforms.specs.Admitting.{IsAcquire, Tried, takes_within};
+ghost use Rattle.lock_transforms.specs.Admitting.{IsAcquire, HasTried, takes_within};
 ghost use Rattle.lock_transforms.specs.Allowed.{Allowed, IsClosedOf, IsKindOf};
 ghost use Rattle.lock_transforms.specs.Entry.{entry};
 ghost use Rattle.lock_transforms.specs.Table.{acquires, condition};
@@ -37,7 +37,7 @@ pub const MAX_CHANGES: u64 = 3 + MAX_ACTIONS_PER_TASK as u64 + MAX_UNITS;
 pub(crate) fn make_given(work: &mut Tentative, kind: Kind, changes: &[Change]) -> bool
     requires fresh { work.old.made ≡ [] }
     requires room { MAX_CHANGES ≤ work.old.room }
-    ensures { Tried work.old work.new kind changes.now result }
+    ensures { HasTried work.old work.new kind changes.now result }
 {
     match kind {
         Kind::Start(task) => make_fixed(work, &Start { task }, changes),
@@ -55,12 +55,12 @@ pub(crate) fn make_given(work: &mut Tentative, kind: Kind, changes: &[Change]) -
     }
 }
 
-// The same for a kind whose changes the graph, the state and the worker fix: they are made, and
+// `make_given` for a kind whose changes the graph, the state and the worker fix: they are made, and
 // compared with those given.
 fn make_fixed<K: FixedKind>(work: &mut Tentative, kind: &K, changes: &[Change]) -> bool
     requires fresh { work.old.made ≡ [] }
     requires room { K.most kind.now ≤ work.old.room }
-    ensures { Tried work.old work.new (K.kind_of kind.now) changes.now result }
+    ensures { HasTried work.old work.new (K.kind_of kind.now) changes.now result }
 {
     match run_fixed(kind, work) {
         Progress::Made => are_same(work.made(), changes),
@@ -90,11 +90,11 @@ fn is_same(made: Change, given: Change) -> bool
     made == given
 }
 
-// The same for an `Acquire`, which may take any locks in rising order.
+// `make_given` for an `Acquire`, which may take any locks in rising order.
 fn acquire_given(work: &mut Tentative, changes: &[Change]) -> bool
     requires fresh { work.old.made ≡ [] }
     requires room { MAX_LOCKS + 1 ≤ work.old.room }
-    ensures { Tried work.old work.new kinds.Acquire changes.now result }
+    ensures { HasTried work.old work.new kinds.Acquire changes.now result }
 {
     are_acquired(work, changes) && try_changes(work, changes)
 }
@@ -118,6 +118,7 @@ fn may_take(work: &Tentative) -> bool
     ensures condition { result ≡ condition work.now.graph work.now.state work.now.worker kinds.Acquire }
     ensures sound { IsSoundTentative work.now }
 {
+    // Of the graph, that the worker is one of its workers: it is part of what holds of a sound `Tentative`.
     let _ = work.graph();
     !work.state().blocked(work.worker()) && !work.state().runs_any(work.worker())
 }

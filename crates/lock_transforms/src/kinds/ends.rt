@@ -18,7 +18,7 @@ use crate::entries::Kind;
 use crate::kinds::fixed::{FixedKind, finish_or_retry};
 use crate::kinds::making::try_change;
 use crate::kinds::marks::units_passed;
-use crate::kinds::ranges::{Span, actions_of, earlier_actions, lock_of, units_of};
+use crate::kinds::ranges::{NumberRange, actions_of, earlier_actions, lock_of, units_of};
 use crate::kinds::skipping::skip_waiting;
 use crate::tentatives::Tentative;
 use crate::transforms::{Disposition, Transform};
@@ -118,7 +118,7 @@ fn end_task(work: &mut Tentative, task: u32, mark: Mark, leased: bool) -> bool
 }
 
 // Whether each of these actions has passed or never ran.
-fn all_through(graph: &Graph, state: &State, actions: Span) -> bool
+fn all_through(graph: &Graph, state: &State, actions: NumberRange) -> bool
     requires belongs { BelongsTo graph.now state.now }
     requires in_range { actions.first + actions.count ≤ length graph.now.actions }
     ensures { result ≡ list_all (λ a. has_passed (mark_of state.now (ids.Action a))
@@ -148,7 +148,7 @@ fn never_ran(graph: &Graph, state: &State, action: u32) -> bool
 }
 
 // Whether each of these units is Waiting.
-fn all_waiting(state: &State, units: Span) -> bool
+fn all_waiting(state: &State, units: NumberRange) -> bool
     requires { units.first + units.count ≤ length state.now.units }
     ensures { result ≡ list_all (λ u. same_mark (mark_of state.now (ids.Unit u)) marks.Waiting) (range_with_len units.first units.count) }
 {
@@ -192,7 +192,7 @@ fn end_mark(graph: &Graph, state: &State, task: u32) -> Mark
 }
 
 // Whether each unit of these actions has passed.
-fn all_units_passed(graph: &Graph, state: &State, actions: Span) -> bool
+fn all_units_passed(graph: &Graph, state: &State, actions: NumberRange) -> bool
     requires belongs { BelongsTo graph.now state.now }
     requires in_range { actions.first + actions.count ≤ length graph.now.actions }
     ensures { result ≡ list_all (units_passed graph.now state.now) (range_with_len actions.first actions.count) }

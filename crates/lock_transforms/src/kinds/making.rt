@@ -5,7 +5,7 @@ ghost use Rattle.resource_lock.specs.Change.{NamesOnly};
 ghost use Rattle.lock_transforms.specs.Making.{Makes};
 ghost use Rattle.lock_transforms.specs.Table.{moved_units};
 
-use crate::kinds::ranges::Span;
+use crate::kinds::ranges::NumberRange;
 use crate::tentatives::Tentative;
 use resource_lock::{Change, Mark, MarkId};
 
@@ -39,7 +39,7 @@ pub(crate) fn try_changes(work: &mut Tentative, changes: &[Change]) -> bool
 
 /// Moves the marks of units in order, up to the first that can't be moved, and answers whether all
 /// were.
-pub(crate) fn move_units(work: &mut Tentative, units: Span, from: Mark, to: Mark) -> bool
+pub(crate) fn move_units(work: &mut Tentative, units: NumberRange, from: Mark, to: Mark) -> bool
     requires in_range { units.first + units.count ≤ length work.old.state.units }
     requires room { units.count ≤ work.old.room }
     ensures { Makes work.old work.new (moved_units (range_with_len units.first units.count) from to) result }

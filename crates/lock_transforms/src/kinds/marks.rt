@@ -6,7 +6,7 @@ ghost use Rattle.resource_lock.specs.StateView.{mark_of};
 ghost use Rattle.lock_transforms.specs.Table.{earlier_passed, has_passed, mark_from, units_passed, works_on};
 ghost use Rattle.resource_lock.specs.declared.marks.MarkId.TheVariants as ids;
 
-use crate::kinds::ranges::{Span, earlier_actions, units_of};
+use crate::kinds::ranges::{NumberRange, earlier_actions, units_of};
 use item_actions::Outcome;
 use resource_lock::{Graph, Mark, MarkId, State, WorkerId};
 
@@ -22,7 +22,7 @@ pub(crate) fn works_on(state: &State, worker: WorkerId, task: u32) -> bool
 }
 
 /// Whether each of these units has passed.
-pub(crate) fn all_passed(state: &State, units: Span) -> bool
+pub(crate) fn all_passed(state: &State, units: NumberRange) -> bool
     requires { units.first + units.count ≤ length state.now.units }
     ensures { result ≡ list_all (λ u. has_passed (mark_of state.now (ids.Unit u))) (range_with_len units.first units.count) }
 {

@@ -9,7 +9,7 @@ use resource_lock::{Graph, GraphAction, LockId};
 
 /// Numbers in a row: so many from the first on.
 #[derive(Clone, Copy)]
-pub(crate) struct Span {
+pub(crate) struct NumberRange {
     pub first: u32,
     pub count: u32,
     ghost fits: { first + count < 2 ^ 32 },
@@ -34,7 +34,7 @@ pub(crate) fn after_of(graph: &Graph, task: u32) -> &[u32]
 }
 
 /// The actions of a task.
-pub(crate) fn actions_of(graph: &Graph, task: u32) -> Span
+pub(crate) fn actions_of(graph: &Graph, task: u32) -> NumberRange
     requires { task < length graph.now.tasks }
     ensures first { result.first ≡ (task_of graph.now task).first_action }
     ensures count { result.count ≡ (task_of graph.now task).actions }
@@ -42,7 +42,7 @@ pub(crate) fn actions_of(graph: &Graph, task: u32) -> Span
     ensures fits { Fits graph.now }
 {
     let task = &graph.tasks()[task as usize];
-    Span {
+    NumberRange {
         first: task.first_action,
         count: task.actions,
     }
@@ -61,34 +61,34 @@ pub fn action_of(graph: &Graph, action: u32) -> GraphAction
 }
 
 /// The actions before an action in its task.
-pub(crate) fn earlier_actions(graph: &Graph, action: u32) -> Span
+pub(crate) fn earlier_actions(graph: &Graph, action: u32) -> NumberRange
     requires { action < length graph.now.actions }
     ensures first { result.first ≡ (task_of graph.now (task_with graph.now action)).first_action }
     ensures last { result.first + result.count ≡ action }
 {
     let first = actions_of(graph, action_of(graph, action).task).first;
-    Span {
+    NumberRange {
         first,
         count: action - first,
     }
 }
 
 /// The units of an action, its fetch first.
-pub(crate) fn units_of(graph: &Graph, action: u32) -> Span
+pub(crate) fn units_of(graph: &Graph, action: u32) -> NumberRange
     requires { action < length graph.now.actions }
     ensures first { result.first ≡ (action_of graph.now action).first_unit }
     ensures count { result.count ≡ units_in (action_of graph.now action) }
     ensures in_range { result.first + result.count ≤ graph.now.units }
 {
     let action = action_of(graph, action);
-    Span {
+    NumberRange {
         first: action.first_unit,
         count: action.items + u32::from(action.fetch),
     }
 }
 
 /// The items of an action.
-pub(crate) fn items_of(graph: &Graph, action: u32) -> Span
+pub(crate) fn items_of(graph: &Graph, action: u32) -> NumberRange
     requires { action < length graph.now.actions }
     ensures first { result.first ≡ first_item (action_of graph.now action) }
     ensures count { result.count ≡ (action_of graph.now action).items }
@@ -96,7 +96,7 @@ pub(crate) fn items_of(graph: &Graph, action: u32) -> Span
     ensures few { result.count ≤ MAX_UNITS }
 {
     let action = action_of(graph, action);
-    Span {
+    NumberRange {
         first: action.first_unit + u32::from(action.fetch),
         count: action.items,
     }

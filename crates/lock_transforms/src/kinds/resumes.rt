@@ -12,7 +12,7 @@ use crate::entries::Kind;
 use crate::kinds::fixed::{FixedKind, finish_or_retry};
 use crate::kinds::making::try_change;
 use crate::kinds::parking::unpark_lock;
-use crate::kinds::ranges::{Span, action_of, items_of, lock_of};
+use crate::kinds::ranges::{NumberRange, action_of, items_of, lock_of};
 use crate::tentatives::Tentative;
 use crate::transforms::{Disposition, Transform};
 use resource_lock::{Change, Graph, LockId, Mark, MarkId, Retention, State, WorkerId};
@@ -98,7 +98,7 @@ fn take_again(work: &mut Tentative, retention: Retention, lock: LockId) -> bool
 }
 
 // Whether each of these units has ended.
-fn all_ended(state: &State, units: Span) -> bool
+fn all_ended(state: &State, units: NumberRange) -> bool
     requires { units.first + units.count ≤ length state.now.units }
     ensures { result ≡ list_all (λ u. has_ended (mark_of state.now (ids.Unit u))) (range_with_len units.first units.count) }
 {

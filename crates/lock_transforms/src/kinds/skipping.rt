@@ -6,7 +6,7 @@ ghost use Rattle.lock_transforms.specs.Making.{Makes};
 ghost use Rattle.lock_transforms.specs.Table.{skipped_action, skipped_actions, skipped_waiting};
 
 use crate::kinds::making::{move_units, try_change};
-use crate::kinds::ranges::{Span, units_of};
+use crate::kinds::ranges::{NumberRange, units_of};
 use crate::tentatives::Tentative;
 use resource_lock::{Change, Mark, MarkId};
 
@@ -28,7 +28,7 @@ fn skip_action(work: &mut Tentative, action: u32) -> bool
 
 /// Skips actions and their units in order, up to the first mark that can't be moved, and answers
 /// whether all were.
-pub(crate) fn skip_actions(work: &mut Tentative, actions: Span) -> bool
+pub(crate) fn skip_actions(work: &mut Tentative, actions: NumberRange) -> bool
     requires belongs { BelongsTo work.old.graph work.old.state }
     requires in_range { actions.first + actions.count ≤ length work.old.graph.actions }
     requires room { length (skipped_actions work.old.graph (range_with_len actions.first actions.count)) ≤ work.old.room }
@@ -57,7 +57,7 @@ fn skip_if_waiting(work: &mut Tentative, action: u32) -> bool
 
 /// Skips those of the actions that are Waiting, and their units, in order, up to the first mark
 /// that can't be moved, and answers whether all were.
-pub(crate) fn skip_waiting(work: &mut Tentative, actions: Span) -> bool
+pub(crate) fn skip_waiting(work: &mut Tentative, actions: NumberRange) -> bool
     requires belongs { BelongsTo work.old.graph work.old.state }
     requires in_range { actions.first + actions.count ≤ length work.old.graph.actions }
     requires room { length (skipped_waiting work.old.graph work.old.state (range_with_len actions.first actions.count)) ≤ work.old.room }

@@ -68,6 +68,7 @@ impl Graph {
 fn unit_actions(alloc: Global, graph: &Graph) -> Result<Vec<u32>, AllocError>
     ensures { IfOk result (λ actions. HasUnitActions graph.now graph.now.units actions.items) }
 {
+    // Of the graph, that it fits: each unit is one of an action.
     let _ = graph.actions();
     let mut unit_actions = Vec::with_capacity(alloc, graph.units() as usize)?;
     let mut action = 0;

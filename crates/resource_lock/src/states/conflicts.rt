@@ -3,7 +3,7 @@
 
 ghost use Rattle.std.specs.Prelude.{◌≡◌};
 ghost use Rattle.std.specs.List.{list_any};
-ghost use Rattle.resource_lock.specs.StateView.{IsLockOf, all_owner, is_all, is_other, is_owned, is_taken, kept_from, owner_of};
+ghost use Rattle.resource_lock.specs.StateView.{IsLockOf, all_owner, is_all, is_other, is_owned, kept_from, owner_of};
 
 use super::State;
 use crate::ids::{LockId, WorkerId};
@@ -25,16 +25,6 @@ impl State {
         is_other(self.owner(lock), worker)
             || is_other(self.all_owner(), worker)
             || (self.is_all(lock) && self.others_own(worker))
-    }
-
-    /// Whether somebody owns a lock that conflicts with this one.
-    pub fn is_taken(&self, lock: LockId) -> bool
-        requires { IsLockOf self.now lock }
-        ensures { result ≡ is_taken self.now lock }
-    {
-        self.owner(lock).is_some()
-            || self.all_owner().is_some()
-            || (self.is_all(lock) && self.any_owned())
     }
 
     /// The worker that owns the all-projects lock, or none.

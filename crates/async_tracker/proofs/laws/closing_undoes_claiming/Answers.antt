@@ -6,12 +6,12 @@ use Rattle.resource_lock.specs.declared.graphs.Retention.{Retention}
 use Rattle.resource_lock.specs.declared.graphs.Retention.TheVariants.{Retain, Release, ReleaseAndReacquire}
 use Rattle.resource_lock.specs.declared.ids.LockId.{LockId}
 use Rattle.resource_lock.specs.declared.marks.MarkId.TheVariants.{Unit as UnitOf}
-use Rattle.history_laws.specs.OwnChanges.{mark_before, with_member, without_member}
+use Rattle.lock_journal.specs.OwnChanges.{mark_before, with_member, without_member}
 use Rattle.coordination.specs.declared.rule.Sight.{Sight}
 use Rattle.coordination.specs.Shown.{ShowsTheSame, lease_shown}
 use Rattle.coordination.proofs.lemmas.Growing.{agrees_self}
 use Rattle.async_tracker.specs.Shows.{HasReleased, ShowsClaimed, ShowsClosed}
-use Rattle.history_laws.proofs.lemmas.Owned.{stands_in_owned}
+use Rattle.lock_journal.proofs.lemmas.Owned.{stands_in_owned}
 use Rattle.async_tracker.proofs.lemmas.Turns.{free_still, parked_still, waits_still}
 use Rattle.async_tracker.proofs.laws.closing_undoes_claiming.Goals as goal
 

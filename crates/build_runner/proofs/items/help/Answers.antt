@@ -2,10 +2,10 @@ use Rattle.std.proofs.Common.{rules, List, sym, subst}
 use Rattle.std.specs.Prelude.{Contains}
 use Rattle.resource_lock.specs.declared.marks.MarkId.{MarkId}
 use Rattle.resource_lock.specs.declared.marks.MarkId.TheVariants.{Unit as UnitOf}
-use Rattle.history_laws.specs.OwnChanges.{mark_before}
+use Rattle.lock_journal.specs.OwnChanges.{mark_before}
 use Rattle.coordination.specs.Decisions.{HasDecided}
 use Rattle.coordination.specs.Shown.{claimed_shown}
-use Rattle.history_laws.proofs.lemmas.Claims.{has_member}
+use Rattle.lock_journal.proofs.lemmas.Claims.{has_member}
 use Rattle.async_tracker.specs.Shows.{ShowsClosed}
 use Rattle.build_runner.specs.Desks.{desk_view}
 use Rattle.build_runner.proofs.Helping.{claimed_before, only_broke_off}

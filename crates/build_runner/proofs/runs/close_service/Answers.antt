@@ -13,7 +13,7 @@ use Rattle.build_runner.specs.declared.prepared.OpenedRun.{OpenedRun}
 use Rattle.plan_reader.specs.Graph.{graph_of}
 use Rattle.plan_reader.specs.IsPlan.{dependencies}
 use Rattle.plan_reader.specs.Units.{plan_units}
-use Rattle.history_laws.specs.Marks.{HasEnded}
+use Rattle.lock_journal.specs.Marks.{HasEnded}
 use Rattle.build_runner.specs.Desks.{known_by}
 use Rattle.build_runner.specs.Run.{depth}
 use Rattle.build_runner.proofs.AtTheEnd.{all_are_honest, all_ended, all_faults, all_requests, all_rest, all_there, closings_in, has_results}

@@ -1,7 +1,7 @@
 use Rattle.std.proofs.Common.{sym, subst}
 use Rattle.resource_lock.proofs.lemmas.Runs.{worker_from}
-use Rattle.history_laws.specs.Own.{NamesWorkers}
-use Rattle.history_laws.proofs.lemmas.Named.{named}
+use Rattle.lock_journal.specs.Own.{NamesWorkers}
+use Rattle.lock_journal.proofs.lemmas.Named.{named}
 use Rattle.coordination.proofs.lemmas.Entries.{belongs_sound, good_sound}
 use Rattle.coordination.proofs.laws.sound_books_have_good_states.Goals as goal
 

@@ -2,8 +2,8 @@ use Rattle.std.proofs.Common.{rules, subst, sym}
 use Rattle.lock_journal.specs.BookView.{BookView}
 use Rattle.coordination.specs.Parts.{Follows, HasListRoom, IsPartOf, marks_of}
 use Rattle.lock_transforms.specs.declared.entries.Kind.{Kind}
-use Rattle.coordination.specs.Endings.{EndsHold, has_entered, stance_after}
-use Rattle.coordination.proofs.Tries.{follows, ran_of}
+use Rattle.coordination.specs.SleepAndWake.{EndsHold, has_entered, stance_after}
+use Rattle.coordination.proofs.TakenBooks.{follows, ran_of}
 use Rattle.coordination.proofs.slots.run_on.Goals as goal
 
 pub follow-requires : goal.follow-requires

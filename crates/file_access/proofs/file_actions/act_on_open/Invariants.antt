@@ -1,6 +1,6 @@
 use Rattle.std.proofs.Common.{◌≡◌, ℕ, ◌+◌, List, length}
 use Rattle.std.specs.Io.KnownBytes.{Consumes}
-use Rattle.piecewise_actions.specs.States.{IsStateOf}
+use Rattle.item_actions.specs.States.{IsStateOf}
 use Rattle.file_access.proofs.file_actions.act_on_open.Given as goal
 
 -- these bytes came, and the state is theirs

@@ -1,5 +1,5 @@
 use Rattle.std.proofs.Common.{All, rules, subst, sym}
-use Rattle.history_laws.specs.Marks.{HasEnded, IsEnded}
+use Rattle.lock_journal.specs.Marks.{HasEnded, IsEnded}
 use Rattle.resource_lock.specs.StateView.{StateView}
 use Rattle.file_tests.proofs.history_text_tests.write.Goals as goal
 

@@ -1,7 +1,7 @@
 use Rattle.std.proofs.Common.{◌↔◌, subst, sym}
 use Rattle.resource_lock.specs.GraphView.{GraphView}
 use Rattle.lock_transforms.specs.Allowed.{Lawful}
-use Rattle.history_laws.specs.PlainPlans.{WasLawful}
+use Rattle.lock_journal.specs.PlainPlans.{WasLawful}
 use Rattle.history_check.specs.PlainPlans.{graph_before}
 use Rattle.history_check.proofs.PlainGraphs.{plain_graph}
 use Rattle.history_check.proofs.laws.plain_plans_are_checked_as_before.Goals as goal

@@ -1,4 +1,4 @@
-use Rattle.history_reader.specs.HistoryView.{history_view}
+use Rattle.history_text.specs.HistoryView.{history_view}
 use Rattle.history_check.proofs.Admissions.{finished_whole}
 use Rattle.history_check.proofs.whole.admit.Goals as goal
 

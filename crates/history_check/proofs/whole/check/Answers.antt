@@ -1,4 +1,4 @@
-use Rattle.history_reader.specs.HistoryView.{history_view}
+use Rattle.history_text.specs.HistoryView.{history_view}
 use Rattle.history_check.proofs.OneByOne.{answered}
 use Rattle.history_check.proofs.whole.check.Goals as goal
 

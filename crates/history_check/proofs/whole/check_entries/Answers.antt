@@ -1,5 +1,5 @@
 use Rattle.std.proofs.Common.{arith}
-use Rattle.history_reader.specs.HistoryView.{history_view}
+use Rattle.history_text.specs.HistoryView.{history_view}
 use Rattle.history_check.proofs.OneByOne.{none_so_far, one_read, all_read, counted_so_far}
 use Rattle.history_check.proofs.whole.check_entries.Goals as goal
 

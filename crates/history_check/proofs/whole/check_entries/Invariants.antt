@@ -1,4 +1,4 @@
-use Rattle.history_reader.specs.HistoryView.{history_view}
+use Rattle.history_text.specs.HistoryView.{history_view}
 use Rattle.history_check.specs.CheckView.{IsCheckOf}
 use Rattle.history_check.proofs.OneByOne.{first_of}
 use Rattle.history_check.proofs.whole.check_entries.Given as goal

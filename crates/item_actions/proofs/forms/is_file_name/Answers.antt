@@ -1,7 +1,7 @@
 use Rattle.std.proofs.Common.{◌+◌, drop, get_or, sym, ap, ◌∙◌, arith, ⊎_elim}
 use Rattle.std.proofs.lemmas.Bool.Decides.{nat_tests}
 use Rattle.std.proofs.lemmas.List.{at_drop_more}
-use Rattle.item_actions.specs.declared.forms.Part.TheVariants.{Empty, OneDot, TwoDots, Name}
+use Rattle.item_actions.specs.declared.forms.NamePart.TheVariants.{Empty, OneDot, TwoDots, Name}
 use Rattle.item_actions.proofs.FileNames.{goes_on, from_start, step, one_dot, two_dots, three_dots, dot_in_name, next_part, letter, named}
 use Rattle.item_actions.proofs.forms.is_file_name.Goals as goal
 use Rattle.item_actions.proofs.forms.is_file_name.Goals.{then-is_ascii_lowercase, else-is_ascii_lowercase+in-46+in-Empty, else-is_ascii_lowercase+in-46+in-OneDot, else-is_ascii_lowercase+in-46+in-TwoDots, else-is_ascii_lowercase+in-47+in-Name, else-is_ascii_lowercase+in_default-2}

@@ -4,4 +4,4 @@ use Rattle.item_work.proofs.daemons.reserve.Goals as goal
 
 pub returns-in-None-clause-covers : goal.returns-in-None-clause-covers
 returns-in-None-clause-covers g c =
-    IfOk-weaker c.start.result _ _ (λ reserved made. rw made (covers_itself c.args.asked.now)) c.start.ensures.made
+    IfOk-weaker c.start.result _ _ (λ reserved made. rw made (covers_itself c.args.wanted.now.requirements.now)) c.start.ensures.made

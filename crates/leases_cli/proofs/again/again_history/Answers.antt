@@ -1,6 +1,6 @@
 use Rattle.std.proofs.Common.{[], Option, arith, inl, inr, refl, subst}
 use Rattle.item_actions.specs.Files.{Folder}
-use Rattle.recorded_run.specs.Driving.{HasDriven, ReadsFor}
+use Rattle.history_check.specs.Driving.{HasDriven, ReadsFor}
 use Rattle.leases_cli.specs.Again.{AnyRead}
 use Rattle.leases_cli.specs.Causes.{IsFileCause}
 use Rattle.leases_cli.proofs.Agains.{any_driven, faults_kept, only_read, source_kept}

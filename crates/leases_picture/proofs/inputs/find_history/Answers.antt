@@ -1,4 +1,4 @@
-use Rattle.history_reader.specs.HistoryView.{history_view}
+use Rattle.history_text.specs.HistoryView.{history_view}
 use Rattle.leases_picture.proofs.Finding.{no_second, found_all, broken_all}
 use Rattle.leases_picture.proofs.inputs.find_history.Goals as goal
 

@@ -1,5 +1,5 @@
-use Rattle.history_reader.specs.HistoryView.{history_view}
-use Rattle.history_reader.proofs.lemmas.ReadLaws.{added_one, ended_there, read_on}
+use Rattle.history_text.specs.HistoryView.{history_view}
+use Rattle.history_text.proofs.lemmas.ReadLaws.{added_one, ended_there, read_on}
 use Rattle.leases_picture.proofs.Finding.{ends_there, failed_here}
 use Rattle.leases_picture.proofs.inputs.take_lines.Goals as goal
 

@@ -1,7 +1,7 @@
 use Rattle.std.proofs.Common.{◌++◌, length}
-use Rattle.history_reader.specs.HistoryView.{history_view}
-use Rattle.history_reader.specs.Grammar.{lines_of}
-use Rattle.history_reader.proofs.lemmas.ReadLaws.{ReadSoFar}
+use Rattle.history_text.specs.HistoryView.{history_view}
+use Rattle.history_text.specs.Grammar.{lines_of}
+use Rattle.history_text.proofs.lemmas.ReadLaws.{ReadSoFar}
 use Rattle.leases_picture.proofs.inputs.take_lines.Given as goal
 
 abbrev pub invariant-loop-rest : goal.invariant-loop-rest

@@ -1,5 +1,5 @@
 use Rattle.std.proofs.Common.{ℕ, List, inl, subst}
-use Rattle.history_reader.specs.HistoryView.{history_view}
+use Rattle.history_text.specs.HistoryView.{history_view}
 use Rattle.leases_picture.specs.Found.{HasHistory}
 use Rattle.leases_picture.proofs.pictures.draw_text.Goals as goal
 

@@ -2,8 +2,8 @@ use Rattle.std.proofs.Common.{◌≡◌, ◌∙◌, sym, length, nat_lt}
 use Rattle.std.specs.List.{list_all}
 use Rattle.std.proofs.lemmas.List.{length-map}
 use Rattle.std.proofs.lemmas.List.Folds.{list_all-map}
-use Rattle.task_ranks.specs.Rank.{lists_of}
-use Rattle.task_ranks.proofs.lemmas.Ranges.{in_range}
+use Rattle.ready_work.specs.Rank.{lists_of}
+use Rattle.ready_work.proofs.lemmas.Ranges.{in_range}
 use Rattle.lock_tests.proofs.task_ranks_tests.are_in_range.Goals as goal
 
 pub returns : goal.returns

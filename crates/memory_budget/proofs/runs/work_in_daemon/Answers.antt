@@ -1,6 +1,6 @@
 use Rattle.item_work.proofs.lemmas.Countings.{no_fault_counted}
 use Rattle.memory_budget.proofs.runs.work_in_daemon.Goals as goal
 
-pub returns-in-Ok-ask_daemon-clause-faults : goal.returns-in-Ok-ask_daemon-clause-faults
-returns-in-Ok-ask_daemon-clause-faults g c =
-    no_fault_counted c.in-Ok-ask_daemon.answered.reply.outcome (g.D.Files.faults c.args.desk.now) (g.D.Files.faults c.ask_daemon.new.desk) c.in-Ok-ask_daemon.ensures.reply.worked c.in-Ok-ask_daemon.ensures.faults
+pub returns-in-Ok-clause-faults : goal.returns-in-Ok-clause-faults
+returns-in-Ok-clause-faults g c =
+    no_fault_counted c.in-Ok.answered.reply.outcome (g.D.Files.faults c.args.desk.now) (g.D.Files.faults c.ask_daemon.new.desk) c.in-Ok.ensures.reply.worked c.in-Ok.ensures.faults

@@ -1,6 +1,6 @@
 use Rattle.std.proofs.Common.{◌≡◌, length, ap, sym, subst, ◌∙◌, arith, None}
 use Rattle.std.proofs.lemmas.List.{length-map}
-use Rattle.task_ranks.specs.Rank.{InRange, IsFirstCycle}
+use Rattle.ready_work.specs.Rank.{InRange, IsFirstCycle}
 use Rattle.toml.specs.View.{view}
 use Rattle.plan_table.specs.declared.refusals.Part.TheVariants.{Task}
 use Rattle.plan_table.specs.Keys.{tasks_of}

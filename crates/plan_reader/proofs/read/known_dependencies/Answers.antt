@@ -1,5 +1,5 @@
 use Rattle.std.proofs.Common.{option_map, ap, sym, ◌∙◌}
-use Rattle.task_ranks.specs.Rank.{lists_of}
+use Rattle.ready_work.specs.Rank.{lists_of}
 use Rattle.toml.specs.View.{view}
 use Rattle.plan_reader.proofs.Near.{dependencies_known, one_is_refused}
 use Rattle.plan_reader.proofs.read.known_dependencies.Goals as goal

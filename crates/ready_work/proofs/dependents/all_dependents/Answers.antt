@@ -1,7 +1,7 @@
 use Rattle.std.proofs.Common.{length, sym, subst, ap, ◌∙◌}
 use Rattle.std.proofs.lemmas.Result.{IfOk-weaker}
-use Rattle.task_ranks.specs.Rank.{InRange, lists_of}
-use Rattle.task_ranks.specs.Dependents.{ListsDependents}
+use Rattle.ready_work.specs.Rank.{InRange, lists_of}
+use Rattle.ready_work.specs.DependentLists.{ListsDependents}
 use Rattle.ready_work.specs.Dependents.{AreDependents}
 use Rattle.ready_work.proofs.AfterLists.{afters_within, are_dependents}
 use Rattle.ready_work.proofs.dependents.all_dependents.Goals as goal

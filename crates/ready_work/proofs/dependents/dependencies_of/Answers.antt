@@ -3,7 +3,7 @@ use Rattle.std.specs.List.{each_same}
 use Rattle.std.proofs.lemmas.List.{map-append, map_more, take_all}
 use Rattle.resource_lock.specs.GraphView.{GraphTaskView}
 use Rattle.resource_lock.specs.declared.graphs.GraphTask.{GraphTask}
-use Rattle.task_ranks.specs.Rank.{lists_of}
+use Rattle.ready_work.specs.Rank.{lists_of}
 use Rattle.ready_work.proofs.AfterLists.{afters_read}
 use Rattle.ready_work.proofs.dependents.dependencies_of.Goals as goal
 

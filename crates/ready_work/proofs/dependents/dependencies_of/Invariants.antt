@@ -1,5 +1,5 @@
 use Rattle.std.proofs.Common.{◌≡◌, map, take}
-use Rattle.task_ranks.specs.Rank.{lists_of}
+use Rattle.ready_work.specs.Rank.{lists_of}
 use Rattle.ready_work.proofs.dependents.dependencies_of.Given as goal
 
 abbrev pub invariant-loop-task : goal.invariant-loop-task

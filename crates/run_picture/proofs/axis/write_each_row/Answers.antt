@@ -3,4 +3,4 @@ use Rattle.run_picture.proofs.Ranges.{adds_counted}
 use Rattle.run_picture.proofs.axis.write_each_row.Goals as goal
 
 pub loop-worker-preserved : goal.loop-worker-preserved
-loop-worker-preserved g c = adds_counted (row_text c.args.frame.now) c.loop-worker.worker c.loop-worker.invariant c.write_row.ensures
+loop-worker-preserved g c = adds_counted (row_text c.args.layout.now) c.loop-worker.worker c.loop-worker.invariant c.write_row.ensures

@@ -6,7 +6,7 @@ use Rattle.run_picture.proofs.axis.write_grid.Goals as goal
 
 pub returns : goal.returns
 returns g c =
-    let f = c.args.frame.now in
+    let f = c.args.layout.now in
     let from : c.div_ceil-from.result ≡ div_ceil f.first (distance_of f.per) = c.div_ceil-from.ensures ∙ ap (div_ceil f.first) c.distance_of-distance.ensures.is in
     let behind : c.div_ceil-behind.result ≡ div_ceil f.behind (distance_of f.per) = c.div_ceil-behind.ensures ∙ ap (div_ceil f.behind) c.distance_of-distance.ensures.is in
     let count : c.saturating_sub.result ≡ div_ceil f.behind (distance_of f.per) - div_ceil f.first (distance_of f.per) = c.saturating_sub.ensures ∙ ap₂ (λ (b a : ℕ). b - a) behind from in

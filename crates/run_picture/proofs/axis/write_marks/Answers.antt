@@ -5,4 +5,4 @@ use Rattle.run_picture.proofs.axis.write_marks.Goals as goal
 
 pub loop-step-preserved : goal.loop-step-preserved
 loop-step-preserved g c =
-    adds_ranged (nth_mark c.args.frame.now) c.args.from c.loop-step.step (c.from.result + c.from-in-loop-step.result) (omega (arith, c.from-in-loop-step.ensures, c.from.ensures)) c.loop-step.invariant c.write_nth_mark.ensures
+    adds_ranged (nth_mark c.args.layout.now) c.args.from c.loop-step.step (c.from.result + c.from-in-loop-step.result) (omega (arith, c.from-in-loop-step.ensures, c.from.ensures)) c.loop-step.invariant c.write_nth_mark.ensures

@@ -6,5 +6,5 @@ use Rattle.run_picture.proofs.curve.write_outs.Goals as goal
 
 pub loop-place-preserved : goal.loop-place-preserved
 loop-place-preserved g c =
-    adds_next (out_stair c.args.frame.now c.args.max) c.args.frame.now.first c.args.levels.now c.loop-place.place (c.from.result + c.loop-place.place) _ (omega (arith, c.from.ensures))
+    adds_next (out_stair c.args.layout.now c.args.top) c.args.layout.now.first c.args.levels.now c.loop-place.place (c.from.result + c.loop-place.place) _ (omega (arith, c.from.ensures))
     (slice_get-get_or c.args.levels.now c.loop-place.place _ c.loop-place-test.true) c.loop-place.invariant c.write_out.ensures

@@ -5,4 +5,4 @@ use Rattle.run_picture.specs.Curve.{queue_stair}
 use Rattle.run_picture.proofs.curve.write_queue.Given as goal
 
 abbrev pub invariant-loop-place : goal.invariant-loop-place
-invariant-loop-place g l = Adds (g.K.Sink.seen l.fn.sink) l.fn.page (g.K.Sink.seen l.sink) l.page (numbered (queue_stair l.frame l.most) l.frame.first (take l.place l.levels))
+invariant-loop-place g l = Adds (g.K.Sink.seen l.fn.sink) l.fn.page (g.K.Sink.seen l.sink) l.page (numbered (queue_stair l.layout l.most) l.layout.first (take l.place l.levels))

@@ -1,6 +1,6 @@
 use Rattle.std.proofs.Common.{ap}
 use Rattle.file_access.proofs.lemmas.Telling.{adds_as, adds_then}
-use Rattle.history_reader.specs.HistoryView.{entry_read}
+use Rattle.history_text.specs.HistoryView.{entry_read}
 use Rattle.run_picture.specs.Ticks.{tick_bar}
 use Rattle.run_picture.specs.declared.shapes.Area.{Area}
 use Rattle.run_picture.proofs.ticks.write_marks.Goals as goal

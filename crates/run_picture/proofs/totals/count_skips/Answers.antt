@@ -1,7 +1,7 @@
 use Rattle.std.proofs.Common.{◌≡◌, ◌+◌, ◌<◌, map, length, get_or, sym, ap, ◌∙◌, arith}
 use Rattle.std.proofs.lemmas.List.{get_or-map, length-map}
 use Rattle.std.proofs.lemmas.List.Sums.{count_by_more_no, count_by_more_yes}
-use Rattle.history_reader.specs.HistoryView.{entry_read}
+use Rattle.history_text.specs.HistoryView.{entry_read}
 use Rattle.run_picture.specs.Totals.{skips}
 use Rattle.run_picture.proofs.totals.count_skips.Goals as goal
 use Rattle.run_picture.proofs.totals.count_skips.Goals.{then-skips, else-skips}

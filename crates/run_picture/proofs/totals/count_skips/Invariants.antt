@@ -1,6 +1,6 @@
 use Rattle.std.proofs.Common.{◌≡◌, ◌≤◌, take, map}
 use Rattle.std.specs.List.{count_by}
-use Rattle.history_reader.specs.HistoryView.{entry_read}
+use Rattle.history_text.specs.HistoryView.{entry_read}
 use Rattle.run_picture.specs.Totals.{skips}
 use Rattle.run_picture.proofs.totals.count_skips.Given as goal
 

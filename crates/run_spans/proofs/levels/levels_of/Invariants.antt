@@ -1,5 +1,5 @@
 use Rattle.std.proofs.Common.{◌≡◌, ◌++◌, drop, map}
-use Rattle.history_reader.specs.HistoryView.{entry_read}
+use Rattle.history_text.specs.HistoryView.{entry_read}
 use Rattle.run_spans.specs.Levels.{levels_of, nothing_out}
 use Rattle.run_spans.proofs.levels.levels_of.Given as goal
 

@@ -1,5 +1,5 @@
 use Rattle.std.proofs.Common.{◌≤◌, ◌+◌, length, drop, map}
-use Rattle.history_reader.specs.HistoryView.{entry_read}
+use Rattle.history_text.specs.HistoryView.{entry_read}
 use Rattle.run_spans.specs.Steps.{steps_from}
 use Rattle.run_spans.specs.Tail.{IsTail}
 use Rattle.run_spans.proofs.spans.spans_of.Given as goal

@@ -1,6 +1,6 @@
 use Rattle.std.proofs.Common.{◌≡◌, List, ℕ, Contains, subst, arith}
 use Rattle.std.proofs.lemmas.List.{take_all}
-use Rattle.task_ranks.specs.Rank.{lists_of}
+use Rattle.ready_work.specs.Rank.{lists_of}
 use Rattle.task_ordering.specs.Befores.{AddsPairs, HasBoth}
 use Rattle.task_ordering.proofs.Pairs.{seconds_more}
 use Rattle.task_ordering.proofs.befores.add_before_all.Goals as goal

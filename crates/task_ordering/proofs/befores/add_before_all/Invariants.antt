@@ -1,5 +1,5 @@
 use Rattle.std.proofs.Common.{◌≡◌, take, Contains}
-use Rattle.task_ranks.specs.Rank.{lists_of}
+use Rattle.ready_work.specs.Rank.{lists_of}
 use Rattle.task_ordering.specs.Befores.{AddsPairs, HasBoth}
 use Rattle.task_ordering.proofs.befores.add_before_all.Given as goal
 

@@ -1,5 +1,5 @@
 use Rattle.std.proofs.Common.{◌≡◌, List, ℕ, length, Contains, subst, arith}
-use Rattle.task_ranks.specs.Rank.{lists_of}
+use Rattle.ready_work.specs.Rank.{lists_of}
 use Rattle.task_ordering.specs.Befores.{AddsPairs, HasBoth}
 use Rattle.task_ordering.proofs.Pairs.{tells_next, tells_all}
 use Rattle.task_ordering.proofs.Reached.{names_below}

@@ -1,4 +1,4 @@
-use Rattle.task_ranks.specs.Rank.{lists_of}
+use Rattle.ready_work.specs.Rank.{lists_of}
 use Rattle.task_ordering.proofs.Pairs.{TellsBelow}
 use Rattle.task_ordering.proofs.befores.befores_of.Given as goal
 

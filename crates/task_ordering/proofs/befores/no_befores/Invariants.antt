@@ -1,5 +1,5 @@
 use Rattle.std.proofs.Common.{◌≡◌, ◌≤◌, ◌-◌, ℕ, [], length}
-use Rattle.task_ranks.specs.Rank.{lists_of, after}
+use Rattle.ready_work.specs.Rank.{lists_of, after}
 use Rattle.task_ordering.proofs.befores.no_befores.Given as goal
 
 abbrev pub invariant-loop-alloc : goal.invariant-loop-alloc

@@ -3,7 +3,7 @@ use Rattle.std.proofs.lemmas.Bool.{false≢true}
 use Rattle.resource_lock.specs.Marks.{has_ended}
 use Rattle.resource_lock.specs.declared.marks.Mark.{Mark}
 use Rattle.resource_lock.specs.declared.marks.Mark.TheVariants.{Waiting, Queued, Running, Passed, Failed, Skipped}
-use Rattle.history_laws.specs.Marks.{IsEnded}
+use Rattle.lock_journal.specs.Marks.{IsEnded}
 use Rattle.worker_choices.proofs.next_steps.all_ended.Goals as goal
 
 is_ended : (m : Mark) → has_ended m ≡ true → IsEnded m

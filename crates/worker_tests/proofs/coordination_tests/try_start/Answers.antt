@@ -7,7 +7,7 @@ use Rattle.resource_lock.specs.declared.changes.Change.{Change}
 use Rattle.resource_lock.specs.declared.ids.WorkerId.{WorkerId}
 use Rattle.lock_transforms.specs.Entry.{Entry, entry, replay}
 use Rattle.lock_transforms.specs.declared.entries.Kind.TheVariants.{Start}
-use Rattle.history_laws.specs.OwnChanges.{after_all}
+use Rattle.lock_journal.specs.OwnChanges.{after_all}
 use Rattle.coordination.specs.declared.rule.Sight.{Sight}
 use Rattle.worker_tests.proofs.coordination_tests.try_start.Goals as goal
 

@@ -5,7 +5,7 @@ use Rattle.history_views.specs.ShownBooks.{IsTold}
 use Rattle.coordination.specs.Sights.{sight_of, seeing}
 use Rattle.coordination.specs.Rule.{carried_book}
 use Rattle.coordination.specs.Parts.{IsPartOf}
-use Rattle.coordination.proofs.Tries.{after, attempted, known_in, owns, part_in, room_in, sound_in}
+use Rattle.coordination.proofs.TakenBooks.{after, attempted, known_in, owns, part_in, room_in, sound_in}
 use Rattle.coordination.proofs.PassSteps.{closes_pass, untold_in}
 use Rattle.coordination.proofs.slots.Slot.attempt_at.Goals as goal
 

@@ -1,6 +1,6 @@
 use Rattle.std.proofs.Common.{List, subst, sym}
 use Rattle.worker_choices.specs.declared.stances.Stance.{Stance}
-use Rattle.coordination.specs.Endings.{AreQuiet}
+use Rattle.coordination.specs.SleepAndWake.{AreQuiet}
 use Rattle.coordination.proofs.Sleeping.{quiet_after}
 use Rattle.coordination.proofs.stances.Stances.settle.Goals as goal
 

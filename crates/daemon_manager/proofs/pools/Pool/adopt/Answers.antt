@@ -7,7 +7,7 @@ pub invariant_of-self-2 : goal.invariant_of-self-2
 invariant_of-self-2 g c =
     let inside = c.self.inside in
     let starts = c.in-Ok.ensures.started in (
-      rw starts.events (adopted_pool g.L.Linked.requirements inside.ledger.events inside.idle c.self.invariant.0 c.in-Ok.daemon c.args.unit c.args.requirements starts.next),
+      rw starts.events (adopted_pool g.L.Linked.requirements inside.event_log.events inside.idle c.self.invariant.0 c.in-Ok.daemon c.args.unit c.args.requirements starts.next),
       omega (arith, starts.busy, starts.room, c.needed-more.ensures.value, c.len.ensures),
       c.self.invariant.2,
     )
@@ -22,5 +22,5 @@ returns-clause-adopted g c =
       for_unit = refl;
       idle = ap (λ (v : PoolView g.row.L.Denot). v.idle) c.self.view_is;
       events = rw (← c.self.view_is) starts.events;
-      own = rw (starts.events, c.requires) (adopted_own g.L.Linked.requirements inside.ledger.events inside.idle c.self.invariant.0 c.in-Ok.daemon c.args.unit c.args.requirements starts.next);
+      own = rw (starts.events, c.requires) (adopted_own g.L.Linked.requirements inside.event_log.events inside.idle c.self.invariant.0 c.in-Ok.daemon c.args.unit c.args.requirements starts.next);
     }

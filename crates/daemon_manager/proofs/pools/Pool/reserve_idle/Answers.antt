@@ -11,7 +11,7 @@ invariant_of-self-2 g c =
     let inside = c.self.inside in
     let there = c.remove-daemon.ensures.daemon in
     let room = c.in_ok-make_room.ensures in (
-      rw (c.note.ensures.events, room.same.events, c.remove-daemon.ensures.others) (reserved_pool g.L.Linked.requirements inside.ledger.events inside.idle c.self.invariant.0 _ c.remove-daemon.result there c.args.unit),
+      rw (c.note.ensures.events, room.same.events, c.remove-daemon.ensures.others) (reserved_pool g.L.Linked.requirements inside.event_log.events inside.idle c.self.invariant.0 _ c.remove-daemon.result there c.args.unit),
       omega (arith, room.room, room.same.busy, c.needed-more.ensures.value, c.len.ensures, c.note.ensures.busy, c.note.ensures.room, ap length c.remove-daemon.ensures.others, length-remove inside.idle _ (slice_get_within inside.idle _ c.remove-daemon.result there)),
       rw c.remove-daemon.ensures.others (All-left (λ i. g.L.Linked.settled i.link ≡ true) inside.idle _ (slice_get_within inside.idle _ c.remove-daemon.result there) c.self.invariant.2),
     )
@@ -32,7 +32,7 @@ returns-clause-reserved g c =
       left = c.remove-daemon.ensures.others;
       events = rw (← c.self.view_is) (c.note.ensures.events ∙ ap (λ xs. xs ++ Reserved c.remove-daemon.result.daemon c.args.unit ∷ []) room.same.events);
       for_unit = refl;
-      own = rw (c.note.ensures.events, room.same.events) (reserved_own g.L.Linked.requirements inside.ledger.events inside.idle c.self.invariant.0 c.in-Some.place c.remove-daemon.result there c.args.unit);
+      own = rw (c.note.ensures.events, room.same.events) (reserved_own g.L.Linked.requirements inside.event_log.events inside.idle c.self.invariant.0 c.in-Some.place c.remove-daemon.result there c.args.unit);
     }
 
 pub returns-clause-settled : goal.returns-clause-settled

@@ -8,7 +8,7 @@ pub invariant_of-self : goal.invariant_of-self
 invariant_of-self g c =
     let inside = c.self.inside in
     let there = c.remove-daemon.ensures.daemon in (
-      rw (c.note.ensures.events, c.remove-daemon.ensures.others) (stopped_pool g.L.Linked.requirements inside.ledger.events inside.idle c.self.invariant.0 0 c.remove-daemon.result there refl),
+      rw (c.note.ensures.events, c.remove-daemon.ensures.others) (stopped_pool g.L.Linked.requirements inside.event_log.events inside.idle c.self.invariant.0 0 c.remove-daemon.result there refl),
       omega (arith, c.self.invariant.1, c.note.ensures.busy, c.note.ensures.room, ap length c.remove-daemon.ensures.others, length-remove inside.idle 0 (slice_get_within inside.idle 0 c.remove-daemon.result there)),
       rw c.remove-daemon.ensures.others (All-left (λ i. g.L.Linked.settled i.link ≡ true) inside.idle 0 (slice_get_within inside.idle 0 c.remove-daemon.result there) c.self.invariant.2),
     )

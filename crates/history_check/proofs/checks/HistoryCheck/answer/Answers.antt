@@ -1,6 +1,6 @@
 use Rattle.std.proofs.Common.{◌≡◌, rules, subst, sym}
 use Rattle.plan_reader.specs.PlanView.{PlanView}
-use Rattle.history_reader.specs.HistoryView.{HistoryView}
+use Rattle.history_text.specs.HistoryView.{HistoryView}
 use Rattle.history_check.specs.CheckView.{CheckView, IsCheckOf}
 use Rattle.history_check.specs.Verdict.{IsVerdict}
 use Rattle.history_check.proofs.checks.HistoryCheck.answer.Goals as goal

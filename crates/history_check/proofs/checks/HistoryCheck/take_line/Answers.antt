@@ -1,6 +1,6 @@
 use Rattle.std.proofs.Common.{◌≡◌, ap, refl, rules, sym, ◌∙◌}
 use Rattle.lock_transforms.specs.Entry.{entry}
-use Rattle.history_reader.specs.HistoryView.{changes_of, entry_with}
+use Rattle.history_text.specs.HistoryView.{changes_of, entry_with}
 use Rattle.history_check.specs.CheckView.{CheckView}
 use Rattle.history_check.proofs.Verdicts.{added_there, entry_came, entry_said}
 use Rattle.history_check.proofs.checks.HistoryCheck.take_line.Goals as goal

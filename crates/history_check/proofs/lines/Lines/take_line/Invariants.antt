@@ -1,5 +1,5 @@
 use Rattle.std.proofs.Common.{◌≡◌, ◌≤◌, true, length, take}
-use Rattle.history_reader.specs.Lines.{is_unbroken}
+use Rattle.history_text.specs.Lines.{is_unbroken}
 use Rattle.history_check.proofs.Supplies.{IsReading, FitsBound}
 use Rattle.history_check.proofs.lines.Lines.take_line.Given as goal
 

@@ -1,4 +1,4 @@
-use Rattle.std.proofs.Common.{◌≡◌, ap, arith, refl}
+use Rattle.std.proofs.Common.{ap, arith, refl}
 use Rattle.daemon_requirements.specs.RequirementsView.{RequirementsView}
 use Rattle.memory_budget.specs.BudgetView.{open_permit, permitted}
 use Rattle.memory_budget.proofs.Permitted.{is_there, permitted_less}
@@ -6,7 +6,7 @@ use Rattle.memory_budget.proofs.pools.BudgetPool.adopt.Goals as goal
 
 pub invariant_of-self : goal.invariant_of-self
 invariant_of-self g c = (
-  omega (arith, c.self.invariant.0, c.in-Ok-adopt.ensures.held, ap (λ (q : RequirementsView). q.heap_mb) c.in-Ok.ensures, ap permitted c.remove.ensures, permitted_less c.self.inside.permits.permits c.in-Some.place (open_permit c.args.permit) c.in-Some.ensures),
+  omega (arith, c.self.invariant.0, c.in-Ok-adopt.ensures.held, ap (λ (q : RequirementsView). q.heap_mb) c.in-Ok.ensures, ap (λ (q : RequirementsView). q.heap_mb) c.requirements.ensures, ap permitted c.spend.ensures, permitted_less c.self.inside.permits.permits c.in-Some.place (open_permit c.args.permit) c.in-Some.ensures),
   c.self.invariant.1,
 )
 

@@ -1,8 +1,8 @@
 use Rattle.std.proofs.Common.{◌<◌, ℕ, List, Vec, length, sym, subst, ap, ◌∙◌}
 use Rattle.std.specs.List.{All}
 use Rattle.std.specs.declared.alloc.Global.{Global}
-use Rattle.task_ranks.specs.Rank.{after, lists_of}
-use Rattle.ready_work.specs.Tally.{CanPut}
+use Rattle.ready_work.specs.Rank.{after, lists_of}
+use Rattle.ready_work.specs.DependencyCounts.{CanPut}
 use Rattle.ready_work.specs.TaskSets.{HasTaskRoom, NotesTask}
 use Rattle.ready_work.proofs.AfterLists.{all_within}
 use Rattle.ready_work.proofs.Counting.{can_put}
@@ -23,13 +23,13 @@ pub note-requires-clause-unpassed : goal.note-requires-clause-unpassed
 note-requires-clause-unpassed c =
     subst (λ (row : List ℕ). CanPut row c.args.task c.args.self.now.tasks.unpassed)
     (sym (c.dependents_at-dependents.ensures ∙ ap (λ (all : List (Vec ℕ Global)). after (lists_of all) c.args.task) c.deref.ensures.value))
-    (can_put c.args.graph.now c.args.self.now.dependents.items c.args.task c.args.self.now.tasks.unpassed c.requires.made.fits c.requires.made.dependents c.requires.made.tasks.unpassed c.requires.made.tallies.unpassed c.requires.within)
+    (can_put c.args.graph.now c.args.self.now.dependents.items c.args.task c.args.self.now.tasks.unpassed c.requires.made.fits c.requires.made.dependents c.requires.made.tasks.unpassed c.requires.made.dependency_counts.unpassed c.requires.within)
 
 pub note-requires-clause-fallen : goal.note-requires-clause-fallen
 note-requires-clause-fallen c =
     subst (λ (row : List ℕ). CanPut row c.args.task c.args.self.now.tasks.fallen)
     (sym (c.dependents_at-dependents.ensures ∙ ap (λ (all : List (Vec ℕ Global)). after (lists_of all) c.args.task) c.deref.ensures.value))
-    (can_put c.args.graph.now c.args.self.now.dependents.items c.args.task c.args.self.now.tasks.fallen c.requires.made.fits c.requires.made.dependents c.requires.made.tasks.fallen c.requires.made.tallies.fallen c.requires.within)
+    (can_put c.args.graph.now c.args.self.now.dependents.items c.args.task c.args.self.now.tasks.fallen c.requires.made.fits c.requires.made.dependents c.requires.made.tasks.fallen c.requires.made.dependency_counts.fallen c.requires.within)
 
 pub returns-clause-tasks : goal.returns-clause-tasks
 returns-clause-tasks c =

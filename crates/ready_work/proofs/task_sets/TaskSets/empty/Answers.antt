@@ -1,13 +1,13 @@
 use Rattle.std.proofs.Common.{length, ap, arith}
 use Rattle.std.proofs.lemmas.List.{length-map}
 use Rattle.resource_lock.specs.GraphView.{graph_view}
-use Rattle.ready_work.proofs.Counting.{no_tally}
+use Rattle.ready_work.proofs.Counting.{no_counts}
 use Rattle.ready_work.proofs.task_sets.TaskSets.empty.Goals as goal
 
-pub returns-clause-tallies : goal.returns-clause-tallies
-returns-clause-tallies c = record {
-  unpassed = no_tally c.args.graph.now c.in_ok-unpassed.unpassed c.in_ok-unpassed.ensures.none c.in_ok-unpassed.ensures.zero;
-  fallen = no_tally c.args.graph.now c.in_ok-fallen.fallen c.in_ok-fallen.ensures.none c.in_ok-fallen.ensures.zero;
+pub returns-clause-dependency_counts : goal.returns-clause-dependency_counts
+returns-clause-dependency_counts c = record {
+  unpassed = no_counts c.args.graph.now c.in_ok-unpassed.unpassed c.in_ok-unpassed.ensures.none c.in_ok-unpassed.ensures.zero;
+  fallen = no_counts c.args.graph.now c.in_ok-fallen.fallen c.in_ok-fallen.ensures.none c.in_ok-fallen.ensures.zero;
 }
 
 pub returns-clause-room : goal.returns-clause-room

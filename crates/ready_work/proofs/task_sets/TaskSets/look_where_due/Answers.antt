@@ -1,6 +1,6 @@
 use Rattle.std.proofs.Common.{◌≡◌, ◌≢◌, ◌∷◌, [], ◌∙◌, eqb, sym}
 use Rattle.std.proofs.lemmas.Bool.{eqb-false, or_parts}
-use Rattle.ready_work.specs.Tally.{count_of}
+use Rattle.ready_work.specs.DependencyCounts.{count_of}
 use Rattle.ready_work.specs.TaskSets.{IsSeen}
 use Rattle.ready_work.proofs.TaskLooks.{looks_at_fewer, looks_at_nowhere, none_due, seen_one}
 use Rattle.ready_work.proofs.task_sets.TaskSets.look_where_due.Goals as goal

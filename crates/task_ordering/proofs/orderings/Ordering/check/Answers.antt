@@ -1,5 +1,5 @@
 use Rattle.std.proofs.Common.{◌≡◌, ap, subst, ◌∙◌, arith}
-use Rattle.task_ranks.specs.Rank.{InRange, Dependencies, lists_of}
+use Rattle.ready_work.specs.Rank.{InRange, Dependencies, lists_of}
 use Rattle.lock_journal.specs.Shown.{entry_shown}
 use Rattle.task_ordering.specs.OrderingView.{OrderingView}
 use Rattle.task_ordering.proofs.Entries.{broken, checked_next, kept, early_as, not_early_as}

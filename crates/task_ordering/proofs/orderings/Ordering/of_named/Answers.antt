@@ -1,5 +1,5 @@
 use Rattle.std.proofs.Common.{◌≡◌, ℕ, subst, List, Bool, Vec, Global}
-use Rattle.task_ranks.specs.Rank.{lists_of}
+use Rattle.ready_work.specs.Rank.{lists_of}
 use Rattle.task_ordering.specs.Befores.{TellsBefore}
 use Rattle.task_ordering.specs.Placed.{AreAllPlaced}
 use Rattle.task_ordering.proofs.Same.{are_befores, befores_are, accepted, least, unranked}

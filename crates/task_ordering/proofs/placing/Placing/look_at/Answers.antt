@@ -1,5 +1,5 @@
 use Rattle.std.proofs.Common.{refl}
-use Rattle.task_ranks.specs.Rank.{lists_of}
+use Rattle.ready_work.specs.Rank.{lists_of}
 use Rattle.task_ordering.proofs.Settling.{befores_in, advances_waiting, sound_advanced, looks_advanced}
 use Rattle.task_ordering.proofs.placing.Placing.look_at.Goals as goal
 

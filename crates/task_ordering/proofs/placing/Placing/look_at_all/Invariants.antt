@@ -1,4 +1,4 @@
-use Rattle.task_ranks.specs.Rank.{lists_of}
+use Rattle.ready_work.specs.Rank.{lists_of}
 use Rattle.task_ordering.specs.Placing.{IsSoundPlacing, AreSettled}
 use Rattle.task_ordering.proofs.placing.Placing.look_at_all.Given as goal
 

@@ -1,5 +1,5 @@
 use Rattle.std.proofs.Common.{length, ◌∙◌, arith}
-use Rattle.task_ranks.specs.Rank.{lists_of}
+use Rattle.ready_work.specs.Rank.{lists_of}
 use Rattle.task_ordering.proofs.Settling.{listed_next, none_listed}
 use Rattle.task_ordering.proofs.placing.Placing.look_at_listed.Goals as goal
 

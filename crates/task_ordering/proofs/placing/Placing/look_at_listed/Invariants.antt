@@ -1,5 +1,5 @@
 use Rattle.std.proofs.Common.{◌≡◌, drop}
-use Rattle.task_ranks.specs.Rank.{lists_of}
+use Rattle.ready_work.specs.Rank.{lists_of}
 use Rattle.task_ordering.specs.Placing.{IsSoundPlacing, AreSettledOrListed}
 use Rattle.task_ordering.proofs.placing.Placing.look_at_listed.Given as goal
 

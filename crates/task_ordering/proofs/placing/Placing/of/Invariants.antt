@@ -1,5 +1,5 @@
 use Rattle.std.proofs.Common.{length}
-use Rattle.task_ranks.specs.Rank.{lists_of}
+use Rattle.ready_work.specs.Rank.{lists_of}
 use Rattle.task_ordering.specs.Placing.{IsSoundPlacing, AreSettled, unplaced_count}
 use Rattle.task_ordering.proofs.placing.Placing.of.Given as goal
 

@@ -1,8 +1,0 @@
--- so far the worker has only looked
-use Rattle.std.proofs.Common.{◌≡◌}
-use Rattle.coordination.specs.Tries.{OnlyLooked}
-use Rattle.coordination.proofs.services.Coordination.with_state_lock.Given as goal
-
-abbrev pub invariant-loop : goal.invariant-loop
-invariant-loop g l =
-    (goal.iterator-loop g).can_next l.iterator' × (goal.iterator-loop g).is_finite l.iterator' × (l.pass.service ≡ l.initial.pass.service) × OnlyLooked l.initial.pass.sight l.pass.sight

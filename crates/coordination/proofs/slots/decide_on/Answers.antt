@@ -1,0 +1,30 @@
+use Rattle.std.proofs.Common.{◌∙◌, subst, sym}
+use Rattle.lock_journal.specs.BookView.{BookView}
+use Rattle.coordination.proofs.TurnKinds.{stepless_left, stepped_left, undecided_left}
+use Rattle.coordination.proofs.slots.decide_on.Goals as goal
+
+pub returns-in_default-clause-left : goal.returns-in_default-clause-left
+returns-in_default-clause-left g c =
+    let Q = g.Q in
+    let X = g.Q.Step.Transform in
+    let q = c.args.decision.now in
+    undecided_left (Q.Question.answers q) (Q.Question.waits_on q) (Q.Decision.step_of q) X.kind_of X.makes X.fails_on X.retries_on c.args.worker (g.K.Keeper.book_of c.args.keeper.now) c.args.part.now c.requires.part
+    (subst (λ (b : BookView). Q.Question.waits_on q c.args.worker b) c.book-book.ensures c.in_default.ensures.waits)
+
+pub returns-in-None-clause-left : goal.returns-in-None-clause-left
+returns-in-None-clause-left g c =
+    let Q = g.Q in
+    let X = g.Q.Step.Transform in
+    let q = c.args.decision.now in
+    stepless_left (Q.Question.answers q) (Q.Question.waits_on q) (Q.Decision.step_of q) X.kind_of X.makes X.fails_on X.retries_on c.args.worker (g.K.Keeper.book_of c.args.keeper.now) c.args.part.now c.in-Some.answer c.requires.part
+    (subst (λ (b : BookView). Q.Question.answers q c.args.worker b c.in-Some.answer) c.book-book.ensures c.in-Some.ensures.answers) (sym c.step.ensures ∙ c.in-None.is)
+
+pub returns-in-Some-step-clause-left : goal.returns-in-Some-step-clause-left
+returns-in-Some-step-clause-left g c =
+    let Q = g.Q in
+    let X = g.Q.Step.Transform in
+    let q = c.args.decision.now in
+    let run = c.run_on-came in
+    stepped_left (Q.Question.answers q) (Q.Question.waits_on q) (Q.Decision.step_of q) X.kind_of X.makes X.fails_on X.retries_on c.args.worker (g.K.Keeper.book_of c.args.keeper.now) (g.K.Keeper.book_of run.new.keeper) run.new.part
+    c.in-Some.answer c.in-Some-step.step c.args.sleepers.now run.new.sleepers run.result c.carried_out.result
+    (subst (λ (b : BookView). Q.Question.answers q c.args.worker b c.in-Some.answer) c.book-book.ensures c.in-Some.ensures.answers) (sym c.step.ensures ∙ c.in-Some-step.is) run.ensures.run c.carried_out.ensures

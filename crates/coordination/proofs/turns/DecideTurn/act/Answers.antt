@@ -1,0 +1,13 @@
+use Rattle.coordination.specs.Decisions.{awaits_if}
+use Rattle.coordination.proofs.Awake.{decided_awake}
+use Rattle.coordination.proofs.turns.DecideTurn.act.Goals as goal
+
+pub returns-clause-awake : goal.returns-clause-awake
+returns-clause-awake g c = λ ne.
+    let Q = g.Q in
+    let X = g.Q.Step.Transform in
+    let q = c.args.self.now.decision.now in
+    let B = g.K.Keeper.book_of in
+    let d = c.decide_held-came in
+    decided_awake (Q.Question.answers q) (Q.Question.waits_on q) (awaits_if c.args.caller.sleeps (Q.Question.awaits q)) (Q.Decision.step_of q) X.kind_of X.makes X.fails_on X.retries_on c.args.caller.worker c.args.caller.promised c.args.caller.woken
+    c.args.caller.apart (B c.args.guarded.now.keeper) (B d.new.self.keeper) d.new.part c.args.guarded.now.sleepers d.new.self.sleepers d.result d.ensures.held (λ is. absurd (ne is))

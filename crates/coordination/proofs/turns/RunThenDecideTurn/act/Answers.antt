@@ -1,0 +1,111 @@
+use Rattle.std.proofs.Common.{Bool, ap, ◌∙◌, subst, sym}
+use Rattle.resource_lock.specs.declared.ids.WorkerId.{WorkerId}
+use Rattle.coordination.specs.Decisions.{DecideGives}
+use Rattle.coordination.specs.Parts.{IsPartHere}
+use Rattle.coordination.specs.RunThenDecide.{FollowGives}
+use Rattle.coordination.specs.Turns.{HasLeft}
+use Rattle.coordination.specs.declared.turns.Came.TheVariants as came
+use Rattle.coordination.specs.Decisions.{awaits_if}
+use Rattle.coordination.specs.SleepAndWake.{IsAwake}
+use Rattle.coordination.proofs.Awake.{decided_awake, run_awake}
+use Rattle.coordination.proofs.TurnKinds.{Retries, again_left, failed_left, followed_left, memory_left, part_again}
+use Rattle.coordination.proofs.turns.RunThenDecideTurn.act.Goals as goal
+
+pub decide_held-came-requires-clause-part : goal.decide_held-came-requires-clause-part
+decide_held-came-requires-clause-part g c =
+    let T = g.T.Transform in
+    let t = c.args.self.now.transform.now in
+    let B = g.K.Keeper.book_of in
+    let run = c.run_held-ran in
+    let h = run.ensures.held.run in
+    subst (λ (w : WorkerId). IsPartHere w (B run.new.self.keeper) run.new.part) (sym c.not_sleeping.ensures.worker)
+    (part_again (T.kind_of t) (T.makes t) (T.fails_on t) (T.retries_on t) c.args.caller.worker (B c.args.guarded.now.keeper) (B run.new.self.keeper) h.graph run.result.0 c.args.part.now run.new.part c.requires.part h.ran h.kept h.room)
+
+pub returns-in-Done-true-clause-left : goal.returns-in-Done-true-clause-left
+returns-in-Done-true-clause-left g c =
+    let T = g.T.Transform in
+    let t = c.args.self.now.transform.now in
+    let Q = g.Q in
+    let X = g.Q.Step.Transform in
+    let q = c.args.self.now.decision.now in
+    let B = g.K.Keeper.book_of in
+    let run = c.run_held-ran in
+    let d = c.decide_held-came in
+    let decided = subst (λ (w : WorkerId). HasLeft (DecideGives (Q.Question.answers q) (Q.Decision.step_of q) X.kind_of X.makes X.fails_on X.retries_on) (Q.Question.waits_on q) (Unit {0}) w (B run.new.self.keeper) (B d.new.self.keeper) d.new.part d.result.0)
+    c.not_sleeping.ensures.worker d.ensures.held.decided in
+    subst (λ f. HasLeft (FollowGives (Q.Question.answers q) (Q.Question.waits_on q) (Q.Decision.step_of q) X.kind_of X.makes X.fails_on X.retries_on (T.kind_of t) (T.makes t) (T.fails_on t)) (Retries (T.retries_on t)) (Unit {0}) c.args.caller.worker
+    (B c.args.guarded.now.keeper) (B d.new.self.keeper) d.new.part (came.Done f)) (sym c.followed_of.ensures)
+    (followed_left (Q.Question.answers q) (Q.Question.waits_on q) (Q.Decision.step_of q) X.kind_of X.makes X.fails_on X.retries_on (T.kind_of t) (T.makes t) (T.fails_on t) (T.retries_on t) c.args.caller.worker (B c.args.guarded.now.keeper) (B run.new.self.keeper) (B d.new.self.keeper) run.new.part d.new.part _ run.ensures.held.left run.result run.ensures.held.run
+    (sym c.came_of.ensures ∙ (c.in-Done-true.is ∙ ap (λ (b : Bool). came.Done b) c.in-Done-true.field-0-test)) d.result.0 decided)
+
+pub returns-in-Done-false-clause-left : goal.returns-in-Done-false-clause-left
+returns-in-Done-false-clause-left g c =
+    let T = g.T.Transform in
+    let t = c.args.self.now.transform.now in
+    let Q = g.Q in
+    let X = g.Q.Step.Transform in
+    let q = c.args.self.now.decision.now in
+    let B = g.K.Keeper.book_of in
+    let run = c.run_held-ran in
+    failed_left (Q.Question.answers q) (Q.Question.waits_on q) (Q.Decision.step_of q) X.kind_of X.makes X.fails_on X.retries_on (T.kind_of t) (T.makes t) (T.fails_on t) (T.retries_on t) c.args.caller.worker (B c.args.guarded.now.keeper) (B run.new.self.keeper) run.new.part _ run.ensures.held.left run.result run.ensures.held.run
+    (sym c.came_of.ensures ∙ (c.in-Done-false.is ∙ ap (λ (b : Bool). came.Done b) c.in-Done-false.field-0-test))
+
+pub returns-in-NoMemory-clause-left : goal.returns-in-NoMemory-clause-left
+returns-in-NoMemory-clause-left g c =
+    let T = g.T.Transform in
+    let t = c.args.self.now.transform.now in
+    let Q = g.Q in
+    let X = g.Q.Step.Transform in
+    let q = c.args.self.now.decision.now in
+    let B = g.K.Keeper.book_of in
+    let run = c.run_held-ran in
+    memory_left (Q.Question.answers q) (Q.Question.waits_on q) (Q.Decision.step_of q) X.kind_of X.makes X.fails_on X.retries_on (T.kind_of t) (T.makes t) (T.fails_on t) (T.retries_on t) c.args.caller.worker (B c.args.guarded.now.keeper) (B run.new.self.keeper) run.new.part _ run.ensures.held.left run.result run.ensures.held.run
+    (sym c.came_of.ensures ∙ c.in-NoMemory.is)
+
+pub returns-in-Again-clause-left : goal.returns-in-Again-clause-left
+returns-in-Again-clause-left g c =
+    let T = g.T.Transform in
+    let t = c.args.self.now.transform.now in
+    let Q = g.Q in
+    let X = g.Q.Step.Transform in
+    let q = c.args.self.now.decision.now in
+    let B = g.K.Keeper.book_of in
+    let run = c.run_held-ran in
+    again_left (Q.Question.answers q) (Q.Question.waits_on q) (Q.Decision.step_of q) X.kind_of X.makes X.fails_on X.retries_on (T.kind_of t) (T.makes t) (T.fails_on t) (T.retries_on t) c.args.caller.worker (B c.args.guarded.now.keeper) (B run.new.self.keeper) run.new.part _ run.ensures.held.left run.result run.ensures.held.run
+    (sym c.came_of.ensures ∙ c.in-Again.is)
+
+pub returns-in-Done-true-clause-awake : goal.returns-in-Done-true-clause-awake
+returns-in-Done-true-clause-awake g c = λ ne.
+    let Q = g.Q in
+    let X = g.Q.Step.Transform in
+    let q = c.args.self.now.decision.now in
+    let B = g.K.Keeper.book_of in
+    let d = c.decide_held-came in
+    subst (λ (w : WorkerId). IsAwake w d.new.self.sleepers) c.not_sleeping.ensures.worker
+    (decided_awake (Q.Question.answers q) (Q.Question.waits_on q) (awaits_if c.not_sleeping.result.sleeps (Q.Question.awaits q)) (Q.Decision.step_of q) X.kind_of X.makes X.fails_on X.retries_on c.not_sleeping.result.worker
+    c.not_sleeping.result.promised c.not_sleeping.result.woken c.not_sleeping.result.apart (B c.run_held-ran.new.self.keeper) (B d.new.self.keeper) d.new.part c.run_held-ran.new.self.sleepers d.new.self.sleepers d.result d.ensures.held
+    (λ is. ap (λ (b : Bool). awaits_if b (Q.Question.awaits q)) c.not_sleeping.ensures.sleeps))
+
+pub returns-in-Done-false-clause-awake : goal.returns-in-Done-false-clause-awake
+returns-in-Done-false-clause-awake g c = λ ne.
+    let T = g.T.Transform in
+    let t = c.args.self.now.transform.now in
+    let B = g.K.Keeper.book_of in
+    let run = c.run_held-ran in
+    run_awake (T.kind_of t) (T.makes t) (T.fails_on t) (T.retries_on t) c.args.caller.worker c.args.caller.promised (B c.args.guarded.now.keeper) (B run.new.self.keeper) run.new.part c.args.guarded.now.sleepers run.new.self.sleepers run.result run.ensures.held
+
+pub returns-in-NoMemory-clause-awake : goal.returns-in-NoMemory-clause-awake
+returns-in-NoMemory-clause-awake g c = λ ne.
+    let T = g.T.Transform in
+    let t = c.args.self.now.transform.now in
+    let B = g.K.Keeper.book_of in
+    let run = c.run_held-ran in
+    run_awake (T.kind_of t) (T.makes t) (T.fails_on t) (T.retries_on t) c.args.caller.worker c.args.caller.promised (B c.args.guarded.now.keeper) (B run.new.self.keeper) run.new.part c.args.guarded.now.sleepers run.new.self.sleepers run.result run.ensures.held
+
+pub returns-in-Again-clause-awake : goal.returns-in-Again-clause-awake
+returns-in-Again-clause-awake g c = λ ne.
+    let T = g.T.Transform in
+    let t = c.args.self.now.transform.now in
+    let B = g.K.Keeper.book_of in
+    let run = c.run_held-ran in
+    run_awake (T.kind_of t) (T.makes t) (T.fails_on t) (T.retries_on t) c.args.caller.worker c.args.caller.promised (B c.args.guarded.now.keeper) (B run.new.self.keeper) run.new.part c.args.guarded.now.sleepers run.new.self.sleepers run.result run.ensures.held

@@ -1,0 +1,113 @@
+-- What the end of a hold of the state lock leaves: who sleeps, who looks and who is woken.
+use Rattle.std.specs.Prelude.{◌≡◌, ◌≢◌, ◌<◌, ◌⊎◌, ◌&&◌, not, Bool, true, false, List, Option, None, Some, Result, Ok, Err, All}
+use Rattle.std.specs.Prelude.{length, replicate, set, slice_get}
+use Rattle.resource_lock.specs.declared.ids.WorkerId.{WorkerId}
+use Rattle.lock_journal.specs.BookView.{BookView}
+use Rattle.lock_transforms.specs.declared.entries.Kind.{Kind}
+use Rattle.lock_transforms.specs.declared.entries.Kind.TheVariants.{Block, Claim}
+use Rattle.lock_transforms.specs.declared.transforms.Disposition.{Disposition}
+use Rattle.lock_transforms.specs.declared.transforms.Disposition.TheVariants.{Finished, Failed, Retry}
+use Rattle.lock_journal.specs.Marks.{IsEnded}
+use Rattle.worker_choices.specs.NextSteps.{StillWait, Waits}
+use Rattle.worker_choices.specs.GoingOn.{last_lets_go_on}
+use Rattle.worker_choices.specs.Stances.{looking}
+use Rattle.worker_choices.specs.declared.awaited.Awaited.{Awaited}
+use Rattle.worker_choices.specs.declared.stances.Stance.{Stance}
+use Rattle.worker_choices.specs.declared.stances.Stance.TheVariants.{Away, Looks, Sleeps}
+use Rattle.worker_choices.specs.declared.woken.Woken.{Woken}
+use Rattle.worker_choices.specs.declared.woken.Woken.TheVariants as woken
+use Rattle.coordination.specs.declared.sleepers.Sleepers.{Sleepers}
+use Rattle.coordination.specs.declared.sleepers.Wakes.{Wakes}
+
+-- The stance of a worker that has promised to come again, or hasn't.
+abbrev pub looks_if : Bool → Stance
+looks_if true = Looks
+looks_if false = Away
+
+-- after an entry of this kind its worker goes to work
+abbrev pub goes_to_work : Kind → Bool
+goes_to_work (Claim u) = true
+goes_to_work (Block u) = true
+goes_to_work k = false
+
+-- The stance that a transform leaves its worker in. One that asks to be run again waits in it.
+abbrev pub stance_after : {E : Type 0} → Bool → Kind → Result Disposition E → Stance
+stance_after promised kind (Ok Finished) = looks_if (promised && not (goes_to_work kind))
+stance_after promised kind (Ok Failed) = looks_if promised
+stance_after promised kind (Ok Retry) = Away
+stance_after promised kind (Err e) = Away
+
+-- whether a transform left an entry, a failed one too
+abbrev pub has_entered : {E : Type 0} → Result Disposition E → Bool
+has_entered (Ok Finished) = true
+has_entered (Ok Failed) = true
+has_entered (Ok Retry) = false
+has_entered (Err e) = false
+
+-- the stance of a worker whose question has no answer: it sleeps until what it waits for comes
+abbrev pub stance_waiting : Option Awaited → Stance
+stance_waiting (Some awaited) = Sleeps awaited
+stance_waiting None = Away
+
+-- The stance that a question leaves its worker in: it carries the answer out, or waits for one.
+abbrev pub stance_asking : {A : Type 0} → Bool → Option Awaited → Option A → Stance
+stance_asking promised awaits (Some a) = looks_if promised
+stance_asking promised awaits None = stance_waiting awaits
+
+-- Nobody is woken only where somebody looks or each sleeper still waits, a worker only where nobody looks and what it waits for has
+-- come, and all only where all tasks have ended.
+pub record IsWokenBy (book : BookView) (queued : Bool) (stances : List Stance) (who : Woken) : Type 0 where
+  pub nobody : who ≡ woken.Nobody → (0 < looking stances) ⊎ StillWait book.graph book.state queued stances book.graph.workers
+  pub one : (w : WorkerId) → who ≡ woken.One w
+      → (looking stances ≡ 0) × (a : Awaited) × (slice_get stances w.0 ≡ Some (Sleeps a)) × (Waits book.graph w book.state queued a → ⊥)
+  pub all : who ≡ woken.All → All IsEnded book.state.tasks
+
+-- Who was woken looks. Where all were, nobody sleeps, and nobody is counted on.
+abbrev pub stances_after : Woken → List Stance → List Stance
+stances_after woken.Nobody stances = stances
+stances_after (woken.One w) stances = set stances w.0 Looks
+stances_after woken.All stances = replicate (length stances) Away
+
+-- Somebody looks, or each worker that sleeps still waits for what it waits for.
+abbrev pub AreQuiet : BookView → Bool → List Stance → Type 0
+AreQuiet book queued stances = (0 < looking stances) ⊎ StillWait book.graph book.state queued stances book.graph.workers
+
+-- A hold ended: its worker took this stance, and where nobody looked then one sleeper was woken for which what it waits for had
+-- come. Where the hold made an entry, that wakes all questions that wait for any, and all transforms where it can let one go on.
+pub record EndsHold (book : BookView) (w : WorkerId) (stance : Stance) (entered : Bool) (old new : Sleepers) (wakes : Wakes) : Type 0 where
+  pub queued : new.queued ≡ old.queued
+  pub questions : wakes.questions ≡ (entered && old.questions)
+  pub transforms : wakes.transforms ≡ (entered && (old.transforms && last_lets_go_on book.history))
+  pub workers : IsWokenBy book old.queued (set old.stances w.0 stance) wakes.workers
+  pub stances : new.stances ≡ stances_after wakes.workers (set old.stances w.0 stance)
+  pub quiet : AreQuiet book new.queued new.stances
+
+-- A hold of the state lock began, for a worker that has promised to come again or hasn't, where work outside the book was queued or none.
+abbrev pub begun : Bool → Bool → Sleepers → Sleepers
+begun queued promised s = record { transforms = s.transforms; questions = s.questions; stances = s.stances; queued = queued; promised = promised }
+
+-- a worker that was woken looks
+abbrev pub woken_if : Bool → WorkerId → Sleepers → Sleepers
+woken_if true w s = record { transforms = s.transforms; questions = s.questions; stances = set s.stances w.0 Looks; queued = s.queued; promised = s.promised }
+woken_if false w s = s
+
+-- A transform that asks to be run again sleeps.
+abbrev pub noted_after : {E : Type 0} → Result Disposition E → Sleepers → Sleepers
+noted_after (Ok Retry) s = record { transforms = true; questions = s.questions; stances = s.stances; queued = s.queued; promised = s.promised }
+noted_after (Ok Finished) s = s
+noted_after (Ok Failed) s = s
+noted_after (Err e) s = s
+
+-- A question without an answer sleeps. Where it doesn't sleep apart, it is one of those that any entry wakes.
+abbrev pub noted_asking : {A : Type 0} → Bool → Option A → Sleepers → Sleepers
+noted_asking false None s = record { transforms = s.transforms; questions = true; stances = s.stances; queued = s.queued; promised = s.promised }
+noted_asking true None s = s
+noted_asking apart (Some a) s = s
+
+-- A hold ended so, whoever slept when it began.
+abbrev pub EndsAHold : BookView → WorkerId → Stance → Bool → Wakes → Type 0
+EndsAHold book w stance entered wakes = (before : Sleepers) × (left : Sleepers) × EndsHold book w stance entered before left wakes
+
+-- the worker isn't noted as one that sleeps
+abbrev pub IsAwake : WorkerId → Sleepers → Type 0
+IsAwake w s = (a : Awaited) → slice_get s.stances w.0 ≢ Some (Sleeps a)

@@ -1,2 +1,0 @@
-mod Services
-mod Supplies

@@ -1,5 +1,0 @@
-pub mod Answer
-pub mod Answering
-pub mod Ends
-pub mod Serving
-pub mod Taking

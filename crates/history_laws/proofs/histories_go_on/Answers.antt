@@ -1,6 +1,0 @@
--- Each is a lemma.
-use Rattle.history_laws.proofs.lemmas.Growing.{lawful-front, marks_stay, tasks_stay}
-use Rattle.history_laws.proofs.histories_go_on.Goals as goal
-
-pub returns : goal.returns
-returns c = record { front = lawful-front; marks = marks_stay; ended = tasks_stay }

@@ -1,6 +1,0 @@
--- Both are lemmas.
-use Rattle.history_laws.proofs.lemmas.Growing.{closed_by-own, same_by_own}
-use Rattle.history_laws.proofs.own_entries_say_all.Goals as goal
-
-pub returns : goal.returns
-returns c = record { state = same_by_own; closings = closed_by-own }

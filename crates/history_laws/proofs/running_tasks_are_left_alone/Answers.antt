@@ -1,6 +1,0 @@
--- Both are lemmas.
-use Rattle.history_laws.proofs.lemmas.OwnTasks.{actions_stay, waiting_units_stay}
-use Rattle.history_laws.proofs.running_tasks_are_left_alone.Goals as goal
-
-pub returns : goal.returns
-returns c = record { actions = actions_stay; units = waiting_units_stay }

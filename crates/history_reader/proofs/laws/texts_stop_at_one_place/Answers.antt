@@ -1,5 +1,0 @@
-use Rattle.history_reader.proofs.lemmas.TextLaws.{one_place, no_history}
-use Rattle.history_reader.proofs.laws.texts_stop_at_one_place.Goals as goal
-
-pub returns : goal.returns
-returns c = record { one_place = one_place; no_history = no_history }

@@ -1,0 +1,17 @@
+ghost use Rattle.std.specs.Prelude.{Bool, Some};
+ghost use Rattle.history_text.specs.Text.{history_text};
+ghost use Rattle.history_text.specs.HistoryView.{book_history};
+ghost use Rattle.history_text.specs.Grammar.{IsHistoryText};
+
+use lock_journal::Book;
+
+/// The history of a book has a text of version 2, that of its graph and its entries.
+pub fn every_book_has_a_text(book: &Book)
+    ensures { (parallel : Bool) → IsHistoryText
+        (history_text book.now.graph.workers book.now.graph.max_leases parallel (Some book.now.graph.locks) book.now.history)
+        (book_history book.now parallel) }
+{
+    // Of the graph, that it fits; of the state, that the history that leads to it is lawful.
+    let _ = book.graph();
+    let _ = book.state();
+}

@@ -1,4 +1,0 @@
-mod NeedleCounts
-mod PieceStates
-mod Runs
-mod Words

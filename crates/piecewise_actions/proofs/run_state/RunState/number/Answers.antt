@@ -1,6 +1,0 @@
-use Rattle.std.proofs.Common.{◌∙◌, sym}
-use Rattle.piecewise_actions.proofs.Runs.{whole_runs}
-use Rattle.piecewise_actions.proofs.run_state.RunState.number.Goals as goal
-
-pub returns : goal.returns
-returns c = λ bytes h. h.longest ∙ sym (whole_runs bytes)

@@ -1,7 +1,0 @@
-use Rattle.std.proofs.Common.{refl}
-use Rattle.piecewise_actions.specs.Words.{words_after, can_begin}
-use Rattle.piecewise_actions.proofs.word_state.WordState.new.Goals as goal
-
-pub returns : goal.returns
-unfolding words_after can_begin
-returns c = record { begun = refl; can = refl }

@@ -1,4 +1,0 @@
-pub mod Needles
-pub mod Runs
-pub mod States
-pub mod Words

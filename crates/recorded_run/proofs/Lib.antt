@@ -1,3 +1,0 @@
-mod Closings
-mod Drives
-mod Answering

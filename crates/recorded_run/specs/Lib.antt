@@ -1,3 +1,0 @@
-pub mod Truth
-pub mod Driving
-pub mod Steps

@@ -1,6 +1,0 @@
-use Rattle.std.proofs.Common.{append_assoc}
-use Rattle.file_access.proofs.lemmas.Telling.{adds_as, adds_then}
-use Rattle.run_picture.proofs.bars.write_blocked.Goals as goal
-
-pub returns : goal.returns
-returns g c = adds_as (simp append_assoc) (adds_then (adds_then (adds_then c.begin_rect.ensures c.text.ensures) c.write_worker.ensures) c.text-2.ensures)

@@ -1,6 +1,0 @@
-use Rattle.std.proofs.Common.{append_assoc}
-use Rattle.file_access.proofs.lemmas.Telling.{adds_as, adds_then}
-use Rattle.run_picture.proofs.locks.write_lock_at.Goals as goal
-
-pub returns : goal.returns
-returns g c = adds_as (simp append_assoc) (adds_then (adds_then c.write_lock_name.ensures c.write_all_parked.ensures) c.write_all_owned.ensures)

@@ -1,8 +1,0 @@
-use Rattle.std.proofs.Common.{map, sym, subst, ◌∙◌}
-use Rattle.history_reader.specs.HistoryView.{entry_read}
-use Rattle.run_picture.specs.Parts.{Rising}
-use Rattle.run_picture.proofs.Rising.{spans_of_rise}
-use Rattle.run_picture.proofs.sheets.draw.Goals as goal
-
-pub draw_spans-requires-clause-rising : goal.draw_spans-requires-clause-rising
-draw_spans-requires-clause-rising g c = subst (λ ss. Rising 1 ss) (sym (c.deref-4.ensures.value ∙ c.in-Ok-spans_of.ensures)) (spans_of_rise (map entry_read c.deref-2.result.now))

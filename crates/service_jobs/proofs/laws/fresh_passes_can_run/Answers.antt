@@ -1,5 +1,0 @@
-use Rattle.service_jobs.proofs.Prefixes.{can_run_at_first}
-use Rattle.service_jobs.proofs.laws.fresh_passes_can_run.Goals as goal
-
-pub returns : goal.returns
-returns c = λ maxima s locks rests none at_first. can_run_at_first maxima s locks rests none at_first

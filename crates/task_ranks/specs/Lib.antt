@@ -1,4 +1,0 @@
-pub mod Rank
-pub mod Numbering
-pub mod Search
-pub mod Dependents
