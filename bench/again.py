@@ -7,6 +7,9 @@ else. That entry is found here from the printed history and the plan, with value
 Then the instructions of `again` are compared with those of `check` and of the run. Not part of the gate.
 
     bench/again.py [PROGRAM [PLANS]]
+
+Measured: 40, 20 and 100 random plans (seeds 1427806794, 1547200386, 2870191852): with the same files each gave the same; with another file
+35, 19 and 81 differed, where they had to. 2,048 items: 126.3 million instructions, where `check` takes 115.4 and the run 104.4.
 """
 
 import hashlib

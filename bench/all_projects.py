@@ -13,6 +13,10 @@ First some histories are changed by hand, and each has to be refused by all that
 the instructions of two plans without such tasks are counted last, by both programs. Not part of the gate.
 
     bench/all_projects.py [PROGRAM [PLANS [RUNS [SEED [OLDER PROGRAM]]]]]
+
+Measured: 200 plans at 1 to 32 threads, 1,400 runs with 168,724 entries (seed 3105038732): all lawful by both readings and by `check`. Of 40
+tasks whose number 20 asks for all projects, 20 had mostly started before it, and 39 at the most: it may come last. A chain of 2,048 tasks
+takes 1.7 instructions in 100 more than by a program without that lock, and 2,048 tasks of 64 projects 1.4.
 """
 
 import collections

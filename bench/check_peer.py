@@ -15,6 +15,11 @@ GNU time is missing.
     bench/check_peer.py [PROGRAM [TURNS [TEXTS [SEED]]]]
 
 Where much else runs, `nice -n -10 bench/check_peer.py` keeps the turns from being held up.
+
+Measured: times the peer's processor time by a file 1.64, 1.37 and 1.20 at 9,600, 598,495 and 1,191,612 entries, by a pipe 15.97, 9.97 and
+7.73; in another run 1.56, 1.29, 1.27 and 5.84, 7.87, 7.87. Instructions an entry: 1,811 and 1,764 by a file, 2,973 and 2,541 by a pipe; the
+peer's 1,457 and 1,579. Peak 2.0 MB at 64 MiB, as the peer's. By a pipe `check` makes 5.1 reads an entry. 2,400 judged texts had the same
+answers (seed 1135).
 """
 
 import collections

@@ -10,6 +10,9 @@ meanwhile gives other figures for four threads. Without strace the system calls 
     bench/coordination.py [PROGRAM]
 
 PROGRAM is a built program of bench/programs/coordination_rounds.
+
+Measured: a round takes 96 and 100 ns beside 16 of the Mutex alone (5.8 and 6.1 times, goal 4), and 219 and 227 beside 83 and 88 with four
+threads (2.6 times, goal 2). A thread slept in 5 of 100 rounds, of the Mutex's in 0.5. Alone no system call comes with more rounds.
 """
 
 import shutil

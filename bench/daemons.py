@@ -7,6 +7,10 @@ Not part of the gate. Works on Linux alone. Without valgrind the instructions ar
 calls of an item and the calls that start a child aren't looked at.
 
     bench/daemons.py [PROGRAM]
+
+Measured: an item takes 13.6, 14.9 and 23.3 microseconds in three runs (goal 15), 6,237 instructions in the parent (goal 4,000) and 6 system
+calls (goal 10). 41 ways of failing are each a fault of their own unit, and leave no child. 200 items with two sets of requirements start 2
+daemons, each by one clone3 without a copy of the memory.
 """
 
 import collections

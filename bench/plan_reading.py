@@ -10,6 +10,10 @@ the gate. Skips, with status 0, where valgrind, GNU time or `rt` is missing.
 
 PROGRAM is a plan_probe that was built before; without it one is proved and built, which takes long. Each PART is a
 number: plans with that part of the limits are read, and no chains.
+
+Measured: 3.7 MB, the limits of a plan: 96.1 instructions a byte with names in order, 98.5 in a random one, of which 17.2 and 19.6 aren't
+the kit's `toml`; an eighth of it 99.5 and 101.7. Peak 31.2 MB. A chain of 100,000 tasks is refused at 309 a byte and 159 MB. 40,000 names
+with one hash take as long as random ones. A task with one item takes 37,800.
 """
 
 import pathlib

@@ -16,6 +16,9 @@ Prints how many calls were refused on each path, and how each was answered. Anyt
 fail. Not part of the gate. Skips, with status 0, where there is no C compiler.
 
     bench/refused_memory.py [PROGRAM]
+
+Measured: 8,050 runs, each with one call for memory refused or that and all behind it: status 10 with nothing written, or an end with one
+unit without memory, as where each of 940 calls of a run with 32 units was refused: 788 and 152. All ended so.
 """
 
 import collections

@@ -10,6 +10,9 @@ status 0, where valgrind, time or rt is missing.
     bench/service_jobs.py [PROGRAM]
 
 PROGRAM is a built program of bench/programs/job_rounds.
+
+Measured: 3,215 instructions a job on one desk; a run takes 1.6 ms of a processor on one desk, and 5.0 ms on 32, where a thread slept 96
+times. No goal was set.
 """
 
 import pathlib
@@ -20,7 +23,7 @@ import tempfile
 
 import measure
 
-BELOW = measure.with_those_below("service_jobs")
+BELOW = measure.with_those_below("shared_services")
 PROGRAM = "job_rounds"
 JOBS = 2000
 # How many runs the program makes in a call, and how often it is called.

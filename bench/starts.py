@@ -5,6 +5,9 @@ The counts are parted by whose code it is: the system's loader, the C library, t
 Makes its files in a temporary folder. Not part of the gate. Skips, with status 0, where valgrind is missing.
 
     bench/starts.py [PROGRAM]
+
+Measured: refused words 199,151 instructions, 160,987 of them the loader's; a run of one task 307,695: 161,841 the loader, 94,580 the C
+library, 13,644 words, 15,155 the plan, 22,475 all else (goal 200,000).
 """
 
 import collections

@@ -10,6 +10,9 @@ where valgrind or rt is missing; ends with status 1 where a goal is missed.
     bench/task_ordering.py [PROGRAM]
 
 PROGRAM is a built program of bench/programs/order_probe.
+
+Measured: instructions a number in `after` 68.8, `must_after` 62.8, `finalized_by` 71.3 (goal 100), 213 to 257 ms for 4.2 million; a
+reversed chain 1,161 a task and 0.15 ms (goal 1 ms).
 """
 
 import pathlib

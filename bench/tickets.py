@@ -9,6 +9,9 @@ take turns, and medians are printed. Not part of the gate. A machine that does o
 
 FOLDER is that of the Rust crate crossbeam-queue, as Debian's package librust-crossbeam-queue-dev brings it: its queue in
 plain Rust is built by cargo and timed too. PROGRAM is a built program of bench/programs/ticket_rounds.
+
+Measured: a push and a pop take 36 ns at best and 38 by medians alone (goal 60), crossbeam's queue 17, a VecDeque behind a Mutex 30; with
+four threads 36 and 63, crossbeam's 17 and 24 (goal 2 times). A push and a pop each end with an xchg where crossbeam stores plainly.
 """
 
 import os

@@ -9,6 +9,9 @@ status 0, where valgrind or rt is missing.
     bench/unit_actions.py [PROGRAM]
 
 PROGRAM is a built program of bench/programs/unit_probe.
+
+Measured: a question takes 197 instructions where the action is searched for, 9 where it is noted; noting takes 14 a unit, once. No goal was
+set.
 """
 
 import pathlib

@@ -11,6 +11,10 @@ a processor don't count. Not part of the gate. Without valgrind or rustc that pa
     bench/views.py [PROGRAM SERVICE]
 
 PROGRAM is a built program of bench/programs/view_rounds, and SERVICE one of bench/programs/shown_rounds.
+
+Measured: an entry with 1, 8 and 31 views takes 609, 889 and 1,809 instructions more than the 178 of a plain book (goal 250 with one), and
+under the state lock of a service without views 49 more (goal 30). A look takes 17 to 18 ns by 1, 8 and 31 threads, beside a writer too; the
+lock's read 20, 364 and 453 ns, beside a writer 92 to 526.
 """
 
 import pathlib

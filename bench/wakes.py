@@ -6,6 +6,9 @@ their workers there, and then lets them go in an order of its own. A pipe that n
 the bench: then a worker slept that could have gone on. Each run has to print what one thread prints of ordinary files. Not part of the gate.
 
     bench/wakes.py [PROGRAM [RUNS]]
+
+Measured: 20 runs of each plan ended. A program that wakes sleepers only where a ticket is queued, built to try this, stood still in three
+of the eight.
 """
 
 import dataclasses

@@ -6,6 +6,9 @@ what few take, so that the start falls out. Not part of the gate. Without valgri
 without strace the system calls aren't.
 
     bench/worker.py [PROGRAM [REQUESTS]]
+
+Measured: a request takes 12.2 microseconds there and back (goal 20), 3.6 where all are sent at once, 6,297 instructions (goal 10,000) and
+four system calls for its file. 3,900 of the instructions clear a buffer in the kit's opening of a file.
 """
 
 import os
