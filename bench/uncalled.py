@@ -1,6 +1,6 @@
 #!/usr/bin/env python3
-"""Prints the table "What the program doesn't call" of docs/ARCHITECTURE.md: the public functions of the library crates that the program
-`leases` doesn't come to.
+"""Prints a table of what the program doesn't call: the public functions of the library crates that `leases` doesn't come to. They are there for
+whoever embeds the crates.
 
 It goes from what crates/leases names through the functions that the built libraries call (by the file mir.json in each, in which
 every call has its whole name), so the crates that the program stands on have to be built: by `./leases`, or in another clone
