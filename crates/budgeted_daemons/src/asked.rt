@@ -11,7 +11,8 @@ use std::alloc::Global;
 /// The heaps that items ask for in MB, one after the other. Two of them are within the budget together, and no three.
 static HEAPS: [u32; 4] = [550, 600, 700, 800];
 
-// A worker process of this program with this heap. It stands among the words that the process is called with.
+// A worker process of this program with this heap. It stands among the words that the process is called with for
+// bench/memory_budget.py alone: no process is told its own.
 fn requirements(alloc: Global, heap_mb: u32) -> Result<Requirements> {
     let word = format!(in alloc; "-Xmx{heap_mb}m")?;
     let mut args = Vec::new(alloc);

@@ -31,7 +31,7 @@ use Rattle.build_runner.specs.Run.{HasResults, depth}
 use Rattle.build_runner.specs.Sent.{AreSentAndOneMore, AreSentBy, AreSentFor, HasSent}
 use Rattle.build_runner.specs.Site.{SiteView}
 use Rattle.build_runner.specs.Units.{given}
-use Rattle.build_runner.specs.Worked.{HasComeToTheEnd, HasWorked, WasThere}
+use Rattle.build_runner.specs.Worked.{HasComeToTheEnd, TookPart, WasThere}
 use Rattle.build_runner.proofs.Sending.{sent_or_more}
 use Rattle.coordination.proofs.lemmas.Numbered.{element, passes_count, worker_at}
 
@@ -123,7 +123,7 @@ pub has_results : (plan : PlanView) (known : Option Folder) (b : BookView) → H
 has_results plan None b give honest every = every
 has_results plan (Some files) b give honest every = every _ (give (unit_value plan files) b.history honest)
 
--- the same of a run that was broken off
+-- what each desk of a run that was broken off sent, it sent for what its worker closed in the book, and for at most one more
 pub all_there : (units : List PlannedUnit) (before after : ℕ → DeskView) (ps : List PassView) (n : ℕ) (b : BookView) → map (λ (p : PassView). p.sight.worker.0) ps ≡ workers_from 0 n
     → All (λ (p : PassView). Agrees p.sight.worker p.sight.seen b) ps → ((i : ℕ) (p : PassView) → i < n → WasThere units (before i) (after i) (get_or ps i p))
     → (i : ℕ) → i < n → AreSentAndOneMore units (closed_by (record { 0 = i }) b.history) (before i).sent (after i).sent
@@ -141,31 +141,31 @@ sent_for_all done units {before} {after} {old} {new} none sent =
     let e : closed_by w new.seen.history ≡ sent.closed = sent.closes.closed ∙ ap (λ (h : List Entry). closed_by w h ++ sent.closed) none in
     subst (λ (v : WorkerId). AreSentBy done units (closed_by v new.seen.history) before after) (sym sent.closes.worker) (subst (λ (ds : List Closed). AreSentBy done units ds before after) (sym e) sent.sent)
 
-pub was_there : {D : Type 0} {view : D → DeskView} {s : SiteView} {a b : D} {old new : PassView} {ended : Bool} → HasWorked s view a b old new ended → old.sight.seen.history ≡ [] → WasThere s.units (view a) (view b) new
-was_there {view = view} {s} {a} {b} {new = new} {ended} worked none =
-    sent_or_more ended s.units (closed_by new.sight.worker new.sight.seen.history) (view a).sent (view b).sent (sent_for_all ended s.units none worked.step.sent)
+pub was_there : {s : SiteView} {a b : DeskView} {old new : PassView} {ended : Bool} → TookPart s a b old new ended → old.sight.seen.history ≡ [] → WasThere s.units a b new
+was_there {s} {a} {b} {new = new} {ended} part none =
+    sent_or_more ended s.units (closed_by new.sight.worker new.sight.seen.history) a.sent b.sent (sent_for_all ended s.units none part.step.sent)
 
-pub comes_to_the_end : {D : Type 0} {view : D → DeskView} {s : SiteView} {a b : D} {old new : PassView} {ended : Bool} → HasWorked s view a b old new ended → ended ≡ true → old.sight.seen.history ≡ []
-    → HasComeToTheEnd (view a).files s.units (view a) (view b) new
-comes_to_the_end {view = view} {s} {a} {b} {old} {new} {ended} worked is none =
-    let kept = worked.step.keeps in record {
+pub comes_to_the_end : {s : SiteView} {a b : DeskView} {old new : PassView} {ended : Bool} → TookPart s a b old new ended → ended ≡ true → old.sight.seen.history ≡ []
+    → HasComeToTheEnd a.files s.units a b new
+comes_to_the_end {s} {a} {b} {old} {new} {ended} part is none =
+    let kept = part.step.keeps in record {
       faults = λ lt.
           let f = kept.faults lt in
           let z : faults_by old.sight.worker old.sight.seen.history ≡ 0 = ap (λ h. faults_by old.sight.worker h) none in
-          subst (λ (w : WorkerId). faults_by w new.sight.seen.history + (view a).faults ≤ (view b).faults) (sym kept.worker) (omega (arith, f, z));
-      honest = at (view a).files kept.honest;
-      sent = subst (λ (done : Bool). AreSentBy done s.units (closed_by new.sight.worker new.sight.seen.history) (view a).sent (view b).sent) is (sent_for_all ended s.units none worked.step.sent);
-      finished = worked.finished is;
+          subst (λ (w : WorkerId). faults_by w new.sight.seen.history + a.faults ≤ b.faults) (sym kept.worker) (omega (arith, f, z));
+      honest = at a.files kept.honest;
+      sent = subst (λ (done : Bool). AreSentBy done s.units (closed_by new.sight.worker new.sight.seen.history) a.sent b.sent) is (sent_for_all ended s.units none part.step.sent);
+      finished = part.finished is;
     }
   where
     at : (o : Option Folder) → IfSome o (λ files. IsHonestWorker (given s.units files) old.sight.seen.history old.sight.worker → IsHonestWorker (given s.units files) new.sight.seen.history old.sight.worker)
         → IfSome o (λ files. IsHonestWorker (given s.units files) new.sight.seen.history new.sight.worker)
     at None keeps = tt
     at (Some files) keeps =
-        subst (λ (w : WorkerId). IsHonestWorker (given s.units files) new.sight.seen.history w) (sym worked.step.keeps.worker)
+        subst (λ (w : WorkerId). IsHonestWorker (given s.units files) new.sight.seen.history w) (sym part.step.keeps.worker)
         (keeps (subst (λ (h : List Entry). IsHonestWorker (given s.units files) h old.sight.worker) (sym none) tt))
 
--- the same, where perhaps less is known of the files
+-- a worker that came to the end did so also where less is known of the files
 pub come_as : {known known' : Option Folder} {units : List PlannedUnit} {before after : DeskView} {p : PassView} → (known' ≡ None) ⊎ (known' ≡ known) → HasComeToTheEnd known units before after p → HasComeToTheEnd known' units before after p
 come_as {known} {known'} {units} {before} {after} {p} less come = record {
   faults = come.faults;

@@ -1,11 +1,9 @@
 -- What a worker has chosen behind an item.
-use Rattle.std.proofs.Common.{◌≡◌, ℕ, ◌<◌, Bool, true, length, refl, sym, ◌∙◌, subst}
+use Rattle.std.proofs.Common.{◌≡◌, ℕ, ◌<◌, Bool, true, length, sym, subst}
 use Rattle.resource_lock.specs.GraphView.{GraphView, action_of}
 use Rattle.resource_lock.specs.Ranges.{lock_with}
 use Rattle.worker_choices.specs.declared.choices.Choice.{Choice}
-use Rattle.daemon_manager.specs.Counts.{TallyView}
 use Rattle.coordination.specs.Holds.{HoldsNothing}
-use Rattle.coordination.specs.Passes.{PassView}
 use Rattle.coordination.specs.Shown.{ShowsTheSame}
 use Rattle.coordination.specs.declared.decisions.Decided.{Decided}
 use Rattle.coordination.specs.declared.rule.Sight.{Sight}
@@ -15,19 +13,17 @@ use Rattle.async_tracker.specs.Shows.{IsFree, IsParkedBy, ShowsResumed}
 use Rattle.async_tracker.proofs.lemmas.Next.{DecidesNext, next_taken}
 use Rattle.async_tracker.proofs.lemmas.Turns.{free_still, parked_still, resumed_from, shows_then}
 use Rattle.build_runner.specs.Choices.{HasBegun}
-use Rattle.build_runner.specs.Desks.{DeskView}
-use Rattle.build_runner.specs.Failing.{FailsForEach}
 use Rattle.build_runner.specs.Helping.{HasRunBefore}
 use Rattle.build_runner.specs.Parked.{ShowsChoice, choice_of}
-use Rattle.build_runner.specs.Site.{IsAt, SiteView}
+use Rattle.build_runner.specs.Site.{SiteView}
 use Rattle.build_runner.specs.Steps.{Steps}
+use Rattle.build_runner.specs.WorkerView.{WorkerView}
 use Rattle.build_runner.specs.declared.parked.ParkedChoice.{ParkedChoice}
 use Rattle.build_runner.specs.declared.parked.ParkedChoice.TheVariants as parked
 use Rattle.build_runner.proofs.Choosing.{begun, taken_closes}
-use Rattle.build_runner.proofs.Failing.{fails_not, fails_then}
 use Rattle.build_runner.proofs.ParkedChoices.{Chosen, chosen}
 use Rattle.build_runner.proofs.Points.{same_rests}
-use Rattle.build_runner.proofs.Stepping.{step_still, step_then}
+use Rattle.build_runner.proofs.Stepping.{moved_on, step_moved, step_then}
 
 -- what was chosen, told from before an item that changed nothing that the pass shows
 pub choice_from : (a : ℕ) (old mid new : Sight) (choice : ParkedChoice) → ShowsTheSame old mid → ShowsChoice a mid new choice → ShowsChoice a old new choice
@@ -45,26 +41,23 @@ resumed_in g a old new failed choice is shows graph =
 pub popped_in : (a : ℕ) (old new : Sight) (choice : ParkedChoice) → choice ≡ parked.Pop → ShowsChoice a old new choice → ShowsTheSame old new
 popped_in a old new choice is shows = subst (ShowsChoice a old new) is shows
 
-module _ {D : Type 0} {view : D → DeskView} {s : SiteView} {a b : D} {old new : PassView} (mine mine' : TallyView) (at : IsAt s old) (service : new.service ≡ old.service) where
+module _ {s : SiteView} {old new : WorkerView} where
   -- an idle worker
-  pub begun_behind : (d : Decided Choice) → HasRunBefore s view a b old mine mine' ShowsTheSame (λ x. DecidesNext x new.sight d) → HoldsNothing old.sight
-      → Steps s view a b old new true × HasBegun new.sight (idle.choice_of d) × FailsForEach old.sight new.sight mine mine'
+  pub begun_behind : (d : Decided Choice) → HasRunBefore s old new ShowsTheSame (λ x. DecidesNext x new.pass.sight d) → HoldsNothing old.pass.sight → Steps s old new true × HasBegun new.pass.sight (idle.choice_of d)
   begun_behind d k rests =
       let still : HoldsNothing k.between = same_rests k.shows rests in
-      let next = next_taken k.between new.sight d k.follows still in
-      let closes = taken_closes k.between new.sight (idle.choice_of d) next.0 in (
-        step_then k.step refl (step_still b true k.step.at (service ∙ at.service) closes),
-        begun k.between new.sight (idle.choice_of d) next.0 next.1 still,
-        fails_then old.sight k.between new.sight mine mine' mine' k.step.keeps.worker k.failed (fails_not mine' closes),
+      let next = next_taken k.between new.pass.sight d k.follows still in
+      let closes = taken_closes k.between new.pass.sight (idle.choice_of d) next.0 in (
+        step_then k.step (step_moved true k.step.of (moved_on new k.between) closes),
+        begun k.between new.pass.sight (idle.choice_of d) next.0 next.1 still,
       )
 
   -- a parked worker
-  pub chosen_behind : (p : ParkedView) (d : Decided ParkedChoice) → HasRunBefore s view a b old mine mine' ShowsTheSame (λ x. Chosen p.action x new.sight d) → p.action < length s.graph.actions → IsParkedBy old.sight p → IsFree old.sight
-      → Steps s view a b old new true × ShowsChoice p.action old.sight new.sight (choice_of d) × FailsForEach old.sight new.sight mine mine'
+  pub chosen_behind : (p : ParkedView) (d : Decided ParkedChoice) → HasRunBefore s old new ShowsTheSame (λ x. Chosen p.action x new.pass.sight d) → p.action < length s.graph.actions → IsParkedBy old.pass.sight p → IsFree old.pass.sight
+      → Steps s old new true × ShowsChoice p.action old.pass.sight new.pass.sight (choice_of d)
   chosen_behind p d k low by free =
-      let within : p.action < length k.between.seen.graph.actions = subst (λ (g : GraphView). p.action < length g.actions) (sym k.step.at.graph) low in
-      let next = chosen p k.between new.sight d k.follows within (parked_still p k.shows by) (free_still k.shows free) in (
-        step_then k.step refl (step_still b true k.step.at (service ∙ at.service) next.0),
-        choice_from p.action old.sight k.between new.sight (choice_of d) k.shows next.1,
-        fails_then old.sight k.between new.sight mine mine' mine' k.step.keeps.worker k.failed (fails_not mine' next.0),
+      let within : p.action < length k.between.seen.graph.actions = subst (λ (g : GraphView). p.action < length g.actions) (sym k.step.of.at.graph) low in
+      let next = chosen p k.between new.pass.sight d k.follows within (parked_still p k.shows by) (free_still k.shows free) in (
+        step_then k.step (step_moved true k.step.of (moved_on new k.between) next.0),
+        choice_from p.action old.pass.sight k.between new.pass.sight (choice_of d) k.shows next.1,
       )

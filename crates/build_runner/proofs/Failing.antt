@@ -1,7 +1,7 @@
 -- The daemons that failed, beside the units that weren't worked out, over the parts of a run.
-use Rattle.std.proofs.Common.{◌≡◌, ℕ, suc, ◌+◌, ◌<◌, ◌≤◌, List, [], ◌∷◌, length, get_or, Result, Ok, Err, refl, sym, ap, ◌∙◌, arith, subst}
+use Rattle.std.proofs.Common.{◌≡◌, ℕ, suc, ◌+◌, ◌<◌, ◌≤◌, List, [], ◌∷◌, length, get_or, refl, sym, ap, ◌∙◌, arith, subst}
 use Rattle.std.specs.List.{range_with_len}
-use Rattle.std.specs.Prelude.{OnOk, sum_by}
+use Rattle.std.specs.Prelude.{sum_by}
 use Rattle.std.proofs.lemmas.List.Sums.{sum_by-append, sum_by-cons}
 use Rattle.item_actions.specs.declared.outcomes.Outcome.{Outcome}
 use Rattle.lock_transforms.specs.Entry.{Entry}
@@ -35,15 +35,9 @@ fails_then a b c m m' m'' worker before other =
     let after = subst (λ w. m''.failed + unreal_by w b.seen.history ≤ m'.failed + unreal_by w c.seen.history) worker other in
     omega (arith, before, after)
 
--- what holds anyway holds at a value
-pub at_ok : {T E P : Type 0} (r : Result T E) → P → OnOk r P
-at_ok (Ok x) p = p
-at_ok (Err e) p = tt
-
 -- a unit was run, and closed with what it gave
-pub fails_closed : {T E : Type 0} (old new : Sight) (m m' : TallyView) (d : Closed) (r : Result T E) → OnOk r (HasClosed (d ∷ []) old new) → m'.failed ≤ m.failed + one_if_unreal d.outcome → OnOk r (FailsForEach old new m m')
-fails_closed old new m m' d (Ok x) closed failed = let more = grows closed in let one = sum_by-cons (λ (e : Closed). one_if_unreal e.outcome) d [] in omega (arith, more, one, failed)
-fails_closed old new m m' d (Err e) closed failed = tt
+pub fails_closed : (old new : Sight) (m m' : TallyView) (d : Closed) → HasClosed (d ∷ []) old new → m'.failed ≤ m.failed + one_if_unreal d.outcome → FailsForEach old new m m'
+fails_closed old new m m' d closed failed = let more = grows closed in let one = sum_by-cons (λ (e : Closed). one_if_unreal e.outcome) d [] in omega (arith, more, one, failed)
 
 -- ---- of all workers
 

@@ -1,12 +1,10 @@
 -- An item that a worker ran, and what it decided behind it.
-use Rattle.std.proofs.Common.{◌≡◌, ◌⊎◌, ◌+◌, ◌≤◌, inl, inr, true, false, [], ◌∷◌, Option, Result, Ok, Err, refl, sym}
+use Rattle.std.proofs.Common.{◌≡◌, ◌⊎◌, inl, inr, true, false, List, [], ◌∷◌, Option, Result, Ok, Err, refl, subst}
 use Rattle.std.specs.Prelude.{IfOk, OnErr}
 use Rattle.resource_lock.specs.declared.ids.WorkerId.{WorkerId}
 use Rattle.lock_transforms.specs.declared.entries.Closed.{Closed}
 use Rattle.lock_transforms.specs.declared.entries.Kind.{Kind}
 use Rattle.lock_journal.specs.BookView.{BookView}
-use Rattle.daemon_manager.specs.Counts.{TallyView}
-use Rattle.item_work.specs.Tallying.{one_if_unreal}
 use Rattle.coordination.specs.Attempts.{Cause, Making}
 use Rattle.coordination.specs.Calls.{AskedInVain, HasLooked}
 use Rattle.coordination.specs.Decisions.{HasDecided}
@@ -19,17 +17,16 @@ use Rattle.coordination.specs.declared.rule.Sight.{Sight}
 use Rattle.async_tracker.specs.Closings.{HasClosedThen}
 use Rattle.async_tracker.specs.Following.{HasDecidedAfter}
 use Rattle.async_tracker.specs.Shows.{ShowsClosed}
-use Rattle.build_runner.specs.Desks.{DeskView}
 use Rattle.build_runner.specs.Helping.{HasClosedBefore, HasRunBefore, MayHaveClosed}
 use Rattle.build_runner.specs.Kept.{HasClosed}
-use Rattle.build_runner.specs.Site.{IsAt, SiteView}
-use Rattle.build_runner.specs.Steps.{HasRun, Steps}
-use Rattle.build_runner.proofs.Failing.{fails_closed, fails_not, fails_then}
+use Rattle.build_runner.specs.Site.{SiteView}
+use Rattle.build_runner.specs.Steps.{HasRunItem, MovesPass, Steps}
+use Rattle.build_runner.specs.WorkerView.{IsOf, WorkerView}
 use Rattle.build_runner.proofs.Keeping.{closes_then, finished_closes, in_vain_closes, looked_closes}
-use Rattle.build_runner.proofs.Stepping.{closes_nothing, step_closed, step_desk, step_failed, step_still, step_then}
+use Rattle.build_runner.proofs.Stepping.{closes_nothing, moved_at, step_closed, step_failed, step_moved, step_then, step_unclosed}
 
 -- an answer that was given, or want of memory, or a stop, closes nothing
-vain_closes : {A : Type 0} {waits : WorkerId → BookView → Type 0} {old new : Sight} (r : Result A Halt) → (r ≡ Err NoMemory → HasLooked old new) → ((by : WorkerId) → r ≡ Err (Stopped by) → AskedInVain waits by old new)
+pub vain_closes : {A : Type 0} {waits : WorkerId → BookView → Type 0} {old new : Sight} (r : Result A Halt) → (r ≡ Err NoMemory → HasLooked old new) → ((by : WorkerId) → r ≡ Err (Stopped by) → AskedInVain waits by old new)
     → OnErr r (HasClosed [] old new)
 vain_closes (Ok a) looked stopped = tt
 vain_closes (Err NoMemory) looked stopped = looked_closes (looked refl)
@@ -59,62 +56,55 @@ module _ (d : Closed) (old : Sight) where
   closed_alone {mid = mid} Follows (Ok a) closed shows follows = record { between = mid; closed = closed; shows = shows; follows = follows }
   closed_alone Follows (Err e) closed shows follows = tt
 
-  pub closed_in_vain : {A : Type 0} {waits : WorkerId → BookView → Type 0} {mid new : Sight} (r : Result A Halt) → HasClosed (d ∷ []) old mid → (r ≡ Err NoMemory → HasLooked mid new)
-      → ((by : WorkerId) → r ≡ Err (Stopped by) → AskedInVain waits by mid new) → OnErr r (MayHaveClosed d old new)
-  closed_in_vain (Ok a) closed looked stopped = tt
-  closed_in_vain (Err NoMemory) closed looked stopped = inr (closes_then closed (looked_closes (looked refl)))
-  closed_in_vain (Err (Stopped by)) closed looked stopped = inr (closes_then closed (in_vain_closes (stopped by refl)))
+  pub closed_in_vain : {A E : Type 0} {mid : Sight} (new : Sight) (r : Result A E) → HasClosed (d ∷ []) old mid → OnErr r (HasClosed [] mid new) → OnErr r (MayHaveClosed d old new)
+  closed_in_vain new (Ok a) closed still = tt
+  closed_in_vain new (Err e) closed still = inr (closes_then closed still)
 
-module _ {D : Type 0} (view : D → DeskView) (s : SiteView) (a : D) (old : PassView) (at : IsAt s old) where
+module _ (s : SiteView) (old : WorkerView) (of : IsOf s old) where
   -- a unit was run, and closed with what it gave
-  module _ (b c : D) (d : Closed) (run : HasRun s.units view a b d) (same : view c ≡ view b) where
-    pub ran_before : {A E : Type 0} (mine mine' : TallyView) (Follows : A → Sight → Type 0) (r : Result A E) → mine'.failed ≤ mine.failed + one_if_unreal d.outcome → IfOk r (λ x. HasClosedBefore d old.sight (Follows x))
-        → IfOk r (λ x. HasRunBefore s view a c old mine mine' (ShowsClosed d.unit) (Follows x))
-    ran_before mine mine' Follows (Ok x) failed k =
-        let one : Result (Unit {0}) (Unit {0}) = Ok tt in record {
-          between = k.between;
-          step = step_desk same (step_closed d one at refl (closes_nothing old.sight) run (sym at.service) k.closed tt);
-          shows = k.shows;
-          failed = fails_closed old.sight k.between mine mine' d one k.closed failed;
-          follows = k.follows;
-        }
-    ran_before mine mine' Follows (Err e) failed k = tt
+  module _ {mid new : WorkerView} (d : Closed) (ran : HasRunItem s.units old mid d) (moves : MovesPass mid new) where
+    since : {ds : List Closed} {last : Sight} → HasClosed ds mid.pass.sight last → HasClosed ds old.pass.sight last
+    since {ds} {last} closed = subst (λ (p : PassView). HasClosed ds p.sight last) ran.pass closed
 
-    pub broke_off : {A E : Type 0} (new : PassView) (r : Result A E) → new.service ≡ old.service → OnErr r (MayHaveClosed d old.sight new.sight) → OnErr r (Steps s view a c old new false)
-    broke_off new (Ok x) service closed = tt
-    broke_off new (Err e) service closed = broke closed
-      where
-        broke : MayHaveClosed d old.sight new.sight → Steps s view a c old new false
-        broke (inl still) = let none : Result (Unit {0}) (Unit {0}) = Err tt in step_desk same (step_closed d none at refl (closes_nothing old.sight) run service tt still)
-        broke (inr closed) = let one : Result (Unit {0}) (Unit {0}) = Ok tt in step_failed (step_desk same (step_closed d one at refl (closes_nothing old.sight) run service closed tt))
-
-  -- nothing was run
-  module _ (mid : Sight) (closes : HasClosed [] old.sight mid) where
-    pub only_decided : {A E : Type 0} (mine : TallyView) (Follows : A → Sight → Type 0) (r : Result A E) → ShowsTheSame old.sight mid → IfOk r (λ x. Follows x mid) → IfOk r (λ x. HasRunBefore s view a a old mine mine ShowsTheSame (Follows x))
-    only_decided mine Follows (Ok x) shows follows = record { between = mid; step = step_still a true at (sym at.service) closes; shows = shows; failed = fails_not mine closes; follows = follows }
-    only_decided mine Follows (Err e) shows follows = tt
-
-    pub only_broke_off : {A : Type 0} {waits : WorkerId → BookView → Type 0} {new : PassView} (r : Result A Halt) → new.service ≡ old.service → (r ≡ Err NoMemory → HasLooked mid new.sight)
-        → ((by : WorkerId) → r ≡ Err (Stopped by) → AskedInVain waits by mid new.sight) → OnErr r (Steps s view a a old new false)
-    only_broke_off {new = new} r service looked stopped = broke r (vain_closes r looked stopped)
-      where
-        broke : {A : Type 0} (r : Result A Halt) → OnErr r (HasClosed [] mid new.sight) → OnErr r (Steps s view a a old new false)
-        broke (Ok x) closed = tt
-        broke (Err e) closed = step_still a false at service (closes_then closes closed)
-
-  -- behind a claim
-  module _ (mid : PassView) (service : mid.service ≡ old.service) (closes : HasClosed [] old.sight mid.sight) (c : D) where
-    pub claimed_before : {A E : Type 0} (mine mine' : TallyView) (Shows : Sight → Sight → Type 0) (Follows : A → Sight → Type 0) (r : Result A E) → ((between : Sight) → Shows mid.sight between → ShowsTheSame old.sight between)
-        → IfOk r (λ x. HasRunBefore s view a c mid mine mine' Shows (Follows x)) → IfOk r (λ x. HasRunBefore s view a c old mine mine' ShowsTheSame (Follows x))
-    claimed_before mine mine' Shows Follows (Ok x) again k = record {
+    pub ran_before : {A E : Type 0} (Follows : A → Sight → Type 0) (r : Result A E) → IfOk r (λ x. HasClosedBefore d mid.pass.sight (Follows x)) → IfOk r (λ x. HasRunBefore s old new (ShowsClosed d.unit) (Follows x))
+    ran_before Follows (Ok x) k = record {
       between = k.between;
-      step = step_then (step_still a true at service closes) refl k.step;
-      shows = again k.between k.shows;
-      failed = fails_then old.sight mid.sight k.between mine mine mine' closes.worker (fails_not mine closes) k.failed;
+      step = step_closed d of ran (moved_at k.between moves) (since k.closed);
+      shows = subst (λ (p : PassView). ShowsClosed d.unit p.sight k.between) ran.pass k.shows;
       follows = k.follows;
     }
-    claimed_before mine mine' Shows Follows (Err e) again k = tt
+    ran_before Follows (Err e) k = tt
 
-    pub claimed_broke_off : {A E : Type 0} (new : PassView) (r : Result A E) → OnErr r (Steps s view a c mid new false) → OnErr r (Steps s view a c old new false)
-    claimed_broke_off new (Ok x) k = tt
-    claimed_broke_off new (Err e) k = step_then (step_still a true at service closes) refl k
+    pub broke_off : {A E : Type 0} (r : Result A E) → OnErr r (MayHaveClosed d mid.pass.sight new.pass.sight) → OnErr r (Steps s old new false)
+    broke_off (Ok x) closed = tt
+    broke_off (Err e) closed = broke closed
+      where
+        broke : MayHaveClosed d mid.pass.sight new.pass.sight → Steps s old new false
+        broke (inl still) = step_unclosed d of ran moves (since still)
+        broke (inr closed) = step_failed (step_closed d of ran moves (since closed))
+
+  -- nothing was run, and its pass alone went on
+  module _ {mid new : WorkerView} (first : Steps s old mid true) (moves : MovesPass mid new) where
+    pub only_decided : {A E : Type 0} (Follows : A → Sight → Type 0) (r : Result A E) → ShowsTheSame old.pass.sight mid.pass.sight → IfOk r (λ x. Follows x mid.pass.sight) → IfOk r (λ x. HasRunBefore s old new ShowsTheSame (Follows x))
+    only_decided Follows (Ok x) shows follows = record {
+      between = mid.pass.sight;
+      step = step_then first (step_moved true first.of (moved_at mid.pass.sight moves) (closes_nothing mid.pass.sight));
+      shows = shows;
+      follows = follows;
+    }
+    only_decided Follows (Err e) shows follows = tt
+
+    pub only_broke_off : {A E : Type 0} (r : Result A E) → OnErr r (HasClosed [] mid.pass.sight new.pass.sight) → OnErr r (Steps s old new false)
+    only_broke_off (Ok x) closed = tt
+    only_broke_off (Err e) closed = step_then first (step_moved false first.of moves closed)
+
+  -- behind a claim
+  module _ {mid : WorkerView} (new : WorkerView) (first : Steps s old mid true) where
+    pub claimed_before : {A E : Type 0} (Shows : Sight → Sight → Type 0) (Follows : A → Sight → Type 0) (r : Result A E) → ((between : Sight) → Shows mid.pass.sight between → ShowsTheSame old.pass.sight between)
+        → IfOk r (λ x. HasRunBefore s mid new Shows (Follows x)) → IfOk r (λ x. HasRunBefore s old new ShowsTheSame (Follows x))
+    claimed_before Shows Follows (Ok x) again k = record { between = k.between; step = step_then first k.step; shows = again k.between k.shows; follows = k.follows }
+    claimed_before Shows Follows (Err e) again k = tt
+
+    pub claimed_broke_off : {A E : Type 0} (r : Result A E) → OnErr r (Steps s mid new false) → OnErr r (Steps s old new false)
+    claimed_broke_off (Ok x) k = tt
+    claimed_broke_off (Err e) k = step_then first k

@@ -173,14 +173,7 @@ ran_closes (Ok false) none finished failed looked stopped = failed_closes (faile
 ran_closes (Err Halt.NoMemory) none finished failed looked stopped = looked_closes (looked refl)
 ran_closes (Err (Halt.Stopped by)) none finished failed looked stopped = stopped_closes (stopped by refl)
 
--- the same of a call that fails for want of memory alone
-pub tried_closes : {E : Type 0} {kind : Kind} {makes : Making} {fails : Cause} {old new : Sight} (r : Result Bool E) → closed_of kind ≡ []
-    → (r ≡ Ok true → HasFinished kind makes old new) → (r ≡ Ok false → HasFailed kind fails old new) → OnErr r (HasLooked old new) → HasClosed [] old new
-tried_closes {old = old} {new} (Ok true) none finished failed looked = subst (λ ds. HasClosed ds old new) none (finished_closes (finished refl))
-tried_closes (Ok false) none finished failed looked = failed_closes (failed refl)
-tried_closes (Err e) none finished failed looked = looked_closes looked
-
--- the same of a call that gives a value where it finishes
+-- whatever a call answers that gives a value where its transform finishes, no unit was closed, where that transform closes none
 pub gave_closes : {T : Type 0} {retries : Cause} {old new : Sight} (kind : Kind) (makes : Making) (r : Result T Halt) → closed_of kind ≡ []
     → OnOk r (HasFinished kind makes old new) → (r ≡ Err Halt.NoMemory → HasLooked old new) → ((by : WorkerId) → r ≡ Err (Halt.Stopped by) → WasStopped retries by old new)
     → HasClosed [] old new

@@ -9,6 +9,7 @@ pub mod Helping
 pub mod ChosenBehind
 mod AtFirst
 mod AtTheEnd
+mod Begun
 mod Failing
 mod FileNames
 mod HandSteps
@@ -18,6 +19,8 @@ mod PlannedItems
 mod PlannedUnits
 mod Ranks
 mod Seated
+pub mod Seating
 mod SiteUnits
 mod Tallied
+mod Untouched
 mod Watched

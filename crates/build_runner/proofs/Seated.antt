@@ -5,26 +5,33 @@ use Rattle.std.proofs.lemmas.List.{get_or-map, length-map}
 use Rattle.coordination.specs.Passes.{PassView}
 use Rattle.build_runner.specs.Site.{SiteView}
 use Rattle.build_runner.specs.Desks.{DeskView}
-use Rattle.build_runner.specs.Worked.{HasWorked}
+use Rattle.build_runner.specs.Worked.{HasWorked, TookPart}
+use Rattle.build_runner.specs.WorkerView.{WorkerView}
 use Rattle.coordination.proofs.lemmas.Numbered.{element}
-use Rattle.build_runner.proofs.Stepping.{worked_weaker}
+use Rattle.build_runner.proofs.Stepping.{part_weaker, took_part}
 
--- Each worker is a pass, a desk and whether it came to the end.
-module _ {W D : Type 0} (pass : W → PassView) (desk : W → D) (ended : W → Bool) (old new : List W) (long : length new ≡ length old)
-    (mine desks : List D) (passes left : List PassView) (mine_are : map desk old ≡ mine) (desks_are : map desk new ≡ desks) (passes_are : map pass old ≡ passes) (left_are : map pass new ≡ left) where
+-- Each worker had a pass and a desk, and they are in their places again.
+module _ {D : Type 0} (view : D → DeskView) (old new : List WorkerView) (long : length new ≡ length old) (mine desks : List D) (passes left : List PassView)
+    (mine_are : map (λ w. w.desk) old ≡ map view mine) (desks_are : map view desks ≡ map (λ w. w.desk) new)
+    (passes_are : map (λ w. w.pass) old ≡ passes) (left_are : left ≡ map (λ w. w.pass) new) where
   count : length old ≡ length mine
-  count = sym (length-map old desk) ∙ ap (λ (l : List D). length l) mine_are
+  count = sym (length-map old (λ (w : WorkerView). w.desk)) ∙ (ap (λ (l : List DeskView). length l) mine_are ∙ length-map mine view)
+
+  pub long_again : length desks ≡ length new
+  long_again = sym (length-map desks view) ∙ (ap (λ (l : List DeskView). length l) desks_are ∙ length-map new (λ (w : WorkerView). w.desk))
 
   -- what each did, said of the desks and the passes
-  pub each_worked : (s : SiteView) (view : D → DeskView) (r : Bool) → (r ≡ true → All (λ w. ended w ≡ true) new)
-      → ((i : ℕ) (w : W) → i < length old → HasWorked s view (desk (get_or old i w)) (desk (get_or new i w)) (pass (get_or old i w)) (pass (get_or new i w)) (ended (get_or new i w)))
-      → (i : ℕ) (p : PassView) (d : D) → i < length mine → HasWorked s view (get_or mine i d) (get_or desks i d) (get_or passes i p) (get_or left i p) r
-  each_worked s view r all each i p d low =
+  pub each_worked : (s : SiteView) (r : Bool) → (r ≡ true → All (λ w. w.ended ≡ true) new) → ((i : ℕ) (w : WorkerView) → i < length old → HasWorked s (get_or old i w) (get_or new i w))
+      → (i : ℕ) (p : PassView) (d : D) → i < length mine → TookPart s (view (get_or mine i d)) (view (get_or desks i d)) (get_or passes i p) (get_or left i p) r
+  each_worked s r all each i p d low =
       let l : i < length old = omega (arith, count, low) in
       let m : i < length new = omega (arith, long, l) in
-      let w : W = element old i l in
-      let was : get_or mine i d ≡ desk (get_or old i w) = ap (λ (l : List D). get_or l i d) (sym mine_are) ∙ get_or-map desk old i w d l in
-      let now : get_or desks i d ≡ desk (get_or new i w) = ap (λ (l : List D). get_or l i d) (sym desks_are) ∙ get_or-map desk new i w d m in
-      let before : get_or passes i p ≡ pass (get_or old i w) = ap (λ (l : List PassView). get_or l i p) (sym passes_are) ∙ get_or-map pass old i w p l in
-      let after : get_or left i p ≡ pass (get_or new i w) = ap (λ (l : List PassView). get_or l i p) (sym left_are) ∙ get_or-map pass new i w p m in
-      rw (was, now, before, after) (worked_weaker (λ is. all is i w m) (each i w l))
+      let n : i < length desks = omega (arith, long_again, m) in
+      let w : WorkerView = element old i l in
+      let was : view (get_or mine i d) ≡ (get_or old i w).desk =
+      sym (get_or-map view mine i d (view d) low) ∙ (ap (λ (ds : List DeskView). get_or ds i (view d)) (sym mine_are) ∙ get_or-map (λ (v : WorkerView). v.desk) old i w (view d) l) in
+      let now : view (get_or desks i d) ≡ (get_or new i w).desk =
+      sym (get_or-map view desks i d (view d) n) ∙ (ap (λ (ds : List DeskView). get_or ds i (view d)) desks_are ∙ get_or-map (λ (v : WorkerView). v.desk) new i w (view d) m) in
+      let before : get_or passes i p ≡ (get_or old i w).pass = ap (λ (ps : List PassView). get_or ps i p) (sym passes_are) ∙ get_or-map (λ (v : WorkerView). v.pass) old i w p l in
+      let after : get_or left i p ≡ (get_or new i w).pass = ap (λ (ps : List PassView). get_or ps i p) left_are ∙ get_or-map (λ (v : WorkerView). v.pass) new i w p m in
+      rw (was, now, before, after) (part_weaker (λ is. all is i w m) (took_part (each i w l)))

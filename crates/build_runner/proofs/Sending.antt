@@ -2,6 +2,7 @@
 use Rattle.std.proofs.Common.{◌≡◌, ℕ, List, [], ◌∷◌, ◌++◌, Bool, true, false, Option, Some, inl, inr, refl, subst, sym}
 use Rattle.std.specs.Prelude.{slice_get}
 use Rattle.std.proofs.lemmas.Bool.{false≢true}
+use Rattle.std.proofs.lemmas.List.{append-nil}
 use Rattle.item_actions.specs.declared.actions.ItemAction.{ItemAction}
 use Rattle.lock_transforms.specs.declared.entries.Closed.{Closed}
 use Rattle.daemon_requirements.specs.declared.work.Isolation.{Isolation}
@@ -74,4 +75,12 @@ sent_then last units {a} {b} {c} {r} {s} {t} k l = record {
   closed = k.closed ++ l.closed;
   closes = closes_then k.closes l.closes;
   sent = joined_by last units k.closed l.closed a b c k.sent l.sent;
+}
+
+-- a part that failed, behind which nothing was closed
+pub sent_still : {units : List PlannedUnit} {before after : SentView} {old mid new : Sight} → HasSent false units before after old mid → HasClosed [] mid new → HasSent false units before after old new
+sent_still {units} {before} {after} k closed = record {
+  closed = k.closed ++ [];
+  closes = closes_then k.closes closed;
+  sent = subst (λ ds. AreSentAndOneMore units ds before after) (sym (append-nil k.closed)) k.sent;
 }

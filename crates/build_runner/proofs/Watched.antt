@@ -1,26 +1,21 @@
 -- What a worker looks with, while it works.
-use Rattle.std.proofs.Common.{◌≡◌, ℕ, Bool, true, false, List, [], Option, None, Some, refl, sym, subst, ◌∙◌}
+use Rattle.std.proofs.Common.{◌≡◌, ℕ, Bool, true, false, List, [], map, arith, Option, None, Some, refl, sym, subst, ◌∙◌}
 use Rattle.std.specs.Prelude.{IfSome}
 use Rattle.std.specs.List.{All}
+use Rattle.std.proofs.lemmas.List.{get_or-map, length-map}
 use Rattle.std.proofs.lemmas.List.Elements.{All-contains}
 use Rattle.lock_journal.specs.BookView.{BookView}
-use Rattle.logbook.specs.Pages.{Book as Ledger}
 use Rattle.history_views.specs.Growing.{IsLater}
-use Rattle.coordination.specs.Passes.{PassView, ServiceId}
+use Rattle.coordination.specs.Passes.{PassView}
 use Rattle.run_watch.specs.Looks.{BoardView}
 use Rattle.run_watch.specs.Watches.{AreWatchesOf}
 use Rattle.run_watch.specs.declared.boards.Watch.{Watch}
-use Rattle.build_runner.specs.Watching.{IsBoardFor, IsSeenBy, IsWatchedBy, IsWatchedRun}
-use Rattle.build_runner.specs.declared.kits.Kit.{Kit}
+use Rattle.build_runner.specs.Watching.{HasRoomToLook, IsBoardFor, IsSeenBy, IsWatchedRun}
 use Rattle.build_runner.specs.declared.options.RunOptions.{RunOptions}
 
--- by a pass of the service
-pub watched_by_pass : (s : ServiceId) (p : PassView) (k : Kit) → p.service ≡ s → IsWatchedBy s k → IsWatchedBy p.service k
-watched_by_pass s p k same is = subst (λ (i : ServiceId). IsWatchedBy i k) (sym same) is
-
--- it is the same
-pub still_watched : (s : ServiceId) (k l : Kit) → l.watcher ≡ k.watcher → IsWatchedBy s k → IsWatchedBy s l
-still_watched s k l same is = subst (λ (w : Option Ledger). IfSome w (λ b. s.ledger ≡ Some b)) (sym same) is
+-- a fact of the parts, said of what each is made of
+pub of_map : {X Y : Type 0} (f : X → Y) (P : Y → Type 0) (xs : List X) → All P (map f xs) → All (λ x. P (f x)) xs
+of_map f P xs each = λ i x low. subst P (get_or-map f xs i x (f x) low) (each i (f x) (omega (arith, low, length-map xs f)))
 
 -- where there is room for looks, there is room for those of so many units
 room_is : (watch : Bool) (room : Option ℕ) (u n : ℕ) → (watch ≡ true → room ≡ Some u) → (watch ≡ false → room ≡ None) → u ≡ n → IfSome room (λ m. m ≡ n)
@@ -39,9 +34,8 @@ seen_by ps (Some n) (Some board) b is units later = record {
 }
 
 pub board_is_seen : (options : RunOptions) (ps : List PassView) (room : Option ℕ) (board : Option BoardView) (b : BookView) (u : ℕ)
-    → (options.watch ≡ true → room ≡ Some u) → (options.watch ≡ false → room ≡ None) → u ≡ b.graph.units
-    → IsBoardFor ps room board → All (λ p. IsLater p.sight.seen b) ps → IfSome board (IsSeenBy b)
-board_is_seen options ps room board b u some none same is later = seen_by ps room board b is (room_is options.watch room u b.graph.units some none same) later
+    → HasRoomToLook options.watch u room → u ≡ b.graph.units → IsBoardFor ps room board → All (λ p. IsLater p.sight.seen b) ps → IfSome board (IsSeenBy b)
+board_is_seen options ps room board b u looks same is later = seen_by ps room board b is (room_is options.watch room u b.graph.units looks.some looks.none same) later
 
 -- a run is watched where there is room for looks
 watched_where : (watch : Bool) (ps : List PassView) (room : Option ℕ) (board : Option BoardView) (b : BookView) (ws : List Watch) (u : ℕ)
@@ -53,6 +47,5 @@ watched_where watch ps (Some n) None b ws u some none is seen rest = absurd is
 watched_where watch ps (Some n) (Some board) b ws u some none is seen rest = (λ _. seen, λ off. let e : Some n ≡ None = none off in absurd (cc e))
 
 pub run_is_watched : (options : RunOptions) (ps : List PassView) (room : Option ℕ) (board : Option BoardView) (b : BookView) (ws : List Watch) (u : ℕ)
-    → (options.watch ≡ true → room ≡ Some u) → (options.watch ≡ false → room ≡ None) → IsBoardFor ps room board → IfSome board (λ _. AreWatchesOf b ws)
-    → (board ≡ None → ws ≡ []) → IsWatchedRun options b ws
-run_is_watched options ps room board b ws u some none is seen rest = watched_where options.watch ps room board b ws u some none is seen rest
+    → HasRoomToLook options.watch u room → IsBoardFor ps room board → IfSome board (λ _. AreWatchesOf b ws) → (board ≡ None → ws ≡ []) → IsWatchedRun options b ws
+run_is_watched options ps room board b ws u looks is seen rest = watched_where options.watch ps room board b ws u looks.some looks.none is seen rest

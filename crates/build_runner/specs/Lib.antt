@@ -6,6 +6,8 @@ pub mod Kept
 pub mod Failing
 pub mod Sent
 pub mod Desks
+pub mod Looking
+pub mod WorkerView
 pub mod Steps
 pub mod Points
 pub mod Worked
@@ -15,3 +17,4 @@ pub mod Watching
 pub mod Prepared
 pub mod Run
 pub mod Helping
+pub mod Books

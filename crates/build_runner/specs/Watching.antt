@@ -1,5 +1,5 @@
 -- What a worker looks with, and what is seen of a run.
-use Rattle.std.specs.Prelude.{ℕ, ◌≡◌, [], Contains, IfSome, List, None, Option, Some, false, true}
+use Rattle.std.specs.Prelude.{ℕ, ◌≡◌, [], Bool, Contains, List, None, Option, Some, false, true}
 use Rattle.lock_journal.specs.BookView.{BookView}
 use Rattle.history_views.specs.Growing.{IsLater}
 use Rattle.coordination.specs.Passes.{PassView, ServiceId}
@@ -8,11 +8,12 @@ use Rattle.run_watch.specs.Watches.{AreWatchesOf}
 use Rattle.run_watch.specs.declared.boards.Watch.{Watch}
 use Rattle.build_runner.specs.declared.options.RunOptions.{RunOptions}
 use Rattle.build_runner.specs.declared.kits.Kit.{Kit}
+use Rattle.build_runner.specs.Looking.{LooksAt}
 use Rattle.build_runner.specs.Site.{SiteView}
 
 -- what the worker looks with, if it does, is of the ledger of the service
 abbrev pub IsWatchedBy : ServiceId → Kit → Type 0
-IsWatchedBy service kit = IfSome kit.watcher (λ w. service.ledger ≡ Some w)
+IsWatchedBy service kit = LooksAt service kit.watcher
 
 -- what it looks with is of the ledger of the site's service
 abbrev pub IsWatched : SiteView → Kit → Type 0
@@ -36,6 +37,11 @@ IsBoardFor ps None None = Unit {0}
 IsBoardFor ps (Some n) (Some board) = IsOfPasses ps n board
 IsBoardFor ps None (Some board) = ⊥
 IsBoardFor ps (Some n) None = ⊥
+
+-- there is room for what is seen of so many units, where the run is watched
+pub record HasRoomToLook (watch : Bool) (n : ℕ) (room : Option ℕ) : Type 0 where
+  pub some : watch ≡ true → room ≡ Some n
+  pub none : watch ≡ false → room ≡ None
 
 -- what is seen of a run by rising unit, where it is watched, else nothing
 abbrev pub IsWatchedRun : RunOptions → BookView → List Watch → Type 0

@@ -8,13 +8,20 @@ use Rattle.lock_journal.specs.ClosedBy.{closed_by, faults_by}
 use Rattle.build_runner.specs.Desks.{DeskView}
 use Rattle.build_runner.specs.Points.{HasFinishedWork}
 use Rattle.build_runner.specs.Sent.{AreSentAndOneMore, AreSentFor}
-use Rattle.build_runner.specs.Site.{SiteView}
-use Rattle.build_runner.specs.Steps.{Steps}
+use Rattle.build_runner.specs.Site.{IsAt, SiteView}
+use Rattle.build_runner.specs.Steps.{Proceeds, Steps}
 use Rattle.build_runner.specs.Units.{given}
+use Rattle.build_runner.specs.WorkerView.{WorkerView}
 
 -- The worker did what each part of a run does, and came to the end, where it says so.
-pub record HasWorked {D : Type 0} (s : SiteView) (view : D → DeskView) (before after : D) (old new : PassView) (ended : Bool) : Type 0 where
-  pub step : Steps s view before after old new ended
+pub record HasWorked (s : SiteView) (old new : WorkerView) : Type 0 where
+  pub step : Steps s old new new.ended
+  pub finished : new.ended ≡ true → HasFinishedWork new.pass.sight
+
+-- What that is of the worker's desk and pass, which the run takes back from it.
+pub record TookPart (s : SiteView) (before after : DeskView) (old new : PassView) (ended : Bool) : Type 0 where
+  pub at : IsAt s new
+  pub step : Proceeds s.units before after old.sight new.sight ended
   pub finished : ended ≡ true → HasFinishedWork new.sight
 
 -- A worker came to the end of a run that it was in from the beginning: its faults are counted, what it closed is honest, its desk

@@ -14,11 +14,13 @@ mod parked;
 mod prepared;
 mod queue;
 mod run_end;
+mod run_types;
 mod runs;
 mod site;
 mod tasks;
 mod team;
 mod watching;
+mod worker;
 
 pub use options::RunOptions;
 pub use run_end::RunEnd;

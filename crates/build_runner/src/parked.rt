@@ -1,35 +1,25 @@
 //! A parked worker: it runs items until those that it waits for have ended, and resumes.
-ghost use Rattle.std.specs.Prelude.{◌≡◌, ◌<◌, [], Bool, IfOk, OnOk, Some, is_ok, length};
+ghost use Rattle.std.specs.Prelude.{◌≡◌, ◌<◌, Bool, IfOk, OnOk, Some, is_ok, length, true};
 ghost use Rattle.resource_lock.specs.GraphView.{action_of};
 ghost use Rattle.resource_lock.specs.Ranges.{lock_with};
 ghost use Rattle.async_tracker.specs.Shows.{IsFree, IsParkedBy, ShowsResumed};
 ghost use Rattle.worker_choices.specs.NextSteps.{HasToWait};
 ghost use Rattle.worker_choices.specs.declared.awaited.Awaited.TheVariants as awaited;
-ghost use Rattle.build_runner.specs.Failing.{FailsForEach};
-ghost use Rattle.build_runner.specs.Kept.{HasClosed};
 ghost use Rattle.build_runner.specs.Parked.{IsNextParked, ShowsChoice, choice_of, step_of_choice};
 ghost use Rattle.build_runner.specs.Points.{CanHelp};
-ghost use Rattle.build_runner.specs.Site.{IsAt};
-ghost use Rattle.build_runner.specs.Watching.{IsWatched};
-ghost use Rattle.item_work.specs.Tallying.{ReservesForEach};
-ghost use Rattle.build_runner.specs.Desks.{desk_view};
 ghost use Rattle.build_runner.specs.Steps.{Steps};
+ghost use Rattle.build_runner.specs.WorkerView.{IsOf};
 
 use crate::failed_units::has_failed;
 use crate::items::help_if_found;
-use crate::kits::Kit;
+use crate::run_types::RunTypes;
 use crate::site::Site;
+use crate::worker::Worker;
 use async_tracker::Parked;
-use coordination::{Decided, Decision, Halt, Pass, Question};
-use daemon_desk::Desk;
-use daemon_manager::Tally;
-use daemon_requirements::Linked;
-use file_access::Gate;
+use coordination::{Decided, Decision, Halt, Question};
 use lock_journal::Book;
 use lock_transforms::kinds::Resume;
 use resource_lock::WorkerId;
-use std::sync::Wait;
-use std::sync::ledger::Ledger;
 use worker_choices::{Awaited, next_of_parked};
 
 /// What a parked worker does next.
@@ -108,82 +98,63 @@ fn choice_of(decided: Decided<ParkedChoice>) -> ParkedChoice
 }
 
 // Chooses what a parked worker does next. Where it resumes, it has done so in the hold of the state lock in which that was chosen.
-fn choose<R: Wait, G, L: Linked, U: Ledger, F: Ledger>(
-    rt: &R,
-    site: &Site<'_, '_, R, G, L, U, F>,
-    pass: &mut Pass,
+fn choose<T: RunTypes>(
+    site: &Site<'_, '_, T>,
+    worker: &mut Worker<T>,
     parked: &Parked,
     own: bool,
 ) -> Result<ParkedChoice, Halt>
-    requires at { IsAt site.now pass.old }
+    requires of { IsOf site.now worker.old }
     requires in_range { parked.now.action < length site.now.graph.actions }
-    requires parked { IsParkedBy pass.old.sight parked.now }
-    requires free { IsFree pass.old.sight }
-    ensures service { pass.new.service ≡ pass.old.service }
-    ensures closed { HasClosed [] pass.old.sight pass.new.sight }
-    ensures shows { IfOk result (ShowsChoice parked.now.action pass.old.sight pass.new.sight) }
+    requires parked { IsParkedBy worker.old.pass.sight parked.now }
+    requires free { IsFree worker.old.pass.sight }
+    ensures step { Steps site.now worker.old worker.new true }
+    ensures shows { IfOk result (ShowsChoice parked.now.action worker.old.pass.sight worker.new.pass.sight) }
 {
     let action = parked.action();
-    let decided = site
-        .service
-        .decide(rt, pass, &WhatIsNextParked { action, own })?;
+    let next = WhatIsNextParked { action, own };
+    let decided = site.service.decide(site.rt, &mut worker.pass, &next)?;
     Ok(choice_of(decided))
 }
 
 // Runs an item, if there is one, and chooses what a parked worker does next. Where it resumes, it has done so.
-fn help_and_choose<R: Wait, D: Desk, G: Gate, U: Ledger, F: Ledger>(
-    rt: &R,
-    site: &Site<'_, '_, R, G, D::Link, U, F>,
-    pass: &mut Pass,
-    desk: &mut D,
-    mine: &mut Tally<U, F>,
-    kit: &mut Kit,
+fn help_and_choose<T: RunTypes>(
+    site: &Site<'_, '_, T>,
+    worker: &mut Worker<T>,
     parked: &Parked,
 ) -> Result<ParkedChoice, Halt>
-    requires at { IsAt site.now pass.old }
+    requires of { IsOf site.now worker.old }
     requires in_range { parked.now.action < length site.now.graph.actions }
-    requires parked { IsParkedBy pass.old.sight parked.now }
-    requires helps { CanHelp pass.old.sight }
-    requires watched { IsWatched site.now kit.old }
-    ensures step { Steps site.now (desk_view D.files D.faults D.sends D.sent) desk.old desk.new pass.old pass.new (is_ok result) }
-    ensures shows { IfOk result (ShowsChoice parked.now.action pass.old.sight pass.new.sight) }
-    ensures reserved { ReservesForEach (D.sends desk.old) (D.sends desk.new) mine.old mine.new }
-    ensures failed { OnOk result (FailsForEach pass.old.sight pass.new.sight mine.old mine.new) }
-    ensures watched { IsWatched site.now kit.new }
+    requires parked { IsParkedBy worker.old.pass.sight parked.now }
+    requires helps { CanHelp worker.old.pass.sight }
+    ensures step { Steps site.now worker.old worker.new (is_ok result) }
+    ensures shows { IfOk result (ShowsChoice parked.now.action worker.old.pass.sight worker.new.pass.sight) }
 {
-    let unit = kit.hand.next_unit(rt);
+    let unit = worker.next_unit(site.rt);
     let next = WhatIsNextParked {
         action: parked.action(),
-        own: kit.hand.has_own(),
+        own: worker.has_own_units(),
     };
-    let decided = help_if_found(rt, site, pass, desk, mine, kit, unit, &next)?;
+    let decided = help_if_found(site, worker, unit, &next)?;
     Ok(choice_of(decided))
 }
 
 // Runs items, one at least if there is one, until those of the action have ended, and resumes.
-fn help_until_resumed<R: Wait, D: Desk, G: Gate, U: Ledger, F: Ledger>(
-    rt: &R,
-    site: &Site<'_, '_, R, G, D::Link, U, F>,
-    pass: &mut Pass,
-    desk: &mut D,
-    mine: &mut Tally<U, F>,
-    kit: &mut Kit,
+fn help_until_resumed<T: RunTypes>(
+    site: &Site<'_, '_, T>,
+    worker: &mut Worker<T>,
     parked: &Parked,
 ) -> Result<bool, Halt>
-    requires at { IsAt site.now pass.old }
+    requires of { IsOf site.now worker.old }
     requires in_range { parked.now.action < length site.now.graph.actions }
-    requires own { IsParkedBy pass.old.sight parked.now }
-    requires helps { CanHelp pass.old.sight }
-    requires watched { IsWatched site.now kit.old }
-    ensures step { Steps site.now (desk_view D.files D.faults D.sends D.sent) desk.old desk.new pass.old pass.new (is_ok result) }
+    requires own { IsParkedBy worker.old.pass.sight parked.now }
+    requires helps { CanHelp worker.old.pass.sight }
+    ensures step { Steps site.now worker.old worker.new (is_ok result) }
     ensures shows { OnOk result (ShowsResumed (action_of site.now.graph parked.now.action).retention
-        (lock_with site.now.graph parked.now.action) parked.now.action pass.old.sight pass.new.sight) }
-    ensures reserved { ReservesForEach (D.sends desk.old) (D.sends desk.new) mine.old mine.new }
-    ensures failed { OnOk result (FailsForEach pass.old.sight pass.new.sight mine.old mine.new) }
-    ensures watched { IsWatched site.now kit.new }
+        (lock_with site.now.graph parked.now.action) parked.now.action worker.old.pass.sight worker.new.pass.sight) }
 {
-    for _ in rt.forever() {
-        match help_and_choose(rt, site, pass, desk, mine, kit, parked)? {
+    for _ in site.rt.forever() {
+        match help_and_choose(site, worker, parked)? {
             ParkedChoice::Resume(failed) => return Ok(failed),
             ParkedChoice::Pop => {}
         }
@@ -193,30 +164,22 @@ fn help_until_resumed<R: Wait, D: Desk, G: Gate, U: Ledger, F: Ledger>(
 
 /// Runs items until those of the action have ended, and resumes. It says whether a unit of the action
 /// has failed.
-pub(crate) fn wait_for_items<R: Wait, D: Desk, G: Gate, U: Ledger, F: Ledger>(
-    rt: &R,
-    site: &Site<'_, '_, R, G, D::Link, U, F>,
-    pass: &mut Pass,
-    desk: &mut D,
-    mine: &mut Tally<U, F>,
-    kit: &mut Kit,
+pub(crate) fn wait_for_items<T: RunTypes>(
+    site: &Site<'_, '_, T>,
+    worker: &mut Worker<T>,
     parked: Parked,
 ) -> Result<bool, Halt>
-    requires at { IsAt site.now pass.old }
+    requires of { IsOf site.now worker.old }
     requires in_range { parked.action < length site.now.graph.actions }
-    requires own { IsParkedBy pass.old.sight parked }
-    requires helps { CanHelp pass.old.sight }
-    requires watched { IsWatched site.now kit.old }
-    ensures step { Steps site.now (desk_view D.files D.faults D.sends D.sent) desk.old desk.new pass.old pass.new (is_ok result) }
+    requires own { IsParkedBy worker.old.pass.sight parked }
+    requires helps { CanHelp worker.old.pass.sight }
+    ensures step { Steps site.now worker.old worker.new (is_ok result) }
     ensures shows { OnOk result (ShowsResumed (action_of site.now.graph parked.action).retention
-        (lock_with site.now.graph parked.action) parked.action pass.old.sight pass.new.sight) }
-    ensures reserved { ReservesForEach (D.sends desk.old) (D.sends desk.new) mine.old mine.new }
-    ensures failed { OnOk result (FailsForEach pass.old.sight pass.new.sight mine.old mine.new) }
-    ensures watched { IsWatched site.now kit.new }
+        (lock_with site.now.graph parked.action) parked.action worker.old.pass.sight worker.new.pass.sight) }
 {
-    let own = kit.hand.has_own();
-    match choose(rt, site, pass, &parked, own)? {
+    let own = worker.has_own_units();
+    match choose(site, worker, &parked, own)? {
         ParkedChoice::Resume(failed) => Ok(failed),
-        ParkedChoice::Pop => help_until_resumed(rt, site, pass, desk, mine, kit, &parked),
+        ParkedChoice::Pop => help_until_resumed(site, worker, &parked),
     }
 }

@@ -13,17 +13,18 @@ use crate::hands::Hand;
 use crate::kits::Kit;
 use crate::options::RunOptions;
 use crate::queue::{Queue, QueuePlace};
-use crate::team::Worker;
+use crate::run_types::RunTypes;
+use crate::watching::room_for;
+use crate::worker::Worker;
 use coordination::{Coordination, OpenedWithViews, Pass, ShownService, openings_are_at_rest};
 use history_views::View;
 use lock_journal::Book;
 use lock_transforms::kinds::MAX_CHANGES;
 use plan_reader::{Plan, UnitWork, units_of};
 use resource_lock::Graph;
-use run_watch::Watcher;
+use run_watch::{BoardRoom, Watcher};
 use std::alloc::{AllocError, Global};
 use std::sync::Wait;
-use std::sync::ledger::Ledger;
 
 /// The service of a run.
 pub(crate) type RunService<'a, R> = ShownService<QueuePlace, &'a R>;
@@ -92,9 +93,9 @@ fn open_service<'a, R: Wait>(
     graph: Graph,
     place: QueuePlace,
     views: u32,
-) -> Result<(OpenedRun<'a, R>, Vec<View>), AllocError>
-    ensures opened { IfOk result (λ made. IsOpenedOn graph made.0.service made.0.passes.items) }
-    ensures views { IfOk result (λ made. All (λ v. made.0.service.service.ledger ≡ Some v.ledger) made.1.items) }
+) -> Result<(Box<OpenedRun<'a, R>>, Vec<View>), AllocError>
+    ensures opened { IfOk result (λ made. IsOpenedOn graph made.0.value.service made.0.value.passes.items) }
+    ensures views { IfOk result (λ made. All (λ v. made.0.value.service.service.ledger ≡ Some v.ledger) made.1.items) }
 {
     openings_are_at_rest();
     let book = boxed(alloc, open_book(alloc, graph)?)?;
@@ -103,7 +104,7 @@ fn open_service<'a, R: Wait>(
         passes,
         views,
     } = Coordination::open_with_views(alloc, rt, book, place, views)?;
-    Ok((OpenedRun { service, passes }, views))
+    Ok((boxed(alloc, OpenedRun { service, passes })?, views))
 }
 
 // The graph of the plan, as the options have it.
@@ -117,28 +118,6 @@ fn graph_of(alloc: Global, plan: &Plan, options: &RunOptions) -> Result<Graph, A
     plan.graph(alloc, options.workers, options.max_leases, options.parallel)
 }
 
-// The service over a book of the plan's graph, in a box, and a view for each worker where the run is watched.
-fn open_for<'a, R: Wait>(
-    rt: &'a R,
-    alloc: Global,
-    plan: &Plan,
-    options: &RunOptions,
-    place: QueuePlace,
-) -> Result<(Box<OpenedRun<'a, R>>, Vec<View>), AllocError>
-    requires some_worker { 1 ≤ options.now.workers }
-    requires few_workers { options.now.workers ≤ MAX_WORKERS }
-    requires some_lease { 1 ≤ options.now.max_leases }
-    requires few_leases { options.now.max_leases ≤ MAX_LEASES }
-    ensures opened { IfOk result (λ made. IsOpenedOn (graph_of plan.now options.now.workers options.now.max_leases options.now.parallel)
-        made.0.value.service made.0.value.passes.items) }
-    ensures views { IfOk result (λ made. All (λ v. made.0.value.service.service.ledger ≡ Some v.ledger) made.1.items) }
-{
-    let graph = graph_of(alloc, plan, options)?;
-    let count = if options.watch { options.workers } else { 0 };
-    let (opened, views) = open_service(rt, alloc, graph, place, count)?;
-    Ok((boxed(alloc, opened)?, views))
-}
-
 // How many items the graph has, up to the largest number.
 fn items_in(graph: &Graph) -> u32 {
     let mut items = 0u32;
@@ -148,20 +127,29 @@ fn items_in(graph: &Graph) -> u32 {
     items
 }
 
-/// Tickets for the items of the plan, with a hand for each worker and a place for the state lock. It fails for want of memory.
-pub(crate) fn open_queue(
+// The service over a book of the plan's graph, and a kit for each worker, with a view of the service where the run is watched.
+fn open_for<'a, R: Wait>(
+    rt: &'a R,
     alloc: Global,
     plan: &Plan,
     options: &RunOptions,
-) -> Result<Queue, AllocError>
+) -> Result<(Box<OpenedRun<'a, R>>, Vec<Kit>), AllocError>
     requires some_worker { 1 ≤ options.now.workers }
     requires few_workers { options.now.workers ≤ MAX_WORKERS }
     requires some_lease { 1 ≤ options.now.max_leases }
     requires few_leases { options.now.max_leases ≤ MAX_LEASES }
-    ensures { IfOk result (λ queue. length queue.hands.items ≡ options.now.workers) }
+    ensures opened { IfOk result (λ made. IsOpenedOn (graph_of plan.now options.now.workers options.now.max_leases options.now.parallel)
+        made.0.value.service made.0.value.passes.items) }
+    ensures kits { IfOk result (λ made. length made.1.items ≡ options.now.workers) }
+    ensures watched { IfOk result (λ made. All (IsWatchedBy made.0.value.service.service) made.1.items) }
 {
     let graph = graph_of(alloc, plan, options)?;
-    Queue::new(alloc, options.workers, items_in(&graph))
+    let units = graph.units();
+    let Queue { place, hands } = Queue::new(alloc, options.workers, items_in(&graph))?;
+    let count = if options.watch { options.workers } else { 0 };
+    let (opened, views) = open_service(rt, alloc, graph, place, count)?;
+    let kits = kits_of(alloc, hands, views, units)?;
+    Ok((opened, kits))
 }
 
 // A kit for each hand, with a view as long as there are views, and with room for looks at so many units.
@@ -196,17 +184,17 @@ fn watcher_of(alloc: Global, view: Option<View>, units: u32) -> Result<Option<Wa
 
 /// Room for the workers, and for the passes and desks that they leave.
 #[derive(Drop)]
-pub(crate) struct Room<D, U: Ledger, F: Ledger> {
-    pub team: Vec<Worker<D, U, F>>,
+pub(crate) struct Room<T: RunTypes> {
+    pub team: Vec<Worker<T>>,
     pub passes: Vec<Pass>,
-    pub desks: Vec<D>,
+    pub desks: Vec<T::Desk>,
     /// Room for the kits that they leave.
     pub left: Vec<Kit>,
 }
 
-impl<D: Drop, U: Ledger, F: Ledger> Room<D, U, F> {
+impl<T: RunTypes> Room<T> {
     /// Room for so many workers, and for all desks.
-    pub fn new(alloc: Global, workers: usize, desks: usize) -> Result<Room<D, U, F>, AllocError>
+    pub fn new(alloc: Global, workers: usize, desks: usize) -> Result<Room<T>, AllocError>
         ensures empty { IfOk result (λ room. (room.team.items ≡ []) × (room.passes.items ≡ []) × (room.desks.items ≡ []) × (room.left.items ≡ [])) }
         ensures workers { IfOk result (λ room. (workers ≤ vec_capacity room.team) × (workers ≤ vec_capacity room.passes) × (workers ≤ vec_capacity room.left)) }
         ensures desks { IfOk result (λ room. desks ≤ vec_capacity room.desks) }
@@ -222,45 +210,53 @@ impl<D: Drop, U: Ledger, F: Ledger> Room<D, U, F> {
 
 /// What a run has before it begins.
 #[derive(Drop)]
-pub(crate) struct Prepared<'a, 'r, R: Wait> {
+pub(crate) struct Prepared<'a, 'r, T: RunTypes> {
     /// The graph of the plan.
     pub graph: Graph,
     /// The units by their numbers.
     pub units: Vec<UnitWork<'a>>,
     /// The service, over a book of that graph, with a pass for each worker.
-    pub opened: Box<OpenedRun<'r, R>>,
+    pub opened: Box<OpenedRun<'r, T::Runtime>>,
     /// A kit for each worker, with a view of the service where the run is watched.
     pub kits: Vec<Kit>,
+    /// Room for the workers.
+    pub room: Room<T>,
+    /// Room for what is seen of the units, where the run is watched.
+    pub looks: Option<BoardRoom>,
 }
 
-impl<'a, 'r, R: Wait> Prepared<'a, 'r, R> {
-    /// What a run of the plan needs. It fails for want of memory.
+impl<'a, 'r, T: RunTypes> Prepared<'a, 'r, T> {
+    /// What a run of the plan needs that has so many desks. It fails for want of memory.
     pub fn new(
-        rt: &'r R,
+        rt: &'r T::Runtime,
         alloc: Global,
         plan: &'a Plan,
         options: &RunOptions,
-        place: QueuePlace,
-        hands: Vec<Hand>,
-    ) -> Result<Prepared<'a, 'r, R>, AllocError>
+        desks: usize,
+    ) -> Result<Prepared<'a, 'r, T>, AllocError>
         requires some_worker { 1 ≤ options.now.workers }
         requires few_workers { options.now.workers ≤ MAX_WORKERS }
         requires some_lease { 1 ≤ options.now.max_leases }
         requires few_leases { options.now.max_leases ≤ MAX_LEASES }
         ensures prepared { IfOk result (λ p. IsPrepared plan.now options.now p.graph (map unit_view p.units.items) p.opened.value.service
-            p.opened.value.passes.items) }
-        ensures kits { IfOk result (λ p. length p.kits.items ≡ length hands.items) }
-        ensures watched { IfOk result (λ p. All (IsWatchedBy p.opened.value.service.service) p.kits.items) }
+            p.opened.value.passes.items p.kits.items p.looks) }
+        ensures empty { IfOk result (λ p. (p.room.team.items ≡ []) × (p.room.passes.items ≡ []) × (p.room.desks.items ≡ []) × (p.room.left.items ≡ [])) }
+        ensures workers { IfOk result (λ p. (options.now.workers ≤ vec_capacity p.room.team) × (options.now.workers ≤ vec_capacity p.room.passes)
+            × (options.now.workers ≤ vec_capacity p.room.left)) }
+        ensures desks { IfOk result (λ p. desks ≤ vec_capacity p.room.desks) }
     {
-        let (opened, views) = open_for(rt, alloc, plan, options, place)?;
+        let (opened, kits) = open_for(rt, alloc, plan, options)?;
         let units = units_of(alloc, plan)?;
         let graph = graph_of(alloc, plan, options)?;
-        let kits = kits_of(alloc, hands, views, graph.units())?;
+        let looks = room_for(alloc, options.watch, graph.units())?;
+        let room = Room::new(alloc, options.workers as usize, desks)?;
         Ok(Prepared {
             graph,
             units,
             opened,
             kits,
+            room,
+            looks,
         })
     }
 }

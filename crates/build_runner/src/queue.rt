@@ -22,6 +22,7 @@ fn capacity_for(items: u32) -> u32
 /// A place at the tickets of a run: a worker's, or that of the state lock.
 #[derive(Drop)]
 pub(crate) struct QueuePlace {
+    // Shared by `Arc`, in place of a borrow, with which each type of a run would carry a lifetime that its contracts can't name.
     tickets: Arc<Tickets>,
     seat: TicketSeat,
     ghost own: { seat.queue ≡ (arc_value tickets).queue },

@@ -1,6 +1,6 @@
 //! A whole run of a plan.
 ghost use Rattle.std.specs.Prelude.{◌≡◌, ◌+◌, ◌++◌, ◌<◌, ◌≤◌, ℕ, [], All, IfOk, OnErr, drop, get_or, length, map, sum_by};
-ghost use Rattle.std.specs.Prelude.{true, vec_capacity, vec_len};
+ghost use Rattle.std.specs.Prelude.{Option, true, vec_capacity, vec_len};
 ghost use Rattle.resource_lock.specs.declared.limits.TheConstants.{MAX_LEASES, MAX_WORKERS};
 ghost use Rattle.daemon_manager.specs.Counts.{failures, reservations};
 ghost use Rattle.daemon_manager.specs.Events.{NoneIdle, IsLegal};
@@ -10,22 +10,23 @@ ghost use Rattle.coordination.specs.Passes.{PassView};
 ghost use Rattle.coordination.specs.Sights.{workers_from};
 ghost use Rattle.plan_reader.specs.Graph.{graph_of};
 ghost use Rattle.plan_reader.specs.Units.{plan_units};
+ghost use Rattle.build_runner.specs.Books.{AreBack, GivesBook, GivesEnd, IsClosedBook, Leaves};
 ghost use Rattle.build_runner.specs.Desks.{AreAlike, DeskView, desk_view, desks_view, known_by};
 ghost use Rattle.build_runner.specs.Failing.{unreal_of, unreal_seen};
 ghost use Rattle.build_runner.specs.Run.{IsRunOf, WasBrokenOff};
 ghost use Rattle.build_runner.specs.Team.{CanWork};
-ghost use Rattle.build_runner.specs.Watching.{IsWatched, IsWatchedRun};
-ghost use Rattle.build_runner.specs.Worked.{HasComeToTheEnd, HasWorked, WasThere};
+ghost use Rattle.build_runner.specs.Watching.{HasRoomToLook, IsBoardFor, IsWatched, IsWatchedRun};
+ghost use Rattle.build_runner.specs.Worked.{HasComeToTheEnd, TookPart, WasThere};
 
 use crate::daemons::close_pool;
 use crate::kits::Kit;
 use crate::options::RunOptions;
-use crate::prepared::{OpenedRun, Prepared, Room, open_queue};
-use crate::queue::Queue;
+use crate::prepared::{OpenedRun, Prepared, Room};
 use crate::run_end::RunEnd;
+use crate::run_types::{RunTypes, Types};
 use crate::site::Site;
-use crate::team::{Worker, all_ended, part, seat, work};
-use crate::watching::{board_of, room_for, watches_of};
+use crate::team::{all_ended, part, seat, work};
+use crate::watching::{board_of, watches_of};
 use coordination::Pass;
 use daemon_desk::Desk;
 use daemon_manager::{CountedPool, Pool, Tallies};
@@ -37,13 +38,23 @@ use lock_journal::{
 };
 use plan_reader::Plan;
 use ready_work::ranks_give_a_numbering;
-use run_watch::Watch;
+use run_watch::{Board, Watch};
 use std::alloc::{AllocError, Global};
 use std::marker::Brand;
 use std::mem;
 use std::sync::ledger::{Blank, Ledger};
 use std::sync::{Mutex, Wait};
 use std::thread::Threads;
+
+// What a run is given, beside its desks.
+#[derive(Drop)]
+struct RunInput<'a, R, G> {
+    rt: &'a R,
+    alloc: Global,
+    plan: &'a Plan,
+    options: &'a RunOptions,
+    gate: &'a G,
+}
 
 // Takes the book out of the service for good.
 fn close_service<R: Wait>(
@@ -86,20 +97,13 @@ fn close_service<R: Wait>(
 
 // Has each worker work with its pass, its desk and a tally, and says whether each came to the end. The passes and the desks
 // then lie in their places again.
-fn run_team<
-    R: Threads + Wait + Sync,
-    D: Desk + Send + Drop,
-    G: Gate + Sync,
-    U: Ledger + Send + Sync,
-    F: Ledger + Send + Sync,
->(
-    rt: &R,
-    site: &Site<'_, '_, R, G, D::Link, U, F>,
+fn run_team<T: RunTypes>(
+    site: &Site<'_, '_, T>,
     passes: &mut Vec<Pass>,
-    desks: &mut Vec<D>,
-    tallies: &mut Tallies<U, F>,
+    desks: &mut Vec<T::Desk>,
+    tallies: &mut Tallies<T::Reserved, T::Failed>,
     kits: &mut Vec<Kit>,
-    room: Room<D, U, F>,
+    room: Room<T>,
 ) -> bool
     requires same { vec_len passes.old ≡ vec_len desks.old }
     requires kits { length kits.old.items ≡ vec_len desks.old }
@@ -113,11 +117,12 @@ fn run_team<
     ensures passes { length passes.new.items ≡ vec_len desks.old }
     ensures desks { length desks.new.items ≡ vec_len desks.old }
     ensures capacity { vec_capacity desks.new ≡ vec_capacity room.desks }
-    ensures worked { (i : ℕ) (p : PassView) (d : D) → i < vec_len desks.old
-        → HasWorked site.now (desk_view D.files D.faults D.sends D.sent) (get_or desks.old.items i d) (get_or desks.new.items i d)
+    ensures worked { (i : ℕ) (p : PassView) (d : T.Desk) → i < vec_len desks.old → TookPart site.now
+        (desk_view T.Desk.files T.Desk.faults T.Desk.sends T.Desk.sent (get_or desks.old.items i d))
+        (desk_view T.Desk.files T.Desk.faults T.Desk.sends T.Desk.sent (get_or desks.new.items i d))
         (get_or passes.old.items i p) (get_or passes.new.items i p) result }
     ensures parts { tallies.new.parts ≡ tallies.old.parts }
-    ensures reserved { sum_by D.sends desks.new.items + tallies.old.reserved ≤ sum_by D.sends desks.old.items + tallies.new.reserved }
+    ensures reserved { sum_by T.Desk.sends desks.new.items + tallies.old.reserved ≤ sum_by T.Desk.sends desks.old.items + tallies.new.reserved }
     ensures failed { result ≡ true → tallies.new.failed + sum_by unreal_seen passes.old.items ≤ tallies.old.failed + sum_by unreal_seen passes.new.items }
 {
     let Room {
@@ -133,7 +138,7 @@ fn run_team<
         tallies,
         &mut team,
     );
-    work(rt, site, team.as_mut_slice());
+    work(site, team.as_mut_slice());
     let ended = all_ended(team.as_slice());
     part(team, passes, desks, kits, tallies);
     ended
@@ -148,80 +153,27 @@ fn put_behind<D: Drop>(desks: &mut Vec<D>, mut rest: Vec<D>)
     let _ = desks.append(&mut rest);
 }
 
-// Runs a plan, and leaves the daemons that are idle then in the pool.
-//
-// Of its book, its desks and its error holds what `run_plan` says.
-fn run_book<
-    R: Threads + Wait + Sync,
-    D: Desk + Send + Drop,
-    G: Gate + Sync,
-    U: Ledger + Send + Sync,
-    F: Ledger + Send + Sync,
->(
-    rt: &R,
+// Takes the book out of the service for good, and what was seen of it. It fails where a worker hasn't come to the end.
+fn close_run<R: Wait>(
     alloc: Global,
     plan: &Plan,
     options: &RunOptions,
-    pool: &PoolLock<D::Link, U, F>,
-    tallies: &mut Tallies<U, F>,
-    desks: &mut Vec<D>,
-    gate: &G,
+    opened: Box<OpenedRun<'_, R>>,
+    board: Option<Board>,
+    ended: bool,
 ) -> Result<(Box<Book>, Vec<Watch>), AllocError>
-    requires some_worker { 1 ≤ options.now.workers }
-    requires few_workers { options.now.workers ≤ MAX_WORKERS }
-    requires some_lease { 1 ≤ options.now.max_leases }
-    requires few_leases { options.now.max_leases ≤ MAX_LEASES }
-    requires enough { options.now.workers ≤ length desks.old.items }
-    requires alike { (d : D) → AreAlike options.now.workers (desks_view (desk_view D.files D.faults D.sends D.sent) desks.old.items d) }
-    requires parts { options.now.workers < tallies.old.parts }
-    ensures places { length desks.new.items ≡ length desks.old.items }
-    ensures files { (i : ℕ) (d : D) → D.files (get_or desks.new.items i d) ≡ D.files (get_or desks.old.items i d) }
-    ensures counts { (i : ℕ) (d : D) → D.faults (get_or desks.old.items i d) ≤ D.faults (get_or desks.new.items i d) }
-    ensures rest { drop options.now.workers desks.new.items ≡ drop options.now.workers desks.old.items }
-    ensures run { (d : D) → IfOk result (λ ran. IsRunOf plan.now options.now
-        (desks_view (desk_view D.files D.faults D.sends D.sent) desks.old.items d)
-        (desks_view (desk_view D.files D.faults D.sends D.sent) desks.new.items d) ran.0.value) }
-    ensures watch { IfOk result (λ ran. IsWatchedRun options.now ran.0.value ran.1.items) }
-    ensures broken_off { (d : D) → OnErr result (WasBrokenOff plan.now options.now
-        (desks_view (desk_view D.files D.faults D.sends D.sent) desks.old.items d)
-        (desks_view (desk_view D.files D.faults D.sends D.sent) desks.new.items d)) }
-    ensures parts { tallies.new.parts ≡ tallies.old.parts }
-    ensures reserved { sum_by D.sends desks.new.items + tallies.old.reserved ≤ sum_by D.sends desks.old.items + tallies.new.reserved }
-    ensures failed { IfOk result (λ ran. tallies.new.failed ≤ tallies.old.failed + unreal_of options.now.workers ran.0.value.history) }
+    requires service { All (λ p. p.service ≡ opened.value.service.service) opened.value.passes.items }
+    requires workers { map (λ p. p.sight.worker.0) opened.value.passes.items ≡ workers_from 0 options.now.workers }
+    requires some { 1 ≤ options.now.workers }
+    requires graph { opened.value.service.book.graph ≡ graph_of plan.now options.now.workers options.now.max_leases options.now.parallel }
+    requires watched { (looks : Option ℕ) × HasRoomToLook options.now.watch opened.value.service.book.graph.units looks
+        × IsBoardFor opened.value.passes.items looks board }
+    ensures run { IfOk result (λ ran. IsClosedBook plan.now options.now ended opened.entry.value.passes.items ran.0.value ran.1.items) }
+    ensures broken_off { (before after : ℕ → DeskView)
+        → ((i : ℕ) (p : PassView) → i < options.now.workers
+        → WasThere (plan_units plan.now) (before i) (after i) (get_or opened.entry.value.passes.items i p))
+        → WasBrokenOff plan.now options.now before after }
 {
-    let Queue { place, hands } = open_queue(alloc, plan, options)?;
-    let Prepared {
-        graph,
-        units,
-        mut opened,
-        mut kits,
-    } = Prepared::new(rt, alloc, plan, options, place, hands)?;
-    let looks = room_for(alloc, options.watch, graph.units())?;
-    let room = Room::new(alloc, options.workers as usize, desks.len())?;
-    let rest = desks.split_off(options.workers as usize)?;
-    // That the units' files have their form and that the graph fits, their types say.
-    let _ = plan.tasks();
-    let _ = graph.tasks();
-    let parts: &mut OpenedRun<'_, R> = &mut opened;
-    let site = Site {
-        service: &parts.service,
-        graph: &graph,
-        units: &units,
-        pool,
-        gate,
-        alloc,
-    };
-    let ended = run_team(
-        rt,
-        &site,
-        &mut parts.passes,
-        desks,
-        tallies,
-        &mut kits,
-        room,
-    );
-    put_behind(desks, rest);
-    let board = board_of(&parts.passes, kits, looks);
     let book = close_service(opened, plan, options);
     if ended {
         let watch = watches_of(alloc, board, &book);
@@ -229,6 +181,66 @@ fn run_book<
     } else {
         Err(AllocError)
     }
+}
+
+// Runs a plan, and leaves the daemons that are idle then in the pool.
+//
+// Of its book, its desks and its error holds what `run_plan` says.
+fn run_book<T: RunTypes>(
+    input: &RunInput<'_, T::Runtime, T::Gate>,
+    pool: &PoolLock<<T::Desk as Desk>::Link, T::Reserved, T::Failed>,
+    tallies: &mut Tallies<T::Reserved, T::Failed>,
+    desks: &mut Vec<T::Desk>,
+) -> Result<(Box<Book>, Vec<Watch>), AllocError>
+    requires some_worker { 1 ≤ input.now.options.now.workers }
+    requires few_workers { input.now.options.now.workers ≤ MAX_WORKERS }
+    requires some_lease { 1 ≤ input.now.options.now.max_leases }
+    requires few_leases { input.now.options.now.max_leases ≤ MAX_LEASES }
+    requires enough { input.now.options.now.workers ≤ length desks.old.items }
+    requires alike { (d : T.Desk)
+        → AreAlike input.now.options.now.workers (desks_view (desk_view T.Desk.files T.Desk.faults T.Desk.sends T.Desk.sent) desks.old.items d) }
+    requires parts { input.now.options.now.workers < tallies.old.parts }
+    ensures leaves { Leaves (desk_view T.Desk.files T.Desk.faults T.Desk.sends T.Desk.sent) input.now.options.now.workers desks.old.items desks.new.items
+        tallies.old tallies.new }
+    ensures run { IfOk result (λ ran. GivesBook (desk_view T.Desk.files T.Desk.faults T.Desk.sends T.Desk.sent) input.now.plan.now input.now.options.now
+        desks.old.items desks.new.items tallies.old tallies.new ran.0.value ran.1.items) }
+    ensures broken_off { (d : T.Desk) → OnErr result (WasBrokenOff input.now.plan.now input.now.options.now
+        (desks_view (desk_view T.Desk.files T.Desk.faults T.Desk.sends T.Desk.sent) desks.old.items d)
+        (desks_view (desk_view T.Desk.files T.Desk.faults T.Desk.sends T.Desk.sent) desks.new.items d)) }
+{
+    let RunInput {
+        rt,
+        alloc,
+        plan,
+        options,
+        gate,
+    } = *input;
+    let Prepared {
+        graph,
+        units,
+        mut opened,
+        mut kits,
+        room,
+        looks,
+    } = Prepared::<T>::new(rt, alloc, plan, options, desks.len())?;
+    let rest = desks.split_off(options.workers as usize)?;
+    // That the units' files have their form and that the graph fits, their types say.
+    let _ = plan.tasks();
+    let _ = graph.tasks();
+    let parts: &mut OpenedRun<'_, T::Runtime> = &mut opened;
+    let site = Site {
+        rt,
+        service: &parts.service,
+        graph: &graph,
+        units: &units,
+        pool,
+        gate,
+        alloc,
+    };
+    let ended = run_team(&site, &mut parts.passes, desks, tallies, &mut kits, room);
+    put_behind(desks, rest);
+    let board = board_of(&parts.passes, kits, looks);
+    close_run(alloc, plan, options, opened, board, ended)
 }
 
 // Runs a plan, and counts what happens to the daemons in these ledgers, which have a part for each worker and one more.
@@ -241,43 +253,30 @@ fn run_counted<
     U: Ledger + Send + Sync,
     F: Ledger + Send + Sync,
 >(
-    rt: &R,
-    alloc: Global,
-    plan: &Plan,
-    options: &RunOptions,
+    input: &RunInput<'_, R, G>,
     desks: &mut Vec<D>,
-    gate: &G,
     reserved: Blank,
     failed: Blank,
 ) -> Result<RunEnd, AllocError>
-    requires some_worker { 1 ≤ options.now.workers }
-    requires few_workers { options.now.workers ≤ MAX_WORKERS }
-    requires some_lease { 1 ≤ options.now.max_leases }
-    requires few_leases { options.now.max_leases ≤ MAX_LEASES }
-    requires enough { options.now.workers ≤ length desks.old.items }
-    requires alike { (d : D) → AreAlike options.now.workers (desks_view (desk_view D.files D.faults D.sends D.sent) desks.old.items d) }
-    requires reserved { (reserved.name ≡ U.name) × (reserved.parts ≡ U.parts) × (U.parts ≡ options.now.workers + 1) }
-    requires failed { (failed.name ≡ F.name) × (failed.parts ≡ F.parts) × (F.parts ≡ options.now.workers + 1) }
-    ensures places { length desks.new.items ≡ length desks.old.items }
-    ensures files { (i : ℕ) (d : D) → D.files (get_or desks.new.items i d) ≡ D.files (get_or desks.old.items i d) }
-    ensures counts { (i : ℕ) (d : D) → D.faults (get_or desks.old.items i d) ≤ D.faults (get_or desks.new.items i d) }
-    ensures rest { drop options.now.workers desks.new.items ≡ drop options.now.workers desks.old.items }
-    ensures run { (d : D) → IfOk result (λ end. IsRunOf plan.now options.now
-        (desks_view (desk_view D.files D.faults D.sends D.sent) desks.old.items d)
-        (desks_view (desk_view D.files D.faults D.sends D.sent) desks.new.items d) end.book.value) }
-    ensures broken_off { (d : D) → OnErr result (WasBrokenOff plan.now options.now
+    requires some_worker { 1 ≤ input.now.options.now.workers }
+    requires few_workers { input.now.options.now.workers ≤ MAX_WORKERS }
+    requires some_lease { 1 ≤ input.now.options.now.max_leases }
+    requires few_leases { input.now.options.now.max_leases ≤ MAX_LEASES }
+    requires enough { input.now.options.now.workers ≤ length desks.old.items }
+    requires alike { (d : D) → AreAlike input.now.options.now.workers (desks_view (desk_view D.files D.faults D.sends D.sent) desks.old.items d) }
+    requires reserved { (reserved.name ≡ U.name) × (reserved.parts ≡ U.parts) × (U.parts ≡ input.now.options.now.workers + 1) }
+    requires failed { (failed.name ≡ F.name) × (failed.parts ≡ F.parts) × (F.parts ≡ input.now.options.now.workers + 1) }
+    ensures back { AreBack (desk_view D.files D.faults D.sends D.sent) input.now.options.now.workers desks.old.items desks.new.items }
+    ensures run { IfOk result (λ end. GivesEnd (desk_view D.files D.faults D.sends D.sent) input.now.plan.now input.now.options.now
+        desks.old.items desks.new.items end.book.value end.watch.items end.events.items) }
+    ensures broken_off { (d : D) → OnErr result (WasBrokenOff input.now.plan.now input.now.options.now
         (desks_view (desk_view D.files D.faults D.sends D.sent) desks.old.items d)
         (desks_view (desk_view D.files D.faults D.sends D.sent) desks.new.items d)) }
-    ensures watch { IfOk result (λ end. IsWatchedRun options.now end.book.value end.watch.items) }
-    ensures legal { IfOk result (λ end. IsLegal end.events.items) }
-    ensures none_idle { IfOk result (λ end. NoneIdle end.events.items) }
-    ensures reserved { IfOk result (λ end. sum_by D.sends desks.new.items ≤ sum_by D.sends desks.old.items + reservations end.events.items) }
-    ensures failed { IfOk result (λ end. failures end.events.items ≤ unreal_of options.now.workers end.book.value.history) }
 {
-    let pool = Pool::new(alloc)?;
+    let pool = Pool::new(input.alloc)?;
     let (pool, mut tallies) = CountedPool::<D::Link, U, F>::new(pool, reserved, failed);
     let pool = Mutex::new(pool);
-    let ran = run_book(rt, alloc, plan, options, &pool, &mut tallies, desks, gate);
+    let ran = run_book::<Types<'_, R, D, G, U, F>>(input, &pool, &mut tallies, desks);
     let events = close_pool(pool, tallies, desks);
     let (book, watch) = ran?;
     Ok(RunEnd {
@@ -347,5 +346,12 @@ pub fn run_plan<R: Threads + Wait + Sync, D: Desk + Send + Drop, G: Gate + Sync>
     let parts = u64::from(options.workers) + 1;
     let reserved = Blank::new(parts);
     let failed = Blank::new(parts);
-    run_counted::<R, D, G, Brand, Brand>(rt, alloc, plan, options, desks, gate, reserved, failed)
+    let input = RunInput {
+        rt,
+        alloc,
+        plan,
+        options,
+        gate,
+    };
+    run_counted::<R, D, G, Brand, Brand>(&input, desks, reserved, failed)
 }

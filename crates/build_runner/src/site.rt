@@ -9,7 +9,9 @@ ghost use Rattle.plan_reader.specs.PlanView.{work_view};
 ghost use Rattle.plan_reader.specs.Units.{fetch_unit, item_unit};
 
 use crate::prepared::RunService;
-use daemon_requirements::{Linked, Work};
+use crate::run_types::RunTypes;
+use daemon_desk::Desk;
+use daemon_requirements::Work;
 use item_actions::Text;
 use item_work::PoolLock;
 use plan_reader::UnitWork;
@@ -17,27 +19,27 @@ use resource_lock::{Graph, GraphAction};
 use std::alloc::Global;
 use std::marker::Model;
 use std::ops::Range;
-use std::sync::Wait;
-use std::sync::ledger::Ledger;
 
 /// What the workers of a run share. The units are those of the graph.
 #[derive(Drop)]
-pub(crate) struct Site<'a, 'r, R: Wait, G, L: Linked, U: Ledger, F: Ledger> {
+pub(crate) struct Site<'a, 'r, T: RunTypes> {
+    /// What lets a worker wait.
+    pub rt: &'a T::Runtime,
     /// The state lock.
-    pub service: &'a RunService<'r, R>,
+    pub service: &'a RunService<'r, T::Runtime>,
     /// The graph of the plan.
     pub graph: &'a Graph,
     /// The units by their numbers.
     pub units: &'a [UnitWork<'a>],
     /// The daemons.
-    pub pool: &'a PoolLock<L, U, F>,
+    pub pool: &'a PoolLock<<T::Desk as Desk>::Link, T::Reserved, T::Failed>,
     /// What an item passes before it runs.
-    pub gate: &'a G,
+    pub gate: &'a T::Gate,
     /// Where files are read to.
     pub alloc: Global,
 }
 
-impl<'a, 'r, R: Wait, G, L: Linked, U: Ledger, F: Ledger> Model for Site<'a, 'r, R, G, L, U, F> {
+impl<'a, 'r, T: RunTypes> Model for Site<'a, 'r, T> {
     ghost use Rattle.std.specs.Prelude.{map};
     ghost use Rattle.build_runner.specs.Site.{SiteView};
 
@@ -51,7 +53,7 @@ impl<'a, 'r, R: Wait, G, L: Linked, U: Ledger, F: Ledger> Model for Site<'a, 'r,
     ghost invariant = { λ s. AreUnitsOf s.graph.now (map unit_view s.units.now) };
 }
 
-impl<'a, 'r, R: Wait, G, L: Linked, U: Ledger, F: Ledger> Site<'a, 'r, R, G, L, U, F> {
+impl<'a, 'r, T: RunTypes> Site<'a, 'r, T> {
     /// The actions of a task, by number.
     pub fn actions_of(&self, task: u32) -> Range<u32>
         requires { task < length self.now.graph.tasks }

@@ -2,7 +2,7 @@
 ghost use Rattle.std.specs.Prelude.{◌≡◌, ◌<◌, [], All, Contains, IfOk, IfSome, None, Some, false, length, true};
 ghost use Rattle.coordination.specs.Passes.{ServiceId};
 ghost use Rattle.run_watch.specs.Watches.{AreWatchesOf};
-ghost use Rattle.build_runner.specs.Watching.{IsBoardFor, IsOfPasses, IsSeenBy, IsWatchedBy};
+ghost use Rattle.build_runner.specs.Watching.{HasRoomToLook, IsBoardFor, IsOfPasses, IsSeenBy, IsWatchedBy};
 
 use crate::kits::Kit;
 use coordination::Pass;
@@ -71,8 +71,7 @@ pub(crate) fn room_for(
     watch: bool,
     units: u32,
 ) -> Result<Option<BoardRoom>, AllocError>
-    ensures some { watch ≡ true → IfOk result (λ room. room ≡ Some units) }
-    ensures none { watch ≡ false → IfOk result (λ room. room ≡ None) }
+    ensures { IfOk result (HasRoomToLook watch units) }
 {
     if watch {
         Ok(Some(BoardRoom::new(alloc, units)?))

@@ -1,5 +1,5 @@
 -- How many daemons were reserved and how many failed, and each worker's part in this.
-use Rattle.std.specs.Prelude.{◌≡◌, ◌+◌, ℕ, List, Option, None, Some, sum_by}
+use Rattle.std.specs.Prelude.{◌+◌, ℕ, List, sum_by}
 use Rattle.daemon_manager.specs.declared.events.Event.{Event}
 use Rattle.daemon_manager.specs.declared.events.Event.TheVariants.{Started, Reserved, Released, Failed, Stopped}
 
@@ -37,11 +37,6 @@ and_reserved tally = record tally { reserved = tally.reserved + 1 }
 
 abbrev pub and_failed : TallyView → TallyView
 and_failed tally = record tally { failed = tally.failed + 1 }
-
--- the tally after a search for an idle daemon
-abbrev pub after_search : {A : Type 0} → TallyView → Option A → TallyView
-after_search tally None = tally
-after_search tally (Some _) = and_reserved tally
 
 -- what the tallies have that came together, and how many parts of the whole they are
 pub record TalliesView : Type 0 where

@@ -5,3 +5,4 @@ pub mod IdleOrder
 pub mod EventLogView
 pub mod Lending
 pub mod PoolView
+pub mod Searches

@@ -1,15 +1,17 @@
 //! A pool that counts what its users do.
-ghost use Rattle.std.specs.Prelude.{◌≡◌, ◌≤◌, [], IfOk, IfErr, IfSome, MatchResult, OnErr, false, true};
-ghost use Rattle.daemon_manager.specs.Calls.{Adopts, FailsOrNot, Releases, ReservesOrNot, StopsOrNot};
-ghost use Rattle.daemon_manager.specs.Counts.{after_search, and_failed, and_reserved, failures, reservations};
+ghost use Rattle.std.specs.Prelude.{◌≡◌, ◌≤◌, [], IfOk, IfErr, MatchResult, OnErr, false, true};
+ghost use Rattle.daemon_manager.specs.Calls.{Adopts, FailsOrNot, Releases, StopsOrNot};
+ghost use Rattle.daemon_manager.specs.Counts.{and_failed, and_reserved, failures, reservations};
+ghost use Rattle.daemon_manager.specs.Searches.{IsSettledSearch, Searches, after_search};
 
 use crate::pools::Pool;
 use crate::reserved::Reserved;
-use crate::tallies::{Tallies, Tally};
+use crate::searches::{Search, StartLeave};
+use crate::tallies::{Tallies, Tally, TallyBooks};
 use daemon_requirements::{Linked, Requirements};
 use std::alloc::AllocError;
 use std::marker::Model;
-use std::sync::ledger::{Blank, Book, Ledger};
+use std::sync::ledger::{Blank, Ledger};
 
 /// A pool that several workers share, each with its tally.
 ///
@@ -18,8 +20,7 @@ use std::sync::ledger::{Blank, Book, Ledger};
 /// and no time.
 pub struct CountedPool<L: Linked, U: Ledger, F: Ledger> {
     pool: Pool<L>,
-    reserved: Book<U>,
-    failed: Book<F>,
+    books: TallyBooks<U, F>,
 }
 
 impl<L: Linked, U: Ledger, F: Ledger> Model for CountedPool<L, U, F> {
@@ -31,7 +32,7 @@ impl<L: Linked, U: Ledger, F: Ledger> Model for CountedPool<L, U, F> {
 
     ghost view = { λ p. p.pool };
 
-    ghost invariant = { λ p. (p.reserved.total ≡ reservations p.pool.events) × (failures p.pool.events ≤ p.failed.total) };
+    ghost invariant = { λ p. (p.books.reserved ≡ reservations p.pool.events) × (failures p.pool.events ≤ p.books.failed) };
 }
 
 impl<L: Linked, U: Ledger, F: Ledger> CountedPool<L, U, F> {
@@ -48,51 +49,49 @@ impl<L: Linked, U: Ledger, F: Ledger> CountedPool<L, U, F> {
         ensures pool { result.0 ≡ pool }
         ensures tallies { result.1 ≡ record { parts = U.parts; reserved = 0; failed = 0 } }
     {
-        let (reserved, uses) = reserved.open::<U>();
-        let (failed, failures) = failed.open::<F>();
-        let counted = CountedPool {
-            pool,
-            reserved,
-            failed,
-        };
-        (counted, Tallies::new(uses, failures))
+        let (books, tallies) = TallyBooks::open(reserved, failed);
+        (CountedPool { pool, books }, tallies)
     }
 
-    /// As `Pool::reserve_idle`. A daemon that it gives is counted as reserved.
+    /// As `Pool::reserve_idle`. A daemon that it gives is counted as reserved. Where none covers, it gives the leave to start one.
     pub fn reserve_idle(
         &mut self,
         mine: &mut Tally<U, F>,
         unit: u32,
         asked: &Requirements,
-    ) -> Result<Option<Reserved<L>>, AllocError>
-        ensures reserved { IfOk result (ReservesOrNot L.requirements self.old self.new asked.now unit) }
-        ensures settled { IfOk result (λ found. IfSome found (λ reserved. L.settled reserved.link ≡ true)) }
+    ) -> Result<Search<L, U>, AllocError>
+        ensures found { IfOk result (Searches L.requirements self.old self.new asked.now unit) }
+        ensures settled { IfOk result (IsSettledSearch L.settled) }
         ensures no_memory { OnErr result (self.new ≡ self.old) }
         ensures counted { MatchResult result (λ found. mine.new ≡ after_search mine.old found) (λ _. mine.new ≡ mine.old) }
     {
         let Some(reserved) = self.pool.reserve_idle(unit, asked)? else {
-            return Ok(None);
+            return Ok(Search::Start(StartLeave::new(asked)));
         };
-        mine.add_reserved(&mut self.reserved);
-        Ok(Some(reserved))
+        self.books.add_reserved(mine);
+        Ok(Search::Idle(reserved))
     }
 
-    /// As `Pool::adopt`. The daemon that it gives is counted as reserved.
+    /// As `Pool::adopt`, of a daemon that was started with what the leave is for: so none that covers it was idle. The daemon that
+    /// it gives is counted as reserved.
     pub fn adopt(
         &mut self,
         mine: &mut Tally<U, F>,
+        leave: StartLeave<U>,
         link: L,
         requirements: Requirements,
         unit: u32,
     ) -> Result<Reserved<L>, L>
-        requires { L.requirements link ≡ requirements }
+        requires made { L.requirements link ≡ requirements }
+        requires leave { leave.asked.value ≡ requirements }
         ensures adopted { IfOk result (Adopts L.requirements self.old self.new link requirements unit) }
         ensures no_memory { OnErr result (self.new ≡ self.old) }
         ensures link { IfErr result (λ returned. returned ≡ link) }
         ensures counted { MatchResult result (λ _. mine.new ≡ and_reserved mine.old) (λ _. mine.new ≡ mine.old) }
     {
+        drop(leave);
         let reserved = self.pool.adopt(link, requirements, unit)?;
-        mine.add_reserved(&mut self.reserved);
+        self.books.add_reserved(mine);
         Ok(reserved)
     }
 
@@ -104,13 +103,14 @@ impl<L: Linked, U: Ledger, F: Ledger> CountedPool<L, U, F> {
         self.pool.release(reserved)
     }
 
-    /// As `Pool::fail`. The daemon is counted as failed, also where the value isn't this pool's.
+    /// As `Pool::fail`. The daemon is counted as failed, also where the value isn't this pool's: so the count is a bound, and what the
+    /// pool noted needn't be asked.
     pub fn fail(&mut self, mine: &mut Tally<U, F>, reserved: Reserved<L>) -> L
         requires { L.settled reserved.link ≡ false }
         ensures failed { FailsOrNot L.requirements self.old self.new reserved result }
         ensures counted { mine.new ≡ and_failed mine.old }
     {
-        mine.add_failed(&mut self.failed);
+        self.books.add_failed(mine);
         self.pool.fail(reserved)
     }
 
@@ -128,13 +128,8 @@ impl<L: Linked, U: Ledger, F: Ledger> CountedPool<L, U, F> {
         ensures reserved { all.parts ≡ U.parts → reservations result.events ≡ all.reserved }
         ensures failed { all.parts ≡ F.parts → failures result.events ≤ all.failed }
     {
-        let CountedPool {
-            pool,
-            mut reserved,
-            mut failed,
-        } = self;
-        let mut all = all;
-        all.audit(&mut reserved, &mut failed);
+        let CountedPool { pool, books } = self;
+        books.audit(all);
         pool
     }
 }

@@ -27,8 +27,9 @@ pub(crate) struct KeyedLink<L> {
     link: L,
 }
 
-/// The idle daemons, the least recently released one first. The links stand in the order itself, because a slab of values
-/// that can't be dropped could never be let go, even when it is empty.
+/// The idle daemons, the least recently released one first. A daemon's number says where it is kept, so no call looks through the
+/// events. The links stand in the order itself, a `Vec`, which can be ended where it has no elements: a slab of values that can't be
+/// dropped could never be let go, even when it is empty.
 pub(crate) struct IdleDaemons<L> {
     numbers: Slab<u64>,
     order: Vec<KeyedLink<L>>,

@@ -8,6 +8,7 @@ mod idle;
 mod laws;
 mod pools;
 mod reserved;
+mod searches;
 mod tallies;
 
 pub use counted_pool::CountedPool;
@@ -16,4 +17,5 @@ pub use idle::MAX_IDLE_DAEMONS;
 pub use laws::{busy_daemons_are_given_to_nobody_else, events_about_others_leave_a_daemon_alone};
 pub use pools::Pool;
 pub use reserved::Reserved;
-pub use tallies::{Tallies, Tally};
+pub use searches::{Search, StartLeave};
+pub use tallies::{Tallies, Tally, TallyBooks};

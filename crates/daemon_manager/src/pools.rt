@@ -177,7 +177,8 @@ impl<L: Linked> Pool<L> {
     }
 }
 
-// How many more events the daemons may need: two of each busy one, and one of each idle one.
+// How many more events the daemons may need: two of each busy one (its release or failure, its stop), and one of each idle one. Room
+// for them is taken when a daemon is reserved.
 fn needed(event_log: &EventLog, idle_count: usize) -> usize
     requires { HasRoom event_log.now idle_count }
     ensures value { result ≡ event_log.now.busy + event_log.now.busy + idle_count }

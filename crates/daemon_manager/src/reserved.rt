@@ -11,7 +11,21 @@ pub struct Reserved<L> {
     pub(crate) link: L,
 }
 
+/// The number of a daemon that is no pool's: a pool has fewer.
+const OF_NO_POOL: u64 = u64::MAX;
+
 impl<L> Reserved<L> {
+    /// A daemon that is no pool's. A pool that is given it back gives its link, and changes nothing.
+    pub fn of_no_pool(unit: u32, link: L) -> Reserved<L>
+        ensures { result ≡ record { daemon = OF_NO_POOL; unit = unit; link = link } }
+    {
+        Reserved {
+            daemon: OF_NO_POOL,
+            unit,
+            link,
+        }
+    }
+
     /// The daemon's number.
     pub fn daemon(&self) -> u64
         ensures { result ≡ self.now.daemon }

@@ -1,13 +1,13 @@
-//! What each worker has its part in of the counts of a pool. A tally takes no bytes.
+//! How the users of a pool count what they do. What is counted takes no bytes and no time.
 ghost use Rattle.std.specs.Prelude.{◌≡◌, ◌+◌, ◌<◌};
 ghost use Rattle.daemon_manager.specs.Counts.{and_failed, and_reserved};
 
 use std::marker::Model;
-use std::sync::ledger::{Book, Ledger, Share};
+use std::sync::ledger::{Blank, Book, Ledger, Share};
 
 /// What one worker did with the daemons of a pool: how many it reserved, and how many it gave back as failed.
 ///
-/// `U` is the ledger of the uses, and `F` that of the failures. Only a `CountedPool` over the same ledgers counts in it.
+/// `U` is the ledger of the uses, and `F` that of the failures. Only the pool that has the books of these ledgers counts in it.
 #[derive(Drop)]
 pub struct Tally<U: Ledger, F: Ledger> {
     reserved: Share<U>,
@@ -23,24 +23,6 @@ impl<U: Ledger, F: Ledger> Model for Tally<U, F> {
     ghost view = { λ t. record { reserved = t.reserved.amount; failed = t.failed.amount } };
 
     ghost invariant = { λ t. (t.reserved.parts ≡ 1) × (t.failed.parts ≡ 1) };
-}
-
-impl<U: Ledger, F: Ledger> Tally<U, F> {
-    /// Counts a daemon that was reserved.
-    pub(crate) fn add_reserved(&mut self, book: &mut Book<U>)
-        ensures tally { self.new ≡ and_reserved self.old }
-        ensures book { book.new.total ≡ book.old.total + 1 }
-    {
-        book.add(&mut self.reserved, 1);
-    }
-
-    /// Counts a daemon that failed.
-    pub(crate) fn add_failed(&mut self, book: &mut Book<F>)
-        ensures tally { self.new ≡ and_failed self.old }
-        ensures book { book.new.total ≡ book.old.total + 1 }
-    {
-        book.add(&mut self.failed, 1);
-    }
 }
 
 /// The tallies that came back, and those that weren't given out yet. Where they are all parts, they tell what all workers did.
@@ -62,14 +44,6 @@ impl<U: Ledger, F: Ledger> Model for Tallies<U, F> {
 }
 
 impl<U: Ledger, F: Ledger> Tallies<U, F> {
-    /// All parts of both ledgers, which have as many.
-    pub(crate) fn new(reserved: Share<U>, failed: Share<F>) -> Tallies<U, F>
-        requires { reserved.parts ≡ failed.parts }
-        ensures { result ≡ record { parts = reserved.parts; reserved = reserved.amount; failed = failed.amount } }
-    {
-        Tallies { reserved, failed }
-    }
-
     /// A tally for a worker, in which nothing is counted. One part always stays.
     pub fn split_off(&mut self) -> Tally<U, F>
         requires { 1 < self.old.parts }
@@ -94,16 +68,67 @@ impl<U: Ledger, F: Ledger> Tallies<U, F> {
         self.reserved.merge(reserved);
         self.failed.merge(failed);
     }
+}
 
-    /// Shows the totals where these are all parts. It changes nothing.
-    pub(crate) fn audit(&mut self, reserved: &mut Book<U>, failed: &mut Book<F>)
-        ensures same { self.new ≡ self.old }
-        ensures reserved_same { reserved.new.total ≡ reserved.old.total }
-        ensures failed_same { failed.new.total ≡ failed.old.total }
-        ensures reserved { self.old.parts ≡ U.parts → reserved.old.total ≡ self.old.reserved }
-        ensures failed { self.old.parts ≡ F.parts → failed.old.total ≡ self.old.failed }
+/// The books of a pool, in which its users count what they do. They are the pool's own, so nobody counts but by its calls.
+pub struct TallyBooks<U: Ledger, F: Ledger> {
+    reserved: Book<U>,
+    failed: Book<F>,
+}
+
+impl<U: Ledger, F: Ledger> Model for TallyBooks<U, F> {
+    ghost use Rattle.daemon_manager.specs.Counts.{TallyView};
+
+    ghost Value = { TallyView };
+
+    ghost view = { λ b. record { reserved = b.reserved.total; failed = b.failed.total } };
+}
+
+impl<U: Ledger, F: Ledger> TallyBooks<U, F> {
+    /// Opens these ledgers, in which nothing is counted. It gives all parts, for the tallies.
+    pub fn open(reserved: Blank, failed: Blank) -> (TallyBooks<U, F>, Tallies<U, F>)
+        requires reserved { (reserved.name ≡ U.name) × (reserved.parts ≡ U.parts) }
+        requires failed { (failed.name ≡ F.name) × (failed.parts ≡ F.parts) }
+        requires parts { U.parts ≡ F.parts }
+        ensures books { result.0 ≡ record { reserved = 0; failed = 0 } }
+        ensures tallies { result.1 ≡ record { parts = U.parts; reserved = 0; failed = 0 } }
     {
-        reserved.audit(&mut self.reserved);
-        failed.audit(&mut self.failed);
+        let (reserved, uses) = reserved.open::<U>();
+        let (failed, failures) = failed.open::<F>();
+        let tallies = Tallies {
+            reserved: uses,
+            failed: failures,
+        };
+        (TallyBooks { reserved, failed }, tallies)
+    }
+
+    /// Counts a daemon that was reserved.
+    pub fn add_reserved(&mut self, mine: &mut Tally<U, F>)
+        ensures books { self.new ≡ and_reserved self.old }
+        ensures tally { mine.new ≡ and_reserved mine.old }
+    {
+        self.reserved.add(&mut mine.reserved, 1);
+    }
+
+    /// Counts a daemon that failed.
+    pub fn add_failed(&mut self, mine: &mut Tally<U, F>)
+        ensures books { self.new ≡ and_failed self.old }
+        ensures tally { mine.new ≡ and_failed mine.old }
+    {
+        self.failed.add(&mut mine.failed, 1);
+    }
+
+    /// Ends the counting. Where the tallies are all parts, they have what was counted.
+    pub fn audit(self, all: Tallies<U, F>)
+        ensures reserved { all.parts ≡ U.parts → self.reserved ≡ all.reserved }
+        ensures failed { all.parts ≡ F.parts → self.failed ≡ all.failed }
+    {
+        let TallyBooks {
+            mut reserved,
+            mut failed,
+        } = self;
+        let mut all = all;
+        reserved.audit(&mut all.reserved);
+        failed.audit(&mut all.failed);
     }
 }

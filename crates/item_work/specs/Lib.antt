@@ -1,3 +1,4 @@
 pub mod Requests
 pub mod Sends
 pub mod Tallying
+pub mod Searching

@@ -8,9 +8,9 @@ ghost use Rattle.item_work.specs.Requests.{request_for};
 ghost use Rattle.item_work.specs.Sends.{IsNamedFor, ReadsFileFor, SendsFor, SparesFor};
 ghost use Rattle.item_work.specs.Tallying.{TalliesFor};
 
-use crate::daemons::PoolLock;
-use crate::processes::{request_for, work_in_daemon};
-use crate::ran::{Ran, Wanted};
+use crate::daemons::SharedPool;
+use crate::processes::run_in_process;
+use crate::ran::Ran;
 use daemon_desk::Desk;
 use daemon_manager::Tally;
 use daemon_requirements::{Isolation, Work};
@@ -39,11 +39,9 @@ use std::sync::ledger::Ledger;
 /// caller stops it once the item is closed. Where there is no memory for the box of its link, it was stopped here, and its end
 /// waited for with the lease; the outcome stands. A daemon that failed was stopped here: nothing more is waited for at its end.
 pub fn run_item<R: Wait, D: Desk, U: Ledger, F: Ledger>(
-    rt: &R,
-    alloc: Global,
+    pool: &SharedPool<'_, R, D::Link, U, F>,
     lease: &Lease<'_>,
     desk: &mut D,
-    pool: &PoolLock<D::Link, U, F>,
     mine: &mut Tally<U, F>,
     unit: u32,
     work: &Work,
@@ -61,17 +59,11 @@ pub fn run_item<R: Wait, D: Desk, U: Ledger, F: Ledger>(
     ensures spare { SparesFor work.now.isolation result.spare result.outcome }
 {
     match &work.isolation {
-        Isolation::InThread => Ran::alone(work_in_thread(alloc, desk, &work.action, &work.file)),
-        Isolation::Process(asked) => match request_for(alloc, unit, work) {
-            Ok(request) => {
-                let wanted = Wanted {
-                    request: &request,
-                    requirements: asked,
-                };
-                work_in_daemon(rt, alloc, desk, pool, mine, &wanted)
-            }
-            Err(_) => Ran::alone(Outcome::NoMemory),
-        },
+        Isolation::InThread => {
+            let outcome = work_in_thread(pool.alloc, desk, &work.action, &work.file);
+            Ran::alone(outcome)
+        }
+        Isolation::Process(asked) => run_in_process(pool, desk, mine, unit, work, asked),
     }
 }
 

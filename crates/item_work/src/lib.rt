@@ -6,7 +6,7 @@ mod items;
 mod processes;
 mod ran;
 
-pub use daemons::PoolLock;
+pub use daemons::{PoolLock, SharedPool};
 pub use items::run_item;
 pub use processes::{ask, request_for};
 pub use ran::{Answered, Ran, Wanted};

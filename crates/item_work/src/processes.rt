@@ -5,34 +5,64 @@ ghost use Rattle.item_actions.specs.Forms.{is_file_name};
 ghost use Rattle.item_actions.specs.Value.{IsHonest, value_on};
 ghost use Rattle.item_actions.specs.declared.outcomes.Outcome.TheVariants as outcomes;
 ghost use Rattle.daemon_requirements.specs.Covers.{Covers};
+ghost use Rattle.daemon_requirements.specs.declared.work.Isolation.TheVariants.{Process};
 ghost use Rattle.daemon_desk.specs.Replies.{IsReplyTo};
 ghost use Rattle.file_access.specs.ReadView.{IsFaultCounted, IsOutcomeCounted};
 ghost use Rattle.item_work.specs.Requests.{Asks, Sends, mode_of, request_for};
 ghost use Rattle.item_work.specs.Tallying.{TallyRises, one_if_err, one_if_unreal};
 
-use crate::daemons::{PoolLock, fail, release, reserve};
+use crate::daemons::{SharedPool, reserve};
 use crate::ran::{Answered, Ran, Wanted};
 use daemon_desk::Desk;
 use daemon_manager::Tally;
 use daemon_protocol::{Reply, Request};
-use daemon_requirements::{Isolation, Work};
+use daemon_requirements::{Isolation, Linked, Requirements, Work};
 use file_access::DeskFail;
 use item_actions::{KeepAlive, Outcome};
 use std::alloc::{AllocError, Global};
 use std::sync::Wait;
 use std::sync::ledger::Ledger;
 
-/// Lets a daemon of the pool work the item out, one that covers what is asked, or starts one.
+/// Has a daemon of the pool work an item out: one that covers what the item asks for.
 ///
-/// What `run_item` says of an item in a process holds of it. The pool's lock is held only for the pool's own calls, never while
-/// a daemon starts or works. A daemon that gave no reply is stopped, and never used again: its link is broken, and only settled
-/// ones are given back. An idle one that is one too many comes back with the outcome, or is stopped for want of memory. No daemon
-/// is lost, since neither a reservation nor a link can be dropped.
-pub(crate) fn work_in_daemon<R: Wait, D: Desk, U: Ledger, F: Ledger>(
-    rt: &R,
-    alloc: Global,
+/// What `run_item` says of an item in a process holds of it. A daemon that gave no reply is stopped, and never used again: its link is
+/// broken, and only settled ones are given back. No daemon is lost, since neither a reservation nor a link can be dropped.
+pub(crate) fn run_in_process<R: Wait, D: Desk, U: Ledger, F: Ledger>(
+    pool: &SharedPool<'_, R, D::Link, U, F>,
     desk: &mut D,
-    pool: &PoolLock<D::Link, U, F>,
+    mine: &mut Tally<U, F>,
+    unit: u32,
+    work: &Work,
+    asked: &Requirements,
+) -> Ran<Box<D::Link>>
+    requires asked { work.now.isolation ≡ Process asked.now }
+    requires form { is_file_name work.now.file ≡ true }
+    ensures files { D.files desk.new ≡ D.files desk.old }
+    ensures reads { D.reads desk.new ≡ D.reads desk.old }
+    ensures ran { result.outcome ≢ outcomes.Skipped }
+    ensures faults { IsOutcomeCounted (D.faults desk.old) (D.faults desk.new) result.outcome }
+    ensures honest { IfSome (D.files desk.old) (λ known. IsHonest result.outcome (value_on known work.now.action work.now.file)) }
+    ensures sent { Sends asked.now (record { count = D.sends desk.old; requests = D.sent desk.old })
+        (record { count = D.sends desk.new; requests = D.sent desk.new }) (request_for unit work.now) result.outcome }
+    ensures counted { TallyRises mine.old mine.new (D.sends desk.old) (D.sends desk.new) (one_if_unreal result.outcome) }
+    ensures spare { IfSome result.spare (λ _. result.outcome ≢ outcomes.Fault) }
+{
+    match request_for(pool.alloc, unit, work) {
+        Ok(request) => {
+            let wanted = Wanted {
+                request: &request,
+                requirements: asked,
+            };
+            work_in_daemon(pool, desk, mine, &wanted)
+        }
+        Err(_) => Ran::alone(Outcome::NoMemory),
+    }
+}
+
+// Lets a daemon of the pool answer the request, and says what it gives.
+fn work_in_daemon<R: Wait, D: Desk, U: Ledger, F: Ledger>(
+    pool: &SharedPool<'_, R, D::Link, U, F>,
+    desk: &mut D,
     mine: &mut Tally<U, F>,
     wanted: &Wanted<'_>,
 ) -> Ran<Box<D::Link>>
@@ -47,7 +77,7 @@ pub(crate) fn work_in_daemon<R: Wait, D: Desk, U: Ledger, F: Ledger>(
     ensures counted { TallyRises mine.old mine.new (D.sends desk.old) (D.sends desk.new) (one_if_unreal result.outcome) }
     ensures spare { IfSome result.spare (λ _. result.outcome ≢ outcomes.Fault) }
 {
-    match ask_daemon(rt, alloc, desk, pool, mine, wanted) {
+    match ask_daemon(pool, desk, mine, wanted) {
         Ok(answered) => {
             let Answered { reply, spare } = answered;
             Ran {
@@ -82,13 +112,11 @@ fn mode_of(isolation: &Isolation) -> Option<KeepAlive>
     }
 }
 
-// Asks a daemon of the pool, or a new one, and gives it back. One that gave no reply is never used again: it is stopped, which
-// takes no time, as it is killed.
+// Asks a daemon of the pool, and gives it back. One that gave no reply is never used again: it is stopped, which takes no time, as it
+// is killed.
 fn ask_daemon<R: Wait, D: Desk, U: Ledger, F: Ledger>(
-    rt: &R,
-    alloc: Global,
+    pool: &SharedPool<'_, R, D::Link, U, F>,
     desk: &mut D,
-    pool: &PoolLock<D::Link, U, F>,
     mine: &mut Tally<U, F>,
     wanted: &Wanted<'_>,
 ) -> Result<Answered<Box<D::Link>>, DeskFail>
@@ -101,20 +129,21 @@ fn ask_daemon<R: Wait, D: Desk, U: Ledger, F: Ledger>(
         (record { count = D.sends desk.new; requests = D.sent desk.new }) wanted.now.requirements.now wanted.now.request.now result }
     ensures counted { TallyRises mine.old mine.new (D.sends desk.old) (D.sends desk.new) (one_if_err result) }
 {
-    let mut reserved = reserve(rt, alloc, desk, pool, mine, wanted)?;
-    match ask(alloc, desk, reserved.link(), wanted) {
+    let mut reserved = reserve(pool, desk, mine, wanted)?;
+    match ask(pool.alloc, desk, reserved.link(), wanted) {
         Ok(reply) => {
-            let spare = boxed_or_stopped(alloc, desk, release(rt, pool, reserved));
+            let spare = boxed_or_stopped(pool.alloc, desk, pool.release(reserved));
             Ok(Answered { reply, spare })
         }
         Err(failed) => {
-            desk.stop(fail(rt, pool, mine, reserved));
+            desk.stop(pool.fail(mine, reserved));
             Err(failed)
         }
     }
 }
 
-// Boxes the link of a daemon that is one too many, for the caller to stop. Where there is no memory for it the daemon is stopped.
+// Boxes the link of a daemon that is one too many, for the caller to stop: a box costs an item that leaves none less than the link itself
+// does. Where there is no memory for it the daemon is stopped.
 fn boxed_or_stopped<D: Desk>(
     alloc: Global,
     desk: &mut D,
@@ -136,8 +165,8 @@ fn boxed_or_stopped<D: Desk>(
     }
 }
 
-/// Sends the request over a settled link that covers what is asked, and receives the reply. The link is then settled exactly
-/// where there is one; another is for `stop` alone.
+/// Sends the request over a settled link that covers what is asked, and receives the reply. The link is then settled exactly where
+/// there is one; another is for `stop` alone.
 pub fn ask<D: Desk>(
     alloc: Global,
     desk: &mut D,

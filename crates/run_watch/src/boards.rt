@@ -116,6 +116,8 @@ impl Board {
         requires seen { pass.now.sight.seen ≡ self.old.seen }
         ensures { self.new ≡ self.old }
     {
+        // It looks once more behind the join, by the pass that made the last entry, whose last number is the history's length: so no call
+        // to the service is needed.
         let (last, looks) = watcher.end(pass);
         if last.entries <= self.entries {
             place_all(&mut self.looks, looks);

@@ -1,27 +1,26 @@
-use Rattle.std.proofs.Common.{ap, arith, refl, true}
-use Rattle.std.specs.Prelude.{is_ok}
 use Rattle.build_runner.specs.Choices.{HasBegun}
-use Rattle.build_runner.proofs.Failing.{fails_then}
-use Rattle.build_runner.proofs.Keeping.{if_ok, of_ok}
-use Rattle.build_runner.proofs.Stepping.{step_err, step_still, step_then, step_weaker}
+use Rattle.build_runner.proofs.Keeping.{if_ok}
+use Rattle.build_runner.proofs.Stepping.{step_err, step_ok, step_same, step_then}
 use Rattle.build_runner.proofs.idle.work_to_the_end.Goals as goal
+
+pub loop-init : goal.loop-init
+loop-init g c = (tt, tt, step_same c.choose.ensures.step.of, if_ok (HasBegun c.choose.new.worker.pass.sight) c.choose.result c.in_ok-choice.choice c.in_ok-choice.was c.choose.ensures.begun)
+
+pub returns-in-Finish-clause-step : goal.returns-in-Finish-clause-step
+returns-in-Finish-clause-step g c = step_then c.choose.ensures.step c.loop.invariant.2
 
 pub loop-preserved : goal.loop-preserved
 loop-preserved g c =
     let part = c.carry_out.ensures in
     let inv = c.loop.invariant in
+    let choice = c.in_ok-choice-2.choice in
     let was = c.in_ok-choice-2.was in (
       tt,
       tt,
-      step_then inv.2 refl (step_weaker (λ _. ap is_ok was) part.step),
-      if_ok (HasBegun c.carry_out.new.pass.sight) c.carry_out.result c.in_ok-choice-2.choice was part.begun,
-      omega (arith, part.reserved, inv.4),
-      fails_then c.choose.new.pass.sight c.loop.pass.sight c.carry_out.new.pass.sight c.args.mine.now c.loop.mine c.carry_out.new.mine inv.2.keeps.worker inv.5 (of_ok c.carry_out.result c.in_ok-choice-2.choice was part.failed),
-      part.watched,
+      step_then inv.2 (step_ok c.carry_out.result choice was part.step),
+      if_ok (HasBegun c.carry_out.new.worker.pass.sight) c.carry_out.result choice was part.begun,
     )
 
 pub returns-in_err-choice-2-clause-step : goal.returns-in_err-choice-2-clause-step
 returns-in_err-choice-2-clause-step g c =
-    let asked = c.choose.ensures in
-    let first = step_still c.args.desk.now true c.requires.at asked.service asked.closed in
-    step_err c.from_residual-in_err-choice-2.result c.from_residual-in_err-choice-2.ensures.0 (step_then (step_then first refl c.loop.invariant.2) refl c.carry_out.ensures.step)
+    step_err c.from_residual-in_err-choice-2.result c.from_residual-in_err-choice-2.ensures.0 (step_then (step_then c.choose.ensures.step c.loop.invariant.2) c.carry_out.ensures.step)

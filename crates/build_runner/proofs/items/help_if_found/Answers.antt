@@ -1,10 +1,22 @@
-use Rattle.build_runner.specs.Desks.{desk_view}
-use Rattle.build_runner.proofs.Helping.{only_broke_off}
-use Rattle.build_runner.proofs.Stepping.{closes_nothing}
+use Rattle.std.proofs.Common.{refl}
+use Rattle.coordination.specs.Decisions.{HasDecided}
+use Rattle.build_runner.proofs.Helping.{only_broke_off, only_decided}
+use Rattle.coordination.specs.Shown.{ShowsTheSame}
+use Rattle.coordination.specs.declared.rule.Sight.{Sight}
+use Rattle.build_runner.proofs.Stepping.{step_same}
 use Rattle.build_runner.proofs.items.help_if_found.Goals as goal
+
+still : {s : Sight} → ShowsTheSame s s
+still = record { worker = refl; graph = refl; locks = refl; lease = refl; claimed = refl; parked = refl; blocked = refl }
+
+pub returns-in-Some-2-clause-helped : goal.returns-in-Some-2-clause-helped
+returns-in-Some-2-clause-helped g c =
+    let Q = g.Q in
+    let X = g.Q.Step.Transform in
+    let q = c.args.next.now in
+    only_decided c.args.site.now c.args.worker.now c.requires.of (step_same c.requires.of) c.decide.ensures.moves
+    (λ d s. HasDecided (Q.Question.answers q) (Q.Decision.step_of q) X.kind_of X.makes X.fails_on X.retries_on s c.decide.new.worker.pass.sight d) c.decide.result still c.decide.ensures.decided
 
 pub returns-in-Some-2-clause-broken_off : goal.returns-in-Some-2-clause-broken_off
 returns-in-Some-2-clause-broken_off g c =
-    let e = c.decide.ensures in
-    only_broke_off (desk_view g.D.Files.files g.D.Files.faults g.D.Desk.sends g.D.Desk.sent) c.args.site.now c.args.desk.now c.args.pass.now c.requires.at c.args.pass.now.sight (closes_nothing c.args.pass.now.sight)
-    {waits = g.Q.Question.waits_on c.args.next.now} c.decide.result e.service e.no_memory e.stopped
+    only_broke_off c.args.site.now c.args.worker.now c.requires.of (step_same c.requires.of) c.decide.ensures.moves c.decide.result c.decide.ensures.closed

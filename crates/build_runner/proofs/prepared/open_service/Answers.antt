@@ -4,6 +4,7 @@ use Rattle.coordination.specs.Sights.{workers_from}
 use Rattle.resource_lock.specs.AtRest.{IsAtRest}
 use Rattle.lock_journal.specs.BookView.{BookView}
 use Rattle.build_runner.proofs.AtFirst.{all_ready, all_untouched}
+use Rattle.build_runner.proofs.Begun.{IsBegun}
 use Rattle.build_runner.proofs.prepared.open_service.Goals as goal
 
 pub open_with_views-requires : goal.open_with_views-requires
@@ -15,10 +16,11 @@ returns-clause-opened g c =
     let e = c.in_ok-service.ensures in
     let book : BookView = c.in_ok-book.book.value in
     let graph : book.graph ≡ c.args.graph = ap (λ (b : BookView). b.graph) c.in_ok-book.ensures ∙ c.in_ok-open_book.ensures.graph in
-    let history : book.history ≡ [] = ap (λ (b : BookView). b.history) c.in_ok-book.ensures ∙ c.in_ok-open_book.ensures.history in record {
+    let history : book.history ≡ [] = ap (λ (b : BookView). b.history) c.in_ok-book.ensures ∙ c.in_ok-open_book.ensures.history in
+    subst (IsBegun c.args.graph) (sym c.in_ok-boxed.ensures) (record {
       graph = ap (λ (b : BookView). b.graph) e.book ∙ graph;
       passes = e.len ∙ ap (λ (k : GraphView). k.workers) graph;
       ready = all_ready made.service made.passes.items c.args.graph book graph e.service e.seen e.rest;
       untouched = all_untouched made.passes.items book history e.seen;
       workers = e.workers ∙ ap (λ (k : GraphView). workers_from 0 k.workers) graph;
-    }
+    })

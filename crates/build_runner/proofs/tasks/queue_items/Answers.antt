@@ -3,7 +3,7 @@ use Rattle.std.proofs.Common.{ℕ, ◌≡◌, ◌+◌, ◌<◌, ◌≤◌, Bool,
 use Rattle.std.specs.Prelude.{◌⊎◌, OnOk}
 use Rattle.resource_lock.specs.Fits.{Fits}
 use Rattle.resource_lock.specs.GraphView.{GraphView, action_of}
-use Rattle.resource_lock.specs.Ranges.{IsActionOf, fetches, units_in}
+use Rattle.resource_lock.specs.Ranges.{IsActionOf, fetches, lock_with, units_in}
 use Rattle.resource_lock.specs.declared.graphs.GraphAction.{GraphAction}
 use Rattle.lock_transforms.proofs.lemmas.Within.{units_within}
 use Rattle.resource_lock.specs.declared.ids.WorkerId.{WorkerId}
@@ -14,8 +14,14 @@ use Rattle.coordination.specs.declared.rule.Sight.{Sight}
 use Rattle.async_tracker.specs.Following.{HasParkedAtOnce}
 use Rattle.async_tracker.specs.Queueing.{HasSubmittedThen}
 use Rattle.build_runner.specs.Kept.{HasClosed}
-use Rattle.build_runner.proofs.Keeping.{closes_then, finished_closes, looked_closes, stopped_closes}
+use Rattle.build_runner.proofs.Keeping.{closes_then, finished_closes, looked_closes, of_ok, stopped_closes}
 use Rattle.build_runner.proofs.Points.{owns_for, works_for}
+use Rattle.std.specs.List.{list_any}
+use Rattle.lock_journal.specs.Own.{is_unit}
+use Rattle.coordination.specs.Shown.{claimed_shown}
+use Rattle.async_tracker.specs.Shows.{IsFree, IsIdleOrParked, ShowsParked}
+use Rattle.build_runner.specs.Points.{CanHelp, RunsTask}
+use Rattle.build_runner.proofs.Stepping.{is_of, of_fields, step_from, step_moved, to_fields, with_pass}
 use Rattle.build_runner.proofs.tasks.queue_items.Goals as goal
 
 -- the units of an action of the graph have numbers that fit
@@ -51,17 +57,46 @@ overflow_add-first-2 g c =
     let found = c.action_of-found in
     omega (arith, sum_fits found.result c.args.action c.from.result found.ensures.fits found.ensures.within found.ensures.value c.from.ensures)
 
+pub submit_and_park-requires-clause-in_range : goal.submit_and_park-requires-clause-in_range
+submit_and_park-requires-clause-in_range g c = subst (λ (k : GraphView). c.args.action < length k.actions) (sym (is_of c.worker.view_is c.requires.of).at.graph) c.action_of-found.ensures.within
+
 pub submit_and_park-requires-clause-works : goal.submit_and_park-requires-clause-works
 submit_and_park-requires-clause-works g c =
-    works_for (subst Fits (sym c.requires.at.graph) c.action_of-found.ensures.fits) (subst (λ (k : GraphView). IsActionOf k c.args.task c.args.action) (sym c.requires.at.graph) c.requires.action) c.requires.runs
+    let graph = sym (is_of c.worker.view_is c.requires.of).at.graph in
+    works_for (subst Fits graph c.action_of-found.ensures.fits) (subst (λ (k : GraphView). IsActionOf k c.args.task c.args.action) graph c.requires.action) (to_fields (RunsTask c.args.task) c.worker.view_is c.requires.runs)
 
 pub submit_and_park-requires-clause-lock : goal.submit_and_park-requires-clause-lock
 submit_and_park-requires-clause-lock g c =
-    owns_for (action_of c.args.pass.now.sight.seen.graph c.args.action).retention (subst Fits (sym c.requires.at.graph) c.action_of-found.ensures.fits)
-    (subst (λ (k : GraphView). IsActionOf k c.args.task c.args.action) (sym c.requires.at.graph) c.requires.action) c.requires.runs
+    let graph = sym (is_of c.worker.view_is c.requires.of).at.graph in
+    owns_for (action_of c.worker.inside.pass.sight.seen.graph c.args.action).retention (subst Fits graph c.action_of-found.ensures.fits)
+    (subst (λ (k : GraphView). IsActionOf k c.args.task c.args.action) graph c.requires.action) (to_fields (RunsTask c.args.task) c.worker.view_is c.requires.runs)
 
-pub returns-in_err-parked-clause-closed : goal.returns-in_err-parked-clause-closed
-returns-in_err-parked-clause-closed g c = let e = c.submit_and_park.ensures in queued_closes c.submit_and_park.result e.entries e.no_memory e.stopped
+pub returns-in_err-parked-clause-step : goal.returns-in_err-parked-clause-step
+returns-in_err-parked-clause-step g c =
+    let e = c.submit_and_park.ensures in
+    step_from c.worker.view_is (step_moved true (is_of c.worker.view_is c.requires.of) (with_pass e.service) (queued_closes c.submit_and_park.result e.entries e.no_memory e.stopped))
 
-pub returns-clause-closed : goal.returns-clause-closed
-returns-clause-closed g c = let e = c.submit_and_park.ensures in queued_closes c.submit_and_park.result e.entries e.no_memory e.stopped
+pub returns-clause-step : goal.returns-clause-step
+returns-clause-step g c =
+    let e = c.submit_and_park.ensures in
+    step_from c.worker.view_is (step_moved true (is_of c.worker.view_is c.requires.of) (with_pass e.service) (queued_closes c.submit_and_park.result e.entries e.no_memory e.stopped))
+
+-- what it may do, parked
+can_help : {T E : Type 0} {t : ℕ} {old : Sight} (new : Sight) (r : Result T E) → RunsTask t old → OnOk r (list_any is_unit (claimed_shown old) ≡ false → IsFree new) → OnOk r (IsIdleOrParked new) → OnOk r (CanHelp new)
+can_help new (Ok x) runs free waits = record { free = free (ap (list_any is_unit) runs.claimed); waits = waits }
+can_help new (Err e) runs free waits = tt
+
+pub returns-clause-helps : goal.returns-clause-helps
+returns-clause-helps g c =
+    let e = c.submit_and_park.ensures in
+    of_ok c.submit_and_park.result c.in_ok-parked.parked c.in_ok-parked.was (can_help c.submit_and_park.new.pass.sight c.submit_and_park.result (to_fields (RunsTask c.args.task) c.worker.view_is c.requires.runs) e.free e.waits)
+
+pub returns-clause-shows : goal.returns-clause-shows
+returns-clause-shows g c =
+    let r = c.submit_and_park.result in
+    let a = c.args.action in
+    let new = c.submit_and_park.new.pass.sight in
+    let graph = c.args.site.now.graph in
+    of_fields (λ s. ShowsParked (action_of graph a).retention (lock_with graph a) a s new) c.worker.view_is
+    (subst (λ (k : GraphView). ShowsParked (action_of k a).retention (lock_with k a) a c.worker.inside.pass.sight new) (is_of c.worker.view_is c.requires.of).at.graph
+    (of_ok r c.in_ok-parked.parked c.in_ok-parked.was c.submit_and_park.ensures.shows))

@@ -1,16 +1,7 @@
 use Rattle.std.proofs.Common.{true}
 use Rattle.build_runner.specs.Points.{RunsTask}
-use Rattle.item_work.specs.Tallying.{ReservesForEach}
-use Rattle.build_runner.specs.Desks.{desk_view}
-use Rattle.build_runner.specs.Failing.{FailsForEach}
 use Rattle.build_runner.specs.Steps.{Steps}
-use Rattle.build_runner.specs.Watching.{IsWatched}
 use Rattle.build_runner.proofs.tasks.run_actions.Given as goal
 
 abbrev pub invariant-loop-action : goal.invariant-loop-action
-invariant-loop-action g l =
-    Steps l.site (desk_view g.D.Files.files g.D.Files.faults g.D.Desk.sends g.D.Desk.sent) l.initial.desk l.desk l.initial.pass l.pass true
-    × RunsTask l.task l.pass.sight
-    × ReservesForEach (g.D.Desk.sends l.initial.desk) (g.D.Desk.sends l.desk) l.initial.mine l.mine
-    × FailsForEach l.initial.pass.sight l.pass.sight l.initial.mine l.mine
-    × IsWatched l.site l.kit
+invariant-loop-action g l = Steps l.site l.initial.worker l.worker true × RunsTask l.task l.worker.pass.sight

@@ -1,1 +1,0 @@
-use Rattle.build_runner.proofs.idle.carry_out.Goals as goal
