@@ -1,17 +1,18 @@
 //! The desk of a real folder, with child processes.
-ghost use Rattle.std.specs.Prelude.{◌≡◌};
-ghost use Rattle.daemon_desk.specs.FolderDeskView.{after_answer};
+ghost use Rattle.std.specs.Prelude.{◌≡◌, IfOk, IfSome};
+ghost use Rattle.item_actions.specs.Value.{value_on};
+ghost use Rattle.file_access.specs.ReadView.{IsAnswer, IsWithin, ReadsFrom, read_view};
+ghost use Rattle.daemon_desk.specs.FolderDeskView.{after_answer, after_read};
 
 use crate::desks::Desk;
 use crate::folder_link::FolderLink;
 use daemon_protocol::{Reply, Request};
 use daemon_requirements::Requirements;
-use file_access::{DeskFail, FileBytes, Files, Read, act_on_file, read_file};
+use file_access::{DeskFail, FileBytes, FileOpener, Files, Read, act_on_file, read_file};
 use item_actions::{ItemAction, Outcome, Text};
 use std::alloc::Global;
 use std::marker::Model;
 use std::process::{Processes, SystemProcess};
-use std::rt;
 
 /// A desk that reads the files of the current folder, and whose daemons are child processes in it. It tells neither the
 /// files nor which requests it sent.
@@ -29,15 +30,15 @@ pub struct FolderDesk<R: Drop> {
 impl<R: Drop> Model for FolderDesk<R> {
     ghost use Rattle.daemon_desk.specs.FolderDeskView.{FolderDeskView};
 
-    ghost Value = { FolderDeskView };
+    ghost Value = { FolderDeskView R };
 
-    ghost view = { λ d. record { program = d.program; faults = d.faults; reads = d.reads; sends = d.sends } };
+    ghost view = { λ d. record { opener = d.rt; program = d.program; faults = d.faults; reads = d.reads; sends = d.sends } };
 }
 
 impl<R: Drop> FolderDesk<R> {
     /// A desk by this runtime. The executable `self` of requirements means `program`.
     pub fn new(rt: R, alloc: Global, program: Text) -> FolderDesk<R>
-        ensures { result ≡ record { program = program; faults = 0; reads = 0; sends = 0 } }
+        ensures { result ≡ record { opener = rt; program = program; faults = 0; reads = 0; sends = 0 } }
     {
         FolderDesk {
             rt,
@@ -68,7 +69,7 @@ impl<R: Drop> FolderDesk<R> {
     }
 }
 
-impl<R: rt::Files + Drop> Files for FolderDesk<R> {
+impl<R: FileOpener + Drop> Files for FolderDesk<R> {
     ghost use Rattle.std.specs.Prelude.{◌≡◌, None, Some};
 
     ghost files = { λ _. None };
@@ -79,7 +80,11 @@ impl<R: rt::Files + Drop> Files for FolderDesk<R> {
 
     ghost keeps = { λ old new. new.sends ≡ old.sends };
 
-    fn read(&mut self, alloc: Global, name: &Text, limit: u64) -> Result<Read, DeskFail> {
+    fn read(&mut self, alloc: Global, name: &Text, limit: u64) -> Result<Read, DeskFail>
+        ensures after { self.new ≡ after_read result self.old }
+        ensures within { IfOk result (λ read. IsWithin limit (read_view read)) }
+        ensures opened { ReadsFrom (R.known self.old.opener) name.now limit result }
+    {
         let read = read_file(&self.rt, alloc, name, limit, &mut self.spare);
         self.reads = self.reads.saturating_add(1);
         self.counted(read)
@@ -90,7 +95,11 @@ impl<R: rt::Files + Drop> Files for FolderDesk<R> {
         _alloc: Global,
         action: &ItemAction,
         name: &Text,
-    ) -> Result<Outcome, DeskFail> {
+    ) -> Result<Outcome, DeskFail>
+        ensures after { self.new ≡ after_read result self.old }
+        ensures answer { IfOk result IsAnswer }
+        ensures opened { IfSome (R.known self.old.opener) (λ files. IfOk result (λ outcome. outcome ≡ value_on files action.now name.now)) }
+    {
         let outcome = act_on_file(&self.rt, action, name, &mut self.spare);
         self.reads = self.reads.saturating_add(1);
         self.counted(outcome)
@@ -101,7 +110,7 @@ impl<R: rt::Files + Drop> Files for FolderDesk<R> {
     }
 }
 
-impl<R: rt::Files + Processes<Started = SystemProcess> + Drop> Desk for FolderDesk<R> {
+impl<R: FileOpener + Processes<Started = SystemProcess> + Drop> Desk for FolderDesk<R> {
     ghost use Rattle.std.specs.Prelude.{None, refl};
     ghost use Rattle.std.proofs.Common.{rules};
 

@@ -1,42 +1,25 @@
 //! Links to child processes.
-ghost use Rattle.std.specs.Prelude.{◌≡◌, ◌≢◌, None, Some, IfOk, IfSome, OnOk, OnErr, true};
+ghost use Rattle.std.specs.Prelude.{◌≡◌, None, Some, IfOk, IfSome, OnOk, OnErr, true};
 ghost use Rattle.item_actions.specs.Forms.{is_file_name};
-ghost use Rattle.item_actions.specs.declared.outcomes.Outcome.TheVariants as outcomes;
-ghost use Rattle.daemon_protocol.specs.Spelling.{spelling, IsValid};
-ghost use Rattle.daemon_protocol.specs.declared.frames.Frame.TheVariants.{Stop};
 ghost use Rattle.daemon_desk.specs.LinkView.{new_link};
 ghost use Rattle.daemon_desk.specs.Replies.{IsReplyTo};
-ghost use Rattle.daemon_desk.specs.Requests.{request_in};
 
 use crate::commands::command_of;
-use crate::replies::reply_to;
-use crate::take_frame;
-use daemon_protocol::{Frame, HEAD_BYTES, MAX_FRAME_BYTES, Reply, Request, encode};
+use crate::pipe_link::PipeLink;
+use daemon_protocol::{Reply, Request};
 use daemon_requirements::{Linked, Requirements};
-use file_access::{DeskFail, StdSink, StdSource, put_all};
-use item_actions::KeepAlive;
+use file_access::{DeskFail, StdSink, StdSource};
 use std::alloc::Global;
 use std::marker::Model;
 use std::process::{Child, ChildStdin, ChildStdout, Command, Processes, SystemProcess};
 
+/// The link over the pipes of a child.
+type ChildLink = PipeLink<StdSink<ChildStdin>, StdSource<ChildStdout>>;
+
 /// A link to a child process. It can't be dropped, since a drop wouldn't wait for the child: it has to be stopped.
 pub struct FolderLink {
-    made_for: Requirements,
-    waiting: Option<Request>,
-    // Whether a call failed.
-    broken: bool,
-    // The bytes of the reply at hand, kept for their memory.
-    held: Vec<u8>,
+    link: ChildLink,
     child: Child<SystemProcess>,
-    // They are closed once the child was told to stop.
-    pipes: Option<Pipes>,
-}
-
-// What a child is written to, and read from.
-#[derive(Drop)]
-struct Pipes {
-    input: StdSink<ChildStdin>,
-    output: StdSource<ChildStdout>,
 }
 
 impl Model for FolderLink {
@@ -44,7 +27,7 @@ impl Model for FolderLink {
 
     ghost Value = { LinkView };
 
-    ghost view = { λ link. record { made_for = link.made_for; waiting = link.waiting; broken = link.broken } };
+    ghost view = { λ l. l.link.link };
 }
 
 impl FolderLink {
@@ -70,16 +53,12 @@ impl FolderLink {
     ) -> Result<FolderLink, DeskFail>
         ensures { IfOk result (λ link. link ≡ new_link made_for) }
     {
-        match pipes_of(&mut child) {
-            Some(pipes) => Ok(FolderLink {
-                made_for,
-                waiting: None,
-                broken: false,
-                held: Vec::new(alloc),
+        match (child.stdin.take(), child.stdout.take()) {
+            (Some(input), Some(output)) => Ok(FolderLink {
+                link: PipeLink::over(alloc, made_for, StdSink::new(input), StdSource::new(output)),
                 child,
-                pipes: Some(pipes),
             }),
-            None => {
+            _ => {
                 let _ = child.wait();
                 Err(DeskFail::Failed)
             }
@@ -92,26 +71,7 @@ impl FolderLink {
         ensures ok { OnOk result (self.new ≡ record self.old { waiting = Some request.now }) }
         ensures err { OnErr result (self.new ≡ record self.old { broken = true }) }
     {
-        let sent = self.put(alloc, request);
-        if sent.is_err() {
-            self.broken = true;
-        }
-        sent
-    }
-
-    // Writes a request to the child, which then waits for its reply.
-    fn put(&mut self, alloc: Global, request: &Request) -> Result<(), DeskFail>
-        requires { is_file_name request.now.file ≡ true }
-        ensures ok { OnOk result (self.new ≡ record self.old { waiting = Some request.now }) }
-        ensures err { OnErr result (self.new ≡ self.old) }
-    {
-        let Some(pipes) = &mut self.pipes else {
-            return Err(DeskFail::Failed);
-        };
-        let frame = Frame::Request(request.copy(alloc)?);
-        pipes.put(alloc, &frame)?;
-        self.waiting = request_in(frame);
-        Ok(())
+        self.link.send(alloc, request)
     }
 
     /// Reads the reply to the request that waits, and is broken where that fails. Nothing is counted here.
@@ -120,24 +80,7 @@ impl FolderLink {
         ensures ok { OnOk result (self.new ≡ record self.old { waiting = None }) }
         ensures err { OnErr result (self.new ≡ record self.old { waiting = None; broken = true }) }
     {
-        let reply = self.take_reply(alloc);
-        if reply.is_err() {
-            self.broken = true;
-        }
-        reply
-    }
-
-    // Reads the reply to the request that waits, which then waits no more.
-    fn take_reply(&mut self, alloc: Global) -> Result<Reply, DeskFail>
-        ensures reply { IfOk result (λ reply. IfSome self.old.waiting (λ request. IsReplyTo None request reply)) }
-        ensures left { self.new ≡ record self.old { waiting = None } }
-    {
-        match (self.waiting.take(), &mut self.pipes) {
-            (Some(request), Some(pipes)) => {
-                pipes.reply(alloc, request.unit, request.keep, &mut self.held)
-            }
-            _ => Err(DeskFail::Failed),
-        }
+        self.link.receive(alloc)
     }
 
     /// Lets a child that has nothing to answer come to its end: it is told to stop, and its pipes are closed, which ends one that
@@ -146,61 +89,16 @@ impl FolderLink {
     pub(crate) fn tell_to_stop(&mut self)
         ensures { self.new ≡ self.old }
     {
-        if self.broken || self.waiting.is_some() {
+        if !self.link.tell_to_stop() {
             let _ = self.child.kill();
-        } else if let Some(pipes) = self.pipes.take() {
-            pipes.close();
         }
     }
 
     /// Tells the child to stop, unless it was told, and waits for its end.
     pub(crate) fn stop(mut self) {
         self.tell_to_stop();
-        let FolderLink {
-            made_for: _,
-            waiting: _,
-            broken: _,
-            held: _,
-            mut child,
-            pipes: _,
-        } = self;
+        let FolderLink { link: _, mut child } = self;
         let _ = child.wait();
-    }
-}
-
-impl Pipes {
-    // Writes a frame.
-    fn put(&mut self, alloc: Global, frame: &Frame) -> Result<(), DeskFail>
-        requires { IsValid frame.now }
-    {
-        let bytes = encode(alloc, frame)?;
-        match put_all(&mut self.input, &bytes) {
-            Ok(()) => Ok(()),
-            Err(_) => Err(DeskFail::Failed),
-        }
-    }
-
-    // Reads the reply for a unit, in the mode of its request.
-    fn reply(
-        &mut self,
-        alloc: Global,
-        unit: u32,
-        keep: Option<KeepAlive>,
-        held: &mut Vec<u8>,
-    ) -> Result<Reply, DeskFail>
-        ensures unit { IfOk result (λ r. r.unit ≡ unit) }
-        ensures keep { IfOk result (λ r. r.keep ≡ keep) }
-        ensures ran { IfOk result (λ r. r.outcome ≢ outcomes.Skipped) }
-        ensures worked { IfOk result (λ r. r.outcome ≢ outcomes.Fault) }
-    {
-        let room = MAX_FRAME_BYTES as u64;
-        let start = take_frame(alloc, &mut self.output, held, room)?;
-        reply_to(unit, keep, &start)
-    }
-
-    // Tells the child to stop, and closes both pipes.
-    fn close(mut self) {
-        let _ = put_all(&mut self.input, &stop_bytes());
     }
 }
 
@@ -223,17 +121,6 @@ fn run<R: Processes<Started = SystemProcess>>(
     Ok(command.spawn(rt)?)
 }
 
-// The pipes of a child, if it has both.
-fn pipes_of(child: &mut Child<SystemProcess>) -> Option<Pipes> {
-    match (child.stdin.take(), child.stdout.take()) {
-        (Some(input), Some(output)) => Some(Pipes {
-            input: StdSink::new(input),
-            output: StdSource::new(output),
-        }),
-        _ => None,
-    }
-}
-
 impl Linked for FolderLink {
     ghost use Rattle.daemon_desk.specs.LinkView.{is_settled};
 
@@ -242,23 +129,6 @@ impl Linked for FolderLink {
     ghost settled = { λ link. is_settled link.broken link.waiting };
 
     fn made_for(&self) -> &Requirements {
-        &self.made_for
+        self.link.made_for()
     }
-}
-
-// The request in a frame, if it is one.
-fn request_in(frame: Frame) -> Option<Request>
-    ensures { result ≡ request_in frame }
-{
-    match frame {
-        Frame::Request(request) => Some(request),
-        _ => None,
-    }
-}
-
-// The bytes of a Stop frame, which take no memory.
-fn stop_bytes() -> [u8; HEAD_BYTES]
-    ensures { result ≡ spelling Stop }
-{
-    [3, 0, 0, 0, 0]
 }

@@ -26,6 +26,9 @@ use std::marker::Model;
 ///
 /// Its calls are numbered from 0, all five kinds of them together; it doesn't tell how many of them were reads. A desk with a lie
 /// doesn't tell its files.
+///
+/// A daemon works when its reply is received, by the real `serve`. Of it is said what its reply is, if it gives one, and not that it
+/// does: `serve` speaks of any source and sink, so its contract can't say that those in memory never fail.
 #[derive(Drop)]
 pub struct MemoryDesk {
     files: FileMap,

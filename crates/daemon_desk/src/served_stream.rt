@@ -51,7 +51,8 @@ impl From<DeskFail> for Served {
     }
 }
 
-/// Answers each request of the source with a reply on the sink.
+/// Answers each request of the source with a reply on the sink. Of each frame exactly its bytes are taken, the head and then the body:
+/// so what follows a Stop stays in the source.
 pub fn serve<S: Source, K: Sink, F: Files>(
     alloc: Global,
     source: &mut S,

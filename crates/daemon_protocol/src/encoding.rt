@@ -137,7 +137,8 @@ fn push_start(bytes: &mut Vec<u8>, tag: u8, len: u32, unit: u32) -> Result<(), A
     bytes.extend_from_slice(&[tag, a, b, c, d, e, f, g, h])
 }
 
-// Adds the start of a frame in a mode: its tag, the length of its body, its unit, and its mode.
+// Adds the start of a frame in a mode: its tag, the length of its body, its unit, and its mode, written in one piece. With one way for
+// both versions, version 1 would pay for a mode that it doesn't have.
 #[inline(always)]
 fn push_start_in_mode(
     bytes: &mut Vec<u8>,

@@ -8,7 +8,7 @@ pub record CallsView : Type 0 where
   pub made : ℕ
   pub faults : ℕ
 
--- one more, unless the count stands at its last value
+-- One more, unless the count stands at its last value, 2 ^ 64 - 1: of a count that stands there nothing is claimed.
 abbrev pub next : ℕ → ℕ
 next count = if nat_lt count (2 ^ 64 - 1) then count + 1 else count
 

@@ -67,6 +67,8 @@ impl<R: BufRead> Source for AheadSource<R> {
         taken
     }
 
+    // Bytes are put behind the line in place of a buffer of the caller's, which would be copied once more. The lock sets the place back at
+    // the program's end.
     fn take_ahead(&mut self, line: &mut Vec<u8>, most: usize) -> Result<usize, AllocError> {
         if most == 0 {
             return Ok(0);

@@ -1,31 +1,33 @@
 //! Actions on the files of a real folder, which are looked at as they are read.
 ghost use Rattle.std.specs.Prelude.{◌≡◌, ◌<◌, ◌≤◌, Some, length, IfOk, IfSome, OnOk};
 ghost use Rattle.std.specs.Io.KnownBytes.{Consumes, IsAtEnd};
-ghost use Rattle.item_actions.specs.Value.{act_on, value_of};
+ghost use Rattle.item_actions.specs.Value.{act_on, value_of, value_on};
 ghost use Rattle.file_access.specs.ReadView.{IsAnswer};
 
 use crate::file_bytes::FileBytes;
 use crate::files::DeskFail;
 use crate::folder_files::open;
+use crate::openers::FileOpener;
 use crate::retries::Retries;
 use item_actions::{ItemAction, MAX_FILE_BYTES, Outcome, PieceState, Text};
+use std::io;
 use std::io::ErrorKind;
-use std::{io, rt};
 
-/// What the action gives on the file of this name in the current folder: its value, NotThere or TooLong.
+/// What the action gives on the file of this name, as the opener finds it: its value, NotThere or TooLong.
 ///
 /// The file is looked at in pieces of at most 128 KiB, as they are read, in the room of the spare bytes, which are forgotten. Nothing is
 /// counted here: the caller counts the fault where it answers Failed.
-pub fn act_on_file<R: rt::Files>(
-    rt: &R,
+pub fn act_on_file<O: FileOpener>(
+    opener: &O,
     action: &ItemAction,
     name: &Text,
     spare: &mut FileBytes,
 ) -> Result<Outcome, DeskFail>
-    ensures { IfOk result IsAnswer }
+    ensures answer { IfOk result IsAnswer }
+    ensures known { IfSome (O.known opener.now) (λ files. IfOk result (λ outcome. outcome ≡ value_on files action.now name.now)) }
 {
     let mut retries = Retries::new();
-    match open(rt, name.as_str(), &mut retries) {
+    match open(opener, name.as_str(), &mut retries) {
         Ok(mut file) => act_on_open(&mut file, action, spare, &mut retries),
         Err(error) if error.kind() == ErrorKind::NotFound => Ok(Outcome::NotThere),
         Err(error) => Err(error.into()),

@@ -47,6 +47,11 @@ impl From<AllocError> for DeskFail {
 
 /// Nothing is counted here.
 impl From<io::Error> for DeskFail {
+    ghost use Rattle.std.specs.IoError.{error_kind};
+    ghost use Rattle.file_access.specs.Opening.{fail_of};
+
+    ghost from_gives = { λ error fail. fail ≡ fail_of (error_kind error) };
+
     fn from(error: io::Error) -> DeskFail {
         match error.kind() {
             ErrorKind::OutOfMemory => DeskFail::NoMemory,
@@ -81,7 +86,8 @@ pub trait Files {
         ensures known { ReadsFrom (files self.old) name.now limit result };
 
     /// What the action gives on the file of this name: its value, NotThere or TooLong. It counts as one read of the file.
-    // Who can look at a file as it is read need not hold all of its bytes.
+    // Who can look at a file as it is read need not hold all of its bytes. The body here reads the file whole: files in memory use it, whose
+    // bytes are there anyway.
     fn act_on(
         &mut self,
         alloc: Global,

@@ -147,7 +147,7 @@ impl Page {
         }
     }
 
-    // Tells a number of any length.
+    // Tells a number of any length. It goes through the buffer of `itoa`: one length more above made each short number slower.
     #[inline(never)]
     fn long_number<K: Sink>(&mut self, sink: &mut K, n: u64)
         ensures { Adds (K.seen sink.old) self.old (K.seen sink.new) self.new (decimal n) }

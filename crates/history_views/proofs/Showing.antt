@@ -7,7 +7,7 @@ use lib.ListN.{get_elem?}
 use Rattle.left_right.specs.Register.{Admits, Forks, Merges, Turns, TurnsAt}
 use Rattle.atomic_table.proofs.Lists.{at_set, at_snoc}
 use Rattle.logbook.specs.Pages.{Book}
-use Rattle.history_views.specs.Boards.{AreOf, IsOf, Names, Writes}
+use Rattle.history_views.specs.Boards.{AreOf, IsLast, IsOf, Names, Writes}
 use Rattle.history_views.specs.Growing.{ReachView}
 
 -- one that is set, among others
@@ -72,3 +72,13 @@ pub published : {U E : Type 0} (ledger : Book) (x next : ReachView) (v w : Optio
     → MatchResult r (λ _. (next ≡ fold (λ (s op : ReachView). op) x ops) × (left ≡ [])) (λ _. (next ≡ x) × (left ≡ ops)) → MatchResult r (λ _. w ≡ Some next) (λ _. w ≡ v) → Writes ledger w next left
 published ledger x next v w ops left (Ok u) old ok values rule = shown_writes ledger x next w ops left old.shows old.pending values.0 rule values.1
 published ledger x next v w ops left (Err e) old ok values rule = absurd (true≢false (sym ok))
+
+fold_last : (x r : ReachView) (front : List ReachView) → fold (λ (s op : ReachView). op) x (front ++ r ∷ []) ≡ r
+fold_last x r [] = refl
+fold_last x r (op ∷ ops) = fold_last op r ops
+
+-- what was to be shown last is shown
+pub shows_last : {U E : Type 0} (x next r : ReachView) (ops left : List ReachView) (res : Result U E) → IsOk res
+    → MatchResult res (λ _. (next ≡ fold (λ (s op : ReachView). op) x ops) × (left ≡ [])) (λ _. (next ≡ x) × (left ≡ ops)) → IsLast r ops → next ≡ r
+shows_last x next r ops left (Ok u) ok values last = values.0 ∙ (ap (fold (λ (s op : ReachView). op) x) last.1 ∙ fold_last x r last.0)
+shows_last x next r ops left (Err e) ok values last = absurd (true≢false (sym ok))

@@ -1,5 +1,5 @@
 -- What is shown on a board, and who knows of which ledger it is.
-use Rattle.std.specs.Prelude.{ℕ, ◌≡◌, List, Option, Some, None}
+use Rattle.std.specs.Prelude.{ℕ, ◌≡◌, List, [], ◌∷◌, ◌++◌, Option, Some, None}
 use Rattle.std.specs.List.{All}
 use mathlib.Core.Option.{some}
 use lib.ListN.{get_elem?}
@@ -24,3 +24,7 @@ pub record Writes (ledger : Book) (known : Option ReachView) (shown : ReachView)
   pub knows : Names ledger known
   pub shows : shown.ledger ≡ ledger
   pub pending : All (λ r. r.ledger ≡ ledger) ops
+
+-- the reach is the last of these
+abbrev pub IsLast : ReachView → List ReachView → Type 0
+IsLast r ops = (front : List ReachView) × (ops ≡ front ++ r ∷ [])

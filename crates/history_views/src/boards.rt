@@ -1,7 +1,7 @@
 //! The board that views read: two copies of a reach, of which the writer changes the one that nobody reads.
-ghost use Rattle.std.specs.Prelude.{◌≡◌, ◌<◌, ◌^◌, IfOk, IfSome, drop};
+ghost use Rattle.std.specs.Prelude.{◌≡◌, ◌<◌, ◌^◌, IfOk, IfSome, drop, true};
 ghost use Rattle.left_right.specs.Sides.{view};
-ghost use Rattle.history_views.specs.Boards.{Names, Writes};
+ghost use Rattle.history_views.specs.Boards.{IsLast, Names, Writes};
 
 use crate::reaches::Reach;
 use atomic_table::{Join, Split};
@@ -89,35 +89,45 @@ pub fn open_board<R: Wait>(
     readers: usize,
 ) -> Result<BoardWriter, AllocError>
     requires { (0 < readers) × (readers < 2 ^ 32) }
-    ensures { IfOk result (λ w. Writes reach.now.ledger (view w.desk.place) w.desk.shown.value (drop w.behind w.log.items)) }
+    ensures shown { IfOk result (λ w. w.desk.shown.value ≡ reach.now) }
+    ensures writes { IfOk result (λ w. Writes reach.now.ledger (view w.desk.place) w.desk.shown.value (drop w.behind w.log.items)) }
 {
     let writer: BoardWriter = Writer::new(alloc, reach.again(), reach.again(), readers)?;
     let (writer, _) = writer.publish_as::<Showing, R>(rt);
     Ok(writer)
 }
 
-/// Takes the memory that the next showing needs. It is false where there is none, and changes nothing that is shown.
+/// Takes the memory that the next showing needs, by having the reach be shown then. It is false where there is none, and changes
+/// nothing that is shown.
 pub fn has_room(writer: &mut BoardWriter, reach: &Reach) -> bool
     requires { Writes reach.now.ledger (view writer.old.desk.place) writer.old.desk.shown.value (drop writer.old.behind writer.old.log.items) }
-    ensures { Writes reach.now.ledger (view writer.new.desk.place) writer.new.desk.shown.value (drop writer.new.behind writer.new.log.items) }
+    ensures writes { Writes reach.now.ledger (view writer.new.desk.place) writer.new.desk.shown.value (drop writer.new.behind writer.new.log.items) }
+    ensures desk { writer.new.desk ≡ writer.old.desk }
+    ensures last { result ≡ true → IsLast reach.now (drop writer.new.behind writer.new.log.items) }
 {
-    writer.append(reach.again()).is_ok()
+    match writer.append(reach.again()) {
+        Ok(()) => true,
+        Err(_) => false,
+    }
 }
 
-/// Shows the reach. It waits for those that still read what was shown before the last time.
-pub fn show<R: Wait>(rt: &R, mut writer: BoardWriter, reach: &Reach) -> BoardWriter
+/// Shows the reach. It waits for those that still read what was shown before the last time. False says that there was no memory for
+/// the reach, so that it isn't shown yet.
+pub fn show<R: Wait>(rt: &R, mut writer: BoardWriter, reach: &Reach) -> (BoardWriter, bool)
     requires { Writes reach.now.ledger (view writer.desk.place) writer.desk.shown.value (drop writer.behind writer.log.items) }
-    ensures { Writes reach.now.ledger (view result.desk.place) result.desk.shown.value (drop result.behind result.log.items) }
+    ensures writes { Writes reach.now.ledger (view result.0.desk.place) result.0.desk.shown.value (drop result.0.behind result.0.log.items) }
+    ensures shown { result.1 ≡ true → result.0.desk.shown.value ≡ reach.now }
 {
-    let _ = has_room(&mut writer, reach);
+    let is_last = has_room(&mut writer, reach);
     let (writer, _) = writer.publish_as::<Showing, R>(rt);
-    writer
+    (writer, is_last)
 }
 
 /// A reader of the board, which knows the ledger. It fails where the board has no place left, or for want of memory.
 pub fn reader_of(writer: &mut BoardWriter, reach: &Reach) -> Result<BoardReader, AllocError>
     requires { Writes reach.now.ledger (view writer.old.desk.place) writer.old.desk.shown.value (drop writer.old.behind writer.old.log.items) }
     ensures writer { Writes reach.now.ledger (view writer.new.desk.place) writer.new.desk.shown.value (drop writer.new.behind writer.new.log.items) }
+    ensures shown { writer.new.desk.shown ≡ writer.old.desk.shown }
     ensures reader { IfOk result (λ r. Names reach.now.ledger (view r.place)) }
 {
     let mut reader = writer.factory().reader()?;

@@ -14,14 +14,18 @@ use std::marker::Model;
 use std::sync::Wait;
 
 /// The ledger of a history and the board that shows how far it has come. Contracts see the ledger.
+// It keeps its runtime, because its end waits for the views that read: so a shown book may be dropped like any other. The number of
+// views is chosen at the opening, since each showing visits each view's place.
 pub struct Stage<R: Wait + Drop> {
     ledger: Ledger,
     writer: Option<BoardWriter>,
+    // Whether there was no memory to show what the ledger has.
+    is_late: bool,
     rt: R,
 }
 
 impl<R: Wait + Drop> Model for Stage<R> {
-    ghost use Rattle.std.specs.Prelude.{IsSome, IfSome, drop};
+    ghost use Rattle.std.specs.Prelude.{◌≡◌, IsSome, IfSome, drop, false};
     ghost use Rattle.left_right.specs.Sides.{view as known_at};
     ghost use Rattle.history_views.specs.Growing.{ReachView};
     ghost use Rattle.history_views.specs.Boards.{Writes};
@@ -31,7 +35,8 @@ impl<R: Wait + Drop> Model for Stage<R> {
     ghost view = { λ s. s.ledger };
 
     ghost invariant = { λ s. IsSome s.writer
-        × IfSome s.writer (λ w. Writes s.ledger.ledger (known_at w.desk.place) w.desk.shown.value (drop w.behind w.log.items)) };
+        × IfSome s.writer (λ w. Writes s.ledger.ledger (known_at w.desk.place) w.desk.shown.value (drop w.behind w.log.items))
+        × IfSome s.writer (λ w. s.is_late ≡ false → w.desk.shown.value ≡ s.ledger) };
 }
 
 impl<R: Wait + Drop> Stage<R> {
@@ -45,6 +50,7 @@ impl<R: Wait + Drop> Stage<R> {
         Ok(Stage {
             ledger,
             writer: Some(writer),
+            is_late: false,
             rt,
         })
     }
@@ -70,7 +76,7 @@ impl<R: Wait + Drop> Stage<R> {
         ensures not { result ≡ false → self.new ≡ self.old }
     {
         let writer = self.writer.take().unwrap();
-        let (writer, shown) = show_on(&self.rt, writer, &mut self.ledger, book);
+        let (writer, shown) = show_on(&self.rt, writer, &mut self.ledger, &mut self.is_late, book);
         put(&mut self.writer, writer);
         shown
     }
@@ -88,6 +94,7 @@ impl<R: Wait + Drop> Drop for Stage<R> {
         let Stage {
             ledger: _,
             writer,
+            is_late: _,
             rt,
         } = self;
         if let Some(writer) = writer {
@@ -96,24 +103,32 @@ impl<R: Wait + Drop> Drop for Stage<R> {
     }
 }
 
-// Adds the book to the ledger, and shows how far it has come then. The memory for that is taken first.
+// Adds the book to the ledger, and shows how far it has come then.
+//
+// An operation that changes nothing takes the memory before the ledger gets the entry. What is put on the board after that can't fail
+// any more. The kit's contract doesn't say so: the board is late where it does.
 fn show_on<R: Wait>(
     rt: &R,
     mut writer: BoardWriter,
     ledger: &mut Ledger,
+    is_late: &mut bool,
     book: &Book,
 ) -> (BoardWriter, bool)
+    requires shown { is_late.old ≡ false → writer.desk.shown.value ≡ ledger.old }
     requires writes { Writes ledger.old.ledger (view writer.desk.place) writer.desk.shown.value (drop writer.behind writer.log.items) }
     requires later { IsLater (last_book ledger.old.log) book.now }
     ensures writes { Writes ledger.old.ledger (view result.0.desk.place) result.0.desk.shown.value (drop result.0.behind result.0.log.items) }
     ensures ledger { ledger.new.ledger ≡ ledger.old.ledger }
     ensures shown { result.1 ≡ true → ledger.new.log ≡ ledger.old.log ++ book.now ∷ [] }
     ensures not { result.1 ≡ false → ledger.new ≡ ledger.old }
+    ensures board { is_late.new ≡ false → result.0.desk.shown.value ≡ ledger.new }
 {
     if !has_room(&mut writer, ledger.reach()) || !ledger.advance(book) {
         return (writer, false);
     }
-    (show(rt, writer, ledger.reach()), true)
+    let (writer, shown) = show(rt, writer, ledger.reach());
+    *is_late = !shown;
+    (writer, true)
 }
 
 // Puts a writer back that was taken out.

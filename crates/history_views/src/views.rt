@@ -92,4 +92,14 @@ impl View {
     {
         self.reach.is_behind(&other.reach)
     }
+
+    /// Whether what this view has seen is a beginning of what somebody knows of the history, as who finished its book. It is false where
+    /// the view has seen more.
+    pub fn is_within(&self, reach: &Reach) -> bool
+        requires { reach.now.ledger ≡ self.now.ledger }
+        ensures within { result ≡ true → Exceeds self.now reach.now }
+        ensures not { result ≡ false → Exceeds reach.now self.now }
+    {
+        !reach.is_behind(&self.reach)
+    }
 }

@@ -1,4 +1,4 @@
-//! How long a daemon is kept.
+//! How long a daemon is kept. It stands below requirements and frames, which both have it.
 ghost use Rattle.std.specs.Prelude.{◌≡◌};
 ghost use Rattle.item_actions.specs.Words.{keep_alive_word, keep_alive_mode_of};
 

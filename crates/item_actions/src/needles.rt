@@ -1,10 +1,15 @@
 //! The bytes whose places in a file the action `count` counts.
+//!
+//! A needle whose first byte stands in it once can't overlap itself, so a piece is searched by the action of the whole. Any other one is
+//! searched place by place, since it matters where the last one ended. Between two pieces the last bytes, fewer than the needle has, are
+//! joined to as many of the next (edge.rt).
 ghost use Rattle.std.specs.Prelude.{◌≡◌, ◌<◌, ◌≤◌, ◌⊎◌, length, MatchOption};
 
 use crate::limits::MAX_NEEDLE_BYTES;
 use std::marker::Model;
 
 /// What is searched for: 1 to 64 bytes.
+// An array in place of a `Vec`: so an action is copied like a number.
 #[derive(Clone, Copy)]
 pub struct Needle {
     bytes: [u8; MAX_NEEDLE_BYTES],

@@ -22,6 +22,8 @@ pub type RuledQueue = RuledArrayQueue<u32, PassView, FirstInFirstOut>;
 
 /// A queue of work tickets, each with the number of a unit of work. It gives them out first in, first out, each at most
 /// once. Threads share it by `&`, each with a seat of its own.
+// A line is two lists, popped and queued, in place of one list and a number: a pop takes a head, a push adds an end. `finish` takes as
+// many seats as there are, in any order: a seat can't be copied, so as many are all of them.
 #[derive(Drop)]
 pub struct Tickets {
     queue: RuledQueue,
@@ -71,7 +73,8 @@ impl Tickets {
 
     /// Puts a ticket at the end of the line, unless that is full.
     ///
-    /// False means that as many tickets as there is room for were queued at a moment of the call. Then nothing was pushed.
+    /// False means that as many tickets as there is room for were queued at a moment of the call. Then nothing was pushed. Contracts
+    /// say so of a line that goes on from the one that the seat saw. A seat that is alone knows that line.
     pub fn push<R: Wait>(&self, rt: &R, seat: &mut TicketSeat, unit: u32) -> bool
         requires { seat.old.queue ≡ self.now.queue }
         ensures queue { seat.new.queue ≡ seat.old.queue }
@@ -82,7 +85,8 @@ impl Tickets {
         push_within::<Brand, R>(rt, &self.queue, &mut seat.pass, unit)
     }
 
-    /// Takes the first ticket off the line, if there is one. None means that no ticket was queued at a moment of the call.
+    /// Takes the first ticket off the line, if there is one. None means that no ticket was queued at a moment of the call, of which
+    /// contracts say what they say of a full line.
     pub fn pop<R: Wait>(&self, rt: &R, seat: &mut TicketSeat) -> Option<u32>
         requires { seat.old.queue ≡ self.now.queue }
         ensures queue { seat.new.queue ≡ seat.old.queue }
@@ -95,7 +99,7 @@ impl Tickets {
 
     /// Whether no ticket is queued. It doesn't wait.
     ///
-    /// True means that none was queued at a moment of the call.
+    /// True means that none was queued at a moment of the call. Of false contracts say nothing.
     pub fn is_empty(&self, seat: &mut TicketSeat) -> bool
         requires { seat.old.queue ≡ self.now.queue }
         ensures same { seat.new ≡ seat.old }
