@@ -6,12 +6,14 @@
 
 A picture has to be well-formed XML. Each entry has to have one tick, in order, whose title is its line. Each rectangle below the
 legend has to be one of the replay's: its class, its place, its size and its title, and each of the replay's has to be there. So
-have the two curves of each part, and the whole run above the parts: its curves, its strip and its rows of workers. The picture has
-to be the narrowest of five whose height viewers draw. With --render the pictures are also rendered by rsvg-convert, which draws up
+have the two curves of each part, the rows that tell how many locks are folded, and the whole run above the parts: its curves, its
+strip and its rows of workers. The picture has to be the first of the formats in which viewers draw it: five widths with no lock
+folded, then with those that nobody parked, then with all. With --render the pictures are also rendered by rsvg-convert, which draws up
 to 32,767 px, and by chromium where it is there, in colour and in grey, and chromium's tree has to have the ticks' titles.
 
 With --made it makes long histories itself: 45,056 entries, one entry with many locks, and many entries with 4,096 locks each, in two
-sizes, and tells the time that the program took for each. The first is compared and rendered too.
+sizes, and tells the time that the program took for each. The first is compared and rendered too, and so are a smaller one of many
+locks and one whose locks are all parked.
 """
 import collections
 import pathlib
@@ -23,8 +25,11 @@ import xml.etree.ElementTree as xml
 
 SVG = "{http://www.w3.org/2000/svg}"
 LEFT, CURVE = 76, 48
-# The widths of the plots, of which the first is taken whose picture isn't so high, and the height of the lane of a parked lock.
-PLOTS, VIEWED, LANE = (1190, 2380, 4760, 9520, 19040), 32768, 3
+# The formats, of which the first is taken whose picture isn't so high: the width of the plot, and which locks are folded. The height of
+# the lane of a parked lock, and of the row of the folded ones.
+NONE, UNPARKED, ALL = range(3)
+FORMATS = [(plot, folding) for folding in (NONE, UNPARKED, ALL) for plot in (1190, 2380, 4760, 9520, 19040)]
+VIEWED, LANE, FOLDED = 32768, 3, 14
 # The whole run above the parts: at most so many columns, their width, and where the strip, the curve and the rows of the workers begin.
 COLUMNS, COLUMN, STRIP, RUN, RUN_ROWS = 297, 4, 100, 116, 186
 Interval = collections.namedtuple("Interval", "subject since until worker how")
@@ -128,16 +133,23 @@ def scale_of(plot, workers, count):
 class Part:
     """The rectangles and the curves of the entries from `first` on, before `behind`, from `top` on."""
 
-    def __init__(self, run, first, behind, per, top):
+    def __init__(self, run, first, behind, per, top, folding):
         self.run, self.first, self.behind, self.per, self.top = run, first, behind, per, top
         self.rows = LARGE if run.workers <= 12 else SMALL
         shown = [i for i in run.intervals if i.since < behind and first < i.until and i.since < i.until]
-        self.locks = sorted({i.subject[-1] for i in shown if i.subject[0] in ("owned", "parked")})
+        all_locks = {i.subject[-1] for i in shown if i.subject[0] in ("owned", "parked")}
         # A lane below the lock's row for each worker that has parked it, by the lock and then the worker.
-        lanes = sorted({(i.subject[2], i.subject[1]) for i in shown if i.subject[0] == "parked"})
+        lanes = sorted({(i.subject[2], i.subject[1]) for i in shown if i.subject[0] == "parked" and folding != ALL})
+        self.locks = sorted(all_locks if folding == NONE else {lock for lock, _ in lanes})
+        folded = len(all_locks) - len(self.locks)
         self.lock_row = 14 if len(self.locks) <= 20 else 10
         self.locks_top = top + CURVE + 24 + run.workers * self.rows["row"] + 10
         self.bottom = self.locks_top + len(self.locks) * self.lock_row + len(lanes) * LANE
+        self.folded = []
+        if folded:
+            words = f"{folded} lock{'' if folded == 1 else 's'}{', never parked' if folding == UNPARKED else ''}"
+            self.folded.append((words, LEFT + 3, self.bottom + 10))
+            self.bottom += FOLDED
         row_of = {lock: place for place, lock in enumerate(self.locks)}
         self.lane_y = {lane: self.locks_top + (row_of[lane[0]] + 1) * self.lock_row + place * LANE for place, lane in enumerate(lanes)}
         above = collections.Counter(lock for lock, _ in lanes)
@@ -187,6 +199,8 @@ class Part:
         width = self.x(min(interval.until, self.behind)) - x
         title = self.run.title_of(interval)
         fails = interval.how == "failed" and interval.until <= self.behind
+        if kind in ("owned", "parked") and interval.subject[-1] not in self.lock_y:
+            return
         if kind == "parked":
             self.put(f"m{hue}", x, self.lane_y[interval.subject[2], interval.subject[1]], width, 2, title)
             return
@@ -271,12 +285,12 @@ class Whole:
                  f"part {number}: entries {part.first} to {part.behind - 1}") for number, part in enumerate(parts, 1)]
 
 
-def parts_in_plot(run, plot):
+def parts_in_format(run, plot, folding):
     per, size = scale_of(plot, run.workers, run.count)
     heading = 24 if run.count > size else 0
     top = Whole(run).bottom + 30 + heading if heading else 86
     for first in range(1, run.count + 1, size):
-        part = Part(run, first, min(first + size, run.count + 1), per, top)
+        part = Part(run, first, min(first + size, run.count + 1), per, top, folding)
         yield part
         top = part.bottom + 30 + heading
 
@@ -287,11 +301,11 @@ def height_of(parts):
 
 def parts_of(run):
     """The width of the plot, and the parts in it."""
-    for plot in PLOTS:
-        parts = list(parts_in_plot(run, plot))
+    for plot, folding in FORMATS:
+        parts = list(parts_in_format(run, plot, folding))
         if height_of(parts) < VIEWED:
             return plot, parts
-    return PLOTS[0], list(parts_in_plot(run, PLOTS[0]))
+    return FORMATS[0][0], list(parts_in_format(run, *FORMATS[0]))
 
 
 def ticks_in(root):
@@ -324,6 +338,9 @@ def compare(name, text, picture):
     fills = [(path.get("class"), path.get("d"), path.find(SVG + "title").text) for path in root.iter(SVG + "path")
              if path.get("class")[0] in "pm" and path.find(SVG + "title") is not None]
     assert fills == (whole.fills if whole else []), f"{name}: a worker's row of the whole run is wrong"
+    folded = [(text.text, int(text.get("x")), int(text.get("y"))) for text in root.iter(SVG + "text")
+              if text.get("class") == "a" and " lock" in text.text]
+    assert folded == [row for part in parts for row in part.folded], f"{name}: the folded locks are {folded}"
     width, height = LEFT + plot + 14, height_of(parts)
     for words in ("width", str(width)), ("height", str(height)), ("viewBox", f"0 0 {width} {height}"):
         assert root.get(words[0]) == words[1], f"{name}: its {words[0]} is {root.get(words[0])}, not {words[1]}"
@@ -376,6 +393,13 @@ def wide_history(count, locks):
     return made_history(8, locks, entries)
 
 
+def parked_history(workers, locks):
+    """Each lock is parked by one worker after the other."""
+    entries = [f"{n + 1} w{n // 2 % workers} " + ("park 0 | " + ", ".join(f"park {lock}" for lock in range(locks)) if n % 2 == 0
+               else "resume 0 | " + ", ".join(f"unpark {lock}" for lock in range(locks))) for n in range(2 * workers)]
+    return made_history(workers, locks, entries)
+
+
 def drawn(program, name, text):
     """The picture that a program draws, and what that took."""
     before = resource.getrusage(resource.RUSAGE_CHILDREN)
@@ -392,6 +416,11 @@ def draw_made(program, folder):
     assert max(width, height) < VIEWED, f"{width} x {height} px"
     print(f"{told}, {ticks} ticks, {rects} rectangles, {width} x {height} px")
     render(picture, (width, height), folder / "long")
+    for name, text in ("9 entries of 4,000 locks", wide_history(9, 4000)), ("parked locks", parked_history(8, 4000)):
+        picture, told = drawn(program, name, text)
+        ticks, rects, width, height = compare(name, text.decode(), picture)
+        assert max(width, height) < VIEWED, f"{width} x {height} px"
+        print(f"{told}, {ticks} ticks, {rects} rectangles, {width} x {height} px")
     for count, locks in (1, 32000), (1, 128000), (300, 4096), (1200, 4096):
         print(drawn(program, f"{count} entries of {locks} locks", wide_history(count, locks))[1])
 

@@ -11,9 +11,10 @@ use Rattle.run_spans.specs.Levels.{levels_of, nothing_out}
 use Rattle.run_spans.specs.Spans.{spans_of}
 use Rattle.run_picture.specs.Header.{opening_text, desc_text, title_text, second_text}
 use Rattle.run_picture.specs.Laws.{layout_at}
-use Rattle.run_picture.specs.Panels.{height_of}
-use Rattle.run_picture.specs.Picture.{head_text, style_text, legend_text, panels_text, ticks_of, width_of, plot_in, panels_in, picture_text, totals_of, whole_text}
-use Rattle.run_picture.specs.declared.layout.Layout.{Layout}
+use Rattle.picture_layout.specs.Panels.{height_of}
+use Rattle.run_picture.specs.Picture.{head_text, style_text, legend_text, panels_text, ticks_of, width_of, format_in, panels_in, picture_text, totals_of, whole_text}
+use Rattle.picture_layout.specs.declared.layout.Folding.TheVariants.{Unfolded}
+use Rattle.picture_layout.specs.declared.layout.Layout.{Layout}
 use Rattle.run_picture.proofs.Marked.{calm, calm_both, calm_ticks, last_mark}
 use Rattle.run_picture.proofs.Telling.{foot, ticks_by, same_number, same_ticks}
 use Rattle.run_picture.proofs.Ticking.{all_ticks}
@@ -24,11 +25,11 @@ whole_in h = whole_text h (levels_of nothing_out h.entries) (spans_of h.entries)
 
 -- what stands above the ticks
 unfoldable above : HistoryView → List ℕ
-above h = head_text h (plot_in h) (height_of (panels_in h)) (totals_of h (levels_of nothing_out h.entries) (spans_of h.entries))
+above h = head_text h (format_in h).plot (height_of (panels_in h)) (totals_of h (levels_of nothing_out h.entries) (spans_of h.entries))
     ++ whole_in h ++ panels_text h (levels_of nothing_out h.entries) (panels_in h)
 
 no_layout : Layout
-no_layout = record { first = 0; behind = 0; per = 0; top = 0; workers = 0; locks = 0; lanes = 0 }
+no_layout = record { first = 0; behind = 0; per = 0; top = 0; workers = 0; locks = 0; lanes = 0; folded = 0; folding = Unfolded }
 
 abbrev ticks_in : HistoryView → List ℕ
 ticks_in h = ticks_by (λ n. layout_at no_layout (panels_in h) n) 1 h.entries
@@ -129,17 +130,17 @@ behind_of h =
 nested_front : (a b c d e f w g h i j : List ℕ) → (a ++ b ++ c ++ d ++ e ++ f) ++ w ++ g ++ h ++ i ++ j ≡ a ++ (b ++ (c ++ (d ++ (e ++ (f ++ (w ++ (g ++ (h ++ (i ++ j)))))))))
 nested_front a b c d e f w g h i j = simp append_assoc
 
-front_form : (h : HistoryView) → picture_text h ≡ opening_text (width_of (plot_in h)) (height_of (panels_in h)) ++ (desc_text h.workers h.max h.parallel h.locks ++ behind_of h)
+front_form : (h : HistoryView) → picture_text h ≡ opening_text (width_of (format_in h).plot) (height_of (panels_in h)) ++ (desc_text h.workers h.max h.parallel h.locks ++ behind_of h)
 unfolding head_text behind_of
 front_form h =
-    nested_front (opening_text (width_of (plot_in h)) (height_of (panels_in h))) (desc_text h.workers h.max h.parallel h.locks) style_text (title_text h.workers h.max (length h.entries))
+    nested_front (opening_text (width_of (format_in h).plot) (height_of (panels_in h))) (desc_text h.workers h.max h.parallel h.locks) style_text (title_text h.workers h.max (length h.entries))
     (second_text (totals_of h (levels_of nothing_out h.entries) (spans_of h.entries))) legend_text (whole_in h) (panels_text h (levels_of nothing_out h.entries) (panels_in h))
     (codes "<g>\n") (flat_map (ticks_of h) (panels_in h)) foot
 
 same_settings : (h k : HistoryView) → HistoryFits h → HistoryFits k → picture_text h ≡ picture_text k → SameSettings h.workers k.workers h.max k.max h.parallel k.parallel h.locks k.locks
 same_settings h k a b is =
     same_desc h.workers k.workers h.max k.max h.parallel k.parallel h.locks k.locks (behind_of h) (behind_of k) a.head b.head
-    (same_opening (width_of (plot_in h)) (width_of (plot_in k)) (height_of (panels_in h)) (height_of (panels_in k)) _ _ (sym (front_form h) ∙ (is ∙ front_form k)))
+    (same_opening (width_of (format_in h).plot) (width_of (format_in k).plot) (height_of (panels_in h)) (height_of (panels_in k)) _ _ (sym (front_form h) ∙ (is ∙ front_form k)))
 
 history_is : (h k : HistoryView) → SameSettings h.workers k.workers h.max k.max h.parallel k.parallel h.locks k.locks → h.entries ≡ k.entries → h ≡ k
 history_is h k same es =

@@ -10,7 +10,7 @@ use Rattle.history_text.specs.Text.{numbered}
 use Rattle.run_picture.specs.Laws.{is_plain, all_plain}
 use Rattle.run_picture.specs.Shapes.{area_text, rect_begin}
 use Rattle.run_picture.specs.Ticks.{line_of, line_title, tick_area, tick_bar, skip_area, skip_bar, skip_where, cross_at, cross_text, more_marks, marks_of}
-use Rattle.run_picture.specs.declared.layout.Layout.{Layout}
+use Rattle.picture_layout.specs.declared.layout.Layout.{Layout}
 use Rattle.run_picture.specs.declared.shapes.Area.{Area}
 use Rattle.run_picture.proofs.Plain.{number_plain, line_plain}
 

@@ -9,7 +9,7 @@ use Rattle.file_access.specs.PageView.{PageView, Adds}
 use Rattle.file_access.proofs.lemmas.Telling.{adds_as, adds_then}
 use Rattle.history_text.specs.Text.{numbered}
 use Rattle.run_picture.specs.Picture.{within}
-use Rattle.run_picture.specs.declared.layout.Layout.{Layout}
+use Rattle.picture_layout.specs.declared.layout.Layout.{Layout}
 use Rattle.history_text.proofs.lemmas.Numbering.{adds_next, slice_get_through, take_next}
 
 pub adds_read : {X : Type 0} {a b c : SinkView} {p q r : PageView} (line : ℕ → X → List ℕ) (n : ℕ) (xs : List X) (i m : ℕ) (x : X) → m ≡ n + i → i < length xs → x ≡ get_or xs i x

@@ -1,7 +1,15 @@
 -- How many numbers of a rising list are smaller than another: where a search for it ends.
-use Rattle.std.proofs.Common.{◌≡◌, ◌≤◌, ℕ, zero, suc, ◌+◌, List, length, take, Bool, true, false, refl, ap, ◌∙◌, sym, arith}
-use Rattle.std.specs.List.{count_by}
-use Rattle.std.specs.List.Sorted.{IsPartitionPoint}
+use Rattle.std.proofs.Common.{◌≡◌, ◌≤◌, ◌<◌, ℕ, zero, suc, ◌+◌, List, length, take, get_or, Bool, true, false, refl, ap, ◌∙◌, sym, arith}
+use Rattle.std.specs.Prelude.{Result, Ok, Err, nat_eq, nat_lt}
+use Rattle.std.specs.Ordering.{nat_cmp}
+use Rattle.std.specs.Result.{MatchResult, is_ok}
+use Rattle.std.specs.List.{count_by, list_any}
+use Rattle.std.specs.List.Sorted.{IsPartitionPoint, IsBinarySearchResult, IsStrictlySortedBy}
+use Rattle.std.proofs.lemmas.Bool.{eq-eqb, ne_eqb, ltb-true, ltb-false}
+use Rattle.std.proofs.lemmas.List.Elements.{All-from_get_or}
+use Rattle.std.proofs.lemmas.List.Folds.{list_any_at, list_any_none}
+use Rattle.std.proofs.lemmas.List.Sorted.{searched}
+use Rattle.std.proofs.lemmas.Map.Keys.{non_decreasing_from_sorted}
 use Rattle.std.proofs.lemmas.List.{take_all}
 use Rattle.std.proofs.lemmas.List.Sums.{count_by_more_yes, count_by_more_no}
 
@@ -30,3 +38,17 @@ behind p xs r d within point (suc n) less =
 pub count_is : {X : Type 0} (p : X → Bool) (xs : List X) (r n : ℕ) (d : X) → r + n ≡ length xs → IsPartitionPoint (λ y. p y ≡ true) (λ y. p y ≡ false) xs r → count_by p xs ≡ r
 count_is p xs r n d all point =
     ap (λ l. count_by p l) (sym (take_all (r + n) xs (omega (arith, all)))) ∙ behind p xs r d (omega (arith, all)) point n (omega (arith, all))
+
+-- a search finds exactly what stands in a rising list
+searched_by : (xs : List ℕ) (x : ℕ) (r : Result ℕ ℕ)
+    → MatchResult r (λ i. (i < length xs) × (get_or xs i 0 ≡ x)) (λ i. (i ≤ length xs) × ((k : ℕ) → k < i → get_or xs k 0 < x) × ((k : ℕ) → i ≤ k → k < length xs → x < get_or xs k 0))
+    → is_ok r ≡ list_any (λ m. nat_eq m x) xs
+searched_by xs x (Ok i) at = sym (list_any_at (λ m. nat_eq m x) xs i 0 at.0 (eq-eqb (get_or xs i 0) x at.1))
+searched_by xs x (Err i) at = sym (list_any_none (λ m. nat_eq m x) xs (All-from_get_or (λ m. nat_eq m x ≡ false) xs 0 (λ k within. other k within (nat_lt k i) refl)))
+  where
+    other : (k : ℕ) → k < length xs → (b : Bool) → nat_lt k i ≡ b → nat_eq (get_or xs k 0) x ≡ false
+    other k within true before = ne_eqb (get_or xs k 0) x (λ same. omega (arith, same, at.1 k (ltb-true k i before)))
+    other k within false past = ne_eqb (get_or xs k 0) x (λ same. omega (arith, same, at.2 k (ltb-false k i past) within))
+
+pub searched_for : (xs : List ℕ) (x : ℕ) (r : Result ℕ ℕ) → IsBinarySearchResult (λ y. nat_cmp y x) xs r → IsStrictlySortedBy nat_cmp xs → is_ok r ≡ list_any (λ m. nat_eq m x) xs
+searched_for xs x r found rises = searched_by xs x r (searched xs x r found (λ i j less within. non_decreasing_from_sorted xs rises i j 0 less within))

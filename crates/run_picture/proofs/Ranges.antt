@@ -1,5 +1,5 @@
 -- The texts of numbers that follow one another.
-use Rattle.std.proofs.Common.{◌≡◌, ℕ, ◌+◌, List, [], ◌∷◌, ◌++◌, map, sym, ap, ap₂, ◌∙◌, append-nil, arith}
+use Rattle.std.proofs.Common.{◌≡◌, ℕ, ◌+◌, List, [], ◌∷◌, ◌++◌, map, sym, ap, ◌∙◌, append-nil, arith}
 use Rattle.std.specs.List.{flat_map, range_with_len}
 use Rattle.std.proofs.lemmas.List.FromFn.{map-range_with_len_more}
 use Rattle.std.proofs.lemmas.List.Folds.{flat_map-map}
@@ -24,8 +24,3 @@ adds_ranged f a n j is before one = adds_as (sym (one_more f a n j is)) (adds_th
 
 pub adds_counted : {p q r : SinkView} {x y z : PageView} (f : ℕ → List ℕ) (j : ℕ) → Adds p x q y (flat_map f (range_with_len 0 j)) → Adds q y r z (f j) → Adds p x r z (flat_map f (range_with_len 0 (j + 1)))
 adds_counted f j before one = adds_as (sym (one_more f 0 j j (omega arith))) (adds_then before one)
-
--- one more of those that are made of numbers from a on
-pub made_more : {X : Type 0} (f : ℕ → X) (a p j : ℕ) (xs ys : List X) (x : X) → a + p ≡ j → ys ≡ xs ++ x ∷ [] → xs ≡ map f (range_with_len a p) → x ≡ f j
-    → ys ≡ map f (range_with_len a (p + 1))
-made_more f a p j xs ys x place pushed before here = pushed ∙ (ap₂ (λ l y. l ++ y ∷ []) before here ∙ sym (map-range_with_len_more f a p j place))

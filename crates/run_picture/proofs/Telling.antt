@@ -15,7 +15,7 @@ use Rattle.history_text.proofs.lemmas.Splits.{SameParts}
 use Rattle.run_picture.specs.Laws.{is_plain}
 use Rattle.run_picture.specs.Shapes.{area_text}
 use Rattle.run_picture.specs.Ticks.{line_of, tick_area, skip_area, skip_bar, skip_where, cross_at, cross_text, more_marks, marks_of}
-use Rattle.run_picture.specs.declared.layout.Layout.{Layout}
+use Rattle.picture_layout.specs.declared.layout.Layout.{Layout}
 use Rattle.run_picture.specs.declared.shapes.Area.{Area}
 use Rattle.run_picture.proofs.Plain.{line_plain}
 

@@ -10,13 +10,13 @@ use Rattle.history_text.specs.HistoryView.{HistoryView}
 use Rattle.history_text.specs.Text.{numbered}
 use Rattle.run_spans.specs.Spans.{spans_of}
 use Rattle.run_spans.specs.declared.spans.Span.{Span}
-use Rattle.run_picture.specs.Layout.{scale_of, whole, cut, ceil_div, narrow, entries_in, rows_bottom}
+use Rattle.picture_layout.specs.Layout.{scale_of, whole, cut, ceil_div, narrow, entries_in, rows_bottom}
 use Rattle.run_picture.specs.Laws.{layout_at}
-use Rattle.run_picture.specs.Panels.{PanelView, panel_of, panels_from, heading, first_top}
-use Rattle.run_picture.specs.Picture.{ticks_of, plot_in, panels_in}
+use Rattle.picture_layout.specs.Panels.{PanelView, panel_of, panels_from, heading, first_top}
+use Rattle.run_picture.specs.Picture.{ticks_of, format_in, panels_in}
 use Rattle.run_picture.specs.Ticks.{marks_of}
-use Rattle.run_picture.specs.declared.layout.Layout.{Layout}
-use Rattle.run_picture.specs.declared.layout.Scale.{Scale}
+use Rattle.picture_layout.specs.declared.layout.Format.{Format}
+use Rattle.picture_layout.specs.declared.layout.Layout.{Layout}
 
 pub numbered_append : {X : Type 0} (line : ℕ → X → List ℕ) (n : ℕ) (xs ys : List X) → numbered line n (xs ++ ys) ≡ numbered line n xs ++ numbered line (n + length xs) ys
 numbered_append line n [] ys = let at : n ≡ n + 0 = omega arith in ap (λ m. numbered line m ys) at
@@ -59,12 +59,12 @@ exactly_within es first behind some less few =
     omega (arith, long, rest, some, less, few)
 
 -- where the panels reach the end, their ticks are those of all entries
-ticks_from : (h : HistoryView) (other : Layout) (n workers : ℕ) (s : Scale) (spans : List Span) (end gap first top : ℕ) → 1 ≤ first → first ≤ end → end ≡ length h.entries + 1
-    → reached n s.size end first ≡ end
+ticks_from : (h : HistoryView) (other : Layout) (n workers : ℕ) (s : _) (spans : List Span) (end gap first top : ℕ) → 1 ≤ first → first ≤ end → end ≡ length h.entries + 1
+    → gap ≡ 30 + heading s → reached n s.size end first ≡ end
     → numbered (mark_at other (panels_from n workers s spans end gap first top)) first (drop (first - 1) h.entries) ≡ flat_map (ticks_of h) (panels_from n workers s spans end gap first top)
-ticks_from h other zero workers s spans end gap first top some less all at =
+ticks_from h other zero workers s spans end gap first top some less all apart at =
     ap (numbered (mark_at other []) first) (drop_all (first - 1) h.entries (omega (arith, at, all)))
-ticks_from h other (suc n) workers s spans end gap first top some less all at =
+ticks_from h other (suc n) workers s spans end gap first top some less all apart at =
     let behind = min (first + s.size) end in
     let p = panel_of workers s spans first behind top in
     let ps = panels_from n workers s spans end gap behind (rows_bottom p.layout + gap) in
@@ -83,7 +83,7 @@ ticks_from h other (suc n) workers s spans end gap first top some less all at =
     ap (numbered (mark_at other (p ∷ ps)) first) split
     ∙ (numbered_append (mark_at other (p ∷ ps)) first here rest
     ∙ ap₂ (λ a b. a ++ b) mine
-    (ap (λ m. numbered (mark_at other (p ∷ ps)) m rest) next ∙ (others ∙ ticks_from h other n workers s spans end gap behind (rows_bottom p.layout + gap) (omega (arith, some, less)) (omega arith) all at)))
+    (ap (λ m. numbered (mark_at other (p ∷ ps)) m rest) next ∙ (others ∙ ticks_from h other n workers s spans end gap behind (rows_bottom p.layout + gap) (omega (arith, some, less)) (omega arith) all apart at)))
 
 some_quotient : (a b : ℕ) → 0 < b → b ≤ a → 1 ≤ a / b
 some_quotient a b some less = at (a / b) (lt-div-mul-add some)
@@ -111,20 +111,20 @@ whole_covers (suc n) =
     let same : min (suc n) 1 * max (suc n) 1 ≡ 1 * suc n = ap₂ (λ a b. a * b) one all in
     omega (arith, same)
 
-scale_covers : (plot workers count : ℕ) → count ≤ (scale_of plot workers count).panels * (scale_of plot workers count).size
-scale_covers plot workers count = at (nat_le count (entries_in plot workers)) refl
+scale_covers : (t : Format) (workers count : ℕ) → count ≤ (scale_of t workers count).panels * (scale_of t workers count).size
+scale_covers t workers count = at (nat_le count (entries_in t.plot workers)) refl
   where
-    at : (b : Bool) → nat_le count (entries_in plot workers) ≡ b → count ≤ (scale_of plot workers count).panels * (scale_of plot workers count).size
+    at : (b : Bool) → nat_le count (entries_in t.plot workers) ≡ b → count ≤ (scale_of t workers count).panels * (scale_of t workers count).size
     at true s =
-        subst (λ (z : Scale). count ≤ z.panels * z.size) (sym (ap (λ b. cond b (whole plot count) (cut count (narrow workers) (ceil_div count (ceil_div count (entries_in plot workers))))) s)) (whole_covers count)
+        subst (λ (z : _). count ≤ z.panels * z.size) (sym (ap (λ b. cond b (whole t count) (cut t.folding count (narrow workers) (ceil_div count (ceil_div count (entries_in t.plot workers))))) s)) (whole_covers count)
     at false s =
-        subst (λ (z : Scale). count ≤ z.panels * z.size) (sym (ap (λ b. cond b (whole plot count) (cut count (narrow workers) (ceil_div count (ceil_div count (entries_in plot workers))))) s))
-        (cut_covers plot workers count (omega (arith, leb-false count (entries_in plot workers) s)))
+        subst (λ (z : _). count ≤ z.panels * z.size) (sym (ap (λ b. cond b (whole t count) (cut t.folding count (narrow workers) (ceil_div count (ceil_div count (entries_in t.plot workers))))) s))
+        (cut_covers t.plot workers count (omega (arith, leb-false count (entries_in t.plot workers) s)))
 
 pub all_ticks : (h : HistoryView) (other : Layout) → flat_map (ticks_of h) (panels_in h) ≡ numbered (mark_at other (panels_in h)) 1 h.entries
 all_ticks h other =
     let count = length h.entries in
-    let s = scale_of (plot_in h) h.workers count in
+    let s = scale_of (format_in h) h.workers count in
     let far : reached s.panels s.size (count + 1) 1 ≡ count + 1 =
-    (let is = reached_is s.panels s.size (count + 1) 1 (omega arith) in omega (arith, is, scale_covers (plot_in h) h.workers count)) in
-    sym (ticks_from h other s.panels h.workers s (spans_of h.entries) (count + 1) (30 + heading s) 1 (first_top h.workers s) (omega arith) (omega arith) refl far)
+    (let is = reached_is s.panels s.size (count + 1) 1 (omega arith) in omega (arith, is, scale_covers (format_in h) h.workers count)) in
+    sym (ticks_from h other s.panels h.workers s (spans_of h.entries) (count + 1) (30 + heading s) 1 (first_top h.workers s) (omega arith) (omega arith) refl refl far)

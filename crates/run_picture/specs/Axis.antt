@@ -3,10 +3,10 @@ use Rattle.std.specs.Prelude.{ℕ, ◌+◌, ◌-◌, ◌*◌, ◌%◌, nat_le, n
 use Rattle.std.specs.Prelude.{if◌then◌else◌}
 use Rattle.std.specs.List.{flat_map, range_with_len}
 use Rattle.std.specs.Int.{div_ceil}
-use Rattle.run_picture.specs.Layout.{x_of, right_of, row_y, rows_of, rows_bottom}
+use Rattle.picture_layout.specs.Layout.{x_of, right_of, row_y, rows_of, rows_bottom}
 use Rattle.run_picture.specs.Shapes.{down, across, label, label_number, hued, rect_text}
 use Rattle.run_picture.specs.WorkerMarks as marks
-use Rattle.run_picture.specs.declared.layout.Layout.{Layout}
+use Rattle.picture_layout.specs.declared.layout.Layout.{Layout}
 use Rattle.run_picture.specs.declared.shapes.Area.{Area}
 
 -- so many entries lie between two numbers: the first of 1, 2, 5, 10 and so on that gives 46 px

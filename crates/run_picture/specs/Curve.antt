@@ -1,26 +1,22 @@
 -- The curve of leases out, with the queued items over it.
-use Rattle.std.specs.Prelude.{ℕ, ◌+◌, ◌-◌, ◌*◌, ◌/◌, ◌^◌, nat_le, min, List, ◌++◌, codes, decimal, if◌then◌else◌}
+use Rattle.std.specs.Prelude.{ℕ, ◌+◌, ◌-◌, ◌/◌, ◌^◌, nat_le, min, List, ◌++◌, codes, decimal, if◌then◌else◌}
 use Rattle.history_text.specs.Text.{numbered}
 use Rattle.run_spans.specs.declared.levels.Level.{Level}
-use Rattle.run_picture.specs.Layout.{x_of, right_of, base_of}
+use Rattle.picture_layout.specs.Layout.{x_of, right_of, base_of, curve_height}
 use Rattle.run_picture.specs.Shapes.{number_words, text_begin, across, label, label_number}
-use Rattle.run_picture.specs.Totals.{queue_scale}
-use Rattle.run_picture.specs.declared.layout.Layout.{Layout}
-use Rattle.run_picture.specs.declared.totals.Peaks.{Peaks}
-
--- how high a value stands, where the most is at the top, 48 px up
-abbrev pub height_of : ℕ → ℕ → ℕ
-height_of value most = 48 * min value most / most
+use Rattle.picture_layout.specs.Totals.{queue_scale}
+use Rattle.picture_layout.specs.declared.layout.Layout.{Layout}
+use Rattle.picture_layout.specs.declared.totals.Peaks.{Peaks}
 
 -- to a height, and over the entry k
 abbrev pub stair : Layout → ℕ → ℕ → List ℕ
 stair f k height = number_words (codes "V") (base_of f - height) ++ number_words (codes "H") (x_of f (min (k + 1) (2 ^ 64 - 1)))
 
 abbrev pub out_stair : Layout → ℕ → ℕ → Level → List ℕ
-out_stair f most k v = stair f k (height_of v.out most)
+out_stair f most k v = stair f k (curve_height v.out most)
 
 abbrev pub queue_stair : Layout → ℕ → ℕ → Level → List ℕ
-queue_stair f most k v = stair f k (height_of v.queued most)
+queue_stair f most k v = stair f k (curve_height v.queued most)
 
 abbrev pub leases_text : Layout → ℕ → List Level → List ℕ
 leases_text f most levels =
@@ -39,7 +35,7 @@ scale_top y out max_leases = text_begin (codes "e") 70 y ++ decimal out ++ numbe
 -- a dashed line at the maximum of leases, where the scale reaches so far, and else a line where it ends
 abbrev pub max_line : Layout → ℕ → ℕ → List ℕ
 max_line f max_leases out =
-    if nat_le max_leases out then across (codes "h") 76 (base_of f - height_of max_leases out) (right_of f)
+    if nat_le max_leases out then across (codes "h") 76 (base_of f - curve_height max_leases out) (right_of f)
     else across (codes "f") 76 f.top (right_of f)
 
 abbrev pub scale_text : Layout → ℕ → Peaks → List ℕ

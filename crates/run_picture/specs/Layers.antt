@@ -10,7 +10,7 @@ use Rattle.run_picture.specs.WorkerBars.{task_text, lane_area, parked_bar, block
 use Rattle.run_picture.specs.ItemBars.{item_text}
 use Rattle.run_picture.specs.declared.worker_bars.Layer.{Layer}
 use Rattle.run_picture.specs.declared.worker_bars.Layer.TheVariants.{Tasks, Parked, Blocked, Leases, Items}
-use Rattle.run_picture.specs.declared.layout.Layout.{Layout}
+use Rattle.picture_layout.specs.declared.layout.Layout.{Layout}
 
 -- the bar of a span, by its subject, where it is of the layer
 abbrev pub bar_of : Layer → Layout → List Entry → Span → Subject → List ℕ

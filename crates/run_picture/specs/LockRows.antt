@@ -1,17 +1,20 @@
 -- The rows of the locks, and the lanes of the workers that have parked them.
-use Rattle.std.specs.Prelude.{ℕ, ◌+◌, ◌-◌, ◌*◌, nat_le, nat_lt, min, max, ◌&&◌, List, [], ◌++◌, length, codes, count_by}
+use Rattle.std.specs.Prelude.{ℕ, ◌+◌, ◌-◌, ◌*◌, nat_eq, nat_le, nat_lt, min, max, Bool, ◌&&◌, ◌||◌, List, [], ◌++◌, length, codes, count_by}
 use Rattle.std.specs.Prelude.{decimal, if◌then◌else◌}
-use Rattle.std.specs.List.{flat_map}
+use Rattle.std.specs.List.{flat_map, list_any}
 use Rattle.run_spans.specs.declared.spans.Span.{Span}
 use Rattle.run_spans.specs.declared.subjects.Subject.{Subject}
 use Rattle.run_spans.specs.declared.subjects.Subject.TheVariants.{Owned, Parked}
-use Rattle.run_picture.specs.Layout.{x_of, locks_y, lock_height, right_of}
-use Rattle.run_picture.specs.Panels.{PanelView, lane_of}
-use Rattle.run_picture.specs.Shapes.{across, hued, label_number, rect_text, titled}
+use Rattle.run_picture.specs.Header.{many_text}
+use Rattle.picture_layout.specs.Layout.{x_of, locks_y, lock_height, folded_y, right_of}
+use Rattle.picture_layout.specs.Panels.{PanelView, lane_of}
+use Rattle.run_picture.specs.Shapes.{across, text_begin, hued, label_number, rect_text, titled}
 use Rattle.run_picture.specs.Titles.{at_worker}
 use Rattle.run_picture.specs.WorkerBars.{room_for}
 use Rattle.run_picture.specs.WorkerMarks.{marks_text}
-use Rattle.run_picture.specs.declared.layout.Layout.{Layout}
+use Rattle.picture_layout.specs.declared.layout.Folding.{Folding}
+use Rattle.picture_layout.specs.declared.layout.Folding.TheVariants.{Unparked}
+use Rattle.picture_layout.specs.declared.layout.Layout.{Layout}
 use Rattle.run_picture.specs.declared.shapes.Area.{Area}
 
 -- so many of some numbers are smaller
@@ -67,20 +70,38 @@ owned_area p l s = lane_bar p.layout s (lock_y p l + 1) (lock_height p.layout - 
 unfoldable pub owned_lock : PanelView → ℕ → Span → List ℕ
 owned_lock p l s = owned_bar l s (owned_area p l s) ++ owner_label p.layout (owned_area p l s) s.worker.0
 
--- where a span says it of a lock
+-- a lock has a row of its own
+abbrev pub has_row : PanelView → ℕ → Bool
+has_row p l = nat_eq p.layout.folded 0 || list_any (λ m. nat_eq m l) p.locks
+
+-- where a span says it of a lock that has a row
 abbrev pub parked_by : Subject → PanelView → Span → List ℕ
-parked_by (Parked w l) p s = parked_lock p w.0 l.0 s
+parked_by (Parked w l) p s = if has_row p l.0 then parked_lock p w.0 l.0 s else []
 parked_by _ p s = []
 
 abbrev pub parked_where : PanelView → Span → List ℕ
 parked_where p s = parked_by s.subject p s
 
 abbrev pub owned_by : Subject → PanelView → Span → List ℕ
-owned_by (Owned l) p s = owned_lock p l.0 s
+owned_by (Owned l) p s = if has_row p l.0 then owned_lock p l.0 s else []
 owned_by _ p s = []
 
 abbrev pub owned_where : PanelView → Span → List ℕ
 owned_where p s = owned_by s.subject p s
 
+-- how many locks have no row of their own
+abbrev pub folded_kind : Folding → List ℕ
+folded_kind Unparked = codes ", never parked"
+folded_kind _ = []
+
+abbrev pub folded_row : Layout → List ℕ
+folded_row f =
+    text_begin (codes "a") 79 (folded_y f + 10) ++ many_text f.folded (codes " lock") ++ folded_kind f.folding ++ codes "</text>\n"
+    ++ across (codes "g") 76 (folded_y f + 13) (right_of f)
+
+abbrev pub folded_text : Layout → List ℕ
+folded_text f = if nat_lt 0 f.folded then folded_row f else []
+
 unfoldable pub lock_rows_text : PanelView → List ℕ
-lock_rows_text p = flat_map (lock_name p) p.locks ++ flat_map (parked_where p) p.shown ++ flat_map (owned_where p) p.shown
+lock_rows_text p =
+    flat_map (lock_name p) p.locks ++ flat_map (parked_where p) p.shown ++ flat_map (owned_where p) p.shown ++ folded_text p.layout

@@ -1,45 +1,20 @@
 -- The whole run, above the panels where there are several: a strip of the panels, the curve, and a row a worker.
-use Rattle.std.specs.Prelude.{ℕ, ◌≡◌, ◌+◌, ◌-◌, ◌*◌, ◌/◌, ◌%◌, nat_le, nat_lt, nat_eq, ◌&&◌, List, [], ◌++◌, map, length, codes, decimal}
+use Rattle.std.specs.Prelude.{ℕ, ◌+◌, ◌-◌, ◌*◌, ◌/◌, ◌%◌, nat_le, nat_lt, nat_eq, ◌&&◌, List, [], ◌++◌, length, codes, decimal}
 use Rattle.std.specs.Prelude.{if◌then◌else◌}
 use Rattle.std.specs.List.{flat_map, range_with_len}
 use Rattle.history_text.specs.Text.{numbered}
-use Rattle.history_text.specs.declared.read_histories.History.{History}
-use Rattle.run_spans.specs.declared.levels.Level.{Level}
-use Rattle.run_spans.specs.declared.spans.Span.{Span}
 use Rattle.run_picture.specs.WorkerBars.{room_for}
-use Rattle.run_picture.specs.Columns.{columns_of, by_column, out_height, queue_height, FillView, RunRowView, row_view, run_rows}
+use Rattle.picture_layout.specs.Columns.{FillView, RunRowView}
 use Rattle.run_picture.specs.Curve.{scale_text}
-use Rattle.run_picture.specs.Layout.{run_row_height, run_foot}
-use Rattle.run_picture.specs.Panels.{PanelView}
+use Rattle.picture_layout.specs.Layout.{run_row_height, run_foot}
+use Rattle.picture_layout.specs.Panels.{PanelView}
+use Rattle.picture_layout.specs.Overview.{RunView}
 use Rattle.run_picture.specs.Shapes.{number_words, hued, titled, label, label_number, down, across}
-use Rattle.run_picture.specs.Totals.{peaks_of, queue_scale}
-use Rattle.run_picture.specs.declared.columns.Columns.{Columns}
-use Rattle.run_picture.specs.declared.layout.Layout.{Layout}
-use Rattle.run_picture.specs.declared.overview.Overview.{Overview}
+use Rattle.picture_layout.specs.declared.columns.Columns.{Columns}
+use Rattle.picture_layout.specs.declared.layout.Folding.TheVariants.{Unfolded}
+use Rattle.picture_layout.specs.declared.layout.Layout.{Layout}
 use Rattle.run_picture.specs.declared.shapes.Area.{Area}
-use Rattle.run_picture.specs.declared.totals.Peaks.{Peaks}
-
--- what it shows
-pub record RunView : Type 0 where
-  pub columns : Columns
-  pub out : List ℕ
-  pub queued : List ℕ
-  pub rows : List RunRowView
-
-abbrev pub run_view : Overview → RunView
-run_view o = record { columns = o.columns; out = o.out.items; queued = o.queued.items; rows = map row_view o.rows.items }
-
-abbrev pub run_of : ℕ → Peaks → List Level → List Span → ℕ → RunView
-run_of workers peaks levels spans count = record {
-  columns = columns_of count;
-  out = by_column (columns_of count) (out_height peaks.out) levels;
-  queued = by_column (columns_of count) (queue_height (queue_scale peaks)) levels;
-  rows = run_rows (columns_of count) (run_row_height workers - 2) workers spans count;
-}
-
--- it is that of a history, by its levels and its spans
-abbrev pub IsOverview : History → List Level → List Span → Overview → Type 0
-IsOverview h levels spans o = run_view o ≡ run_of h.workers (peaks_of levels) levels spans (length h.entries.items)
+use Rattle.picture_layout.specs.declared.totals.Peaks.{Peaks}
 
 -- where an entry begins
 abbrev pub run_x : ℕ → ℕ → ℕ
@@ -105,7 +80,17 @@ steps_text foot heights = flat_map (step_text foot) heights
 
 -- the overview is laid out as a panel whose entries are the columns
 abbrev pub run_layout : ℕ → Columns → Layout
-run_layout workers cs = record { first = 1; behind = cs.number + 1; per = 4; top = 116; workers = workers; locks = 0; lanes = 0 }
+run_layout workers cs = record {
+  first = 1;
+  behind = cs.number + 1;
+  per = 4;
+  top = 116;
+  workers = workers;
+  locks = 0;
+  lanes = 0;
+  folded = 0;
+  folding = Unfolded;
+}
 
 abbrev pub run_leases : List ℕ → List ℕ
 run_leases heights =

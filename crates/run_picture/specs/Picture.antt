@@ -15,18 +15,20 @@ use Rattle.run_spans.specs.declared.levels.Level.{Level}
 use Rattle.run_spans.specs.declared.spans.Span.{Span}
 use Rattle.run_picture.specs.Axis.{axis_text, worker_rows_text}
 use Rattle.run_picture.specs.Curve.{curve_text}
-use Rattle.run_picture.specs.Layout.{rows_bottom, right_of}
+use Rattle.picture_layout.specs.Layout.{rows_bottom, right_of}
 use Rattle.run_picture.specs.Header.{opening_text, desc_text, title_text, second_text}
 use Rattle.run_picture.specs.Layers.{bars_text}
 use Rattle.run_picture.specs.LockRows.{lock_rows_text}
-use Rattle.run_picture.specs.Overview.{RunView, run_of, overview_text}
-use Rattle.run_picture.specs.Panels.{PanelView, plot_of, panels_of, height_of}
+use Rattle.run_picture.specs.Overview.{overview_text}
+use Rattle.picture_layout.specs.Overview.{RunView, run_of}
+use Rattle.picture_layout.specs.Panels.{PanelView, format_of, panels_of, height_of}
 use Rattle.run_picture.specs.Shapes.{number_words, text_begin, down}
 use Rattle.run_picture.specs.Ticks.{marks_of}
-use Rattle.run_picture.specs.Totals.{is_task, is_unit, ended_with, skips, peaks_of, total_out}
+use Rattle.picture_layout.specs.Totals.{is_task, is_unit, ended_with, skips, peaks_of, total_out}
 use Rattle.run_picture.specs.declared.picture.DrawFail.{DrawFail}
 use Rattle.run_picture.specs.declared.picture.DrawFail.TheVariants.{NoMemory, SinkFault, TooLarge, NoWorker}
-use Rattle.run_picture.specs.declared.layout.Layout.{Layout}
+use Rattle.picture_layout.specs.declared.layout.Format.{Format}
+use Rattle.picture_layout.specs.declared.layout.Layout.{Layout}
 use Rattle.run_picture.specs.declared.header.Totals.{Totals}
 use Rattle.run_picture.specs.declared.style.TheConstants.{CLASSES, PATTERNS, LEGEND}
 
@@ -104,19 +106,19 @@ whole_by h levels ps v = if nat_lt 1 (length ps) then run_text h levels ps v els
 abbrev pub whole_text : HistoryView → List Level → List Span → List PanelView → List ℕ
 whole_text h levels spans ps = whole_by h levels ps (run_of h.workers (peaks_of levels) levels spans (length h.entries))
 
-abbrev pub svg_text : HistoryView → ℕ → List Level → List Span → List PanelView → List ℕ
-svg_text h plot levels spans ps =
-    head_text h plot (height_of ps) (totals_of h levels spans) ++ whole_text h levels spans ps ++ panels_text h levels ps
+abbrev pub svg_text : HistoryView → Format → List Level → List Span → List PanelView → List ℕ
+svg_text h t levels spans ps =
+    head_text h t.plot (height_of ps) (totals_of h levels spans) ++ whole_text h levels spans ps ++ panels_text h levels ps
     ++ codes "<g>\n" ++ flat_map (ticks_of h) ps ++ codes "</g>\n</svg>\n"
 
-abbrev pub plot_in : HistoryView → ℕ
-plot_in h = plot_of h.workers (spans_of h.entries) (length h.entries)
+abbrev pub format_in : HistoryView → Format
+format_in h = format_of h.workers (spans_of h.entries) (length h.entries)
 
 abbrev pub panels_in : HistoryView → List PanelView
 panels_in h = panels_of h.workers (spans_of h.entries) (length h.entries)
 
 abbrev pub picture_text : HistoryView → List ℕ
-picture_text h = svg_text h (plot_in h) (levels_of nothing_out h.entries) (spans_of h.entries) (panels_in h)
+picture_text h = svg_text h (format_in h) (levels_of nothing_out h.entries) (spans_of h.entries) (panels_in h)
 
 -- the number of the first entry of a worker that the head doesn't have, of entries that are numbered from n on
 abbrev pub stray_from : ℕ → ℕ → List Entry → Option ℕ

@@ -4,9 +4,9 @@ use Rattle.lock_transforms.specs.Entry.{Entry}
 use Rattle.lock_transforms.specs.declared.entries.Kind.{Kind}
 use Rattle.lock_transforms.specs.declared.entries.Kind.TheVariants.{Skip}
 use Rattle.history_text.specs.Text.{kind_text, effect_text}
-use Rattle.run_picture.specs.Layout.{x_of, row_y, rows_of}
+use Rattle.picture_layout.specs.Layout.{x_of, row_y, rows_of}
 use Rattle.run_picture.specs.Shapes.{number_words, rect_begin}
-use Rattle.run_picture.specs.declared.layout.Layout.{Layout}
+use Rattle.picture_layout.specs.declared.layout.Layout.{Layout}
 use Rattle.run_picture.specs.declared.shapes.Area.{Area}
 
 -- the line of an entry, without its end

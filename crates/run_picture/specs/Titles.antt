@@ -28,8 +28,5 @@ note_text (Some (Close c)) mark = codes ": " ++ outcome_text c.outcome
 note_text (Some (Unblock (Some c))) mark = codes ": " ++ outcome_text c.outcome
 note_text _ mark = codes ": " ++ mark_text mark
 
-abbrev pub two_text : List ℕ → ℕ → List ℕ → ℕ → Span → List ℕ
-two_text word n between m s = number_words word n ++ number_words between m ++ over_text s
-
 abbrev pub at_worker : List ℕ → ℕ → List ℕ → Span → List ℕ
-at_worker word n between s = two_text word n between s.worker.0 s
+at_worker word n between s = number_words word n ++ number_words between s.worker.0 ++ over_text s

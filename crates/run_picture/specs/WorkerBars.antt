@@ -1,5 +1,5 @@
 -- The bars of tasks, of what is parked or blocked, and of leases.
-use Rattle.std.specs.Prelude.{ℕ, ◌+◌, ◌-◌, ◌*◌, ◌%◌, nat_le, nat_lt, min, max, Bool, true, false, ◌&&◌, List, [], ◌++◌}
+use Rattle.std.specs.Prelude.{ℕ, ◌+◌, ◌-◌, ◌*◌, nat_le, nat_lt, min, max, Bool, ◌&&◌, List, [], ◌++◌}
 use Rattle.std.specs.Prelude.{length, codes, decimal}
 use Rattle.std.specs.Prelude.{if◌then◌else◌}
 use Rattle.resource_lock.specs.Change.{same_mark}
@@ -7,10 +7,10 @@ use Rattle.resource_lock.specs.declared.marks.Mark.{Mark}
 use Rattle.resource_lock.specs.declared.marks.Mark.TheVariants.{Failed}
 use Rattle.history_text.specs.Text.{mark_text}
 use Rattle.run_spans.specs.declared.spans.Span.{Span}
-use Rattle.run_picture.specs.Layout.{x_of, row_y, rows_of}
+use Rattle.picture_layout.specs.Layout.{x_of, row_y, rows_of}
 use Rattle.run_picture.specs.Shapes.{number_words, hued, rect_begin, rect_text, titled}
-use Rattle.run_picture.specs.Titles.{over_text, two_text, at_worker}
-use Rattle.run_picture.specs.declared.layout.Layout.{Layout}
+use Rattle.run_picture.specs.Titles.{over_text, at_worker}
+use Rattle.picture_layout.specs.declared.layout.Layout.{Layout}
 use Rattle.run_picture.specs.declared.shapes.Area.{Area}
 
 -- the bar of a span in its worker's row, within the panel, so far down and so high
@@ -35,14 +35,9 @@ cap_text a =
 abbrev pub fails_within : Layout → Span → Bool
 fails_within f s = same_mark s.mark Failed && nat_le s.until f.behind
 
--- the room for a number in a bar
-abbrev pub room_in : Area → Bool → ℕ
-room_in a true = a.width - 5
-room_in a false = a.width
-
-abbrev pub hued_number : List ℕ → Area → List ℕ → ℕ → ℕ → List ℕ
-hued_number class a word n w =
-    codes "<text class=\"" ++ class ++ decimal (w % 8) ++ number_words (codes "\" x=\"") a.x ++ number_words (codes "\" y=\"") a.y
+abbrev pub hued_number : Area → List ℕ → ℕ → ℕ → List ℕ
+hued_number a word n w =
+    codes "<text class=\"" ++ hued (codes "a d") w ++ number_words (codes "\" x=\"") a.x ++ number_words (codes "\" y=\"") a.y
     ++ codes "\">" ++ number_words word n ++ codes "</text>\n"
 
 -- where the words of a task stand
@@ -51,8 +46,8 @@ task_place a = record { x = a.x + 4; y = a.y + a.height - 2; width = a.width; he
 
 abbrev pub task_label : Area → ℕ → ℕ → List ℕ
 task_label a n w =
-    if room_for (5 + length (decimal n)) 6 a.width then hued_number (codes "a d") (task_place a) (codes "task ") n w
-    else if room_for (length (decimal n)) 6 a.width then hued_number (codes "a d") (task_place a) [] n w
+    if room_for (5 + length (decimal n)) 6 a.width then hued_number (task_place a) (codes "task ") n w
+    else if room_for (length (decimal n)) 6 a.width then hued_number (task_place a) [] n w
     else []
 
 abbrev pub ended_text : Mark → List ℕ
@@ -79,7 +74,7 @@ abbrev pub lane_area : Layout → Span → Area
 lane_area f s = bar f s (rows_of f.workers).lane_y (rows_of f.workers).lane_height
 
 abbrev pub parked_bar : Area → Span → ℕ → List ℕ
-parked_bar a s n = titled (hued (codes "k") s.worker.0) a (two_text (codes "w") s.worker.0 (codes " is parked at action ") n s)
+parked_bar a s n = titled (hued (codes "k") s.worker.0) a (number_words (codes "w") s.worker.0 ++ number_words (codes " is parked at action ") n ++ over_text s)
 
 abbrev pub blocked_bar : Area → Span → List ℕ
 blocked_bar a s = titled (codes "b") a (codes "w" ++ decimal s.worker.0 ++ codes " is blocked" ++ over_text s)

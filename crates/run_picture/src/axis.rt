@@ -5,10 +5,12 @@ ghost use Rattle.file_access.specs.PageView.{Adds};
 ghost use Rattle.run_picture.specs.Axis.{distance_of, grid_line, mark_number, mark_text, nth_mark, marks_text, grid_text, axis_text, swatch_area, swatch_text};
 ghost use Rattle.run_picture.specs.Axis.{name_text, row_text, worker_rows_text};
 
-use crate::layout::{LEFT, Layout};
-use crate::shapes::{Area, write_across, write_down, write_hued, write_label, write_label_number};
+use crate::shapes::{
+    Area, Point, write_across, write_down, write_hued, write_label, write_label_number,
+};
 use crate::worker_marks;
 use file_access::{Page, Sink};
+use picture_layout::{LEFT, Layout};
 use resource_lock::WorkerId;
 
 /// How many entries lie between two numbers of the axis: the first of 1, 2, 5, 10 and so on that gives 46 px.
@@ -58,7 +60,7 @@ fn write_mark_number<K: Sink>(
     ensures { Adds (K.seen sink.old) page.old (K.seen sink.new) page.new (mark_number entry x top right) }
 {
     if LEFT + 16 <= x && x + 8 < right {
-        write_label_number(b"n", x, top + 62, b"", entry, page, sink);
+        write_label_number(b"n", Point { x, y: top + 62 }, b"", entry, page, sink);
     }
 }
 
@@ -139,9 +141,9 @@ fn write_name<K: Sink>(is_large: bool, worker: u64, y: u64, page: &mut Page, sin
     ensures { Adds (K.seen sink.old) page.old (K.seen sink.new) page.new (name_text is_large worker y) }
 {
     if is_large {
-        write_label_number(b"w", 19, y, b"w", worker, page, sink);
+        write_label_number(b"w", Point { x: 19, y }, b"w", worker, page, sink);
     } else {
-        write_label_number(b"v", 19, y, b"w", worker, page, sink);
+        write_label_number(b"v", Point { x: 19, y }, b"w", worker, page, sink);
     }
 }
 

@@ -2,25 +2,14 @@
 ghost use Rattle.std.specs.Prelude.{◌≡◌, ◌++◌, ◌≤◌, ◌+◌, codes, decimal};
 ghost use Rattle.file_access.specs.PageView.{Adds};
 ghost use Rattle.history_text.specs.Text.{numbered};
-ghost use Rattle.run_picture.specs.Curve.{height_of, stair, out_stair, queue_stair, leases_text, queue_text, max_line, scale_top, scale_text, curve_text};
+ghost use Rattle.run_picture.specs.Curve.{stair, out_stair, queue_stair, leases_text, queue_text, max_line, scale_top, scale_text, curve_text};
 
-use crate::layout::{CURVE, LEFT, Layout};
 use crate::shapes::{
-    begin_text, write_across, write_label, write_label_number, write_number, write_short,
+    Point, begin_text, write_across, write_label, write_label_number, write_number, write_short,
 };
-use crate::totals::Peaks;
 use file_access::{Page, Sink};
+use picture_layout::{LEFT, Layout, Peaks, curve_height};
 use run_spans::Level;
-
-/// How high a value stands, where the most is at the top.
-pub(crate) fn height_of(value: u64, most: u64) -> u64
-    requires { 1 ≤ most }
-    ensures is { result ≡ height_of value most }
-    ensures within { result ≤ 48 }
-{
-    let scaled = u128::from(CURVE) * u128::from(value.min(most)) / u128::from(most);
-    scaled as u64
-}
 
 /// Writes one step of a curve: to the height of a value, and over the entry.
 fn write_stair<K: Sink>(layout: &Layout, entry: u64, height: u64, page: &mut Page, sink: &mut K)
@@ -43,7 +32,7 @@ fn write_out<K: Sink>(
     requires { 1 ≤ top }
     ensures { Adds (K.seen sink.old) page.old (K.seen sink.new) page.new (out_stair layout.now top entry level.now) }
 {
-    write_stair(layout, entry, height_of(level.out, top), page, sink);
+    write_stair(layout, entry, curve_height(level.out, top), page, sink);
 }
 
 /// Writes the steps of the leases out.
@@ -69,7 +58,7 @@ fn write_queue_step<K: Sink>(
     requires { 1 ≤ most }
     ensures { Adds (K.seen sink.old) page.old (K.seen sink.new) page.new (queue_stair layout.now most entry level.now) }
 {
-    write_stair(layout, entry, height_of(level.queued, most), page, sink);
+    write_stair(layout, entry, curve_height(level.queued, most), page, sink);
 }
 
 /// Writes the steps of the queued items.
@@ -99,6 +88,7 @@ fn write_leases<K: Sink>(layout: &Layout, top: u64, levels: &[Level], page: &mut
 }
 
 /// Writes the queued items as a line.
+// It is twice as wide as the leases' edge, so that in grey the two are told apart.
 fn write_queued<K: Sink>(
     layout: &Layout,
     queued: u64,
@@ -139,7 +129,7 @@ fn write_max_line<K: Sink>(layout: &Layout, max: u32, out: u64, page: &mut Page,
 {
     let max = u64::from(max);
     if max <= out {
-        let y = layout.base().saturating_sub(height_of(max, out));
+        let y = layout.base().saturating_sub(curve_height(max, out));
         write_across(b"h", LEFT, y, layout.right(), page, sink);
     } else {
         write_across(
@@ -171,8 +161,10 @@ pub(crate) fn write_scale<K: Sink>(
     write_label(b"x", LEFT - 6, top + 22, b"leases out", page, sink);
     write_label_number(
         b"y",
-        LEFT - 6,
-        top + 36,
+        Point {
+            x: LEFT - 6,
+            y: top + 36,
+        },
         b"queued /",
         peaks.scale(),
         page,

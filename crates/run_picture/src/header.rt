@@ -8,7 +8,7 @@ use crate::shapes::{write_number, write_short};
 use file_access::{Page, Sink};
 
 /// Writes a number, and a word that gets an s but for one.
-fn write_many<K: Sink>(number: u64, word: &[u8], page: &mut Page, sink: &mut K)
+pub(crate) fn write_many<K: Sink>(number: u64, word: &[u8], page: &mut Page, sink: &mut K)
     ensures { Adds (K.seen sink.old) page.old (K.seen sink.new) page.new (many_text number word.now) }
 {
     page.number(sink, number);

@@ -2,12 +2,10 @@
 ghost use Rattle.std.specs.Prelude.{◌≡◌, ◌<◌, ◌^◌, map};
 ghost use Rattle.file_access.specs.PageView.{Adds};
 ghost use Rattle.history_text.specs.HistoryView.{entry_read};
-ghost use Rattle.run_picture.specs.WorkerBars.{room_in};
-ghost use Rattle.run_picture.specs.ItemBars.{item_title, item_bar, inner, fetch_bar, item_label, fetch_label};
-ghost use Rattle.run_picture.specs.ItemBars.{fetch_text, worked_text, unit_text, item_text};
+ghost use Rattle.run_picture.specs.ItemBars.{label_area, item_title, item_bar, inner, fetch_bar, item_label, fetch_label};
+ghost use Rattle.run_picture.specs.ItemBars.{fetch_text, worked_text, item_text};
 
-use crate::layout::{Layout, Rows};
-use crate::shapes::{Area, begin_hued, begin_rect, write_label_number};
+use crate::shapes::{Area, Point, begin_hued, begin_rect, write_label_number};
 use crate::titles::{is_fetch, kind_at, write_at_worker, write_note};
 use crate::worker_bars::{
     bar, digits_of, fails_within, room_for, write_cap_where, write_hued_number,
@@ -15,6 +13,7 @@ use crate::worker_bars::{
 use file_access::{Page, Sink};
 use history_text::HistoryEntry;
 use lock_transforms::Kind;
+use picture_layout::{Layout, Rows};
 use resource_lock::WorkerId;
 use run_spans::Span;
 
@@ -84,26 +83,19 @@ fn write_fetch_bar<K: Sink>(
 }
 
 /// Writes a unit's number in its bar, where it fits.
-fn write_item_label<K: Sink>(
-    rows: &Rows,
-    area: Area,
-    unit: u32,
-    room: u64,
-    page: &mut Page,
-    sink: &mut K,
-)
+fn write_item_label<K: Sink>(rows: &Rows, area: Area, unit: u32, page: &mut Page, sink: &mut K)
     requires x { area.x < 2 ^ 32 }
     requires y { area.y < 2 ^ 63 }
     requires height { area.height < 2 ^ 8 }
-    ensures { Adds (K.seen sink.old) page.old (K.seen sink.new) page.new (item_label rows.now area unit room) }
+    ensures { Adds (K.seen sink.old) page.old (K.seen sink.new) page.new (item_label rows.now area unit) }
 {
     let unit = u64::from(unit);
     let x = area.x + 3;
     let y = (area.y + area.height).saturating_sub(u64::from(rows.item_foot));
-    if rows.large && room_for(digits_of(unit), 6, room) {
-        write_label_number(b"i", x, y, b"", unit, page, sink);
-    } else if !rows.large && room_for(digits_of(unit), 5, room) {
-        write_label_number(b"j", x, y, b"", unit, page, sink);
+    if rows.large && room_for(digits_of(unit), 6, area.width) {
+        write_label_number(b"i", Point { x, y }, b"", unit, page, sink);
+    } else if !rows.large && room_for(digits_of(unit), 5, area.width) {
+        write_label_number(b"j", Point { x, y }, b"", unit, page, sink);
     }
 }
 
@@ -113,33 +105,35 @@ fn write_fetch_label<K: Sink>(
     area: Area,
     unit: u32,
     worker: WorkerId,
-    room: u64,
     page: &mut Page,
     sink: &mut K,
 )
     requires x { area.x < 2 ^ 32 }
     requires y { area.y < 2 ^ 63 }
     requires height { area.height < 2 ^ 8 }
-    ensures { Adds (K.seen sink.old) page.old (K.seen sink.new) page.new (fetch_label rows.now area unit worker.0 room) }
+    ensures { Adds (K.seen sink.old) page.old (K.seen sink.new) page.new (fetch_label rows.now area unit worker.0) }
 {
     let place = Area {
         x: area.x + 3,
         y: (area.y + area.height).saturating_sub(u64::from(rows.item_foot)),
         ..area
     };
-    if rows.large && room_for(digits_of(u64::from(unit)), 6, room) {
-        write_hued_number(b"a d", place, b"", unit, worker, page, sink);
+    if rows.large && room_for(digits_of(u64::from(unit)), 6, area.width) {
+        write_hued_number(place, b"", unit, worker, page, sink);
     }
 }
 
-/// The room for a number in a bar.
-fn room_in(area: Area, fails: bool) -> u64
-    ensures { result ≡ room_in area fails }
+/// Where the number of a bar may stand: left of the red end, if there is one.
+fn label_area(area: Area, fails: bool) -> Area
+    ensures { result ≡ label_area area fails }
 {
     if fails {
-        area.width.saturating_sub(5)
+        Area {
+            width: area.width.saturating_sub(5),
+            ..area
+        }
     } else {
-        area.width
+        area
     }
 }
 
@@ -161,10 +155,9 @@ fn write_fetch<K: Sink>(
     write_cap_where(fails, area, page, sink);
     write_fetch_label(
         &rows,
-        area,
+        label_area(area, fails),
         unit,
         span.worker,
-        room_in(area, fails),
         page,
         sink,
     );
@@ -186,25 +179,7 @@ fn write_worked<K: Sink>(
     let fails = fails_within(layout, span);
     write_item_bar(span, unit, ended, area, page, sink);
     write_cap_where(fails, area, page, sink);
-    write_item_label(&rows, area, unit, room_in(area, fails), page, sink);
-}
-
-fn write_unit<K: Sink>(
-    begun: Option<Kind>,
-    layout: &Layout,
-    span: &Span,
-    unit: u32,
-    ended: Option<Kind>,
-    page: &mut Page,
-    sink: &mut K,
-)
-    ensures { Adds (K.seen sink.old) page.old (K.seen sink.new) page.new (unit_text begun layout.now span.now unit ended) }
-{
-    if is_fetch(begun) {
-        write_fetch(layout, span, unit, ended, page, sink);
-    } else {
-        write_worked(layout, span, unit, ended, page, sink);
-    }
+    write_item_label(&rows, label_area(area, fails), unit, page, sink);
 }
 
 /// Writes a unit by the entries that began and ended it.
@@ -218,14 +193,10 @@ pub(crate) fn write_item<K: Sink>(
 )
     ensures { Adds (K.seen sink.old) page.old (K.seen sink.new) page.new (item_text layout.now (map entry_read entries.now) span.now unit) }
 {
-    let begun = kind_at(entries, span.from);
-    write_unit(
-        begun,
-        layout,
-        span,
-        unit,
-        kind_at(entries, span.until),
-        page,
-        sink,
-    );
+    let ended = kind_at(entries, span.until);
+    if is_fetch(kind_at(entries, span.from)) {
+        write_fetch(layout, span, unit, ended, page, sink);
+    } else {
+        write_worked(layout, span, unit, ended, page, sink);
+    }
 }

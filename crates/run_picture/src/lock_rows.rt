@@ -1,21 +1,22 @@
 //! The rows of the locks, and the lanes of the workers that have parked them.
-ghost use Rattle.std.specs.Prelude.{◌≡◌, ◌++◌, ◌<◌, ◌≤◌, ◌^◌, codes, decimal, length, [], if◌then◌else◌};
+ghost use Rattle.std.specs.Prelude.{◌≡◌, ◌++◌, ◌<◌, ◌≤◌, ◌^◌, codes, decimal, length, nat_eq, [], if◌then◌else◌};
 ghost use Rattle.std.specs.Ordering.{nat_cmp};
-ghost use Rattle.std.specs.List.{flat_map};
+ghost use Rattle.std.specs.List.{flat_map, list_any};
 ghost use Rattle.std.specs.List.Sorted.{IsStrictlySortedBy};
 ghost use Rattle.file_access.specs.PageView.{Adds};
 ghost use Rattle.run_picture.specs.LockRows.{below, lock_y, lane_y, lane_bar, lock_name, lock_bar, owned_bar, parked_lock, owned_lock, parked_where};
-ghost use Rattle.run_picture.specs.LockRows.{owned_where, owner_label, owned_area, lock_rows_text};
-ghost use Rattle.run_picture.specs.Panels.{panel_view};
+ghost use Rattle.run_picture.specs.LockRows.{owned_where, owner_label, owned_area, has_row, folded_kind, folded_row, folded_text, lock_rows_text};
+ghost use Rattle.picture_layout.specs.Panels.{panel_view};
 
-use crate::layout::{LANE, LEFT, Layout};
-use crate::panel::Panel;
-use crate::panels::lane_of;
-use crate::shapes::{Area, begin_hued, write_across, write_hued, write_label_number};
+use crate::header::write_many;
+use crate::shapes::{
+    Area, Point, begin_hued, begin_text, write_across, write_hued, write_label_number,
+};
 use crate::titles::write_at_worker;
 use crate::worker_bars::{digits_of, room_for};
 use crate::worker_marks::write_marks;
 use file_access::{Page, Sink};
+use picture_layout::{Folding, LANE, LEFT, Layout, Panel, lane_of};
 use resource_lock::{LockId, WorkerId};
 use run_spans::{Span, Subject};
 
@@ -81,10 +82,30 @@ fn write_lock_name<K: Sink>(panel: &Panel, lock: u32, page: &mut Page, sink: &mu
     let right = panel.layout.right();
     let number = u64::from(lock);
     if panel.layout.locks <= 20 {
-        write_label_number(b"l", LEFT - 6, y + 10, b"lock ", number, page, sink);
+        write_label_number(
+            b"l",
+            Point {
+                x: LEFT - 6,
+                y: y + 10,
+            },
+            b"lock ",
+            number,
+            page,
+            sink,
+        );
         write_across(b"g", LEFT, y + 13, right, page, sink);
     } else {
-        write_label_number(b"k", LEFT - 6, y + 8, b"lock ", number, page, sink);
+        write_label_number(
+            b"k",
+            Point {
+                x: LEFT - 6,
+                y: y + 8,
+            },
+            b"lock ",
+            number,
+            page,
+            sink,
+        );
         write_across(b"g", LEFT, y + 9, right, page, sink);
     }
 }
@@ -130,11 +151,28 @@ fn write_parked_lock<K: Sink>(
     write_titled(lock, b" is parked by w", span, area, page, sink);
 }
 
-/// Writes where a lock is parked, if a span says that of one.
+/// Whether a lock stands in a rising list.
+fn stands_in(lock: u32, locks: &[u32]) -> bool
+    requires { IsStrictlySortedBy nat_cmp locks.now }
+    ensures { result ≡ list_any (λ m. nat_eq m lock) locks.now }
+{
+    locks.binary_search(&lock).is_ok()
+}
+
+/// Whether a lock has a row of its own.
+fn has_row(panel: &Panel, lock: u32) -> bool
+    ensures { result ≡ has_row (panel_view panel.now) lock }
+{
+    panel.layout.folded == 0 || stands_in(lock, &panel.locks)
+}
+
+/// Writes where a lock is parked, if a span says that of one that has a row.
 fn write_parked_where<K: Sink>(panel: &Panel, span: &Span, page: &mut Page, sink: &mut K)
     ensures { Adds (K.seen sink.old) page.old (K.seen sink.new) page.new (parked_where (panel_view panel.now) span.now) }
 {
-    if let Subject::Parked(WorkerId(worker), LockId(lock)) = span.subject {
+    if let Subject::Parked(WorkerId(worker), LockId(lock)) = span.subject
+        && has_row(panel, lock)
+    {
         write_parked_lock(panel, worker, lock, span, page, sink);
     }
 }
@@ -168,9 +206,29 @@ fn write_owner<K: Sink>(layout: &Layout, area: Area, owner: u32, page: &mut Page
     let owner = u64::from(owner);
     let room = area.width.saturating_sub(1);
     if layout.locks <= 20 && room_for(digits_of(owner) + 1, 6, room) {
-        write_label_number(b"a", area.x + 3, area.y + 9, b"w", owner, page, sink);
+        write_label_number(
+            b"a",
+            Point {
+                x: area.x + 3,
+                y: area.y + 9,
+            },
+            b"w",
+            owner,
+            page,
+            sink,
+        );
     } else if layout.locks > 20 && room_for(digits_of(owner) + 1, 5, room) {
-        write_label_number(b"j i", area.x + 3, area.y + 6, b"w", owner, page, sink);
+        write_label_number(
+            b"j i",
+            Point {
+                x: area.x + 3,
+                y: area.y + 6,
+            },
+            b"w",
+            owner,
+            page,
+            sink,
+        );
     }
 }
 
@@ -194,11 +252,13 @@ fn write_owned_lock<K: Sink>(panel: &Panel, lock: u32, span: &Span, page: &mut P
     write_owner(&panel.layout, area, span.worker.0, page, sink);
 }
 
-/// Writes where a lock is owned, if a span says that of one.
+/// Writes where a lock is owned, if a span says that of one that has a row.
 fn write_owned_where<K: Sink>(panel: &Panel, span: &Span, page: &mut Page, sink: &mut K)
     ensures { Adds (K.seen sink.old) page.old (K.seen sink.new) page.new (owned_where (panel_view panel.now) span.now) }
 {
-    if let Subject::Owned(LockId(lock)) = span.subject {
+    if let Subject::Owned(LockId(lock)) = span.subject
+        && has_row(panel, lock)
+    {
         write_owned_lock(panel, lock, span, page, sink);
     }
 }
@@ -212,6 +272,36 @@ fn write_all_owned<K: Sink>(panel: &Panel, page: &mut Page, sink: &mut K)
     }
 }
 
+/// Writes which locks are folded.
+fn write_folded_kind<K: Sink>(folding: Folding, page: &mut Page, sink: &mut K)
+    ensures { Adds (K.seen sink.old) page.old (K.seen sink.new) page.new (folded_kind folding) }
+{
+    if matches!(folding, Folding::Unparked) {
+        page.text(sink, b", never parked");
+    }
+}
+
+/// Writes how many locks have no row of their own, and the line under that.
+fn write_folded_row<K: Sink>(layout: &Layout, page: &mut Page, sink: &mut K)
+    ensures { Adds (K.seen sink.old) page.old (K.seen sink.new) page.new (folded_row layout.now) }
+{
+    let y = layout.folded_y();
+    begin_text(b"a", LEFT + 3, y + 10, page, sink);
+    write_many(layout.folded, b" lock", page, sink);
+    write_folded_kind(layout.folding, page, sink);
+    page.text(sink, b"</text>\n");
+    write_across(b"g", LEFT, y + 13, layout.right(), page, sink);
+}
+
+/// Writes the row of the folded locks, where there are some.
+fn write_folded<K: Sink>(layout: &Layout, page: &mut Page, sink: &mut K)
+    ensures { Adds (K.seen sink.old) page.old (K.seen sink.new) page.new (folded_text layout.now) }
+{
+    if layout.folded > 0 {
+        write_folded_row(layout, page, sink);
+    }
+}
+
 /// Writes the rows of the locks that somebody owns or has parked within a panel. The time grows as the number of the
 /// spans, times the logarithm of that of the rows.
 pub(crate) fn write_locks<K: Sink>(panel: &Panel, page: &mut Page, sink: &mut K)
@@ -220,4 +310,5 @@ pub(crate) fn write_locks<K: Sink>(panel: &Panel, page: &mut Page, sink: &mut K)
     write_lock_names(panel, page, sink);
     write_all_parked(panel, page, sink);
     write_all_owned(panel, page, sink);
+    write_folded(&panel.layout, page, sink);
 }

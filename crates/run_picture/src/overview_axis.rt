@@ -5,14 +5,15 @@ ghost use Rattle.file_access.specs.PageView.{Adds};
 ghost use Rattle.history_text.specs.Text.{numbered};
 ghost use Rattle.run_picture.specs.Overview.{run_x, band_area, band_class, band_title, band_number, band_text};
 ghost use Rattle.run_picture.specs.Overview.{run_distance, run_number, run_mark, run_grid};
-ghost use Rattle.run_picture.specs.Panels.{panel_view};
+ghost use Rattle.picture_layout.specs.Panels.{panel_view};
 ghost use Rattle.run_picture.specs.Shapes.{rect_begin};
 
-use crate::layout::{LEFT, Layout};
-use crate::panel::Panel;
-use crate::shapes::{Area, begin_rect, write_down, write_label_number, write_number, write_short};
+use crate::shapes::{
+    Area, Point, begin_rect, write_down, write_label_number, write_number, write_short,
+};
 use crate::worker_bars::{digits_of, room_for};
 use file_access::{Page, Sink};
+use picture_layout::{LEFT, Layout, Panel};
 
 /// Where an entry begins, where a column has so many.
 fn run_x(size: u32, entry: u64) -> u64
@@ -65,7 +66,17 @@ fn write_band_number<K: Sink>(number: u64, area: Area, page: &mut Page, sink: &m
     ensures { Adds (K.seen sink.old) page.old (K.seen sink.new) page.new (band_number number area) }
 {
     if room_for(digits_of(number), 6, area.width) {
-        write_label_number(b"n", area.x + area.width / 2, 109, b"", number, page, sink);
+        write_label_number(
+            b"n",
+            Point {
+                x: area.x + area.width / 2,
+                y: 109,
+            },
+            b"",
+            number,
+            page,
+            sink,
+        );
     }
 }
 
@@ -128,7 +139,7 @@ fn write_run_number<K: Sink>(entry: u64, x: u64, right: u64, page: &mut Page, si
     ensures { Adds (K.seen sink.old) page.old (K.seen sink.new) page.new (run_number entry x right) }
 {
     if LEFT + 16 <= x && x + 8 < right {
-        write_label_number(b"n", x, 178, b"", entry, page, sink);
+        write_label_number(b"n", Point { x, y: 178 }, b"", entry, page, sink);
     }
 }
 

@@ -1,49 +1,26 @@
 //! The whole run, above the panels where there are several.
-ghost use Rattle.std.specs.Prelude.{◌≡◌, ◌≤◌, ◌<◌, ◌^◌, ◌++◌, map, max, length, IfOk};
+ghost use Rattle.std.specs.Prelude.{◌≡◌, ◌≤◌, ◌<◌, ◌^◌, ◌++◌, map, length};
 ghost use Rattle.file_access.specs.PageView.{Adds};
-ghost use Rattle.run_picture.specs.Columns.{row_view};
-ghost use Rattle.run_picture.specs.Overview.{run_view, run_of, run_layout, run_axis, run_curve, run_right, overview_text};
-ghost use Rattle.run_picture.specs.Panels.{Rising, panel_view};
+ghost use Rattle.picture_layout.specs.Columns.{row_view};
+ghost use Rattle.run_picture.specs.Overview.{run_layout, run_axis, run_curve, run_right, overview_text};
+ghost use Rattle.picture_layout.specs.Overview.{run_view};
+ghost use Rattle.picture_layout.specs.Panels.{panel_view};
 
-use crate::columns::{Columns, columns_of, out_heights, queue_heights, run_rows};
 use crate::curve::write_scale;
-use crate::layout::{LEFT, Layout, run_row_height};
-use crate::overview::Overview;
 use crate::overview_axis::{write_run_grid, write_strip};
-use crate::overview_rows::{write_run_leases, write_run_queue, write_run_rows};
-use crate::panel::Panel;
+use crate::overview_rows::{RunRows, write_run_leases, write_run_queue, write_run_rows};
 use crate::shapes::write_label;
-use crate::totals::Peaks;
 use file_access::{Page, Sink};
-use run_spans::{Level, Span};
-use std::alloc::{AllocError, Global};
+use picture_layout::{Columns, Folding, LEFT, Layout, Overview, Panel, Peaks, run_row_height};
 
-/// The overview of so many entries, by their levels and spans.
-pub(crate) fn overview_of(
-    alloc: Global,
-    workers: u32,
-    peaks: Peaks,
-    levels: &[Level],
-    spans: &[Span],
-    count: u32,
-) -> Result<Overview, AllocError>
-    requires some { 1 ≤ peaks.out }
-    requires levels { length levels.now < 2 ^ 30 }
-    requires few { count < 2 ^ 30 }
-    requires rising { Rising 1 spans.now }
-    ensures { IfOk result (λ overview. run_view overview ≡ run_of workers peaks levels.now spans.now count) }
-{
-    let columns = columns_of(count);
-    let out = out_heights(alloc, columns, peaks.out, levels)?;
-    let queued = queue_heights(alloc, columns, peaks.scale(), levels)?;
-    let room = run_row_height(workers) - 2;
-    let rows = run_rows(alloc, columns, room, workers, spans, count)?;
-    Ok(Overview {
-        columns,
-        out,
-        queued,
-        rows,
-    })
+/// What the parts of a whole run's picture share: its workers, its maximum of leases, the peaks of its curves, and how many entries
+/// it has.
+#[derive(Clone, Copy)]
+pub(crate) struct RunScale {
+    pub(crate) workers: u32,
+    pub(crate) max: u32,
+    pub(crate) peaks: Peaks,
+    pub(crate) count: u32,
 }
 
 /// The overview is laid out as a panel whose entries are the columns.
@@ -59,48 +36,32 @@ fn run_layout(workers: u32, columns: Columns) -> Layout
         workers,
         locks: 0,
         lanes: 0,
+        folded: 0,
+        folding: Folding::Unfolded,
     }
 }
 
 /// Writes the curves of the whole run, by its peaks.
-fn write_run_curve<K: Sink>(
-    workers: u32,
-    max: u32,
-    peaks: Peaks,
-    overview: &Overview,
-    page: &mut Page,
-    sink: &mut K,
-)
-    requires { 1 ≤ peaks.out }
-    ensures { Adds (K.seen sink.old) page.old (K.seen sink.new) page.new (run_curve workers max peaks (run_view overview.now)) }
+fn write_run_curve<K: Sink>(run: RunScale, overview: &Overview, page: &mut Page, sink: &mut K)
+    requires { 1 ≤ run.peaks.out }
+    ensures { Adds (K.seen sink.old) page.old (K.seen sink.new) page.new (run_curve run.workers run.max run.peaks (run_view overview.now)) }
 {
     write_run_leases(&overview.out, page, sink);
     write_run_queue(&overview.queued, page, sink);
-    write_scale(
-        &run_layout(workers, overview.columns),
-        max,
-        peaks,
-        page,
-        sink,
-    );
+    let layout = run_layout(run.workers, overview.columns);
+    write_scale(&layout, run.max, run.peaks, page, sink);
 }
 
 /// Writes the axis of the whole run.
-fn write_run_axis<K: Sink>(
-    workers: u32,
-    count: u32,
-    overview: &Overview,
-    page: &mut Page,
-    sink: &mut K,
-)
-    ensures { Adds (K.seen sink.old) page.old (K.seen sink.new) page.new (run_axis workers count (run_view overview.now)) }
+fn write_run_axis<K: Sink>(run: RunScale, overview: &Overview, page: &mut Page, sink: &mut K)
+    ensures { Adds (K.seen sink.old) page.old (K.seen sink.new) page.new (run_axis run.workers run.count (run_view overview.now)) }
 {
     write_label(b"e", LEFT - 6, 178, b"entry", page, sink);
     write_run_grid(
         overview.columns.size,
         right_of(overview),
-        186 + u64::from(workers) * u64::from(run_row_height(workers)),
-        count,
+        186 + u64::from(run.workers) * u64::from(run_row_height(run.workers)),
+        run.count,
         page,
         sink,
     );
@@ -115,29 +76,24 @@ fn right_of(overview: &Overview) -> u64
 
 /// Writes the whole run, by its peaks.
 pub(crate) fn write_overview<K: Sink>(
-    workers: u32,
-    max: u32,
-    peaks: Peaks,
-    count: u32,
+    run: RunScale,
     panels: &[Panel],
     overview: &Overview,
     page: &mut Page,
     sink: &mut K,
 )
-    requires { 1 ≤ peaks.out }
+    requires { 1 ≤ run.peaks.out }
     ensures { Adds (K.seen sink.old) page.old (K.seen sink.new) page.new
-        (overview_text workers max peaks count (map panel_view panels.now) (run_view overview.now)) }
+        (overview_text run.workers run.max run.peaks run.count (map panel_view panels.now) (run_view overview.now)) }
 {
     write_label(b"w", 8, 95, b"Whole run", page, sink);
     write_strip(overview.columns.size, panels, page, sink);
-    write_run_axis(workers, count, overview, page, sink);
-    write_run_curve(workers, max, peaks, overview, page, sink);
-    write_run_rows(
-        workers,
-        right_of(overview),
-        u64::from(count),
-        &overview.rows,
-        page,
-        sink,
-    );
+    write_run_axis(run, overview, page, sink);
+    write_run_curve(run, overview, page, sink);
+    let rows = RunRows {
+        workers: run.workers,
+        right: right_of(overview),
+        count: u64::from(run.count),
+    };
+    write_run_rows(rows, &overview.rows, page, sink);
 }

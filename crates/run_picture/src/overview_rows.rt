@@ -1,15 +1,16 @@
 //! The curve of the whole run, and the rows of its workers.
 ghost use Rattle.std.specs.Prelude.{◌≡◌, ◌≤◌, ◌<◌, ◌^◌, ◌++◌, map, length};
 ghost use Rattle.file_access.specs.PageView.{Adds};
-ghost use Rattle.run_picture.specs.Columns.{fill_view, row_view};
-ghost use Rattle.run_picture.specs.Layout.{run_foot};
+ghost use Rattle.picture_layout.specs.Columns.{fill_view, row_view};
+ghost use Rattle.picture_layout.specs.Layout.{run_foot};
 ghost use Rattle.run_picture.specs.Overview.{step_text, steps_text, run_leases, run_queue};
 ghost use Rattle.run_picture.specs.Overview.{fill_title, fill_path, leased_text, engaged_text, run_name, run_row_text, run_rows_text};
 
-use crate::columns::{Fill, RunRow};
-use crate::layout::{LEFT, run_row_height};
-use crate::shapes::{write_across, write_hue, write_label_number, write_number, write_short};
+use crate::shapes::{
+    Point, write_across, write_hue, write_label_number, write_number, write_short,
+};
 use file_access::{Page, Sink};
+use picture_layout::{Fill, LEFT, RunRow, run_row_height};
 
 /// Where the row of a worker stands on.
 fn run_foot(workers: u32, worker: u32) -> u64
@@ -138,52 +139,37 @@ fn write_run_name<K: Sink>(workers: u32, worker: u32, y: u64, page: &mut Page, s
 {
     let number = u64::from(worker);
     if workers <= 16 {
-        write_label_number(b"l", LEFT - 6, y, b"w", number, page, sink);
+        write_label_number(b"l", Point { x: LEFT - 6, y }, b"w", number, page, sink);
     } else {
-        write_label_number(b"k", LEFT - 6, y, b"w", number, page, sink);
+        write_label_number(b"k", Point { x: LEFT - 6, y }, b"w", number, page, sink);
     }
 }
 
+/// What the rows of the workers share: how many they are, where they end, and of how many entries they tell.
+#[derive(Clone, Copy)]
+pub(crate) struct RunRows {
+    pub(crate) workers: u32,
+    pub(crate) right: u64,
+    pub(crate) count: u64,
+}
+
 /// Writes the row of a worker.
-fn write_run_row<K: Sink>(
-    workers: u32,
-    right: u64,
-    count: u64,
-    worker: u32,
-    row: &RunRow,
-    page: &mut Page,
-    sink: &mut K,
-)
-    ensures { Adds (K.seen sink.old) page.old (K.seen sink.new) page.new (run_row_text workers right count worker (row_view row.now)) }
+fn write_run_row<K: Sink>(rows: RunRows, worker: u32, row: &RunRow, page: &mut Page, sink: &mut K)
+    ensures { Adds (K.seen sink.old) page.old (K.seen sink.new) page.new (run_row_text rows.workers rows.right rows.count worker (row_view row.now)) }
 {
-    let foot = run_foot(workers, worker);
-    write_run_name(workers, worker, foot - 1, page, sink);
-    write_across(b"f", LEFT, foot, right, page, sink);
-    write_engaged(worker, foot, &row.engaged, count, page, sink);
-    write_leased(worker, foot, &row.leased, count, page, sink);
+    let foot = run_foot(rows.workers, worker);
+    write_run_name(rows.workers, worker, foot - 1, page, sink);
+    write_across(b"f", LEFT, foot, rows.right, page, sink);
+    write_engaged(worker, foot, &row.engaged, rows.count, page, sink);
+    write_leased(worker, foot, &row.leased, rows.count, page, sink);
 }
 
 /// Writes the row of each worker.
-pub(crate) fn write_run_rows<K: Sink>(
-    workers: u32,
-    right: u64,
-    count: u64,
-    rows: &[RunRow],
-    page: &mut Page,
-    sink: &mut K,
-)
-    requires { length rows.now < 2 ^ 32 }
-    ensures { Adds (K.seen sink.old) page.old (K.seen sink.new) page.new (run_rows_text workers right count (map row_view rows.now)) }
+pub(crate) fn write_run_rows<K: Sink>(rows: RunRows, each: &[RunRow], page: &mut Page, sink: &mut K)
+    requires { length each.now < 2 ^ 32 }
+    ensures { Adds (K.seen sink.old) page.old (K.seen sink.new) page.new (run_rows_text rows.workers rows.right rows.count (map row_view each.now)) }
 {
-    for place in 0..rows.len() {
-        write_run_row(
-            workers,
-            right,
-            count,
-            place as u32,
-            &rows[place],
-            page,
-            sink,
-        );
+    for place in 0..each.len() {
+        write_run_row(rows, place as u32, &each[place], page, sink);
     }
 }

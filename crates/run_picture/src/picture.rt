@@ -9,31 +9,31 @@ ghost use Rattle.history_text.specs.HistoryView.{entry_read, history_view};
 ghost use Rattle.run_picture.specs.Header.{desc_text, title_text};
 ghost use Rattle.run_picture.specs.Layers.{bars_text};
 ghost use Rattle.run_picture.specs.LockRows.{lock_rows_text};
-ghost use Rattle.run_picture.specs.Overview.{IsOverview, run_view};
-ghost use Rattle.run_picture.specs.Panels.{panel_view, height_of, Rising};
-ghost use Rattle.run_picture.specs.Picture.{within, average_of, width_of, stray_from, totals_of, heading_text, heading_where, panel_curve, edge_text, panel_text, panels_text, ticks_of, style_text, legend_text, head_text, run_text, whole_by, svg_text, IsDrawn};
-ghost use Rattle.run_picture.specs.Totals.{peaks_of};
+ghost use Rattle.picture_layout.specs.Overview.{IsOverview, run_view};
+ghost use Rattle.picture_layout.specs.Panels.{panel_view, height_of, Rising};
+ghost use Rattle.run_picture.specs.Picture.{within, average_of, width_of, stray_from, totals_of, heading_text, heading_where, panel_curve, edge_text};
+ghost use Rattle.run_picture.specs.Picture.{panel_text, panels_text, ticks_of, style_text, legend_text, head_text, run_text, whole_by, svg_text};
+ghost use Rattle.run_picture.specs.Picture.{IsDrawn};
+ghost use Rattle.picture_layout.specs.Totals.{peaks_of};
 ghost use Rattle.run_spans.specs.Levels.{levels_of, nothing_out};
 ghost use Rattle.run_spans.specs.Spans.{spans_of};
 
 use crate::axis::{write_axis, write_rows};
 use crate::curve::write_curve;
 use crate::header::{Totals, write_desc, write_opening, write_second, write_title};
-use crate::layout::{LEFT, Layout};
 use crate::lock_rows::write_locks;
-use crate::overview::Overview;
-use crate::overview_chart::{overview_of, write_overview};
-use crate::panel::Panel;
-use crate::panels::{LayoutFail, MOST_ENTRIES, height_of, panels_in_plot, plot_of};
+use crate::overview_chart::{RunScale, write_overview};
 use crate::shapes::{begin_text, write_down, write_number};
 use crate::style::{CLASSES, LEGEND, PATTERNS};
 use crate::ticks::write_ticks;
-use crate::totals::{
-    Peaks, count_failed_units, count_skips, count_tasks, count_units, peaks_of, total_out,
-};
 use crate::worker_bars::write_bars;
 use file_access::{Failed, Page, Sink};
 use history_text::{History, HistoryEntry};
+use picture_layout::{
+    Format, LEFT, Layout, LayoutFail, MOST_ENTRIES, Overview, Panel, Peaks, count_failed_units,
+    count_skips, count_tasks, count_units, format_of, height_of, overview_of, panels_in_format,
+    peaks_of, total_out,
+};
 use resource_lock::Mark;
 use run_spans::{Level, Span, levels_of, spans_of};
 use std::alloc::Global;
@@ -321,25 +321,29 @@ fn write_head<K: Sink>(
     write_legend(page, sink);
 }
 
-/// Writes what stands above these panels.
-fn write_top<K: Sink>(
-    history: &History,
-    plot: u32,
-    levels: &[Level],
-    spans: &[Span],
-    panels: &[Panel],
-    page: &mut Page,
-    sink: &mut K,
-)
-    requires { length levels.now < 2 ^ 30 }
+/// What a picture is drawn from: a history, its levels and its spans, and how it is laid out.
+#[derive(Drop)]
+pub(crate) struct Drawing<'a> {
+    pub(crate) history: &'a History,
+    pub(crate) levels: &'a [Level],
+    pub(crate) spans: &'a [Span],
+    pub(crate) format: Format,
+    pub(crate) panels: &'a [Panel],
+    pub(crate) overview: &'a Overview,
+}
+
+/// Writes what stands above the panels of a drawing.
+fn write_top<K: Sink>(drawing: &Drawing<'_>, page: &mut Page, sink: &mut K)
+    requires { length drawing.now.levels.now < 2 ^ 30 }
     ensures { Adds (K.seen sink.old) page.old (K.seen sink.new) page.new
-        (head_text (history_view history.now) plot (height_of (map panel_view panels.now)) (totals_of (history_view history.now) levels.now spans.now)) }
+        (head_text (history_view drawing.now.history.now) drawing.now.format.plot (height_of (map panel_view drawing.now.panels.now))
+        (totals_of (history_view drawing.now.history.now) drawing.now.levels.now drawing.now.spans.now)) }
 {
     write_head(
-        history,
-        plot,
-        height_of(panels),
-        totals_of(history, levels, spans),
+        drawing.history,
+        drawing.format.plot,
+        height_of(drawing.panels),
+        totals_of(drawing.history, drawing.levels, drawing.spans),
         page,
         sink,
     );
@@ -366,16 +370,13 @@ fn write_run<K: Sink>(
     ensures { Adds (K.seen sink.old) page.old (K.seen sink.new) page.new
         (run_text (history_view history.now) levels.now (map panel_view panels.now) (run_view overview.now)) }
 {
-    write_overview(
-        history.workers,
-        history.max,
-        peaks_of(levels),
-        few_entries(history),
-        panels,
-        overview,
-        page,
-        sink,
-    );
+    let run = RunScale {
+        workers: history.workers,
+        max: history.max,
+        peaks: peaks_of(levels),
+        count: few_entries(history),
+    };
+    write_overview(run, panels, overview, page, sink);
 }
 
 /// Writes the whole run, where there are several panels.
@@ -396,24 +397,22 @@ fn write_whole<K: Sink>(
     }
 }
 
-/// Writes the whole picture, in a plot of this width.
-fn write_svg<K: Sink>(
-    history: &History,
-    plot: u32,
-    levels: &[Level],
-    spans: &[Span],
-    panels: &[Panel],
-    overview: &Overview,
-    page: &mut Page,
-    sink: &mut K,
-)
-    requires few { length levels.now < 2 ^ 30 }
-    requires entries { length history.now.entries.items < 2 ^ 30 }
-    requires overview { IsOverview history.now levels.now spans.now overview.now }
-    ensures { Adds (K.seen sink.old) page.old (K.seen sink.new) page.new
-        (svg_text (history_view history.now) plot levels.now spans.now (map panel_view panels.now)) }
+/// Writes the whole picture.
+fn write_svg<K: Sink>(drawing: &Drawing<'_>, page: &mut Page, sink: &mut K)
+    requires few { length drawing.now.levels.now < 2 ^ 30 }
+    requires entries { length drawing.now.history.now.entries.items < 2 ^ 30 }
+    requires overview { IsOverview drawing.now.history.now drawing.now.levels.now drawing.now.spans.now drawing.now.overview.now }
+    ensures { Adds (K.seen sink.old) page.old (K.seen sink.new) page.new (svg_text (history_view drawing.now.history.now) drawing.now.format
+        drawing.now.levels.now drawing.now.spans.now (map panel_view drawing.now.panels.now)) }
 {
-    write_top(history, plot, levels, spans, panels, page, sink);
+    let Drawing {
+        history,
+        levels,
+        panels,
+        overview,
+        ..
+    } = *drawing;
+    write_top(drawing, page, sink);
     write_whole(history, levels, panels, overview, page, sink);
     write_panels(history, levels, panels, page, sink);
     page.text(sink, b"<g>\n");
@@ -421,24 +420,15 @@ fn write_svg<K: Sink>(
     page.text(sink, b"</g>\n</svg>\n");
 }
 
-fn print_svg<K: Sink>(
-    history: &History,
-    plot: u32,
-    levels: &[Level],
-    spans: &[Span],
-    panels: &[Panel],
-    overview: &Overview,
-    sink: &mut K,
-) -> Result<(), Failed>
-    requires few { length levels.now < 2 ^ 30 }
-    requires entries { length history.now.entries.items < 2 ^ 30 }
-    requires overview { IsOverview history.now levels.now spans.now overview.now }
-    ensures { Prints (K.seen sink.old) (K.seen sink.new) (svg_text (history_view history.now) plot levels.now spans.now (map panel_view panels.now)) result }
+fn print_svg<K: Sink>(drawing: &Drawing<'_>, sink: &mut K) -> Result<(), Failed>
+    requires few { length drawing.now.levels.now < 2 ^ 30 }
+    requires entries { length drawing.now.history.now.entries.items < 2 ^ 30 }
+    requires overview { IsOverview drawing.now.history.now drawing.now.levels.now drawing.now.spans.now drawing.now.overview.now }
+    ensures { Prints (K.seen sink.old) (K.seen sink.new) (svg_text (history_view drawing.now.history.now) drawing.now.format
+        drawing.now.levels.now drawing.now.spans.now (map panel_view drawing.now.panels.now)) result }
 {
     let mut page = Page::new();
-    write_svg(
-        history, plot, levels, spans, panels, overview, &mut page, sink,
-    );
+    write_svg(drawing, &mut page, sink);
     page.end(sink)
 }
 
@@ -460,26 +450,35 @@ fn draw_spans<K: Sink>(
     ensures { IsDrawn (history_view history.now) (K.seen sink.old) (K.seen sink.new) result }
 {
     let count = history.entries.len() as u32;
-    let Ok(plot) = plot_of(alloc, history.workers, count, spans) else {
+    let Ok(format) = format_of(alloc, history.workers, count, spans) else {
         return Err(DrawFail::NoMemory);
     };
-    let panels = match panels_in_plot(alloc, plot, history.workers, count, spans) {
+    let panels = match panels_in_format(alloc, format, history.workers, count, spans) {
         Ok(panels) => panels,
         Err(LayoutFail::NoMemory) => return Err(DrawFail::NoMemory),
         Err(LayoutFail::TooLarge) => return Err(DrawFail::TooLarge),
     };
+    // Columns are laid out before anything is written, since that needs memory: a picture for which there is none isn't begun.
     let peaks = peaks_of(levels);
     let Ok(overview) = overview_of(alloc, history.workers, peaks, levels, spans, count) else {
         return Err(DrawFail::NoMemory);
     };
-    match print_svg(history, plot, levels, spans, &panels, &overview, sink) {
+    let drawing = Drawing {
+        history,
+        levels,
+        spans,
+        format,
+        panels: &panels,
+        overview: &overview,
+    };
+    match print_svg(&drawing, sink) {
         Ok(()) => Ok(()),
         Err(Failed) => Err(DrawFail::SinkFault),
     }
 }
 
 /// Draws the picture of a history: a text that is a function of the history.
-#[tactic(auto, using(crate::proofs::Drawing::too_many, crate::proofs::Rising::spans_of_rise))]
+#[tactic(auto, using(crate::proofs::Drawing::too_many))]
 pub fn draw<K: Sink>(alloc: Global, history: &History, sink: &mut K) -> Result<(), DrawFail>
     requires { HeadFits history.now.workers history.now.max history.now.locks }
     ensures { IsDrawn (history_view history.now) (K.seen sink.old) (K.seen sink.new) result }

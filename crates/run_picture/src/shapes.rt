@@ -15,6 +15,13 @@ pub(crate) struct Area {
     pub(crate) height: u64,
 }
 
+/// Where words stand, in px: the left end of their foot, or another by their class.
+#[derive(Clone, Copy)]
+pub(crate) struct Point {
+    pub(crate) x: u64,
+    pub(crate) y: u64,
+}
+
 /// Writes a word and a number.
 pub(crate) fn write_number<K: Sink>(word: &[u8], number: u64, page: &mut Page, sink: &mut K)
     ensures { Adds (K.seen sink.old) page.old (K.seen sink.new) page.new (number_words word.now number) }
@@ -125,16 +132,15 @@ pub(crate) fn write_label<K: Sink>(
 /// Writes a word and a number at a place.
 pub(crate) fn write_label_number<K: Sink>(
     class: &[u8],
-    x: u64,
-    y: u64,
+    at: Point,
     word: &[u8],
     number: u64,
     page: &mut Page,
     sink: &mut K,
 )
-    ensures { Adds (K.seen sink.old) page.old (K.seen sink.new) page.new (label_number class.now x y word.now number) }
+    ensures { Adds (K.seen sink.old) page.old (K.seen sink.new) page.new (label_number class.now at.x at.y word.now number) }
 {
-    begin_text(class, x, y, page, sink);
+    begin_text(class, at.x, at.y, page, sink);
     write_number(word, number, page, sink);
     page.text(sink, b"</text>\n");
 }

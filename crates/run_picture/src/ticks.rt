@@ -6,11 +6,11 @@ ghost use Rattle.history_text.specs.HistoryView.{entry_read};
 ghost use Rattle.run_picture.specs.Ticks.{line_of, line_title, tick_area, tick_bar, cross_at, cross_text, skip_step, skip_area, skip_bar, skip_where};
 ghost use Rattle.run_picture.specs.Ticks.{more_marks, marks_of};
 
-use crate::layout::Layout;
 use crate::shapes::{Area, begin_rect, write_number, write_short};
 use file_access::{Page, Sink};
 use history_text::{HistoryEntry, write_effect, write_kind};
 use lock_transforms::Kind;
+use picture_layout::Layout;
 use resource_lock::Change;
 
 /// Writes what an entry did.

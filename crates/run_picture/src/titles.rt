@@ -3,7 +3,7 @@ ghost use Rattle.std.specs.Prelude.{◌≡◌, ◌++◌, codes, decimal, map};
 ghost use Rattle.file_access.specs.PageView.{Adds};
 ghost use Rattle.history_text.specs.HistoryView.{entry_read};
 ghost use Rattle.history_text.specs.Text.{mark_text, outcome_text};
-ghost use Rattle.run_picture.specs.Titles.{over_text, note_text, two_text, at_worker, kind_at, is_fetch};
+ghost use Rattle.run_picture.specs.Titles.{over_text, note_text, at_worker, kind_at, is_fetch};
 
 use crate::shapes::{write_number, write_short};
 use file_access::{Page, Sink};
@@ -53,24 +53,7 @@ pub(crate) fn write_note<K: Sink>(ended: Option<Kind>, mark: Mark, page: &mut Pa
     }
 }
 
-/// Writes two numbers, each behind its word, and over which entries.
-pub(crate) fn write_two<K: Sink>(
-    word: &[u8],
-    number: u32,
-    between: &[u8],
-    other: u32,
-    span: &Span,
-    page: &mut Page,
-    sink: &mut K,
-)
-    ensures { Adds (K.seen sink.old) page.old (K.seen sink.new) page.new (two_text word.now number between.now other span.now) }
-{
-    write_short(word, number, page, sink);
-    write_short(between, other, page, sink);
-    write_over(span, page, sink);
-}
-
-/// Writes a word and whose it is.
+/// Writes a number and whose it is, each behind its word, and over which entries.
 pub(crate) fn write_at_worker<K: Sink>(
     word: &[u8],
     number: u32,
@@ -81,7 +64,9 @@ pub(crate) fn write_at_worker<K: Sink>(
 )
     ensures { Adds (K.seen sink.old) page.old (K.seen sink.new) page.new (at_worker word.now number between.now span.now) }
 {
-    write_two(word, number, between, span.worker.0, span, page, sink);
+    write_short(word, number, page, sink);
+    write_short(between, span.worker.0, page, sink);
+    write_over(span, page, sink);
 }
 
 /// Writes what a worker does, and over which entries.

@@ -8,14 +8,14 @@ ghost use Rattle.run_picture.specs.WorkerBars.{lane_area, parked_bar, blocked_ba
 ghost use Rattle.run_picture.specs.Layers.{bar_text, bars_text};
 
 use crate::item_bars::write_item;
-use crate::layout::Layout;
 use crate::shapes::{
     Area, begin_hued, begin_rect, write_hue, write_hued, write_number, write_rect, write_short,
 };
-use crate::titles::{write_at_worker, write_two, write_worker};
+use crate::titles::{write_at_worker, write_over, write_worker};
 use file_access::{Page, Sink};
 use history_text::{HistoryEntry, write_mark};
 use itoa::Buffer;
+use picture_layout::Layout;
 use resource_lock::{Mark, MarkId, WorkerId};
 use run_spans::{Span, Subject};
 
@@ -96,9 +96,8 @@ pub(crate) fn fails_within(layout: &Layout, span: &Span) -> bool
     span.mark == Mark::Failed && span.until <= u64::from(layout.behind)
 }
 
-/// Writes a number of a class in a worker's hue.
+/// Writes a number in a worker's hue at the left upper corner of an area.
 pub(crate) fn write_hued_number<K: Sink>(
-    class: &[u8],
     area: Area,
     word: &[u8],
     number: u32,
@@ -106,10 +105,10 @@ pub(crate) fn write_hued_number<K: Sink>(
     page: &mut Page,
     sink: &mut K,
 )
-    ensures { Adds (K.seen sink.old) page.old (K.seen sink.new) page.new (hued_number class.now area word.now number worker.0) }
+    ensures { Adds (K.seen sink.old) page.old (K.seen sink.new) page.new (hued_number area word.now number worker.0) }
 {
     page.text(sink, b"<text class=\"");
-    write_hue(class, worker.0, page, sink);
+    write_hue(b"a d", worker.0, page, sink);
     write_number(b"\" x=\"", area.x, page, sink);
     write_number(b"\" y=\"", area.y, page, sink);
     page.text(sink, b"\">");
@@ -137,9 +136,9 @@ fn write_task_label<K: Sink>(
     };
     let digits = digits_of(u64::from(number));
     if room_for(5 + digits, 6, area.width) {
-        write_hued_number(b"a d", place, b"task ", number, worker, page, sink);
+        write_hued_number(place, b"task ", number, worker, page, sink);
     } else if room_for(digits, 6, area.width) {
-        write_hued_number(b"a d", place, b"", number, worker, page, sink);
+        write_hued_number(place, b"", number, worker, page, sink);
     }
 }
 
@@ -224,15 +223,9 @@ fn write_parked<K: Sink>(area: Area, span: &Span, action: u32, page: &mut Page, 
 {
     begin_hued(b"k", span.worker, area, page, sink);
     page.text(sink, b"><title>");
-    write_two(
-        b"w",
-        span.worker.0,
-        b" is parked at action ",
-        action,
-        span,
-        page,
-        sink,
-    );
+    write_short(b"w", span.worker.0, page, sink);
+    write_short(b" is parked at action ", action, page, sink);
+    write_over(span, page, sink);
     page.text(sink, b"</title></rect>\n");
 }
 

@@ -4,3 +4,4 @@ pub mod Keys
 pub mod Changes
 pub mod Standing
 pub mod Counted
+pub mod Queued

@@ -32,7 +32,7 @@ use Rattle.run_spans.proofs.Covering.{covered_holds, holds_covered}
 use Rattle.run_spans.proofs.Keys.{one_key}
 
 -- the subject of a change of a text has short numbers
-short_of : (w : WorkerId) (c : Change) → w.0 < 2 ^ 32 → ChangeFits w c → IsShort (subject_of w c)
+pub short_of : (w : WorkerId) (c : Change) → w.0 < 2 ^ 32 → ChangeFits w c → IsShort (subject_of w c)
 short_of w (Lock l) small fits = (omega arith, fits)
 short_of w (Unlock l) small fits = (omega arith, fits)
 short_of w Take small fits = (omega arith, small)

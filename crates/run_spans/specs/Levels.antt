@@ -1,5 +1,7 @@
 -- How many leases are out and how many units queued after each entry.
-use Rattle.std.specs.Prelude.{ℕ, ◌+◌, ◌-◌, ◌^◌, min, List, [], ◌∷◌}
+use Rattle.std.specs.Prelude.{ℕ, ◌+◌, ◌-◌, ◌^◌, min, List, [], ◌∷◌, count_by}
+use Rattle.resource_lock.specs.Change.{same_mark}
+use Rattle.resource_lock.specs.StateView.{StateView}
 use Rattle.resource_lock.specs.declared.marks.Mark.TheVariants.{Queued}
 use Rattle.resource_lock.specs.declared.marks.MarkId.TheVariants.{Unit as UnitOf}
 use Rattle.resource_lock.specs.declared.changes.Change.{Change}
@@ -30,3 +32,7 @@ nothing_out = record { out = 0; queued = 0 }
 abbrev pub levels_of : Level → List Entry → List Level
 levels_of v [] = []
 levels_of v (e ∷ es) = after_changes v (changes_in e.changes) ∷ levels_of (after_changes v (changes_in e.changes)) es
+
+-- how many units are queued in a state
+abbrev pub units_queued : StateView → ℕ
+units_queued s = count_by (λ m. same_mark m Queued) s.units

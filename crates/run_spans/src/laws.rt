@@ -8,7 +8,7 @@ ghost use Rattle.lock_transforms.specs.Allowed.{Lawful};
 ghost use Rattle.lock_transforms.specs.Entry.{Entry, prefix_state};
 ghost use Rattle.history_text.specs.Fitting.{EntriesFit};
 ghost use Rattle.run_spans.specs.Covering.{Covered, holder_after};
-ghost use Rattle.run_spans.specs.Levels.{levels_of, nothing_out};
+ghost use Rattle.run_spans.specs.Levels.{levels_of, nothing_out, units_queued};
 ghost use Rattle.run_spans.specs.Spans.{spans_of};
 ghost use Rattle.run_spans.specs.Standing.{IsShort, holder_in};
 ghost use Rattle.run_spans.specs.Subjects.{key_of};
@@ -38,4 +38,11 @@ pub fn spans_are_those_of_the_states()
 pub fn levels_count_the_leases()
     ensures { (g : GraphView) (h : List Entry) (k : ℕ) → Fits g → Lawful g h → k < length h
         → (slice_index_or (levels_of nothing_out h) k nothing_out).out ≡ leases_out (prefix_state g h (k + 1)) }
+{}
+
+/// For every graph that makes a history lawful, the units that are counted queued after an entry are those of the state
+/// after it.
+pub fn levels_count_the_queued_units()
+    ensures { (g : GraphView) (h : List Entry) (k : ℕ) → Fits g → Lawful g h → k < length h
+        → (slice_index_or (levels_of nothing_out h) k nothing_out).queued ≡ units_queued (prefix_state g h (k + 1)) }
 {}

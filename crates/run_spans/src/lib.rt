@@ -6,7 +6,10 @@ mod levels;
 mod spans;
 mod subjects;
 
-pub use laws::{levels_count_the_leases, spans_are_those_of_the_states, spans_cover_what_holds};
+pub use laws::{
+    levels_count_the_leases, levels_count_the_queued_units, spans_are_those_of_the_states,
+    spans_cover_what_holds,
+};
 pub use levels::{Level, levels_of};
 pub use spans::{Span, spans_of};
 pub use subjects::Subject;

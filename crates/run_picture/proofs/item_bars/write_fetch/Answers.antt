@@ -1,11 +1,10 @@
-use Rattle.std.proofs.Common.{◌≡◌, ℕ, ap, ap₂, ◌∙◌}
+use Rattle.std.proofs.Common.{◌≡◌, ap, ap₂, ◌∙◌}
 use Rattle.file_access.proofs.lemmas.Telling.{adds_as, adds_then}
 use Rattle.std.specs.Prelude.{Bool, [], if◌then◌else◌}
-use Rattle.run_picture.specs.WorkerBars.{bar, cap_text, room_in}
-use Rattle.run_picture.specs.ItemBars.{item_area, item_room, fetch_bar, fetch_label}
-use Rattle.run_picture.specs.Layout.{rows_of}
+use Rattle.run_picture.specs.WorkerBars.{bar, cap_text}
+use Rattle.run_picture.specs.ItemBars.{item_area, number_area, label_area, fetch_bar, fetch_label}
 use Rattle.run_picture.specs.declared.shapes.Area.{Area}
-use Rattle.run_picture.specs.declared.layout.Rows.{Rows}
+use Rattle.picture_layout.specs.declared.layout.Rows.{Rows}
 use Rattle.run_picture.specs.ItemBars.{fetch_text}
 use Rattle.run_picture.proofs.item_bars.write_fetch.Goals as goal
 
@@ -13,5 +12,7 @@ pub returns : goal.returns
 unfolding fetch_text
 returns g c =
     let here : c.bar-area.result ≡ item_area c.args.layout.now c.args.span.now = c.bar-area.ensures.is ∙ ap (λ (r : Rows). bar c.args.layout.now c.args.span.now r.item_y r.item_height) c.rows-rows.ensures in
-    let room : c.room_in.result ≡ item_room c.args.layout.now c.args.span.now = c.room_in.ensures ∙ ap₂ (λ (a : Area) (b : Bool). room_in a b) here c.fails_within-fails.ensures in
-    adds_then (adds_as (ap (λ (a : Area). fetch_bar c.args.span.now c.args.unit c.args.ended a) here) c.write_fetch_bar.ensures) (adds_then (adds_as (ap₂ (λ (b : Bool) (a : Area). if b then cap_text a else []) c.fails_within-fails.ensures here) c.write_cap_where.ensures) (adds_as (ap (λ (r : Rows). fetch_label r c.bar-area.result c.args.unit c.args.span.now.worker.0 c.room_in.result) c.rows-rows.ensures ∙ ap₂ (λ (a : Area) (n : ℕ). fetch_label (rows_of c.args.layout.now.workers) a c.args.unit c.args.span.now.worker.0 n) here room) c.write_fetch_label.ensures))
+    let place : c.label_area.result ≡ number_area c.args.layout.now c.args.span.now = c.label_area.ensures ∙ ap₂ (λ (a : Area) (b : Bool). label_area a b) here c.fails_within-fails.ensures in
+    adds_then (adds_as (ap (λ (a : Area). fetch_bar c.args.span.now c.args.unit c.args.ended a) here) c.write_fetch_bar.ensures)
+    (adds_then (adds_as (ap₂ (λ (b : Bool) (a : Area). if b then cap_text a else []) c.fails_within-fails.ensures here) c.write_cap_where.ensures)
+    (adds_as (ap₂ (λ (r : Rows) (a : Area). fetch_label r a c.args.unit c.args.span.now.worker.0) c.rows-rows.ensures place) c.write_fetch_label.ensures))

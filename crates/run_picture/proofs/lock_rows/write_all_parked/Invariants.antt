@@ -2,7 +2,7 @@ use Rattle.std.proofs.Common.{take}
 use Rattle.std.specs.List.{flat_map}
 use Rattle.file_access.specs.PageView.{Adds}
 use Rattle.run_picture.specs.LockRows.{parked_where}
-use Rattle.run_picture.specs.Panels.{panel_view}
+use Rattle.picture_layout.specs.Panels.{panel_view}
 use Rattle.run_picture.proofs.lock_rows.write_all_parked.Given as goal
 
 abbrev pub invariant-loop-span : goal.invariant-loop-span

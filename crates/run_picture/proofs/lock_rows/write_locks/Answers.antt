@@ -5,4 +5,4 @@ use Rattle.run_picture.proofs.lock_rows.write_locks.Goals as goal
 
 pub returns : goal.returns
 unfolding lock_rows_text
-returns g c = adds_as (simp append_assoc) (adds_then (adds_then c.write_lock_names.ensures c.write_all_parked.ensures) c.write_all_owned.ensures)
+returns g c = adds_as (simp append_assoc) (adds_then (adds_then (adds_then c.write_lock_names.ensures c.write_all_parked.ensures) c.write_all_owned.ensures) c.write_folded.ensures)

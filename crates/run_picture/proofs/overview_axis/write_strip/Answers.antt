@@ -1,6 +1,6 @@
 use Rattle.std.proofs.Common.{◌+◌, arith}
 use Rattle.run_picture.specs.Overview.{band_text}
-use Rattle.run_picture.specs.Panels.{panel_view}
+use Rattle.picture_layout.specs.Panels.{panel_view}
 use Rattle.run_picture.proofs.Next.{adds_viewed}
 use Rattle.run_picture.proofs.overview_axis.write_strip.Goals as goal
 

@@ -2,7 +2,7 @@ use Rattle.std.proofs.Common.{take, map}
 use Rattle.file_access.specs.PageView.{Adds}
 use Rattle.history_text.specs.Text.{numbered}
 use Rattle.run_picture.specs.Overview.{band_text}
-use Rattle.run_picture.specs.Panels.{panel_view}
+use Rattle.picture_layout.specs.Panels.{panel_view}
 use Rattle.run_picture.proofs.overview_axis.write_strip.Given as goal
 
 abbrev pub invariant-loop-place : goal.invariant-loop-place

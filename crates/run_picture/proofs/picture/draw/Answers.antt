@@ -1,7 +1,7 @@
 use Rattle.std.proofs.Common.{map, sym, subst, ◌∙◌}
 use Rattle.history_text.specs.HistoryView.{entry_read}
-use Rattle.run_picture.specs.Panels.{Rising}
-use Rattle.run_picture.proofs.Rising.{spans_of_rise}
+use Rattle.picture_layout.specs.Panels.{Rising}
+use Rattle.picture_layout.proofs.Rising.{spans_of_rise}
 use Rattle.run_picture.proofs.picture.draw.Goals as goal
 
 pub draw_spans-requires-clause-rising : goal.draw_spans-requires-clause-rising

@@ -1,5 +1,5 @@
 use Rattle.history_text.specs.HistoryView.{history_view}
-use Rattle.run_picture.specs.Panels.{panel_view}
+use Rattle.picture_layout.specs.Panels.{panel_view}
 use Rattle.run_picture.specs.Picture.{ticks_of}
 use Rattle.run_picture.proofs.Next.{adds_mapped}
 use Rattle.run_picture.proofs.picture.write_all_ticks.Goals as goal

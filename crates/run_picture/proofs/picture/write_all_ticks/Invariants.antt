@@ -2,7 +2,7 @@ use Rattle.std.proofs.Common.{take, map}
 use Rattle.std.specs.List.{flat_map}
 use Rattle.file_access.specs.PageView.{Adds}
 use Rattle.history_text.specs.HistoryView.{history_view}
-use Rattle.run_picture.specs.Panels.{panel_view}
+use Rattle.picture_layout.specs.Panels.{panel_view}
 use Rattle.run_picture.specs.Picture.{ticks_of}
 use Rattle.run_picture.proofs.picture.write_all_ticks.Given as goal
 

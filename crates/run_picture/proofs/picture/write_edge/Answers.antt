@@ -1,6 +1,6 @@
 use Rattle.std.proofs.Common.{ℕ, ap, ap₂, codes, ◌∙◌}
 use Rattle.file_access.proofs.lemmas.Telling.{adds_as}
-use Rattle.run_picture.specs.Layout.{right_of}
+use Rattle.picture_layout.specs.Layout.{right_of}
 use Rattle.run_picture.specs.Shapes.{down}
 use Rattle.run_picture.specs.Picture.{edge_text}
 use Rattle.run_picture.proofs.picture.write_edge.Goals as goal

@@ -3,7 +3,7 @@ use Rattle.file_access.proofs.lemmas.Telling.{adds_as}
 use Rattle.run_spans.specs.declared.levels.Level.{Level}
 use Rattle.run_picture.specs.Curve.{curve_text}
 use Rattle.run_picture.specs.Picture.{panel_curve}
-use Rattle.run_picture.specs.declared.totals.Peaks.{Peaks}
+use Rattle.picture_layout.specs.declared.totals.Peaks.{Peaks}
 use Rattle.run_picture.proofs.picture.write_panel_curve.Goals as goal
 
 pub returns : goal.returns

@@ -2,7 +2,7 @@ use Rattle.std.proofs.Common.{ℕ, ◌+◌, length, map, ap, sym, arith}
 use Rattle.std.proofs.lemmas.List.{length-map}
 use Rattle.file_access.proofs.lemmas.Telling.{adds_as, adds_then}
 use Rattle.history_text.specs.HistoryView.{history_view}
-use Rattle.run_picture.specs.Panels.{panel_view}
+use Rattle.picture_layout.specs.Panels.{panel_view}
 use Rattle.run_picture.specs.Picture.{heading_where, panel_with_heading}
 use Rattle.run_picture.proofs.Next.{adds_viewed}
 use Rattle.run_picture.proofs.picture.write_panels.Goals as goal

@@ -2,7 +2,7 @@ use Rattle.std.proofs.Common.{take, map, length}
 use Rattle.file_access.specs.PageView.{Adds}
 use Rattle.history_text.specs.Text.{numbered}
 use Rattle.history_text.specs.HistoryView.{history_view}
-use Rattle.run_picture.specs.Panels.{panel_view}
+use Rattle.picture_layout.specs.Panels.{panel_view}
 use Rattle.run_picture.specs.Picture.{panel_with_heading}
 use Rattle.run_picture.proofs.picture.write_panels.Given as goal
 

@@ -1,9 +1,10 @@
 use Rattle.std.proofs.Common.{ℕ, map, ap₂}
 use Rattle.file_access.proofs.lemmas.Telling.{adds_as}
-use Rattle.run_picture.specs.Overview.{run_view, overview_text}
-use Rattle.run_picture.specs.Panels.{panel_view}
+use Rattle.run_picture.specs.Overview.{overview_text}
+use Rattle.picture_layout.specs.Overview.{run_view}
+use Rattle.picture_layout.specs.Panels.{panel_view}
 use Rattle.run_picture.specs.Picture.{run_text}
-use Rattle.run_picture.specs.declared.totals.Peaks.{Peaks}
+use Rattle.picture_layout.specs.declared.totals.Peaks.{Peaks}
 use Rattle.run_picture.proofs.picture.write_run.Goals as goal
 
 pub returns : goal.returns

@@ -6,4 +6,4 @@ use Rattle.run_picture.specs.declared.header.Totals.{Totals}
 use Rattle.run_picture.proofs.picture.write_top.Goals as goal
 
 pub returns : goal.returns
-returns g c = adds_as (ap₂ (λ (h : ℕ) (t : Totals). head_text (history_view c.args.history.now) c.args.plot h t) c.height_of.ensures c.totals_of.ensures) c.write_head.ensures
+returns g c = adds_as (ap₂ (λ (h : ℕ) (t : Totals). head_text (history_view c.args.drawing.now.history.now) c.args.drawing.now.format.plot h t) c.height_of.ensures c.totals_of.ensures) c.write_head.ensures

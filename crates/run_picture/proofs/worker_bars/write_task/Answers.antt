@@ -3,7 +3,7 @@ use Rattle.file_access.proofs.lemmas.Telling.{adds_as, adds_then}
 use Rattle.std.specs.Prelude.{Bool, [], if◌then◌else◌}
 use Rattle.run_picture.specs.WorkerBars.{bar, task_area, task_bar, cap_text, task_label}
 use Rattle.run_picture.specs.declared.shapes.Area.{Area}
-use Rattle.run_picture.specs.declared.layout.Rows.{Rows}
+use Rattle.picture_layout.specs.declared.layout.Rows.{Rows}
 use Rattle.run_picture.specs.WorkerBars.{task_text}
 use Rattle.run_picture.proofs.worker_bars.write_task.Goals as goal
 

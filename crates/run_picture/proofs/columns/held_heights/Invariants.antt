@@ -1,7 +1,0 @@
-use Rattle.std.proofs.Common.{◌≡◌, map}
-use Rattle.std.specs.List.{range_with_len}
-use Rattle.run_picture.specs.Columns.{column, held_height}
-use Rattle.run_picture.proofs.columns.held_heights.Given as goal
-
-abbrev pub invariant-loop-place : goal.invariant-loop-place
-invariant-loop-place l = l.heights.items ≡ map (λ p. held_height l.room (column l.columns.size l.held p)) (range_with_len 0 l.place)

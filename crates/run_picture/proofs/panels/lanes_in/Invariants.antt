@@ -1,6 +1,0 @@
-use Rattle.std.proofs.Common.{◌≡◌, [], drop}
-use Rattle.run_picture.specs.Panels.{lanes_from}
-use Rattle.run_picture.proofs.panels.lanes_in.Given as goal
-
-abbrev pub invariant-loop-span : goal.invariant-loop-span
-invariant-loop-span l = lanes_from l.lanes.keys (drop l.span-index l.shown) ≡ lanes_from [] l.shown
