@@ -1,8 +1,12 @@
 #!/usr/bin/env python3
-"""Tests of c/build.sh and of the Rust example's build script, with small stand-ins for the proved library and for the kit.
+"""Tests of the C library.
 
-What is tried here is how the archive is made and found: by which folders, by which words for the compiler, with which names
-in it. The stand-in for the proved library has a service of no use, whose calls all answer 0.
+BuildTests: of c/build.sh and of the Rust example's build script, with small stand-ins for the proved library and for the kit. What is
+tried is how the archive is made and found: by which folders, by which words for the compiler, with which names in it. The stand-in
+for the proved library has a service of no use, whose calls all answer 0.
+
+InterfaceTests: of the library itself, by programs in C and in Rust. `rt ci` proves crates/wakhurmi_c and leaves no archive, so c/build.sh
+has `rt lib` prove it once more, over the libraries that the gate has built. Without a gate before, that proves them all.
 """
 
 import os
@@ -16,6 +20,9 @@ import unittest
 from typing import Dict, List
 
 TOP = pathlib.Path(__file__).resolve().parent.parent
+IN_C, IN_RUST = TOP / "examples/embedding-in-c", TOP / "examples/embedding-in-rust"
+# The program that the gate has built.
+LEASES = TOP / "crates/leases/out/leases"
 
 # It uses the kit's three functions, as the proved library does.
 PROVED = """
@@ -80,9 +87,9 @@ int main(void) {
 """
 
 
-def run(words: List[str], **how: object) -> subprocess.CompletedProcess:
+def run(words: List[str], seconds: int = 60, **how: object) -> subprocess.CompletedProcess:
     streams = {"stdout": subprocess.PIPE, "stderr": subprocess.STDOUT, "errors": "surrogateescape"}
-    return subprocess.run(words, timeout=60, check=False, **streams, **how)
+    return subprocess.run(words, timeout=seconds, check=False, **streams, **how)
 
 
 class BuildTests(unittest.TestCase):
@@ -180,6 +187,62 @@ class BuildTests(unittest.TestCase):
         said = run([str(script)], env={**self.env, "WAKHURMI": "some/folder"}).stdout
         for file in ("libwakhurmi.a", "wakhurmi.h"):
             self.assertIn(f"cargo:rerun-if-changed=some/folder/{file}\n", said)
+
+
+class InterfaceTests(unittest.TestCase):
+    folder: pathlib.Path
+    made: pathlib.Path
+
+    @classmethod
+    def setUpClass(cls) -> None:
+        cls.folder = pathlib.Path(tempfile.mkdtemp(prefix="c-interface-"))
+        cls.addClassCleanup(shutil.rmtree, cls.folder, ignore_errors=True)
+        cls.made = cls.folder / "a b&c|d"
+        subprocess.run([TOP / "c/build.sh", cls.made, "-Werror"], check=True)
+
+    def said_by(self, words: List[str], **how: object) -> str:
+        ran = run(words, seconds=600, **how)
+        self.assertEqual(ran.returncode, 0, ran.stdout[-4000:])
+        return ran.stdout
+
+    def program(self, source: pathlib.Path) -> str:
+        program = str(self.folder / source.stem)
+        flags = ["-O2", "-std=gnu11", "-Wall", "-Wextra", "-Werror", f"-I{self.made}", f"-L{self.made}"]
+        self.said_by(["cc", *flags, str(source), "-o", program, "-lwakhurmi", "-pthread"])
+        return program
+
+    def bench_program(self, name: str) -> str:
+        return self.program(TOP / f"bench/programs/{name}/{name}.c")
+
+    def assert_lawful(self, history: str) -> None:
+        """By the replay, and by the program that the gate has built."""
+        replayed = self.said_by([str(IN_C / "replay.py")], input=history)
+        self.assertRegex(replayed, r"^lawful [0-9]+\n$")
+        if LEASES.exists():
+            self.assertEqual(self.said_by([str(LEASES), "check", "plan.toml"], input=history, cwd=IN_C), replayed)
+
+    def test_answers_to_calls_that_fit_and_to_misuse(self) -> None:
+        self.assertEqual(self.said_by([self.bench_program("c_calls")]), "")
+
+    def test_cancelled_threads_keep_nobody_from_a_call(self) -> None:
+        self.assert_lawful(self.said_by([self.bench_program("c_cancel"), "10000"]))
+
+    def test_threads_have_leases_and_locks_as_promised(self) -> None:
+        self.assert_lawful(self.said_by([self.bench_program("c_rounds"), "check", "4", "5000"]))
+        self.assert_lawful(self.said_by([self.program(IN_C / "eight.c")]))
+
+    def test_the_rust_example(self) -> None:
+        if shutil.which("cargo") is None:
+            self.skipTest("there is no cargo")
+        how = {"cwd": IN_RUST, "env": {**os.environ, "WAKHURMI": str(self.made), "CARGO_TARGET_DIR": str(self.folder / "target")}}
+        self.said_by(["cargo", "test", "-q", "--offline"], **how)
+        self.assert_lawful(self.said_by(["cargo", "run", "-q", "--offline"], **how))
+
+    def test_all_names_that_are_exported_begin_alike(self) -> None:
+        archive = str(self.made / "libwakhurmi.a")
+        names = re.findall(r"^[0-9a-f]+ \w (\S+)$", self.said_by(["nm", "-g", "--defined-only", archive]), re.M)
+        self.assertIn("wakhurmi_take_until", names)
+        self.assertEqual([name for name in names if not name.startswith("wakhurmi_")], [])
 
 
 if __name__ == "__main__":

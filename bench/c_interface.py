@@ -5,10 +5,12 @@ The archive is made by c/build.sh, which needs the command rt and proves crates/
 
 * examples/embedding-in-c runs, and examples/embedding-in-rust where cargo is there; the history of the first is replayed, and checked
   by the program `leases` against a plan of three projects without tasks;
-* bench/programs/c_rounds checks four threads over 400,000 rounds: never more at work than may be, one owner a lock, the answers
-  that are known beforehand; the history is replayed and checked. The same with fewer rounds under memcheck and helgrind, and built with
-  the compiler's sanitizers of threads and of addresses. Helgrind knows no lock but a mutex, so for it the calls of the proved
-  library are made one at a time;
+* bench/programs/c_calls compares answers with those that are known beforehand: to misuse, in the child of a fork, at deadlines, after stops;
+* bench/programs/c_cancel cancels 10,000 threads at random moments; the history is replayed and checked;
+* bench/programs/c_rounds checks four threads over 400,000 rounds, while a fifth asks for the leases: never more at work than may be, one
+  owner a lock; the history is replayed and checked.
+  All three run under memcheck and helgrind too, and built with the compiler's sanitizers, with less to do. Helgrind and the sanitizer of
+  threads follow no lock of the proved library, so for them its calls are made one at a time under a mutex;
 * a take and a hand-back are timed in processor time, by one thread and by four, beside a plain mutex with a counter.
 
 Tools that aren't there are passed over, and said so; so is `leases`, which is the script's first word, or the program that `./leases`
@@ -17,7 +19,7 @@ builds. Not part of the gate.
     bench/c_interface.py [PROGRAM]
 
 Measured: a take and a hand-back of a lease take 145 to 203 ns of a processor alone, 3.7 to 4.2 times the plain mutex (goal 4), and 232 to
-320 ns with four threads, 0.7 to 1.3 times (goal 2.5); 936 instructions, and 60 bytes of history an entry. Where four threads work 5 or 20
+320 ns with four threads, 0.7 to 1.3 times (goal 2.5); 931 instructions, and 60 bytes of history an entry. Where four threads work 5 or 20
 microseconds between calls the mean of a call is at most 1.0 microseconds, and 999 in 1,000 take at most 80.
 """
 
@@ -34,8 +36,9 @@ import measure
 TOP = measure.TOP
 EXAMPLE = TOP / "examples/embedding-in-c"
 LEASES = pathlib.Path(sys.argv[1]).resolve() if len(sys.argv) > 1 else TOP / "out/leases"
-ROUNDS = 100_000
-FEW_ROUNDS = 2_000
+PROGRAMS = [TOP / f"bench/programs/{name}/{name}.c" for name in ("c_rounds", "c_calls", "c_cancel")] + [EXAMPLE / "eight.c"]
+ROUNDS, FEWER_ROUNDS, FEW_ROUNDS = 100_000, 10_000, 2_000
+CANCELLED, FEWER_CANCELLED, FEW_CANCELLED = 10_000, 2_000, 400
 TIMED_ROUNDS = 400_000
 TURNS = 9
 
@@ -43,7 +46,13 @@ TURNS = 9
 MOST_ALONE = 4.0
 MOST_CONTENDED = 2.5
 
-SANITIZERS = {"threads": "-fsanitize=thread", "addresses": "-fsanitize=address"}
+ONE_AT_A_TIME = "-DWAKHURMI_ONE_AT_A_TIME"
+SANITIZERS = {
+    "threads": ["-fsanitize=thread", ONE_AT_A_TIME],
+    "addresses and of what isn't defined": ["-fsanitize=address,undefined", "-fno-sanitize-recover=all"],
+}
+# Where a thread is cancelled, the sanitizer of addresses takes what it does itself with the thread's stack for a mistake.
+SETTINGS = {**os.environ, "ASAN_OPTIONS": "use_sigaltstack=0"}
 VALGRIND = ["valgrind", "-q", "--error-exitcode=9"]
 
 
@@ -55,15 +64,15 @@ def call(words: list[str], **more: object) -> str:
 
 
 def build(folder: pathlib.Path, name: str, *flags: str) -> pathlib.Path:
-    """The folder with an archive that was built with these flags, beside the two programs."""
+    """The folder with an archive that was built with these flags, beside the programs."""
     made = folder / name
     call([str(TOP / "c/build.sh"), str(made), *flags])
     settings = {**os.environ, "PKG_CONFIG_PATH": str(made)}
     words = call(["pkg-config", "--cflags", "--libs", "wakhurmi"], env=settings).split() if shutil.which("pkg-config") else [
         f"-I{made}", f"-L{made}", "-lwakhurmi", "-pthread"
     ]
-    for source in [TOP / "bench/programs/c_rounds/c_rounds.c", EXAMPLE / "eight.c"]:
-        call(["cc", "-O2", "-g", *flags, str(source), "-o", str(made / source.stem), *words])
+    for source in PROGRAMS:
+        call(["cc", "-O2", "-g", "-Wall", "-Wextra", "-Werror", *flags, str(source), "-o", str(made / source.stem), *words])
     return made
 
 
@@ -78,8 +87,12 @@ def judged(history: str) -> str:
     return f"replayed and checked: {checked}"
 
 
-def check(program: pathlib.Path, rounds: int, tool: list[str], what: str) -> None:
-    history = call([*tool, str(program), "check", "4", str(rounds)])
+def check(made: pathlib.Path, rounds: int, cancelled: int, tool: list[str], what: str) -> None:
+    call([*tool, str(made / "c_calls")], env=SETTINGS)
+    print(f"{what}: all answers are those known beforehand", flush=True)
+    history = call([*tool, str(made / "c_cancel"), str(cancelled)], env=SETTINGS)
+    print(f"{what}: {cancelled} threads were cancelled: {judged(history)}", flush=True)
+    history = call([*tool, str(made / "c_rounds"), "check", "4", str(rounds)], env=SETTINGS)
     print(f"{what}: four threads, {4 * rounds} rounds: {judged(history)}", flush=True)
 
 
@@ -88,8 +101,9 @@ def try_in_rust(made: pathlib.Path, folder: pathlib.Path) -> None:
         print("in Rust: passed over, there is no cargo")
         return
     settings = {**os.environ, "WAKHURMI": str(made), "CARGO_TARGET_DIR": str(folder / "target")}
-    said = call(["cargo", "run", "-q", "--offline", "--release"], cwd=TOP / "examples/embedding-in-rust", env=settings)
-    print(f"in Rust: {said.strip()}")
+    example = TOP / "examples/embedding-in-rust"
+    call(["cargo", "test", "-q", "--offline", "--release"], cwd=example, env=settings)
+    print("in Rust:", judged(call(["cargo", "run", "-q", "--offline", "--release"], cwd=example, env=settings)))
 
 
 def time_rounds(made: pathlib.Path, threads: int, most: float) -> None:
@@ -108,13 +122,13 @@ def main() -> None:
         made = build(folder, "plain")
         print("in C:", judged(call([str(made / "eight")])))
         try_in_rust(made, folder)
-        check(made / "c_rounds", ROUNDS, [], "as it is")
-        for what, flag in SANITIZERS.items():
-            check(build(folder, what, "-g", flag) / "c_rounds", ROUNDS // 10, [], f"sanitizer of {what}")
+        check(made, ROUNDS, CANCELLED, [], "as it is")
+        for what, flags in SANITIZERS.items():
+            check(build(folder, what, "-g", *flags), FEWER_ROUNDS, FEWER_CANCELLED, [], f"sanitizer of {what}")
         if shutil.which("valgrind"):
-            check(made / "c_rounds", FEW_ROUNDS, [*VALGRIND, "--leak-check=full"], "memcheck")
-            single = build(folder, "single", "-g", "-DWAKHURMI_ONE_AT_A_TIME")
-            check(single / "c_rounds", FEW_ROUNDS, [*VALGRIND, "--tool=helgrind"], "helgrind")
+            check(made, FEW_ROUNDS, FEW_CANCELLED, [*VALGRIND, "--leak-check=full"], "memcheck")
+            single = build(folder, "single", "-g", ONE_AT_A_TIME)
+            check(single, FEW_ROUNDS, FEW_CANCELLED, [*VALGRIND, "--tool=helgrind"], "helgrind")
         else:
             print("memcheck, helgrind: passed over, there is no valgrind")
         time_rounds(made, 1, MOST_ALONE)

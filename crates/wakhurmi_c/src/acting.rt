@@ -25,11 +25,11 @@ impl Worker {
         if !may_take(&self.pass) {
             return Outcome::without_entry(Answer::Misused);
         }
+        if !are_in_order(locks, self.locks) {
+            return Outcome::without_entry(Answer::BadNumber);
+        }
         if ask_for(&mut self.asked, locks).is_err() {
             return Outcome::without_entry(Answer::NoMemory);
-        }
-        if !are_in_order(&self.asked, self.locks) {
-            return Outcome::without_entry(Answer::BadNumber);
         }
         let acquire = Acquire {
             locks: &self.asked,

@@ -1,6 +1,7 @@
 //! The end of a service.
-ghost use Rattle.std.specs.Prelude.{◌≡◌, ◌≢◌, ◌<◌, ◌≤◌, ℕ, [], All, IfNone, IfSome, false, length, map, true, vec_capacity};
+ghost use Rattle.std.specs.Prelude.{◌≡◌, ◌≢◌, ◌<◌, ◌≤◌, ℕ, [], All, IfNone, IfSome, false, length, map, not, true, vec_capacity};
 ghost use Rattle.std.specs.Arc.{arc_value};
+ghost use Rattle.std.specs.List.{list_any};
 ghost use Rattle.atomic_table.specs.Seated.{TableId};
 ghost use Rattle.resource_lock.specs.GraphView.{GraphView};
 ghost use Rattle.coordination.specs.Closings.{IsClosedBy};
@@ -26,7 +27,8 @@ struct Gathered {
     service: Option<Arc<Slot, Global>>,
 }
 
-/// Whether full handles are those of all workers of a service, in order. They stay full, with the same workers.
+/// Whether full handles are those of all workers of a service, in order. They stay full, with the same workers: each is taken out, tested
+/// and put back, so that the service can still be ended.
 fn are_whole(alloc: Global, handles: &mut [Handle]) -> bool
     requires { All (λ h. h.full ≡ true) handles.old }
     ensures full { All (λ h. h.full ≡ true) handles.new }
@@ -103,6 +105,13 @@ fn close_by(gathered: Gathered, spare: Box<Book>) -> Box<Book>
     service.take_away(passes, BoxedBook { inner: spare })
 }
 
+/// Whether one of the handles is empty.
+fn some_empty(handles: &[Handle]) -> bool
+    ensures { result ≡ list_any (λ h. not h.full) handles.now }
+{
+    handles.iter().any(|handle| !handle.full)
+}
+
 /// Ends a service whose workers' handles these are, all of them and in order: the book is taken out of it for good. Where they
 /// aren't that, it answers `BadNumber`, and they stay full, with the same workers. `Full` and `Empty` speak of the book's handle
 /// and of these. It takes memory for a small book, and answers `NoMemory` where there is none.
@@ -114,10 +123,13 @@ pub extern "C" fn wakhurmi_c_finish(
 ) -> u32
     requires service { (id : TableId) × All (λ h. h.held.worker.pass.service.table ≡ id) handles.old }
     ensures done { answer_of result ≡ answers.Done → book.new.full ≡ true }
+    ensures whole { answer_of result ≡ answers.Done → AreWhole handles.old }
     ensures closed { answer_of result ≡ answers.Done
         → (g : GraphView) × IsClosedBy (map (λ h. h.held.worker.pass) handles.old) g book.new.held.book }
     ensures emptied { answer_of result ≡ answers.Done → All (λ h. h.full ≡ false) handles.new }
     ensures why { answer_of result ≢ answers.Done → WhyUnfinished handles.old book.old.full (answer_of result) }
+    ensures full_book { answer_of result ≢ answers.Full → book.old.full ≡ false }
+    ensures full_handles { answer_of result ≢ answers.Full → answer_of result ≢ answers.Empty → list_any (λ h. not h.full) handles.old ≡ false }
     ensures kept { answer_of result ≢ answers.Done → answer_of result ≢ answers.BadNumber → handles.new ≡ handles.old }
     ensures full { answer_of result ≡ answers.BadNumber → All (λ h. h.full ≡ true) handles.new }
     ensures workers { answer_of result ≡ answers.BadNumber → map (λ h. h.held.worker) handles.new ≡ map (λ h. h.held.worker) handles.old }
@@ -126,7 +138,7 @@ pub extern "C" fn wakhurmi_c_finish(
     if book.full {
         return Answer::Full.number();
     }
-    if handles.iter().any(|handle| !handle.full) {
+    if some_empty(handles) {
         return Answer::Empty.number();
     }
     let Ok(passes) = Vec::with_capacity(alloc, handles.len()) else {

@@ -1,8 +1,10 @@
 //! A service that C opens.
-ghost use Rattle.std.specs.Prelude.{◌≡◌, ◌≢◌, ◌≤◌, [], All, IfErr, IfOk, true, length, map, vec_capacity};
+ghost use Rattle.std.specs.Prelude.{◌≡◌, ◌≢◌, ◌≤◌, [], All, IfErr, IfOk, None, true, false, length, map, vec_capacity};
 ghost use Rattle.std.specs.Arc.{arc_value};
 ghost use Rattle.std.specs.List.{list_any};
 ghost use Rattle.resource_lock.specs.AtRest.{IsAtRest};
+ghost use Rattle.resource_lock.specs.Fits.{Fits};
+ghost use Rattle.resource_lock.specs.Made.{made_of};
 ghost use Rattle.wakhurmi_c.specs.Numbers.{answer_of};
 ghost use Rattle.wakhurmi_c.specs.Opened.{IsOpened, WhyUnopened};
 ghost use Rattle.wakhurmi_c.specs.Places.{HasNoTasks};
@@ -21,8 +23,9 @@ use std::sync::Arc;
 fn book_of(alloc: Global, workers: u32, max_leases: u32, locks: u32) -> Result<Box<Book>, Answer>
     ensures err { IfErr result (WhyUnopened workers max_leases locks) }
     ensures rest { IfOk result (λ book. IsAtRest book.value.state) }
+    ensures fits { IfOk result (λ _. Fits (made_of locks None workers max_leases [] [])) }
+    ensures graph { IfOk result (λ book. book.value.graph ≡ made_of locks None workers max_leases [] []) }
     ensures workers { IfOk result (λ book. book.value.graph.workers ≡ workers) }
-    ensures max_leases { IfOk result (λ book. book.value.graph.max_leases ≡ max_leases) }
     ensures locks { IfOk result (λ book. book.value.graph.locks ≡ locks) }
     ensures no_tasks { IfOk result (λ book. HasNoTasks book.value.graph) }
     ensures history { IfOk result (λ book. book.value.history ≡ []) }
@@ -135,6 +138,13 @@ fn fill(handles: &mut [Handle], workers: Vec<Box<Worker, Global>>, mut filled: V
     handles.swap_with_slice(&mut filled);
 }
 
+/// Whether one of the handles is full.
+fn some_full(handles: &[Handle]) -> bool
+    ensures { result ≡ list_any (λ h. h.full) handles.now }
+{
+    handles.iter().any(|handle| handle.full)
+}
+
 /// Opens a service for as many workers as there are handles, of whom `max_leases` may have a lease at once, with so many project
 /// locks. The handles are empty before.
 #[unsafe(no_mangle)]
@@ -148,11 +158,12 @@ pub extern "C" fn wakhurmi_c_open(
     ensures opened { answer_of result ≡ answers.Done
         → IsOpened (length handles.old) max_leases locks (map (λ h. h.held.worker.pass) handles.new) }
     ensures full_handle { answer_of result ≡ answers.Full → list_any (λ h. h.full) handles.old ≡ true }
+    ensures no_full_handle { answer_of result ≢ answers.Full → list_any (λ h. h.full) handles.old ≡ false }
     ensures why { answer_of result ≢ answers.Done → answer_of result ≢ answers.Full
         → WhyUnopened (length handles.old) max_leases locks (answer_of result) }
     ensures kept { answer_of result ≢ answers.Done → handles.new ≡ handles.old }
 {
-    if handles.iter().any(|handle| handle.full) {
+    if some_full(handles) {
         return Answer::Full.number();
     }
     if handles.len() > MAX_WORKERS as usize {

@@ -43,6 +43,7 @@ fn part_of(alloc: Global, book: &Book, place: u64, most: usize) -> Result<Memory
     ensures fits { IfOk result (λ sink. length sink.bytes ≤ most) }
     ensures why { IfErr result (WhyUnwritten most (part_text book.now place)) }
 {
+    // With one byte more than the buffer has, a part that doesn't fit is known by its length.
     let Ok(mut sink) = MemorySink::limited(alloc, (most as u64).saturating_add(1)) else {
         return Err(Answer::NoMemory);
     };

@@ -24,6 +24,7 @@ pub struct Worker {
     // Who sleeps is known to C alone. So each entry is asked whether it would wake a transform that sleeps.
     pub(crate) sleepers: Sleepers,
     ghost own: { pass.service.table ≡ (arc_value service).table.shared.table_id },
+    // So all that keeps a call from its entry is what other workers have.
     ghost no_tasks: { HasNoTasks pass.sight.seen.graph },
     ghost locks_are: { locks ≡ pass.sight.seen.graph.locks },
     ghost workers_are: { workers ≡ (arc_value service).table.shared.key.kept.value.book.graph.workers },

@@ -13,6 +13,8 @@ extern "C" {
     fn wakhurmi_open(workers: u32, max_leases: u32, locks: u32, service: *mut *mut Opaque) -> u32;
     fn wakhurmi_take(service: *mut Opaque, worker: u32, locks: *const u32, count: usize) -> u32;
     fn wakhurmi_hand_back(service: *mut Opaque, worker: u32) -> u32;
+    fn wakhurmi_stop(service: *mut Opaque) -> u32;
+    fn wakhurmi_leases_out(service: *mut Opaque, leases: *mut u32) -> u32;
     fn wakhurmi_finish(service: *mut Opaque) -> u32;
     fn wakhurmi_history(
         service: *mut Opaque,
@@ -25,8 +27,8 @@ extern "C" {
 }
 
 /// Why a call did nothing: the number that the header names.
-#[derive(Debug)]
-pub struct Refused(#[allow(dead_code)] pub u32);
+#[derive(Debug, PartialEq, Eq)]
+pub struct Refused(pub u32);
 
 fn done(answer: u32) -> Result<(), Refused> {
     if answer == 0 {
@@ -52,6 +54,17 @@ pub struct Worker<'a> {
 // Calls with different workers may run at once, in any threads.
 unsafe impl Send for Worker<'_> {}
 
+/// Stops a service and asks for its leases, in any thread and beside any worker.
+#[derive(Clone, Copy)]
+pub struct Onlooker<'a> {
+    at: *mut Opaque,
+    service: PhantomData<&'a Service>,
+}
+
+// Its calls need no worker, and any number of them may run at once.
+unsafe impl Send for Onlooker<'_> {}
+unsafe impl Sync for Onlooker<'_> {}
+
 /// A lease and locks. They are handed back when it is let go.
 pub struct Taken<'a, 'b> {
     worker: &'b mut Worker<'a>,
@@ -64,15 +77,17 @@ impl Service {
         Ok(Service { at, workers })
     }
 
-    /// All workers. While they live the service is borrowed, so nobody gets another one of the same number.
-    pub fn workers(&mut self) -> Vec<Worker<'_>> {
-        (0..self.workers)
+    /// All workers, and an onlooker. While they live the service is borrowed, so nobody gets another worker of the same number.
+    pub fn parts(&mut self) -> (Vec<Worker<'_>>, Onlooker<'_>) {
+        let (at, service) = (self.at, PhantomData);
+        let workers = (0..self.workers)
             .map(|number| Worker {
-                at: self.at,
+                at,
                 number,
-                service: PhantomData,
+                service,
             })
-            .collect()
+            .collect();
+        (workers, Onlooker { at, service })
     }
 
     /// Ends the service, once all workers are let go, and gives its history out.
@@ -84,7 +99,9 @@ impl Service {
         loop {
             let mut written = 0;
             let into = buffer.as_mut_ptr().cast();
-            done(unsafe { wakhurmi_history(self.at, &mut place, into, buffer.len(), &mut written) })?;
+            done(unsafe {
+                wakhurmi_history(self.at, &mut place, into, buffer.len(), &mut written)
+            })?;
             if written == 0 {
                 return Ok(String::from_utf8(text).expect("a history is ASCII"));
             }
@@ -110,5 +127,19 @@ impl<'a> Worker<'a> {
 impl Drop for Taken<'_, '_> {
     fn drop(&mut self) {
         unsafe { wakhurmi_hand_back(self.worker.at, self.worker.number) };
+    }
+}
+
+impl Onlooker<'_> {
+    /// Has all takes that wait, or would have to from now on, end without what they want.
+    pub fn stop(&self) -> Result<(), Refused> {
+        done(unsafe { wakhurmi_stop(self.at) })
+    }
+
+    /// How many leases are out.
+    pub fn leases_out(&self) -> Result<u32, Refused> {
+        let mut leases = 0;
+        done(unsafe { wakhurmi_leases_out(self.at, &mut leases) })?;
+        Ok(leases)
     }
 }

@@ -15,9 +15,8 @@ pub returns-clause-left : goal.returns-clause-left
 returns-clause-left c =
     let noted : c.ask_for.new.asked.items ≡ locks_of c.args.locks.now =
     said (c.ask_for.new.asked.items ≡ locks_of c.args.locks.now) c.ask_for.result (sym c.is_err.ensures.value ∙ c.if-is_err.false) c.ask_for.ensures in
-    let same : c.deref-2.result.now ≡ locks_of c.args.locks.now = c.deref-2.ensures.value ∙ noted in
-    let again : c.deref.result.now ≡ c.deref-2.result.now = c.deref.ensures.value ∙ sym c.deref-2.ensures.value in
-    let order : are_in_order c.deref-2.result.now c.args.self.now.pass.sight.seen.graph.locks ≡ true =
-    sym (λ i. are_in_order (again i) (c.args.self.now.locks_are i)) ∙ (sym c.are_in_order.ensures ∙ c.if-not-are_in_order.false) in
-    take_leaves c.args.shortage (locks_of c.args.locks.now) c.deref-2.result.now c.args.self.now.pass.sight c.try_once.new.pass.sight
+    let same : c.deref.result.now ≡ locks_of c.args.locks.now = c.deref.ensures.value ∙ noted in
+    let order : are_in_order c.deref.result.now c.args.self.now.pass.sight.seen.graph.locks ≡ true =
+    (λ i. are_in_order (same i) (sym c.args.self.now.locks_are i)) ∙ (sym c.are_in_order.ensures ∙ c.if-not-are_in_order.false) in
+    take_leaves c.args.shortage (locks_of c.args.locks.now) c.deref.result.now c.args.self.now.pass.sight c.try_once.new.pass.sight
     c.try_once.result.answer same c.args.self.now.no_tasks (sym c.may_take.ensures ∙ c.if-not-may_take.false) order c.try_once.ensures.left

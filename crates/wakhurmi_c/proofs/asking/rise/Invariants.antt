@@ -1,7 +1,0 @@
--- all locks rise if those that are left do, from the lowest number on that may come
-use Rattle.std.proofs.Common.{◌≡◌, drop}
-use Rattle.lock_transforms.specs.Taking.{rises}
-use Rattle.wakhurmi_c.proofs.asking.rise.Given as goal
-
-abbrev pub invariant-loop-lock : goal.invariant-loop-lock
-invariant-loop-lock l = rises 0 l.asked ≡ rises l.low (drop l.lock-index l.asked)
