@@ -1,16 +1,15 @@
 //! Tests of `run_in_budget` on the items of a plan, which the desk reads first, by its call 0.
-ghost use Rattle.std.specs.Prelude.{◌≡◌, true};
+ghost use Rattle.std.specs.Prelude.{◌≡◌, IfSome, true};
 ghost use Rattle.item_actions.specs.Forms.{is_file_name};
 ghost use Rattle.memory_budget.specs.Waiting.{AsksProcess};
 
 use crate::run_tests::{
-    Came, close, is_second_right, is_what_came, leased, new_lock, run_and_stop,
+    Came, Seat, close, is_second_right, is_what_came, new_lock, run_and_stop, seat_at,
 };
 use daemon_desk::{Lie, MemoryDesk, MemoryLink};
 use daemon_requirements::{Isolation, Work};
 use file_access::{FileEntry, FileMap, Files, Read};
 use item_actions::{MAX_FILE_BYTES, Text, is_file_name};
-use lease_service::{Lease, current_lease};
 use memory_budget::BudgetLock;
 use plan_reader::{Plan, UnitWork, read_plan, units_of};
 use std::alloc::Global;
@@ -78,6 +77,17 @@ fn plan<R: Abort>(rt: &R, alloc: Global, desk: &mut MemoryDesk) -> Result<Plan, 
     }
 }
 
+// The work of a unit that is an item in a process.
+fn work_of<'a>(unit: &UnitWork<'a>) -> Option<&'a Work>
+    ensures process { IfSome result (λ work. AsksProcess work.now.isolation) }
+    ensures form { IfSome result (λ work. is_file_name work.now.file ≡ true) }
+{
+    match *unit {
+        UnitWork::Item(work) if is_for_daemon(work) => Some(work),
+        _ => None,
+    }
+}
+
 // Whether the item has the form of an item that runs within a budget.
 fn is_for_daemon(work: &Work) -> bool
     ensures process { result ≡ true → AsksProcess work.now.isolation }
@@ -89,41 +99,21 @@ fn is_for_daemon(work: &Work) -> bool
 /// What comes of the plan's items, by their numbers.
 static CAME: [Came; 2] = [Came::Fault, Came::Three];
 
-// Whether the unit's item is in a daemon, and this comes of it and no daemon is one too many.
-fn runs<R: Wait + Abort>(
-    rt: &R,
-    alloc: Global,
-    lease: &Lease<'_>,
-    desk: &mut MemoryDesk,
-    lock: &BudgetLock<MemoryLink>,
-    unit: u32,
-    of_unit: &UnitWork<'_>,
-    came: Came,
-) -> bool {
-    match *of_unit {
-        UnitWork::Item(work) => {
-            if !is_for_daemon(work) {
-                return false;
-            }
-            let (budgeted, spare_mb) = run_and_stop(rt, alloc, lease, desk, lock, unit, work);
-            is_what_came(&budgeted, came) && spare_mb.is_none()
-        }
-        UnitWork::Fetch(_) => false,
-    }
-}
-
-// Whether the plan's items come to what they have to, one after the other.
+// Whether the plan's items come to what they have to, one after the other, and no daemon is one too many.
 fn all_run<R: Wait + Abort>(
     rt: &R,
     alloc: Global,
-    lease: &Lease<'_>,
-    desk: &mut MemoryDesk,
+    seat: &mut Seat,
     lock: &BudgetLock<MemoryLink>,
     units: &[UnitWork<'_>],
 ) -> bool {
     let mut unit = 0u32;
     for (of_unit, came) in units.iter().zip(&CAME) {
-        if !runs(rt, alloc, lease, desk, lock, unit, of_unit, *came) {
+        let Some(work) = work_of(of_unit) else {
+            return false;
+        };
+        let (budgeted, spare_mb) = run_and_stop(rt, alloc, seat, lock, unit, work);
+        if !is_what_came(&budgeted, *came) || spare_mb.is_some() {
             return false;
         }
         unit = unit.saturating_add(1);
@@ -137,15 +127,13 @@ fn is_second_worked_out<R: Wait + Abort>(
     alloc: Global,
     answer: Option<&[u8]>,
 ) -> Result<bool, Fail> {
-    let mut desk = desk(alloc, answer)?;
-    let plan = plan(rt, alloc, &mut *desk)?;
+    let mut seat = seat_at(rt, alloc, 0, desk(alloc, answer)?)?;
+    let plan = plan(rt, alloc, &mut *seat.desk)?;
     let units = units_of(alloc, &plan)?;
-    let pass = leased(rt, alloc)?;
-    let lease = current_lease(&pass).expect(rt, "a lease");
     let lock = new_lock(rt, alloc, BUDGET_MB);
-    let ran = all_run(rt, alloc, &lease, &mut *desk, &lock, &units);
-    let events = close(lock, &mut *desk);
-    Ok(ran && desk.count() == 1 && is_second_right(&events))
+    let ran = all_run(rt, alloc, &mut seat, &lock, &units);
+    let events = close(lock, &mut *seat.desk);
+    Ok(ran && seat.desk.count() == 1 && is_second_right(&events))
 }
 
 #[test]

@@ -11,7 +11,7 @@ use daemon_manager::Event;
 use daemon_requirements::{Isolation, Linked, Work};
 use file_access::{FileEntry, FileMap};
 use item_actions::{ItemAction, Outcome, Text, is_file_name};
-use lease_service::{Lease, current_lease};
+use lease_service::current_lease;
 use lock_journal::Book;
 use lock_transforms::kinds::{Acquire, Shortage};
 use memory_budget::{
@@ -27,9 +27,9 @@ use std::thread::Threads;
 
 /// A worker: its pass has a lease.
 #[derive(Drop)]
-struct Seat {
+pub(crate) struct Seat {
     pass: Pass,
-    desk: Box<MemoryDesk>,
+    pub(crate) desk: Box<MemoryDesk>,
     first: u32,
     right: u32,
 }
@@ -95,8 +95,8 @@ fn last_pass(service: &Coordination, passes: &mut Vec<Pass>) -> Result<Pass, All
     passes.pop().ok_or(AllocError)
 }
 
-/// The pass of the one worker of a service, which has a lease.
-pub(crate) fn leased<R: Wait + Abort>(rt: &R, alloc: Global) -> Result<Pass, AllocError> {
+// The pass of the one worker of a service, which has a lease.
+fn leased<R: Wait + Abort>(rt: &R, alloc: Global) -> Result<Pass, AllocError> {
     let Opened {
         service,
         mut passes,
@@ -154,18 +154,19 @@ fn most_held(events: &[Event]) -> u64 {
 }
 
 /// What comes of an item, and the heap of the daemon that was one too many behind it, which is stopped.
-pub(crate) fn run_and_stop<R: Wait, D: Desk>(
+pub(crate) fn run_and_stop<R: Wait + Abort>(
     rt: &R,
     alloc: Global,
-    lease: &Lease<'_>,
-    desk: &mut D,
-    lock: &BudgetLock<D::Link>,
+    seat: &mut Seat,
+    lock: &BudgetLock<MemoryLink>,
     unit: u32,
     work: &Work,
 ) -> (Budgeted, Option<u32>)
     requires process { AsksProcess work.now.isolation }
     requires form { is_file_name work.now.file ≡ true }
 {
+    let lease = &current_lease(&seat.pass).expect(rt, "a lease");
+    let desk = &mut *seat.desk;
     let BudgetedRun { budgeted, spare } = run_in_budget(rt, alloc, lease, desk, lock, unit, work);
     match spare {
         Some(link) => {
@@ -188,8 +189,7 @@ impl Seat {
         heap_mb: u32,
     ) -> (Budgeted, Option<u32>) {
         let work = work(rt, alloc, heap_mb);
-        let lease = current_lease(&self.pass).expect(rt, "a lease");
-        run_and_stop(rt, alloc, &lease, &mut *self.desk, lock, unit, &work)
+        run_and_stop(rt, alloc, self, lock, unit, &work)
     }
 
     // Runs each eighth item.
@@ -206,15 +206,14 @@ impl Seat {
     }
 }
 
-// A seat whose pass has a lease. These calls of its desk fail.
-fn new_seat<R: Wait + Abort>(
+/// A seat with this desk, whose pass has a lease.
+pub(crate) fn seat_at<R: Wait + Abort>(
     rt: &R,
     alloc: Global,
     first: u32,
-    failing: &[u64],
+    desk: Box<MemoryDesk>,
 ) -> Result<Seat, AllocError> {
     let pass = leased(rt, alloc)?;
-    let desk = desk(alloc, failing)?;
     Ok(Seat {
         pass,
         desk,
@@ -226,7 +225,7 @@ fn new_seat<R: Wait + Abort>(
 fn seats<R: Wait + Abort>(rt: &R, alloc: Global) -> Result<Vec<Seat>, AllocError> {
     let mut seats = Vec::new(alloc);
     for first in 0..WORKERS {
-        seats.push(new_seat(rt, alloc, first, &[])?)?;
+        seats.push(seat_at(rt, alloc, first, desk(alloc, &[])?)?)?;
     }
     Ok(seats)
 }
@@ -463,7 +462,7 @@ fn has_happened(events: &[Event], happened: Happened) -> bool {
 // Whether a scene goes as it has to.
 fn plays<R: Wait + Abort>(rt: &R, alloc: Global, scene: &Scene) -> Result<bool, AllocError> {
     assert!(rt; scene.budget_mb <= MAX_BUDGET_MB);
-    let mut seat = new_seat(rt, alloc, 0, scene.failing)?;
+    let mut seat = seat_at(rt, alloc, 0, desk(alloc, scene.failing)?)?;
     let lock = new_lock(rt, alloc, scene.budget_mb);
     let goes = all_go(rt, alloc, &mut seat, &lock, scene.steps)
         && lock.budget_mb() == scene.budget_mb;

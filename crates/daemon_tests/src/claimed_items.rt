@@ -10,7 +10,7 @@ use coordination::{Coordination, Halt, Opened, Pass, openings_are_at_rest};
 use daemon_desk::Desk;
 use daemon_manager::Tally;
 use daemon_requirements::Work;
-use item_work::{PoolLock, Ran, run_item};
+use item_work::{PoolLock, Ran, SharedPool, run_item};
 use lease_service::current_lease;
 use lock_journal::Book;
 use lock_transforms::kinds::{Claim, Close, Start, Submit};
@@ -159,7 +159,8 @@ pub(crate) fn run_claimed<R: Wait, D: Desk, U: Ledger, F: Ledger>(
     let Some(lease) = current_lease(pass) else {
         unreachable!()
     };
-    run_item(rt, alloc, &lease, desk, pool, mine, unit, work)
+    let shared = SharedPool { rt, alloc, pool };
+    run_item(&shared, &lease, desk, mine, unit, work)
 }
 
 /// Closes an item that the pass has run.

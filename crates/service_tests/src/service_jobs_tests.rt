@@ -155,12 +155,19 @@ fn jobs_of_one_desk_run_in_turn(rt: HostRuntime) -> Result<(), Fail> {
     let table = table_of(&rt, rt.alloc(), &TWO_SERVICES)?;
     let jobs = three_jobs(rt.alloc())?;
     let end = run_on(&rt, rt.alloc(), &table, &jobs, 1, 1)?;
-    assert!(rt; end.done.len() == 3 && has_entries(&end.book, &ENTRIES));
-    for (place, ran) in end.done.iter().enumerate() {
-        assert!(rt; ran.taken == place as u64 * 2 + 1);
-        assert!(rt; matches!(ran.outcome, Outcome::Number(told) if told == JOBS[place % 3].1));
-    }
+    assert!(rt; has_entries(&end.book, &ENTRIES) && ran_in_turn(&end.done));
     Ok(())
+}
+
+// Whether these are the three jobs, each with the second entry behind the one before it, and its own number.
+fn ran_in_turn(done: &[JobDone]) -> bool {
+    for (place, ran) in done.iter().enumerate() {
+        let is_number = matches!(ran.outcome, Outcome::Number(told) if told == JOBS[place % 3].1);
+        if !is_number || ran.taken != place as u64 * 2 + 1 {
+            return false;
+        }
+    }
+    done.len() == 3
 }
 
 /// Runs so many jobs on eight services and so many desks with so many leases, follows the history, and compares what the jobs gave.

@@ -87,29 +87,81 @@ fn users(table: &ServiceTable, book: &Book, service: u32) -> u32 {
 fn uses_are_taken_whole_or_not_at_all(rt: HostRuntime) -> Result<(), Fail> {
     let table = table_of(&rt, rt.alloc(), &TWO_SERVICES)?;
     let mut book = book_of(&rt, rt.alloc(), &table, 3)?;
-    for (worker, call, comes, used) in &TURNS {
-        assert!(rt; comes_to_something(&rt, &table, &mut book, *worker, *call)? == *comes);
-        assert!(rt; users(&table, &book, 0) == used[0] && users(&table, &book, 1) == used[1]);
+    for turn in &TURNS {
+        assert!(rt; goes(&rt, &table, &mut book, turn)?);
     }
     assert!(rt; has_entries(&book, &ENTRIES));
     Ok(())
 }
 
+// Whether a turn goes as it has to.
+fn goes(
+    rt: &impl Abort,
+    table: &ServiceTable,
+    book: &mut Book,
+    turn: &Turn,
+) -> Result<bool, AllocError> {
+    let (worker, call, comes, [first, second]) = *turn;
+    Ok(
+        comes_to_something(rt, table, book, worker, call)? == comes
+            && users(table, book, 0) == first
+            && users(table, book, 1) == second,
+    )
+}
+
 #[test]
 fn locks_are_those_of_their_services(rt: HostRuntime) -> Result<(), Fail> {
     let table = table_of(&rt, rt.alloc(), &TWO_SERVICES)?;
-    assert!(rt; table.locks() == 3 && table.services() == 2);
-    let services = [Some(0), Some(0), Some(1), None];
-    for (lock, service) in services.iter().enumerate() {
-        assert!(rt; table.service_of(LockId(lock as u32)) == *service);
-    }
-    for maxima in [&[0][..], &[33], &[], &[1; 65]] {
-        assert!(rt; !ServiceTable::fits(maxima));
-    }
-    assert!(rt; ServiceTable::fits(&[32; 64]) && ServiceTable::fits(&[1]));
-    for asked in [&[1, 0][..], &[0, 0], &[2]] {
-        assert!(rt; !table.are_services(asked));
-    }
-    assert!(rt; table.are_services(&[]) && table.are_services(&[0, 1]));
+    assert!(rt; has_services(&table) && fit_within_limits() && are_services_rising(&table));
     Ok(())
+}
+
+/// The service of each lock, and of a lock that no service has.
+static SERVICES: [Option<u32>; 4] = [Some(0), Some(0), Some(1), None];
+
+// Whether the table of two services has their locks.
+fn has_services(table: &ServiceTable) -> bool {
+    for (lock, service) in SERVICES.iter().enumerate() {
+        if table.service_of(LockId(lock as u32)) != *service {
+            return false;
+        }
+    }
+    table.locks() == 3 && table.services() == 2
+}
+
+/// Maxima, and whether they fit: each is 1 to 32, of 1 to 64 services.
+static MAXIMA: [(&[u32], bool); 6] = [
+    (&[0], false),
+    (&[33], false),
+    (&[], false),
+    (&[1; 65], false),
+    (&[32; 64], true),
+    (&[1], true),
+];
+
+fn fit_within_limits() -> bool {
+    for (maxima, fit) in &MAXIMA {
+        if ServiceTable::fits(maxima) != *fit {
+            return false;
+        }
+    }
+    true
+}
+
+/// Numbers, and whether they are services of a table of two, in strictly rising order.
+static ASKED: [(&[u32], bool); 5] = [
+    (&[1, 0], false),
+    (&[0, 0], false),
+    (&[2], false),
+    (&[], true),
+    (&[0, 1], true),
+];
+
+fn are_services_rising(table: &ServiceTable) -> bool {
+    for (asked, are_services) in &ASKED {
+        if table.are_services(asked) != *are_services {
+            return false;
+        }
+    }
+    true
 }
