@@ -182,7 +182,8 @@ fn check_next<A: Admitter, I: Source>(
     }
 }
 
-// How many bytes the end line behind so many entries has.
+// How many bytes the end line behind so many entries has. It never falls from entry to entry, so from a line's beginning at least as
+// many bytes of a history are still to come, and behind a line that isn't the last as many again: no piece reaches further.
 fn end_length(count: u64) -> usize
     ensures { result ≡ length (end_text count) }
 {

@@ -45,7 +45,8 @@ pub(crate) fn write_value<K: Sink>(outcome: &Outcome, page: &mut Page, sink: &mu
     }
 }
 
-// Writes a digest as hexadecimal digits.
+// Writes a digest as hexadecimal digits, byte by byte, each inlined to two bytes: one call for all would need an array of 64 digits,
+// filled by a loop with a proof of its own.
 fn write_digest<K: Sink>(digest: &[u8; 32], page: &mut Page, sink: &mut K)
     ensures { Adds (K.seen sink.old) page.old (K.seen sink.new) page.new (flat_map hex_text digest.now) }
 {

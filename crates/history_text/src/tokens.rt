@@ -44,7 +44,8 @@ pub(crate) fn text_after_number(text: &[u8], number: u64) -> Option<&[u8]>
 }
 
 /// A table of words: returns the value of the first of them that the text begins with, and the text after it. What
-/// is read behind a word may be part of its value.
+/// is read behind a word may be part of its value. It is a macro, since a static table holds no function, and most values are made of
+/// the number behind the word.
 macro_rules! by_word {
     ($text:ident: $($word:literal $($read:ident($value:ident))? => $made:expr,)+) => {
         $(

@@ -21,7 +21,7 @@ use std::thread::Threads;
 /// Why nothing could be begun.
 #[derive(Clone, Copy)]
 enum Hindrance {
-    /// The words can't be read.
+    /// A word isn't UTF-8, so it can't be handed to the call. Nothing is printed.
     Words,
     /// There is no memory.
     Memory,

@@ -8,7 +8,8 @@ use lock_transforms::{Closed, Kind};
 use resource_lock::{Change, WorkerId};
 
 /// An entry, with the place where its changes begin among those of all entries. They end where those
-/// of the next entry begin.
+/// of the next entry begin. It has no outcome: closings stand in a row of their own, in which a failed entry's can be another than the
+/// last of its unit.
 #[derive(Clone, Copy)]
 pub struct StoredEntry {
     pub start: usize,

@@ -99,7 +99,8 @@ fn excess_of_plan(document: &Value) -> Option<Which>
     }
 }
 
-// What a task has too many of: actions, or texts in `after`.
+// What a task has too many of: actions, or texts in `after`, which count as they are written. A name that repeats counts once in
+// the plan.
 fn excess_of_task(task: &Value) -> Option<Which>
     ensures { result ≡ excess_of_task (view task.now) }
 {

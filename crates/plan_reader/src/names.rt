@@ -86,7 +86,7 @@ fn add_number(
 }
 
 /// Where the next name is looked for first: behind the one before it, where that one stood so too. Names often stand in
-/// their order, and where they don't a look there is lost.
+/// their order, and where they don't a look there is lost. No clause rests on the guess.
 #[derive(Clone, Copy)]
 struct LikelyNext {
     next: u32,
@@ -100,7 +100,7 @@ impl LikelyNext {
         is_likely: false,
     };
 
-    // The number that is guessed. None that is unlikely is a name's.
+    // The number that is guessed. What is unlikely is the greatest `u32`, which is no name's: an `Option` would cost a test more a name.
     fn number(self) -> u32 {
         if self.is_likely { self.next } else { u32::MAX }
     }

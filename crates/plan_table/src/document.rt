@@ -13,7 +13,8 @@ use toml::Value;
 /// The most projects, tasks or requirements of a document, so that a `u32` has the number of each.
 pub const MAX_PARTS: usize = u32::MAX as usize;
 
-// The document that `toml` reads in the bytes, or NotToml.
+// The document that `toml` reads in the bytes, or NotToml. A text of 13 KB can nest 6,400 deep by dotted keys, and reading and
+// releasing it recurse in `toml`: 2.25 MB of stack.
 fn parse_document(alloc: Global, bytes: &[u8]) -> Result<Value, PlanFail>
     ensures { ReadsDocument result (document_or_not_toml (document_of bytes.now)) }
 {

@@ -45,7 +45,8 @@ fn required_keys(rules: &[KeyRule], entries: &Table) -> Option<usize>
     Some(required)
 }
 
-// How many of the rules are of keys that are required.
+// How many of the rules are of keys that are required. No key stands twice in a table, so none of them lacks exactly where as many
+// are there.
 fn required_count(rules: &[KeyRule]) -> usize
     ensures { result ≡ count_by (λ r. r.is_required) rules.now }
 {

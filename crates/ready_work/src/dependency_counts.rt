@@ -6,7 +6,8 @@ ghost use Rattle.ready_work.specs.DependencyCounts.{count_of, is_counted, CanPut
 
 use std::alloc::{AllocError, Global};
 
-/// Which tasks are counted, and for each task how many of those that it comes after are.
+/// Which tasks are counted, and for each task how many of those that it comes after are. One that stands twice in the `after` of a
+/// task counts twice, and has it twice among its dependents.
 #[derive(Drop)]
 pub(crate) struct DependencyCounts {
     counted: Vec<bool>,

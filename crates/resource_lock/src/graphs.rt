@@ -107,7 +107,8 @@ pub struct Graph {
     units: u32,
     tasks: Vec<GraphTask>,
     actions: Vec<GraphAction>,
-    // The action of each unit, where these were noted.
+    // The action of each unit, where these were noted: a graph is made without memory. The table stands here, where the invariant ties
+    // it to the actions, so no condition of a kind takes one more argument.
     unit_actions: Option<Vec<u32>>,
 }
 

@@ -93,7 +93,7 @@ impl ServiceTable {
         None
     }
 
-    /// How many workers own a lock of the service.
+    /// How many workers own a lock of the service. Each worker is counted once, at its last lock, so it is right for any state.
     pub fn in_use(&self, state: &State, service: u32) -> u32
         requires service { service < length self.now }
         requires locks { length state.now.owners ≡ lock_count self.now }

@@ -13,6 +13,9 @@ use resource_lock::{Graph, LockId};
 /// Takes the lowest lock without owner of each of some services, given in strictly rising order, and a lease, for a worker that
 /// has nothing.
 ///
+/// It is a transform of its own, since which locks are free is known only under the state lock. It applies an `Acquire` of those
+/// that it chose.
+///
 /// A service may have no lock without owner, or as many leases as may be may be out. It then fails or asks to be run again, as
 /// `shortage` says. It asks to be run again where the worker has something, and where the graph has other locks than those of
 /// the services, or an all-projects lock.

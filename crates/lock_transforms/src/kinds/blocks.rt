@@ -90,7 +90,7 @@ impl FixedKind for Block {
     }
 }
 
-// Moves a fetch's mark from Waiting to Running, and sets down the lease and the locks.
+// Moves a fetch's mark from Waiting to Running, and sets down the lease and the locks. The mark comes first here, and last in Unblock.
 fn begin_fetch(work: &mut Tentative, unit: u32) -> bool
     requires fits { Fits work.old.graph }
     requires belongs { BelongsTo work.old.graph work.old.state }

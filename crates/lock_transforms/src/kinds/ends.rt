@@ -87,6 +87,7 @@ impl FixedKind for End {
     }
 
     fn make(&self, work: &mut Tentative) -> bool {
+        // Both are of the state before the entry.
         let leased = work.state().has_lease(work.worker());
         let mark = end_mark(work.graph(), work.state(), self.task);
         let actions = actions_of(work.graph(), self.task);

@@ -88,6 +88,8 @@ pub(crate) fn run_fixed<K: FixedKind>(kind: &K, work: &mut Tentative) -> Progres
 }
 
 /// Applies a kind that never fails: where its changes can't all be made, it asks to be run again.
+// It can't be a default of `Transform`, and no trait of these kinds can stand above `Transform`: a method that leads back to its block
+// isn't proved yet, and a macro that writes blocks is refused. So each of these kinds says its kind and its most changes in both blocks.
 pub(crate) fn finish_or_retry<K: FixedKind>(kind: &K, work: &mut Tentative) -> Disposition
     requires fresh { work.old.made ≡ [] }
     requires room { K.most kind.now ≤ work.old.room }

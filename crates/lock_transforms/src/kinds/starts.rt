@@ -72,6 +72,7 @@ impl FixedKind for Start {
         let lock = lock_of(work.graph(), self.task);
         let running = Mark::Running(work.worker());
         let moved = Change::Move(MarkId::Task(self.task), Mark::Waiting, running);
+        // One behind the other rather than from a list: so the compiler knows each change, and leaves the test and the step of that one.
         try_change(work, Change::Lock(lock))
             && try_change(work, Change::Take)
             && try_change(work, moved)
