@@ -32,6 +32,7 @@ import beside  # noqa: E402
 import schedule  # noqa: E402
 
 PARTS = ("src", "specs", "proofs", "c")
+CHECKED = "out/incremental"
 
 # What `rt plant` says of a wrong body, or of a function without a clause, that the contracts let through.
 LETS_THROUGH = ("proves", "no-ensures", "untested")
@@ -72,8 +73,8 @@ def changed_since(rt: types.ModuleType, commit: str, names: List[str]) -> List[s
         ]
 
 
-def make_room(room: pathlib.Path, names: List[str]) -> None:
-    """A repository of these crates alone."""
+def make_room(room: pathlib.Path, names: List[str], planted: str) -> None:
+    """A repository of these crates alone. What an earlier check of the planted one left here spares its first check."""
     rows = {row.partition(":")[0].split()[0]: row for row in (TOP / "crates.txt").read_text().split("\n") if ":" in row.partition("#")[0]}
     room.mkdir()
     (room / "crates.txt").write_text("".join(f"{rows[name]}\n" for name in names))
@@ -82,6 +83,8 @@ def make_room(room: pathlib.Path, names: List[str]) -> None:
         for part in PARTS:
             if (TOP / "crates" / name / part).is_dir():
                 shutil.copytree(TOP / "crates" / name / part, room / "crates" / name / part)
+    if (TOP / "crates" / planted / CHECKED).is_dir():
+        shutil.copytree(TOP / "crates" / planted / CHECKED, room / "crates" / planted / CHECKED)
 
 
 def give_libraries(rt: types.ModuleType, room: pathlib.Path, name: str) -> None:
@@ -120,7 +123,7 @@ def try_crate(rt: types.ModuleType, name: str, uses: Dict[str, List[str]], given
     """Prints what a crate lets through, and gives what is to be said of it at the end, if anything is."""
     with tempfile.TemporaryDirectory(prefix="plant-") as above:
         room = pathlib.Path(above) / "room"
-        make_room(room, schedule.needed(uses, name))
+        make_room(room, schedule.needed(uses, name), name)
         try:
             give_libraries(rt, room, name)
         except NotKept as crate:
