@@ -1,6 +1,6 @@
 -- An item's closing, and what is decided behind it.
-use Rattle.std.proofs.Common.{◌≡◌, Option, Result, Ok, Err, inl, inr}
-use Rattle.std.specs.Prelude.{IfOk}
+use Rattle.std.proofs.Common.{◌≡◌, Option, Result, Ok, Err, inl, inr, subst, sym}
+use Rattle.std.specs.Prelude.{IfOk, IsErrAnd, MatchResult}
 use Rattle.resource_lock.specs.declared.ids.WorkerId.{WorkerId}
 use Rattle.lock_journal.specs.BookView.{BookView}
 use Rattle.lock_transforms.specs.Allowed.{IsFixedList}
@@ -9,7 +9,7 @@ use Rattle.lock_transforms.specs.declared.entries.Kind.{Kind}
 use Rattle.lock_transforms.specs.declared.entries.Kind.TheVariants as kinds
 use Rattle.coordination.specs.Attempts.{Cause, Making}
 use Rattle.coordination.specs.Calls.{HasFinished}
-use Rattle.coordination.specs.Decisions.{HasDecided}
+use Rattle.coordination.specs.Decisions.{HadStep, HasDecided}
 use Rattle.coordination.specs.RunThenDecide.{HasDecidedBehind, HasFollowed}
 use Rattle.coordination.specs.declared.decisions.Decided.{Decided}
 use Rattle.coordination.specs.declared.decisions.Followed.{Followed}
@@ -17,12 +17,28 @@ use Rattle.coordination.specs.declared.decisions.Followed.TheVariants as followe
 use Rattle.coordination.specs.declared.halts.Halt.{Halt}
 use Rattle.coordination.specs.declared.rule.Sight.{Sight}
 use Rattle.async_tracker.specs.Closings.{HasClosedThen}
+use Rattle.async_tracker.specs.declared.closing.CloseHalt.{CloseHalt}
+use Rattle.async_tracker.specs.declared.closing.CloseHalt.TheVariants.{Closed as ClosedThen}
 use Rattle.async_tracker.specs.Following.{HasDecidedAfter}
 use Rattle.async_tracker.proofs.Claiming.{closed_shows}
 use Rattle.async_tracker.proofs.lemmas.After.{if_ok}
 
 pub closed_then : (c : Closed) {old between : Sight} {Follows : Sight → Type 0} → HasFinished (kinds.Close c) (IsFixedList (kinds.Close c)) old between → Follows between → HasClosedThen c old Follows
 closed_then c {old} {between} {Follows} closed follows = record { between = between; closed = closed; shows = closed_shows {u = c.unit} {o = c.outcome} closed; follows = follows }
+
+-- what the result of a decision becomes behind the closing
+abbrev pub IsBehind : {T : Type 0} → Result T Halt → Result T CloseHalt → Type 0
+IsBehind r r' = MatchResult r (λ x. r' ≡ Ok x) (λ e. IsErrAnd r' (λ h. h ≡ ClosedThen e))
+
+pub ok_behind : {T : Type 0} (P : T → Type 0) (r : Result T Halt) (r' : Result T CloseHalt) → IsBehind r r' → IfOk r P → IfOk r' P
+ok_behind P (Ok x) r' is p = subst (λ q. IfOk q P) (sym is) p
+ok_behind P (Err e) (Ok x) is p = absurd is
+ok_behind P (Err e) (Err h) is p = tt
+
+pub err_behind : {T : Type 0} (r : Result T Halt) (r' : Result T CloseHalt) (e : Halt) → IsBehind r r' → r' ≡ Err (ClosedThen e) → r ≡ Err e
+err_behind (Ok x) r' e is at = absurd (cc)
+err_behind (Err d) (Ok x) e is at = absurd is
+err_behind (Err d) (Err h) e is at = cc
 
 module _ {A X : Type 0} (answers : WorkerId → BookView → A → Type 0) (waits : WorkerId → BookView → Type 0) (step_of : A → Option X) (kind_of : X → Kind)
     (makes : X → Making) (fails retries : X → Cause) (c : Closed) (old : Sight) where
@@ -45,7 +61,7 @@ module _ {A X : Type 0} (answers : WorkerId → BookView → A → Type 0) (wait
   pub if_undecided : (new : Sight) (r : Result (Followed A) Halt) → r ≡ Ok followed.Undecided → IfOk r (ClosesAnd new) → Closes new × waits new.worker new.seen
   if_undecided new r is p = if_ok (ClosesAnd new) r followed.Undecided is p
 
-  pub if_no_memory : (new : Sight) (r : Result (Followed A) Halt) → r ≡ Ok followed.NoMemory → IfOk r (ClosesAnd new) → Closes new
+  pub if_no_memory : (new : Sight) (r : Result (Followed A) Halt) → r ≡ Ok followed.NoMemory → IfOk r (ClosesAnd new) → Closes new × HadStep answers step_of new.worker new.seen
   if_no_memory new r is p = if_ok (ClosesAnd new) r followed.NoMemory is p
 
   -- it was decided later, since there was no answer

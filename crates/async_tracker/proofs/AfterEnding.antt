@@ -7,6 +7,7 @@ use Rattle.lock_transforms.specs.Allowed.{IsFixedList}
 use Rattle.lock_transforms.specs.declared.entries.Kind.TheVariants as kinds
 use Rattle.worker_choices.specs.declared.choices.Choice.{Choice}
 use Rattle.coordination.specs.Calls.{HasFinished}
+use Rattle.coordination.specs.Decisions.{HadStep}
 use Rattle.coordination.specs.Holds.{HoldsNothing}
 use Rattle.coordination.specs.RunThenDecide.{HasDecidedBehind, HasFollowed}
 use Rattle.coordination.specs.Shown.{Shows, ShowsTheSame}
@@ -34,42 +35,43 @@ still_shows shows same = record {
   blocked = same.blocked ∙ shows.blocked;
 }
 
-module _ (t : ℕ) (old : Sight) where
+module _ (tells : Bool → Type 0) (t : ℕ) (old : Sight) where
   -- what a task's end with what is next behind it left
   abbrev pub EndsAnd : Sight → Followed Choice → Type 0
-  EndsAnd new f = HasFollowed IsNextIn IsIdleIn step_of_choice kind_of_step Makes FailsOn RetriesOn (kinds.End t) (IsFixedList (kinds.End t)) (λ g w s. ⊥) old new f
+  EndsAnd new f = HasFollowed (IsNextIn tells) (IsIdleIn tells) step_of_choice kind_of_step Makes FailsOn RetriesOn (kinds.End t) (IsFixedList (kinds.End t)) (λ g w s. ⊥) old new f
 
   abbrev pub Ended : Sight → Type 0
   Ended new = HasFinished (kinds.End t) (IsFixedList (kinds.End t)) old new
 
   pub if_undecided : (new : Sight) (r : Result (Followed Choice) Halt) (f : Followed Choice) → r ≡ Ok f → f ≡ followed.Undecided → IfOk r (EndsAnd new)
-      → Ended new × IsIdleIn new.worker new.seen
+      → Ended new × IsIdleIn tells new.worker new.seen
   if_undecided new r f is at p = subst (EndsAnd new) at (if_ok (EndsAnd new) r f is p)
 
-  pub if_no_memory : (new : Sight) (r : Result (Followed Choice) Halt) (f : Followed Choice) → r ≡ Ok f → f ≡ followed.NoMemory → IfOk r (EndsAnd new) → Ended new
+  pub if_no_memory : (new : Sight) (r : Result (Followed Choice) Halt) (f : Followed Choice) → r ≡ Ok f → f ≡ followed.NoMemory → IfOk r (EndsAnd new)
+      → Ended new × HadStep (IsNextIn tells) step_of_choice new.worker new.seen
   if_no_memory new r f is at p = subst (EndsAnd new) at (if_ok (EndsAnd new) r f is p)
 
   pub if_decided : (new : Sight) (r : Result (Followed Choice) Halt) (f : Followed Choice) (d : Decided Choice) → r ≡ Ok f → f ≡ followed.Decided d → IfOk r (EndsAnd new)
-      → HasDecidedBehind IsNextIn step_of_choice kind_of_step Makes FailsOn RetriesOn (kinds.End t) (IsFixedList (kinds.End t)) old new d
+      → HasDecidedBehind (IsNextIn tells) step_of_choice kind_of_step Makes FailsOn RetriesOn (kinds.End t) (IsFixedList (kinds.End t)) old new d
   if_decided new r f d is at p = subst (EndsAnd new) at (if_ok (EndsAnd new) r f is p)
 
   pub ended_then : (after : Sight → Type 0) (between : Sight) → Ended between → after between → HasEndedThen t old after
   ended_then after between ended then = record { between = between; ended = ended; shows = ended_shows ended; then = then }
 
   -- what was next was done on the book that the task's end left
-  pub ended_and_taken : (new : Sight) (d : Decided Choice) → HasDecidedBehind IsNextIn step_of_choice kind_of_step Makes FailsOn RetriesOn (kinds.End t) (IsFixedList (kinds.End t)) old new d
-      → ((s : Sight) → ShowsEnded t old s → HoldsNothing s) → HasEndedThen t old (λ s. HasTakenAfter s new (choice_of d))
+  pub ended_and_taken : (new : Sight) (d : Decided Choice) → HasDecidedBehind (IsNextIn tells) step_of_choice kind_of_step Makes FailsOn RetriesOn (kinds.End t) (IsFixedList (kinds.End t)) old new d
+      → ((s : Sight) → ShowsEnded t old s → HoldsNothing s) → HasEndedThen t old (λ s. HasTakenAfter tells s new (choice_of d))
   ended_and_taken new d k alone =
       let rests : HoldsNothing k.between = alone k.between (ended_shows k.finished) in
-      let next = taken_at k.between new d k.decided rests in
-      ended_then (λ s. HasTakenAfter s new (choice_of d)) k.between k.finished
-      (record { taken = next.0; shows = taken_shows k.between new (choice_of d) next.0 rests; at_once = inl (next.1 ∙ k.at_once) })
+      let next = taken_at tells k.between new d k.decided rests in
+      ended_then (λ s. HasTakenAfter tells s new (choice_of d)) k.between k.finished
+      (record { taken = next.0; shows = taken_shows tells k.between new (choice_of d) next.0 rests; at_once = inl (next.1 ∙ k.at_once) })
 
   -- what was next was done later, since nothing was
-  pub taken_later : (mid new : Sight) (r : Result Choice Halt) → Ended mid × IsIdleIn mid.worker mid.seen → IfOk r (HasTakenNext mid new) → IfOk r (ShowsNext mid new)
-      → IfOk r (λ choice. HasEndedThen t old (λ s. HasTakenAfter s new choice))
+  pub taken_later : (mid new : Sight) (r : Result Choice Halt) → Ended mid × IsIdleIn tells mid.worker mid.seen → IfOk r (HasTakenNext tells mid new) → IfOk r (ShowsNext mid new)
+      → IfOk r (λ choice. HasEndedThen t old (λ s. HasTakenAfter tells s new choice))
   taken_later mid new (Ok choice) ended next shows =
-      ended_then (λ s. HasTakenAfter s new choice) mid ended.0 (record { taken = next; shows = shows; at_once = inr ended.1 })
+      ended_then (λ s. HasTakenAfter tells s new choice) mid ended.0 (record { taken = next; shows = shows; at_once = inr ended.1 })
   taken_later mid new (Err e) ended next shows = tt
 
   pub kept_later : {T E : Type 0} (mid new : Sight) (r : Result T E) → Ended mid → OnErr r (ShowsTheSame mid new) → OnErr r (ShowsTheSame old new ⊎ ShowsEnded t old new)

@@ -51,23 +51,23 @@ starts_within g w s queued t next = next.2.is.start.within
 not_again : (n t m : ℕ) → m ≡ t → t < n → n ≤ m → ⊥
 not_again n t m is within least = omega (arith, is, within, least)
 
-module _ (t : ℕ) (old new : Sight) (step : TaskStep) where
-  skipped : steps.Skip t ≡ step → (f : HasFinished (kind_of_step step) (Makes step) old new) → IsNextIn old.worker f.before (choices.Skip t) → (k : HasSkippedNext t old new) × (k.finished.before ≡ f.before)
+module _ (tells : Bool → Type 0) (t : ℕ) (old new : Sight) (step : TaskStep) where
+  skipped : steps.Skip t ≡ step → (f : HasFinished (kind_of_step step) (Makes step) old new) → IsNextIn tells old.worker f.before (choices.Skip t) → (k : HasSkippedNext tells t old new) × (k.finished.before ≡ f.before)
   skipped is f next =
-      let p : (k : HasFinished (kinds.Skip t) (IsFixedList (kinds.Skip t)) old new) × IsNextIn old.worker k.before (choices.Skip t) × (k.before ≡ f.before) =
-      subst (λ (x : TaskStep). (k : HasFinished (kind_of_step x) (Makes x) old new) × IsNextIn old.worker k.before (choices.Skip t) × (k.before ≡ f.before)) (sym is) (f, next, refl) in
+      let p : (k : HasFinished (kinds.Skip t) (IsFixedList (kinds.Skip t)) old new) × IsNextIn tells old.worker k.before (choices.Skip t) × (k.before ≡ f.before) =
+      subst (λ (x : TaskStep). (k : HasFinished (kind_of_step x) (Makes x) old new) × IsNextIn tells old.worker k.before (choices.Skip t) × (k.before ≡ f.before)) (sym is) (f, next, refl) in
       (record { finished = p.0; next = p.1 }, p.2)
 
-  started : steps.Start t ≡ step → (f : HasFinished (kind_of_step step) (Makes step) old new) → IsNextIn old.worker f.before (choices.Start t) → (k : HasStartedNext t old new) × (k.finished.before ≡ f.before)
+  started : steps.Start t ≡ step → (f : HasFinished (kind_of_step step) (Makes step) old new) → IsNextIn tells old.worker f.before (choices.Start t) → (k : HasStartedNext tells t old new) × (k.finished.before ≡ f.before)
   started is f next =
-      let p : (k : HasFinished (kinds.Start t) (IsFixedList (kinds.Start t)) old new) × IsNextIn old.worker k.before (choices.Start t) × (k.before ≡ f.before) =
-      subst (λ (x : TaskStep). (k : HasFinished (kind_of_step x) (Makes x) old new) × IsNextIn old.worker k.before (choices.Start t) × (k.before ≡ f.before)) (sym is) (f, next, refl) in
+      let p : (k : HasFinished (kinds.Start t) (IsFixedList (kinds.Start t)) old new) × IsNextIn tells old.worker k.before (choices.Start t) × (k.before ≡ f.before) =
+      subst (λ (x : TaskStep). (k : HasFinished (kind_of_step x) (Makes x) old new) × IsNextIn tells old.worker k.before (choices.Start t) × (k.before ≡ f.before)) (sym is) (f, next, refl) in
       (record { finished = p.0; next = p.1 }, p.2)
 
-  could_not : steps.Skip t ≡ step → (f : HasFailed (kind_of_step step) (FailsOn step) old new) → IsNextIn old.worker f.before (choices.Skip t) → HoldsNothing old → (k : CouldNotSkip t old new) × (k.failed.before ≡ f.before)
+  could_not : steps.Skip t ≡ step → (f : HasFailed (kind_of_step step) (FailsOn step) old new) → IsNextIn tells old.worker f.before (choices.Skip t) → HoldsNothing old → (k : CouldNotSkip tells t old new) × (k.failed.before ≡ f.before)
   could_not is f next rests =
-      let p : (k : HasFailed (kinds.Skip t) (FailsOn (steps.Skip t)) old new) × IsNextIn old.worker k.before (choices.Skip t) × (k.before ≡ f.before) =
-      subst (λ (x : TaskStep). (k : HasFailed (kind_of_step x) (FailsOn x) old new) × IsNextIn old.worker k.before (choices.Skip t) × (k.before ≡ f.before)) (sym is) (f, next, refl) in
+      let p : (k : HasFailed (kinds.Skip t) (FailsOn (steps.Skip t)) old new) × IsNextIn tells old.worker k.before (choices.Skip t) × (k.before ≡ f.before) =
+      subst (λ (x : TaskStep). (k : HasFailed (kind_of_step x) (FailsOn x) old new) × IsNextIn tells old.worker k.before (choices.Skip t) × (k.before ≡ f.before)) (sym is) (f, next, refl) in
       let k = p.0 in (
         record {
           failed = record {
@@ -85,49 +85,49 @@ module _ (t : ℕ) (old new : Sight) (step : TaskStep) where
       )
 
   -- a start that is next doesn't fail
-  never : steps.Start t ≡ step → (f : HasFailed (kind_of_step step) (FailsOn step) old new) → IsNextIn old.worker f.before (choices.Start t) → HoldsNothing old → ⊥
+  never : steps.Start t ≡ step → (f : HasFailed (kind_of_step step) (FailsOn step) old new) → IsNextIn tells old.worker f.before (choices.Start t) → HoldsNothing old → ⊥
   never is f next rests =
-      let p : (f : HasFailed (kinds.Start t) (FailsOn (steps.Start t)) old new) × IsNextIn old.worker f.before (choices.Start t) =
-      subst (λ (k : TaskStep). (f : HasFailed (kind_of_step k) (FailsOn k) old new) × IsNextIn old.worker f.before (choices.Start t)) (sym is) (f, next) in
+      let p : (f : HasFailed (kinds.Start t) (FailsOn (steps.Start t)) old new) × IsNextIn tells old.worker f.before (choices.Start t) =
+      subst (λ (k : TaskStep). (f : HasFailed (kind_of_step k) (FailsOn k) old new) × IsNextIn tells old.worker f.before (choices.Start t)) (sym is) (f, next) in
       let k = p.0 in
-      cannot_start old k.before t k.found rests k.failed.cause (begins k.before.graph old.worker k.before.state p.1.0 t p.1.1)
+      cannot_start old k.before t k.found rests k.failed.cause (begins k.before.graph old.worker k.before.state p.1.0 t p.1.2)
 
 same_step : (a b : TaskStep) → Some a ≡ Some b → a ≡ b
 same_step a b is = cc
 
 -- what was decided, and of which book
-pub taken_at : (old new : Sight) (d : Decided Choice) (h : HasDecided IsNextIn step_of_choice kind_of_step Makes FailsOn RetriesOn old new d) → HoldsNothing old
-    → (k : HasTakenNext old new (choice_of d)) × (taken_of old new (choice_of d) k ≡ decided_of IsNextIn step_of_choice kind_of_step Makes FailsOn RetriesOn old new d h)
-taken_at old new (decided.Answered choices.Pop) h rests = (h.0, refl)
-taken_at old new (decided.Answered (choices.Skip t)) h rests = let none = h.1 in absurd (cc)
-taken_at old new (decided.Answered (choices.Start t)) h rests = let none = h.1 in absurd (cc)
-taken_at old new (decided.Answered choices.Finish) h rests = (h.0, refl)
-taken_at old new (decided.Entered choices.Pop true) h rests = let none = h.is in absurd (cc)
-taken_at old new (decided.Entered (choices.Skip t) true) h rests = let k = skipped t old new h.step (same_step (steps.Skip t) h.step h.is) h.finished h.answer in (inl k.0, k.1)
-taken_at old new (decided.Entered (choices.Start t) true) h rests = started t old new h.step (same_step (steps.Start t) h.step h.is) h.finished h.answer
-taken_at old new (decided.Entered choices.Finish true) h rests = let none = h.is in absurd (cc)
-taken_at old new (decided.Entered choices.Pop false) h rests = let none = h.is in absurd (cc)
-taken_at old new (decided.Entered (choices.Skip t) false) h rests = let k = could_not t old new h.step (same_step (steps.Skip t) h.step h.is) h.failed h.answer rests in (inr k.0, k.1)
-taken_at old new (decided.Entered (choices.Start t) false) h rests = absurd (never t old new h.step (same_step (steps.Start t) h.step h.is) h.failed h.answer rests)
-taken_at old new (decided.Entered choices.Finish false) h rests = let none = h.is in absurd (cc)
-taken_at old new (decided.Waiting choices.Pop) h rests = let none = h.is in absurd (cc)
-taken_at old new (decided.Waiting (choices.Skip t)) h rests =
+pub taken_at : (tells : Bool → Type 0) (old new : Sight) (d : Decided Choice) (h : HasDecided (IsNextIn tells) step_of_choice kind_of_step Makes FailsOn RetriesOn old new d) → HoldsNothing old
+    → (k : HasTakenNext tells old new (choice_of d)) × (taken_of tells old new (choice_of d) k ≡ decided_of (IsNextIn tells) step_of_choice kind_of_step Makes FailsOn RetriesOn old new d h)
+taken_at tells old new (decided.Answered choices.Pop) h rests = (h.0, refl)
+taken_at tells old new (decided.Answered (choices.Skip t)) h rests = let none = h.1 in absurd (cc)
+taken_at tells old new (decided.Answered (choices.Start t)) h rests = let none = h.1 in absurd (cc)
+taken_at tells old new (decided.Answered choices.Finish) h rests = (h.0, refl)
+taken_at tells old new (decided.Entered choices.Pop true) h rests = let none = h.is in absurd (cc)
+taken_at tells old new (decided.Entered (choices.Skip t) true) h rests = let k = skipped tells t old new h.step (same_step (steps.Skip t) h.step h.is) h.finished h.answer in (inl k.0, k.1)
+taken_at tells old new (decided.Entered (choices.Start t) true) h rests = started tells t old new h.step (same_step (steps.Start t) h.step h.is) h.finished h.answer
+taken_at tells old new (decided.Entered choices.Finish true) h rests = let none = h.is in absurd (cc)
+taken_at tells old new (decided.Entered choices.Pop false) h rests = let none = h.is in absurd (cc)
+taken_at tells old new (decided.Entered (choices.Skip t) false) h rests = let k = could_not tells t old new h.step (same_step (steps.Skip t) h.step h.is) h.failed h.answer rests in (inr k.0, k.1)
+taken_at tells old new (decided.Entered (choices.Start t) false) h rests = absurd (never tells t old new h.step (same_step (steps.Start t) h.step h.is) h.failed h.answer rests)
+taken_at tells old new (decided.Entered choices.Finish false) h rests = let none = h.is in absurd (cc)
+taken_at tells old new (decided.Waiting choices.Pop) h rests = let none = h.is in absurd (cc)
+taken_at tells old new (decided.Waiting (choices.Skip t)) h rests =
     absurd (not_again (length h.before.graph.tasks) t (task_of_step h.step) (ap task_of_step (sym (same_step (steps.Skip t) h.step h.is)))
-    (skips_within h.before.graph old.worker h.before.state h.answer.0 t h.answer.1) h.unchanged.cause)
-taken_at old new (decided.Waiting (choices.Start t)) h rests =
+    (skips_within h.before.graph old.worker h.before.state h.answer.0 t h.answer.2) h.unchanged.cause)
+taken_at tells old new (decided.Waiting (choices.Start t)) h rests =
     absurd (not_again (length h.before.graph.tasks) t (task_of_step h.step) (ap task_of_step (sym (same_step (steps.Start t) h.step h.is)))
-    (starts_within h.before.graph old.worker h.before.state h.answer.0 t h.answer.1) h.unchanged.cause)
-taken_at old new (decided.Waiting choices.Finish) h rests = let none = h.is in absurd (cc)
+    (starts_within h.before.graph old.worker h.before.state h.answer.0 t h.answer.2) h.unchanged.cause)
+taken_at tells old new (decided.Waiting choices.Finish) h rests = let none = h.is in absurd (cc)
 
-pub taken : (old new : Sight) (d : Decided Choice) → HasDecided IsNextIn step_of_choice kind_of_step Makes FailsOn RetriesOn old new d → HoldsNothing old → HasTakenNext old new (choice_of d)
-taken old new d h rests = (taken_at old new d h rests).0
+pub taken : (tells : Bool → Type 0) (old new : Sight) (d : Decided Choice) → HasDecided (IsNextIn tells) step_of_choice kind_of_step Makes FailsOn RetriesOn old new d → HoldsNothing old → HasTakenNext tells old new (choice_of d)
+taken tells old new d h rests = (taken_at tells old new d h rests).0
 
-pub taken_shows : (old new : Sight) (choice : Choice) → HasTakenNext old new choice → HoldsNothing old → ShowsNext old new choice
-taken_shows old new choices.Pop k rests = answered_shows k
-taken_shows old new (choices.Skip t) (inl k) rests = skipped_shows k.finished
-taken_shows old new (choices.Skip t) (inr k) rests = failed_shows k.failed
-taken_shows old new (choices.Start t) k rests = started_shows k.finished rests
-taken_shows old new choices.Finish k rests = answered_shows k
+pub taken_shows : (tells : Bool → Type 0) (old new : Sight) (choice : Choice) → HasTakenNext tells old new choice → HoldsNothing old → ShowsNext old new choice
+taken_shows tells old new choices.Pop k rests = answered_shows k
+taken_shows tells old new (choices.Skip t) (inl k) rests = skipped_shows k.finished
+taken_shows tells old new (choices.Skip t) (inr k) rests = failed_shows k.failed
+taken_shows tells old new (choices.Start t) k rests = started_shows k.finished rests
+taken_shows tells old new choices.Finish k rests = answered_shows k
 
 pub in_vain_shows : {waits : WorkerId → BookView → Type 0} {by : WorkerId} {old new : Sight} → AskedInVain waits by old new → ShowsTheSame old new
 in_vain_shows f = stopped_shows {cause = λ g w s. Unit {0}} (record { book = f.book; found = f.found; cause = tt; stopper = f.stopper; sight = f.sight })

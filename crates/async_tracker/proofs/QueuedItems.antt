@@ -23,6 +23,7 @@ use Rattle.lock_transforms.specs.declared.entries.Kind.TheVariants.{Submit, Park
 use Rattle.lock_transforms.specs.declared.kinds.parks.Park.{Park as ParkOf}
 use Rattle.lock_journal.specs.Own.{is_action, is_unit}
 use Rattle.coordination.specs.Calls.{HasFinished, HasLooked}
+use Rattle.coordination.specs.Offered.{AsTold, WaitsAsTold}
 use Rattle.coordination.specs.RunThenDecide.{HasFollowed}
 use Rattle.coordination.specs.Shown.{ShowsTheSame, claimed_shown, lease_shown}
 use Rattle.coordination.specs.declared.decisions.Decided.TheVariants as decided
@@ -81,10 +82,10 @@ pub owns_still : {old new : Sight} (a : ℕ) → ShowsTheSame old new → OwnsTo
 owns_still {old} {new} a same own =
     subst (λ (g : GraphView). OwnsToPark (action_of g a).retention (lock_with g a) new) (sym same.graph) (owns_by (action_of old.seen.graph a).retention (lock_with old.seen.graph a) same own)
 
-module _ (a : ℕ) (old new : Sight) where
+module _ (tells : Bool → Type 0) (a : ℕ) (old new : Sight) where
   -- what the two entries that are made in one hold leave, with their answer
   abbrev pub Leaves : Followed (Unit {0}) → Type 0
-  Leaves = HasFollowed (λ w book x. Unit {0}) (λ w book. ⊥) (λ x. Some (record { action = a })) (λ (p : ParkOf). Park p.action) (λ p. IsFixedList (Park p.action)) (λ p g w s. ⊥) (λ p. IsDisabled (Park p.action))
+  Leaves = HasFollowed (AsTold tells (λ queued w book x. Unit {0})) (WaitsAsTold tells (λ queued w book. ⊥)) (λ x. Some (record { action = a })) (λ (p : ParkOf). Park p.action) (λ p. IsFixedList (Park p.action)) (λ p g w s. ⊥) (λ p. IsDisabled (Park p.action))
       (Submit a) (IsFixedList (Submit a)) (λ g w s. ⊥) old new
 
   abbrev pub Parked : Type 0
@@ -104,13 +105,13 @@ module _ (a : ℕ) (old new : Sight) where
   parked_at_once false h = absurd h.decided.failed.failed.cause
 
   pub submitted_alone : Leaves followed.NoMemory → Submitted
-  submitted_alone h = record { between = new; submitted = h; follows = found_again h }
+  submitted_alone h = record { between = new; submitted = h.0; follows = found_again h.0 }
 
   pub never_failed : Leaves followed.Failed → ⊥
   never_failed h = h.failed.cause
 
   pub never_undecided : Leaves followed.Undecided → ⊥
-  never_undecided h = h.1
+  never_undecided h = h.1.2
 
   pub never_answered : Leaves (followed.Decided (decided.Answered tt)) → ⊥
   never_answered h = let none = h.decided.1 in absurd (cc)

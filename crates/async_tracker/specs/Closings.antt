@@ -3,8 +3,12 @@ use Rattle.lock_transforms.specs.Allowed.{IsFixedList}
 use Rattle.lock_transforms.specs.declared.entries.Closed.{Closed}
 use Rattle.lock_transforms.specs.declared.entries.Kind.TheVariants as kinds
 use Rattle.coordination.specs.Calls.{HasFinished}
+use Rattle.coordination.specs.declared.halts.Halt.{Halt}
+use Rattle.coordination.specs.declared.halts.Halt.TheVariants as halts
 use Rattle.coordination.specs.declared.rule.Sight.{Sight}
 use Rattle.async_tracker.specs.Shows.{ShowsClosed}
+use Rattle.async_tracker.specs.declared.closing.CloseHalt.{CloseHalt}
+use Rattle.async_tracker.specs.declared.closing.CloseHalt.TheVariants.{NotClosed, Closed as ClosedThen}
 
 -- The worker closed the item, and what followed is so of what its pass had seen then.
 pub record HasClosedThen (c : Closed) (old : Sight) (Follows : Sight → Type 0) : Type 0 where
@@ -12,3 +16,8 @@ pub record HasClosedThen (c : Closed) (old : Sight) (Follows : Sight → Type 0)
   pub closed : HasFinished (kinds.Close c) (IsFixedList (kinds.Close c)) old between
   pub shows : ShowsClosed c.unit old between
   pub follows : Follows between
+
+-- the same as the halt of a call
+abbrev pub halt_of : CloseHalt → Halt
+halt_of NotClosed = halts.NoMemory
+halt_of (ClosedThen halt) = halt

@@ -1,5 +1,5 @@
 -- What a worker did first, and what came after it in the same hold of the state lock, or later where that had to be waited for.
-use Rattle.std.specs.Prelude.{◌≡◌, ◌⊎◌, ℕ, Option}
+use Rattle.std.specs.Prelude.{◌≡◌, ◌⊎◌, ℕ, Bool, Option}
 use Rattle.resource_lock.specs.declared.ids.WorkerId.{WorkerId}
 use Rattle.lock_journal.specs.BookView.{BookView}
 use Rattle.lock_transforms.specs.Allowed.{IsFixedList}
@@ -27,10 +27,10 @@ pub record HasEndedThen (t : ℕ) (old : Sight) (after : Sight → Type 0) : Typ
   pub then : after between
 
 -- What was next was done at once, unless nothing was next.
-pub record HasTakenAfter (old new : Sight) (choice : Choice) : Type 0 where
-  pub taken : HasTakenNext old new choice
+pub record HasTakenAfter (tells : Bool → Type 0) (old new : Sight) (choice : Choice) : Type 0 where
+  pub taken : HasTakenNext tells old new choice
   pub shows : ShowsNext old new choice
-  pub at_once : IsAtOnceUnless IsIdleIn old (taken_of old new choice taken)
+  pub at_once : IsAtOnceUnless (IsIdleIn tells) old (taken_of tells old new choice taken)
 
 -- It was decided at once, unless the decision had to wait.
 pub record HasDecidedAfter {A X : Type 0} (answers : WorkerId → BookView → A → Type 0) (waits : WorkerId → BookView → Type 0) (step_of : A → Option X)

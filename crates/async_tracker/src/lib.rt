@@ -16,7 +16,7 @@ mod task_steps;
 mod tasks;
 
 pub use actions::{park, submit};
-pub use closing::close_then;
+pub use closing::{CloseHalt, close_then};
 pub use ending::end_and_take_next;
 pub use items::{claim, close};
 pub use laws::closing_undoes_claiming;

@@ -2,10 +2,12 @@
 ghost use Rattle.std.specs.Prelude.{◌≡◌, Err, IfOk, OnErr, Some};
 ghost use Rattle.resource_lock.specs.declared.ids.WorkerId.{WorkerId};
 ghost use Rattle.worker_choices.specs.declared.awaited.Awaited.TheVariants as awaited;
-ghost use Rattle.coordination.specs.Calls.{AskedInVain, HasLooked};
+ghost use Rattle.coordination.specs.Calls.{AskedInVain};
+ghost use Rattle.coordination.specs.Decisions.{CouldNotStep};
 ghost use Rattle.coordination.specs.Holds.{HoldsNothing};
+ghost use Rattle.coordination.specs.Offered.{AreTold};
 ghost use Rattle.coordination.specs.Shown.{ShowsTheSame};
-ghost use Rattle.async_tracker.specs.NextSteps.{HasTakenNext, IsIdleIn, IsNextIn, ShowsNext, choice_of, step_of_choice};
+ghost use Rattle.async_tracker.specs.NextSteps.{HasTakenNext, IsIdleIf, IsIdleIn, IsNextIf, IsNextIn, ShowsNext, choice_of, step_of_choice};
 
 use crate::task_steps::TaskStep;
 use coordination::{Coordination, Decided, Decision, Halt, Keeper, Offers, Pass, Question};
@@ -21,9 +23,9 @@ pub struct WhatIsNext;
 impl Question for WhatIsNext {
     type Answer = Choice;
 
-    ghost answers = { λ _. IsNextIn };
+    ghost answers = { λ _. IsNextIf };
 
-    ghost waits_on = { λ _. IsIdleIn };
+    ghost waits_on = { λ _. IsIdleIf };
 
     ghost awaits = { λ _. Some awaited.Work };
 
@@ -63,11 +65,13 @@ pub fn take_next<R: Wait, O: Offers, K: Keeper>(
     requires service { pass.old.service ≡ service.now.service }
     requires rests { HoldsNothing pass.old.sight }
     ensures service { pass.new.service ≡ pass.old.service }
-    ensures taken { IfOk result (HasTakenNext pass.old.sight pass.new.sight) }
+    ensures taken { IfOk result (HasTakenNext (AreTold O.tells) pass.old.sight pass.new.sight) }
     ensures shows { IfOk result (ShowsNext pass.old.sight pass.new.sight) }
     ensures kept { OnErr result (ShowsTheSame pass.old.sight pass.new.sight) }
-    ensures no_memory { result ≡ Err Halt.NoMemory → HasLooked pass.old.sight pass.new.sight }
-    ensures stopped { (by : WorkerId) → result ≡ Err (Halt.Stopped by) → AskedInVain IsIdleIn by pass.old.sight pass.new.sight }
+    ensures no_memory { result ≡ Err Halt.NoMemory
+        → CouldNotStep (IsNextIn (AreTold O.tells)) step_of_choice pass.old.sight pass.new.sight }
+    ensures stopped { (by : WorkerId) → result ≡ Err (Halt.Stopped by)
+        → AskedInVain (IsIdleIn (AreTold O.tells)) by pass.old.sight pass.new.sight }
 {
     let decided = service.decide(rt, pass, &WhatIsNext)?;
     Ok(choice_of(decided))

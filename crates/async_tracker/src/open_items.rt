@@ -22,9 +22,9 @@ pub(crate) struct FirstOpen {
 impl Question for FirstOpen {
     type Answer = Option<u32>;
 
-    ghost answers = { λ q. IsFirstOpen q.action };
+    ghost answers = { λ q queued. IsFirstOpen q.action };
 
-    ghost waits_on = { λ _ _ _. ⊥ };
+    ghost waits_on = { λ _ _ _ _. ⊥ };
 
     ghost awaits = { λ _. None };
 

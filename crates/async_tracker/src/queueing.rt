@@ -31,9 +31,9 @@ struct ThenPark {
 impl Question for ThenPark {
     type Answer = ();
 
-    ghost answers = { λ q w book answer. Unit {0} };
+    ghost answers = { λ q queued w book answer. Unit {0} };
 
-    ghost waits_on = { λ q w book. ⊥ };
+    ghost waits_on = { λ q queued w book. ⊥ };
 
     ghost awaits = { λ _. None };
 
@@ -91,6 +91,7 @@ pub fn submit_and_park<R: Wait, O: Offers, K: Keeper>(
 {
     match service.run_then_decide(rt, pass, &Submit { action }, &ThenPark { action })? {
         Followed::Decided(Decided::Entered((), _)) => Ok(Parked::new(pass.worker(), action)),
+        // It doesn't park in a hold of its own: so a worker parks on the very book that its queueing left.
         Followed::NoMemory => Err(Halt::NoMemory),
         // Parking needs no more than that the action is queued.
         Followed::Decided(Decided::Waiting(())) => unreachable!(),

@@ -74,7 +74,7 @@ pub fn skip_task<R: Wait, O: Offers, K: Keeper>(
 /// worker with a lease gives it back, and the task's lock.
 ///
 /// It waits only where an action of the task neither has passed nor never ran, or where one of the
-/// changes can't be made. After an error the pass shows what it showed.
+/// changes can't be made, as for a worker that has a lease and not the task's lock. After an error the pass shows what it showed.
 pub fn end_task<R: Wait, O: Offers, K: Keeper>(
     rt: &R,
     service: &Coordination<O, K>,

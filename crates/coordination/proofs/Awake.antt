@@ -16,13 +16,13 @@ use Rattle.worker_choices.specs.declared.woken.Woken.{Woken}
 use Rattle.worker_choices.specs.declared.woken.Woken.TheVariants as woken
 use Rattle.coordination.specs.declared.decisions.Decided.{Decided}
 use Rattle.coordination.specs.declared.decisions.Decided.TheVariants as decided
-use Rattle.coordination.specs.declared.parts.Part.{Part}
+use Rattle.coordination.specs.declared.parts.WorkerPart.{WorkerPart}
 use Rattle.coordination.specs.declared.sleepers.Sleepers.{Sleepers}
 use Rattle.coordination.specs.declared.sleepers.Wakes.{Wakes}
 use Rattle.coordination.specs.declared.turns.Came.{Came}
 use Rattle.coordination.specs.declared.turns.Came.TheVariants as came
 use Rattle.coordination.specs.Attempts.{Cause, HasAsked, HasHeld, Making}
-use Rattle.coordination.specs.Decisions.{DecideGives, EndsDecision, HasDecidedHeld, noted_deciding, stance_entered}
+use Rattle.coordination.specs.Decisions.{DecideGives, EndsDecision, HadStep, HasDecidedHeld, noted_deciding, stance_entered}
 use Rattle.coordination.specs.SleepAndWake.{EndsHold, IsAwake, begun, has_entered, looks_if, noted_after, noted_asking, stance_after, stance_asking, stance_waiting, stances_after, woken_if}
 use Rattle.coordination.specs.Turns.{Leaves}
 use Rattle.coordination.proofs.Sleeping.{none_sleeps}
@@ -86,34 +86,34 @@ decided_same apart came.NoMemory s = refl
 decided_same apart (came.Done c) s = refl
 
 -- at the end of the hold of a transform, and of a question that was answered
-pub run_awake : {E : Type 0} (kind : Kind) (makes : Making) (fails retries : Cause) (w : WorkerId) (promised : Bool) (old new : BookView) (part : Part) (before after : Sleepers) (r : Result Disposition E × Wakes)
-    → HasHeld kind makes fails retries w promised old new part before after r → IsAwake w after
-run_awake kind makes fails retries w promised old new part before after r h =
+pub run_awake : {E : Type 0} (kind : Kind) (makes : Making) (fails retries : Cause) (tells : Bool → Type 0) (w : WorkerId) (promised : Bool) (old new : BookView) (part : WorkerPart) (before after : Sleepers) (r : Result Disposition E × Wakes)
+    → HasHeld kind makes fails retries tells w promised old new part before after r → IsAwake w after
+run_awake kind makes fails retries tells w promised old new part before after r h =
     held_awake new w (stance_after promised kind r.0) (has_entered r.0) (begun h.queued promised before) h.left after r.1 h.run.ends (λ a. after_awake promised kind r.0 a) (ap (λ (s : Sleepers). s.stances) h.noted ∙ noted_same r.0 h.left)
 
-pub asked_awake : {A : Type 0} (answers : WorkerId → BookView → A → Type 0) (waits : WorkerId → BookView → Type 0) (awaits : Option Awaited) (w : WorkerId) (promised woken apart : Bool) (book : BookView) (before after : Sleepers) (r : Option A × Wakes)
-    → HasAsked answers waits awaits w promised woken apart book before after r → (a : A) → r.0 ≡ Some a → IsAwake w after
-asked_awake {A} answers waits awaits w promised woken apart book before after r h a is =
+pub asked_awake : {A : Type 0} (answers : Bool → WorkerId → BookView → A → Type 0) (waits : Bool → WorkerId → BookView → Type 0) (awaits : Option Awaited) (tells : Bool → Type 0) (w : WorkerId) (promised woken apart : Bool) (book : BookView) (before after : Sleepers) (r : Option A × Wakes)
+    → HasAsked answers waits awaits tells w promised woken apart book before after r → (a : A) → r.0 ≡ Some a → IsAwake w after
+asked_awake {A} answers waits awaits tells w promised woken apart book before after r h a is =
     held_awake book w (stance_asking promised awaits r.0) false (begun h.queued promised (woken_if woken w before)) h.left after r.1 h.ends
     (λ b. subst (λ (o : Option A). stance_asking promised awaits o ≢ Sleeps b) (sym is) (looks_awake promised b)) (ap (λ (s : Sleepers). s.stances) h.noted ∙ asked_same apart r.0 h.left)
 
 -- at the end of the hold of a decision that isn't to be made again, or waits for nothing
-module _ {A X : Type 0} (answers : WorkerId → BookView → A → Type 0) (waits : WorkerId → BookView → Type 0) (awaits : Option Awaited) (step_of : A → Option X) (kind_of : X → Kind) (makes : X → Making) (fails retries : X → Cause) (w : WorkerId) where
-  decision_awake : (old new : BookView) (c : Came (Decided A)) → Leaves (DecideGives answers step_of kind_of makes fails retries) waits (Unit {0}) w old new c → (s left after : Sleepers) (wakes : Wakes)
+module _ {A X : Type 0} (answers : Bool → WorkerId → BookView → A → Type 0) (waits : Bool → WorkerId → BookView → Type 0) (awaits : Option Awaited) (step_of : A → Option X) (kind_of : X → Kind) (makes : X → Making) (fails retries : X → Cause) (w : WorkerId) where
+  decision_awake : (queued : Bool) (old new : BookView) (c : Came (Decided A)) → Leaves (DecideGives (answers queued) step_of kind_of makes fails retries) (waits queued) (HadStep (answers queued) step_of) w old new c → (s left after : Sleepers) (wakes : Wakes)
       → EndsDecision new w awaits step_of kind_of s left wakes c → (c ≡ came.Again → awaits ≡ None) → after.stances ≡ left.stances → IsAwake w after
-  decision_awake old new (came.Done (decided.Answered a)) l s left after wakes e none same = held_awake new w (looks_if s.promised) false s left after wakes e (looks_awake s.promised) same
-  decision_awake old new (came.Done (decided.Entered a true)) l s left after wakes e none same =
+  decision_awake queued old new (came.Done (decided.Answered a)) l s left after wakes e none same = held_awake new w (looks_if s.promised) false s left after wakes e (looks_awake s.promised) same
+  decision_awake queued old new (came.Done (decided.Entered a true)) l s left after wakes e none same =
       held_awake new w (stance_entered s.promised (kind_of l.step) true) true s left after wakes
       (subst (λ (o : Option X). IfSome o (λ x. EndsHold new w (stance_entered s.promised (kind_of x) true) true s left wakes)) l.is e) (entered_awake s.promised (kind_of l.step) true) same
-  decision_awake old new (came.Done (decided.Entered a false)) l s left after wakes e none same =
+  decision_awake queued old new (came.Done (decided.Entered a false)) l s left after wakes e none same =
       held_awake new w (stance_entered s.promised (kind_of l.step) false) true s left after wakes
       (subst (λ (o : Option X). IfSome o (λ x. EndsHold new w (stance_entered s.promised (kind_of x) false) true s left wakes)) l.is e) (entered_awake s.promised (kind_of l.step) false) same
-  decision_awake old new (came.Done (decided.Waiting a)) l s left after wakes e none same = held_awake new w Away false s left after wakes e (looks_awake false) same
-  decision_awake old new came.NoMemory l s left after wakes e none same = held_awake new w Away false s left after wakes e (looks_awake false) same
-  decision_awake old new came.Again l s left after wakes e none same =
+  decision_awake queued old new (came.Done (decided.Waiting a)) l s left after wakes e none same = held_awake new w Away false s left after wakes e (looks_awake false) same
+  decision_awake queued old new came.NoMemory l s left after wakes e none same = held_awake new w Away false s left after wakes e (looks_awake false) same
+  decision_awake queued old new came.Again l s left after wakes e none same =
       held_awake new w Away false s left after wakes (subst (λ (o : Option Awaited). EndsHold new w (stance_waiting o) false s left wakes) (none refl) e) (looks_awake false) same
 
-  pub decided_awake : (promised woken apart : Bool) (old new : BookView) (part : Part) (before after : Sleepers) (r : Came (Decided A) × Wakes)
-      → HasDecidedHeld answers waits awaits step_of kind_of makes fails retries w promised woken apart old new part before after r → (r.0 ≡ came.Again → awaits ≡ None) → IsAwake w after
-  decided_awake promised woken apart old new part before after r h none =
-      decision_awake old new r.0 h.decided.leaves (begun h.queued promised (woken_if woken w before)) h.left after r.1 h.ends none (ap (λ (s : Sleepers). s.stances) h.noted ∙ decided_same apart r.0 h.left)
+  pub decided_awake : (tells : Bool → Type 0) (promised woken apart : Bool) (old new : BookView) (part : WorkerPart) (before after : Sleepers) (r : Came (Decided A) × Wakes)
+      → HasDecidedHeld answers waits awaits step_of kind_of makes fails retries tells w promised woken apart old new part before after r → (r.0 ≡ came.Again → awaits ≡ None) → IsAwake w after
+  decided_awake tells promised woken apart old new part before after r h none =
+      decision_awake h.queued old new r.0 h.decided.leaves (begun h.queued promised (woken_if woken w before)) h.left after r.1 h.ends none (ap (λ (s : Sleepers). s.stances) h.noted ∙ decided_same apart r.0 h.left)

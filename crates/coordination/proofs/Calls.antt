@@ -13,7 +13,7 @@ use Rattle.coordination.specs.declared.rule.Sight.{Sight}
 use Rattle.coordination.specs.Agrees.{IsSoundBook}
 use Rattle.coordination.specs.Attempts.{Cause, Making}
 use Rattle.coordination.specs.Calls.{AskedInVain, HasFailed, HasFinished, IsAnswered, WasStopped}
-use Rattle.coordination.specs.Decisions.{DecideGives, HasDecided}
+use Rattle.coordination.specs.Decisions.{DecideGives, HadStep, HasDecided}
 use Rattle.coordination.specs.RunThenDecide.{FollowGives, HasFollowed, decided_of}
 use Rattle.coordination.specs.Sights.{seeing}
 use Rattle.coordination.specs.Turns.{AskGives, Finishes, HasDone, RunGives, sight_at}
@@ -76,7 +76,10 @@ module _ {A X : Type 0} (answers : WorkerId → BookView → A → Type 0) (step
       record { before = h.before; after = h.after; changes = h.outcome.0.0; found = h.found; graph = h.graph; finished = h.outcome.0.1; left = h.left; sight = h.sight },
       subst (λ (k : Sight). waits k.worker k.seen) (sym h.sight) h.outcome.1,
     )
-    has_followed followed.NoMemory h = record { before = h.before; after = h.after; changes = h.outcome.0; found = h.found; graph = h.graph; finished = h.outcome.1; left = h.left; sight = h.sight }
+    has_followed followed.NoMemory h = (
+      record { before = h.before; after = h.after; changes = h.outcome.0.0; found = h.found; graph = h.graph; finished = h.outcome.0.1; left = h.left; sight = h.sight },
+      subst (λ (k : Sight). HadStep answers step_of k.worker k.seen) (sym h.sight) h.outcome.1,
+    )
     has_followed (followed.Decided d) h =
         let between = h.outcome.0 in
         let same_graph : between.graph ≡ h.before.graph = h.outcome.1 in

@@ -20,7 +20,7 @@ use Rattle.lock_journal.specs.Own.{action_at, claimed, places_from, task_at, uni
 use Rattle.lock_journal.specs.OwnChanges.{claimed_after, locks_after, lock_before, mark_before, with_if, with_member, without_if}
 use Rattle.lock_journal.proofs.lemmas.OwnChanges.{own_claimed, own_holding, own_locks}
 use Rattle.coordination.specs.Parts.{HasRoomFor, IsAfter, LeadsOn, mark_count}
-use Rattle.coordination.specs.declared.parts.Part.{Part}
+use Rattle.coordination.specs.declared.parts.WorkerPart.{WorkerPart}
 
 -- how long the lists are
 length_with : {X : Type 0} (before : X → X → Bool) (x : X) (xs : List X) → length (with_member before x xs) ≡ suc (length xs)
@@ -64,7 +64,7 @@ length_claimed s w =
       length_places (runs_by w) 0 s.units,
     )
 
-module _ (s : StateView) (w : WorkerId) (part : Part) (c : Change) (cs : List Change) (l : LeadsOn s w part (c ∷ cs)) where
+module _ (s : StateView) (w : WorkerId) (part : WorkerPart) (c : Change) (cs : List Change) (l : LeadsOn s w part (c ∷ cs)) where
   possible : (can s w c ≡ true) × (can_all (make s w c) w cs ≡ true)
   possible = and_parts (can s w c) (can_all (make s w c) w cs) l.possible
 
@@ -72,7 +72,7 @@ module _ (s : StateView) (w : WorkerId) (part : Part) (c : Change) (cs : List Ch
   good_then = kept s w c l.worker l.named.0 l.good possible.0
 
   -- one change further
-  pub leads_next : (new : Part) → IsAfter w c part new → LeadsOn (make s w c) w new cs
+  pub leads_next : (new : WorkerPart) → IsAfter w c part new → LeadsOn (make s w c) w new cs
   leads_next new a =
       let shape = same_shape-make s w c in record {
         good = good_then;
@@ -92,7 +92,7 @@ module _ (s : StateView) (w : WorkerId) (part : Part) (c : Change) (cs : List Ch
       }
 
 -- there is room for it
-room_to_move : (s : StateView) (w : WorkerId) (part : Part) (m : MarkId) (from to : Mark) (cs : List Change) → LeadsOn s w part (Move m from to ∷ cs) → runs_by w to ≡ true
+room_to_move : (s : StateView) (w : WorkerId) (part : WorkerPart) (m : MarkId) (from to : Mark) (cs : List Change) → LeadsOn s w part (Move m from to ∷ cs) → runs_by w to ≡ true
     → length (without_if mark_before (runs_by w from) m part.claimed.items) < vec_capacity part.claimed
 room_to_move s w part m from to cs l is =
     let c : Change = Move m from to in
@@ -111,7 +111,7 @@ room_to_move s w part m from to cs l is =
       ap (λ (ms : List MarkId). length (without_if mark_before (runs_by w from) m ms)) l.has.claimed,
     )
 
-pub room_for : (s : StateView) (w : WorkerId) (part : Part) (c : Change) (cs : List Change) → LeadsOn s w part (c ∷ cs) → HasRoomFor w part c
+pub room_for : (s : StateView) (w : WorkerId) (part : WorkerPart) (c : Change) (cs : List Change) → LeadsOn s w part (c ∷ cs) → HasRoomFor w part c
 room_for s w part (Lock k) cs l =
     let c : Change = Lock k in
     omega (
@@ -145,11 +145,11 @@ room_for s w part Enter cs l = tt
 room_for s w part Leave cs l = tt
 
 -- along a list of changes
-pub leads_at : (s : StateView) (w : WorkerId) (part : Part) (cs : List Change) (i : ℕ) (d : Change) → i < length cs → LeadsOn (make_all s w (take i cs)) w part (drop i cs)
+pub leads_at : (s : StateView) (w : WorkerId) (part : WorkerPart) (cs : List Change) (i : ℕ) (d : Change) → i < length cs → LeadsOn (make_all s w (take i cs)) w part (drop i cs)
     → LeadsOn (make_all s w (take i cs)) w part (get_or cs i d ∷ drop (i + 1) cs)
 leads_at s w part cs i d within l = subst (LeadsOn (make_all s w (take i cs)) w part) (drop_more cs i d within) l
 
-pub leads_along : (s : StateView) (w : WorkerId) (part new : Part) (cs : List Change) (i : ℕ) (d : Change) → i < length cs → LeadsOn (make_all s w (take i cs)) w part (drop i cs) → IsAfter w (get_or cs i d) part new
+pub leads_along : (s : StateView) (w : WorkerId) (part new : WorkerPart) (cs : List Change) (i : ℕ) (d : Change) → i < length cs → LeadsOn (make_all s w (take i cs)) w part (drop i cs) → IsAfter w (get_or cs i d) part new
     → LeadsOn (make_all s w (take (i + 1) cs)) w new (drop (i + 1) cs)
 leads_along s w part new cs i d within l a =
     let front : List Change = take i cs in

@@ -18,3 +18,4 @@ pub mod Together
 pub mod FirstSights
 pub mod Sleeping
 pub mod Awake
+pub mod Woken

@@ -1,6 +1,7 @@
 -- Each step keeps the rule.
 use Rattle.std.proofs.Common.{◌≡◌, ◌≢◌, ℕ, zero, suc, eqb, ◌+◌, ◌-◌, ◌<◌, ◌≤◌, ◌^◌, List, [], ◌∷◌, ◌++◌, length, get_or, set, Option, Some, None, refl, sym, ap, ◌∙◌, subst, ⊎_elim, arith, length-set, get_or-set_same, eq-eqb, ne_eqb}
 use Rattle.std.specs.List.{All}
+use Rattle.std.proofs.lemmas.Bool.{false_from_ne_true}
 use Rattle.std.proofs.lemmas.List.{get_or-set_other}
 use Rattle.std.proofs.lemmas.List.Elements.{All-nil, All-cons, All-head, All-weaker}
 use mathlib.Core.Logic.{dite}
@@ -16,6 +17,7 @@ use Rattle.lock_journal.specs.BookView.{BookView}
 use Rattle.coordination.specs.declared.rule.Sight.{Sight}
 use Rattle.coordination.specs.declared.rule.SeatView.{SeatView}
 use Rattle.coordination.specs.Sights.{seeing, stopping, hearing, one, holding}
+use Rattle.coordination.specs.Stops.{KnowsNoStop}
 use Rattle.coordination.specs.Agrees.{Agrees, IsSoundBook}
 use Rattle.logbook.specs.Pages.{Book as Ledger}
 use Rattle.coordination.specs.Kept.{KeptView, kept}
@@ -303,6 +305,17 @@ stops_it g l slots id h s o deep at small =
       (little, (λ e. absurd (was e)), (λ _. record { stopper = stopper_of g l s o id h at was; is = refl })),
     ))
 
+none_where : {X : Type 0} (o : Option X) → ((x : X) → o ≡ Some x → ⊥) → o ≡ None
+none_where None other = refl
+none_where (Some x) other = absurd (other x refl)
+
+-- where there is no mark, a worker that sits there has set none, and heard of none
+no_stop : (n mark : ℕ) (book : BookView) (owner : ℕ → ℕ) (id : ℕ) (h : Sight) → FitsSight n mark book owner id h → mark ≡ 0 → KnowsNoStop h
+no_stop n mark book owner id h fit free = (
+  false_from_ne_true h.stopped (λ e. let m = fit.stopped e in absurd (omega arith)),
+  none_where h.stopped_by (λ w e. let m = fit.stopped_by w e in absurd (omega arith)),
+)
+
 pub looks_it : (g : GraphView) (l : Option Ledger) (slots id : ℕ) (h : Sight) → Allows (Orderly g) slots id (one l h, []) 1 (λ x. x) (heard (step slots 1 0 0 none) (one l h, []))
 looks_it g l slots id h s o deep at small =
     let x : ℕ = get_or s.words 1 0 in
@@ -315,6 +328,10 @@ looks_it g l slots id h s o deep at small =
       same_views g s o (set s.words 1 x) id (one l h) at (length-set s.words 1 x ∙ o.wide)
           (still_busy (set s.words 1 x) (get_or s.words 0 0) o.holder (get_or-set_other s.words 1 0 x 0 (λ (e : 0 ≡ 1). absurd (omega arith))) o.busy)
           (get_or-set_same s.words 1 x 0 (let p = o.wide in omega arith)),
-      (little, (λ _. refl), (λ ne. absurd (ne none_yet))),
+      (
+        little,
+        (λ _. (refl, no_stop g.workers o.mark o.book o.owner id h (fits_at g l s o id h at) (sym o.mark_is ∙ none_yet))),
+        (λ ne. absurd (ne none_yet)),
+      ),
     ))
     (λ was. (one l (hearing h (marked x)), keeps, tt, hears_it g l s o id h at was, (little, (λ e. absurd (was e)), (λ _. record { stopper = stopper_of g l s o id h at was; is = refl }))))

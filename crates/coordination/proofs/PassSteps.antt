@@ -3,7 +3,8 @@ use Rattle.std.proofs.Common.{◌≡◌, Option, Some, None, List, refl, sym, ap
 use Rattle.resource_lock.specs.GraphView.{GraphView}
 use Rattle.resource_lock.specs.declared.ids.WorkerId.{WorkerId}
 use Rattle.lock_journal.specs.BookView.{BookView}
-use Rattle.coordination.specs.declared.parts.Part.{Part}
+use Rattle.coordination.specs.declared.parts.Notes.{Notes}
+use Rattle.coordination.specs.declared.parts.WorkerPart.{WorkerPart}
 use Rattle.coordination.specs.declared.rule.Sight.{Sight}
 use Rattle.coordination.specs.Agrees.{Agrees}
 use Rattle.coordination.specs.Parts.{HasListRoom, IsPartOf, marks_of}
@@ -16,24 +17,24 @@ use Rattle.coordination.specs.Rule.{Hears, M, Taken}
 use Rattle.coordination.specs.Sights.{hearing, one, sight_of, stopping}
 
 -- the part of a worker is that of any book that agrees with what it saw
-pub part_on : (w : WorkerId) (seen book : BookView) (part : Part) → Agrees w seen book → IsPartOf seen w part → IsPartOf book w part
+pub part_on : (w : WorkerId) (seen book : BookView) (part : WorkerPart) → Agrees w seen book → IsPartOf seen w part → IsPartOf book w part
 part_on w seen book part a p = record {
   has = record { holding = p.has.holding ∙ sym a.state.holding; locks = p.has.locks ∙ sym a.state.owned; claimed = p.has.claimed ∙ sym a.state.claimed };
   last = p.last ∙ sym a.last;
 }
 
-pub room_on : (w : WorkerId) (seen book : BookView) (part : Part) → Agrees w seen book → HasListRoom seen.graph.locks (marks_of seen.graph) part → HasListRoom book.graph.locks (marks_of book.graph) part
+pub room_on : (w : WorkerId) (seen book : BookView) (part : WorkerPart) → Agrees w seen book → HasListRoom seen.graph.locks (marks_of seen.graph) part → HasListRoom book.graph.locks (marks_of book.graph) part
 room_on w seen book part a room = subst (λ (g : GraphView). HasListRoom g.locks (marks_of g) part) (sym a.graph) room
 
 -- a seat that is alone again is a pass
-pub closes_pass : (worker : WorkerId) (part : Part) (reach : Option ReachView) (me : M) (l : Option Ledger) (k s : Sight) → me ≡ (one l k, []) → sight_of me.0 ≡ s → worker ≡ s.worker → IsPartOf s.seen s.worker part
-    → HasListRoom s.seen.graph.locks (marks_of s.seen.graph) part → IsTold l reach s.seen → IsPass worker part reach me
-closes_pass worker part reach me l k s lone is w p room told = record {
+pub closes_pass : (worker : WorkerId) (notes : Notes) (me : M) (l : Option Ledger) (k s : Sight) → me ≡ (one l k, []) → sight_of me.0 ≡ s → worker ≡ s.worker → IsPartOf s.seen s.worker notes.part
+    → HasListRoom s.seen.graph.locks (marks_of s.seen.graph) notes.part → IsTold l notes.reach s.seen → IsPass worker notes me
+closes_pass worker notes me l k s lone is w p room told = record {
   lone = lone ∙ (λ i. (one (sym (ap (λ (m : M). m.0.ledger) lone) i) (sym (ap (λ (m : M). sight_of m.0) lone) i), []));
   worker_is = w ∙ sym (ap (λ (x : Sight). x.worker) is);
-  part_is = subst (λ (x : Sight). IsPartOf x.seen x.worker part) (sym is) p;
-  room = subst (λ (x : Sight). HasListRoom x.seen.graph.locks (marks_of x.seen.graph) part) (sym is) room;
-  told = subst (λ (p : Option Ledger × Sight). IsTold p.0 reach p.1.seen) (λ i. (sym (ap (λ (m : M). m.0.ledger) lone) i, sym is i)) told;
+  part_is = subst (λ (x : Sight). IsPartOf x.seen x.worker notes.part) (sym is) p;
+  room = subst (λ (x : Sight). HasListRoom x.seen.graph.locks (marks_of x.seen.graph) notes.part) (sym is) room;
+  told = subst (λ (p : Option Ledger × Sight). IsTold p.0 notes.reach p.1.seen) (λ i. (sym (ap (λ (m : M). m.0.ledger) lone) i, sym is i)) told;
 }
 
 -- where no ledger shows the history, nothing was written of it
@@ -53,16 +54,16 @@ seat_is views me is holds = λ i. (sym (ap view_in is) i, holds i)
 pub badge_is : (views : List SeatView) (v : SeatView) → views ≡ v ∷ [] → views ≡ view_in views ∷ []
 badge_is views v is = is ∙ ap (λ (x : SeatView). x ∷ []) (sym (ap view_in is))
 
-pub at_badge : (worker : WorkerId) (part : Part) (reach : Option ReachView) (me : M) (views : List SeatView) → IsPass worker part reach me → views ≡ me.0 ∷ [] → IsPass worker part reach (me_in views)
-at_badge worker part reach me views p is = subst (IsPass worker part reach) (seat_is views me is (ap (λ (m : M). m.1) p.lone)) p
+pub at_badge : (worker : WorkerId) (notes : Notes) (me : M) (views : List SeatView) → IsPass worker notes me → views ≡ me.0 ∷ [] → IsPass worker notes (me_in views)
+at_badge worker notes me views p is = subst (IsPass worker notes) (seat_is views me is (ap (λ (m : M). m.1) p.lone)) p
 
 pub lone_at : (views : List SeatView) (me : M) → views ≡ me.0 ∷ [] → me.1 ≡ [] → me_in views ≡ (one (view_in views).ledger (sight_of (view_in views)), []) → me ≡ (one me.0.ledger (sight_of me.0), [])
 lone_at views me is holds lone = let same = seat_is views me is holds in subst (λ (m : M). m ≡ (one m.0.ledger (sight_of m.0), [])) (sym same) lone
 
-pub hears_pass : (worker : WorkerId) (part : Part) (reach : Option ReachView) (m m' : M) (by : WorkerId) → IsPass worker part reach m → Hears m by m' → IsPass worker part reach m'
-hears_pass worker part reach m m' by p h =
-    let s : Sight = hearing (sight_of m.0) by in closes_pass worker part reach m' m.0.ledger s s h.is (ap (λ (x : M). sight_of x.0) h.is) p.worker_is p.part_is p.room p.told
+pub hears_pass : (worker : WorkerId) (notes : Notes) (m m' : M) (by : WorkerId) → IsPass worker notes m → Hears m by m' → IsPass worker notes m'
+hears_pass worker notes m m' by p h =
+    let s : Sight = hearing (sight_of m.0) by in closes_pass worker notes m' m.0.ledger s s h.is (ap (λ (x : M). sight_of x.0) h.is) p.worker_is p.part_is p.room p.told
 
-pub stops_pass : (worker : WorkerId) (part : Part) (reach : Option ReachView) (m m' : M) → IsPass worker part reach m → m' ≡ (one m.0.ledger (stopping (sight_of m.0)), []) → IsPass worker part reach m'
-stops_pass worker part reach m m' p is =
-    let s : Sight = stopping (sight_of m.0) in closes_pass worker part reach m' m.0.ledger s s is (ap (λ (x : M). sight_of x.0) is) p.worker_is p.part_is p.room p.told
+pub stops_pass : (worker : WorkerId) (notes : Notes) (m m' : M) → IsPass worker notes m → m' ≡ (one m.0.ledger (stopping (sight_of m.0)), []) → IsPass worker notes m'
+stops_pass worker notes m m' p is =
+    let s : Sight = stopping (sight_of m.0) in closes_pass worker notes m' m.0.ledger s s is (ap (λ (x : M). sight_of x.0) is) p.worker_is p.part_is p.room p.told

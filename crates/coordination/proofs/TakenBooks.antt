@@ -21,7 +21,7 @@ use Rattle.coordination.specs.Sights.{one, seeing, sight_of}
 use Rattle.coordination.specs.Turns.{HasLeft, HasTurned, Leaves, sight_at}
 use Rattle.coordination.specs.declared.turns.Came.{Came}
 use Rattle.coordination.specs.Parts.{Follows, Grew, HasListRoom, IsPartOf, marks_of}
-use Rattle.coordination.specs.declared.parts.Part.{Part}
+use Rattle.coordination.specs.declared.parts.WorkerPart.{WorkerPart}
 use Rattle.coordination.proofs.PassSteps.{part_on, room_on}
 
 -- the four clauses of the call together
@@ -81,11 +81,11 @@ known_in m m' t worker is = subst (λ (p : WorkerId × BookView). p.0.0 < p.1.gr
 pub sound_in : (m m' : M) (t : Taken m m') → IsSoundBook (carried_book m'.1)
 sound_in m m' t = subst IsSoundBook (sym (taken_book m m' t)) t.found.sound
 
-pub part_in : (m m' : M) (t : Taken m m') (worker : WorkerId) (part : Part) → worker ≡ (sight_of m.0).worker → IsPartOf (sight_of m.0).seen (sight_of m.0).worker part → IsPartOf (carried_book m'.1) worker part
+pub part_in : (m m' : M) (t : Taken m m') (worker : WorkerId) (part : WorkerPart) → worker ≡ (sight_of m.0).worker → IsPartOf (sight_of m.0).seen (sight_of m.0).worker part → IsPartOf (carried_book m'.1) worker part
 part_in m m' t worker part is p =
     subst (λ (x : WorkerId × BookView). IsPartOf x.1 x.0 part) (λ i. (sym is i, sym (taken_book m m' t) i)) (part_on (sight_of m.0).worker (sight_of m.0).seen t.book part t.found.agrees p)
 
-pub room_in : (m m' : M) (t : Taken m m') (part : Part) → HasListRoom (sight_of m.0).seen.graph.locks (marks_of (sight_of m.0).seen.graph) part
+pub room_in : (m m' : M) (t : Taken m m') (part : WorkerPart) → HasListRoom (sight_of m.0).seen.graph.locks (marks_of (sight_of m.0).seen.graph) part
     → HasListRoom (carried_book m'.1).graph.locks (marks_of (carried_book m'.1).graph) part
 room_in m m' t part room =
     subst (λ (b : BookView). HasListRoom b.graph.locks (marks_of b.graph) part) (sym (taken_book m m' t)) (room_on (sight_of m.0).worker (sight_of m.0).seen t.book part t.found.agrees room)
@@ -97,7 +97,7 @@ grew kind makes fails retries w old new (Ok Failed) ran = (kind, ran.history, ra
 grew kind makes fails retries w old new (Ok Retry) ran = (ran.history, ran.state)
 grew kind makes fails retries w old new (Err e) ran = (ran.history, ran.state)
 
-pub follows : {E : Type 0} (kind : Kind) (makes : Making) (fails retries : Cause) (w : WorkerId) (old new : BookView) (r : Result Disposition E) (part : Part) → IsSoundBook old → new.graph ≡ old.graph → Ran kind makes fails retries w old new r
+pub follows : {E : Type 0} (kind : Kind) (makes : Making) (fails retries : Cause) (w : WorkerId) (old new : BookView) (r : Result Disposition E) (part : WorkerPart) → IsSoundBook old → new.graph ≡ old.graph → Ran kind makes fails retries w old new r
     → IsPartOf old w part → HasListRoom old.graph.locks (marks_of old.graph) part → Follows w old new r part
 follows kind makes fails retries w old new r part sound graph ran p room = record { sound = sound; graph = graph; grew = grew kind makes fails retries w old new r ran; kept = p; room = room }
 
@@ -143,7 +143,7 @@ pub same_own : (w : WorkerId) (old new : BookView) → new ≡ old → AddsOwn (
 same_own w old new is = subst (AddsOwn (sight_at w old)) (sym is) (record { more = []; graph = refl; history = sym (append-nil old.history); own = λ v ne. tt; sound = λ s. s })
 
 -- what a turn left of the book that was taken
-module _ {C : Type 0} (gives : WorkerId → BookView → BookView → C → Type 0) (waits : WorkerId → BookView → Type 0) (runs : Type 0) (r : Came C) (part : Part) (m m' m'' : M) (t : Taken m m') (same : m''.0 ≡ m'.0) (worker : WorkerId)
+module _ {C : Type 0} (gives : WorkerId → BookView → BookView → C → Type 0) (waits runs : WorkerId → BookView → Type 0) (r : Came C) (part : WorkerPart) (m m' m'' : M) (t : Taken m m') (same : m''.0 ≡ m'.0) (worker : WorkerId)
     (is : worker ≡ (sight_of m.0).worker) (h : HasLeft gives waits runs worker (carried_book m'.1) (carried_book m''.1) part r) where
   turn_adds : AddsOwn (seeing (sight_of m.0) t.book) (carried_book m''.1)
   turn_adds =

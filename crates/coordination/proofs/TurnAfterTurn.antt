@@ -43,7 +43,7 @@ pub same_worker : (s s' s'' : Sight) (book : BookView) → OnlyLooked s s' → s
 same_worker s s' s'' book look is = ap (λ (k : Sight). k.worker) (sight_on s s' s'' book look is)
 
 -- a turn after the worker has only looked
-module _ {C : Type 0} (gives : WorkerId → BookView → BookView → C → Type 0) (waits : WorkerId → BookView → Type 0) (runs : Type 0) (s s' s'' : Sight) (look : OnlyLooked s s') where
+module _ {C : Type 0} (gives : WorkerId → BookView → BookView → C → Type 0) (waits runs : WorkerId → BookView → Type 0) (s s' s'' : Sight) (look : OnlyLooked s s') where
   worker_is : s'.worker ≡ s.worker
   worker_is = ap (λ (k : Sight). k.worker) look.sight
 
@@ -58,10 +58,10 @@ module _ {C : Type 0} (gives : WorkerId → BookView → BookView → C → Type
     sight = sight_on s s' s'' h.after look h.sight;
   }
 
-  pub no_memory_on : HasTurned gives waits runs s' s'' came.NoMemory → runs × HasLooked s s''
+  pub no_memory_on : HasTurned gives waits runs s' s'' came.NoMemory → HasLooked s s'' × runs s''.worker s''.seen
   no_memory_on h = (
-    h.leaves.0,
     record { book = h.after; found = found_again s.worker s.seen h.before h.after (found_on s s' h.before look h.found) h.leaves.1 h.left; sight = sight_on s s' s'' h.after look h.sight },
+    subst (λ (k : Sight). runs k.worker k.seen) (sym h.sight) h.leaves.0,
   )
 
   pub again_on : HasTurned gives waits runs s' s'' came.Again → OnlyLooked s s''
@@ -80,5 +80,5 @@ module _ {C : Type 0} (gives : WorkerId → BookView → BookView → C → Type
       }
 
 -- a result that is known by an equation
-pub turned_at : {C : Type 0} (gives : WorkerId → BookView → BookView → C → Type 0) (waits : WorkerId → BookView → Type 0) (runs : Type 0) (s s' : Sight) (r r' : Came C) → r ≡ r' → HasTurned gives waits runs s s' r → HasTurned gives waits runs s s' r'
+pub turned_at : {C : Type 0} (gives : WorkerId → BookView → BookView → C → Type 0) (waits runs : WorkerId → BookView → Type 0) (s s' : Sight) (r r' : Came C) → r ≡ r' → HasTurned gives waits runs s s' r → HasTurned gives waits runs s s' r'
 turned_at gives waits runs s s' r r' is h = subst (HasTurned gives waits runs s s') is h

@@ -3,3 +3,4 @@ pub mod Growing
 pub mod Nothing
 pub mod Numbered
 pub mod Shown
+pub mod Told

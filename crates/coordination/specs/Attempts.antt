@@ -1,5 +1,5 @@
 -- One try under the lock, as the worker sees it.
-use Rattle.std.specs.Prelude.{◌≡◌, Bool, false, List, Result, Ok, Err, Option, Some, None}
+use Rattle.std.specs.Prelude.{◌≡◌, ◌⊎◌, Bool, false, List, Result, Ok, Err, Option, Some, None}
 use Rattle.resource_lock.specs.GraphView.{GraphView}
 use Rattle.resource_lock.specs.StateView.{StateView}
 use Rattle.resource_lock.specs.declared.ids.WorkerId.{WorkerId}
@@ -10,8 +10,9 @@ use Rattle.lock_journal.specs.Ran.{FinishesIn, FailsIn, IsToRetry}
 use Rattle.lock_transforms.specs.declared.entries.Kind.{Kind}
 use Rattle.lock_transforms.specs.declared.transforms.Disposition.{Disposition}
 use Rattle.lock_transforms.specs.declared.transforms.Disposition.TheVariants.{Finished, Failed, Retry}
+use Rattle.worker_choices.specs.Stances.{asleep}
 use Rattle.worker_choices.specs.declared.awaited.Awaited.{Awaited}
-use Rattle.coordination.specs.declared.parts.Part.{Part}
+use Rattle.coordination.specs.declared.parts.WorkerPart.{WorkerPart}
 use Rattle.coordination.specs.declared.rule.Sight.{Sight}
 use Rattle.coordination.specs.declared.sleepers.Sleepers.{Sleepers}
 use Rattle.coordination.specs.declared.sleepers.Wakes.{Wakes}
@@ -37,7 +38,7 @@ Ran kind makes fails retries w old new (Err e) = IsUnchanged old new
 
 -- The transform was run on the old book and left the new one, the worker's part followed, and the hold ended.
 pub record HasRun {E : Type 0} (kind : Kind) (makes : Making) (fails retries : Cause) (w : WorkerId) (old new : BookView)
-    (part : Part) (sleepers sleepers' : Sleepers) (result : Result Disposition E × Wakes) : Type 0 where
+    (part : WorkerPart) (sleepers sleepers' : Sleepers) (result : Result Disposition E × Wakes) : Type 0 where
   pub graph : new.graph ≡ old.graph
   pub ran : Ran kind makes fails retries w old new result.0
   pub kept : IsPartOf new w part
@@ -66,19 +67,24 @@ pub record Asked {A : Type 0} (answers : WorkerId → BookView → A → Type 0)
   pub answer : Answers answers waits s.worker book r
   pub is : s' ≡ seeing s book
 
--- The transform was run so in a hold of the state lock, which left its worker asleep where it asked to be run again.
-pub record HasHeld {E : Type 0} (kind : Kind) (makes : Making) (fails retries : Cause) (w : WorkerId) (promised : Bool) (old new : BookView)
-    (part : Part) (sleepers sleepers' : Sleepers) (result : Result Disposition E × Wakes) : Type 0 where
+-- The transform was run so in a hold of the state lock, which left its worker asleep where it asked to be run again. Where somebody slept, the
+-- offers told whether work was queued.
+pub record HasHeld {E : Type 0} (kind : Kind) (makes : Making) (fails retries : Cause) (tells : Bool → Type 0) (w : WorkerId) (promised : Bool)
+    (old new : BookView) (part : WorkerPart) (sleepers sleepers' : Sleepers) (result : Result Disposition E × Wakes) : Type 0 where
   pub queued : Bool
+  pub told : (asleep sleepers.stances ≡ 0) ⊎ tells queued
   pub left : Sleepers
   pub run : HasRun kind makes fails retries w old new part (begun queued promised sleepers) left result
   pub noted : sleepers' ≡ noted_after result.0 left
 
--- The question was asked in a hold of the state lock, by a worker that was woken or wasn't. It was left asleep where there was no answer.
-pub record HasAsked {A : Type 0} (answers : WorkerId → BookView → A → Type 0) (waits : WorkerId → BookView → Type 0) (awaits : Option Awaited)
-    (w : WorkerId) (promised woken apart : Bool) (book : BookView) (sleepers sleepers' : Sleepers) (result : Option A × Wakes) : Type 0 where
+-- The question was asked in a hold of the state lock, by a worker that was woken or wasn't, where the offers told whether work was queued. It was
+-- left asleep where there was no answer.
+pub record HasAsked {A : Type 0} (answers : Bool → WorkerId → BookView → A → Type 0) (waits : Bool → WorkerId → BookView → Type 0)
+    (awaits : Option Awaited) (tells : Bool → Type 0) (w : WorkerId) (promised woken apart : Bool) (book : BookView)
+    (sleepers sleepers' : Sleepers) (result : Option A × Wakes) : Type 0 where
   pub queued : Bool
+  pub told : tells queued
   pub left : Sleepers
-  pub answer : Answers answers waits w book result.0
+  pub answer : Answers (answers queued) (waits queued) w book result.0
   pub ends : EndsHold book w (stance_asking promised awaits result.0) false (begun queued promised (woken_if woken w sleepers)) left result.1
   pub noted : sleepers' ≡ noted_asking apart result.0 left

@@ -3,6 +3,7 @@ use Rattle.std.specs.Prelude.{◌≡◌, ◌&&◌, not, Bool, true, false, Resul
 use Rattle.resource_lock.specs.declared.ids.WorkerId.{WorkerId}
 use Rattle.lock_journal.specs.BookView.{BookView}
 use Rattle.lock_journal.specs.Ran.{FailsIn, IsToRetry}
+use Rattle.history_views.specs.ShownBooks.{IsUnchanged}
 use Rattle.lock_transforms.specs.declared.entries.Kind.{Kind}
 use Rattle.lock_transforms.specs.declared.transforms.Disposition.{Disposition}
 use Rattle.lock_transforms.specs.declared.transforms.Disposition.TheVariants.{Finished, Failed, Retry}
@@ -11,11 +12,11 @@ use Rattle.worker_choices.specs.declared.stances.Stance.{Stance}
 use Rattle.worker_choices.specs.declared.stances.Stance.TheVariants.{Away}
 use Rattle.coordination.specs.Agrees.{Finds}
 use Rattle.coordination.specs.Attempts.{Cause, Making}
-use Rattle.coordination.specs.Calls.{HasFailed, HasFinished, IsAnswered}
+use Rattle.coordination.specs.Calls.{HasFailed, HasFinished, HasLooked, IsAnswered}
 use Rattle.coordination.specs.SleepAndWake.{EndsHold, begun, goes_to_work, looks_if, noted_asking, stance_waiting, woken_if}
 use Rattle.coordination.specs.Sights.{seeing}
 use Rattle.coordination.specs.Turns.{Finishes, HasLeft}
-use Rattle.coordination.specs.declared.parts.Part.{Part}
+use Rattle.coordination.specs.declared.parts.WorkerPart.{WorkerPart}
 use Rattle.coordination.specs.declared.decisions.Decided.{Decided}
 use Rattle.coordination.specs.declared.decisions.Decided.TheVariants as decided
 use Rattle.coordination.specs.declared.rule.Sight.{Sight}
@@ -31,6 +32,10 @@ pub record HasStepped {A X : Type 0} (answers : WorkerId → BookView → A → 
   pub step : X
   pub is : step_of a ≡ Some step
   pub left : leaves step
+
+-- an answer has a step, of a book with the same graph, state and history
+abbrev pub HadStep : {A X : Type 0} → (WorkerId → BookView → A → Type 0) → (A → Option X) → WorkerId → BookView → Type 0
+HadStep {A} answers step_of w book = (before : BookView) × IsUnchanged before book × (a : A) × HasStepped answers step_of w before a (λ x. Unit {0})
 
 -- what a decision leaves of a book: its answer has no step, or the step was run on the book that the answer was given of
 abbrev pub DecideGives : {A X : Type 0} → (WorkerId → BookView → A → Type 0) → (A → Option X) → (X → Kind) → (X → Making) → (X → Cause) → (X → Cause)
@@ -76,13 +81,17 @@ noted_deciding {C} apart came.Again s = noted_asking {A = C} apart None s
 noted_deciding apart came.NoMemory s = s
 noted_deciding apart (came.Done c) s = s
 
--- A worker that was woken or wasn't decided so in a hold of the state lock, and its part followed. It was left asleep where there was no answer.
-pub record HasDecidedHeld {A X : Type 0} (answers : WorkerId → BookView → A → Type 0) (waits : WorkerId → BookView → Type 0) (awaits : Option Awaited)
-    (step_of : A → Option X) (kind_of : X → Kind) (makes : X → Making) (fails retries : X → Cause) (w : WorkerId) (promised woken apart : Bool)
-    (old new : BookView) (part : Part) (sleepers sleepers' : Sleepers) (result : Came (Decided A) × Wakes) : Type 0 where
+-- A worker that was woken or wasn't decided so in a hold of the state lock, where the offers told whether work was queued, and its part followed.
+-- It was left asleep where there was no answer.
+pub record HasDecidedHeld {A X : Type 0} (answers : Bool → WorkerId → BookView → A → Type 0) (waits : Bool → WorkerId → BookView → Type 0)
+    (awaits : Option Awaited) (step_of : A → Option X) (kind_of : X → Kind) (makes : X → Making) (fails retries : X → Cause) (tells : Bool → Type 0)
+    (w : WorkerId) (promised woken apart : Bool) (old new : BookView) (part : WorkerPart) (sleepers sleepers' : Sleepers)
+    (result : Came (Decided A) × Wakes) : Type 0 where
   pub queued : Bool
+  pub told : tells queued
   pub left : Sleepers
-  pub decided : HasLeft (DecideGives answers step_of kind_of makes fails retries) waits (Unit {0}) w old new part result.0
+  pub decided : HasLeft (DecideGives (answers queued) step_of kind_of makes fails retries) (waits queued) (HadStep (answers queued) step_of)
+      w old new part result.0
   pub ends : EndsDecision new w awaits step_of kind_of (begun queued promised (woken_if woken w sleepers)) left result.1 result.0
   pub noted : sleepers' ≡ noted_deciding apart result.0 left
 
@@ -114,6 +123,11 @@ pub record IsToWaitIn {A X : Type 0} (answers : WorkerId → BookView → A → 
   pub graph : after.graph ≡ before.graph
   pub unchanged : IsToRetry (retries step) before after old.worker
   pub sight : new ≡ seeing old after
+
+-- There was no memory for the step of an answer. The pass has seen the book that it found, of which the answer was given.
+pub record CouldNotStep {A X : Type 0} (answers : WorkerId → BookView → A → Type 0) (step_of : A → Option X) (old new : Sight) : Type 0 where
+  pub looked : HasLooked old new
+  pub step : HadStep answers step_of new.worker new.seen
 
 -- What a decision leaves of a pass: its answer has no step, or the step made an entry in the book that the answer was given of, or is to
 -- be run again.

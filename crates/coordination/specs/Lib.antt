@@ -6,8 +6,10 @@ pub mod Kept
 pub mod Sights
 pub mod Rule
 pub mod Attempts
+pub mod Offered
 pub mod Calls
 pub mod SortedLists
+pub mod Stops
 pub mod Parts
 pub mod Passes
 pub mod Together

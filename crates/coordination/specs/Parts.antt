@@ -20,20 +20,20 @@ use Rattle.lock_journal.specs.Own.{claimed}
 use Rattle.lock_journal.specs.OwnChanges.{claimed_after, locks_after, mark_before, without_if}
 use Rattle.coordination.specs.Agrees.{IsSoundBook}
 use Rattle.coordination.specs.WorkerEntries.{last_of}
-use Rattle.coordination.specs.declared.parts.Part.{Part}
-use Rattle.coordination.specs.declared.parts.Room.{Room}
+use Rattle.coordination.specs.declared.parts.WorkerPart.{WorkerPart}
+use Rattle.coordination.specs.declared.parts.ListRoom.{ListRoom}
 
-abbrev pub holding_in : Part → Holding
+abbrev pub holding_in : WorkerPart → Holding
 holding_in part = record { lease = part.lease; parked = part.parked.items; blocked = part.blocked }
 
 -- the part says what the worker has, owns and runs
-pub record Has (s : StateView) (w : WorkerId) (part : Part) : Type 0 where
+pub record Has (s : StateView) (w : WorkerId) (part : WorkerPart) : Type 0 where
   pub holding : holding_in part ≡ holding_of s w
   pub locks : part.locks.items ≡ owned s w
   pub claimed : part.claimed.items ≡ claimed s w
 
 -- the part says that of the book's state, and which entry was the worker's last
-pub record IsPartOf (book : BookView) (w : WorkerId) (part : Part) : Type 0 where
+pub record IsPartOf (book : BookView) (w : WorkerId) (part : WorkerPart) : Type 0 where
   pub has : Has book.state w part
   pub last : part.last ≡ last_of w book.history
 
@@ -44,25 +44,25 @@ marks_of g = length g.tasks + length g.actions + g.units
 abbrev pub mark_count : StateView → ℕ
 mark_count s = length s.tasks + length s.actions + length s.units
 
-pub record IsRoomOf (g : GraphView) (room : Room) : Type 0 where
+pub record IsRoomOf (g : GraphView) (room : ListRoom) : Type 0 where
   pub locks : room.locks ≡ g.locks
   pub marks : room.marks ≡ marks_of g
 
 -- its lists have room for so many locks and marks
-pub record HasListRoom (locks marks : ℕ) (part : Part) : Type 0 where
+pub record HasListRoom (locks marks : ℕ) (part : WorkerPart) : Type 0 where
   pub lock_room : locks ≤ vec_capacity part.locks
   pub mark_room : marks ≤ vec_capacity part.claimed
   pub park_room : locks ≤ vec_capacity part.parked
 
 -- The part is that of a worker of a sound book, and has room for all that the worker may have.
-pub record IsPartHere (w : WorkerId) (book : BookView) (part : Part) : Type 0 where
+pub record IsPartHere (w : WorkerId) (book : BookView) (part : WorkerPart) : Type 0 where
   pub known : w.0 < book.graph.workers
   pub sound : IsSoundBook book
   pub kept : IsPartOf book w part
   pub room : HasListRoom book.graph.locks (marks_of book.graph) part
 
 -- the part of a worker that has nothing, with room for all
-pub record IsFreshPart (room : Room) (last : ℕ) (part : Part) : Type 0 where
+pub record IsFreshPart (room : ListRoom) (last : ℕ) (part : WorkerPart) : Type 0 where
   pub lease : part.lease ≡ false
   pub blocked : part.blocked ≡ false
   pub locks : part.locks.items ≡ []
@@ -72,20 +72,20 @@ pub record IsFreshPart (room : Room) (last : ℕ) (part : Part) : Type 0 where
   pub has_room : HasListRoom room.locks room.marks part
 
 -- these are the parts of the workers from w on, each with room for all that its worker may have
-abbrev pub ArePartsFrom : ℕ → BookView → List Part → Type 0
+abbrev pub ArePartsFrom : ℕ → BookView → List WorkerPart → Type 0
 ArePartsFrom w book [] = Unit {0}
 ArePartsFrom w book (part ∷ parts) = IsPartOf book (record { 0 = w }) part × HasListRoom book.graph.locks (marks_of book.graph) part
     × ArePartsFrom (suc w) book parts
 
 -- its lists have room for a change of the worker
-abbrev pub HasRoomFor : WorkerId → Part → Change → Type 0
+abbrev pub HasRoomFor : WorkerId → WorkerPart → Change → Type 0
 HasRoomFor w part (Lock l) = vec_len part.locks < vec_capacity part.locks
 HasRoomFor w part (Park l) = vec_len part.parked < vec_capacity part.parked
 HasRoomFor w part (Move m from to) = runs_by w to ≡ true → length (without_if mark_before (runs_by w from) m part.claimed.items) < vec_capacity part.claimed
 HasRoomFor w part _ = Unit {0}
 
 -- the part after a change of the worker, which takes no memory
-pub record IsAfter (w : WorkerId) (c : Change) (old new : Part) : Type 0 where
+pub record IsAfter (w : WorkerId) (c : Change) (old new : WorkerPart) : Type 0 where
   pub last : new.last ≡ old.last
   pub holding : holding_in new ≡ holding_after (holding_in old) c
   pub locks : new.locks.items ≡ locks_after old.locks.items c
@@ -95,7 +95,7 @@ pub record IsAfter (w : WorkerId) (c : Change) (old new : Part) : Type 0 where
   pub park_room : vec_capacity new.parked ≡ vec_capacity old.parked
 
 -- The part is that of the worker in a good state, in which it can make these changes in turn, and has room for all.
-pub record LeadsOn (s : StateView) (w : WorkerId) (part : Part) (changes : List Change) : Type 0 where
+pub record LeadsOn (s : StateView) (w : WorkerId) (part : WorkerPart) (changes : List Change) : Type 0 where
   pub good : Good s
   pub worker : IsWorkerOf s w
   pub named : AllByRecursion (NamesOnly s) changes
@@ -111,7 +111,7 @@ Grew w old new (Ok Retry) = (new.history ≡ old.history) × (new.state ≡ old.
 Grew w old new (Err e) = (new.history ≡ old.history) × (new.state ≡ old.state)
 
 -- The part is that of a sound book, on which a transform of the worker was run.
-pub record Follows {E : Type 0} (w : WorkerId) (old new : BookView) (ran : Result Disposition E) (part : Part) : Type 0 where
+pub record Follows {E : Type 0} (w : WorkerId) (old new : BookView) (ran : Result Disposition E) (part : WorkerPart) : Type 0 where
   pub sound : IsSoundBook old
   pub graph : new.graph ≡ old.graph
   pub grew : Grew w old new ran

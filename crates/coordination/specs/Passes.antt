@@ -6,12 +6,11 @@ use Rattle.resource_lock.specs.declared.ids.WorkerId.{WorkerId}
 use Rattle.lock_journal.specs.BookView.{BookView}
 use Rattle.coordination.specs.declared.rule.Sight.{Sight}
 use Rattle.coordination.specs.Parts.{HasListRoom, IsPartOf, marks_of}
-use Rattle.coordination.specs.declared.parts.Part.{Part}
+use Rattle.coordination.specs.declared.parts.Notes.{Notes}
 use Rattle.coordination.specs.declared.rule.SeatView.{SeatView}
 use Rattle.history_views.specs.ShownBooks.{IsTold}
 use Rattle.coordination.specs.Sights.{nobody, one, sight_of}
 use Rattle.coordination.specs.Rule.{M}
-use Rattle.history_views.specs.Growing.{ReachView}
 
 -- which service it is, and the ledger that shows its history, if one does
 pub record ServiceId : Type 0 where
@@ -33,12 +32,12 @@ abbrev pub me_in : List SeatView → M
 me_in views = (view_in views, [])
 
 -- how the fields of a pass are tied to its seat
-pub record IsPass (worker : WorkerId) (part : Part) (reach : Option ReachView) (me : M) : Type 0 where
+pub record IsPass (worker : WorkerId) (notes : Notes) (me : M) : Type 0 where
   pub lone : me ≡ (one me.0.ledger (sight_of me.0), [])
   pub worker_is : worker ≡ (sight_of me.0).worker
-  pub part_is : IsPartOf (sight_of me.0).seen (sight_of me.0).worker part
-  pub room : HasListRoom (sight_of me.0).seen.graph.locks (marks_of (sight_of me.0).seen.graph) part
-  pub told : IsTold me.0.ledger reach (sight_of me.0).seen
+  pub part_is : IsPartOf (sight_of me.0).seen (sight_of me.0).worker notes.part
+  pub room : HasListRoom (sight_of me.0).seen.graph.locks (marks_of (sight_of me.0).seen.graph) notes.part
+  pub told : IsTold me.0.ledger notes.reach (sight_of me.0).seen
 
 -- which one it is, and the book that it was opened with
 pub record CoordinationView : Type 0 where

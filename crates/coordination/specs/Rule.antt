@@ -17,6 +17,7 @@ use Rattle.coordination.specs.declared.rule.SeatView.{SeatView}
 use Rattle.coordination.specs.Agrees.{Agrees, Finds, IsSoundBook}
 use Rattle.coordination.specs.Kept.{KeptView, kept}
 use Rattle.coordination.specs.Sights.{seeing, stopping, hearing, one, holding, all_of, no_book, sight_of, workers_from}
+use Rattle.coordination.specs.Stops.{KnowsNoStop}
 use Rattle.logbook.specs.Pages.{Book as Ledger}
 
 -- what is so of each worker of the view at a seat
@@ -111,9 +112,9 @@ pub record Hears (m : M) (by : WorkerId) (m' : M) : Type 0 where
 abbrev pub stopped_at : Step KeptView → M → ℕ → M → Type 0
 stopped_at st m r m' = (r < 2 ^ 32) × (r ≡ 0 → m' ≡ (one m.0.ledger (stopping (sight_of m.0)), [])) × (r ≢ 0 → Hears m (marked r) m')
 
--- the worker hears who has stopped the service, if somebody has
+-- the worker hears who has stopped the service, if somebody has, and knew of no stop if nobody has
 abbrev pub heard : Step KeptView → M → ℕ → M → Type 0
-heard st m r m' = (r < 2 ^ 32) × (r ≡ 0 → m' ≡ m) × (r ≢ 0 → Hears m (marked r) m')
+heard st m r m' = (r < 2 ^ 32) × (r ≡ 0 → (m' ≡ m) × KnowsNoStop (sight_of m.0)) × (r ≢ 0 → Hears m (marked r) m')
 
 abbrev pub heads : List Sight → List Sight
 heads [] = []

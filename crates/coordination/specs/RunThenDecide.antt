@@ -6,7 +6,7 @@ use Rattle.lock_journal.specs.Ran.{FailsIn}
 use Rattle.lock_transforms.specs.declared.entries.Kind.{Kind}
 use Rattle.coordination.specs.Attempts.{Cause, Making}
 use Rattle.coordination.specs.Calls.{HasFailed, HasFinished}
-use Rattle.coordination.specs.Decisions.{DecideGives, HasDecided}
+use Rattle.coordination.specs.Decisions.{DecideGives, HadStep, HasDecided}
 use Rattle.coordination.specs.Turns.{Finishes}
 use Rattle.coordination.specs.declared.decisions.Decided.{Decided}
 use Rattle.coordination.specs.declared.decisions.Decided.TheVariants as decided
@@ -38,7 +38,8 @@ abbrev pub HasFollowed : {A X : Type 0} → (WorkerId → BookView → A → Typ
 HasFollowed answers waits step_of kind_of makes fails retries kind making failing old new followed.Failed = HasFailed kind failing old new
 HasFollowed answers waits step_of kind_of makes fails retries kind making failing old new followed.Undecided =
     HasFinished kind making old new × waits new.worker new.seen
-HasFollowed answers waits step_of kind_of makes fails retries kind making failing old new followed.NoMemory = HasFinished kind making old new
+HasFollowed answers waits step_of kind_of makes fails retries kind making failing old new followed.NoMemory =
+    HasFinished kind making old new × HadStep answers step_of new.worker new.seen
 HasFollowed answers waits step_of kind_of makes fails retries kind making failing old new (followed.Decided d) =
     HasDecidedBehind answers step_of kind_of makes fails retries kind making old new d
 
@@ -47,7 +48,8 @@ abbrev pub FollowGives : {A X : Type 0} → (WorkerId → BookView → A → Typ
     → (X → Making) → (X → Cause) → (X → Cause) → Kind → Making → Cause → WorkerId → BookView → BookView → Followed A → Type 0
 FollowGives answers waits step_of kind_of makes fails retries kind making failing w old new followed.Failed = FailsIn failing old new w kind
 FollowGives answers waits step_of kind_of makes fails retries kind making failing w old new followed.Undecided = Finishes kind making w old new × waits w new
-FollowGives answers waits step_of kind_of makes fails retries kind making failing w old new followed.NoMemory = Finishes kind making w old new
+FollowGives answers waits step_of kind_of makes fails retries kind making failing w old new followed.NoMemory =
+    Finishes kind making w old new × HadStep answers step_of w new
 FollowGives answers waits step_of kind_of makes fails retries kind making failing w old new (followed.Decided d) =
     (between : BookView) × (between.graph ≡ old.graph) × Finishes kind making w old between
     × DecideGives answers step_of kind_of makes fails retries w between new d

@@ -10,7 +10,7 @@ use Rattle.lock_transforms.specs.declared.transforms.Disposition.TheVariants.{Fi
 use Rattle.lock_journal.specs.Marks.{IsEnded}
 use Rattle.worker_choices.specs.NextSteps.{StillWait, Waits}
 use Rattle.worker_choices.specs.GoingOn.{last_lets_go_on}
-use Rattle.worker_choices.specs.Stances.{looking}
+use Rattle.worker_choices.specs.Stances.{asleep, looking}
 use Rattle.worker_choices.specs.declared.awaited.Awaited.{Awaited}
 use Rattle.worker_choices.specs.declared.stances.Stance.{Stance}
 use Rattle.worker_choices.specs.declared.stances.Stance.TheVariants.{Away, Looks, Sleeps}
@@ -81,6 +81,9 @@ pub record EndsHold (book : BookView) (w : WorkerId) (stance : Stance) (entered 
   pub workers : IsWokenBy book old.queued (set old.stances w.0 stance) wakes.workers
   pub stances : new.stances ≡ stances_after wakes.workers (set old.stances w.0 stance)
   pub quiet : AreQuiet book new.queued new.stances
+  -- who isn't woken sleeps on
+  pub questions_left : new.questions ≡ (old.questions && not wakes.questions)
+  pub transforms_left : new.transforms ≡ (old.transforms && not wakes.transforms)
 
 -- A hold of the state lock began, for a worker that has promised to come again or hasn't, where work outside the book was queued or none.
 abbrev pub begun : Bool → Bool → Sleepers → Sleepers
@@ -104,9 +107,33 @@ noted_asking false None s = record { transforms = s.transforms; questions = true
 noted_asking true None s = s
 noted_asking apart (Some a) s = s
 
--- A hold ended so, whoever slept when it began.
-abbrev pub EndsAHold : BookView → WorkerId → Stance → Bool → Wakes → Type 0
-EndsAHold book w stance entered wakes = (before : Sleepers) × (left : Sleepers) × EndsHold book w stance entered before left wakes
+-- The end of a hold woke these of those that slept when it began (`EndsHold`), by an entry too where the hold made one. Who slept on sleeps
+-- afterwards, and perhaps the worker. Where a worker slept, the offers told whether work was queued.
+pub record HasWoken (tells : Bool → Type 0) (w : WorkerId) (promised : Bool) (old new : BookView) (sleepers sleepers' : Sleepers)
+    (wakes : Wakes) : Type 0 where
+  pub queued : Bool
+  pub told : (asleep sleepers.stances ≡ 0) ⊎ tells queued
+  pub woken : Bool
+  pub stance : Stance
+  pub entered : Bool
+  pub made : entered ≡ true → length old.history < length new.history
+  pub unmade : entered ≡ false → new.history ≡ old.history
+  pub left : Sleepers
+  pub ends : EndsHold new w stance entered (begun queued promised (woken_if woken w sleepers)) left wakes
+  pub stances : sleepers'.stances ≡ left.stances
+  pub transforms : left.transforms ≡ true → sleepers'.transforms ≡ true
+  pub questions : left.questions ≡ true → sleepers'.questions ≡ true
+
+-- none of those that sleep
+abbrev pub wakes_nobody : Wakes
+wakes_nobody = record { transforms = false; questions = false; workers = woken.Nobody }
+
+-- A turn had one hold, or two behind each other, and what it woke are those that the ends of these woke.
+abbrev pub EndsTurn : (Bool → Type 0) → WorkerId → Bool → BookView → BookView → Sleepers → Sleepers → Wakes → Wakes → Type 0
+EndsTurn tells w promised old new sleepers sleepers' wakes later =
+    (HasWoken tells w promised old new sleepers sleepers' wakes × (later ≡ wakes_nobody))
+    ⊎ ((between : BookView) × (mid : Sleepers) × HasWoken tells w promised old between sleepers mid wakes
+    × HasWoken tells w promised between new mid sleepers' later)
 
 -- the worker isn't noted as one that sleeps
 abbrev pub IsAwake : WorkerId → Sleepers → Type 0

@@ -8,7 +8,7 @@ use Rattle.history_views.specs.ShownBooks.{IsUnchanged}
 use Rattle.lock_transforms.specs.declared.entries.Kind.{Kind}
 use Rattle.lock_transforms.specs.declared.transforms.Disposition.{Disposition}
 use Rattle.lock_transforms.specs.declared.transforms.Disposition.TheVariants.{Finished, Failed, Retry}
-use Rattle.coordination.specs.declared.parts.Part.{Part}
+use Rattle.coordination.specs.declared.parts.WorkerPart.{WorkerPart}
 use Rattle.coordination.specs.declared.rule.Sight.{Sight}
 use Rattle.coordination.specs.declared.turns.Came.{Came}
 use Rattle.coordination.specs.declared.turns.Came.TheVariants as came
@@ -18,12 +18,12 @@ use Rattle.coordination.specs.Parts.{HasListRoom, IsPartOf, marks_of}
 use Rattle.coordination.specs.Rule.{AddsOwn}
 use Rattle.coordination.specs.Sights.{seeing}
 
--- What a turn leaves of a book, by what came of it. It is to be had again where it may have to wait, and only a turn that runs something
--- may want memory.
-abbrev pub Leaves : {C : Type 0} → (WorkerId → BookView → BookView → C → Type 0) → (WorkerId → BookView → Type 0) → Type 0
+-- What a turn leaves of a book, by what came of it. It is to be had again where it may have to wait, and it may want memory only where
+-- something is to be run.
+abbrev pub Leaves : {C : Type 0} → (WorkerId → BookView → BookView → C → Type 0) → (WorkerId → BookView → Type 0) → (WorkerId → BookView → Type 0)
     → WorkerId → BookView → BookView → Came C → Type 0
 Leaves gives waits runs w old new (came.Done c) = gives w old new c
-Leaves gives waits runs w old new came.NoMemory = runs × IsUnchanged old new
+Leaves gives waits runs w old new came.NoMemory = runs w new × IsUnchanged old new
 Leaves gives waits runs w old new came.Again = waits w new × IsUnchanged old new
 
 -- the sight of a worker that has seen the book, and knows of no stop
@@ -31,15 +31,15 @@ abbrev pub sight_at : WorkerId → BookView → Sight
 sight_at w book = record { worker = w; seen = book; stopped = false; stopped_by = None }
 
 -- A turn left the book so. Only its worker's own entries were added, and the worker's part has followed.
-pub record HasLeft {C : Type 0} (gives : WorkerId → BookView → BookView → C → Type 0) (waits : WorkerId → BookView → Type 0) (runs : Type 0)
-    (w : WorkerId) (old new : BookView) (part : Part) (r : Came C) : Type 0 where
+pub record HasLeft {C : Type 0} (gives : WorkerId → BookView → BookView → C → Type 0) (waits runs : WorkerId → BookView → Type 0)
+    (w : WorkerId) (old new : BookView) (part : WorkerPart) (r : Came C) : Type 0 where
   pub own : AddsOwn (sight_at w old) new
   pub kept : IsPartOf new w part
   pub room : HasListRoom new.graph.locks (marks_of new.graph) part
   pub leaves : Leaves gives waits runs w old new r
 
 -- A turn found a sound book that agrees with its worker's sight, and left a sound one, which the worker saw.
-pub record HasTurned {C : Type 0} (gives : WorkerId → BookView → BookView → C → Type 0) (waits : WorkerId → BookView → Type 0) (runs : Type 0)
+pub record HasTurned {C : Type 0} (gives : WorkerId → BookView → BookView → C → Type 0) (waits runs : WorkerId → BookView → Type 0)
     (old new : Sight) (r : Came C) : Type 0 where
   pub before : BookView
   pub after : BookView

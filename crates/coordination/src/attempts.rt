@@ -5,17 +5,17 @@ ghost use Rattle.coordination.specs.Calls.{HasStopped};
 ghost use Rattle.coordination.specs.SleepAndWake.{EndsHold, has_entered, stance_after, stance_asking};
 ghost use Rattle.coordination.specs.Passes.{IsPass};
 ghost use Rattle.coordination.specs.Sights.{hearing, sight_of};
+ghost use Rattle.coordination.specs.Stops.{KnowsNoStop};
 
 use crate::halts::Halt;
 use crate::keepers::{Keeper, Kept};
-use crate::parts::Part;
+use crate::parts::Notes;
 use crate::passes::{Pass, seat_of};
 use crate::questions::Question;
 use crate::rule::SeatView;
 use crate::sleepers::{Sleepers, Wakes};
 use crate::slots::Slot;
 use atomic_table::Seat;
-use history_views::Reach;
 use lock_transforms::{Disposition, Transform};
 use resource_lock::WorkerId;
 use std::alloc::AllocError;
@@ -38,14 +38,7 @@ impl<K: Keeper> Slot<K> {
             (stance_after sleepers.old.promised (T.kind_of transform.now) r.0) (has_entered r.0) sleepers.old sleepers.new r.1) }
     {
         let mut seat = seat_of(&mut pass.badge);
-        let ended = self.attempt_at(
-            &mut seat,
-            pass.worker,
-            &mut pass.part,
-            &mut pass.reach,
-            transform,
-            sleepers,
-        );
+        let ended = self.attempt_at(&mut seat, pass.worker, &mut pass.notes, transform, sleepers);
         pass.badge = seat.into_badge();
         ended
     }
@@ -56,15 +49,14 @@ impl<K: Keeper> Slot<K> {
         &self,
         seat: &mut Seat<Kept<K>, SeatView>,
         worker: WorkerId,
-        part: &mut Part,
-        reach: &mut Option<Reach>,
+        notes: &mut Notes,
         transform: &T,
         sleepers: &mut Sleepers,
     ) -> Option<(Result<Disposition, AllocError>, Wakes)>
         requires id { seat.old.table_id ≡ self.now.table.shared.table_id }
-        requires pass { IsPass worker part.old reach.old seat.old.me }
+        requires pass { IsPass worker notes.old seat.old.me }
         ensures same { (seat.new.table_id ≡ seat.old.table_id) × (seat.new.me.0.ledger ≡ seat.old.me.0.ledger) }
-        ensures pass { IsPass worker part.new reach.new seat.new.me }
+        ensures pass { IsPass worker notes.new seat.new.me }
         ensures stop { ((sight_of seat.new.me.0).stopped ≡ (sight_of seat.old.me.0).stopped)
             × ((sight_of seat.new.me.0).stopped_by ≡ (sight_of seat.old.me.0).stopped_by) }
         ensures none { IfNone result ((seat.new.me ≡ seat.old.me) × (sleepers.new ≡ sleepers.old)) }
@@ -76,7 +68,7 @@ impl<K: Keeper> Slot<K> {
         if !self.try_take(seat) {
             return None;
         }
-        let (ran, wakes) = self.run(seat, worker, part, reach, transform, sleepers);
+        let (ran, wakes) = self.run(seat, worker, notes, transform, sleepers);
         self.put_back(seat);
         Some((ran, wakes))
     }
@@ -91,19 +83,13 @@ impl<K: Keeper> Slot<K> {
         requires { pass.old.service.table ≡ self.now.table.shared.table_id }
         ensures same { pass.new.service ≡ pass.old.service }
         ensures none { IfNone result ((pass.new.sight ≡ pass.old.sight) × (sleepers.new ≡ sleepers.old)) }
-        ensures some { IfSome result (λ r. Asked (Q.answers question.now) (Q.waits_on question.now) pass.old.sight pass.new.sight r.0) }
+        ensures some { IfSome result (λ r. Asked (Q.answers question.now sleepers.old.queued) (Q.waits_on question.now sleepers.old.queued)
+            pass.old.sight pass.new.sight r.0) }
         ensures ends { IfSome result (λ r. EndsHold pass.new.sight.seen pass.new.sight.worker
             (stance_asking sleepers.old.promised (Q.awaits question.now) r.0) false sleepers.old sleepers.new r.1) }
     {
         let mut seat = seat_of(&mut pass.badge);
-        let asked = self.ask_at(
-            &mut seat,
-            pass.worker,
-            &pass.part,
-            &mut pass.reach,
-            question,
-            sleepers,
-        );
+        let asked = self.ask_at(&mut seat, pass.worker, &mut pass.notes, question, sleepers);
         pass.badge = seat.into_badge();
         asked
     }
@@ -114,19 +100,18 @@ impl<K: Keeper> Slot<K> {
         &self,
         seat: &mut Seat<Kept<K>, SeatView>,
         worker: WorkerId,
-        part: &Part,
-        reach: &mut Option<Reach>,
+        notes: &mut Notes,
         question: &Q,
         sleepers: &mut Sleepers,
     ) -> Option<(Option<Q::Answer>, Wakes)>
         requires id { seat.old.table_id ≡ self.now.table.shared.table_id }
-        requires pass { IsPass worker part.now reach.old seat.old.me }
+        requires pass { IsPass worker notes.old seat.old.me }
         ensures same { (seat.new.table_id ≡ seat.old.table_id) × (seat.new.me.0.ledger ≡ seat.old.me.0.ledger) }
-        ensures pass { IsPass worker part.now reach.new seat.new.me }
+        ensures pass { IsPass worker notes.new seat.new.me }
         ensures stop { ((sight_of seat.new.me.0).stopped ≡ (sight_of seat.old.me.0).stopped)
             × ((sight_of seat.new.me.0).stopped_by ≡ (sight_of seat.old.me.0).stopped_by) }
         ensures none { IfNone result ((seat.new.me ≡ seat.old.me) × (sleepers.new ≡ sleepers.old)) }
-        ensures some { IfSome result (λ r. Asked (Q.answers question.now) (Q.waits_on question.now)
+        ensures some { IfSome result (λ r. Asked (Q.answers question.now sleepers.old.queued) (Q.waits_on question.now sleepers.old.queued)
             (sight_of seat.old.me.0) (sight_of seat.new.me.0) r.0) }
         ensures ends { IfSome result (λ r. EndsHold (sight_of seat.new.me.0).seen (sight_of seat.new.me.0).worker
             (stance_asking sleepers.old.promised (Q.awaits question.now) r.0) false sleepers.old sleepers.new r.1) }
@@ -134,16 +119,18 @@ impl<K: Keeper> Slot<K> {
         if !self.try_take(seat) {
             return None;
         }
-        let (answer, wakes) = self.ask_book(seat, worker, reach, question, sleepers);
+        let (answer, wakes) = self.ask_book(seat, worker, &mut notes.reach, question, sleepers);
         self.put_back(seat);
         Some((answer, wakes))
     }
 
-    /// Has the pass hear who has stopped the service. None says that nobody has.
+    /// Has the pass hear who has stopped the service. None says that nobody has: so it never comes once the pass has stopped
+    /// the service, or heard of a stop.
     pub fn hear(&self, pass: &mut Pass) -> Option<WorkerId>
         requires { pass.old.service.table ≡ self.now.table.shared.table_id }
         ensures same { pass.new.service ≡ pass.old.service }
         ensures none { IfNone result (pass.new.sight ≡ pass.old.sight) }
+        ensures unheard { IfNone result (KnowsNoStop pass.old.sight) }
         ensures some { IfSome result (λ by. pass.new.sight ≡ hearing pass.old.sight by) }
         ensures stopper { IfSome result (λ by. by.0 < pass.old.sight.seen.graph.workers) }
     {

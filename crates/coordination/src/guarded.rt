@@ -1,5 +1,6 @@
 //! What the state lock guards beside the book, in the slot of the book.
-ghost use Rattle.std.specs.Prelude.{◌≡◌, ◌<◌, IfOk, None, false};
+ghost use Rattle.std.specs.Prelude.{◌≡◌, ◌<◌, ◌⊎◌, IfOk, None, false};
+ghost use Rattle.worker_choices.specs.Stances.{asleep};
 ghost use Rattle.history_views.specs.ShownBooks.{IsTold};
 ghost use Rattle.coordination.specs.Attempts.{HasAsked, HasHeld};
 ghost use Rattle.coordination.specs.Decisions.{HasDecidedHeld, awaits_if};
@@ -8,7 +9,7 @@ ghost use Rattle.coordination.specs.Parts.{IsPartHere};
 use crate::decisions::{Decided, Decision};
 use crate::keepers::Keeper;
 use crate::outside_work::Offers;
-use crate::parts::Part;
+use crate::parts::Notes;
 use crate::questions::Question;
 use crate::sleepers::{Sleepers, Wakes};
 use crate::slots::{ask_of, decide_on, run_on};
@@ -48,6 +49,7 @@ impl Caller {
     #[inline]
     pub fn not_sleeping(self) -> Caller
         ensures worker { result.worker ≡ self.worker }
+        ensures promised { result.promised ≡ self.promised }
         ensures sleeps { result.sleeps ≡ false }
     {
         Caller {
@@ -112,28 +114,23 @@ impl<O: Offers, K: Keeper> Guarded<O, K> {
     pub(crate) fn run_held<T: Transform>(
         &mut self,
         caller: Caller,
-        part: &mut Part,
-        reach: &mut Option<Reach>,
+        notes: &mut Notes,
         transform: &T,
     ) -> (Result<Disposition, AllocError>, Wakes)
-        requires part { IsPartHere caller.worker (K.book_of self.old.keeper) part.old }
-        requires told { K.ledger_of self.old.keeper ≡ None → reach.old ≡ None }
+        requires part { IsPartHere caller.worker (K.book_of self.old.keeper) notes.old.part }
+        requires told { K.ledger_of self.old.keeper ≡ None → notes.old.reach ≡ None }
         ensures ledger { K.ledger_of self.new.keeper ≡ K.ledger_of self.old.keeper }
-        ensures told { IsTold (K.ledger_of self.new.keeper) reach.new (K.book_of self.new.keeper) }
+        ensures told { IsTold (K.ledger_of self.new.keeper) notes.new.reach (K.book_of self.new.keeper) }
         ensures held { HasHeld (T.kind_of transform.now) (T.makes transform.now) (T.fails_on transform.now)
-            (T.retries_on transform.now) caller.worker caller.promised (K.book_of self.old.keeper) (K.book_of self.new.keeper)
-            part.new self.old.sleepers self.new.sleepers result }
+            (T.retries_on transform.now) (O.tells self.old.offers) caller.worker caller.promised (K.book_of self.old.keeper)
+            (K.book_of self.new.keeper) notes.new.part self.old.sleepers self.new.sleepers result }
     {
-        // What is offered is read for those that sleep, so it isn't where nobody does.
-        if self.sleepers.stances.some_sleep() {
-            self.sleepers.queued = self.offers.are_there();
-        }
+        self.sleepers.queued = self.queued_for_sleepers();
         self.sleepers.promised = caller.promised;
         let (ran, wakes) = run_on(
             &mut self.keeper,
             caller.worker,
-            part,
-            reach,
+            notes,
             transform,
             &mut self.sleepers,
         );
@@ -141,6 +138,19 @@ impl<O: Offers, K: Keeper> Guarded<O, K> {
             self.sleepers.transforms = true;
         }
         (ran, wakes)
+    }
+
+    // Whether something is offered, as those have to know that sleep. Where nobody does, the offers aren't looked at.
+    #[inline]
+    fn queued_for_sleepers(&mut self) -> bool
+        ensures keeper { self.new.keeper ≡ self.old.keeper }
+        ensures sleepers { self.new.sleepers ≡ self.old.sleepers }
+        ensures told { (asleep self.old.sleepers.stances ≡ 0) ⊎ O.tells self.old.offers result }
+    {
+        if self.sleepers.stances.some_sleep() {
+            return self.offers.are_there();
+        }
+        self.sleepers.queued
     }
 
     /// Asks the question in a hold of the state lock, and ends the hold. Where it has no answer its worker is noted as asleep.
@@ -155,7 +165,7 @@ impl<O: Offers, K: Keeper> Guarded<O, K> {
         requires told { K.ledger_of self.old.keeper ≡ None → reach.old ≡ None }
         ensures same { self.new.keeper ≡ self.old.keeper }
         ensures told { IsTold (K.ledger_of self.new.keeper) reach.new (K.book_of self.new.keeper) }
-        ensures asked { HasAsked (Q.answers question.now) (Q.waits_on question.now) (Q.awaits question.now) caller.worker
+        ensures asked { HasAsked (Q.answers question.now) (Q.waits_on question.now) (Q.awaits question.now) (O.tells self.old.offers) caller.worker
             caller.promised caller.woken caller.apart (K.book_of self.old.keeper) self.old.sleepers self.new.sleepers result }
     {
         let queued = self.offers.are_there();
@@ -180,20 +190,19 @@ impl<O: Offers, K: Keeper> Guarded<O, K> {
     pub(crate) fn decide_held<Q: Decision>(
         &mut self,
         caller: Caller,
-        part: &mut Part,
-        reach: &mut Option<Reach>,
+        notes: &mut Notes,
         decision: &Q,
     ) -> (Came<Decided<Q::Answer>>, Wakes)
     where
         Q::Answer: Drop,
-        requires part { IsPartHere caller.worker (K.book_of self.old.keeper) part.old }
-        requires told { K.ledger_of self.old.keeper ≡ None → reach.old ≡ None }
+        requires part { IsPartHere caller.worker (K.book_of self.old.keeper) notes.old.part }
+        requires told { K.ledger_of self.old.keeper ≡ None → notes.old.reach ≡ None }
         ensures ledger { K.ledger_of self.new.keeper ≡ K.ledger_of self.old.keeper }
-        ensures told { IsTold (K.ledger_of self.new.keeper) reach.new (K.book_of self.new.keeper) }
+        ensures told { IsTold (K.ledger_of self.new.keeper) notes.new.reach (K.book_of self.new.keeper) }
         ensures held { HasDecidedHeld (Q.answers decision.now) (Q.waits_on decision.now)
             (awaits_if caller.sleeps (Q.awaits decision.now)) (Q.step_of decision.now)
-            Q.Step.kind_of Q.Step.makes Q.Step.fails_on Q.Step.retries_on caller.worker caller.promised caller.woken caller.apart
-            (K.book_of self.old.keeper) (K.book_of self.new.keeper) part.new self.old.sleepers self.new.sleepers result }
+            Q.Step.kind_of Q.Step.makes Q.Step.fails_on Q.Step.retries_on (O.tells self.old.offers) caller.worker caller.promised caller.woken
+            caller.apart (K.book_of self.old.keeper) (K.book_of self.new.keeper) notes.new.part self.old.sleepers self.new.sleepers result }
     {
         let queued = self.offers.are_there();
         self.sleepers
@@ -202,8 +211,7 @@ impl<O: Offers, K: Keeper> Guarded<O, K> {
         let (came, wakes) = decide_on(
             &mut self.keeper,
             caller.worker,
-            part,
-            reach,
+            notes,
             decision,
             awaited,
             &mut self.sleepers,

@@ -2,6 +2,7 @@
 ghost use Rattle.std.specs.Prelude.{◌≡◌, [], ◌∷◌, None};
 ghost use Rattle.history_views.specs.ShownBooks.{IsTold};
 ghost use Rattle.coordination.specs.Kept.{kept};
+ghost use Rattle.coordination.specs.Offered.{AreTold};
 ghost use Rattle.coordination.specs.Parts.{IsPartHere};
 ghost use Rattle.coordination.specs.Passes.{IsPass};
 ghost use Rattle.coordination.specs.Rule.{carried_book};
@@ -11,14 +12,13 @@ ghost use Rattle.coordination.specs.Turns.{HasLeft, HasTurned};
 use crate::guarded::{Caller, Guarded};
 use crate::keepers::{Keeper, Kept};
 use crate::outside_work::Offers;
-use crate::parts::Part;
+use crate::parts::Notes;
 use crate::passes::{Pass, seat_of};
 use crate::rule::SeatView;
 use crate::sleepers::Wakes;
 use crate::slots::Slot;
 use crate::turns::{Came, Turn};
 use atomic_table::Seat;
-use history_views::Reach;
 use std::sync::Wait;
 
 impl<O: Offers, K: Keeper> Slot<Guarded<O, K>> {
@@ -34,7 +34,8 @@ impl<O: Offers, K: Keeper> Slot<Guarded<O, K>> {
     ) -> (Came<T::Outcome>, Wakes, Wakes)
         requires { pass.old.service.table ≡ self.now.table.shared.table_id }
         ensures same { pass.new.service ≡ pass.old.service }
-        ensures turned { HasTurned (T.gives turn.now) (T.waits_on turn.now) (T.runs turn.now) pass.old.sight pass.new.sight result.0 }
+        ensures turned { HasTurned (T.gives turn.now (AreTold O.tells)) (T.waits_on turn.now (AreTold O.tells))
+            (T.runs turn.now (AreTold O.tells)) pass.old.sight pass.new.sight result.0 }
     {
         let mut seat = seat_of(&mut pass.badge);
         let caller = Caller {
@@ -44,7 +45,7 @@ impl<O: Offers, K: Keeper> Slot<Guarded<O, K>> {
             apart,
             sleeps: true,
         };
-        let ended = self.hold_at(rt, &mut seat, caller, &mut pass.part, &mut pass.reach, turn);
+        let ended = self.hold_at(rt, &mut seat, caller, &mut pass.notes, turn);
         pass.badge = seat.into_badge();
         ended
     }
@@ -56,20 +57,20 @@ impl<O: Offers, K: Keeper> Slot<Guarded<O, K>> {
         rt: &R,
         seat: &mut Seat<Kept<Guarded<O, K>>, SeatView>,
         caller: Caller,
-        part: &mut Part,
-        reach: &mut Option<Reach>,
+        notes: &mut Notes,
         turn: &T,
     ) -> (Came<T::Outcome>, Wakes, Wakes)
         requires id { seat.old.table_id ≡ self.now.table.shared.table_id }
-        requires pass { IsPass caller.worker part.old reach.old seat.old.me }
+        requires pass { IsPass caller.worker notes.old seat.old.me }
         ensures same { (seat.new.table_id ≡ seat.old.table_id) × (seat.new.me.0.ledger ≡ seat.old.me.0.ledger) }
-        ensures pass { IsPass caller.worker part.new reach.new seat.new.me }
+        ensures pass { IsPass caller.worker notes.new seat.new.me }
         ensures stop { ((sight_of seat.new.me.0).stopped ≡ (sight_of seat.old.me.0).stopped)
             × ((sight_of seat.new.me.0).stopped_by ≡ (sight_of seat.old.me.0).stopped_by) }
-        ensures turned { HasTurned (T.gives turn.now) (T.waits_on turn.now) (T.runs turn.now) (sight_of seat.old.me.0) (sight_of seat.new.me.0) result.0 }
+        ensures turned { HasTurned (T.gives turn.now (AreTold O.tells)) (T.waits_on turn.now (AreTold O.tells))
+            (T.runs turn.now (AreTold O.tells)) (sight_of seat.old.me.0) (sight_of seat.new.me.0) result.0 }
     {
         self.take(rt, seat, turn);
-        let ended = self.act_held(seat, caller, part, reach, turn);
+        let ended = self.act_held(seat, caller, notes, turn);
         self.let_go(seat);
         ended
     }
@@ -80,21 +81,20 @@ impl<O: Offers, K: Keeper> Slot<Guarded<O, K>> {
         &self,
         seat: &mut Seat<Kept<Guarded<O, K>>, SeatView>,
         caller: Caller,
-        part: &mut Part,
-        reach: &mut Option<Reach>,
+        notes: &mut Notes,
         turn: &T,
     ) -> (Came<T::Outcome>, Wakes, Wakes)
         requires id { seat.old.table_id ≡ self.now.table.shared.table_id }
         requires held { seat.old.me.1 ≡ (0, kept (carried_book seat.old.me.1) seat.old.me.0.ledger) ∷ [] }
-        requires part { IsPartHere caller.worker (carried_book seat.old.me.1) part.old }
-        requires told { seat.old.me.0.ledger ≡ None → reach.old ≡ None }
+        requires part { IsPartHere caller.worker (carried_book seat.old.me.1) notes.old.part }
+        requires told { seat.old.me.0.ledger ≡ None → notes.old.reach ≡ None }
         ensures same { (seat.new.table_id ≡ seat.old.table_id) × (seat.new.id ≡ seat.old.id) × (seat.new.me.0 ≡ seat.old.me.0) }
         ensures held { seat.new.me.1 ≡ (0, kept (carried_book seat.new.me.1) seat.old.me.0.ledger) ∷ [] }
-        ensures told { IsTold seat.old.me.0.ledger reach.new (carried_book seat.new.me.1) }
-        ensures left { HasLeft (T.gives turn.now) (T.waits_on turn.now) (T.runs turn.now) caller.worker (carried_book seat.old.me.1)
-            (carried_book seat.new.me.1) part.new result.0 }
+        ensures told { IsTold seat.old.me.0.ledger notes.new.reach (carried_book seat.new.me.1) }
+        ensures left { HasLeft (T.gives turn.now (AreTold O.tells)) (T.waits_on turn.now (AreTold O.tells))
+            (T.runs turn.now (AreTold O.tells)) caller.worker (carried_book seat.old.me.1) (carried_book seat.new.me.1) notes.new.part result.0 }
     {
         let kept = seat.slot_mut(&self.table.shared, 0);
-        turn.act(&mut kept.keeper, caller, part, reach)
+        turn.act(&mut kept.keeper, caller, notes)
     }
 }

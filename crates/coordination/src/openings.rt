@@ -10,7 +10,7 @@ use crate::guarded::Guarded;
 use crate::keepers::{Keeper, Kept};
 use crate::last_entries::last_number;
 use crate::outside_work::Offers;
-use crate::parts::{Part, Room};
+use crate::parts::{ListRoom, WorkerPart};
 use crate::passes::Pass;
 use crate::rule::SeatView;
 use crate::services::{Coordination, service_of};
@@ -26,7 +26,7 @@ use std::sync::Condvar;
 #[derive(Drop)]
 pub struct Stock {
     /// The part of each worker.
-    pub parts: Vec<Part>,
+    pub parts: Vec<WorkerPart>,
     /// Room for the passes.
     pub passes: Vec<Pass>,
     /// The Condvar of each worker, by its number.
@@ -98,16 +98,16 @@ impl Slot {
 }
 
 // The parts of all workers of a book in which nobody has anything, in order.
-fn parts_of(alloc: Global, book: &Book) -> Result<Vec<Part>, AllocError>
+fn parts_of(alloc: Global, book: &Book) -> Result<Vec<WorkerPart>, AllocError>
     requires { IsAtRest book.now.state }
     ensures len { IfOk result (λ parts. length parts.items ≡ book.now.graph.workers) }
     ensures parts { IfOk result (λ parts. ArePartsFrom 0 book.now parts.items) }
 {
-    let room = Room::of(book.graph());
+    let room = ListRoom::of(book.graph());
     let mut parts = Vec::new(alloc);
     for worker in 0..book.graph().workers() {
         let last = last_number(book, WorkerId(worker));
-        parts.push(Part::fresh(alloc, room, last)?)?;
+        parts.push(WorkerPart::fresh(alloc, room, last)?)?;
     }
     Ok(parts)
 }

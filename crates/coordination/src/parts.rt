@@ -7,6 +7,7 @@ ghost use Rattle.lock_journal.specs.OwnChanges.{mark_before, with_if, without_if
 ghost use Rattle.coordination.specs.Parts.{Follows, HasListRoom, HasRoomFor, IsAfter, IsPartOf, IsFreshPart, IsRoomOf, LeadsOn, marks_of};
 
 use crate::sorted_lists::{add, remove};
+use history_views::Reach;
 use lock_journal::Book;
 use lock_transforms::Disposition;
 use resource_lock::{Change, Graph, LockId, Mark, MarkId, WorkerId};
@@ -14,28 +15,37 @@ use std::alloc::{AllocError, Global};
 
 /// How many locks a graph has, and how many tasks, actions and units together.
 #[derive(Clone, Copy)]
-pub struct Room {
+pub struct ListRoom {
     /// How many locks.
     pub locks: usize,
     /// How many marks: of tasks, actions and units.
     pub marks: usize,
 }
 
-impl Room {
+impl ListRoom {
     /// The room that a graph needs.
-    pub fn of(graph: &Graph) -> Room
+    pub fn of(graph: &Graph) -> ListRoom
         ensures { IsRoomOf graph.now result }
     {
-        Room {
+        ListRoom {
             locks: graph.locks() as usize,
             marks: graph.tasks().len() + graph.actions().len() + graph.units() as usize,
         }
     }
 }
 
+/// What a pass keeps of the book that its worker last let go of.
+#[derive(Drop)]
+pub struct Notes {
+    /// The worker's part of it.
+    pub part: WorkerPart,
+    /// How far its history had come, where views are shown it.
+    pub reach: Option<Reach>,
+}
+
 /// The worker's part of a book.
 #[derive(Drop)]
-pub struct Part {
+pub struct WorkerPart {
     /// The number of its last entry, or 0.
     pub last: u64,
     /// Whether it has a lease.
@@ -50,15 +60,15 @@ pub struct Part {
     pub parked: Vec<LockId>,
 }
 
-impl Part {
+impl WorkerPart {
     /// The part of a worker that has nothing, with room for all that it can ever have. It fails for want of memory alone.
-    pub fn fresh(alloc: Global, room: Room, last: u64) -> Result<Part, AllocError>
+    pub fn fresh(alloc: Global, room: ListRoom, last: u64) -> Result<WorkerPart, AllocError>
         ensures { IfOk result (IsFreshPart room last) }
     {
         let locks = Vec::with_capacity(alloc, room.locks)?;
         let claimed = Vec::with_capacity(alloc, room.marks)?;
         let parked = Vec::with_capacity(alloc, room.locks)?;
-        Ok(Part {
+        Ok(WorkerPart {
             last,
             lease: false,
             blocked: false,

@@ -6,10 +6,10 @@ ghost use Rattle.coordination.specs.Passes.{me_in, view_in};
 ghost use Rattle.coordination.specs.Shown.{blocked_shown, claimed_shown, lease_shown, locks_shown, parked_shown};
 
 use crate::keepers::{Keeper, Kept};
-use crate::parts::Part;
+use crate::parts::Notes;
 use crate::rule::SeatView;
 use atomic_table::{Badge, Seat};
-use history_views::{Reach, View};
+use history_views::View;
 use resource_lock::{LockId, MarkId, WorkerId};
 use std::marker::Model;
 use std::mem;
@@ -18,13 +18,11 @@ use std::mem;
 #[derive(Drop)]
 pub struct Pass {
     pub(crate) worker: WorkerId,
-    pub(crate) part: Part,
+    pub(crate) notes: Notes,
     pub(crate) stopped: bool,
     pub(crate) stopped_by: Option<WorkerId>,
     // Whether the worker has promised to come again at once.
     pub(crate) promised: bool,
-    // How far the history had come when the worker's last call let go of the book, where views are shown it.
-    pub(crate) reach: Option<Reach>,
     pub(crate) badge: Badge<SeatView>,
 }
 
@@ -40,7 +38,7 @@ impl Model for Pass {
       sight = sight_of (view_in p.badge.views);
     } };
 
-    ghost invariant = { λ p. IsPass p.worker p.part p.reach (me_in p.badge.views) × (p.stopped ≡ (sight_of (view_in p.badge.views)).stopped)
+    ghost invariant = { λ p. IsPass p.worker p.notes (me_in p.badge.views) × (p.stopped ≡ (sight_of (view_in p.badge.views)).stopped)
         × (p.stopped_by ≡ (sight_of (view_in p.badge.views)).stopped_by) × (p.badge.views ≡ view_in p.badge.views ∷ []) };
 }
 
@@ -67,14 +65,14 @@ impl Pass {
     pub fn locks(&self) -> &[LockId]
         ensures { result.now ≡ locks_shown self.now.sight }
     {
-        &self.part.locks
+        &self.notes.part.locks
     }
 
     /// Whether the worker has a lease.
     pub fn has_lease(&self) -> bool
         ensures { result ≡ lease_shown self.now.sight }
     {
-        self.part.lease
+        self.notes.part.lease
     }
 
     /// The marks that are Running by the worker: first of tasks, then of actions, then of units, each
@@ -82,28 +80,28 @@ impl Pass {
     pub fn claimed(&self) -> &[MarkId]
         ensures { result.now ≡ claimed_shown self.now.sight }
     {
-        &self.part.claimed
+        &self.notes.part.claimed
     }
 
     /// The locks that the worker has parked, the last parked last.
     pub fn parked(&self) -> &[LockId]
         ensures { result.now ≡ parked_shown self.now.sight }
     {
-        &self.part.parked
+        &self.notes.part.parked
     }
 
     /// Whether the worker is in a blocking section.
     pub fn blocked(&self) -> bool
         ensures { result ≡ blocked_shown self.now.sight }
     {
-        self.part.blocked
+        self.notes.part.blocked
     }
 
     /// The number of the worker's last entry, counted from 1 on, or 0.
     pub fn last(&self) -> u64
         ensures { result ≡ last_of self.now.sight.worker self.now.sight.seen.history }
     {
-        self.part.last
+        self.notes.part.last
     }
 
     /// Whether the worker has stopped the service.
@@ -128,7 +126,7 @@ impl Pass {
         ensures grows { Exceeds view.old view.new }
         ensures learnt { IsLater self.now.sight.seen (last_book view.new.log) }
     {
-        match &self.reach {
+        match &self.notes.reach {
             Some(reach) => view.learn(reach),
             None => unreachable!(),
         }

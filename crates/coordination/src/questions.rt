@@ -1,5 +1,5 @@
 //! Questions of the locked book.
-ghost use Rattle.std.specs.Prelude.{◌≡◌, ◌<◌, IfNone, IfSome, Option};
+ghost use Rattle.std.specs.Prelude.{◌≡◌, ◌<◌, Bool, IfNone, IfSome, Option};
 ghost use Rattle.resource_lock.specs.declared.ids.WorkerId.{WorkerId};
 ghost use Rattle.lock_journal.specs.BookView.{BookView};
 ghost use Rattle.worker_choices.specs.NextSteps.{Waits};
@@ -14,11 +14,11 @@ pub trait Question {
     /// What is answered.
     type Answer;
 
-    /// Which answers a worker may get of a book.
-    ghost answers: { Self → WorkerId → BookView → Self.Answer → Type 0 };
+    /// Which answers a worker may get of a book, where work outside it is queued or isn't.
+    ghost answers: { Self → Bool → WorkerId → BookView → Self.Answer → Type 0 };
 
     /// Where a worker may have to wait for an answer.
-    ghost waits_on: { Self → WorkerId → BookView → Type 0 };
+    ghost waits_on: { Self → Bool → WorkerId → BookView → Type 0 };
 
     /// What ends the wait for an answer; none says that any entry does.
     ghost awaits: { Self → Option Awaited };
@@ -32,8 +32,8 @@ pub trait Question {
     /// as it waits beside it, or isn't (`Offers`).
     fn ask(&self, worker: WorkerId, book: &Book, queued: bool) -> Option<Self::Answer>
         requires { worker.0 < book.now.graph.workers }
-        ensures answers { IfSome result (λ answer. answers self.now worker book.now answer) }
-        ensures waits { IfNone result (waits_on self.now worker book.now) }
+        ensures answers { IfSome result (λ answer. answers self.now queued worker book.now answer) }
+        ensures waits { IfNone result (waits_on self.now queued worker book.now) }
         // An answer is given where what it waits for has come, and nowhere else.
         ensures awaits { IfNone result (IfSome (awaits self.now) (Waits book.now.graph worker book.now.state queued)) }
         ensures comes { IfSome result (λ _. IfSome (awaits self.now) (λ a. Waits book.now.graph worker book.now.state queued a → ⊥)) };

@@ -8,7 +8,7 @@ ghost use Rattle.coordination.specs.Parts.{ArePartsFrom};
 ghost use Rattle.coordination.specs.Sights.{all_of, sights_from, starting, workers_from};
 
 use crate::keepers::{Keeper, Kept};
-use crate::parts::Part;
+use crate::parts::{Notes, WorkerPart};
 use crate::passes::Pass;
 use crate::rule::{OneWorker, OpenedWith, SeatView, Sit, TakeForGood};
 use crate::slots::Slot;
@@ -60,7 +60,7 @@ impl<K: Keeper> Slot<K> {
         &self,
         mut seat: Seat<Kept<K>, SeatView>,
         told: &Option<Reach>,
-        parts: Vec<Part>,
+        parts: Vec<WorkerPart>,
         mut passes: Vec<Pass>,
     ) -> Vec<Pass>
         requires id { seat.table_id ≡ self.now.table.shared.table_id }
@@ -81,11 +81,13 @@ impl<K: Keeper> Slot<K> {
             let own = self.table.shared.split_seat::<OneWorker>(&mut seat);
             passes.push_reserved(Pass {
                 worker,
-                part,
+                notes: Notes {
+                    part,
+                    reach: again(told),
+                },
                 stopped: false,
                 stopped_by: None,
                 promised: false,
-                reach: again(told),
                 badge: own.into_badge(),
             });
         }

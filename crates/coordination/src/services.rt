@@ -5,7 +5,8 @@ ghost use Rattle.coordination.specs.Agrees.{Agrees};
 ghost use Rattle.resource_lock.specs.AtRest.{IsAtRest};
 ghost use Rattle.coordination.specs.Holds.{HoldsNothing};
 ghost use Rattle.coordination.specs.Calls.{AskedInVain, HasFailed, HasFinished, HasLooked, HasStopped, IsAnswered, WasStopped};
-ghost use Rattle.coordination.specs.Decisions.{HasDecided};
+ghost use Rattle.coordination.specs.Decisions.{CouldNotStep, HasDecided};
+ghost use Rattle.coordination.specs.Offered.{AreTold, AsTold, WaitsAsTold};
 ghost use Rattle.coordination.specs.RunThenDecide.{HasFollowed};
 ghost use Rattle.coordination.specs.Sights.{sights_from, workers_from};
 ghost use Rattle.coordination.specs.Together.{ComeTo};
@@ -133,8 +134,10 @@ impl<O: Offers, K: Keeper> Coordination<O, K> {
         requires { pass.old.service ≡ self.now.service }
         ensures service { pass.new.service ≡ pass.old.service }
         ensures worker { pass.new.sight.worker ≡ pass.old.sight.worker }
-        ensures answered { IfOk result (λ answer. IsAnswered (Q.answers question.now) answer pass.old.sight pass.new.sight) }
-        ensures stopped { (by : WorkerId) → result ≡ Err (Halt.Stopped by) → AskedInVain (Q.waits_on question.now) by pass.old.sight pass.new.sight }
+        ensures answered { IfOk result (λ answer. IsAnswered (AsTold (AreTold O.tells) (Q.answers question.now)) answer pass.old.sight
+            pass.new.sight) }
+        ensures stopped { (by : WorkerId) → result ≡ Err (Halt.Stopped by)
+            → AskedInVain (WaitsAsTold (AreTold O.tells) (Q.waits_on question.now)) by pass.old.sight pass.new.sight }
         ensures memory { result ≢ Err Halt.NoMemory }
     {
         self.take_turn(rt, pass, &Ask { question })
@@ -157,10 +160,12 @@ impl<O: Offers, K: Keeper> Coordination<O, K> {
         requires { pass.old.service ≡ self.now.service }
         ensures service { pass.new.service ≡ pass.old.service }
         ensures worker { pass.new.sight.worker ≡ pass.old.sight.worker }
-        ensures decided { IfOk result (HasDecided (Q.answers decision.now) (Q.step_of decision.now)
+        ensures decided { IfOk result (HasDecided (AsTold (AreTold O.tells) (Q.answers decision.now)) (Q.step_of decision.now)
             Q.Step.kind_of Q.Step.makes Q.Step.fails_on Q.Step.retries_on pass.old.sight pass.new.sight) }
-        ensures no_memory { result ≡ Err Halt.NoMemory → HasLooked pass.old.sight pass.new.sight }
-        ensures stopped { (by : WorkerId) → result ≡ Err (Halt.Stopped by) → AskedInVain (Q.waits_on decision.now) by pass.old.sight pass.new.sight }
+        ensures no_memory { result ≡ Err Halt.NoMemory
+            → CouldNotStep (AsTold (AreTold O.tells) (Q.answers decision.now)) (Q.step_of decision.now) pass.old.sight pass.new.sight }
+        ensures stopped { (by : WorkerId) → result ≡ Err (Halt.Stopped by)
+            → AskedInVain (WaitsAsTold (AreTold O.tells) (Q.waits_on decision.now)) by pass.old.sight pass.new.sight }
     {
         self.take_turn(rt, pass, &Decide { decision })
     }
@@ -183,9 +188,9 @@ impl<O: Offers, K: Keeper> Coordination<O, K> {
         requires { pass.old.service ≡ self.now.service }
         ensures service { pass.new.service ≡ pass.old.service }
         ensures worker { pass.new.sight.worker ≡ pass.old.sight.worker }
-        ensures followed { IfOk result (HasFollowed (Q.answers decision.now) (Q.waits_on decision.now) (Q.step_of decision.now)
-            Q.Step.kind_of Q.Step.makes Q.Step.fails_on Q.Step.retries_on (T.kind_of transform.now) (T.makes transform.now)
-            (T.fails_on transform.now) pass.old.sight pass.new.sight) }
+        ensures followed { IfOk result (HasFollowed (AsTold (AreTold O.tells) (Q.answers decision.now))
+            (WaitsAsTold (AreTold O.tells) (Q.waits_on decision.now)) (Q.step_of decision.now) Q.Step.kind_of Q.Step.makes Q.Step.fails_on
+            Q.Step.retries_on (T.kind_of transform.now) (T.makes transform.now) (T.fails_on transform.now) pass.old.sight pass.new.sight) }
         ensures no_memory { result ≡ Err Halt.NoMemory → HasLooked pass.old.sight pass.new.sight }
         ensures stopped { (by : WorkerId) → result ≡ Err (Halt.Stopped by) → WasStopped (T.retries_on transform.now) by pass.old.sight pass.new.sight }
     {

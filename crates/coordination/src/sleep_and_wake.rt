@@ -2,6 +2,7 @@
 ghost use Rattle.std.specs.Prelude.{◌≡◌, IfOk, Err};
 ghost use Rattle.resource_lock.specs.declared.ids.WorkerId.{WorkerId};
 ghost use Rattle.coordination.specs.Calls.{AskedInVain, HasLooked};
+ghost use Rattle.coordination.specs.Offered.{AreTold};
 ghost use Rattle.coordination.specs.Turns.{HasDone};
 
 use crate::halts::Halt;
@@ -50,7 +51,7 @@ impl Condvars {
         }
     }
 
-    // Wakes these, or nobody.
+    // Wakes these, or nobody. Each Condvar that is touched costs more than an entry.
     #[inline]
     fn wake_if_any(&self, wakes: Wakes) {
         if wakes.wake_any() {
@@ -106,14 +107,17 @@ impl<O: Offers, K: Keeper> Coordination<O, K> {
         requires { pass.old.service ≡ self.now.service }
         ensures service { pass.new.service ≡ pass.old.service }
         ensures worker { pass.new.sight.worker ≡ pass.old.sight.worker }
-        ensures done { IfOk result (HasDone (T.gives turn.now) pass.old.sight pass.new.sight) }
-        ensures no_memory { result ≡ Err Halt.NoMemory → T.runs turn.now × HasLooked pass.old.sight pass.new.sight }
-        ensures stopped { (by : WorkerId) → result ≡ Err (Halt.Stopped by) → AskedInVain (T.waits_on turn.now) by pass.old.sight pass.new.sight }
+        ensures done { IfOk result (HasDone (T.gives turn.now (AreTold O.tells)) pass.old.sight pass.new.sight) }
+        ensures no_memory { result ≡ Err Halt.NoMemory → HasLooked pass.old.sight pass.new.sight
+            × T.runs turn.now (AreTold O.tells) pass.new.sight.worker pass.new.sight.seen }
+        ensures stopped { (by : WorkerId) → result ≡ Err (Halt.Stopped by)
+            → AskedInVain (T.waits_on turn.now (AreTold O.tells)) by pass.old.sight pass.new.sight }
     {
         let (place, apart) = self.condvars.place(turn.awaits(), pass.worker);
         let mut woken = false;
         for _ in rt.forever() {
-            // Read before the hold that may note this worker as asleep: any wake that comes of the note changes it.
+            // Read before the hold that may note this worker as asleep: any wake that comes of the note changes it. So the worker
+            // needs no Mutex to let go of while it falls asleep, and a stop takes no state lock.
             let news = place.notifications();
             let (came, wakes, later) = self.slot.hold(rt, pass, woken, apart, turn);
             self.condvars.wake_if_any(wakes);

@@ -66,6 +66,7 @@ impl Sleepers {
         ensures transforms { IfOk result (λ sleepers. sleepers.transforms ≡ false) }
         ensures questions { IfOk result (λ sleepers. sleepers.questions ≡ false) }
         ensures workers { IfOk result (λ sleepers. sleepers.stances ≡ replicate workers stance.Away) }
+        ensures queued { IfOk result (λ sleepers. sleepers.queued ≡ false) }
     {
         Ok(Sleepers {
             transforms: false,

@@ -1,19 +1,20 @@
 //! The steps on the table.
 ghost use Rattle.std.specs.Prelude.{◌≡◌, ◌≢◌, ◌<◌, ◌+◌, ◌-◌, ◌^◌, [], ◌∷◌, length, true, false, IfNone, IfSome, None};
 ghost use Rattle.coordination.specs.Attempts.{Answers, HasRun};
-ghost use Rattle.coordination.specs.Decisions.{DecideGives, EndsDecision, carried_out};
+ghost use Rattle.coordination.specs.Decisions.{DecideGives, EndsDecision, HadStep, carried_out};
 ghost use Rattle.coordination.specs.SleepAndWake.{EndsHold, stance_asking};
 ghost use Rattle.history_views.specs.ShownBooks.{IsTold};
 ghost use Rattle.coordination.specs.Kept.{kept};
 ghost use Rattle.coordination.specs.Parts.{IsPartHere};
 ghost use Rattle.coordination.specs.Rule.{AddsOwn, Hears, Taken, carried_book};
 ghost use Rattle.coordination.specs.Sights.{holding, one, seeing, sight_of, stopping};
+ghost use Rattle.coordination.specs.Stops.{KnowsNoStop};
 ghost use Rattle.coordination.specs.Turns.{HasLeft};
 
 use crate::boxed_books::BoxedBook;
 use crate::decisions::{Decided, Decision};
 use crate::keepers::{Keeper, Kept};
-use crate::parts::Part;
+use crate::parts::Notes;
 use crate::questions::Question;
 use crate::rule::{Hear, OpenedWith, Order, PutBack, SeatView, Stop, Take};
 use crate::sleepers::{Sleepers, Wakes};
@@ -132,24 +133,23 @@ impl<K: Keeper> Slot<K> {
         &self,
         seat: &mut Seat<Kept<K>, SeatView>,
         worker: WorkerId,
-        part: &mut Part,
-        reach: &mut Option<Reach>,
+        notes: &mut Notes,
         transform: &T,
         sleepers: &mut Sleepers,
     ) -> (Result<Disposition, AllocError>, Wakes)
         requires id { seat.old.table_id ≡ self.now.table.shared.table_id }
         requires held { seat.old.me.1 ≡ (0, kept (carried_book seat.old.me.1) seat.old.me.0.ledger) ∷ [] }
-        requires part { IsPartHere worker (carried_book seat.old.me.1) part.old }
-        requires told { seat.old.me.0.ledger ≡ None → reach.old ≡ None }
+        requires part { IsPartHere worker (carried_book seat.old.me.1) notes.old.part }
+        requires told { seat.old.me.0.ledger ≡ None → notes.old.reach ≡ None }
         ensures same { (seat.new.table_id ≡ seat.old.table_id) × (seat.new.id ≡ seat.old.id) × (seat.new.me.0 ≡ seat.old.me.0) }
         ensures held { seat.new.me.1 ≡ (0, kept (carried_book seat.new.me.1) seat.old.me.0.ledger) ∷ [] }
-        ensures told { IsTold seat.old.me.0.ledger reach.new (carried_book seat.new.me.1) }
+        ensures told { IsTold seat.old.me.0.ledger notes.new.reach (carried_book seat.new.me.1) }
         ensures run { HasRun (T.kind_of transform.now) (T.makes transform.now) (T.fails_on transform.now)
             (T.retries_on transform.now) worker (carried_book seat.old.me.1)
-            (carried_book seat.new.me.1) part.new sleepers.old sleepers.new result }
+            (carried_book seat.new.me.1) notes.new.part sleepers.old sleepers.new result }
     {
         let kept = seat.slot_mut(&self.table.shared, 0);
-        run_on(&mut kept.keeper, worker, part, reach, transform, sleepers)
+        run_on(&mut kept.keeper, worker, notes, transform, sleepers)
     }
 
     /// Asks the question of the book that the seat holds, and ends the hold.
@@ -167,7 +167,8 @@ impl<K: Keeper> Slot<K> {
         requires told { seat.old.me.0.ledger ≡ None → reach.old ≡ None }
         ensures same { (seat.new.table_id ≡ seat.old.table_id) × (seat.new.id ≡ seat.old.id) × (seat.new.me ≡ seat.old.me) }
         ensures told { IsTold seat.old.me.0.ledger reach.new (carried_book seat.old.me.1) }
-        ensures answer { Answers (Q.answers question.now) (Q.waits_on question.now) worker (carried_book seat.old.me.1) result.0 }
+        ensures answer { Answers (Q.answers question.now sleepers.old.queued) (Q.waits_on question.now sleepers.old.queued)
+            worker (carried_book seat.old.me.1) result.0 }
         ensures ends { EndsHold (carried_book seat.old.me.1) worker (stance_asking sleepers.old.promised (Q.awaits question.now) result.0)
             false sleepers.old sleepers.new result.1 }
     {
@@ -217,7 +218,7 @@ impl<K: Keeper> Slot<K> {
         requires id { seat.old.table_id ≡ self.now.table.shared.table_id }
         requires lone { seat.old.me ≡ (one seat.old.me.0.ledger (sight_of seat.old.me.0), []) }
         ensures same { (seat.new.table_id ≡ seat.old.table_id) × (seat.new.id ≡ seat.old.id) }
-        ensures none { IfNone result (seat.new.me ≡ seat.old.me) }
+        ensures none { IfNone result ((seat.new.me ≡ seat.old.me) × KnowsNoStop (sight_of seat.old.me.0)) }
         ensures some { IfSome result (λ by. Hears seat.old.me by seat.new.me) }
     {
         let found = self.table.shared.load::<Hear>(seat, 1);
@@ -234,23 +235,22 @@ impl<K: Keeper> Slot<K> {
 pub(crate) fn run_on<K: Keeper, T: Transform>(
     keeper: &mut K,
     worker: WorkerId,
-    part: &mut Part,
-    reach: &mut Option<Reach>,
+    notes: &mut Notes,
     transform: &T,
     sleepers: &mut Sleepers,
 ) -> (Result<Disposition, AllocError>, Wakes)
-    requires part { IsPartHere worker (K.book_of keeper.old) part.old }
-    requires told { K.ledger_of keeper.old ≡ None → reach.old ≡ None }
+    requires part { IsPartHere worker (K.book_of keeper.old) notes.old.part }
+    requires told { K.ledger_of keeper.old ≡ None → notes.old.reach ≡ None }
     ensures ledger { K.ledger_of keeper.new ≡ K.ledger_of keeper.old }
-    ensures told { IsTold (K.ledger_of keeper.new) reach.new (K.book_of keeper.new) }
+    ensures told { IsTold (K.ledger_of keeper.new) notes.new.reach (K.book_of keeper.new) }
     ensures run { HasRun (T.kind_of transform.now) (T.makes transform.now) (T.fails_on transform.now)
-        (T.retries_on transform.now) worker (K.book_of keeper.old) (K.book_of keeper.new) part.new sleepers.old sleepers.new result }
+        (T.retries_on transform.now) worker (K.book_of keeper.old) (K.book_of keeper.new) notes.new.part sleepers.old sleepers.new result }
 {
     let ran = keeper.run(worker, transform);
     let book = keeper.book();
-    part.follow(worker, book, &ran);
+    notes.part.follow(worker, book, &ran);
     let wakes = sleepers.end_transform(book, worker, transform.kind(), &ran);
-    keeper.tell(reach);
+    keeper.tell(&mut notes.reach);
     (ran, wakes)
 }
 
@@ -266,7 +266,8 @@ pub(crate) fn ask_of<K: Keeper, Q: Question>(
     requires known { worker.0 < (K.book_of keeper.now).graph.workers }
     requires told { K.ledger_of keeper.now ≡ None → reach.old ≡ None }
     ensures told { IsTold (K.ledger_of keeper.now) reach.new (K.book_of keeper.now) }
-    ensures answer { Answers (Q.answers question.now) (Q.waits_on question.now) worker (K.book_of keeper.now) result.0 }
+    ensures answer { Answers (Q.answers question.now sleepers.old.queued) (Q.waits_on question.now sleepers.old.queued) worker
+        (K.book_of keeper.now) result.0 }
     ensures ends { EndsHold (K.book_of keeper.now) worker (stance_asking sleepers.old.promised (Q.awaits question.now) result.0)
         false sleepers.old sleepers.new result.1 }
 {
@@ -281,35 +282,50 @@ pub(crate) fn ask_of<K: Keeper, Q: Question>(
 pub(crate) fn decide_on<K: Keeper, Q: Decision>(
     keeper: &mut K,
     worker: WorkerId,
-    part: &mut Part,
-    reach: &mut Option<Reach>,
+    notes: &mut Notes,
     decision: &Q,
     awaited: Option<Awaited>,
     sleepers: &mut Sleepers,
 ) -> (Came<Decided<Q::Answer>>, Wakes)
 where
     Q::Answer: Drop,
-    requires part { IsPartHere worker (K.book_of keeper.old) part.old }
-    requires told { K.ledger_of keeper.old ≡ None → reach.old ≡ None }
+    requires part { IsPartHere worker (K.book_of keeper.old) notes.old.part }
+    requires told { K.ledger_of keeper.old ≡ None → notes.old.reach ≡ None }
     ensures ledger { K.ledger_of keeper.new ≡ K.ledger_of keeper.old }
-    ensures told { IsTold (K.ledger_of keeper.new) reach.new (K.book_of keeper.new) }
-    ensures left { HasLeft (DecideGives (Q.answers decision.now) (Q.step_of decision.now) Q.Step.kind_of Q.Step.makes Q.Step.fails_on
-        Q.Step.retries_on) (Q.waits_on decision.now) (Unit {0}) worker (K.book_of keeper.old) (K.book_of keeper.new) part.new result.0 }
+    ensures told { IsTold (K.ledger_of keeper.new) notes.new.reach (K.book_of keeper.new) }
+    ensures left { HasLeft (DecideGives (Q.answers decision.now sleepers.old.queued) (Q.step_of decision.now) Q.Step.kind_of Q.Step.makes
+        Q.Step.fails_on Q.Step.retries_on) (Q.waits_on decision.now sleepers.old.queued)
+        (HadStep (Q.answers decision.now sleepers.old.queued) (Q.step_of decision.now)) worker (K.book_of keeper.old) (K.book_of keeper.new)
+        notes.new.part result.0 }
     ensures ends { EndsDecision (K.book_of keeper.new) worker awaited (Q.step_of decision.now) Q.Step.kind_of
         sleepers.old sleepers.new result.1 result.0 }
 {
     let book = keeper.book();
     let Some(answer) = decision.ask(worker, book, sleepers.queued) else {
-        let wakes = end_asked(keeper, worker, reach, awaited, &None::<()>, sleepers);
+        let wakes = end_asked(
+            keeper,
+            worker,
+            &mut notes.reach,
+            awaited,
+            &None::<()>,
+            sleepers,
+        );
         return (Came::Again, wakes);
     };
     match decision.step(&answer) {
         None => {
-            let wakes = end_asked(keeper, worker, reach, awaited, &Some(()), sleepers);
+            let wakes = end_asked(
+                keeper,
+                worker,
+                &mut notes.reach,
+                awaited,
+                &Some(()),
+                sleepers,
+            );
             (Came::Done(Decided::Answered(answer)), wakes)
         }
         Some(step) => {
-            let (came, wakes) = run_on(keeper, worker, part, reach, &step, sleepers);
+            let (came, wakes) = run_on(keeper, worker, notes, &step, sleepers);
             (carried_out(answer, came), wakes)
         }
     }

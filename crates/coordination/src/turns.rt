@@ -1,22 +1,22 @@
 //! Turns: what a worker does with the book in one hold of the state lock.
-ghost use Rattle.std.specs.Prelude.{◌≡◌, ◌≢◌, None};
+ghost use Rattle.std.specs.Prelude.{◌≡◌, ◌≢◌, Bool, None};
 ghost use Rattle.resource_lock.specs.declared.ids.WorkerId.{WorkerId};
 ghost use Rattle.lock_journal.specs.BookView.{BookView};
 ghost use Rattle.history_views.specs.ShownBooks.{IsTold};
 ghost use Rattle.coordination.specs.Parts.{IsPartHere};
-ghost use Rattle.coordination.specs.Decisions.{DecideGives};
+ghost use Rattle.coordination.specs.Decisions.{DecideGives, HadStep};
+ghost use Rattle.coordination.specs.Offered.{AreTold, AsTold, WaitsAsTold};
 ghost use Rattle.coordination.specs.RunThenDecide.{FollowGives, followed_of};
-ghost use Rattle.coordination.specs.SleepAndWake.{IsAwake};
+ghost use Rattle.coordination.specs.SleepAndWake.{EndsTurn, IsAwake};
 ghost use Rattle.coordination.specs.Turns.{AskGives, HasLeft, RunGives, came_of};
 
 use crate::decisions::{Decided, Decision, Followed};
 use crate::guarded::{Caller, Guarded};
 use crate::keepers::Keeper;
 use crate::outside_work::Offers;
-use crate::parts::Part;
+use crate::parts::Notes;
 use crate::questions::Question;
 use crate::sleepers::Wakes;
-use history_views::Reach;
 use lock_transforms::{Disposition, Transform};
 use std::alloc::AllocError;
 
@@ -47,14 +47,14 @@ pub trait Turn {
     /// What it comes to.
     type Outcome;
 
-    /// What an outcome says of the book that the worker found, and of the one that it leaves.
-    ghost gives: { Self → WorkerId → BookView → BookView → Self.Outcome → Type 0 };
+    /// What an outcome says of the book that the worker found, and of the one that it leaves, by what offers tell.
+    ghost gives: { Self → (Bool → Type 0) → WorkerId → BookView → BookView → Self.Outcome → Type 0 };
 
     /// Where it may have to be had again.
-    ghost waits_on: { Self → WorkerId → BookView → Type 0 };
+    ghost waits_on: { Self → (Bool → Type 0) → WorkerId → BookView → Type 0 };
 
     /// Where it may want memory.
-    ghost runs: { Self → Type 0 };
+    ghost runs: { Self → (Bool → Type 0) → WorkerId → BookView → Type 0 };
 
     /// Where its worker sleeps until it is to be had again.
     fn awaits(&self) -> Awaits;
@@ -65,15 +65,16 @@ pub trait Turn {
         &self,
         guarded: &mut Guarded<O, K>,
         caller: Caller,
-        part: &mut Part,
-        reach: &mut Option<Reach>,
+        notes: &mut Notes,
     ) -> (Came<Self::Outcome>, Wakes, Wakes)
-        requires part { IsPartHere caller.worker (K.book_of guarded.old.keeper) part.old }
-        requires told { K.ledger_of guarded.old.keeper ≡ None → reach.old ≡ None }
+        requires part { IsPartHere caller.worker (K.book_of guarded.old.keeper) notes.old.part }
+        requires told { K.ledger_of guarded.old.keeper ≡ None → notes.old.reach ≡ None }
         ensures ledger { K.ledger_of guarded.new.keeper ≡ K.ledger_of guarded.old.keeper }
-        ensures told { IsTold (K.ledger_of guarded.new.keeper) reach.new (K.book_of guarded.new.keeper) }
-        ensures left { HasLeft (gives self.now) (waits_on self.now) (runs self.now) caller.worker (K.book_of guarded.old.keeper)
-            (K.book_of guarded.new.keeper) part.new result.0 }
+        ensures told { IsTold (K.ledger_of guarded.new.keeper) notes.new.reach (K.book_of guarded.new.keeper) }
+        ensures left { HasLeft (gives self.now (AreTold O.tells)) (waits_on self.now (AreTold O.tells)) (runs self.now (AreTold O.tells))
+            caller.worker (K.book_of guarded.old.keeper) (K.book_of guarded.new.keeper) notes.new.part result.0 }
+        ensures ends { EndsTurn (AreTold O.tells) caller.worker caller.promised (K.book_of guarded.old.keeper) (K.book_of guarded.new.keeper)
+            guarded.old.sleepers guarded.new.sleepers result.1 result.2 }
         // Whose turn isn't to be had again isn't noted as asleep.
         ensures awake { result.0 ≢ Came.Again → IsAwake caller.worker guarded.new.sleepers };
 }
@@ -87,11 +88,11 @@ pub struct Run<'a, T: Transform> {
 impl<T: Transform> Turn for Run<'_, T> {
     type Outcome = bool;
 
-    ghost gives = { λ t. RunGives (T.kind_of t.transform.now) (T.makes t.transform.now) (T.fails_on t.transform.now) };
+    ghost gives = { λ t tells. RunGives (T.kind_of t.transform.now) (T.makes t.transform.now) (T.fails_on t.transform.now) };
 
-    ghost waits_on = { λ t w book. T.retries_on t.transform.now book.graph w book.state };
+    ghost waits_on = { λ t tells w book. T.retries_on t.transform.now book.graph w book.state };
 
-    ghost runs = { λ t. Unit {0} };
+    ghost runs = { λ t tells w book. Unit {0} };
 
     fn awaits(&self) -> Awaits {
         Awaits::LettingEntry
@@ -102,10 +103,9 @@ impl<T: Transform> Turn for Run<'_, T> {
         &self,
         guarded: &mut Guarded<O, K>,
         caller: Caller,
-        part: &mut Part,
-        reach: &mut Option<Reach>,
+        notes: &mut Notes,
     ) -> (Came<bool>, Wakes, Wakes) {
-        let (ran, wakes) = guarded.run_held(caller, part, reach, self.transform);
+        let (ran, wakes) = guarded.run_held(caller, notes, self.transform);
         (came_of(ran), wakes, Wakes::NOBODY)
     }
 }
@@ -119,11 +119,11 @@ pub struct Ask<'a, Q: Question> {
 impl<Q: Question> Turn for Ask<'_, Q> {
     type Outcome = Q::Answer;
 
-    ghost gives = { λ t. AskGives (Q.answers t.question.now) };
+    ghost gives = { λ t tells. AskGives (AsTold tells (Q.answers t.question.now)) };
 
-    ghost waits_on = { λ t. Q.waits_on t.question.now };
+    ghost waits_on = { λ t tells. WaitsAsTold tells (Q.waits_on t.question.now) };
 
-    ghost runs = { λ t. ⊥ };
+    ghost runs = { λ t tells w book. ⊥ };
 
     fn awaits(&self) -> Awaits {
         awaits_answer(self.question)
@@ -134,10 +134,9 @@ impl<Q: Question> Turn for Ask<'_, Q> {
         &self,
         guarded: &mut Guarded<O, K>,
         caller: Caller,
-        _: &mut Part,
-        reach: &mut Option<Reach>,
+        notes: &mut Notes,
     ) -> (Came<Q::Answer>, Wakes, Wakes) {
-        let (answer, wakes) = guarded.ask_held(caller, reach, self.question);
+        let (answer, wakes) = guarded.ask_held(caller, &mut notes.reach, self.question);
         match answer {
             Some(answer) => (Came::Done(answer), wakes, Wakes::NOBODY),
             None => (Came::Again, wakes, Wakes::NOBODY),
@@ -157,11 +156,12 @@ where
 {
     type Outcome = Decided<Q::Answer>;
 
-    ghost gives = { λ t. DecideGives (Q.answers t.decision.now) (Q.step_of t.decision.now) Q.Step.kind_of Q.Step.makes Q.Step.fails_on Q.Step.retries_on };
+    ghost gives = { λ t tells. DecideGives (AsTold tells (Q.answers t.decision.now)) (Q.step_of t.decision.now) Q.Step.kind_of Q.Step.makes
+        Q.Step.fails_on Q.Step.retries_on };
 
-    ghost waits_on = { λ t. Q.waits_on t.decision.now };
+    ghost waits_on = { λ t tells. WaitsAsTold tells (Q.waits_on t.decision.now) };
 
-    ghost runs = { λ t. Unit {0} };
+    ghost runs = { λ t tells. HadStep (AsTold tells (Q.answers t.decision.now)) (Q.step_of t.decision.now) };
 
     fn awaits(&self) -> Awaits {
         awaits_answer(self.decision)
@@ -172,10 +172,9 @@ where
         &self,
         guarded: &mut Guarded<O, K>,
         caller: Caller,
-        part: &mut Part,
-        reach: &mut Option<Reach>,
+        notes: &mut Notes,
     ) -> (Came<Decided<Q::Answer>>, Wakes, Wakes) {
-        let (came, wakes) = guarded.decide_held(caller, part, reach, self.decision);
+        let (came, wakes) = guarded.decide_held(caller, notes, self.decision);
         (came, wakes, Wakes::NOBODY)
     }
 }
@@ -193,12 +192,13 @@ where
 {
     type Outcome = Followed<Q::Answer>;
 
-    ghost gives = { λ t. FollowGives (Q.answers t.decision.now) (Q.waits_on t.decision.now) (Q.step_of t.decision.now) Q.Step.kind_of Q.Step.makes
-        Q.Step.fails_on Q.Step.retries_on (T.kind_of t.transform.now) (T.makes t.transform.now) (T.fails_on t.transform.now) };
+    ghost gives = { λ t tells. FollowGives (AsTold tells (Q.answers t.decision.now)) (WaitsAsTold tells (Q.waits_on t.decision.now))
+        (Q.step_of t.decision.now) Q.Step.kind_of Q.Step.makes Q.Step.fails_on Q.Step.retries_on (T.kind_of t.transform.now)
+        (T.makes t.transform.now) (T.fails_on t.transform.now) };
 
-    ghost waits_on = { λ t w book. T.retries_on t.transform.now book.graph w book.state };
+    ghost waits_on = { λ t tells w book. T.retries_on t.transform.now book.graph w book.state };
 
-    ghost runs = { λ t. Unit {0} };
+    ghost runs = { λ t tells w book. Unit {0} };
 
     fn awaits(&self) -> Awaits {
         Awaits::LettingEntry
@@ -209,16 +209,14 @@ where
         &self,
         guarded: &mut Guarded<O, K>,
         caller: Caller,
-        part: &mut Part,
-        reach: &mut Option<Reach>,
+        notes: &mut Notes,
     ) -> (Came<Followed<Q::Answer>>, Wakes, Wakes) {
-        let (ran, wakes) = guarded.run_held(caller, part, reach, self.transform);
+        let (ran, wakes) = guarded.run_held(caller, notes, self.transform);
         match came_of(ran) {
             Came::Done(true) => {
                 let (came, later) = guarded.decide_held(
                     caller.not_sleeping(),
-                    part,
-                    reach,
+                    notes,
                     self.decision,
                 );
                 (Came::Done(followed_of(came)), wakes, later)

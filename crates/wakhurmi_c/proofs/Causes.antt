@@ -42,7 +42,7 @@ told : (kind : Kind) (makes : Making) (fails retries waits : Cause) (refuses mis
     → ((book : BookView) → Finds old.worker old.seen book → retries book.graph old.worker book.state → waits book.graph old.worker book.state)
     → Tries kind makes fails retries old new a → Leaves kind makes fails waits refuses misuses old new a
 told kind makes fails retries waits refuses misuses old new Done only l = l
-told kind makes fails retries waits refuses misuses old new Busy only l = record { book = l.book; found = l.found; kept = only l.book l.found l.kept; sight = l.sight }
+told kind makes fails retries waits refuses misuses old new Busy only l = record { unheard = l.unheard; book = l.book; found = l.found; kept = only l.book l.found l.kept; sight = l.sight }
 told kind makes fails retries waits refuses misuses old new Refused only l = l
 told kind makes fails retries waits refuses misuses old new Stopped only l =
     (l.0, record { book = l.1.book; found = l.1.found; cause = only l.1.book l.1.found l.1.cause; stopper = l.1.stopper; sight = l.1.sight })

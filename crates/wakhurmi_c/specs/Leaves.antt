@@ -8,11 +8,13 @@ use Rattle.coordination.specs.Agrees.{Finds}
 use Rattle.coordination.specs.Attempts.{Cause, Making}
 use Rattle.coordination.specs.Calls.{HasFailed, HasFinished, HasLooked, WasStopped}
 use Rattle.coordination.specs.Sights.{seeing}
+use Rattle.coordination.specs.Stops.{KnowsNoStop}
 use Rattle.wakhurmi_c.specs.declared.answers.Answer.{Answer}
 use Rattle.wakhurmi_c.specs.declared.answers.Answer.TheVariants.{Done, Busy, Refused, Stopped, Again, NoMemory, BadNumber, Misused}
 
--- The call found a book in which it couldn't be done, and nothing of the worker's has changed.
+-- The worker knew of no stop, the call found a book in which it couldn't be done, and nothing of the worker's has changed.
 pub record WasKept (cause : Cause) (old new : Sight) : Type 0 where
+  pub unheard : KnowsNoStop old
   pub book : BookView
   pub found : Finds old.worker old.seen book
   pub kept : cause book.graph old.worker book.state

@@ -13,9 +13,9 @@ pub(crate) struct LeasesOut;
 impl Question for LeasesOut {
     type Answer = u32;
 
-    ghost answers = { λ _ w book n. n ≡ leases_out book.state };
+    ghost answers = { λ _ queued w book n. n ≡ leases_out book.state };
 
-    ghost waits_on = { λ _ w book. ⊥ };
+    ghost waits_on = { λ _ queued w book. ⊥ };
 
     ghost awaits = { λ _. None };
 

@@ -7,7 +7,8 @@ use crate::answers::{Answer, Outcome};
 use coordination::{Pass, Sleepers, Slot};
 use lock_transforms::{Disposition, Transform};
 
-/// Runs a transform of a worker once. It wakes others exactly where it made an entry that can let one go on.
+/// Runs a transform of a worker once. It wakes others exactly where it made an entry that can let one go on. Where it can't be done yet
+/// the worker hears of a stop, so `Busy` never comes once it has heard of one, or has stopped the service.
 pub(crate) fn try_once<T: Transform>(
     service: &Slot,
     pass: &mut Pass,

@@ -19,11 +19,11 @@ use Rattle.lock_journal.proofs.lemmas.Named.{belongs, good}
 use Rattle.coordination.specs.Agrees.{IsSoundBook}
 use Rattle.coordination.specs.WorkerEntries.{last_of}
 use Rattle.coordination.specs.Parts.{Follows, Has, HasListRoom, IsPartOf, LeadsOn, mark_count, marks_of}
-use Rattle.coordination.specs.declared.parts.Part.{Part}
+use Rattle.coordination.specs.declared.parts.WorkerPart.{WorkerPart}
 use Rattle.coordination.proofs.lemmas.Growing.{last_of-own}
 
 -- at a result that is known by an equation
-pub follows_at : {E : Type 0} (w : WorkerId) (old new : BookView) (r s : Result Disposition E) (part : Part) → r ≡ s → Follows w old new r part → Follows w old new s part
+pub follows_at : {E : Type 0} (w : WorkerId) (old new : BookView) (r s : Result Disposition E) (part : WorkerPart) → r ≡ s → Follows w old new r part → Follows w old new s part
 follows_at w old new r s part is f = subst (λ t. Follows w old new t part) is f
 
 pub belongs_sound : (book : BookView) → IsSoundBook book → BelongsTo book.graph book.state
@@ -33,14 +33,14 @@ pub good_sound : (book : BookView) → IsSoundBook book → Good book.state
 good_sound book sound = subst Good (sym sound.replays) (good book.graph book.history sound.lawful)
 
 -- the room of the graph is that of its states
-room_in : (g : GraphView) (s : StateView) (part : Part) → BelongsTo g s → HasListRoom g.locks (marks_of g) part → HasListRoom (length s.owners) (mark_count s) part
+room_in : (g : GraphView) (s : StateView) (part : WorkerPart) → BelongsTo g s → HasListRoom g.locks (marks_of g) part → HasListRoom (length s.owners) (mark_count s) part
 room_in g s part b room = record {
   lock_room = omega (arith, b.locks, room.lock_room);
   mark_room = omega (arith, b.tasks, b.actions, b.units, room.mark_room);
   park_room = omega (arith, b.locks, room.park_room);
 }
 
-room_out : (g : GraphView) (s : StateView) (part : Part) → BelongsTo g s → HasListRoom (length s.owners) (mark_count s) part → HasListRoom g.locks (marks_of g) part
+room_out : (g : GraphView) (s : StateView) (part : WorkerPart) → BelongsTo g s → HasListRoom (length s.owners) (mark_count s) part → HasListRoom g.locks (marks_of g) part
 room_out g s part b room = record {
   lock_room = omega (arith, b.locks, room.lock_room);
   mark_room = omega (arith, b.tasks, b.actions, b.units, room.mark_room);
@@ -53,7 +53,7 @@ last_of_more h e =
     let place : length (h ++ e ∷ []) - 1 ≡ length h = omega arith in
     ap (slice_get (h ++ e ∷ [])) place ∙ slice_get-get_or (h ++ e ∷ []) (length h) e (omega arith) ∙ ap Some (get_or-append_seam h e [] e)
 
-module _ {E : Type 0} (w : WorkerId) (old new : BookView) (part : Part) (f : Follows {E = E} w old new (Ok Finished) part) where
+module _ {E : Type 0} (w : WorkerId) (old new : BookView) (part : WorkerPart) (f : Follows {E = E} w old new (Ok Finished) part) where
   -- the last entry's changes are those that were made
   pub changes_made : last_changes new.history ≡ f.grew.1
   changes_made = ap last_changes f.grew.2.history ∙ ap made_by (last_of_more old.history (entry w f.grew.0 (Some f.grew.1)))
@@ -70,7 +70,7 @@ module _ {E : Type 0} (w : WorkerId) (old new : BookView) (part : Part) (f : Fol
         room = let r = room_in old.graph old.state part b f.room in record { lock_room = r.lock_room; mark_room = r.mark_room; park_room = r.park_room };
       }
 
-  module _ (after : Part) (n : ℕ) (leads : LeadsOn (make_all old.state w f.grew.1) w after []) where
+  module _ (after : WorkerPart) (n : ℕ) (leads : LeadsOn (make_all old.state w f.grew.1) w after []) where
     pub part_after : after.last ≡ n → n ≡ length new.history → IsPartOf new w after
     part_after last long =
         let e : Entry = entry w f.grew.0 (Some f.grew.1) in
@@ -85,7 +85,7 @@ module _ {E : Type 0} (w : WorkerId) (old new : BookView) (part : Part) (f : Fol
         (room_out old.graph (make_all old.state w f.grew.1) after (belongs_along old.graph old.state (make_all old.state w f.grew.1) (same_shape-make_all old.state w f.grew.1) (belongs_sound old f.sound)) leads.room)
 
 -- a failed transform leaves all but the number of the last entry
-pub part_failed : {E : Type 0} (w : WorkerId) (old new : BookView) (part : Part) (n : ℕ) → Follows {E = E} w old new (Ok Failed) part → n ≡ length new.history → IsPartOf new w (record part { last = n })
+pub part_failed : {E : Type 0} (w : WorkerId) (old new : BookView) (part : WorkerPart) (n : ℕ) → Follows {E = E} w old new (Ok Failed) part → n ≡ length new.history → IsPartOf new w (record part { last = n })
 part_failed w old new part n f long =
     let e : Entry = entry w f.grew.0 None in
     let history : new.history ≡ old.history ++ e ∷ [] = f.grew.1 in

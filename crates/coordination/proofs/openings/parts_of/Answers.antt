@@ -1,7 +1,7 @@
 use Rattle.std.proofs.Common.{◌≡◌, ◌+◌, ◌∷◌, [], ℕ, List, sym, ap, ◌∙◌, subst, arith, length, length-append}
 use Rattle.resource_lock.specs.GraphView.{GraphView}
 use Rattle.coordination.specs.Parts.{ArePartsFrom, HasListRoom, IsPartOf, marks_of}
-use Rattle.coordination.specs.declared.parts.Part.{Part}
+use Rattle.coordination.specs.declared.parts.WorkerPart.{WorkerPart}
 use Rattle.coordination.proofs.lemmas.Nothing.{fresh_part, parts_push}
 use Rattle.coordination.proofs.openings.parts_of.Goals as goal
 
@@ -9,10 +9,10 @@ pub loop-worker-preserved : goal.loop-worker-preserved
 loop-worker-preserved c =
     let book = c.args.book.now in
     let part = c.in_ok-fresh.field-0 in
-    let parts : List Part = c.loop-worker.parts.items in
+    let parts : List WorkerPart = c.loop-worker.parts.items in
     let count = c.loop-worker.invariant.0 in
     let items = c.in_ok-push.ensures.items in
-    let long : length c.push.new.self.items ≡ length parts + 1 = ap (λ (l : List Part). length l) items ∙ length-append parts (part ∷ []) in
+    let long : length c.push.new.self.items ≡ length parts + 1 = ap (λ (l : List WorkerPart). length l) items ∙ length-append parts (part ∷ []) in
     let fresh = c.in_ok-fresh.ensures in
     let mine = fresh_part book _ (record { 0 = c.loop-worker.worker }) _ part c.requires fresh c.last_number-last.ensures in
     let here : IsPartOf book (record { 0 = 0 + length parts }) part = subst (λ (n : ℕ). IsPartOf book (record { 0 = n }) part) (omega (arith, count)) mine in

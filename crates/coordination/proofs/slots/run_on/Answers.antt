@@ -14,7 +14,7 @@ follow-requires g c =
     let B = g.K.Keeper.book_of in
     let r = c.requires.part in (
       B c.args.keeper.now,
-      subst (λ (b : BookView). Follows c.args.worker (B c.args.keeper.now) b c.run-ran.result c.args.part.now) (sym c.book-book.ensures) (follows (T.kind_of t) (T.makes t) (T.fails_on t) (T.retries_on t) c.args.worker (B c.args.keeper.now) (B c.run-ran.new.self) c.run-ran.result c.args.part.now r.sound e.graph
+      subst (λ (b : BookView). Follows c.args.worker (B c.args.keeper.now) b c.run-ran.result c.args.notes.now.part) (sym c.book-book.ensures) (follows (T.kind_of t) (T.makes t) (T.fails_on t) (T.retries_on t) c.args.worker (B c.args.keeper.now) (B c.run-ran.new.self) c.run-ran.result c.args.notes.now.part r.sound e.graph
           (ran_of (T.kind_of t) (T.makes t) (T.fails_on t) (T.retries_on t) c.args.worker (B c.args.keeper.now) (B c.run-ran.new.self) c.run-ran.result e.finished e.failed e.retry (λ x is. search rules)) r.kept r.room),
     )
 

@@ -1,6 +1,7 @@
 use Rattle.std.proofs.Common.{refl, ap, sym, ◌∙◌, subst}
 use Rattle.resource_lock.specs.declared.ids.WorkerId.{WorkerId}
 use Rattle.coordination.specs.Calls.{AskedInVain}
+use Rattle.coordination.specs.Offered.{AreTold}
 use Rattle.coordination.specs.Turns.{OnlyLooked}
 use Rattle.coordination.specs.declared.rule.Sight.{Sight}
 use Rattle.coordination.specs.declared.turns.Came.TheVariants as came
@@ -15,25 +16,25 @@ returns-in-Done-clause-done g c =
     let T = g.T.Turn in
     let t = c.args.turn.now in
     let h = c.hold-came in
-    done_on (T.gives t) (T.waits_on t) (T.runs t) c.args.pass.now.sight c.loop.pass.sight h.new.pass.sight c.loop.invariant.3 c.in-Done.outcome
-    (turned_at (T.gives t) (T.waits_on t) (T.runs t) c.loop.pass.sight h.new.pass.sight h.result.0 (came.Done c.in-Done.outcome) c.in-Done.is h.ensures.turned)
+    done_on (T.gives t (AreTold g.O.Offers.tells)) (T.waits_on t (AreTold g.O.Offers.tells)) (T.runs t (AreTold g.O.Offers.tells)) c.args.pass.now.sight c.loop.pass.sight h.new.pass.sight c.loop.invariant.3 c.in-Done.outcome
+    (turned_at (T.gives t (AreTold g.O.Offers.tells)) (T.waits_on t (AreTold g.O.Offers.tells)) (T.runs t (AreTold g.O.Offers.tells)) c.loop.pass.sight h.new.pass.sight h.result.0 (came.Done c.in-Done.outcome) c.in-Done.is h.ensures.turned)
 
 pub returns-in-NoMemory-clause-no_memory : goal.returns-in-NoMemory-clause-no_memory
 returns-in-NoMemory-clause-no_memory g c = λ is.
     let T = g.T.Turn in
     let t = c.args.turn.now in
     let h = c.hold-came in
-    no_memory_on (T.gives t) (T.waits_on t) (T.runs t) c.args.pass.now.sight c.loop.pass.sight h.new.pass.sight c.loop.invariant.3
-    (turned_at (T.gives t) (T.waits_on t) (T.runs t) c.loop.pass.sight h.new.pass.sight h.result.0 came.NoMemory c.in-NoMemory.is h.ensures.turned)
+    no_memory_on (T.gives t (AreTold g.O.Offers.tells)) (T.waits_on t (AreTold g.O.Offers.tells)) (T.runs t (AreTold g.O.Offers.tells)) c.args.pass.now.sight c.loop.pass.sight h.new.pass.sight c.loop.invariant.3
+    (turned_at (T.gives t (AreTold g.O.Offers.tells)) (T.waits_on t (AreTold g.O.Offers.tells)) (T.runs t (AreTold g.O.Offers.tells)) c.loop.pass.sight h.new.pass.sight h.result.0 came.NoMemory c.in-NoMemory.is h.ensures.turned)
 
 pub returns-in-Some-hear-clause-stopped : goal.returns-in-Some-hear-clause-stopped
 returns-in-Some-hear-clause-stopped g c = λ by is.
     let T = g.T.Turn in
     let t = c.args.turn.now in
     let h = c.hold-came in
-    subst (λ (w : WorkerId). AskedInVain (T.waits_on t) w c.args.pass.now.sight c.hear.new.pass.sight) (same_halt c.in-Some-hear.by by is)
-    (stopped_on (T.gives t) (T.waits_on t) (T.runs t) c.args.pass.now.sight c.loop.pass.sight h.new.pass.sight c.loop.invariant.3 c.in-Some-hear.by c.hear.new.pass.sight
-    (turned_at (T.gives t) (T.waits_on t) (T.runs t) c.loop.pass.sight h.new.pass.sight h.result.0 came.Again c.in-Again.is h.ensures.turned) c.in-Some-hear.ensures.stopper c.in-Some-hear.ensures.some)
+    subst (λ (w : WorkerId). AskedInVain (T.waits_on t (AreTold g.O.Offers.tells)) w c.args.pass.now.sight c.hear.new.pass.sight) (same_halt c.in-Some-hear.by by is)
+    (stopped_on (T.gives t (AreTold g.O.Offers.tells)) (T.waits_on t (AreTold g.O.Offers.tells)) (T.runs t (AreTold g.O.Offers.tells)) c.args.pass.now.sight c.loop.pass.sight h.new.pass.sight c.loop.invariant.3 c.in-Some-hear.by c.hear.new.pass.sight
+    (turned_at (T.gives t (AreTold g.O.Offers.tells)) (T.waits_on t (AreTold g.O.Offers.tells)) (T.runs t (AreTold g.O.Offers.tells)) c.loop.pass.sight h.new.pass.sight h.result.0 came.Again c.in-Again.is h.ensures.turned) c.in-Some-hear.ensures.stopper c.in-Some-hear.ensures.some)
 
 pub loop-preserved : goal.loop-preserved
 loop-preserved g c =
@@ -44,8 +45,8 @@ loop-preserved g c =
       tt,
       c.hear.ensures.same ∙ (h.ensures.same ∙ c.loop.invariant.2),
       subst (OnlyLooked c.args.pass.now.sight) (sym c.in_default.ensures.none)
-          (again_on (T.gives t) (T.waits_on t) (T.runs t) c.args.pass.now.sight c.loop.pass.sight h.new.pass.sight c.loop.invariant.3
-          (turned_at (T.gives t) (T.waits_on t) (T.runs t) c.loop.pass.sight h.new.pass.sight h.result.0 came.Again c.in-Again.is h.ensures.turned)),
+          (again_on (T.gives t (AreTold g.O.Offers.tells)) (T.waits_on t (AreTold g.O.Offers.tells)) (T.runs t (AreTold g.O.Offers.tells)) c.args.pass.now.sight c.loop.pass.sight h.new.pass.sight c.loop.invariant.3
+          (turned_at (T.gives t (AreTold g.O.Offers.tells)) (T.waits_on t (AreTold g.O.Offers.tells)) (T.runs t (AreTold g.O.Offers.tells)) c.loop.pass.sight h.new.pass.sight h.result.0 came.Again c.in-Again.is h.ensures.turned)),
     )
 
 pub returns-in-Done-clause-worker : goal.returns-in-Done-clause-worker

@@ -14,7 +14,7 @@ returns-clause-failed g c =
     failed_if (T.kind_of t) (T.makes t) (T.fails_on t) c.args.pass.now.sight c.take_turn.new.pass.sight c.take_turn.result c.take_turn.ensures.done
 
 pub returns-clause-no_memory : goal.returns-clause-no_memory
-returns-clause-no_memory g c = λ is. (c.take_turn.ensures.no_memory is).1
+returns-clause-no_memory g c = λ is. (c.take_turn.ensures.no_memory is).0
 
 pub returns-clause-stopped : goal.returns-clause-stopped
 returns-clause-stopped g c = λ by is. was_stopped (g.T.Transform.retries_on c.args.transform.now) by c.args.pass.now.sight c.take_turn.new.pass.sight (c.take_turn.ensures.stopped by is)

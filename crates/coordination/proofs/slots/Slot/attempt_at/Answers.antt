@@ -22,12 +22,12 @@ run-ran-requires-clause-part g c =
     let p = c.requires.pass in record {
       known = known_in c.args.seat.now.me c.try_take.new.seat.me taken c.args.worker p.worker_is;
       sound = sound_in c.args.seat.now.me c.try_take.new.seat.me taken;
-      kept = part_in c.args.seat.now.me c.try_take.new.seat.me taken c.args.worker c.args.part.now p.worker_is p.part_is;
-      room = room_in c.args.seat.now.me c.try_take.new.seat.me taken c.args.part.now p.room;
+      kept = part_in c.args.seat.now.me c.try_take.new.seat.me taken c.args.worker c.args.notes.now.part p.worker_is p.part_is;
+      room = room_in c.args.seat.now.me c.try_take.new.seat.me taken c.args.notes.now.part p.room;
     }
 
 pub run-ran-requires-clause-told : goal.run-ran-requires-clause-told
-run-ran-requires-clause-told g c = untold_in c.args.seat.now.me c.try_take.new.seat.me (c.try_take.ensures.taken c.if-not-try_take.false) c.args.reach.now c.requires.pass.told
+run-ran-requires-clause-told g c = untold_in c.args.seat.now.me c.try_take.new.seat.me (c.try_take.ensures.taken c.if-not-try_take.false) c.args.notes.now.reach c.requires.pass.told
 
 pub returns-clause-pass : goal.returns-clause-pass
 returns-clause-pass g c =
@@ -41,8 +41,8 @@ returns-clause-pass g c =
     let e = c.run-ran.ensures in
     let is : sight_of c.put_back.new.seat.me.0 ≡ seeing (sight_of me.0) new =
     after (T.kind_of t) (T.makes t) (T.fails_on t) (T.retries_on t) c.run-ran.result.0 me c.try_take.new.seat.me ran taken e.same.2 c.args.worker worker_is e.run.graph e.run.ran c.put_back.new.seat.me c.put_back.ensures.view in
-    closes_pass c.args.worker c.run-ran.new.part c.run-ran.new.reach c.put_back.new.seat.me ran.0.ledger (seeing (sight_of ran.0) new) (seeing (sight_of me.0) new) c.put_back.ensures.view is worker_is
-    (subst (λ (w : WorkerId). IsPartOf new w c.run-ran.new.part) worker_is e.run.kept) e.run.room (subst (λ (v : SeatView). IsTold v.ledger c.run-ran.new.reach new) (sym e.same.2) e.told)
+    closes_pass c.args.worker c.run-ran.new.notes c.put_back.new.seat.me ran.0.ledger (seeing (sight_of ran.0) new) (seeing (sight_of me.0) new) c.put_back.ensures.view is worker_is
+    (subst (λ (w : WorkerId). IsPartOf new w c.run-ran.new.notes.part) worker_is e.run.kept) e.run.room (subst (λ (v : SeatView). IsTold v.ledger c.run-ran.new.notes.reach new) (sym e.same.2) e.told)
 
 pub returns-clause-some : goal.returns-clause-some
 returns-clause-some g c =

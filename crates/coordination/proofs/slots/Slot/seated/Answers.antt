@@ -8,7 +8,7 @@ use Rattle.coordination.specs.declared.rule.Sight.{Sight}
 use Rattle.coordination.specs.declared.rule.SeatView.{SeatView}
 use Rattle.std.specs.Vec.Iter.{into_iter_items}
 use Rattle.coordination.specs.Parts.{ArePartsFrom, HasListRoom, IsPartOf, marks_of}
-use Rattle.coordination.specs.declared.parts.Part.{Part}
+use Rattle.coordination.specs.declared.parts.WorkerPart.{WorkerPart}
 use Rattle.history_views.specs.Growing.{ReachView}
 use Rattle.history_views.specs.ShownBooks.{IsTold}
 use Rattle.coordination.specs.Passes.{PassView, ServiceId, view_in}
@@ -55,7 +55,7 @@ split_seat-own-requires g c =
     let n : ℕ = book.graph.workers in
     let m : ℕ = n - (w + 1) in
     let id = c.loop-part.seat.id in
-    let longer = ap (λ (l : List Part). length l) c.in-Some.ensures.steps.0 in
+    let longer = ap (λ (l : List WorkerPart). length l) c.in-Some.ensures.steps.0 in
     let low : w < n = omega (arith, inv.count, longer) in
     let view : c.loop-part.seat.me.0 ≡ all_of l (sights_from w (suc m) book) = ap (λ (x : M). x.0) inv.view ∙ ap (λ (k : ℕ). all_of l (sights_from w k book)) (more l book w n low) in
     (search rules, search rules, subst (λ (v : SeatView). Splits (Orderly book.graph) id v (other_sights v) (first_sight v)) (sym view) (splits_it book.graph l id w m book))
@@ -68,7 +68,7 @@ invariant_of-push_reserved g c =
     let w : ℕ = length c.loop-part.passes.items in
     let n : ℕ = book.graph.workers in
     let steps = c.in-Some.ensures.steps.0 in
-    let longer = ap (λ (l : List Part). length l) steps in
+    let longer = ap (λ (l : List WorkerPart). length l) steps in
     let low : w < n = omega (arith, inv.count, longer) in
     let at : c.len.result ≡ w = omega (arith, c.len.ensures, c.loop-part.passes.ok.0) in
     let mine = subst (ArePartsFrom w book) steps inv.parts in
@@ -78,7 +78,7 @@ invariant_of-push_reserved g c =
     let knows : me.0.ledger ≡ l = ap (λ (x : M). x.0.ledger) is in
     let badge = c.into_badge.ensures.2 in
     let shown : sight_of (view_in c.into_badge.result.views) ≡ sight w book = ap (λ (vs : List SeatView). sight_of (view_in vs)) badge ∙ s in (
-      at_badge _ c.in-Some.part _ me c.into_badge.result.views
+      at_badge _ (record { part = c.in-Some.part; reach = c.again.result }) me c.into_badge.result.views
           (record {
             lone = is ∙ (λ i. (one (sym knows i) (sym s i), []));
             worker_is = ap (λ (k : ℕ). record { 0 = k }) at ∙ sym (ap (λ (k : Sight). k.worker) s);
@@ -100,8 +100,8 @@ loop-part-preserved g c =
     let w : ℕ = length ps in
     let n : ℕ = book.graph.workers in
     let steps = c.in-Some.ensures.steps.0 in
-    let rest : List Part = into_iter_items c.next.new.self in
-    let longer = ap (λ (l : List Part). length l) steps in
+    let rest : List WorkerPart = into_iter_items c.next.new.self in
+    let longer = ap (λ (l : List WorkerPart). length l) steps in
     let low : w < n = omega (arith, inv.count, longer) in
     let mine = subst (ArePartsFrom w book) steps inv.parts in
     let e = c.split_seat-own.ensures in

@@ -1,14 +1,16 @@
-use Rattle.std.proofs.Common.{Bool, ap, ◌∙◌, subst, sym}
+use Rattle.std.proofs.Common.{Bool, ap, inl, inr, refl, ◌∙◌, subst, sym}
 use Rattle.resource_lock.specs.declared.ids.WorkerId.{WorkerId}
-use Rattle.coordination.specs.Decisions.{DecideGives}
+use Rattle.coordination.specs.Decisions.{DecideGives, HadStep}
+use Rattle.coordination.specs.Offered.{AreTold, AsTold, WaitsAsTold}
 use Rattle.coordination.specs.Parts.{IsPartHere}
 use Rattle.coordination.specs.RunThenDecide.{FollowGives}
 use Rattle.coordination.specs.Turns.{HasLeft}
 use Rattle.coordination.specs.declared.turns.Came.TheVariants as came
 use Rattle.coordination.specs.Decisions.{awaits_if}
-use Rattle.coordination.specs.SleepAndWake.{IsAwake}
+use Rattle.coordination.specs.SleepAndWake.{HasWoken, IsAwake}
 use Rattle.coordination.proofs.Awake.{decided_awake, run_awake}
-use Rattle.coordination.proofs.TurnKinds.{Retries, again_left, failed_left, followed_left, memory_left, part_again}
+use Rattle.coordination.proofs.TurnKinds.{Anything, Retries, again_left, failed_left, followed_left, left_as_told, memory_left, part_again}
+use Rattle.coordination.proofs.Woken.{decided_woken, run_woken}
 use Rattle.coordination.proofs.turns.RunThenDecideTurn.act.Goals as goal
 
 pub decide_held-came-requires-clause-part : goal.decide_held-came-requires-clause-part
@@ -18,8 +20,8 @@ decide_held-came-requires-clause-part g c =
     let B = g.K.Keeper.book_of in
     let run = c.run_held-ran in
     let h = run.ensures.held.run in
-    subst (λ (w : WorkerId). IsPartHere w (B run.new.self.keeper) run.new.part) (sym c.not_sleeping.ensures.worker)
-    (part_again (T.kind_of t) (T.makes t) (T.fails_on t) (T.retries_on t) c.args.caller.worker (B c.args.guarded.now.keeper) (B run.new.self.keeper) h.graph run.result.0 c.args.part.now run.new.part c.requires.part h.ran h.kept h.room)
+    subst (λ (w : WorkerId). IsPartHere w (B run.new.self.keeper) run.new.notes.part) (sym c.not_sleeping.ensures.worker)
+    (part_again (T.kind_of t) (T.makes t) (T.fails_on t) (T.retries_on t) c.args.caller.worker (B c.args.guarded.now.keeper) (B run.new.self.keeper) h.graph run.result.0 c.args.notes.now.part run.new.notes.part c.requires.part h.ran h.kept h.room)
 
 pub returns-in-Done-true-clause-left : goal.returns-in-Done-true-clause-left
 returns-in-Done-true-clause-left g c =
@@ -31,11 +33,15 @@ returns-in-Done-true-clause-left g c =
     let B = g.K.Keeper.book_of in
     let run = c.run_held-ran in
     let d = c.decide_held-came in
-    let decided = subst (λ (w : WorkerId). HasLeft (DecideGives (Q.Question.answers q) (Q.Decision.step_of q) X.kind_of X.makes X.fails_on X.retries_on) (Q.Question.waits_on q) (Unit {0}) w (B run.new.self.keeper) (B d.new.self.keeper) d.new.part d.result.0)
-    c.not_sleeping.ensures.worker d.ensures.held.decided in
-    subst (λ f. HasLeft (FollowGives (Q.Question.answers q) (Q.Question.waits_on q) (Q.Decision.step_of q) X.kind_of X.makes X.fails_on X.retries_on (T.kind_of t) (T.makes t) (T.fails_on t)) (Retries (T.retries_on t)) (Unit {0}) c.args.caller.worker
-    (B c.args.guarded.now.keeper) (B d.new.self.keeper) d.new.part (came.Done f)) (sym c.followed_of.ensures)
-    (followed_left (Q.Question.answers q) (Q.Question.waits_on q) (Q.Decision.step_of q) X.kind_of X.makes X.fails_on X.retries_on (T.kind_of t) (T.makes t) (T.fails_on t) (T.retries_on t) c.args.caller.worker (B c.args.guarded.now.keeper) (B run.new.self.keeper) (B d.new.self.keeper) run.new.part d.new.part _ run.ensures.held.left run.result run.ensures.held.run
+    let h = d.ensures.held in
+    let tells = AreTold g.O.Offers.tells in
+    let told = left_as_told tells (Q.Question.answers q) (Q.Question.waits_on q) (Q.Decision.step_of q) X.kind_of X.makes X.fails_on X.retries_on h.queued (run.new.self.offers, h.told) c.not_sleeping.result.worker
+    (B run.new.self.keeper) (B d.new.self.keeper) d.new.notes.part d.result.0 h.decided in
+    let decided = subst (λ (w : WorkerId). HasLeft (DecideGives (AsTold tells (Q.Question.answers q)) (Q.Decision.step_of q) X.kind_of X.makes X.fails_on X.retries_on) (WaitsAsTold tells (Q.Question.waits_on q)) (HadStep (AsTold tells (Q.Question.answers q)) (Q.Decision.step_of q)) w
+    (B run.new.self.keeper) (B d.new.self.keeper) d.new.notes.part d.result.0) c.not_sleeping.ensures.worker told in
+    subst (λ f. HasLeft (FollowGives (AsTold tells (Q.Question.answers q)) (WaitsAsTold tells (Q.Question.waits_on q)) (Q.Decision.step_of q) X.kind_of X.makes X.fails_on X.retries_on (T.kind_of t) (T.makes t) (T.fails_on t)) (Retries (T.retries_on t)) Anything c.args.caller.worker
+    (B c.args.guarded.now.keeper) (B d.new.self.keeper) d.new.notes.part (came.Done f)) (sym c.followed_of.ensures)
+    (followed_left (AsTold tells (Q.Question.answers q)) (WaitsAsTold tells (Q.Question.waits_on q)) (Q.Decision.step_of q) X.kind_of X.makes X.fails_on X.retries_on (T.kind_of t) (T.makes t) (T.fails_on t) (T.retries_on t) c.args.caller.worker (B c.args.guarded.now.keeper) (B run.new.self.keeper) (B d.new.self.keeper) run.new.notes.part d.new.notes.part _ run.ensures.held.left run.result run.ensures.held.run
     (sym c.came_of.ensures ∙ (c.in-Done-true.is ∙ ap (λ (b : Bool). came.Done b) c.in-Done-true.field-0-test)) d.result.0 decided)
 
 pub returns-in-Done-false-clause-left : goal.returns-in-Done-false-clause-left
@@ -47,7 +53,7 @@ returns-in-Done-false-clause-left g c =
     let q = c.args.self.now.decision.now in
     let B = g.K.Keeper.book_of in
     let run = c.run_held-ran in
-    failed_left (Q.Question.answers q) (Q.Question.waits_on q) (Q.Decision.step_of q) X.kind_of X.makes X.fails_on X.retries_on (T.kind_of t) (T.makes t) (T.fails_on t) (T.retries_on t) c.args.caller.worker (B c.args.guarded.now.keeper) (B run.new.self.keeper) run.new.part _ run.ensures.held.left run.result run.ensures.held.run
+    failed_left (AsTold (AreTold g.O.Offers.tells) (Q.Question.answers q)) (WaitsAsTold (AreTold g.O.Offers.tells) (Q.Question.waits_on q)) (Q.Decision.step_of q) X.kind_of X.makes X.fails_on X.retries_on (T.kind_of t) (T.makes t) (T.fails_on t) (T.retries_on t) c.args.caller.worker (B c.args.guarded.now.keeper) (B run.new.self.keeper) run.new.notes.part _ run.ensures.held.left run.result run.ensures.held.run
     (sym c.came_of.ensures ∙ (c.in-Done-false.is ∙ ap (λ (b : Bool). came.Done b) c.in-Done-false.field-0-test))
 
 pub returns-in-NoMemory-clause-left : goal.returns-in-NoMemory-clause-left
@@ -59,7 +65,7 @@ returns-in-NoMemory-clause-left g c =
     let q = c.args.self.now.decision.now in
     let B = g.K.Keeper.book_of in
     let run = c.run_held-ran in
-    memory_left (Q.Question.answers q) (Q.Question.waits_on q) (Q.Decision.step_of q) X.kind_of X.makes X.fails_on X.retries_on (T.kind_of t) (T.makes t) (T.fails_on t) (T.retries_on t) c.args.caller.worker (B c.args.guarded.now.keeper) (B run.new.self.keeper) run.new.part _ run.ensures.held.left run.result run.ensures.held.run
+    memory_left (AsTold (AreTold g.O.Offers.tells) (Q.Question.answers q)) (WaitsAsTold (AreTold g.O.Offers.tells) (Q.Question.waits_on q)) (Q.Decision.step_of q) X.kind_of X.makes X.fails_on X.retries_on (T.kind_of t) (T.makes t) (T.fails_on t) (T.retries_on t) c.args.caller.worker (B c.args.guarded.now.keeper) (B run.new.self.keeper) run.new.notes.part _ run.ensures.held.left run.result run.ensures.held.run
     (sym c.came_of.ensures ∙ c.in-NoMemory.is)
 
 pub returns-in-Again-clause-left : goal.returns-in-Again-clause-left
@@ -71,7 +77,7 @@ returns-in-Again-clause-left g c =
     let q = c.args.self.now.decision.now in
     let B = g.K.Keeper.book_of in
     let run = c.run_held-ran in
-    again_left (Q.Question.answers q) (Q.Question.waits_on q) (Q.Decision.step_of q) X.kind_of X.makes X.fails_on X.retries_on (T.kind_of t) (T.makes t) (T.fails_on t) (T.retries_on t) c.args.caller.worker (B c.args.guarded.now.keeper) (B run.new.self.keeper) run.new.part _ run.ensures.held.left run.result run.ensures.held.run
+    again_left (AsTold (AreTold g.O.Offers.tells) (Q.Question.answers q)) (WaitsAsTold (AreTold g.O.Offers.tells) (Q.Question.waits_on q)) (Q.Decision.step_of q) X.kind_of X.makes X.fails_on X.retries_on (T.kind_of t) (T.makes t) (T.fails_on t) (T.retries_on t) c.args.caller.worker (B c.args.guarded.now.keeper) (B run.new.self.keeper) run.new.notes.part _ run.ensures.held.left run.result run.ensures.held.run
     (sym c.came_of.ensures ∙ c.in-Again.is)
 
 pub returns-in-Done-true-clause-awake : goal.returns-in-Done-true-clause-awake
@@ -82,8 +88,8 @@ returns-in-Done-true-clause-awake g c = λ ne.
     let B = g.K.Keeper.book_of in
     let d = c.decide_held-came in
     subst (λ (w : WorkerId). IsAwake w d.new.self.sleepers) c.not_sleeping.ensures.worker
-    (decided_awake (Q.Question.answers q) (Q.Question.waits_on q) (awaits_if c.not_sleeping.result.sleeps (Q.Question.awaits q)) (Q.Decision.step_of q) X.kind_of X.makes X.fails_on X.retries_on c.not_sleeping.result.worker
-    c.not_sleeping.result.promised c.not_sleeping.result.woken c.not_sleeping.result.apart (B c.run_held-ran.new.self.keeper) (B d.new.self.keeper) d.new.part c.run_held-ran.new.self.sleepers d.new.self.sleepers d.result d.ensures.held
+    (decided_awake (Q.Question.answers q) (Q.Question.waits_on q) (awaits_if c.not_sleeping.result.sleeps (Q.Question.awaits q)) (Q.Decision.step_of q) X.kind_of X.makes X.fails_on X.retries_on c.not_sleeping.result.worker (g.O.Offers.tells c.run_held-ran.new.self.offers)
+    c.not_sleeping.result.promised c.not_sleeping.result.woken c.not_sleeping.result.apart (B c.run_held-ran.new.self.keeper) (B d.new.self.keeper) d.new.notes.part c.run_held-ran.new.self.sleepers d.new.self.sleepers d.result d.ensures.held
     (λ is. ap (λ (b : Bool). awaits_if b (Q.Question.awaits q)) c.not_sleeping.ensures.sleeps))
 
 pub returns-in-Done-false-clause-awake : goal.returns-in-Done-false-clause-awake
@@ -92,7 +98,7 @@ returns-in-Done-false-clause-awake g c = λ ne.
     let t = c.args.self.now.transform.now in
     let B = g.K.Keeper.book_of in
     let run = c.run_held-ran in
-    run_awake (T.kind_of t) (T.makes t) (T.fails_on t) (T.retries_on t) c.args.caller.worker c.args.caller.promised (B c.args.guarded.now.keeper) (B run.new.self.keeper) run.new.part c.args.guarded.now.sleepers run.new.self.sleepers run.result run.ensures.held
+    run_awake (T.kind_of t) (T.makes t) (T.fails_on t) (T.retries_on t) (g.O.Offers.tells c.args.guarded.now.offers) c.args.caller.worker c.args.caller.promised (B c.args.guarded.now.keeper) (B run.new.self.keeper) run.new.notes.part c.args.guarded.now.sleepers run.new.self.sleepers run.result run.ensures.held
 
 pub returns-in-NoMemory-clause-awake : goal.returns-in-NoMemory-clause-awake
 returns-in-NoMemory-clause-awake g c = λ ne.
@@ -100,7 +106,7 @@ returns-in-NoMemory-clause-awake g c = λ ne.
     let t = c.args.self.now.transform.now in
     let B = g.K.Keeper.book_of in
     let run = c.run_held-ran in
-    run_awake (T.kind_of t) (T.makes t) (T.fails_on t) (T.retries_on t) c.args.caller.worker c.args.caller.promised (B c.args.guarded.now.keeper) (B run.new.self.keeper) run.new.part c.args.guarded.now.sleepers run.new.self.sleepers run.result run.ensures.held
+    run_awake (T.kind_of t) (T.makes t) (T.fails_on t) (T.retries_on t) (g.O.Offers.tells c.args.guarded.now.offers) c.args.caller.worker c.args.caller.promised (B c.args.guarded.now.keeper) (B run.new.self.keeper) run.new.notes.part c.args.guarded.now.sleepers run.new.self.sleepers run.result run.ensures.held
 
 pub returns-in-Again-clause-awake : goal.returns-in-Again-clause-awake
 returns-in-Again-clause-awake g c = λ ne.
@@ -108,4 +114,48 @@ returns-in-Again-clause-awake g c = λ ne.
     let t = c.args.self.now.transform.now in
     let B = g.K.Keeper.book_of in
     let run = c.run_held-ran in
-    run_awake (T.kind_of t) (T.makes t) (T.fails_on t) (T.retries_on t) c.args.caller.worker c.args.caller.promised (B c.args.guarded.now.keeper) (B run.new.self.keeper) run.new.part c.args.guarded.now.sleepers run.new.self.sleepers run.result run.ensures.held
+    run_awake (T.kind_of t) (T.makes t) (T.fails_on t) (T.retries_on t) (g.O.Offers.tells c.args.guarded.now.offers) c.args.caller.worker c.args.caller.promised (B c.args.guarded.now.keeper) (B run.new.self.keeper) run.new.notes.part c.args.guarded.now.sleepers run.new.self.sleepers run.result run.ensures.held
+
+pub returns-in-Done-true-clause-ends : goal.returns-in-Done-true-clause-ends
+returns-in-Done-true-clause-ends g c =
+    let T = g.T.Transform in
+    let t = c.args.self.now.transform.now in
+    let Q = g.Q in
+    let X = g.Q.Step.Transform in
+    let q = c.args.self.now.decision.now in
+    let B = g.K.Keeper.book_of in
+    let run = c.run_held-ran in
+    let d = c.decide_held-came in
+    let k = c.not_sleeping.result in
+    let later = decided_woken g.O.Offers.tells run.new.self.offers k.worker k.promised (Q.Question.answers q) (Q.Question.waits_on q) (awaits_if k.sleeps (Q.Question.awaits q)) (Q.Decision.step_of q) X.kind_of X.makes X.fails_on X.retries_on
+    k.woken k.apart (B run.new.self.keeper) (B d.new.self.keeper) d.new.notes.part run.new.self.sleepers d.new.self.sleepers d.result d.ensures.held in
+    inr (
+      B run.new.self.keeper,
+      run.new.self.sleepers,
+      run_woken g.O.Offers.tells c.args.guarded.now.offers c.args.caller.worker c.args.caller.promised (T.kind_of t) (T.makes t) (T.fails_on t) (T.retries_on t) (B c.args.guarded.now.keeper) (B run.new.self.keeper) run.new.notes.part c.args.guarded.now.sleepers run.new.self.sleepers run.result run.ensures.held,
+      subst (λ (p : WorkerId × Bool). HasWoken (AreTold g.O.Offers.tells) p.0 p.1 (B run.new.self.keeper) (B d.new.self.keeper) run.new.self.sleepers d.new.self.sleepers d.result.1) (λ i. (c.not_sleeping.ensures.worker i, c.not_sleeping.ensures.promised i)) later,
+    )
+
+pub returns-in-Done-false-clause-ends : goal.returns-in-Done-false-clause-ends
+returns-in-Done-false-clause-ends g c =
+    let T = g.T.Transform in
+    let t = c.args.self.now.transform.now in
+    let B = g.K.Keeper.book_of in
+    let run = c.run_held-ran in
+    inl (run_woken g.O.Offers.tells c.args.guarded.now.offers c.args.caller.worker c.args.caller.promised (T.kind_of t) (T.makes t) (T.fails_on t) (T.retries_on t) (B c.args.guarded.now.keeper) (B run.new.self.keeper) run.new.notes.part c.args.guarded.now.sleepers run.new.self.sleepers run.result run.ensures.held, refl)
+
+pub returns-in-NoMemory-clause-ends : goal.returns-in-NoMemory-clause-ends
+returns-in-NoMemory-clause-ends g c =
+    let T = g.T.Transform in
+    let t = c.args.self.now.transform.now in
+    let B = g.K.Keeper.book_of in
+    let run = c.run_held-ran in
+    inl (run_woken g.O.Offers.tells c.args.guarded.now.offers c.args.caller.worker c.args.caller.promised (T.kind_of t) (T.makes t) (T.fails_on t) (T.retries_on t) (B c.args.guarded.now.keeper) (B run.new.self.keeper) run.new.notes.part c.args.guarded.now.sleepers run.new.self.sleepers run.result run.ensures.held, refl)
+
+pub returns-in-Again-clause-ends : goal.returns-in-Again-clause-ends
+returns-in-Again-clause-ends g c =
+    let T = g.T.Transform in
+    let t = c.args.self.now.transform.now in
+    let B = g.K.Keeper.book_of in
+    let run = c.run_held-ran in
+    inl (run_woken g.O.Offers.tells c.args.guarded.now.offers c.args.caller.worker c.args.caller.promised (T.kind_of t) (T.makes t) (T.fails_on t) (T.retries_on t) (B c.args.guarded.now.keeper) (B run.new.self.keeper) run.new.notes.part c.args.guarded.now.sleepers run.new.self.sleepers run.result run.ensures.held, refl)

@@ -3,16 +3,16 @@ use Rattle.resource_lock.specs.Change.{make_all}
 use Rattle.resource_lock.specs.declared.changes.Change.{Change}
 use Rattle.lock_transforms.specs.declared.transforms.Disposition.TheVariants.{Finished, Failed}
 use Rattle.coordination.specs.Parts.{Follows, LeadsOn}
-use Rattle.coordination.specs.declared.parts.Part.{Part}
+use Rattle.coordination.specs.declared.parts.WorkerPart.{WorkerPart}
 use Rattle.coordination.proofs.lemmas.Entries.{changes_made, follows_at, leads_from, part_after, part_failed, room_after}
-use Rattle.coordination.proofs.parts.Part.follow.Goals as goal
+use Rattle.coordination.proofs.parts.WorkerPart.follow.Goals as goal
 
 pub note_all-requires : goal.note_all-requires
 note_all-requires c =
     let old = c.requires.0 in
     let new = c.args.book.now in
     let w = c.args.worker in
-    let part : Part = c.args.self.now in
+    let part : WorkerPart = c.args.self.now in
     let f : Follows w old new (Ok Finished) part = follows_at w old new c.args.ran.now (Ok Finished) part (search rules) c.requires.1 in
     let n = c.len-self.result in
     let is = c.last_changes.ensures ∙ changes_made w old new part f in
@@ -23,7 +23,7 @@ returns-in-Ok-Finished-clause-part c =
     let old = c.requires.0 in
     let new = c.args.book.now in
     let w = c.args.worker in
-    let part : Part = c.args.self.now in
+    let part : WorkerPart = c.args.self.now in
     let f : Follows w old new (Ok Finished) part = follows_at w old new c.args.ran.now (Ok Finished) part (search rules) c.requires.1 in
     let n = c.len-self.result in
     let is = c.last_changes.ensures ∙ changes_made w old new part f in
@@ -36,7 +36,7 @@ returns-in-Ok-Finished-clause-room c =
     let old = c.requires.0 in
     let new = c.args.book.now in
     let w = c.args.worker in
-    let part : Part = c.args.self.now in
+    let part : WorkerPart = c.args.self.now in
     let f : Follows w old new (Ok Finished) part = follows_at w old new c.args.ran.now (Ok Finished) part (search rules) c.requires.1 in
     let n = c.len-self.result in
     let is = c.last_changes.ensures ∙ changes_made w old new part f in

@@ -2,7 +2,7 @@ use Rattle.std.proofs.Common.{◌+◌, take, drop, ◌∙◌}
 use Rattle.resource_lock.specs.Change.{make_all}
 use Rattle.resource_lock.specs.declared.changes.Change.TheVariants.{Lock}
 use Rattle.coordination.proofs.Following.{leads_along, leads_at, room_for}
-use Rattle.coordination.proofs.parts.Part.note_all.Goals as goal
+use Rattle.coordination.proofs.parts.WorkerPart.note_all.Goals as goal
 
 pub note-requires : goal.note-requires
 note-requires c =

@@ -3,7 +3,7 @@ use Rattle.std.proofs.Common.{◌≡◌, take, drop}
 use Rattle.resource_lock.specs.Change.{make_all}
 use Rattle.resource_lock.specs.StateView.{StateView}
 use Rattle.coordination.specs.Parts.{LeadsOn}
-use Rattle.coordination.proofs.parts.Part.note_all.Given as goal
+use Rattle.coordination.proofs.parts.WorkerPart.note_all.Given as goal
 
 abbrev pub invariant-loop-change : goal.invariant-loop-change
 invariant-loop-change l =

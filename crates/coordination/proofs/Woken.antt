@@ -1,0 +1,144 @@
+-- Whom the ends of a turn's holds wake.
+use Rattle.std.proofs.Common.{◌≡◌, ◌<◌, ◌⊎◌, ◌++◌, ◌∷◌, [], Bool, true, false, inl, inr, List, Result, Ok, Err, Option, Some, None, IfSome, refl, sym, ap, subst, arith, length, length-append}
+use Rattle.resource_lock.specs.declared.ids.WorkerId.{WorkerId}
+use Rattle.lock_journal.specs.BookView.{BookView}
+use Rattle.lock_transforms.specs.Entry.{Entry}
+use Rattle.lock_transforms.specs.declared.entries.Kind.{Kind}
+use Rattle.lock_transforms.specs.declared.transforms.Disposition.{Disposition}
+use Rattle.lock_transforms.specs.declared.transforms.Disposition.TheVariants.{Finished, Failed, Retry}
+use Rattle.worker_choices.specs.declared.awaited.Awaited.{Awaited}
+use Rattle.worker_choices.specs.Stances.{asleep}
+use Rattle.worker_choices.specs.declared.stances.Stance.{Stance}
+use Rattle.worker_choices.specs.declared.stances.Stance.TheVariants.{Away}
+use Rattle.coordination.specs.declared.decisions.Decided.{Decided}
+use Rattle.coordination.specs.declared.decisions.Decided.TheVariants as decided
+use Rattle.coordination.specs.declared.parts.WorkerPart.{WorkerPart}
+use Rattle.coordination.specs.declared.sleepers.Sleepers.{Sleepers}
+use Rattle.coordination.specs.declared.sleepers.Wakes.{Wakes}
+use Rattle.coordination.specs.declared.turns.Came.{Came}
+use Rattle.coordination.specs.declared.turns.Came.TheVariants as came
+use Rattle.coordination.specs.Attempts.{Cause, HasAsked, HasHeld, Making, Ran}
+use Rattle.coordination.specs.Decisions.{DecideGives, EndsDecision, HadStep, HasDecidedHeld, noted_deciding, stance_entered}
+use Rattle.coordination.specs.Offered.{AreTold}
+use Rattle.coordination.specs.SleepAndWake.{EndsHold, HasWoken, begun, has_entered, looks_if, noted_after, noted_asking, stance_after, stance_asking, stance_waiting, woken_if}
+use Rattle.coordination.specs.Turns.{Leaves}
+
+-- one entry more
+longer : (old new : BookView) (e : Entry) → new.history ≡ old.history ++ e ∷ [] → length old.history < length new.history
+longer old new e is = omega (arith, ap (λ (h : List Entry). length h) is, length-append old.history (e ∷ []))
+
+-- whoever slept still does
+pub record SleepOn (s s' : Sleepers) : Type 0 where
+  pub stances : s'.stances ≡ s.stances
+  pub transforms : s.transforms ≡ true → s'.transforms ≡ true
+  pub questions : s.questions ≡ true → s'.questions ≡ true
+
+on_same : (s : Sleepers) → SleepOn s s
+on_same s = record { stances = refl; transforms = λ is. is; questions = λ is. is }
+
+on_after : {E : Type 0} (r : Result Disposition E) (s : Sleepers) → SleepOn s (noted_after r s)
+on_after (Ok Finished) s = on_same s
+on_after (Ok Failed) s = on_same s
+on_after (Ok Retry) s = record { stances = refl; transforms = λ is. refl; questions = λ is. is }
+on_after (Err e) s = on_same s
+
+on_asking : {A : Type 0} (apart : Bool) (r : Option A) (s : Sleepers) → SleepOn s (noted_asking apart r s)
+on_asking false None s = record { stances = refl; transforms = λ is. is; questions = λ is. refl }
+on_asking true None s = on_same s
+on_asking false (Some a) s = on_same s
+on_asking true (Some a) s = on_same s
+
+on_deciding : {C : Type 0} (apart : Bool) (c : Came C) (s : Sleepers) → SleepOn s (noted_deciding apart c s)
+on_deciding {C} apart came.Again s = on_asking {A = C} apart None s
+on_deciding apart came.NoMemory s = on_same s
+on_deciding apart (came.Done c) s = on_same s
+
+module _ (tells : Bool → Type 0) (w : WorkerId) (promised : Bool) where
+  -- the end of a hold that made an entry, and of one that made none
+  entered_woken : (old new : BookView) (s s' : Sleepers) (wakes : Wakes) (queued : Bool) → (asleep s.stances ≡ 0) ⊎ tells queued → (woken : Bool) (stance : Stance) (left : Sleepers) → length old.history < length new.history
+      → EndsHold new w stance true (begun queued promised (woken_if woken w s)) left wakes → SleepOn left s' → HasWoken tells w promised old new s s' wakes
+  entered_woken old new s s' wakes queued told woken stance left more ends on = record {
+    queued = queued;
+    told = told;
+    woken = woken;
+    stance = stance;
+    entered = true;
+    made = λ is. more;
+    unmade = λ is. absurd (cc);
+    left = left;
+    ends = ends;
+    stances = on.stances;
+    transforms = on.transforms;
+    questions = on.questions;
+  }
+
+  quiet_woken : (old new : BookView) (s s' : Sleepers) (wakes : Wakes) (queued : Bool) → (asleep s.stances ≡ 0) ⊎ tells queued → (woken : Bool) (stance : Stance) (left : Sleepers) → new.history ≡ old.history
+      → EndsHold new w stance false (begun queued promised (woken_if woken w s)) left wakes → SleepOn left s' → HasWoken tells w promised old new s s' wakes
+  quiet_woken old new s s' wakes queued told woken stance left same ends on = record {
+    queued = queued;
+    told = told;
+    woken = woken;
+    stance = stance;
+    entered = false;
+    made = λ is. absurd (cc);
+    unmade = λ is. same;
+    left = left;
+    ends = ends;
+    stances = on.stances;
+    transforms = on.transforms;
+    questions = on.questions;
+  }
+
+  ran_woken : {E : Type 0} (kind : Kind) (makes : Making) (fails retries : Cause) (old new : BookView) (s s' : Sleepers) (r : Result Disposition E) (wakes : Wakes) (queued : Bool) → (asleep s.stances ≡ 0) ⊎ tells queued → (left : Sleepers)
+      → Ran kind makes fails retries w old new r → EndsHold new w (stance_after promised kind r) (has_entered r) (begun queued promised s) left wakes → SleepOn left s' → HasWoken tells w promised old new s s' wakes
+  ran_woken kind makes fails retries old new s s' (Ok Finished) wakes queued told left ran ends on = entered_woken old new s s' wakes queued told false _ left (longer old new _ ran.1.history) ends on
+  ran_woken kind makes fails retries old new s s' (Ok Failed) wakes queued told left ran ends on = entered_woken old new s s' wakes queued told false _ left (longer old new _ ran.history) ends on
+  ran_woken kind makes fails retries old new s s' (Ok Retry) wakes queued told left ran ends on = quiet_woken old new s s' wakes queued told false _ left ran.history ends on
+  ran_woken kind makes fails retries old new s s' (Err e) wakes queued told left ran ends on = quiet_woken old new s s' wakes queued told false _ left ran.history ends on
+
+-- what is told of these offers is told of some
+some_told : {O : Type 0} (tells : O → Bool → Type 0) (offers : O) (s : Sleepers) (queued : Bool) → (asleep s.stances ≡ 0) ⊎ tells offers queued → (asleep s.stances ≡ 0) ⊎ AreTold tells queued
+some_told tells offers s queued (inl none) = inl none
+some_told tells offers s queued (inr told) = inr (offers, told)
+
+module _ {O : Type 0} (tells : O → Bool → Type 0) (offers : O) (w : WorkerId) (promised : Bool) where
+  pub run_woken : {E : Type 0} (kind : Kind) (makes : Making) (fails retries : Cause) (old new : BookView) (part : WorkerPart) (s s' : Sleepers) (r : Result Disposition E × Wakes)
+      → HasHeld kind makes fails retries (tells offers) w promised old new part s s' r → HasWoken (AreTold tells) w promised old new s s' r.1
+  run_woken kind makes fails retries old new part s s' r h =
+      ran_woken (AreTold tells) w promised kind makes fails retries old new s s' r.0 r.1 h.queued (some_told tells offers s h.queued h.told) h.left h.run.ran h.run.ends (subst (SleepOn h.left) (sym h.noted) (on_after r.0 h.left))
+
+  pub asked_woken : {A : Type 0} (answers : Bool → WorkerId → BookView → A → Type 0) (waits : Bool → WorkerId → BookView → Type 0) (awaits : Option Awaited) (woken apart : Bool) (old new : BookView) (s s' : Sleepers) (r : Option A × Wakes) → new ≡ old
+      → HasAsked answers waits awaits (tells offers) w promised woken apart old s s' r → HasWoken (AreTold tells) w promised old new s s' r.1
+  asked_woken {A} answers waits awaits woken apart old new s s' r same h =
+      subst (λ (b : BookView). HasWoken (AreTold tells) w promised old b s s' r.1) (sym same)
+      (quiet_woken (AreTold tells) w promised old old s s' r.1 h.queued (inr (offers, h.told)) woken (stance_asking promised awaits r.0) h.left refl h.ends (subst (SleepOn h.left) (sym h.noted) (on_asking apart r.0 h.left)))
+
+  -- the same of a decision
+  module _ {A X : Type 0} (answers : Bool → WorkerId → BookView → A → Type 0) (waits : Bool → WorkerId → BookView → Type 0) (awaits : Option Awaited) (step_of : A → Option X) (kind_of : X → Kind) (makes : X → Making) (fails retries : X → Cause)
+      (old new : BookView) (s s' : Sleepers) (wakes : Wakes) (queued : Bool) (told : tells offers queued) (woken : Bool) (left : Sleepers) (on : SleepOn left s') where
+    more_woken : (stance : Stance) → length old.history < length new.history → EndsHold new w stance true (begun queued promised (woken_if woken w s)) left wakes → HasWoken (AreTold tells) w promised old new s s' wakes
+    more_woken stance more ends = entered_woken (AreTold tells) w promised old new s s' wakes queued (inr (offers, told)) woken stance left more ends on
+
+    none_woken : (stance : Stance) → new.history ≡ old.history → EndsHold new w stance false (begun queued promised (woken_if woken w s)) left wakes → HasWoken (AreTold tells) w promised old new s s' wakes
+    none_woken stance same ends = quiet_woken (AreTold tells) w promised old new s s' wakes queued (inr (offers, told)) woken stance left same ends on
+
+    step_woken : (b : Bool) (step : Option X) (x : X) → step ≡ Some x → length old.history < length new.history
+        → IfSome step (λ x. EndsHold new w (stance_entered promised (kind_of x) b) true (begun queued promised (woken_if woken w s)) left wakes) → HasWoken (AreTold tells) w promised old new s s' wakes
+    step_woken b step x is more ends =
+        more_woken (stance_entered promised (kind_of x) b) more
+        (subst (λ (o : Option X). IfSome o (λ x. EndsHold new w (stance_entered promised (kind_of x) b) true (begun queued promised (woken_if woken w s)) left wakes)) is ends)
+
+    decision_woken : (c : Came (Decided A)) → Leaves (DecideGives (answers queued) step_of kind_of makes fails retries) (waits queued) (HadStep (answers queued) step_of) w old new c
+        → EndsDecision new w awaits step_of kind_of (begun queued promised (woken_if woken w s)) left wakes c → HasWoken (AreTold tells) w promised old new s s' wakes
+    decision_woken (came.Done (decided.Answered a)) l e = none_woken (looks_if promised) (ap (λ (b : BookView). b.history) l.2) e
+    decision_woken (came.Done (decided.Entered a true)) l e = step_woken true (step_of a) l.step l.is (longer old new _ l.left.1.history) e
+    decision_woken (came.Done (decided.Entered a false)) l e = step_woken false (step_of a) l.step l.is (longer old new _ l.left.history) e
+    decision_woken (came.Done (decided.Waiting a)) l e = none_woken Away l.left.history e
+    decision_woken came.NoMemory l e = none_woken Away l.1.history e
+    decision_woken came.Again l e = none_woken (stance_waiting awaits) l.1.history e
+
+  pub decided_woken : {A X : Type 0} (answers : Bool → WorkerId → BookView → A → Type 0) (waits : Bool → WorkerId → BookView → Type 0) (awaits : Option Awaited) (step_of : A → Option X) (kind_of : X → Kind) (makes : X → Making) (fails retries : X → Cause)
+      (woken apart : Bool) (old new : BookView) (part : WorkerPart) (s s' : Sleepers) (r : Came (Decided A) × Wakes) → HasDecidedHeld answers waits awaits step_of kind_of makes fails retries (tells offers) w promised woken apart old new part s s' r
+      → HasWoken (AreTold tells) w promised old new s s' r.1
+  decided_woken answers waits awaits step_of kind_of makes fails retries woken apart old new part s s' r h =
+      decision_woken answers waits awaits step_of kind_of makes fails retries old new s s' r.1 h.queued h.told woken h.left (subst (SleepOn h.left) (sym h.noted) (on_deciding apart r.0 h.left)) r.0 h.decided.leaves h.ends
