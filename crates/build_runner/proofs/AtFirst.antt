@@ -6,7 +6,7 @@ use Rattle.resource_lock.specs.GraphView.{GraphView}
 use Rattle.lock_journal.specs.BookView.{BookView}
 use Rattle.coordination.specs.Holds.{HoldsNothing}
 use Rattle.coordination.specs.Passes.{CoordinationView, PassView}
-use Rattle.build_runner.specs.Team.{CanWork}
+use Rattle.build_workers.specs.Worked.{CanWork}
 
 pub all_ready : (c : CoordinationView) (ps : List PassView) (g : GraphView) (book : BookView) → book.graph ≡ g → All (λ (p : PassView). p.service ≡ c.service) ps → All (λ (p : PassView). p.sight.seen ≡ book) ps → All (λ (p : PassView). HoldsNothing p.sight) ps → All (CanWork c g) ps
 all_ready c ps g book graph service saw rest = λ k d lt. record {

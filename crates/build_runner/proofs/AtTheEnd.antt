@@ -25,14 +25,14 @@ use Rattle.coordination.specs.Sights.{workers_from}
 use Rattle.coordination.specs.declared.rule.Sight.{Sight}
 use Rattle.item_work.specs.Requests.{SentView}
 use Rattle.lock_transforms.specs.declared.entries.Closed.{Closed}
-use Rattle.build_runner.specs.Desks.{DeskView}
-use Rattle.build_runner.specs.Points.{HasFinishedWork}
+use Rattle.build_workers.specs.Desks.{DeskView}
+use Rattle.build_workers.specs.Points.{HasFinishedWork}
 use Rattle.build_runner.specs.Run.{HasResults, depth}
-use Rattle.build_runner.specs.Sent.{AreSentAndOneMore, AreSentBy, AreSentFor, HasSent}
-use Rattle.build_runner.specs.Site.{SiteView}
-use Rattle.build_runner.specs.Units.{given}
+use Rattle.build_workers.specs.Sent.{AreSentAndOneMore, AreSentBy, AreSentFor, HasSent}
+use Rattle.build_workers.specs.Site.{SiteView}
+use Rattle.build_workers.specs.Units.{given}
 use Rattle.build_runner.specs.Worked.{HasComeToTheEnd, TookPart, WasThere}
-use Rattle.build_runner.proofs.Sending.{sent_or_more}
+use Rattle.build_workers.proofs.lemmas.Weaker.{sent_or_more}
 use Rattle.coordination.proofs.lemmas.Numbered.{element, passes_count, worker_at}
 
 -- what has ended stays so, whatever entries follow

@@ -6,7 +6,7 @@ use Rattle.plan_table.specs.Formed.{IsFetch}
 use Rattle.plan_reader.specs.IsPlan.{HasFileNames, IsPlan}
 use Rattle.plan_reader.specs.PlanView.{PlanActionView, PlanTaskView, PlanView}
 use Rattle.plan_reader.specs.Units.{PlannedUnit, action_units, fetch_units, item_unit, plan_units, task_units}
-use Rattle.build_runner.specs.Units.{HasFileName}
+use Rattle.build_workers.specs.Units.{HasFileName}
 
 -- all units of a list of parts have one, where all units of each part do
 of_parts : {X : Type 0} (units : X → List PlannedUnit) (xs : List X) → All (λ x. All HasFileName (units x)) xs → All HasFileName (flat_map units xs)

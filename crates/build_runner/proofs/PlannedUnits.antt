@@ -11,7 +11,7 @@ use Rattle.plan_reader.specs.Graph.{actions_from, all_actions_from, graph_of, un
 use Rattle.plan_reader.specs.IsPlan.{IsPlan}
 use Rattle.plan_reader.specs.PlanView.{PlanActionView, PlanTaskView, PlanView, WorkView}
 use Rattle.plan_reader.specs.Units.{PlannedUnit, action_units, fetch_unit, fetch_units, item_unit, plan_units, task_units}
-use Rattle.build_runner.specs.Units.{AreUnitsOf, IsFetched, IsPlannedItem}
+use Rattle.build_workers.specs.Units.{AreUnitsOf, IsFetched, IsPlannedItem}
 use Rattle.build_runner.proofs.FileNames.{of_plan}
 use Rattle.file_access.proofs.lemmas.Lists.{all_append}
 

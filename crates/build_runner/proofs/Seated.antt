@@ -3,12 +3,19 @@ use Rattle.std.proofs.Common.{◌≡◌, ℕ, ◌<◌, Bool, true, List, length,
 use Rattle.std.specs.List.{All}
 use Rattle.std.proofs.lemmas.List.{get_or-map, length-map}
 use Rattle.coordination.specs.Passes.{PassView}
-use Rattle.build_runner.specs.Site.{SiteView}
-use Rattle.build_runner.specs.Desks.{DeskView}
-use Rattle.build_runner.specs.Worked.{HasWorked, TookPart}
-use Rattle.build_runner.specs.WorkerView.{WorkerView}
+use Rattle.build_workers.specs.Site.{SiteView}
+use Rattle.build_workers.specs.Desks.{DeskView}
+use Rattle.build_runner.specs.Worked.{TookPart}
+use Rattle.build_workers.specs.Worked.{HasWorked}
+use Rattle.build_workers.specs.WorkerView.{WorkerView}
 use Rattle.coordination.proofs.lemmas.Numbered.{element}
-use Rattle.build_runner.proofs.Stepping.{part_weaker, took_part}
+use Rattle.build_workers.proofs.lemmas.Weaker.{proceeds_weaker}
+
+took_part : {s : SiteView} {old new : WorkerView} → HasWorked s old new → TookPart s old.desk new.desk old.pass new.pass new.ended
+took_part worked = record { at = worked.step.of.at; step = worked.step.proceeds; finished = worked.finished }
+
+part_weaker : {s : SiteView} {a b : DeskView} {old new : PassView} {more less : Bool} → (less ≡ true → more ≡ true) → TookPart s a b old new more → TookPart s a b old new less
+part_weaker weaker k = record { at = k.at; step = proceeds_weaker weaker k.step; finished = λ is. k.finished (weaker is) }
 
 -- Each worker had a pass and a desk, and they are in their places again.
 module _ {D : Type 0} (view : D → DeskView) (old new : List WorkerView) (long : length new ≡ length old) (mine desks : List D) (passes left : List PassView)

@@ -1,4 +1,3 @@
 pub mod FirstDesk
 pub mod KnownFiles
-pub mod SentViews
 pub mod Within

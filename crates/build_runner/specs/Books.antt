@@ -9,7 +9,8 @@ use Rattle.coordination.specs.Passes.{PassView}
 use Rattle.plan_reader.specs.PlanView.{PlanView}
 use Rattle.plan_reader.specs.Units.{plan_units}
 use Rattle.run_watch.specs.declared.boards.Watch.{Watch}
-use Rattle.build_runner.specs.Desks.{DeskView, desks_view, known_by}
+use Rattle.build_runner.specs.Desks.{desks_view, known_by}
+use Rattle.build_workers.specs.Desks.{DeskView}
 use Rattle.build_runner.specs.Failing.{unreal_of}
 use Rattle.build_runner.specs.Run.{IsRunOf}
 use Rattle.build_runner.specs.Watching.{IsWatchedRun}

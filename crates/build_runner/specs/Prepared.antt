@@ -6,9 +6,9 @@ use Rattle.coordination.specs.Sights.{workers_from}
 use Rattle.plan_reader.specs.Graph.{graph_of}
 use Rattle.plan_reader.specs.PlanView.{PlanView}
 use Rattle.plan_reader.specs.Units.{PlannedUnit, plan_units}
-use Rattle.build_runner.specs.Team.{CanWork}
+use Rattle.build_workers.specs.Worked.{CanWork}
 use Rattle.build_runner.specs.Watching.{HasRoomToLook, IsWatchedBy}
-use Rattle.build_runner.specs.declared.kits.Kit.{Kit}
+use Rattle.build_workers.specs.declared.kits.Kit.{Kit}
 use Rattle.build_runner.specs.declared.options.RunOptions.{RunOptions}
 
 -- The service is open over a book of the graph, with a pass for each worker in order, and none of them has anything.

@@ -14,8 +14,9 @@ use Rattle.lock_journal.specs.Answers.{answers}
 use Rattle.lock_journal.specs.ClosedBy.{closed_by, faults_by}
 use Rattle.lock_journal.specs.Marks.{HasEnded}
 use Rattle.lock_journal.specs.Runs.{ComesTo, GivesClosedOutcomes, IsOrderly}
-use Rattle.build_runner.specs.Desks.{DeskView, known_by}
-use Rattle.build_runner.specs.Sent.{AreSentAndOneMore, AreSentFor}
+use Rattle.build_runner.specs.Desks.{known_by}
+use Rattle.build_workers.specs.Desks.{DeskView}
+use Rattle.build_workers.specs.Sent.{AreSentAndOneMore, AreSentFor}
 use Rattle.build_runner.specs.declared.options.RunOptions.{RunOptions}
 
 -- how deep one follows `after`: no chain of tasks that come after one another is longer

@@ -7,9 +7,9 @@ use Rattle.run_watch.specs.Looks.{BoardView}
 use Rattle.run_watch.specs.Watches.{AreWatchesOf}
 use Rattle.run_watch.specs.declared.boards.Watch.{Watch}
 use Rattle.build_runner.specs.declared.options.RunOptions.{RunOptions}
-use Rattle.build_runner.specs.declared.kits.Kit.{Kit}
-use Rattle.build_runner.specs.Looking.{LooksAt}
-use Rattle.build_runner.specs.Site.{SiteView}
+use Rattle.build_workers.specs.declared.kits.Kit.{Kit}
+use Rattle.build_workers.specs.Looking.{LooksAt}
+use Rattle.build_workers.specs.Site.{SiteView}
 
 -- what the worker looks with, if it does, is of the ledger of the service
 abbrev pub IsWatchedBy : ServiceId → Kit → Type 0

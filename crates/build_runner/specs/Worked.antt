@@ -1,24 +1,18 @@
--- What a worker did in a run.
+-- What each worker did in a run, by its desk and its pass.
 use Rattle.std.specs.Prelude.{◌≡◌, ◌+◌, ◌-◌, ◌^◌, ◌<◌, ◌≤◌, Bool, true, List, Option, IfSome}
 use Rattle.item_actions.specs.Files.{Folder}
 use Rattle.plan_reader.specs.Units.{PlannedUnit}
 use Rattle.coordination.specs.Passes.{PassView}
 use Rattle.lock_journal.specs.Answers.{IsHonestWorker}
 use Rattle.lock_journal.specs.ClosedBy.{closed_by, faults_by}
-use Rattle.build_runner.specs.Desks.{DeskView}
-use Rattle.build_runner.specs.Points.{HasFinishedWork}
-use Rattle.build_runner.specs.Sent.{AreSentAndOneMore, AreSentFor}
-use Rattle.build_runner.specs.Site.{IsAt, SiteView}
-use Rattle.build_runner.specs.Steps.{Proceeds, Steps}
-use Rattle.build_runner.specs.Units.{given}
-use Rattle.build_runner.specs.WorkerView.{WorkerView}
+use Rattle.build_workers.specs.Desks.{DeskView}
+use Rattle.build_workers.specs.Points.{HasFinishedWork}
+use Rattle.build_workers.specs.Sent.{AreSentAndOneMore, AreSentFor}
+use Rattle.build_workers.specs.Site.{IsAt, SiteView}
+use Rattle.build_workers.specs.Steps.{Proceeds}
+use Rattle.build_workers.specs.Units.{given}
 
--- The worker did what each part of a run does, and came to the end, where it says so.
-pub record HasWorked (s : SiteView) (old new : WorkerView) : Type 0 where
-  pub step : Steps s old new new.ended
-  pub finished : new.ended ≡ true → HasFinishedWork new.pass.sight
-
--- What that is of the worker's desk and pass, which the run takes back from it.
+-- What a worker did, of its desk and its pass alone, which the run takes back from it.
 pub record TookPart (s : SiteView) (before after : DeskView) (old new : PassView) (ended : Bool) : Type 0 where
   pub at : IsAt s new
   pub step : Proceeds s.units before after old.sight new.sight ended

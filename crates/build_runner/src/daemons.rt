@@ -1,14 +1,12 @@
-//! The end of a run's daemons, and of those that are one too many while it runs.
+//! The end of a run's daemons.
 ghost use Rattle.std.specs.Prelude.{◌≡◌, ◌≤◌, ℕ, [], drop, get_or, length};
 ghost use Rattle.daemon_manager.specs.Counts.{failures, reservations};
 ghost use Rattle.daemon_manager.specs.Events.{NoneIdle, IsLegal};
-ghost use Rattle.build_runner.specs.Desks.{desk_view};
+ghost use Rattle.build_workers.specs.Desks.{desk_view};
 
-use crate::prepared::RunService;
 use daemon_desk::Desk;
 use daemon_manager::{CountedPool, Event, Tallies};
 use item_work::PoolLock;
-use std::sync::Wait;
 use std::sync::ledger::Ledger;
 
 // Stops the idle daemons. All are told before the first is waited for, so that they end side by side. They are told in the order of
@@ -22,33 +20,6 @@ fn stop_idle<D: Desk, U: Ledger, F: Ledger>(pool: &mut CountedPool<D::Link, U, F
         stop_idle(pool, desk);
         desk.stop(link);
     }
-}
-
-/// Stops a daemon that is one too many, if there is one. The service counts on this worker to come again at once, and so wakes nobody
-/// for what the worker left behind. It doesn't come while it waits for the daemon's end, so the others are woken before.
-pub(crate) fn stop_spare<R: Wait, D: Desk>(
-    service: &RunService<'_, R>,
-    desk: &mut D,
-    spare: Option<Box<D::Link>>,
-)
-    ensures sends { D.sends desk.new ≡ D.sends desk.old }
-    ensures desk { desk_view D.files D.faults D.sends D.sent desk.new ≡ desk_view D.files D.faults D.sends D.sent desk.old }
-{
-    if let Some(link) = spare {
-        wake_and_stop(service, desk, link);
-    }
-}
-
-// Wakes the other workers, and stops the daemon. It is a function of its own, since a function clears the room of its values first,
-// and few items leave a daemon to stop.
-#[cold]
-#[inline(never)]
-fn wake_and_stop<R: Wait, D: Desk>(service: &RunService<'_, R>, desk: &mut D, link: Box<D::Link>)
-    ensures sends { D.sends desk.new ≡ D.sends desk.old }
-    ensures desk { desk_view D.files D.faults D.sends D.sent desk.new ≡ desk_view D.files D.faults D.sends D.sent desk.old }
-{
-    service.notify_state_change();
-    desk.stop(Box::into_inner(link));
 }
 
 /// Stops the idle daemons through the first desk, and gives all that happened to daemons, which has as many reservations as the

@@ -1,5 +1,5 @@
 //! What a run takes memory for, before any desk moves.
-ghost use Rattle.std.specs.Prelude.{◌≡◌, ◌≤◌, [], All, IfOk, IfSome, Option, Some, length, map, vec_capacity};
+ghost use Rattle.std.specs.Prelude.{◌≡◌, ◌≤◌, [], All, IfOk, IfSome, Option, Some, length, map};
 ghost use Rattle.logbook.specs.Pages.{Book as Ledger};
 ghost use Rattle.resource_lock.specs.Opening.{opening_of};
 ghost use Rattle.resource_lock.specs.declared.limits.TheConstants.{MAX_LEASES, MAX_WORKERS};
@@ -9,14 +9,10 @@ ghost use Rattle.build_runner.specs.Prepared.{IsOpenedOn, IsPrepared};
 ghost use Rattle.build_runner.specs.Watching.{IsWatchedBy};
 ghost use Rattle.plan_reader.specs.Units.{unit_view};
 
-use crate::hands::Hand;
-use crate::kits::Kit;
 use crate::options::RunOptions;
-use crate::queue::{Queue, QueuePlace};
-use crate::run_types::RunTypes;
 use crate::watching::room_for;
-use crate::worker::Worker;
-use coordination::{Coordination, OpenedWithViews, Pass, ShownService, openings_are_at_rest};
+use build_workers::{Hand, Kit, Queue, QueuePlace, RunService};
+use coordination::{Coordination, OpenedWithViews, Pass, openings_are_at_rest};
 use history_views::View;
 use lock_journal::Book;
 use lock_transforms::kinds::MAX_CHANGES;
@@ -25,9 +21,6 @@ use resource_lock::Graph;
 use run_watch::{BoardRoom, Watcher};
 use std::alloc::{AllocError, Global};
 use std::sync::Wait;
-
-/// The service of a run.
-pub(crate) type RunService<'a, R> = ShownService<QueuePlace, &'a R>;
 
 /// The service of a run, with a pass for each worker.
 #[derive(Drop)]
@@ -57,8 +50,8 @@ const CHANGES_AN_ACTION: u64 = 1 + 4 + 4;
 /// blocks the worker, with its lock and the lease given back, and unblocks it.
 const CHANGES_A_UNIT: u64 = 5 + 5;
 
-// The value in a box.
-fn boxed<T: Drop>(alloc: Global, value: T) -> Result<Box<T>, AllocError>
+/// The value in a box.
+pub(crate) fn boxed<T: Drop>(alloc: Global, value: T) -> Result<Box<T>, AllocError>
     ensures { IfOk result (λ b. b.value ≡ value) }
 {
     match Box::new(alloc, value) {
@@ -182,80 +175,45 @@ fn watcher_of(alloc: Global, view: Option<View>, units: u32) -> Result<Option<Wa
     }
 }
 
-/// Room for the workers, and for the passes and desks that they leave.
-#[derive(Drop)]
-pub(crate) struct Room<T: RunTypes> {
-    pub team: Vec<Worker<T>>,
-    pub passes: Vec<Pass>,
-    pub desks: Vec<T::Desk>,
-    /// Room for the kits that they leave.
-    pub left: Vec<Kit>,
-}
-
-impl<T: RunTypes> Room<T> {
-    /// Room for so many workers, and for all desks.
-    pub fn new(alloc: Global, workers: usize, desks: usize) -> Result<Room<T>, AllocError>
-        ensures empty { IfOk result (λ room. (room.team.items ≡ []) × (room.passes.items ≡ []) × (room.desks.items ≡ []) × (room.left.items ≡ [])) }
-        ensures workers { IfOk result (λ room. (workers ≤ vec_capacity room.team) × (workers ≤ vec_capacity room.passes) × (workers ≤ vec_capacity room.left)) }
-        ensures desks { IfOk result (λ room. desks ≤ vec_capacity room.desks) }
-    {
-        Ok(Room {
-            left: Vec::with_capacity(alloc, workers)?,
-            team: Vec::with_capacity(alloc, workers)?,
-            passes: Vec::with_capacity(alloc, workers)?,
-            desks: Vec::with_capacity(alloc, desks)?,
-        })
-    }
-}
-
 /// What a run has before it begins.
 #[derive(Drop)]
-pub(crate) struct Prepared<'a, 'r, T: RunTypes> {
+pub(crate) struct Prepared<'a, 'r, R: Wait> {
     /// The graph of the plan.
     pub graph: Graph,
     /// The units by their numbers.
     pub units: Vec<UnitWork<'a>>,
     /// The service, over a book of that graph, with a pass for each worker.
-    pub opened: Box<OpenedRun<'r, T::Runtime>>,
+    pub opened: Box<OpenedRun<'r, R>>,
     /// A kit for each worker, with a view of the service where the run is watched.
     pub kits: Vec<Kit>,
-    /// Room for the workers.
-    pub room: Room<T>,
     /// Room for what is seen of the units, where the run is watched.
     pub looks: Option<BoardRoom>,
 }
 
-impl<'a, 'r, T: RunTypes> Prepared<'a, 'r, T> {
-    /// What a run of the plan needs that has so many desks. It fails for want of memory.
+impl<'a, 'r, R: Wait> Prepared<'a, 'r, R> {
+    /// What a run of the plan needs. It fails for want of memory.
     pub fn new(
-        rt: &'r T::Runtime,
+        rt: &'r R,
         alloc: Global,
         plan: &'a Plan,
         options: &RunOptions,
-        desks: usize,
-    ) -> Result<Prepared<'a, 'r, T>, AllocError>
+    ) -> Result<Prepared<'a, 'r, R>, AllocError>
         requires some_worker { 1 ≤ options.now.workers }
         requires few_workers { options.now.workers ≤ MAX_WORKERS }
         requires some_lease { 1 ≤ options.now.max_leases }
         requires few_leases { options.now.max_leases ≤ MAX_LEASES }
-        ensures prepared { IfOk result (λ p. IsPrepared plan.now options.now p.graph (map unit_view p.units.items) p.opened.value.service
+        ensures { IfOk result (λ p. IsPrepared plan.now options.now p.graph (map unit_view p.units.items) p.opened.value.service
             p.opened.value.passes.items p.kits.items p.looks) }
-        ensures empty { IfOk result (λ p. (p.room.team.items ≡ []) × (p.room.passes.items ≡ []) × (p.room.desks.items ≡ []) × (p.room.left.items ≡ [])) }
-        ensures workers { IfOk result (λ p. (options.now.workers ≤ vec_capacity p.room.team) × (options.now.workers ≤ vec_capacity p.room.passes)
-            × (options.now.workers ≤ vec_capacity p.room.left)) }
-        ensures desks { IfOk result (λ p. desks ≤ vec_capacity p.room.desks) }
     {
-        let (opened, kits) = open_for(rt, alloc, plan, options)?;
-        let units = units_of(alloc, plan)?;
         let graph = graph_of(alloc, plan, options)?;
+        let units = units_of(alloc, plan)?;
         let looks = room_for(alloc, options.watch, graph.units())?;
-        let room = Room::new(alloc, options.workers as usize, desks)?;
+        let (opened, kits) = open_for(rt, alloc, plan, options)?;
         Ok(Prepared {
             graph,
             units,
             opened,
             kits,
-            room,
             looks,
         })
     }

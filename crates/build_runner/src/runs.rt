@@ -1,5 +1,5 @@
 //! A whole run of a plan.
-ghost use Rattle.std.specs.Prelude.{◌≡◌, ◌+◌, ◌++◌, ◌<◌, ◌≤◌, ℕ, [], All, IfOk, OnErr, drop, get_or, length, map, sum_by};
+ghost use Rattle.std.specs.Prelude.{◌≡◌, ◌+◌, ◌++◌, ◌<◌, ◌≤◌, ℕ, All, IfOk, OnErr, drop, get_or, length, map, sum_by};
 ghost use Rattle.std.specs.Prelude.{Option, true, vec_capacity, vec_len};
 ghost use Rattle.resource_lock.specs.declared.limits.TheConstants.{MAX_LEASES, MAX_WORKERS};
 ghost use Rattle.daemon_manager.specs.Counts.{failures, reservations};
@@ -11,22 +11,23 @@ ghost use Rattle.coordination.specs.Sights.{workers_from};
 ghost use Rattle.plan_reader.specs.Graph.{graph_of};
 ghost use Rattle.plan_reader.specs.Units.{plan_units};
 ghost use Rattle.build_runner.specs.Books.{AreBack, GivesBook, GivesEnd, IsClosedBook, Leaves};
-ghost use Rattle.build_runner.specs.Desks.{AreAlike, DeskView, desk_view, desks_view, known_by};
+ghost use Rattle.build_runner.specs.Desks.{AreAlike, desks_view, known_by};
+ghost use Rattle.build_workers.specs.Desks.{DeskView, desk_view};
 ghost use Rattle.build_runner.specs.Failing.{unreal_of, unreal_seen};
+ghost use Rattle.build_runner.specs.Rooms.{IsEmptyFor};
 ghost use Rattle.build_runner.specs.Run.{IsRunOf, WasBrokenOff};
-ghost use Rattle.build_runner.specs.Team.{CanWork};
+ghost use Rattle.build_workers.specs.Worked.{CanWork};
 ghost use Rattle.build_runner.specs.Watching.{HasRoomToLook, IsBoardFor, IsWatched, IsWatchedRun};
 ghost use Rattle.build_runner.specs.Worked.{HasComeToTheEnd, TookPart, WasThere};
 
 use crate::daemons::close_pool;
-use crate::kits::Kit;
 use crate::options::RunOptions;
-use crate::prepared::{OpenedRun, Prepared, Room};
+use crate::prepared::{OpenedRun, Prepared};
+use crate::room::TeamRoom;
 use crate::run_end::RunEnd;
-use crate::run_types::{RunTypes, Types};
-use crate::site::Site;
 use crate::team::{all_ended, part, seat, work};
 use crate::watching::{board_of, watches_of};
+use build_workers::{Kit, RunTypes, Site, Types};
 use coordination::Pass;
 use daemon_desk::Desk;
 use daemon_manager::{CountedPool, Pool, Tallies};
@@ -103,20 +104,21 @@ fn run_team<T: RunTypes>(
     desks: &mut Vec<T::Desk>,
     tallies: &mut Tallies<T::Reserved, T::Failed>,
     kits: &mut Vec<Kit>,
-    room: Room<T>,
+    room: Box<TeamRoom<T>>,
 ) -> bool
     requires same { vec_len passes.old ≡ vec_len desks.old }
     requires kits { length kits.old.items ≡ vec_len desks.old }
     requires watched { All (IsWatched site.now) kits.old.items }
-    requires empty { (room.team.items ≡ []) × (room.passes.items ≡ []) × (room.desks.items ≡ []) × (room.left.items ≡ []) }
-    requires room { (vec_len desks.old ≤ vec_capacity room.team) × (vec_len desks.old ≤ vec_capacity room.passes) × (vec_len desks.old ≤ vec_capacity room.left)
-        × (vec_len desks.old ≤ vec_capacity room.desks) }
+    requires team { IsEmptyFor (vec_len desks.old) room.value.team }
+    requires left { IsEmptyFor (vec_len desks.old) room.value.passes }
+    requires back { IsEmptyFor (vec_len desks.old) room.value.desks }
+    requires used { IsEmptyFor (vec_len desks.old) room.value.kits }
     requires parts { vec_len desks.old < tallies.old.parts }
     requires ready { All (CanWork site.now.service site.now.graph) passes.old.items }
     ensures watched { All (IsWatched site.now) kits.new.items }
     ensures passes { length passes.new.items ≡ vec_len desks.old }
     ensures desks { length desks.new.items ≡ vec_len desks.old }
-    ensures capacity { vec_capacity desks.new ≡ vec_capacity room.desks }
+    ensures capacity { vec_capacity desks.new ≡ vec_capacity room.value.desks }
     ensures worked { (i : ℕ) (p : PassView) (d : T.Desk) → i < vec_len desks.old → TookPart site.now
         (desk_view T.Desk.files T.Desk.faults T.Desk.sends T.Desk.sent (get_or desks.old.items i d))
         (desk_view T.Desk.files T.Desk.faults T.Desk.sends T.Desk.sent (get_or desks.new.items i d))
@@ -125,12 +127,12 @@ fn run_team<T: RunTypes>(
     ensures reserved { sum_by T.Desk.sends desks.new.items + tallies.old.reserved ≤ sum_by T.Desk.sends desks.old.items + tallies.new.reserved }
     ensures failed { result ≡ true → tallies.new.failed + sum_by unreal_seen passes.old.items ≤ tallies.old.failed + sum_by unreal_seen passes.new.items }
 {
-    let Room {
+    let TeamRoom {
         mut team,
         passes: left,
         desks: back,
-        left: used,
-    } = room;
+        kits: used,
+    } = Box::into_inner(room);
     seat(
         mem::replace(passes, left),
         mem::replace(desks, back),
@@ -215,15 +217,16 @@ fn run_book<T: RunTypes>(
         options,
         gate,
     } = *input;
+    let room = TeamRoom::<T>::new(alloc, options.workers as usize, desks.len())?;
+    let prepared = Prepared::new(rt, alloc, plan, options)?;
+    let rest = desks.split_off(options.workers as usize)?;
     let Prepared {
         graph,
         units,
         mut opened,
         mut kits,
-        room,
         looks,
-    } = Prepared::<T>::new(rt, alloc, plan, options, desks.len())?;
-    let rest = desks.split_off(options.workers as usize)?;
+    } = prepared;
     // That the units' files have their form and that the graph fits, their types say.
     let _ = plan.tasks();
     let _ = graph.tasks();

@@ -1,10 +1,10 @@
 //! What the workers of a run have seen of its history.
-ghost use Rattle.std.specs.Prelude.{◌≡◌, ◌<◌, [], All, Contains, IfOk, IfSome, None, Some, false, length, true};
+ghost use Rattle.std.specs.Prelude.{◌≡◌, ◌<◌, [], All, Contains, IfOk, IfSome, None, Some, length};
 ghost use Rattle.coordination.specs.Passes.{ServiceId};
 ghost use Rattle.run_watch.specs.Watches.{AreWatchesOf};
 ghost use Rattle.build_runner.specs.Watching.{HasRoomToLook, IsBoardFor, IsOfPasses, IsSeenBy, IsWatchedBy};
 
-use crate::kits::Kit;
+use build_workers::Kit;
 use coordination::Pass;
 use lock_journal::Book;
 use run_watch::{Board, BoardRoom, Watch};

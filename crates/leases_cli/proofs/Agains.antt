@@ -9,14 +9,14 @@ use Rattle.file_access.specs.SourceView.{SourceView}
 use Rattle.plan_reader.specs.PlanView.{PlanView}
 use Rattle.plan_reader.specs.Graph.{graph_of}
 use Rattle.daemon_desk.specs.declared.sent.SentRequest.{SentRequest}
-use Rattle.build_runner.specs.Sent.{sent_view}
+use Rattle.build_workers.specs.Sent.{sent_view}
 use Rattle.history_check.specs.declared.fails.CheckFail.{CheckFail}
 use Rattle.history_check.specs.declared.fails.CheckFail.TheVariants as fails
 use Rattle.history_check.specs.Driving.{DrivesInput, HasDriven, IsAgain, IsAgainCounted, ReadsFor}
 use Rattle.history_check.specs.declared.again.Again.{Again}
 use Rattle.history_check.specs.declared.again.Again.TheVariants as again
 use Rattle.leases_cli.specs.Again.{AnyRead, HasOnlyRead}
-use Rattle.build_runner.proofs.lemmas.SentViews.{same_view}
+use Rattle.build_workers.proofs.lemmas.SentViews.{same_view}
 
 -- ---- its files were read; here it isn't told which
 

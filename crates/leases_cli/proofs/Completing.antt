@@ -16,7 +16,7 @@ use Rattle.file_access.specs.Calls.{next}
 use Rattle.file_access.specs.SinkView.{SinkView, Rises}
 use Rattle.plan_reader.specs.PlanView.{PlanView}
 use Rattle.lock_journal.specs.ClosedBy.{closed_by, faults_in}
-use Rattle.build_runner.specs.Desks.{DeskView}
+use Rattle.build_workers.specs.Desks.{DeskView}
 use Rattle.build_runner.specs.Run.{IsRunOf}
 use Rattle.build_runner.proofs.lemmas.KnownFiles.{known_first}
 use Rattle.build_runner.specs.declared.options.RunOptions.{RunOptions}

@@ -20,7 +20,8 @@ use Rattle.plan_reader.specs.Units.{plan_units, unit_value}
 use Rattle.lock_journal.specs.Answers.{answer_by, answers}
 use Rattle.lock_journal.specs.ByNumber.{action_with, first_with, has_unit, outcome_by}
 use Rattle.lock_journal.specs.Outcomes.{action_passes, earlier_pass, is_skipped, mark_by, task_outcome, task_passes, unit_outcome}
-use Rattle.build_runner.specs.Desks.{DeskView, known_by}
+use Rattle.build_runner.specs.Desks.{known_by}
+use Rattle.build_workers.specs.Desks.{DeskView}
 use Rattle.build_runner.specs.Run.{IsRunOf, depth}
 use Rattle.build_runner.specs.declared.options.RunOptions.{RunOptions}
 use Rattle.history_text.specs.Results.{results_text, summary_text, task_marks}

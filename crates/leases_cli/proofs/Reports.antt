@@ -23,7 +23,8 @@ use Rattle.lock_journal.specs.Outcomes.{task_outcome}
 use Rattle.lock_journal.specs.Runs.{ComesTo}
 use Rattle.daemon_manager.specs.declared.events.Event.{Event}
 use Rattle.run_watch.specs.declared.boards.Watch.{Watch}
-use Rattle.build_runner.specs.Desks.{DeskView, known_by}
+use Rattle.build_runner.specs.Desks.{known_by}
+use Rattle.build_workers.specs.Desks.{DeskView}
 use Rattle.build_runner.specs.Run.{HasResults, IsRunOf, depth}
 use Rattle.build_runner.specs.declared.options.RunOptions.{RunOptions}
 use Rattle.command_words.specs.declared.commands.RunWords.{RunWords}

@@ -4,7 +4,8 @@ use Rattle.std.specs.Prelude.{sum_by}
 use Rattle.std.specs.List.{range_with_len}
 use Rattle.std.proofs.lemmas.List.Sums.{sum_by-cons, sum_by-drop_more}
 use Rattle.item_work.specs.Requests.{SentView}
-use Rattle.build_runner.specs.Desks.{DeskView, desks_view}
+use Rattle.build_runner.specs.Desks.{desks_view}
+use Rattle.build_workers.specs.Desks.{DeskView}
 use Rattle.leases_cli.specs.Answered.{sent_by_first}
 
 -- what n places of a list have, and what all behind them have

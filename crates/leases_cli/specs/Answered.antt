@@ -23,7 +23,8 @@ use Rattle.daemon_manager.specs.Counts.{failures, reservations}
 use Rattle.daemon_manager.specs.Events.{IsLegal, NoneIdle}
 use Rattle.daemon_manager.specs.declared.events.Event.{Event}
 use Rattle.run_watch.specs.declared.boards.Watch.{Watch}
-use Rattle.build_runner.specs.Desks.{DeskView, known_by}
+use Rattle.build_runner.specs.Desks.{known_by}
+use Rattle.build_workers.specs.Desks.{DeskView}
 use Rattle.build_runner.specs.Failing.{unreal_of}
 use Rattle.build_runner.specs.Run.{IsRunOf, WasBrokenOff, depth}
 use Rattle.build_runner.specs.declared.options.RunOptions.{RunOptions}

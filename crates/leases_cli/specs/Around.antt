@@ -5,7 +5,7 @@ use Rattle.file_access.specs.SourceView.{SourceView}
 use Rattle.lock_journal.specs.BookView.{BookView}
 use Rattle.daemon_manager.specs.declared.events.Event.{Event}
 use Rattle.run_watch.specs.declared.boards.Watch.{Watch}
-use Rattle.build_runner.specs.Desks.{DeskView}
+use Rattle.build_workers.specs.Desks.{DeskView}
 use Rattle.command_words.specs.declared.commands.Command.{Command}
 use Rattle.command_words.specs.declared.commands.Command.TheVariants.{Run, Worker, Check, Again, Make}
 use Rattle.daemon_desk.specs.Serving.{Outside}

@@ -18,7 +18,7 @@ use Rattle.plan_reader.specs.Reading.{Reads}
 use Rattle.history_check.specs.Checking.{HasChecked}
 use Rattle.history_check.specs.declared.checks.Checked.{Checked}
 use Rattle.history_check.specs.declared.checks.Checked.TheVariants as checked
-use Rattle.build_runner.specs.Desks.{DeskView}
+use Rattle.build_workers.specs.Desks.{DeskView}
 use Rattle.daemon_desk.specs.Answer.{Answer}
 use Rattle.daemon_desk.specs.Serving.{Outside, HasServed}
 use Rattle.daemon_desk.specs.declared.served_stream.Served.{Served}

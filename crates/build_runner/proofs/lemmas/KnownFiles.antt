@@ -4,7 +4,8 @@ use Rattle.std.specs.Prelude.{if◌then◌else◌}
 use Rattle.std.specs.List.{list_all, range_with_len}
 use Rattle.std.proofs.lemmas.Bool.{and_parts, cases_lt}
 use Rattle.item_actions.specs.Files.{Folder}
-use Rattle.build_runner.specs.Desks.{AreAlike, DeskView, known_by}
+use Rattle.build_runner.specs.Desks.{AreAlike, known_by}
+use Rattle.build_workers.specs.Desks.{DeskView}
 
 -- what holds of each of some numbers
 at_each : (p : ℕ → Bool) (first n i : ℕ) → list_all p (range_with_len first n) ≡ true → first ≤ i → i < first + n → p i ≡ true

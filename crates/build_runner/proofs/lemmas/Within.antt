@@ -6,9 +6,9 @@ use Rattle.item_work.specs.Requests.{SentView}
 use Rattle.plan_reader.specs.PlanView.{PlanView}
 use Rattle.plan_reader.specs.Units.{plan_units}
 use Rattle.lock_journal.specs.ClosedBy.{closed_by}
-use Rattle.build_runner.specs.Desks.{DeskView}
+use Rattle.build_workers.specs.Desks.{DeskView}
 use Rattle.build_runner.specs.Run.{HasResults, IsRunOf, WasBrokenOff}
-use Rattle.build_runner.specs.Sent.{AreSentAndOneMore, AreSentFor}
+use Rattle.build_workers.specs.Sent.{AreSentAndOneMore, AreSentFor}
 use Rattle.build_runner.specs.declared.options.RunOptions.{RunOptions}
 use Rattle.build_runner.proofs.lemmas.KnownFiles.{known_same}
 

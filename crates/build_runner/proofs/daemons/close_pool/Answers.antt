@@ -1,5 +1,5 @@
 use Rattle.std.proofs.Common.{◌≡◌, refl}
-use Rattle.build_runner.specs.Desks.{DeskView, desk_view}
+use Rattle.build_workers.specs.Desks.{DeskView, desk_view}
 use Rattle.build_runner.proofs.lemmas.FirstDesk.{of_each}
 use Rattle.build_runner.proofs.daemons.close_pool.Goals as goal
 

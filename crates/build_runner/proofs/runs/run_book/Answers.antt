@@ -8,9 +8,10 @@ use Rattle.build_runner.specs.declared.prepared.OpenedRun.{OpenedRun}
 use Rattle.plan_reader.specs.Units.{PlannedUnit, unit_view}
 use Rattle.run_watch.specs.declared.boards.Watch.{Watch}
 use Rattle.build_runner.specs.Books.{GivesBook, IsClosedBook, Leaves}
-use Rattle.build_runner.specs.Desks.{DeskView, desk_view, desks_view, known_by}
+use Rattle.build_runner.specs.Desks.{desks_view, known_by}
+use Rattle.build_workers.specs.Desks.{DeskView, desk_view}
 use Rattle.build_runner.specs.Run.{WasBrokenOff}
-use Rattle.build_runner.specs.Site.{SiteView}
+use Rattle.build_workers.specs.Site.{SiteView}
 use Rattle.build_runner.specs.Watching.{HasRoomToLook, IsBoardFor, IsWatchedBy}
 use Rattle.build_runner.specs.Worked.{HasComeToTheEnd, WasThere}
 use Rattle.plan_reader.specs.declared.units.UnitWork.{UnitWork}
@@ -18,7 +19,7 @@ use Rattle.build_runner.proofs.AtFirst.{from_ok}
 use Rattle.build_runner.proofs.Begun.{IsBegun, pass_count, pass_numbers}
 use Rattle.build_runner.proofs.Failing.{unreal_at_end, unreal_at_first}
 use Rattle.build_runner.proofs.Joined.{all_come, all_leave, all_were_there, left_numbers, left_service}
-use Rattle.build_runner.proofs.Keeping.{at_err}
+use Rattle.build_workers.proofs.lemmas.Results.{at_err}
 use Rattle.build_runner.proofs.PlannedUnits.{units_of_graph}
 use Rattle.build_runner.proofs.Untouched.{leaves_all}
 use Rattle.build_runner.proofs.lemmas.Within.{nothing_done}
@@ -30,31 +31,31 @@ Ran = Box BookView Global × Vec Watch Global
 
 pub run_team-ended-requires-clause-same : goal.run_team-ended-requires-clause-same
 run_team-ended-requires-clause-same g c κs within =
-    let start = c.in_ok-graph.ensures.prepared in
+    let start = c.in_ok-prepared.ensures in
     let begun = c.deref_mut-parts.result.now in
-    let opened = subst (IsBegun c.in_ok-graph.field-0.graph) (sym c.deref_mut-parts.ensures.value) start.opened in
+    let opened = subst (IsBegun c.in_ok-prepared.prepared.graph) (sym c.deref_mut-parts.ensures.value) start.opened in
     let size = c.in_ok-rest.ensures.len in
     let count = pass_count start begun.service begun.passes.items opened in
     omega (arith, size, count, begun.passes.ok.0)
 
 pub run_team-ended-requires-clause-watched : goal.run_team-ended-requires-clause-watched
 run_team-ended-requires-clause-watched g c κs within =
-    subst (λ (o : OpenedRun _). All (IsWatchedBy o.service.service) c.in_ok-graph.field-0.kits.items) (sym c.deref_mut-parts.ensures.value) c.in_ok-graph.ensures.prepared.watched
+    subst (λ (o : OpenedRun _). All (IsWatchedBy o.service.service) c.in_ok-prepared.prepared.kits.items) (sym c.deref_mut-parts.ensures.value) c.in_ok-prepared.ensures.watched
 
 pub run_team-ended-requires-clause-ready : goal.run_team-ended-requires-clause-ready
 run_team-ended-requires-clause-ready g c κs within =
-    (subst (IsBegun c.in_ok-graph.field-0.graph) (sym c.deref_mut-parts.ensures.value) c.in_ok-graph.ensures.prepared.opened).ready
+    (subst (IsBegun c.in_ok-prepared.prepared.graph) (sym c.deref_mut-parts.ensures.value) c.in_ok-prepared.ensures.opened).ready
 
 pub invariant_of-site : goal.invariant_of-site
 invariant_of-site g c =
     let options = c.args.input.now.options.now in
-    let start = c.in_ok-graph.ensures.prepared in
-    units_of_graph c.args.input.now.plan.now options.workers options.max_leases options.parallel c.in_ok-graph.field-0.graph (map unit_view c.deref.result.now) c.tasks.ensures.plan c.tasks-2.ensures.fits start.graph
+    let start = c.in_ok-prepared.ensures in
+    units_of_graph c.args.input.now.plan.now options.workers options.max_leases options.parallel c.in_ok-prepared.prepared.graph (map unit_view c.deref.result.now) c.tasks.ensures.plan c.tasks-2.ensures.fits start.graph
     (ap (λ (us : List UnitWork). map unit_view us) c.deref.ensures.value ∙ start.units)
 
 pub close_run-requires-clause-graph : goal.close_run-requires-clause-graph
 close_run-requires-clause-graph g c =
-    let start = c.in_ok-graph.ensures.prepared in
+    let start = c.in_ok-prepared.ensures in
     ap (λ (o : OpenedRun _). o.service.book.graph) c.deref_mut-parts.ensures.value ∙ (start.opened.graph ∙ start.graph)
 
 pub board_of-board-requires-clause-some : goal.board_of-board-requires-clause-some
@@ -68,11 +69,11 @@ board_of-board-requires-clause-watched g c =
     let n = c.args.input.now.options.now.workers in
     let old : List D = c.args.desks.now.items in
     let worked : List D = c.run_team-ended.new.desks.items in
-    let start = c.in_ok-graph.ensures.prepared in
+    let start = c.in_ok-prepared.ensures in
     let team = c.run_team-ended.ensures in
     let begun = c.deref_mut-parts.result.now in
-    let opened = subst (IsBegun c.in_ok-graph.field-0.graph) (sym c.deref_mut-parts.ensures.value) start.opened in
-    let site : SiteView = record { service = begun.service; graph = c.in_ok-graph.field-0.graph; units = map unit_view c.deref.result.now } in
+    let opened = subst (IsBegun c.in_ok-prepared.prepared.graph) (sym c.deref_mut-parts.ensures.value) start.opened in
+    let site : SiteView = record { service = begun.service; graph = c.in_ok-prepared.prepared.graph; units = map unit_view c.deref.result.now } in
     let view : D → DeskView = desk_view g.T.Desk.Files.files g.T.Desk.Files.faults g.T.Desk.Desk.sends g.T.Desk.Desk.sent in
     let size : c.split_off.new.self.len ≡ n = c.in_ok-rest.ensures.len in
     let count = pass_count start begun.service begun.passes.items opened in
@@ -82,8 +83,8 @@ board_of-board-requires-clause-watched g c =
 
 pub close_run-requires-clause-watched : goal.close_run-requires-clause-watched
 close_run-requires-clause-watched g c =
-    let start = c.in_ok-graph.ensures.prepared in
-    let looks = c.in_ok-graph.field-0.looks in
+    let start = c.in_ok-prepared.ensures in
+    let looks = c.in_ok-prepared.prepared.looks in
     let units = ap (λ (o : OpenedRun _). o.service.book.graph.units) c.deref_mut-parts.ensures.value ∙ ap (λ (k : GraphView). k.units) start.opened.graph in (
       looks,
       subst (λ (n : ℕ). HasRoomToLook c.args.input.now.options.now.watch n looks) (sym units) start.looks,
@@ -96,11 +97,11 @@ close_run-requires-clause-service g c =
     let n = c.args.input.now.options.now.workers in
     let old : List D = c.args.desks.now.items in
     let worked : List D = c.run_team-ended.new.desks.items in
-    let start = c.in_ok-graph.ensures.prepared in
+    let start = c.in_ok-prepared.ensures in
     let team = c.run_team-ended.ensures in
     let begun = c.deref_mut-parts.result.now in
-    let opened = subst (IsBegun c.in_ok-graph.field-0.graph) (sym c.deref_mut-parts.ensures.value) start.opened in
-    let site : SiteView = record { service = begun.service; graph = c.in_ok-graph.field-0.graph; units = map unit_view c.deref.result.now } in
+    let opened = subst (IsBegun c.in_ok-prepared.prepared.graph) (sym c.deref_mut-parts.ensures.value) start.opened in
+    let site : SiteView = record { service = begun.service; graph = c.in_ok-prepared.prepared.graph; units = map unit_view c.deref.result.now } in
     let view : D → DeskView = desk_view g.T.Desk.Files.files g.T.Desk.Files.faults g.T.Desk.Desk.sends g.T.Desk.Desk.sent in
     let size : c.split_off.new.self.len ≡ n = c.in_ok-rest.ensures.len in
     let count = pass_count start begun.service begun.passes.items opened in
@@ -113,11 +114,11 @@ close_run-requires-clause-workers g c =
     let n = c.args.input.now.options.now.workers in
     let old : List D = c.args.desks.now.items in
     let worked : List D = c.run_team-ended.new.desks.items in
-    let start = c.in_ok-graph.ensures.prepared in
+    let start = c.in_ok-prepared.ensures in
     let team = c.run_team-ended.ensures in
     let begun = c.deref_mut-parts.result.now in
-    let opened = subst (IsBegun c.in_ok-graph.field-0.graph) (sym c.deref_mut-parts.ensures.value) start.opened in
-    let site : SiteView = record { service = begun.service; graph = c.in_ok-graph.field-0.graph; units = map unit_view c.deref.result.now } in
+    let opened = subst (IsBegun c.in_ok-prepared.prepared.graph) (sym c.deref_mut-parts.ensures.value) start.opened in
+    let site : SiteView = record { service = begun.service; graph = c.in_ok-prepared.prepared.graph; units = map unit_view c.deref.result.now } in
     let view : D → DeskView = desk_view g.T.Desk.Files.files g.T.Desk.Files.faults g.T.Desk.Desk.sends g.T.Desk.Desk.sent in
     let size : c.split_off.new.self.len ≡ n = c.in_ok-rest.ensures.len in
     let count = pass_count start begun.service begun.passes.items opened in
@@ -130,11 +131,11 @@ returns-clause-leaves g c =
     let n = c.args.input.now.options.now.workers in
     let old : List D = c.args.desks.now.items in
     let worked : List D = c.run_team-ended.new.desks.items in
-    let start = c.in_ok-graph.ensures.prepared in
+    let start = c.in_ok-prepared.ensures in
     let team = c.run_team-ended.ensures in
     let begun = c.deref_mut-parts.result.now in
-    let opened = subst (IsBegun c.in_ok-graph.field-0.graph) (sym c.deref_mut-parts.ensures.value) start.opened in
-    let site : SiteView = record { service = begun.service; graph = c.in_ok-graph.field-0.graph; units = map unit_view c.deref.result.now } in
+    let opened = subst (IsBegun c.in_ok-prepared.prepared.graph) (sym c.deref_mut-parts.ensures.value) start.opened in
+    let site : SiteView = record { service = begun.service; graph = c.in_ok-prepared.prepared.graph; units = map unit_view c.deref.result.now } in
     let view : D → DeskView = desk_view g.T.Desk.Files.files g.T.Desk.Files.faults g.T.Desk.Desk.sends g.T.Desk.Desk.sent in
     let size : c.split_off.new.self.len ≡ n = c.in_ok-rest.ensures.len in
     let count = pass_count start begun.service begun.passes.items opened in
@@ -149,11 +150,11 @@ returns-clause-run g c =
     let n = c.args.input.now.options.now.workers in
     let old : List D = c.args.desks.now.items in
     let worked : List D = c.run_team-ended.new.desks.items in
-    let start = c.in_ok-graph.ensures.prepared in
+    let start = c.in_ok-prepared.ensures in
     let team = c.run_team-ended.ensures in
     let begun = c.deref_mut-parts.result.now in
-    let opened = subst (IsBegun c.in_ok-graph.field-0.graph) (sym c.deref_mut-parts.ensures.value) start.opened in
-    let site : SiteView = record { service = begun.service; graph = c.in_ok-graph.field-0.graph; units = map unit_view c.deref.result.now } in
+    let opened = subst (IsBegun c.in_ok-prepared.prepared.graph) (sym c.deref_mut-parts.ensures.value) start.opened in
+    let site : SiteView = record { service = begun.service; graph = c.in_ok-prepared.prepared.graph; units = map unit_view c.deref.result.now } in
     let view : D → DeskView = desk_view g.T.Desk.Files.files g.T.Desk.Files.faults g.T.Desk.Desk.sends g.T.Desk.Desk.sent in
     let size : c.split_off.new.self.len ≡ n = c.in_ok-rest.ensures.len in
     let count = pass_count start begun.service begun.passes.items opened in
@@ -183,11 +184,11 @@ returns-clause-broken_off g c =
     let n = c.args.input.now.options.now.workers in
     let old : List D = c.args.desks.now.items in
     let worked : List D = c.run_team-ended.new.desks.items in
-    let start = c.in_ok-graph.ensures.prepared in
+    let start = c.in_ok-prepared.ensures in
     let team = c.run_team-ended.ensures in
     let begun = c.deref_mut-parts.result.now in
-    let opened = subst (IsBegun c.in_ok-graph.field-0.graph) (sym c.deref_mut-parts.ensures.value) start.opened in
-    let site : SiteView = record { service = begun.service; graph = c.in_ok-graph.field-0.graph; units = map unit_view c.deref.result.now } in
+    let opened = subst (IsBegun c.in_ok-prepared.prepared.graph) (sym c.deref_mut-parts.ensures.value) start.opened in
+    let site : SiteView = record { service = begun.service; graph = c.in_ok-prepared.prepared.graph; units = map unit_view c.deref.result.now } in
     let view : D → DeskView = desk_view g.T.Desk.Files.files g.T.Desk.Files.faults g.T.Desk.Desk.sends g.T.Desk.Desk.sent in
     let size : c.split_off.new.self.len ≡ n = c.in_ok-rest.ensures.len in
     let count = pass_count start begun.service begun.passes.items opened in
@@ -201,11 +202,17 @@ returns-clause-broken_off g c =
     c.requires.enough c.in_ok-rest.ensures.items count (team.desks ∙ size) (team.passes ∙ size) (λ i p d low. team.worked i p d (omega (arith, size, low)))
     new back opened.untouched d)))
 
-pub returns-in_err-graph-clause-leaves : goal.returns-in_err-graph-clause-leaves
-returns-in_err-graph-clause-leaves g c = leaves_all (desk_view g.T.Desk.Files.files g.T.Desk.Files.faults g.T.Desk.Desk.sends g.T.Desk.Desk.sent) c.args.input.now.options.now.workers c.args.desks.now.items c.args.tallies.now
+pub returns-in_err-room-clause-leaves : goal.returns-in_err-room-clause-leaves
+returns-in_err-room-clause-leaves g c = leaves_all (desk_view g.T.Desk.Files.files g.T.Desk.Files.faults g.T.Desk.Desk.sends g.T.Desk.Desk.sent) c.args.input.now.options.now.workers c.args.desks.now.items c.args.tallies.now
 
-pub returns-in_err-graph-clause-broken_off : goal.returns-in_err-graph-clause-broken_off
-returns-in_err-graph-clause-broken_off g c = λ d. at_err _ (nothing_done c.args.input.now.plan.now c.args.input.now.options.now (desks_view (desk_view g.T.Desk.Files.files g.T.Desk.Files.faults g.T.Desk.Desk.sends g.T.Desk.Desk.sent) c.args.desks.now.items d))
+pub returns-in_err-room-clause-broken_off : goal.returns-in_err-room-clause-broken_off
+returns-in_err-room-clause-broken_off g c = λ d. at_err _ (nothing_done c.args.input.now.plan.now c.args.input.now.options.now (desks_view (desk_view g.T.Desk.Files.files g.T.Desk.Files.faults g.T.Desk.Desk.sends g.T.Desk.Desk.sent) c.args.desks.now.items d))
+
+pub returns-in_err-prepared-clause-leaves : goal.returns-in_err-prepared-clause-leaves
+returns-in_err-prepared-clause-leaves g c = leaves_all (desk_view g.T.Desk.Files.files g.T.Desk.Files.faults g.T.Desk.Desk.sends g.T.Desk.Desk.sent) c.args.input.now.options.now.workers c.args.desks.now.items c.args.tallies.now
+
+pub returns-in_err-prepared-clause-broken_off : goal.returns-in_err-prepared-clause-broken_off
+returns-in_err-prepared-clause-broken_off g c = λ d. at_err _ (nothing_done c.args.input.now.plan.now c.args.input.now.options.now (desks_view (desk_view g.T.Desk.Files.files g.T.Desk.Files.faults g.T.Desk.Desk.sends g.T.Desk.Desk.sent) c.args.desks.now.items d))
 
 pub returns-in_err-rest-clause-leaves : goal.returns-in_err-rest-clause-leaves
 returns-in_err-rest-clause-leaves g c =

@@ -3,7 +3,8 @@ use Rattle.std.specs.Prelude.{sum_by}
 use Rattle.daemon_manager.specs.Counts.{failures, reservations}
 use Rattle.daemon_manager.specs.Events.{IsLegal, NoneIdle}
 use Rattle.build_runner.specs.Books.{GivesEnd}
-use Rattle.build_runner.specs.Desks.{DeskView, desk_view, desks_view}
+use Rattle.build_runner.specs.Desks.{desks_view}
+use Rattle.build_workers.specs.Desks.{DeskView, desk_view}
 use Rattle.build_runner.specs.Failing.{unreal_of}
 use Rattle.build_runner.specs.Run.{IsRunOf}
 use Rattle.build_runner.specs.Watching.{IsWatchedRun}

@@ -1,4 +1,4 @@
-use Rattle.std.proofs.Common.{◌≡◌, ℕ, ◌+◌, ◌<◌, ◌≤◌, List, Option, Vec, drop, get_or, length, map, true, refl, sym, ap, ◌∙◌, subst, arith}
+use Rattle.std.proofs.Common.{◌≡◌, ℕ, ◌+◌, ◌<◌, ◌≤◌, List, Option, Vec, drop, get_or, length, map, true, refl, sym, ap, ◌∙◌, subst, arith, vec_capacity}
 use Rattle.std.specs.List.{All}
 use Rattle.std.specs.Prelude.{sum_by}
 use Rattle.std.proofs.lemmas.List.{take_at}
@@ -6,12 +6,12 @@ use Rattle.std.proofs.lemmas.List.Elements.{All-map}
 use Rattle.std.specs.declared.alloc.Global.{Global}
 use Rattle.logbook.specs.Pages.{Book as Ledger}
 use Rattle.coordination.specs.Passes.{PassView}
-use Rattle.build_runner.specs.Desks.{DeskView, desk_view}
+use Rattle.build_workers.specs.Desks.{DeskView, desk_view}
 use Rattle.build_runner.specs.Failing.{unreal_seen}
-use Rattle.build_runner.specs.Looking.{LooksAt}
-use Rattle.build_runner.specs.Team.{CanWork}
-use Rattle.build_runner.specs.WorkerView.{WorkerView}
-use Rattle.build_runner.specs.declared.kits.Kit.{Kit}
+use Rattle.build_workers.specs.Looking.{LooksAt}
+use Rattle.build_workers.specs.Worked.{CanWork}
+use Rattle.build_workers.specs.WorkerView.{WorkerView}
+use Rattle.build_workers.specs.declared.kits.Kit.{Kit}
 use Rattle.build_runner.proofs.Failing.{failed_of}
 use Rattle.coordination.proofs.lemmas.Numbered.{of_each}
 use Rattle.build_runner.proofs.Seated.{each_worked}
@@ -103,12 +103,13 @@ seat-requires-clause-kits g c =
     omega (arith, passes, kits, c.requires.same, c.requires.kits)
 
 pub seat-requires-clause-empty : goal.seat-requires-clause-empty
-seat-requires-clause-empty g c κs within = c.requires.empty.0
+seat-requires-clause-empty g c κs within = ap (λ r. r.team.items) c.into_inner-team.ensures ∙ c.requires.team.0
 
 pub seat-requires-clause-room : goal.seat-requires-clause-room
 seat-requires-clause-room g c =
     let passes = ap (λ (v : Vec PassView Global). v.len) c.replace.ensures.value in
-    omega (arith, passes, c.requires.same, c.requires.room.0)
+    let room = ap (λ r. vec_capacity r.team) c.into_inner-team.ensures in
+    omega (arith, passes, room, c.requires.same, c.requires.team.1)
 
 pub seat-requires-clause-parts : goal.seat-requires-clause-parts
 seat-requires-clause-parts g c =

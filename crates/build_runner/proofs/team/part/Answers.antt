@@ -3,9 +3,9 @@ use Rattle.std.specs.Prelude.{sum_by}
 use Rattle.std.proofs.lemmas.List.{length_push}
 use Rattle.std.proofs.lemmas.List.Sums.{sum_by_push}
 use Rattle.coordination.specs.Passes.{PassView}
-use Rattle.build_runner.specs.Desks.{desk_view}
-use Rattle.build_runner.specs.WorkerView.{WorkerView}
-use Rattle.build_runner.specs.declared.kits.Kit.{Kit}
+use Rattle.build_workers.specs.Desks.{desk_view}
+use Rattle.build_workers.specs.WorkerView.{WorkerView}
+use Rattle.build_workers.specs.declared.kits.Kit.{Kit}
 use Rattle.build_runner.proofs.Seating.{all_moved, and_one, and_one_seen, moved}
 use Rattle.build_runner.proofs.team.part.Goals as goal
 

@@ -1,7 +1,7 @@
 use Rattle.std.proofs.Common.{◌≡◌, ◌++◌, ◌≤◌, ◌+◌, length, map, vec_len, vec_capacity}
 use Rattle.std.specs.Prelude.{sum_by}
 use Rattle.std.specs.Vec.Iter.{into_iter_items, into_iter_len}
-use Rattle.build_runner.specs.Desks.{desk_view}
+use Rattle.build_workers.specs.Desks.{desk_view}
 use Rattle.build_runner.proofs.team.part.Given as goal
 
 abbrev pub invariant-loop-worker : goal.invariant-loop-worker

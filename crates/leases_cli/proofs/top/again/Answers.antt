@@ -1,5 +1,5 @@
 use Rattle.std.proofs.Common.{◌≡◌, ◌≤◌, refl, arith}
-use Rattle.build_runner.specs.Sent.{sent_view}
+use Rattle.build_workers.specs.Sent.{sent_view}
 use Rattle.leases_cli.specs.Again.{HasDrivenHistory}
 use Rattle.build_runner.proofs.lemmas.FirstDesk.{of_each, of_first}
 use Rattle.leases_cli.proofs.Agains.{only_reads_send_nothing}

@@ -1,8 +1,8 @@
 use Rattle.std.proofs.Common.{◌≡◌, ◌≤◌, refl, arith}
-use Rattle.build_runner.specs.Sent.{sent_view}
+use Rattle.build_workers.specs.Sent.{sent_view}
 use Rattle.leases_cli.specs.Check.{HasCheckedHistory}
 use Rattle.build_runner.proofs.lemmas.FirstDesk.{of_each, of_first}
-use Rattle.build_runner.proofs.lemmas.SentViews.{same_view}
+use Rattle.build_workers.proofs.lemmas.SentViews.{same_view}
 use Rattle.leases_cli.proofs.top.check.Goals as goal
 
 pub returns-clause-files : goal.returns-clause-files

@@ -1,7 +1,8 @@
 use Rattle.std.proofs.Common.{◌≡◌, ℕ, Option, Some, ap, drop, min, sym, subst}
 use Rattle.std.proofs.Math.Nat.{min-eq_left}
 use Rattle.command_words.specs.declared.commands.Command.{Command}
-use Rattle.build_runner.specs.Desks.{AreAlike, desk_view, desks_view}
+use Rattle.build_runner.specs.Desks.{AreAlike, desks_view}
+use Rattle.build_workers.specs.Desks.{desk_view}
 use Rattle.leases_cli.specs.Around.{Call, around, desks_used}
 use Rattle.leases_cli.specs.Answered.{Answered, book_of, call_of}
 use Rattle.leases_cli.specs.declared.top.TheConstants.{DESKS}

@@ -1,9 +1,9 @@
 use Rattle.std.proofs.Common.{◌≡◌, ◌≤◌, refl, arith}
 use Rattle.std.specs.Prelude.{IfErr, IfOk}
-use Rattle.build_runner.specs.Sent.{sent_view}
+use Rattle.build_workers.specs.Sent.{sent_view}
 use Rattle.leases_cli.specs.Causes.{IsFileCause, IsFileOf, OrNoMemory}
 use Rattle.build_runner.proofs.lemmas.FirstDesk.{of_each, of_first}
-use Rattle.build_runner.proofs.lemmas.SentViews.{same_view}
+use Rattle.build_workers.proofs.lemmas.SentViews.{same_view}
 use Rattle.leases_cli.proofs.top.read_first.Goals as goal
 
 pub returns-clause-files : goal.returns-clause-files

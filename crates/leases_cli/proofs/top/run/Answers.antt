@@ -4,7 +4,8 @@ use Rattle.daemon_manager.specs.Counts.{failures, reservations}
 use Rattle.daemon_manager.specs.declared.events.Event.{Event}
 use Rattle.run_watch.specs.declared.boards.Watch.{Watch}
 use Rattle.build_runner.specs.Watching.{IsWatchedRun}
-use Rattle.build_runner.specs.Desks.{DeskView, desk_view, desks_view}
+use Rattle.build_runner.specs.Desks.{desks_view}
+use Rattle.build_workers.specs.Desks.{DeskView, desk_view}
 use Rattle.build_runner.proofs.lemmas.KnownFiles.{still_alike}
 use Rattle.build_runner.proofs.lemmas.Within.{asked_nothing, broken_within, run_within}
 use Rattle.leases_cli.specs.Answered.{book_of, call_of, options_of}

@@ -4,8 +4,8 @@ use Rattle.build_runner.specs.Prepared.{IsOpenedOn}
 use Rattle.build_runner.specs.Watching.{HasRoomToLook}
 use Rattle.build_runner.proofs.prepared.Prepared.new.Goals as goal
 
-pub returns-clause-prepared : goal.returns-clause-prepared
-returns-clause-prepared g c =
+pub returns : goal.returns
+returns g c =
     let made = c.in_ok-opened.ensures in
     let opened = c.in_ok-opened.opened.value in record {
       graph = c.in_ok-graph.ensures;

@@ -1,5 +1,0 @@
-use Rattle.build_runner.proofs.Stepping.{step_failed, step_stopped}
-use Rattle.build_runner.proofs.team.work_or_stop.Goals as goal
-
-pub returns-in-Err-NoMemory-clause-step : goal.returns-in-Err-NoMemory-clause-step
-returns-in-Err-NoMemory-clause-step g c = step_stopped (step_failed c.work_to_the_end.ensures.step) c.stop_all.ensures.moves c.stop_all.ensures.closed

@@ -1,0 +1,109 @@
+-- An item that a worker ran, and what it decided behind it.
+use Rattle.std.proofs.Common.{◌≡◌, inl, inr, true, false, List, [], ◌∷◌, Option, Result, Ok, Err, refl, subst}
+use Rattle.std.specs.Prelude.{IfOk, OnErr}
+use Rattle.resource_lock.specs.declared.ids.WorkerId.{WorkerId}
+use Rattle.lock_transforms.specs.declared.entries.Closed.{Closed}
+use Rattle.lock_transforms.specs.declared.entries.Kind.{Kind}
+use Rattle.lock_journal.specs.BookView.{BookView}
+use Rattle.coordination.specs.Attempts.{Cause, Making}
+use Rattle.coordination.specs.Calls.{AskedInVain, HasLooked}
+use Rattle.coordination.specs.Decisions.{CouldNotStep, HasDecided}
+use Rattle.coordination.specs.Passes.{PassView}
+use Rattle.coordination.specs.Shown.{ShowsTheSame}
+use Rattle.coordination.specs.declared.decisions.Decided.{Decided}
+use Rattle.coordination.specs.declared.halts.Halt.{Halt}
+use Rattle.coordination.specs.declared.halts.Halt.TheVariants.{NoMemory, Stopped}
+use Rattle.coordination.specs.declared.rule.Sight.{Sight}
+use Rattle.async_tracker.specs.Closings.{HasClosedThen}
+use Rattle.async_tracker.specs.Following.{HasDecidedAfter}
+use Rattle.async_tracker.specs.Shows.{ShowsClosed}
+use Rattle.async_tracker.specs.declared.closing.CloseHalt.{CloseHalt}
+use Rattle.async_tracker.specs.declared.closing.CloseHalt.TheVariants.{NotClosed, Closed as ClosedThen}
+use Rattle.build_workers.specs.Helping.{HasClosedBefore, HasRunBefore, MayHaveClosed}
+use Rattle.build_workers.specs.Kept.{HasClosed}
+use Rattle.build_workers.specs.Site.{SiteView}
+use Rattle.build_workers.specs.Steps.{HasRunItem, MovesPass, Steps}
+use Rattle.build_workers.specs.WorkerView.{IsOf, WorkerView}
+use Rattle.build_workers.proofs.Keeping.{closes_then, finished_closes, in_vain_closes, looked_closes}
+use Rattle.build_workers.proofs.Stepping.{closes_nothing, moved_at, step_closed, step_failed, step_moved, step_then, step_unclosed}
+
+-- an answer that was given, or want of memory, or a stop, closes nothing
+pub vain_closes : {A : Type 0} {waits : WorkerId → BookView → Type 0} {old new : Sight} (r : Result A Halt) → (r ≡ Err NoMemory → HasLooked old new) → ((by : WorkerId) → r ≡ Err (Stopped by) → AskedInVain waits by old new)
+    → OnErr r (HasClosed [] old new)
+vain_closes (Ok a) looked stopped = tt
+vain_closes (Err NoMemory) looked stopped = looked_closes (looked refl)
+vain_closes (Err (Stopped by)) looked stopped = in_vain_closes (stopped by refl)
+
+module _ (d : Closed) (old : Sight) where
+  -- the item was closed in the hold of the decision, or before it
+  pub closed_before : {A X E : Type 0} (answers : WorkerId → BookView → A → Type 0) (waits : WorkerId → BookView → Type 0) (step_of : A → Option X) (kind_of : X → Kind)
+      (makes : X → Making) (fails retries : X → Cause) (new : Sight) (r : Result (Decided A) E)
+      → IfOk r (λ a. HasClosedThen d old (λ s. HasDecidedAfter answers waits step_of kind_of makes fails retries s new a))
+      → IfOk r (λ a. HasClosedBefore d old (λ s. HasDecided answers step_of kind_of makes fails retries s new a))
+  closed_before answers waits step_of kind_of makes fails retries new (Ok a) k = record { between = k.between; closed = finished_closes k.closed; shows = k.shows; follows = k.follows.decided }
+  closed_before answers waits step_of kind_of makes fails retries new (Err e) k = tt
+
+  pub may_have_closed : {A X : Type 0} {answers : WorkerId → BookView → A → Type 0} {waits : WorkerId → BookView → Type 0} {step_of : A → Option X} {new : Sight} (halt : CloseHalt)
+      → (halt ≡ NotClosed → HasLooked old new) → (halt ≡ ClosedThen NoMemory → HasClosedThen d old (λ s. CouldNotStep answers step_of s new))
+      → ((by : WorkerId) → halt ≡ ClosedThen (Stopped by) → HasClosedThen d old (λ s. AskedInVain waits by s new)) → MayHaveClosed d old new
+  may_have_closed NotClosed looked memory stopped = inl (looked_closes (looked refl))
+  may_have_closed (ClosedThen NoMemory) looked memory stopped = let k = memory refl in inr (closes_then (finished_closes k.closed) (looked_closes k.follows.looked))
+  may_have_closed (ClosedThen (Stopped by)) looked memory stopped = let k = stopped by refl in inr (closes_then (finished_closes k.closed) (in_vain_closes k.follows))
+
+  -- it was closed in a hold of its own
+  pub closed_alone : {A E : Type 0} {mid : Sight} (Follows : A → Sight → Type 0) (r : Result A E) → HasClosed (d ∷ []) old mid → ShowsClosed d.unit old mid → IfOk r (λ a. Follows a mid) → IfOk r (λ a. HasClosedBefore d old (Follows a))
+  closed_alone {mid = mid} Follows (Ok a) closed shows follows = record { between = mid; closed = closed; shows = shows; follows = follows }
+  closed_alone Follows (Err e) closed shows follows = tt
+
+  pub closed_in_vain : {A E : Type 0} {mid : Sight} (new : Sight) (r : Result A E) → HasClosed (d ∷ []) old mid → OnErr r (HasClosed [] mid new) → OnErr r (MayHaveClosed d old new)
+  closed_in_vain new (Ok a) closed still = tt
+  closed_in_vain new (Err e) closed still = inr (closes_then closed still)
+
+module _ (s : SiteView) (old : WorkerView) (of : IsOf s old) where
+  -- a unit was run, and closed with what it gave
+  module _ {mid new : WorkerView} (d : Closed) (ran : HasRunItem s.units old mid d) (moves : MovesPass mid new) where
+    since : {ds : List Closed} {last : Sight} → HasClosed ds mid.pass.sight last → HasClosed ds old.pass.sight last
+    since {ds} {last} closed = subst (λ (p : PassView). HasClosed ds p.sight last) ran.pass closed
+
+    pub ran_before : {A E : Type 0} (Follows : A → Sight → Type 0) (r : Result A E) → IfOk r (λ x. HasClosedBefore d mid.pass.sight (Follows x)) → IfOk r (λ x. HasRunBefore s old new (ShowsClosed d.unit) (Follows x))
+    ran_before Follows (Ok x) k = record {
+      between = k.between;
+      step = step_closed d of ran (moved_at k.between moves) (since k.closed);
+      shows = subst (λ (p : PassView). ShowsClosed d.unit p.sight k.between) ran.pass k.shows;
+      follows = k.follows;
+    }
+    ran_before Follows (Err e) k = tt
+
+    pub broke_off : {A E : Type 0} (r : Result A E) → OnErr r (MayHaveClosed d mid.pass.sight new.pass.sight) → OnErr r (Steps s old new false)
+    broke_off (Ok x) closed = tt
+    broke_off (Err e) closed = broke closed
+      where
+        broke : MayHaveClosed d mid.pass.sight new.pass.sight → Steps s old new false
+        broke (inl still) = step_unclosed d of ran moves (since still)
+        broke (inr closed) = step_failed (step_closed d of ran moves (since closed))
+
+  -- nothing was run, and its pass alone went on
+  module _ {mid new : WorkerView} (first : Steps s old mid true) (moves : MovesPass mid new) where
+    pub only_decided : {A E : Type 0} (Follows : A → Sight → Type 0) (r : Result A E) → ShowsTheSame old.pass.sight mid.pass.sight → IfOk r (λ x. Follows x mid.pass.sight) → IfOk r (λ x. HasRunBefore s old new ShowsTheSame (Follows x))
+    only_decided Follows (Ok x) shows follows = record {
+      between = mid.pass.sight;
+      step = step_then first (step_moved true first.of (moved_at mid.pass.sight moves) (closes_nothing mid.pass.sight));
+      shows = shows;
+      follows = follows;
+    }
+    only_decided Follows (Err e) shows follows = tt
+
+    pub only_broke_off : {A E : Type 0} (r : Result A E) → OnErr r (HasClosed [] mid.pass.sight new.pass.sight) → OnErr r (Steps s old new false)
+    only_broke_off (Ok x) closed = tt
+    only_broke_off (Err e) closed = step_then first (step_moved false first.of moves closed)
+
+  -- behind a claim
+  module _ {mid : WorkerView} (new : WorkerView) (first : Steps s old mid true) where
+    pub claimed_before : {A E : Type 0} (Shows : Sight → Sight → Type 0) (Follows : A → Sight → Type 0) (r : Result A E) → ((between : Sight) → Shows mid.pass.sight between → ShowsTheSame old.pass.sight between)
+        → IfOk r (λ x. HasRunBefore s mid new Shows (Follows x)) → IfOk r (λ x. HasRunBefore s old new ShowsTheSame (Follows x))
+    claimed_before Shows Follows (Ok x) again k = record { between = k.between; step = step_then first k.step; shows = again k.between k.shows; follows = k.follows }
+    claimed_before Shows Follows (Err e) again k = tt
+
+    pub claimed_broke_off : {A E : Type 0} (r : Result A E) → OnErr r (Steps s mid new false) → OnErr r (Steps s old new false)
+    claimed_broke_off (Ok x) k = tt
+    claimed_broke_off (Err e) k = step_then first k

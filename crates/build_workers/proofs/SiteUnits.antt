@@ -1,0 +1,25 @@
+-- The units of a site, found by their numbers.
+use Rattle.std.proofs.Common.{◌≡◌, ℕ, ◌<◌, List, length, get_or, map, None, Some, refl, sym, ◌∙◌, ap, subst, arith}
+use Rattle.std.specs.Prelude.{slice_get}
+use Rattle.std.specs.List.{All}
+use Rattle.std.proofs.lemmas.List.{get_or-map, length-map}
+use Rattle.std.proofs.lemmas.Option.{get_or_from_slice_get, slice_get_within}
+use Rattle.plan_reader.specs.PlanView.{WorkView}
+use Rattle.plan_reader.specs.Units.{PlannedUnit, fetch_unit, item_unit, unit_view}
+use Rattle.build_workers.specs.Units.{HasFileName}
+use Rattle.plan_reader.specs.declared.units.UnitWork.{UnitWork}
+use Rattle.build_workers.proofs.Keeping.{some_or_none}
+
+module _ (us : List UnitWork) (u : ℕ) (planned : PlannedUnit) (is : slice_get (map unit_view us) u ≡ Some planned) where
+  pub unit_within : u < length us
+  unit_within = omega (arith, slice_get_within (map unit_view us) u planned is, length-map us unit_view)
+
+  pub unit_is : (d : UnitWork) → unit_view (get_or us u d) ≡ planned
+  unit_is d = sym (get_or-map unit_view us u d (unit_view d) unit_within) ∙ get_or_from_slice_get (map unit_view us) u planned (unit_view d) is
+
+  pub unit_named : All HasFileName (map unit_view us) → HasFileName planned
+  unit_named named = subst HasFileName (get_or_from_slice_get (map unit_view us) u planned planned is) (named u planned (slice_get_within (map unit_view us) u planned is))
+
+-- a fetch is no item
+pub is_no_item : {file : List ℕ} {w : WorkView} → fetch_unit file ≡ item_unit w → ⊥
+is_no_item {w = w} is = some_or_none None w.action (sym (ap (λ (p : PlannedUnit). p.action) is)) refl

@@ -1,0 +1,16 @@
+pub mod Units
+pub mod Choices
+pub mod Parked
+pub mod Site
+pub mod Kept
+pub mod Failing
+pub mod Sent
+pub mod Desks
+pub mod Looking
+pub mod WorkerView
+pub mod Steps
+pub mod Points
+pub mod Worked
+pub mod Hands
+pub mod Tickets
+pub mod Helping
