@@ -3,21 +3,24 @@
 //! Called as `worker` it is such a process itself. Called as `events` it prints what happened to each of them.
 #![tactic(auto)]
 
-ghost use Rattle.std.specs.Prelude.{◌≡◌, []};
+ghost use Rattle.std.specs.Prelude.{◌≡◌, ◌+◌, ◌≤◌, []};
 
 mod asked;
 mod opening;
 mod working;
 
 use crate::opening::open;
-use crate::working::{OutcomeCounts, work_in_threads};
+use crate::working::{OutcomeCounts, Shared, work_in_threads};
 use anyhow::{Result, bail};
 use coordination::Opened;
 use daemon_desk::{Desk, FolderDesk, FolderLink, Served, serve};
-use daemon_manager::Event;
+use daemon_manager::{Event, Tallies, Tally};
 use file_access::{FolderFiles, StdSink, StdSource};
 use item_actions::Text;
-use memory_budget::{BudgetLock, BudgetPool};
+use memory_budget::{BudgetLedger, BudgetLock, BudgetPool, CountedBudget};
+use std::alloc::AllocError;
+use std::marker::Brand;
+use std::sync::ledger::{Blank, Ledger};
 use std::sync::{Mutex, Wait};
 use std::thread::Threads;
 use std::{env, io};
@@ -66,8 +69,12 @@ fn tell(rt: &HostRuntime, event: &Event) -> Result<()> {
 }
 
 // Stops the idle worker processes, and gives all that happened to any.
-fn close<D: Desk>(pool: BudgetLock<D::Link>, desk: &mut D) -> Vec<Event> {
-    let mut pool = pool.into_pool();
+fn close<D: Desk, U: BudgetLedger, F: Ledger>(
+    pool: BudgetLock<D::Link, U, F>,
+    tallies: Tallies<U, F>,
+    desk: &mut D,
+) -> Vec<Event> {
+    let mut pool = pool.into_pool().audit(tallies);
     stop_all_idle(&mut pool, desk);
     pool.into_events()
 }
@@ -81,30 +88,70 @@ fn stop_all_idle<D: Desk>(pool: &mut BudgetPool<D::Link>, desk: &mut D)
     }
 }
 
+// A tally for each worker. One part stays.
+fn split_tallies<U: Ledger, F: Ledger>(
+    rt: &HostRuntime,
+    all: &mut Tallies<U, F>,
+) -> Result<Vec<Mutex<Tally<U, F>>>, AllocError>
+    requires { WORKERS + 1 ≤ all.old.parts }
+{
+    let mut tallies = Vec::new(rt.alloc());
+    for _worker in 0..WORKERS {
+        tallies.push(Mutex::new(all.split_off()))?;
+    }
+    Ok(tallies)
+}
+
 // Has the threads work, each with a pass, and gives how many leases are out once all have ended.
-fn work_all<R: Threads + Wait + Sync>(
+fn work_all<R: Threads + Wait + Sync, U: BudgetLedger + Send + Sync, F: Ledger + Send + Sync>(
     rt: &HostRuntime,
     threads: &R,
-    pool: &BudgetLock<FolderLink>,
+    pool: &BudgetLock<FolderLink, U, F>,
     counts: &Mutex<OutcomeCounts>,
-) -> Result<u32> {
+    all: &mut Tallies<U, F>,
+) -> Result<u32>
+    requires { WORKERS + 1 ≤ all.old.parts }
+{
     let opened = open(rt.alloc(), WORKERS)?;
     let Opened {
         service,
         mut passes,
     } = Box::into_inner(opened);
-    work_in_threads(threads, rt, &service, pool, counts, &mut passes);
+    let tallies = split_tallies(rt, all)?;
+    let shared = Shared {
+        threads,
+        service: &service,
+        pool,
+        counts,
+        tallies: tallies.as_slice(),
+    };
+    work_in_threads(rt, &shared, &mut passes);
+    for tally in tallies {
+        all.merge(tally.into_inner());
+    }
     let book = service.finish(passes);
     Ok(book.state().leases_out())
 }
 
-// Has the threads work, stops what is idle then, and prints what came of it.
-fn run<R: Threads + Wait + Sync>(rt: &HostRuntime, threads: &R, told: bool) -> Result<()> {
+// Has the threads work, stops what is idle then, and prints what came of it. The ledgers have a part for each worker and one more.
+fn run_counted<R: Threads + Wait + Sync, U: BudgetLedger + Send + Sync, F: Ledger + Send + Sync>(
+    rt: &HostRuntime,
+    threads: &R,
+    told: bool,
+    reserved: Blank,
+    failed: Blank,
+) -> Result<()>
+    requires budget { BUDGET_MB ≡ U.budget_mb }
+    requires reserved { (reserved.name ≡ U.name) × (reserved.parts ≡ U.parts) × (U.parts ≡ WORKERS + 1) }
+    requires failed { (failed.name ≡ F.name) × (failed.parts ≡ F.parts) × (F.parts ≡ WORKERS + 1) }
+{
     let mut last = desk(rt)?;
-    let pool = BudgetLock::new(BudgetPool::new(rt.alloc(), BUDGET_MB)?);
+    let pool = BudgetPool::new(rt.alloc(), BUDGET_MB)?;
+    let (pool, mut all) = CountedBudget::<FolderLink, U, F>::new(pool, reserved, failed);
+    let pool = BudgetLock::new(pool);
     let counts = Mutex::new(OutcomeCounts::new());
-    let worked = work_all(rt, threads, &pool, &counts);
-    let events = close(pool, &mut last);
+    let worked = work_all(rt, threads, &pool, &counts, &mut all);
+    let events = close(pool, all, &mut last);
     let leases_out = worked?;
     let OutcomeCounts { right, wrong } = counts.into_inner();
     println!(rt; "items: {right} right, {wrong} wrong")?;
@@ -115,6 +162,14 @@ fn run<R: Threads + Wait + Sync>(rt: &HostRuntime, threads: &R, told: bool) -> R
         }
     }
     Ok(())
+}
+
+// The same in new ledgers.
+fn run<R: Threads + Wait + Sync>(rt: &HostRuntime, threads: &R, told: bool) -> Result<()> {
+    let parts = u64::from(WORKERS) + 1;
+    let reserved = Blank::new(parts);
+    let failed = Blank::new(parts);
+    run_counted::<R, Brand, Brand>(rt, threads, told, reserved, failed)
 }
 
 fn main(rt: HostRuntime) -> Result<()> {

@@ -4,7 +4,7 @@ ghost use Rattle.daemon_requirements.specs.Covers.{Covers};
 ghost use Rattle.daemon_manager.specs.Counts.{and_failed, and_reserved};
 ghost use Rattle.daemon_manager.specs.Searches.{IsSettledSearch, after_search};
 ghost use Rattle.file_access.specs.ReadView.{IsFaultCounted};
-ghost use Rattle.item_work.specs.Searching.{FindsFor};
+ghost use Rattle.item_work.specs.Searching.{FindsFor, IsForUnit};
 
 use crate::ran::Wanted;
 use daemon_desk::Desk;
@@ -30,8 +30,8 @@ pub struct SharedPool<'a, R, L: Linked, U: Ledger, F: Ledger> {
     pub pool: &'a PoolLock<L, U, F>,
 }
 
-/// Reserves an idle daemon that covers what is wanted. Where none does, it starts one. Its link is settled, and it is counted as reserved.
-/// Where there is no memory to keep a daemon that was started, it is stopped.
+/// Reserves an idle daemon that covers what is wanted, for the request's unit. Where none does, it starts one. Its link is settled, and it
+/// is counted as reserved. Where there is no memory to keep a daemon that was started, it is stopped.
 pub(crate) fn reserve<R: Wait, D: Desk, U: Ledger, F: Ledger>(
     pool: &SharedPool<'_, R, D::Link, U, F>,
     desk: &mut D,
@@ -39,6 +39,7 @@ pub(crate) fn reserve<R: Wait, D: Desk, U: Ledger, F: Ledger>(
     wanted: &Wanted<'_>,
 ) -> Result<Reserved<D::Link>, DeskFail>
     ensures covers { IfOk result (λ reserved. Covers (D.Link.requirements reserved.link) wanted.now.requirements.now) }
+    ensures unit { IfOk result (λ reserved. reserved.unit ≡ wanted.now.request.now.unit) }
     ensures settled { IfOk result (λ reserved. D.Link.settled reserved.link ≡ true) }
     ensures files { D.files desk.new ≡ D.files desk.old }
     ensures reads { D.reads desk.new ≡ D.reads desk.old }
@@ -63,6 +64,7 @@ fn start<R: Wait, D: Desk, U: Ledger, F: Ledger>(
 ) -> Result<Reserved<D::Link>, DeskFail>
     requires leave { leave.asked.value ≡ wanted.now.requirements.now }
     ensures made { IfOk result (λ reserved. D.Link.requirements reserved.link ≡ wanted.now.requirements.now) }
+    ensures unit { IfOk result (λ reserved. reserved.unit ≡ wanted.now.request.now.unit) }
     ensures settled { IfOk result (λ reserved. D.Link.settled reserved.link ≡ true) }
     ensures files { D.files desk.new ≡ D.files desk.old }
     ensures reads { D.reads desk.new ≡ D.reads desk.old }
@@ -83,13 +85,14 @@ fn start<R: Wait, D: Desk, U: Ledger, F: Ledger>(
 }
 
 impl<'a, R: Wait, L: Linked, U: Ledger, F: Ledger> SharedPool<'a, R, L, U, F> {
-    // Reserves the last released idle daemon that covers what is wanted. Where none does, one may be started.
+    // Reserves the last released idle daemon that covers what is wanted, for the request's unit. Where none does, one may be started.
     fn search(
         &self,
         mine: &mut Tally<U, F>,
         wanted: &Wanted<'_>,
     ) -> Result<Search<L, U>, AllocError>
         ensures found { IfOk result (FindsFor L.requirements wanted.now.requirements.now) }
+        ensures unit { IfOk result (IsForUnit wanted.now.request.now.unit) }
         ensures settled { IfOk result (IsSettledSearch L.settled) }
         ensures counted { MatchResult result (λ found. mine.new ≡ after_search mine.old found) (λ _. mine.new ≡ mine.old) }
     {
@@ -98,7 +101,8 @@ impl<'a, R: Wait, L: Linked, U: Ledger, F: Ledger> SharedPool<'a, R, L, U, F> {
             .reserve_idle(mine, wanted.request.unit, wanted.requirements)
     }
 
-    // Takes a daemon in that was started with these requirements, by this leave. Where there is no memory its link comes back.
+    // Takes a daemon in that was started with these requirements, by this leave, and reserves it for the unit. Where there is no memory
+    // its link comes back.
     fn adopt(
         &self,
         mine: &mut Tally<U, F>,
@@ -110,6 +114,7 @@ impl<'a, R: Wait, L: Linked, U: Ledger, F: Ledger> SharedPool<'a, R, L, U, F> {
         requires made { L.requirements link ≡ requirements }
         requires leave { leave.asked.value ≡ requirements }
         ensures adopted { IfOk result (λ reserved. reserved.link ≡ link) }
+        ensures unit { IfOk result (λ reserved. reserved.unit ≡ unit) }
         ensures link { IfErr result (λ returned. returned ≡ link) }
         ensures counted { MatchResult result (λ _. mine.new ≡ and_reserved mine.old) (λ _. mine.new ≡ mine.old) }
     {

@@ -14,7 +14,7 @@ ghost use Rattle.item_work.specs.Tallying.{TallyRises, one_if_err, one_if_unreal
 use crate::daemons::{SharedPool, reserve};
 use crate::ran::{Answered, Ran, Wanted};
 use daemon_desk::Desk;
-use daemon_manager::Tally;
+use daemon_manager::{Reserved, Tally};
 use daemon_protocol::{Reply, Request};
 use daemon_requirements::{Isolation, Linked, Requirements, Work};
 use file_access::DeskFail;
@@ -130,7 +130,7 @@ fn ask_daemon<R: Wait, D: Desk, U: Ledger, F: Ledger>(
     ensures counted { TallyRises mine.old mine.new (D.sends desk.old) (D.sends desk.new) (one_if_err result) }
 {
     let mut reserved = reserve(pool, desk, mine, wanted)?;
-    match ask(pool.alloc, desk, reserved.link(), wanted) {
+    match ask(pool.alloc, desk, &mut reserved, wanted) {
         Ok(reply) => {
             let spare = boxed_or_stopped(pool.alloc, desk, pool.release(reserved));
             Ok(Answered { reply, spare })
@@ -165,18 +165,20 @@ fn boxed_or_stopped<D: Desk>(
     }
 }
 
-/// Sends the request over a settled link that covers what is asked, and receives the reply. The link is then settled exactly where
-/// there is one; another is for `stop` alone.
+/// Sends the request to a daemon that is reserved for its unit, covers what is asked and has a settled link, and receives the reply. The
+/// link is then settled exactly where there is one; another is for `stop` alone.
 pub fn ask<D: Desk>(
     alloc: Global,
     desk: &mut D,
-    link: &mut D::Link,
+    reserved: &mut Reserved<D::Link>,
     wanted: &Wanted<'_>,
 ) -> Result<Reply, DeskFail>
-    requires covers { Covers (D.Link.requirements link.old) wanted.now.requirements.now }
+    requires unit { reserved.old.unit ≡ wanted.now.request.now.unit }
+    requires covers { Covers (D.Link.requirements reserved.old.link) wanted.now.requirements.now }
     requires form { is_file_name wanted.now.request.now.file ≡ true }
-    requires settled { D.Link.settled link.old ≡ true }
-    ensures settled { D.Link.settled link.new ≡ is_ok result }
+    requires settled { D.Link.settled reserved.old.link ≡ true }
+    ensures settled { D.Link.settled reserved.new.link ≡ is_ok result }
+    ensures same { (reserved.new.daemon ≡ reserved.old.daemon) × (reserved.new.unit ≡ reserved.old.unit) }
     ensures files { D.files desk.new ≡ D.files desk.old }
     ensures reads { D.reads desk.new ≡ D.reads desk.old }
     ensures faults { IsFaultCounted (D.faults desk.old) (D.faults desk.new) result }
@@ -185,6 +187,7 @@ pub fn ask<D: Desk>(
         (record { count = D.sends desk.new; requests = D.sent desk.new }) wanted.now.requirements.now wanted.now.request.now result }
     ensures sends { D.sends desk.new ≤ D.sends desk.old + 1 }
 {
+    let link = reserved.link();
     desk.send(alloc, link, wanted.request)?;
     desk.receive(alloc, link)
 }

@@ -1,10 +1,12 @@
 -- Idle daemons that are stopped one by one, until enough are.
-use Rattle.std.proofs.Common.{◌≡◌, ◌≢◌, ◌⊎◌, ◌==◌, true, false, ℕ, suc, ◌+◌, ◌<◌, ◌≤◌, List, [], ◌∷◌, ◌++◌, length, map, take, refl, sym, ap, ◌∙◌, subst, inl, inr, arith, append_assoc, length-append}
+use Rattle.std.proofs.Common.{◌≡◌, ◌≢◌, ◌⊎◌, ◌==◌, true, false, ℕ, ◌+◌, ◌<◌, ◌≤◌, List, [], ◌∷◌, ◌++◌, length, map, take, refl, sym, ap, ◌∙◌, inl, inr, arith, append_assoc, length-append}
 use Rattle.std.proofs.lemmas.Bool.Decides.{eqb_tells}
+use Rattle.std.specs.List.{sum_by}
 use Rattle.std.proofs.lemmas.List.{append-nil, map-append}
-use Rattle.std.proofs.lemmas.List.Sums.{sum_by-append}
+use Rattle.std.proofs.lemmas.List.Sums.{sum_by-append, sum_by-cons}
 use Rattle.std.proofs.Math.Seq.{take-append_seam}
 use Rattle.daemon_requirements.specs.RequirementsView.{RequirementsView}
+use Rattle.daemon_manager.specs.declared.events.Event.{Event}
 use Rattle.daemon_manager.specs.declared.events.Event.TheVariants.{Stopped}
 use Rattle.daemon_manager.specs.declared.idle.IdleDaemon.{IdleDaemon}
 use Rattle.daemon_manager.specs.Calls.{StopsIdle}
@@ -62,3 +64,13 @@ module _ {L : Type 0} (made_for : L → RequirementsView) where
     enough = omega (arith, so_far.held, within);
     shortest = so_far.shortest;
   }
+
+  -- a count of events in which a stop doesn't count
+  stops_add_none : (f : Event → ℕ) → ((d : ℕ) → f (Stopped d) ≡ 0) → (daemons : List (IdleDaemon L)) → sum_by f (map (λ i. Stopped i.daemon) daemons) ≡ 0
+  stops_add_none f none [] = refl
+  stops_add_none f none (i ∷ daemons) =
+      omega (arith, none i.daemon, stops_add_none f none daemons, sum_by-cons f (Stopped i.daemon) (map (λ (x : IdleDaemon L). Stopped x.daemon) daemons))
+
+  pub stops_uncounted : (old new : PoolView L) (daemons : List (IdleDaemon L)) (links : List L) → StopsFirst made_for old new daemons links → (f : Event → ℕ) → ((d : ℕ) → f (Stopped d) ≡ 0) → sum_by f new.events ≡ sum_by f old.events
+  stops_uncounted old new daemons links stops f none =
+      omega (arith, ap (λ es. sum_by f es) stops.events, sum_by-append f old.events (map (λ (x : IdleDaemon L). Stopped x.daemon) daemons), stops_add_none f none daemons)

@@ -1,5 +1,5 @@
 -- Sums over the numbers below a number, and the heaps after one event more.
-use Rattle.std.proofs.Common.{◌≡◌, ◌≢◌, ◌⊎◌, ◌==◌, ℕ, zero, suc, ◌+◌, ◌<◌, Bool, true, false, List, [], ◌∷◌, ◌++◌, length, Option, Some, None, refl, sym, ap, ◌∙◌, subst, inl, inr, arith, append_assoc, length-append}
+use Rattle.std.proofs.Common.{◌≡◌, ◌≢◌, ◌⊎◌, ◌==◌, ℕ, zero, suc, ◌+◌, ◌<◌, Bool, true, false, List, [], ◌∷◌, ◌++◌, length, Some, None, refl, sym, ap, ◌∙◌, subst, inl, inr, arith, append_assoc, length-append}
 use Rattle.std.proofs.lemmas.Bool.Decides.{eqb_tells}
 use Rattle.std.proofs.lemmas.Option.{slice_get_within}
 use Rattle.daemon_requirements.specs.RequirementsView.{RequirementsView}
@@ -51,6 +51,12 @@ module _ (does : DaemonState → Bool) where
       let long : length (started more) ≡ suc n = ap length (started_more events (Started n r)) ∙ length-append (started events) (r ∷ []) ∙ omega arith in
       let below : sum_below (heap_in more) n ≡ sum_below (heap_in events) n = sum_same (heap_in more) (heap_in events) n (λ k less. ap (heap_where does) (pool_before events r k (λ is. omega (arith, less, is)))) in
       omega (arith, ap (sum_below (heap_in more)) long, below, ap (heap_where does) (pool_next events r))
+
+  -- the same, of a number that is the next
+  pub next_adds : (events : List Event) (n : ℕ) (r : RequirementsView) → n ≡ length (started events)
+      → heaps_where does (events ++ Started n r ∷ []) ≡ heaps_where does events + heap_where does (Some (record { requirements = r; state = Busy }))
+  next_adds events n r next =
+      subst (λ m. heaps_where does (events ++ Started m r ∷ []) ≡ heaps_where does events + heap_where does (Some (record { requirements = r; state = Busy }))) (sym next) (start_adds events r)
 
   pub adoption_adds : (events : List Event) (n u : ℕ) (r : RequirementsView) → n ≡ length (started events)
       → heaps_where does (events ++ Started n r ∷ Reserved n u ∷ []) ≡ heaps_where does events + heap_where does (Some (record { requirements = r; state = Busy }))

@@ -5,12 +5,12 @@ use Rattle.std.proofs.lemmas.Bool.{true≢false}
 use Rattle.std.proofs.lemmas.List.Sums.{sum_by-append, sum_by-cons}
 use Rattle.daemon_requirements.specs.RequirementsView.{RequirementsView}
 use Rattle.daemon_manager.specs.declared.events.Event.{Event}
-use Rattle.daemon_manager.specs.declared.events.Event.TheVariants.{Started, Reserved as ReservedFor, Released, Failed, Stopped}
+use Rattle.daemon_manager.specs.declared.events.Event.TheVariants.{Reserved as ReservedFor, Released, Failed, Stopped}
 use Rattle.daemon_manager.specs.declared.events.DaemonState.TheVariants.{Busy, Idle}
 use Rattle.daemon_manager.specs.declared.idle.IdleDaemon.{IdleDaemon}
 use Rattle.daemon_manager.specs.declared.reserved.Reserved.{Reserved}
 use Rattle.daemon_manager.specs.Calls.{Adopts, Fails, FailsOrNot, Keeps, KeepsAndStops, Releases, Reserves, StopsIdle, idle_daemon}
-use Rattle.daemon_manager.specs.Events.{pool, started}
+use Rattle.daemon_manager.specs.Events.{pool}
 use Rattle.daemon_manager.specs.PoolView.{PoolView, IsPool, IsOf}
 use Rattle.daemon_manager.proofs.lemmas.PoolKept.{released_agrees}
 use Rattle.memory_budget.specs.Heaps.{busy_heaps, has_memory, held, idle_heaps, is_busy}

@@ -1,7 +1,6 @@
 -- A pool within a budget: the daemons, and the permits that are out.
-use Rattle.std.specs.Prelude.{◌≡◌, ◌+◌, ◌≤◌, ℕ, List, Contains, sum_by}
-use Rattle.daemon_requirements.specs.RequirementsView.{RequirementsView}
-use Rattle.daemon_manager.specs.PoolView.{PoolView, IsPool}
+use Rattle.std.specs.Prelude.{◌+◌, ◌≤◌, ℕ, List, Contains, sum_by}
+use Rattle.daemon_manager.specs.PoolView.{PoolView}
 use Rattle.memory_budget.specs.declared.permits.Permit.{Permit}
 use Rattle.memory_budget.specs.declared.permits.OpenPermit.{OpenPermit}
 use Rattle.memory_budget.specs.Heaps.{held, busy_heaps}

@@ -1,8 +1,10 @@
 pub mod OpenPermitsView
 pub mod Heaps
+pub mod Limits
 pub mod Sums
 pub mod BudgetView
 pub mod Stops
 pub mod Rooms
 pub mod Calls
+pub mod Counting
 pub mod Waiting

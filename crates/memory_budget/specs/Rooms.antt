@@ -4,7 +4,6 @@ use Rattle.daemon_requirements.specs.RequirementsView.{RequirementsView}
 use Rattle.daemon_requirements.specs.Covers.{Covers}
 use Rattle.daemon_manager.specs.Calls.{Reserves}
 use Rattle.daemon_manager.specs.PoolView.{PoolView}
-use Rattle.daemon_manager.specs.declared.reserved.Reserved.{Reserved}
 use Rattle.memory_budget.specs.declared.permits.Permit.{Permit}
 use Rattle.memory_budget.specs.declared.rooms.Room.{Room}
 use Rattle.memory_budget.specs.declared.rooms.Room.TheVariants.{Idle, Start, Over}
@@ -38,13 +37,13 @@ module _ {L : Type 0} (made_for : L → RequirementsView) where
     pub permits : new.permits ≡ old.permits ++ open_permit permit ∷ []
     pub budget : new.budget_mb ≡ old.budget_mb
 
-  abbrev pub MakesRoom : BudgetView L → BudgetView L → RequirementsView → ℕ → Room L → Type 0
+  abbrev pub MakesRoom : BudgetView L → BudgetView L → RequirementsView → ℕ → Room L Permit → Type 0
   MakesRoom old new asked unit (Idle reserved) = Reserves made_for old.pool new.pool asked unit reserved × KeepsPermits old new
   MakesRoom old new asked unit (Start permit links) = GivesPermit old new asked unit permit links.items
   MakesRoom old new asked unit (Over firm_mb) = IsOver old new asked firm_mb
 
 -- the link of a daemon that was idle is settled
-abbrev pub IsSettledRoom : {L : Type 0} → (L → Bool) → Room L → Type 0
+abbrev pub IsSettledRoom : {L P : Type 0} → (L → Bool) → Room L P → Type 0
 IsSettledRoom settled (Idle reserved) = settled reserved.link ≡ true
 IsSettledRoom settled (Start permit links) = Unit {0}
 IsSettledRoom settled (Over firm_mb) = Unit {0}

@@ -9,23 +9,19 @@ use Rattle.daemon_requirements.specs.declared.work.Isolation.TheVariants.{InThre
 use Rattle.daemon_protocol.specs.declared.frames.Request.{Request}
 use Rattle.file_access.specs.ReadView.{IsOutcomeCounted}
 use Rattle.item_work.specs.Requests.{SentView, Sends}
+use Rattle.item_work.specs.Tallying.{TallyRises, one_if_unreal}
+use Rattle.daemon_manager.specs.Counts.{TallyView}
 use Rattle.memory_budget.specs.declared.rooms.Room.{Room}
 use Rattle.memory_budget.specs.declared.rooms.Room.TheVariants.{Idle, Start, Over as NoRoom}
-use Rattle.memory_budget.specs.declared.rooms.Unadopted.{Unadopted}
-use Rattle.memory_budget.specs.declared.rooms.Unadopted.TheVariants.{NotOut, NoMemory}
+use Rattle.memory_budget.specs.declared.counted_budget.CountedPermit.{CountedPermit}
 use Rattle.memory_budget.specs.declared.runs.Budgeted.{Budgeted}
 use Rattle.memory_budget.specs.declared.runs.Budgeted.TheVariants.{Done, Over}
 
--- a daemon that covers what is asked, with a settled link, or a permit to start one with just this, for the unit
-abbrev pub IsRoomFor : {L : Type 0} → (L → RequirementsView) → (L → Bool) → RequirementsView → ℕ → Room L → Type 0
-IsRoomFor made_for settled asked unit (Idle reserved) = Covers (made_for reserved.link) asked × (settled reserved.link ≡ true)
-IsRoomFor made_for settled asked unit (Start permit links) = (permit.unit ≡ unit) × (permit.requirements ≡ asked)
+-- a daemon that covers what is asked, with a settled link, reserved for the unit, or a permit to start one with just this, for the unit
+abbrev pub IsRoomFor : {L U : Type 0} → (L → RequirementsView) → (L → Bool) → RequirementsView → ℕ → Room L (CountedPermit U) → Type 0
+IsRoomFor made_for settled asked unit (Idle reserved) = (reserved.unit ≡ unit) × Covers (made_for reserved.link) asked × (settled reserved.link ≡ true)
+IsRoomFor made_for settled asked unit (Start permit links) = (permit.permit.unit ≡ unit) × (permit.permit.requirements ≡ asked)
 IsRoomFor made_for settled asked unit (NoRoom firm_mb) = ⊥
-
--- the link comes back
-abbrev pub ComesBack : {L : Type 0} → L → Unadopted L → Type 0
-ComesBack link (NotOut permit returned) = returned ≡ link
-ComesBack link (NoMemory permit returned) = returned ≡ link
 
 -- the item runs in a process
 abbrev pub AsksProcess : Isolation → Type 0
@@ -56,6 +52,11 @@ IsOverExactly asked budget_mb (Over heap_mb) = (heap_mb ≡ asked.heap_mb) × (b
 abbrev pub SendsWithin : RequirementsView → SentView → SentView → Request → Budgeted → Type 0
 SendsWithin asked old new request (Done outcome) = Sends asked old new request outcome
 SendsWithin asked old new request (Over heap_mb) = new ≡ old
+
+-- nothing is counted for an item that asks for too much, and for another what its daemon adds
+abbrev pub TalliesWithin : TallyView → TallyView → ℕ → ℕ → Budgeted → Type 0
+TalliesWithin old new sends_before sends_after (Done outcome) = TallyRises old new sends_before sends_after (one_if_unreal outcome)
+TalliesWithin old new sends_before sends_after (Over heap_mb) = new ≡ old
 
 -- the same, by where the item runs
 abbrev pub IsOverFor : Isolation → ℕ → Budgeted → Type 0

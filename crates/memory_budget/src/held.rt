@@ -5,6 +5,7 @@ ghost use Rattle.daemon_manager.specs.Calls.{Adopts, FailsOrNot, Releases, Reser
 ghost use Rattle.daemon_manager.specs.Events.{IsLegal, NoneIdle};
 ghost use Rattle.daemon_manager.specs.PoolView.{IsPool};
 ghost use Rattle.memory_budget.specs.Heaps.{busy_heaps, held, idle_heaps};
+ghost use Rattle.memory_budget.specs.Limits.{KeepsWithin};
 ghost use Rattle.memory_budget.specs.Stops.{StopsShortest};
 
 use crate::permits::heap_of;
@@ -13,7 +14,8 @@ use daemon_requirements::{Linked, Requirements};
 use std::alloc::{AllocError, Global};
 use std::marker::Model;
 
-/// A pool, and the sums of the heaps of its daemons, which each call keeps.
+/// A pool, and the sums of the heaps of its daemons, which each call keeps. No call lets more be held at any moment than before, but the
+/// adoption of a daemon.
 pub(crate) struct HeldPool<L: Linked> {
     pool: Pool<L>,
     // Of those that are busy or idle.
@@ -88,6 +90,7 @@ impl<L: Linked> HeldPool<L> {
         ensures settled { IfOk result (λ found. IfSome found (λ reserved. L.settled reserved.link ≡ true)) }
         ensures no_memory { OnErr result (self.new ≡ self.old) }
         ensures held { held self.new.events ≡ held self.old.events }
+        ensures within { KeepsWithin (held self.old.events) self.old.events self.new.events }
     {
         // Of the pool, that its events tell which daemons are idle.
         let _ = self.pool.events();
@@ -111,6 +114,7 @@ impl<L: Linked> HeldPool<L> {
         ensures no_memory { OnErr result (self.new ≡ self.old) }
         ensures link { IfErr result (λ returned. returned ≡ link) }
         ensures held { OnOk result (held self.new.events ≡ held self.old.events + requirements.heap_mb) }
+        ensures within { KeepsWithin (held self.old.events + requirements.heap_mb) self.old.events self.new.events }
     {
         let heap_mb = heap_of(&requirements);
         let reserved = self.pool.adopt(link, requirements, unit)?;
@@ -124,6 +128,7 @@ impl<L: Linked> HeldPool<L> {
         requires { L.settled reserved.link ≡ true }
         ensures released { Releases L.requirements self.old self.new reserved result }
         ensures held { held self.new.events ≤ held self.old.events }
+        ensures within { KeepsWithin (held self.old.events) self.old.events self.new.events }
     {
         let mut reserved = reserved;
         let heap_mb = heap_of(reserved.link().made_for());
@@ -146,6 +151,7 @@ impl<L: Linked> HeldPool<L> {
         requires { L.settled reserved.link ≡ false }
         ensures failed { FailsOrNot L.requirements self.old self.new reserved result }
         ensures held { held self.new.events ≤ held self.old.events }
+        ensures within { KeepsWithin (held self.old.events) self.old.events self.new.events }
     {
         let events = self.pool.events().len();
         let link = self.pool.fail(reserved);
@@ -163,6 +169,7 @@ impl<L: Linked> HeldPool<L> {
         ensures held { IfSome result (λ link. held self.old.events ≡ held self.new.events + (L.requirements link).heap_mb) }
         ensures most { held self.new.events ≤ held self.old.events }
         ensures busy { busy_heaps self.new.events ≡ busy_heaps self.old.events }
+        ensures within { KeepsWithin (held self.old.events) self.old.events self.new.events }
     {
         // Of the pool, that its events tell which daemons are idle.
         let _ = self.pool.events();
@@ -179,6 +186,7 @@ impl<L: Linked> HeldPool<L> {
         requires room { length self.old.idle ≤ vec_capacity links.old }
         ensures stopped { StopsShortest L.requirements self.old self.new most_mb links.new.items }
         ensures held { held self.new.events ≤ most_mb }
+        ensures within { KeepsWithin (held self.old.events) self.old.events self.new.events }
     {
         while self.held_mb() > most_mb {
             // What is held and isn't busy is idle.

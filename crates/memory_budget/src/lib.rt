@@ -2,6 +2,7 @@
 //! most the budget.
 #![tactic(auto)]
 
+mod counted_budget;
 mod held;
 mod locks;
 mod permits;
@@ -9,8 +10,9 @@ mod pools;
 mod rooms;
 mod runs;
 
+pub use counted_budget::{BudgetLedger, CountedBudget, CountedPermit};
 pub use locks::BudgetLock;
 pub use permits::Permit;
 pub use pools::{BudgetPool, MAX_BUDGET_MB};
 pub use rooms::{Room, Unadopted};
-pub use runs::{Budgeted, BudgetedRun, run_in_budget, stop_daemon, stop_idle};
+pub use runs::{Budgeted, BudgetedRun, SharedBudget, run_in_budget, stop_daemon, stop_idle};

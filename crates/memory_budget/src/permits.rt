@@ -10,6 +10,9 @@ use std::marker::Model;
 
 /// The leave to start one daemon with these requirements. Its heap is kept free until the permit is spent, by `adopt`, or given
 /// up. So it can't be dropped, and only the list of those that are out makes it and takes it apart.
+///
+/// A pool knows it again by its unit and its heap: one of another pool with both the same is taken for the own one, and the sums stay
+/// right then too.
 pub struct Permit {
     unit: u32,
     requirements: Requirements,

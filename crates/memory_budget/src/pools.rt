@@ -6,6 +6,7 @@ ghost use Rattle.daemon_manager.specs.PoolView.{IsPool};
 ghost use Rattle.memory_budget.specs.BudgetView.{IsWithin, firm, permitted};
 ghost use Rattle.memory_budget.specs.Calls.{GivesUpOrNot, HandsBack, Spends};
 ghost use Rattle.memory_budget.specs.Heaps.{held};
+ghost use Rattle.memory_budget.specs.Limits.{StaysWithin};
 ghost use Rattle.memory_budget.specs.Rooms.{IsSettledRoom, KeepsPermits, MakesRoom, NoneCovers};
 
 use crate::held::HeldPool;
@@ -32,6 +33,7 @@ pub struct BudgetPool<L: Linked> {
 impl<L: Linked> Model for BudgetPool<L> {
     ghost use Rattle.std.specs.Prelude.{◌≤◌};
     ghost use Rattle.memory_budget.specs.BudgetView.{BudgetView, IsWithin};
+    ghost use Rattle.memory_budget.specs.Limits.{StaysWithin};
     ghost use Rattle.memory_budget.specs.declared.pools.TheConstants.{MAX_BUDGET_MB};
 
     ghost Value = { BudgetView L };
@@ -39,7 +41,7 @@ impl<L: Linked> Model for BudgetPool<L> {
     ghost view = { λ b. record { pool = b.daemons; permits = b.permits.permits; budget_mb = b.budget_mb } };
 
     ghost invariant = { λ b. IsWithin (record { pool = b.daemons; permits = b.permits.permits; budget_mb = b.budget_mb })
-        × (b.budget_mb ≤ MAX_BUDGET_MB) };
+        × (b.budget_mb ≤ MAX_BUDGET_MB) × StaysWithin b.budget_mb b.daemons.events };
 }
 
 impl<L: Linked> BudgetPool<L> {
@@ -204,16 +206,19 @@ impl<L: Linked> BudgetPool<L> {
         ensures value { result.now ≡ self.now.pool.events }
         ensures sound { IsPool L.requirements self.now.pool }
         ensures within { IsWithin self.now }
+        ensures limit { StaysWithin self.now.budget_mb self.now.pool.events }
     {
         self.daemons.events()
     }
 
-    /// All that happened to daemons, once none is idle. It takes no memory.
+    /// All that happened to daemons, once none is idle: at each moment those that were busy or idle had at most the budget together. It
+    /// takes no memory.
     pub fn into_events(self) -> Vec<Event>
         requires { self.pool.idle ≡ [] }
         ensures value { result.items ≡ self.pool.events }
         ensures legal { IsLegal result.items }
         ensures none_idle { NoneIdle result.items }
+        ensures limit { StaysWithin self.budget_mb result.items }
     {
         let BudgetPool {
             daemons,

@@ -2,12 +2,12 @@
 use crate::permits::Permit;
 use daemon_manager::Reserved;
 
-/// What a pool answers to who asks for room for a daemon. It can't be dropped, as what stands in it can't.
-pub enum Room<L> {
+/// What a pool answers to who asks for room for a daemon. It can't be dropped, as what stands in it can't. `P` is the permit.
+pub enum Room<L, P = Permit> {
     /// This idle daemon serves, and was reserved.
     Idle(Reserved<L>),
     /// A daemon may be started. Idle ones were stopped for it: the caller stops these links, in this order.
-    Start(Permit, Vec<L>),
+    Start(P, Vec<L>),
     /// There is no room, not even without all idle daemons: so many MB are held by busy daemons, or permitted.
     Over(u64),
 }

@@ -1,6 +1,7 @@
-use Rattle.std.proofs.Common.{◌≡◌, ◌<◌, length, ap, ◌∙◌, arith}
+use Rattle.std.proofs.Common.{◌<◌, length, ap, ◌∙◌, arith}
 use Rattle.daemon_requirements.specs.RequirementsView.{RequirementsView}
 use Rattle.memory_budget.proofs.SumsKept.{failed_held, failed_sums, own_counted, own_failed}
+use Rattle.memory_budget.proofs.WithinKept.{failed_within}
 use Rattle.memory_budget.proofs.held.HeldPool.fail.Goals as goal
 
 pub overflow_sub-self : goal.overflow_sub-self
@@ -35,3 +36,8 @@ pub returns-then-events-clause-held : goal.returns-then-events-clause-held
 returns-then-events-clause-held g c =
     let inside = c.self.inside in
     rw (← c.self.view_is) (failed_held g.L.Linked.requirements inside.pool c.fail-link.new.self inside.held_mb inside.busy_mb c.self.invariant c.args.reserved c.fail-link.result c.fail-link.ensures)
+
+pub returns-then-events-clause-within : goal.returns-then-events-clause-within
+returns-then-events-clause-within g c =
+    let inside = c.self.inside in
+    rw (← c.self.view_is) (failed_within g.L.Linked.requirements inside.pool c.fail-link.new.self inside.held_mb inside.busy_mb c.self.invariant c.args.reserved c.fail-link.result c.fail-link.ensures)

@@ -1,7 +1,8 @@
-use Rattle.std.proofs.Common.{◌≡◌, ◌≢◌, length, ap, sym, ◌∙◌, arith}
+use Rattle.std.proofs.Common.{◌≢◌, length, ap, sym, ◌∙◌, arith}
 use Rattle.daemon_requirements.specs.RequirementsView.{RequirementsView}
 use Rattle.daemon_manager.specs.declared.reserved.Reserved.{Reserved}
 use Rattle.memory_budget.proofs.SumsKept.{release_counted, release_first, release_kept, release_stopped, released_held}
+use Rattle.memory_budget.proofs.WithinKept.{released_within}
 use Rattle.memory_budget.proofs.held.HeldPool.release.Goals as goal
 
 pub overflow_sub-self : goal.overflow_sub-self
@@ -55,3 +56,15 @@ returns-in-None-clause-held g c =
     let inside = c.self.inside in
     let r : Reserved g.row.L.Denot = record { daemon = c.args.reserved.daemon; unit = c.args.reserved.unit; link = c.link.result.now } in
     rw (← c.self.view_is) (released_held g.L.Linked.requirements inside.pool c.release-spare.new.self inside.held_mb inside.busy_mb c.self.invariant r c.release-spare.result c.events-events.ensures.sound c.release-spare.ensures)
+
+pub returns-in-Some-clause-within : goal.returns-in-Some-clause-within
+returns-in-Some-clause-within g c =
+    let inside = c.self.inside in
+    let r : Reserved g.row.L.Denot = record { daemon = c.args.reserved.daemon; unit = c.args.reserved.unit; link = c.link.result.now } in
+    rw (← c.self.view_is) (released_within g.L.Linked.requirements inside.pool c.release-spare.new.self inside.held_mb inside.busy_mb c.self.invariant r c.release-spare.result c.events-events.ensures.sound c.release-spare.ensures)
+
+pub returns-in-None-clause-within : goal.returns-in-None-clause-within
+returns-in-None-clause-within g c =
+    let inside = c.self.inside in
+    let r : Reserved g.row.L.Denot = record { daemon = c.args.reserved.daemon; unit = c.args.reserved.unit; link = c.link.result.now } in
+    rw (← c.self.view_is) (released_within g.L.Linked.requirements inside.pool c.release-spare.new.self inside.held_mb inside.busy_mb c.self.invariant r c.release-spare.result c.events-events.ensures.sound c.release-spare.ensures)

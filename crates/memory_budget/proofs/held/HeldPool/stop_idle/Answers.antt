@@ -1,6 +1,9 @@
-use Rattle.std.proofs.Common.{◌≡◌, ap, ◌∙◌, arith}
+use Rattle.std.proofs.Common.{ap, ◌∙◌, arith}
 use Rattle.daemon_requirements.specs.RequirementsView.{RequirementsView}
+use Rattle.daemon_manager.specs.declared.events.Event.TheVariants.{Stopped}
+use Rattle.memory_budget.specs.Heaps.{held}
 use Rattle.memory_budget.proofs.SumsKept.{idle_busy, idle_counted, idle_held, idle_sums}
+use Rattle.memory_budget.proofs.WithinKept.{one_within}
 use Rattle.memory_budget.proofs.held.HeldPool.stop_idle.Goals as goal
 
 pub invariant_of-self-2 : goal.invariant_of-self-2
@@ -25,3 +28,9 @@ pub returns-clause-most : goal.returns-clause-most
 returns-clause-most g c =
     let inside = c.self.inside in
     rw (← c.self.view_is) (omega (arith, idle_held g.L.Linked.requirements inside.pool c.stop_idle.new.self inside.held_mb inside.busy_mb c.self.invariant c.in_ok-link.link c.events.ensures.sound c.in_ok-link.ensures))
+
+pub returns-clause-within : goal.returns-clause-within
+returns-clause-within g c =
+    let inside = c.self.inside in
+    let stops = c.in_ok-link.ensures in
+    rw (← c.self.view_is) (one_within (held inside.pool.events) inside.pool.events c.stop_idle.new.self.events (Stopped stops.daemon) stops.events (omega (arith, idle_held g.L.Linked.requirements inside.pool c.stop_idle.new.self inside.held_mb inside.busy_mb c.self.invariant c.in_ok-link.link c.events.ensures.sound stops)))

@@ -8,6 +8,7 @@ pub invariant_of-self : goal.invariant_of-self
 invariant_of-self g c = (
   omega (arith, c.self.invariant.0, c.in-Ok-adopt.ensures.held, ap (λ (q : RequirementsView). q.heap_mb) c.in-Ok.ensures, ap (λ (q : RequirementsView). q.heap_mb) c.requirements.ensures, ap permitted c.spend.ensures, permitted_less c.self.inside.permits.permits c.in-Some.place (open_permit c.args.permit) c.in-Some.ensures),
   c.self.invariant.1,
+  c.in-Ok-adopt.ensures.within c.self.inside.budget_mb (omega (arith, c.self.invariant.0, ap (λ (q : RequirementsView). q.heap_mb) c.in-Ok.ensures, ap (λ (q : RequirementsView). q.heap_mb) c.requirements.ensures, permitted_less c.self.inside.permits.permits c.in-Some.place (open_permit c.args.permit) c.in-Some.ensures)) c.self.invariant.2,
 )
 
 pub returns-in-Err-clause-back : goal.returns-in-Err-clause-back
