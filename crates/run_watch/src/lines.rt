@@ -1,5 +1,5 @@
 //! A watch for each item that a book closed.
-ghost use Rattle.std.specs.Prelude.{◌≡◌, ◌<◌, ◌≤◌, All, ℕ, [], get_or, length, vec_capacity};
+ghost use Rattle.std.specs.Prelude.{◌≡◌, ◌<◌, ◌≤◌, All, IfSome, ℕ, [], get_or, length, vec_capacity};
 ghost use Rattle.run_watch.specs.Looks.{MayShow, Shows};
 ghost use Rattle.run_watch.specs.Watches.{AreWatchesOf, IsWatchOf, closing_number};
 
@@ -25,6 +25,7 @@ fn watch_of(book: &Book, unit: u32, closed: u64, look: Option<Extent>) -> Watch
     requires look { MayShow book.now look }
     ensures unit { result.unit ≡ unit }
     ensures watch { IsWatchOf book.now result }
+    ensures look { IfSome look (λ e. closed ≤ e.entries → (result.entries ≡ e.entries) × (result.leases ≡ e.leases)) }
 {
     let shown = match look {
         Some(shown) if closed <= shown.entries => shown,

@@ -5,5 +5,6 @@ pub mod Pairs
 pub mod Settling
 pub mod Steps
 pub mod Same
-pub mod Entries
+pub mod Checks
+pub mod Lawfulness
 pub mod Least

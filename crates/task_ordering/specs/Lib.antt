@@ -4,6 +4,7 @@ pub mod Refusals
 pub mod OrderingView
 pub mod Ordering
 pub mod Checking
+pub mod Entries
 pub mod Marks
 pub mod Reach
 pub mod Befores

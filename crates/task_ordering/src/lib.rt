@@ -6,9 +6,11 @@ ghost use Rattle.task_ordering.specs.Orders.{IsLeastOrder};
 ghost use Rattle.task_ordering.specs.Tasks.{IsBefore, IsToRun};
 ghost use Rattle.task_ordering.specs.declared.tasks.OrderTask.{OrderTask};
 
+mod admitting;
 mod befores;
 mod checking;
 mod fails;
+mod given_entries;
 mod limits;
 mod marks;
 mod orderings;
@@ -16,8 +18,10 @@ mod placing;
 mod reaching;
 mod tasks;
 
+pub use admitting::first_unlawful;
 pub use checking::Kept;
 pub use fails::{OrderFail, OrderRefusal};
+pub use given_entries::{Entries, GivenEntry};
 pub use limits::MAX_NUMBERS;
 pub use orderings::Ordering;
 pub use tasks::OrderTask;

@@ -8,16 +8,18 @@ ghost use Rattle.task_ordering.specs.Tasks.{IsBefore, IsToRun};
 use crate::befores::befores_of;
 use crate::checking::{Ended, Kept};
 use crate::fails::{OrderFail, OrderRefusal};
+use crate::given_entries::Entries;
 use crate::limits::refuse_strays;
 use crate::marks::first_unplaced;
 use crate::placing::Placing;
 use crate::reaching::tasks_to_run;
 use crate::tasks::OrderTask;
-use lock_journal::Book;
 use std::alloc::{AllocError, Global};
 use std::marker::Model;
 
 /// The least order of the tasks to run, and for each of them those before it.
+// Tasks are borrowed: nothing of them is kept but which stand before which. Tasks that are left when none is ready are those without a
+// rank, so a cycle is found by placing.
 #[derive(Drop)]
 pub struct Ordering {
     befores: Vec<Vec<u32>>,
@@ -75,14 +77,14 @@ impl Ordering {
         self.order.as_slice()
     }
 
-    /// Whether no finished entry of a history starts a task before those that stand before it have ended or been skipped. It
-    /// doesn't say that the history is lawful.
-    pub fn check(&self, alloc: Global, book: &Book) -> Result<Kept, AllocError>
-        ensures { IfOk result (IsFound self.now.befores book.now.history) }
+    /// Whether no finished entry of a history starts a task before those that stand before it have ended or been skipped. The
+    /// history may be a book, or entries that needn't be lawful.
+    pub fn check<H: Entries>(&self, alloc: Global, history: &H) -> Result<Kept, AllocError>
+        ensures { IfOk result (IsFound self.now.befores (H.entries history.now)) }
     {
         let mut ended = Ended::none(alloc, self.befores.len())?;
-        for place in 0..book.len() {
-            let entry = book.entry(place);
+        for place in 0..history.count() {
+            let entry = history.at(place);
             if ended.starts_early(&self.befores, entry) {
                 return Ok(Kept::Broken(place + 1));
             }

@@ -1,5 +1,5 @@
-use Rattle.task_ordering.proofs.Entries.{HasChecked}
+use Rattle.task_ordering.proofs.Checks.{HasChecked}
 use Rattle.task_ordering.proofs.orderings.Ordering.check.Given as goal
 
 abbrev pub invariant-loop-place : goal.invariant-loop-place
-invariant-loop-place l = HasChecked l.self.befores l.book.history l.place l.ended.marks.items
+invariant-loop-place g l = HasChecked l.self.befores (g.H.Entries.entries l.history) l.place l.ended.marks.items
