@@ -1,14 +1,14 @@
 //! What is printed of the calls of a case.
-use crate::calls::{Answer, Run, answer_to, sink_of};
-use crate::cases::Case;
+use crate::calls::{Answer, Run, answer_to};
 use anyhow::Result;
+use case_files::{Case, InPieces, sink_of};
 use file_access::{FileEntry, MemorySink};
 use item_actions::Text;
 use sha2::{Digest, Sha256};
 use std::alloc::Global;
-use std::fmt;
 use std::sync::Wait;
 use std::thread::Threads;
+use std::{fmt, io};
 
 /// A number between words, where there is one.
 #[derive(Drop)]
@@ -74,7 +74,7 @@ fn lawful_words(lawful: Option<bool>) -> &'static str {
 }
 
 // Prints how a call ended: its status, with the place of a bad frame, and how many entries of its book finished.
-fn print_end(rt: &HostRuntime, answer: &Answer, lawful: Option<bool>) -> Result<()> {
+fn print_end(rt: &HostRuntime, answer: &Answer, lawful: Option<bool>) -> io::Result<()> {
     let place = Counted(" at ", answer.place, "");
     let finished = match answer.run {
         Some(run) => Some(run.finished),
@@ -85,20 +85,18 @@ fn print_end(rt: &HostRuntime, answer: &Answer, lawful: Option<bool>) -> Result<
         "status {}{place}{finished}{}",
         answer.status,
         lawful_words(lawful)
-    )?;
-    Ok(())
+    )
 }
 
 // Prints how many calls of the outside failed, and whether two items met.
-fn print_faults(rt: &HostRuntime, faults: u64, met: bool) -> Result<()> {
+fn print_faults(rt: &HostRuntime, faults: u64, met: bool) -> io::Result<()> {
     let faults = Counted(", ", (faults > 0).then_some(faults), " faults");
     let met = if met { ", two items met" } else { "" };
-    print!(rt; "{faults}{met}")?;
-    Ok(())
+    print!(rt; "{faults}{met}")
 }
 
 // Prints the numbers that the case asks for.
-fn print_asked(rt: &HostRuntime, case: &Case, answer: &Answer) -> Result<()> {
+fn print_asked(rt: &HostRuntime, case: &Case, answer: &Answer) -> io::Result<()> {
     let left = Counted(", ", case.has("left").then_some(answer.left), " bytes left");
     let sent = Counted(", ", case.has("sent").then_some(answer.sent), " requests");
     print!(rt; "{left}{sent}")?;
@@ -109,15 +107,14 @@ fn print_asked(rt: &HostRuntime, case: &Case, answer: &Answer) -> Result<()> {
 }
 
 // Prints what the run's graph has.
-fn print_graph(rt: &HostRuntime, run: &Run) -> Result<()> {
+fn print_graph(rt: &HostRuntime, run: &Run) -> io::Result<()> {
     let Run {
         workers,
         max_leases,
         locks,
         ..
     } = run;
-    print!(rt; ", {workers} workers, {max_leases} leases, {locks} locks")?;
-    Ok(())
+    print!(rt; ", {workers} workers, {max_leases} leases, {locks} locks")
 }
 
 // Whether as many units met a fault as calls of the desks failed, and at least so many, as words.
@@ -131,12 +128,11 @@ fn fault_words(answer: &Answer, least: u64) -> &'static str {
 }
 
 // Prints how many items the run closed, where what its workers saw is as its history says.
-fn print_watches(rt: &HostRuntime, answer: &Answer) -> Result<()> {
+fn print_watches(rt: &HostRuntime, answer: &Answer) -> io::Result<()> {
     match answer.watches {
-        Some(count) => println!(rt; "status {}, {count} watches hold", answer.status)?,
-        None => println!(rt; "what was seen isn't as the history says")?,
+        Some(count) => println!(rt; "status {}, {count} watches hold", answer.status),
+        None => println!(rt; "what was seen isn't as the history says"),
     }
-    Ok(())
 }
 
 // Whether one of the files has this name.
@@ -179,10 +175,13 @@ fn is_found_lawful<T: Threads + Wait + Sync>(
     check: &Case,
     run: &Run,
 ) -> Result<bool> {
-    let mut out = sink_of(alloc, check, 0)?;
-    answer_to(threads, alloc, check, 0, &mut out)?;
     let lawful = format!(in alloc; "lawful {}\n", run.entries)?;
-    Ok(out.inner.taken() == lawful.as_bytes())
+    let mut out = sink_of(alloc, check, 0)?;
+    let answer = answer_to(threads, alloc, check, 0, &mut out);
+    let is_lawful = out.inner.taken() == lawful.as_bytes();
+    drop(out);
+    answer?;
+    Ok(is_lawful)
 }
 
 // Whether the program itself finds what a run of the case printed lawful. None says that no history was asked for, or
@@ -198,7 +197,9 @@ fn lawfulness<T: Threads + Wait + Sync>(
         return Ok(None);
     };
     let check = case.check_of(alloc, plan, printed)?;
-    Ok(Some(is_found_lawful(threads, alloc, &check, &run)?))
+    let is_lawful = is_found_lawful(threads, alloc, &check, &run);
+    drop(check);
+    Ok(Some(is_lawful?))
 }
 
 // Prints how a call ended, whether the history that it printed is found lawful, how many calls of the outside failed,
@@ -224,17 +225,17 @@ fn print_answer(
     }
 }
 
-/// Makes the one call of a case, and prints what it answered.
-pub(crate) fn run_once<T: Threads + Wait + Sync>(
+// Makes the one call of a case with this output, and prints what it answered.
+fn run_with<T: Threads + Wait + Sync>(
     rt: &HostRuntime,
     threads: &T,
     case: &Case,
+    out: &mut InPieces<MemorySink>,
 ) -> Result<()> {
     let alloc = rt.alloc();
-    let mut out = sink_of(alloc, case, 0)?;
-    let answer = answer_to(threads, alloc, case, 0, &mut out)?;
+    let answer = answer_to(threads, alloc, case, 0, out)?;
     if case.has("watched") {
-        return print_watches(rt, &answer);
+        return Ok(print_watches(rt, &answer)?);
     }
     if case.has("faults") {
         println!(rt; "{}", fault_words(&answer, case.limits.least_faults))?;
@@ -242,4 +243,16 @@ pub(crate) fn run_once<T: Threads + Wait + Sync>(
     }
     let lawful = lawfulness(threads, alloc, case, &answer, out.inner.taken())?;
     print_answer(rt, case, &answer, lawful, &out.inner)
+}
+
+/// Makes the one call of a case, and prints what it answered.
+pub(crate) fn run_once<T: Threads + Wait + Sync>(
+    rt: &HostRuntime,
+    threads: &T,
+    case: &Case,
+) -> Result<()> {
+    let mut out = sink_of(rt.alloc(), case, 0)?;
+    let ran = run_with(rt, threads, case, &mut out);
+    drop(out);
+    ran
 }

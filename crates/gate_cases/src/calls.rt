@@ -1,134 +1,15 @@
 //! The calls of the program that a case asks for.
-ghost use Rattle.std.specs.Prelude.{◌≡◌, All, IfOk, IfSome, length};
-ghost use Rattle.file_access.specs.Folders.{folder_of};
-ghost use Rattle.daemon_desk.specs.MemoryDeskView.{known_files};
-ghost use Rattle.leases_cli.specs.declared.top.TheConstants.{DESKS};
-
-use crate::cases::Case;
-use crate::each::Each;
-use crate::pieces::InPieces;
 use crate::watches::watches_held;
 use anyhow::Result;
-use daemon_desk::{Lie, MemoryDesk};
-use file_access::{FileEntry, FileMap, MeetingGate, MemorySink, MemorySource, Source};
+use case_files::{Case, InPieces, desks_of, source_of};
+use daemon_desk::MemoryDesk;
+use file_access::{MeetingGate, MemorySink, MemorySource, Source};
 use item_actions::Outcome;
 use leases_cli::{DESKS, Ended, Status, leases};
 use lock_journal::Book;
-use std::alloc::{AllocError, Global};
+use std::alloc::Global;
 use std::sync::Wait;
 use std::thread::Threads;
-
-// An equal file.
-fn copy_of(alloc: Global, file: &FileEntry) -> Result<FileEntry, AllocError>
-    ensures name { IfOk result (λ copy. copy.name ≡ file.now.name) }
-    ensures bytes { IfOk result (λ copy. copy.bytes.items ≡ file.now.bytes.items) }
-{
-    let name = file.name.copy(alloc)?;
-    let bytes = Vec::from_slice(alloc, file.bytes.as_slice())?;
-    Ok(FileEntry { name, bytes })
-}
-
-/// Equal files.
-pub(crate) fn copies_of(alloc: Global, files: &[FileEntry]) -> Result<Vec<FileEntry>, AllocError>
-    ensures { IfOk result (λ copies. folder_of copies.items ≡ folder_of files.now) }
-{
-    let mut copies = Vec::with_capacity(alloc, files.len())?;
-    for file in files {
-        copies.push(copy_of(alloc, file)?)?;
-    }
-    Ok(copies)
-}
-
-// The bytes of the input of the call of this number.
-fn input_of(alloc: Global, case: &Case, number: usize) -> Result<Vec<u8>, AllocError> {
-    match case.each {
-        Some(each) => each.input(alloc, &case.input, number),
-        None => Vec::from_slice(alloc, &case.input),
-    }
-}
-
-// The numbers of the calls of a desk that fail.
-fn failing_calls(alloc: Global, case: &Case, desk: usize) -> Result<Vec<u64>> {
-    let calls = format!(in alloc; "desk {desk} ")?;
-    case.failing(alloc, calls.as_str())
-}
-
-// The lies of a desk, in the call of this number. The bytes of each are the input's.
-fn lies_of(alloc: Global, case: &Case, desk: usize, number: usize) -> Result<Vec<Lie>> {
-    let calls = format!(in alloc; "{desk} ")?;
-    let mut lies = Vec::new(alloc);
-    for call in case.lying(alloc, calls.as_str())? {
-        let bytes = input_of(alloc, case, number)?;
-        lies.push(Lie { call, bytes })?;
-    }
-    Ok(lies)
-}
-
-// A desk, for the call of this number. It knows the case's files, unless it has a lie.
-fn desk_of(alloc: Global, case: &Case, desk: usize, number: usize) -> Result<MemoryDesk>
-    ensures { IfOk result (λ desk. IfSome (known_files desk) (λ known. known ≡ folder_of case.now.files.items)) }
-{
-    let failing = failing_calls(alloc, case, desk)?;
-    let lies = lies_of(alloc, case, desk, number)?;
-    let files = copies_of(alloc, &case.files)?;
-    Ok(MemoryDesk::new(alloc, FileMap::new(files), failing, lies))
-}
-
-// A desk for each thread that a run may have, for the call of this number.
-fn desks_of(alloc: Global, case: &Case, number: usize) -> Result<Vec<MemoryDesk>>
-    ensures count { IfOk result (λ desks. length desks.items ≡ DESKS) }
-    ensures files { IfOk result (λ desks. All
-        (λ desk. IfSome (known_files desk) (λ known. known ≡ folder_of case.now.files.items)) desks.items) }
-{
-    let mut desks = Vec::with_capacity(alloc, DESKS)?;
-    for desk in 0..DESKS {
-        desks.push(desk_of(alloc, case, desk, number)?)?;
-    }
-    Ok(desks)
-}
-
-// The numbers of the calls of the input that fail.
-fn failing_takes(alloc: Global, case: &Case, number: usize) -> Result<Vec<u64>> {
-    match case.each {
-        Some(Each::Take) => Ok(Vec::from_slice(alloc, &[number as u64])?),
-        _ => case.failing(alloc, "take "),
-    }
-}
-
-// The numbers of the calls of the output that fail.
-fn failing_puts(alloc: Global, case: &Case, number: usize) -> Result<Vec<u64>> {
-    match case.each {
-        Some(Each::Put) => Ok(Vec::from_slice(alloc, &[number as u64])?),
-        _ => case.failing(alloc, "put "),
-    }
-}
-
-// The input of the case's call of this number.
-fn source_of(alloc: Global, case: &Case, number: usize) -> Result<InPieces<MemorySource>> {
-    let failing = failing_takes(alloc, case, number)?;
-    let bytes = input_of(alloc, case, number)?;
-    Ok(InPieces {
-        inner: MemorySource::new(bytes, failing),
-        most: case.limits.piece as usize,
-    })
-}
-
-// How many bytes the output takes.
-fn room_of(case: &Case, number: usize) -> u64 {
-    match case.each {
-        Some(Each::Room) => number as u64,
-        _ => case.limits.room,
-    }
-}
-
-/// The output of the call of this number.
-pub(crate) fn sink_of(alloc: Global, case: &Case, number: usize) -> Result<InPieces<MemorySink>> {
-    let failing = failing_puts(alloc, case, number)?;
-    Ok(InPieces {
-        inner: MemorySink::new(alloc, room_of(case, number), failing)?,
-        most: case.limits.piece as usize,
-    })
-}
 
 /// What is told of the run of a book.
 #[derive(Clone, Copy)]
@@ -271,7 +152,7 @@ pub(crate) fn answer_to<T: Threads + Wait + Sync>(
     number: usize,
     out: &mut InPieces<MemorySink>,
 ) -> Result<Answer> {
-    let mut desks = desks_of(alloc, case, number)?;
+    let mut desks = desks_of(alloc, case, DESKS, number)?;
     let mut input = source_of(alloc, case, number)?;
     let gate = MeetingGate::new(case.limits.turns);
     let ended = leases(
@@ -283,5 +164,9 @@ pub(crate) fn answer_to<T: Threads + Wait + Sync>(
         &gate,
         out,
     );
-    Ok(answer_of(&ended, &desks, &mut input.inner, &gate))
+    let answer = answer_of(&ended, &desks, &mut input.inner, &gate);
+    drop(ended);
+    drop(input);
+    drop(desks);
+    Ok(answer)
 }

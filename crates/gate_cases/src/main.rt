@@ -2,24 +2,18 @@
 //!
 //! The words after the program's name are the names of case files. A line `=== NAME` begins a case, and a line
 //! that begins with `--- ` a section of it. What stands before the first case of a file belongs to each of them.
-//! `cases.rt` says what the sections mean.
+//! `case_files` says what the sections mean.
 #![tactic(auto)]
 
 mod answers;
 mod calls;
-mod cases;
-mod each;
-mod lines;
-mod pieces;
 mod rows;
-mod sections;
 mod watches;
 
 use crate::answers::run_once;
-use crate::cases::{Case, case_of};
 use crate::rows::run_each;
-use crate::sections::sections_of;
 use anyhow::Result;
+use case_files::{Case, case_of, sections_of};
 use std::sync::Wait;
 use std::thread::Threads;
 use std::{env, fs};
@@ -42,7 +36,9 @@ fn run_part<T: Threads + Wait + Sync>(
     println!(rt; "=== {}", part.lines().next().unwrap_or(""))?;
     let sections = sections_of(rt.alloc(), shared, part)?;
     let case = case_of(rt.alloc(), &sections)?;
-    run_case(rt, threads, &case)
+    let ran = run_case(rt, threads, &case);
+    drop(case);
+    ran
 }
 
 // Makes the calls of a case file, in order.

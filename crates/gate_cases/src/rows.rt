@@ -1,12 +1,12 @@
 //! What is printed of calls that differ from one another.
 use crate::answers::{Counted, text_of};
-use crate::calls::{Answer, answer_to, sink_of};
-use crate::cases::Case;
-use crate::each::Each;
+use crate::calls::{Answer, answer_to};
 use anyhow::Result;
+use case_files::{Case, Each, InPieces, sink_of};
 use file_access::MemorySink;
 use std::alloc::Global;
 use std::cmp::min;
+use std::io;
 use std::sync::Wait;
 use std::thread::Threads;
 
@@ -20,7 +20,7 @@ struct Row {
 
 impl Row {
     // Adds what is told of the next call.
-    fn add(&mut self, rt: &HostRuntime, told: String) -> Result<()> {
+    fn add(&mut self, rt: &HostRuntime, told: String) -> io::Result<()> {
         if self.told.as_str() != told.as_str() {
             self.print(rt)?;
             self.first = self.next;
@@ -31,12 +31,12 @@ impl Row {
     }
 
     // Prints the calls that weren't printed yet.
-    fn print(&self, rt: &HostRuntime) -> Result<()> {
+    fn print(&self, rt: &HostRuntime) -> io::Result<()> {
         let Row { first, next, told } = self;
-        if first < next {
-            println!(rt; "  {first} to {}: {}", next - 1, told.as_str())?;
+        if first >= next {
+            return Ok(());
         }
-        Ok(())
+        println!(rt; "  {first} to {}: {}", next - 1, told.as_str())
     }
 }
 
@@ -94,24 +94,60 @@ fn whole_output<T: Threads + Wait + Sync>(
     Ok(Some(out.inner))
 }
 
-// Makes the call of this number, and adds what is told of it. It answers whether nothing failed.
-fn add_call<T: Threads + Wait + Sync>(
+// Makes the next call with this output, and adds what is told of it. It answers whether nothing failed.
+fn add_call_with<T: Threads + Wait + Sync>(
     rt: &HostRuntime,
     threads: &T,
     case: &Case,
-    number: usize,
     whole: Option<&MemorySink>,
     row: &mut Row,
+    out: &mut InPieces<MemorySink>,
 ) -> Result<bool> {
     let alloc = rt.alloc();
-    let mut out = sink_of(alloc, case, number)?;
-    let answer = answer_to(threads, alloc, case, number, &mut out)?;
+    let number = row.next;
+    let answer = answer_to(threads, alloc, case, number, out)?;
     let told = match whole {
         Some(whole) => told_of_room(alloc, &answer, number, out.inner.taken(), whole.taken())?,
         None => told(alloc, &answer, out.inner.taken())?,
     };
     row.add(rt, told)?;
     Ok(answer.input_faults == 0 && out.inner.count() == 0)
+}
+
+// Makes the next call, and adds what is told of it. It answers whether nothing failed.
+fn add_call<T: Threads + Wait + Sync>(
+    rt: &HostRuntime,
+    threads: &T,
+    case: &Case,
+    whole: Option<&MemorySink>,
+    row: &mut Row,
+) -> Result<bool> {
+    let mut out = sink_of(rt.alloc(), case, row.next)?;
+    let added = add_call_with(rt, threads, case, whole, row, &mut out);
+    drop(out);
+    added
+}
+
+// Makes the calls, and prints what is told of them, beside what is written where the output takes as much as it ever does.
+fn run_beside<T: Threads + Wait + Sync>(
+    rt: &HostRuntime,
+    threads: &T,
+    case: &Case,
+    each: Each,
+    whole: Option<&MemorySink>,
+) -> Result<()> {
+    let mut row = Row {
+        first: 0,
+        next: 0,
+        told: String::new(rt.alloc()),
+    };
+    for _ in 0..each.calls(&case.input) {
+        let passed = add_call(rt, threads, case, whole, &mut row)?;
+        if passed && each.ends_without_failure() {
+            break;
+        }
+    }
+    Ok(row.print(rt)?)
 }
 
 /// Makes the calls of a case that differ in this, and prints what is told of them.
@@ -122,16 +158,7 @@ pub(crate) fn run_each<T: Threads + Wait + Sync>(
     each: Each,
 ) -> Result<()> {
     let whole = whole_output(threads, rt.alloc(), case, each)?;
-    let mut row = Row {
-        first: 0,
-        next: 0,
-        told: String::new(rt.alloc()),
-    };
-    for number in 0..each.calls(&case.input) {
-        let passed = add_call(rt, threads, case, number, whole.as_ref(), &mut row)?;
-        if passed && each.ends_without_failure() {
-            break;
-        }
-    }
-    row.print(rt)
+    let ran = run_beside(rt, threads, case, each, whole.as_ref());
+    drop(whole);
+    ran
 }

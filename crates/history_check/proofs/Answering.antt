@@ -1,15 +1,11 @@
 -- What entries that were admitted come to, told of the history that they are of.
-use Rattle.std.proofs.Common.{◌≡◌, ℕ, false, List, [], Option, None, Result, Ok, Err, refl, sym, ap, subst, ◌∙◌, inl, inr}
+use Rattle.std.proofs.Common.{◌≡◌, ℕ, false, List, [], Option, None, Result, Ok, Err, sym, ap, subst, ◌∙◌, inl, inr}
 use Rattle.std.specs.Prelude.{IsErrAnd}
 use Rattle.std.specs.declared.alloc.AllocError.{AllocError}
 use Rattle.std.proofs.lemmas.Bool.{true≢false}
 use Rattle.item_actions.specs.Files.{Folder}
-use Rattle.item_actions.specs.declared.outcomes.Outcome.{Outcome}
-use Rattle.lock_journal.specs.BookView.{BookView}
-use Rattle.lock_transforms.specs.Allowed.{Lawful}
-use Rattle.lock_transforms.specs.Entry.{Entry, replay}
+use Rattle.lock_transforms.specs.Entry.{Entry}
 use Rattle.lock_transforms.specs.declared.entries.Closed.{Closed}
-use Rattle.file_access.specs.Calls.{next}
 use Rattle.file_access.specs.SourceView.{SourceView}
 use Rattle.plan_reader.specs.Graph.{graph_of}
 use Rattle.plan_reader.specs.PlanView.{PlanView}
@@ -23,44 +19,9 @@ use Rattle.history_check.specs.declared.admitted.Admitted.TheVariants as admitte
 use Rattle.history_check.specs.declared.checks.Checked.TheVariants as checked
 use Rattle.history_check.specs.declared.fails.CheckFail.{CheckFail}
 use Rattle.history_check.specs.declared.fails.CheckFail.TheVariants as fails
-use Rattle.history_check.specs.Driving.{AreDriven, DrivesInput, FitsPlan, GoesOn, HasDriven, HasGoneOn, HasRead, IsAgain, IsDrivenAgain, IsStopCounted}
-use Rattle.history_check.specs.Truth.{AreTrue, closings_in}
+use Rattle.history_check.specs.Driving.{DrivesInput, FitsPlan, GoesOn, HasDriven, HasGoneOn, HasRead, IsAgain, IsDrivenAgain}
 use Rattle.history_check.specs.declared.again.Again.{Again}
 use Rattle.history_check.specs.declared.again.Again.TheVariants as again
-use Rattle.history_check.specs.declared.stops.Stop.{Stop}
-use Rattle.history_check.specs.declared.stops.Stop.TheVariants as stop
-
--- ---- entries that were admitted
-
-module _ (p : PlanView) (known : Option Folder) (Read : List Closed → Type 0) (a : Admitted) where
-  pub no_book : (n : ℕ) → a ≡ admitted.NotLawful n → Read [] → GoesOn p known Read a (again.NotLawful n)
-  no_book n is read = subst (λ (x : Admitted). GoesOn p known Read x (again.NotLawful n)) (sym is) (refl, read)
-
-  module _ (b : BookView) (is : a ≡ admitted.Lawful b) (lawful : Lawful b.graph b.history) where
-    goes : (found : Again) → IsAgain p b.graph None b.history known Read found → GoesOn p known Read a found
-    goes found h = subst (λ (x : Admitted). GoesOn p known Read x found) (sym is) h
-
-    pub same_book : b.state ≡ replay b.graph b.history → AreTrue p known b.history × Read (closings_in b.history) → GoesOn p known Read a (again.Same b)
-    same_book state driven = goes (again.Same b) (refl, record { graph = refl; entries = refl; lawful = lawful }, state, driven.0, driven.1)
-
-    pub differing : (s : Stop) (n : ℕ) (o : Outcome) → s ≡ stop.Differs n o → AreDriven p known b.history Read (Err s) → GoesOn p known Read a (again.Differs n o)
-    differing s n o same driven = goes (again.Differs n o) (refl, lawful, subst (λ (t : Stop). AreDriven p known b.history Read (Err t)) same driven)
-
-    pub unread : (s : Stop) (u : ℕ) → s ≡ stop.ReadFault u → AreDriven p known b.history Read (Err s) → GoesOn p known Read a (again.ReadFault u)
-    unread s u same driven = goes (again.ReadFault u) (refl, lawful, subst (λ (t : Stop). AreDriven p known b.history Read (Err t)) same driven)
-
-  pub without_memory : (es : List Entry) (s : Stop) → s ≡ stop.NoMemory → AreDriven p known es Read (Err s) → HasRead Read
-  without_memory es s same driven = subst (λ (t : Stop). AreDriven p known es Read (Err t)) same driven
-
--- the count of faults by what a stop says
-pub fault_counted : (before after : ℕ) (s : Stop) (u : ℕ) → s ≡ stop.ReadFault u → IsStopCounted before after (Err s) → after ≡ next before
-fault_counted before after s u same counted = subst (λ (t : Stop). IsStopCounted before after (Err t)) same counted
-
-pub difference_counted : (before after : ℕ) (s : Stop) (n : ℕ) (o : Outcome) → s ≡ stop.Differs n o → IsStopCounted before after (Err s) → after ≡ before
-difference_counted before after s n o same counted = subst (λ (t : Stop). IsStopCounted before after (Err t)) same counted
-
-pub memory_counted : (before after : ℕ) (s : Stop) → s ≡ stop.NoMemory → IsStopCounted before after (Err s) → after ≡ before
-memory_counted before after s same counted = subst (λ (t : Stop). IsStopCounted before after (Err t)) same counted
 
 -- ---- a whole history
 

@@ -117,6 +117,12 @@ HasDriven p old new known Read (Err fail) = Fails old new fail × HasRead Read
 
 -- ---- between the two
 
+-- what a lawful run comes to where driving it again stopped
+abbrev pub again_at : Stop → Result Again AllocError
+again_at (stop.Differs n o) = Ok (Differs n o)
+again_at (stop.ReadFault u) = Ok (ReadFault u)
+again_at stop.NoMemory = Err (record {})
+
 -- the entries that were admitted are of a graph with the plan's units
 abbrev pub FitsPlan : PlanView → Admitted → Type 0
 FitsPlan p (admitted.Lawful b) = b.graph.units ≡ length (plan_units p)

@@ -1,8 +1,10 @@
 //! What a recorded run comes to when it is driven again.
-ghost use Rattle.std.specs.Prelude.{◌≡◌};
+ghost use Rattle.std.specs.Prelude.{◌≡◌, length};
 ghost use Rattle.history_text.specs.Fitting.{HeadFits};
 ghost use Rattle.history_text.specs.HistoryView.{history_view};
-ghost use Rattle.history_check.specs.Driving.{FitsPlan, HasDriven, HasGoneOn, IsAgainCounted, IsDrivenAgain, ReadsFor};
+ghost use Rattle.plan_reader.specs.Units.{plan_units};
+ghost use Rattle.history_check.specs.Driving.{FitsPlan, HasDriven, HasGoneOn, IsAgainCounted, IsDrivenAgain, ReadsFor, again_at};
+ghost use Rattle.history_check.specs.declared.admitted.Admitted.TheVariants as admissions;
 
 use crate::driving::drive_book;
 use crate::stops::Stop;
@@ -88,15 +90,41 @@ fn drive_admitted<F: Files>(
 {
     match admitted {
         Admitted::NotLawful(number) => Ok(Again::NotLawful(number)),
-        Admitted::Lawful(book) => {
-            // Of the state, that the history that leads to it is lawful.
-            let _ = book.state();
-            match drive_book(alloc, plan, &book, files) {
-                Ok(()) => Ok(Again::Same(book)),
-                Err(Stop::Differs(number, value)) => Ok(Again::Differs(number, value)),
-                Err(Stop::ReadFault(unit)) => Ok(Again::ReadFault(unit)),
-                Err(Stop::NoMemory) => Err(AllocError),
-            }
+        Admitted::Lawful(book) => drive_lawful(alloc, plan, book, files),
+    }
+}
+
+// Drives the book of a lawful history again.
+fn drive_lawful<F: Files>(
+    alloc: Global,
+    plan: &Plan,
+    book: Book,
+    files: &mut F,
+) -> Result<Again, AllocError>
+    requires { book.graph.units ≡ length (plan_units plan.now) }
+    ensures files { F.files files.new ≡ F.files files.old }
+    ensures counted { IsAgainCounted (F.faults files.old) (F.faults files.new) result }
+    ensures gone_on { HasGoneOn plan.now (F.files files.old) (ReadsFor F.keeps files.old files.new) (admissions.Lawful book) result }
+{
+    // Of the state, that the history that leads to it is lawful.
+    let _ = book.state();
+    match drive_book(alloc, plan, &book, files) {
+        Ok(()) => Ok(Again::Same(book)),
+        Err(stop) => {
+            // Let go of as a whole: to prove that it ends field by field takes a minute.
+            drop(book);
+            stopped(stop)
         }
+    }
+}
+
+// What a lawful run comes to where driving it again stopped.
+fn stopped(stop: Stop) -> Result<Again, AllocError>
+    ensures { result ≡ again_at stop }
+{
+    match stop {
+        Stop::Differs(number, value) => Ok(Again::Differs(number, value)),
+        Stop::ReadFault(unit) => Ok(Again::ReadFault(unit)),
+        Stop::NoMemory => Err(AllocError),
     }
 }

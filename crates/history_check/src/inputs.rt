@@ -78,7 +78,11 @@ fn check_behind<I: Source>(
     let opened = open_check::<Reached, I>(alloc, plan, version, input, lines)?;
     match opened {
         None => Ok(Checked::NotLawful(0)),
-        Some(mut check) => check_lines(alloc, &mut check, input, lines),
+        Some(mut check) => {
+            let answer = check_lines(alloc, &mut check, input, lines);
+            drop(check);
+            answer
+        }
     }
 }
 
@@ -96,10 +100,14 @@ fn admit_behind<I: Source>(
     let opened = open_check::<Book, I>(alloc, plan, version, input, lines)?;
     match opened {
         None => Ok(Admitted::NotLawful(0)),
-        Some(mut check) => {
-            let answer = check_lines(alloc, &mut check, input, lines)?;
-            Ok(check.finish(answer))
-        }
+        Some(mut check) => match check_lines(alloc, &mut check, input, lines) {
+            Ok(answer) => Ok(check.finish(answer)),
+            Err(fail) => {
+                // Let go of as a whole: to prove that it ends field by field takes a minute.
+                drop(check);
+                Err(fail)
+            }
+        },
     }
 }
 

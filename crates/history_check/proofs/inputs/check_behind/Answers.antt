@@ -14,7 +14,7 @@ returns-in-None g c = λ start so_far.
 
 pub returns-in-Some : goal.returns-in-Some
 returns-in-Some g c = λ start so_far.
-    checked_input c.args.plan.now start (g.I.Source.seen c.check_lines.new.input) c.check_lines.new.check c.check_lines.result
-    (c.check_lines.ensures c.args.plan.now start
+    checked_input c.args.plan.now start (g.I.Source.seen c.check_lines-answer.new.input) c.check_lines-answer.new.check c.check_lines-answer.result
+    (c.check_lines-answer.ensures c.args.plan.now start
     (opened_some c.args.plan.now start (g.I.Source.seen c.open_check.new.input) c.open_check.new.lines c.in_ok-opened.opened c.in-Some.check c.in-Some.is
     (c.in_ok-opened.ensures.head start so_far)))

@@ -1,6 +1,6 @@
 use Rattle.std.proofs.Common.{◌≡◌, take}
 use Rattle.file_access.specs.Folders.{folder_of}
-use Rattle.gate_cases.proofs.calls.copies_of.Given as goal
+use Rattle.case_files.proofs.desks.copies_of.Given as goal
 
 -- the files so far are copied
 abbrev pub invariant-loop-file : goal.invariant-loop-file

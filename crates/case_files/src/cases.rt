@@ -1,8 +1,8 @@
 //! What a case file says of the calls of a case.
-use crate::calls::copies_of;
+use crate::desks::copies_of;
 use crate::each::{Each, each_of};
-use crate::sections::{Section, number_in, number_of, rest_of};
-use anyhow::{Result, anyhow};
+use crate::fails::CaseFail;
+use crate::sections::{Section, number_of, rest_of};
 use file_access::FileEntry;
 use item_actions::Text;
 use std::alloc::{AllocError, Global};
@@ -12,43 +12,46 @@ const AMPLE: u64 = 2_000_000;
 
 /// How much a call's input and output move, how long items wait, and how many calls of the desks have to fail.
 #[derive(Clone, Copy)]
-pub(crate) struct Limits {
+pub struct Limits {
     /// How many bytes the output takes.
-    pub(crate) room: u64,
+    pub room: u64,
     /// How many bytes the input gives and the output takes in a call, at most.
-    pub(crate) piece: u64,
+    pub piece: u64,
     /// For how many turns units 0 and 1 wait for each other.
-    pub(crate) turns: u64,
+    pub turns: u64,
     /// How many calls of the desks have to fail at least, where the failed ones are counted.
-    pub(crate) least_faults: u64,
+    pub least_faults: u64,
 }
+
+const AMPLE_LIMITS: Limits = Limits {
+    room: AMPLE,
+    piece: AMPLE,
+    turns: 0,
+    least_faults: 0,
+};
 
 /// The calls of a case.
 #[derive(Drop)]
-pub(crate) struct Case<'a> {
+pub struct Case<'a> {
     sections: &'a [Section<'a>],
-    pub(crate) limits: Limits,
+    /// How much the calls move, how long items wait, and how many calls of the desks have to fail.
+    pub limits: Limits,
     /// How the calls differ from one another, where there are several.
-    pub(crate) each: Option<Each>,
+    pub each: Option<Each>,
     /// The words after the program's name.
-    pub(crate) words: Vec<Text>,
+    pub words: Vec<Text>,
     /// The files, which each desk has.
-    pub(crate) files: Vec<FileEntry>,
+    pub files: Vec<FileEntry>,
     /// The bytes of the input.
-    pub(crate) input: Vec<u8>,
+    pub input: Vec<u8>,
 }
 
 impl<'a> Case<'a> {
-    // A call without words, files and input, with these sections.
-    fn new(
-        alloc: Global,
-        sections: &'a [Section<'a>],
-        limits: Limits,
-        each: Option<Each>,
-    ) -> Case<'a> {
+    // A call without words, files and input, with these sections and ample limits.
+    fn new(alloc: Global, sections: &'a [Section<'a>], each: Option<Each>) -> Case<'a> {
         Case {
             sections,
-            limits,
+            limits: AMPLE_LIMITS,
             each,
             words: Vec::new(alloc),
             files: Vec::new(alloc),
@@ -56,23 +59,31 @@ impl<'a> Case<'a> {
         }
     }
 
+    /// The bytes of the input of the call of this number.
+    pub(crate) fn input_of(&self, alloc: Global, number: usize) -> Result<Vec<u8>, AllocError> {
+        match self.each {
+            Some(each) => each.input(alloc, &self.input, number),
+            None => Vec::from_slice(alloc, &self.input),
+        }
+    }
+
     /// Whether there is a section of this kind.
-    pub(crate) fn has(&self, kind: &str) -> bool {
+    pub fn has(&self, kind: &str) -> bool {
         rest_of(self.sections, kind).is_some()
     }
 
     /// The numbers of the calls that fail, of those that the sections `fail` call so.
-    pub(crate) fn failing(&self, alloc: Global, calls: &str) -> Result<Vec<u64>> {
+    pub(crate) fn failing(&self, alloc: Global, calls: &str) -> Result<Vec<u64>, CaseFail> {
         self.numbers(alloc, "fail", calls)
     }
 
     /// The numbers of the calls that are answered by a lie, of those that the sections `lie` call so.
-    pub(crate) fn lying(&self, alloc: Global, calls: &str) -> Result<Vec<u64>> {
+    pub(crate) fn lying(&self, alloc: Global, calls: &str) -> Result<Vec<u64>, CaseFail> {
         self.numbers(alloc, "lie", calls)
     }
 
     // The numbers in the sections of a kind whose heads go on like this.
-    fn numbers(&self, alloc: Global, kind: &str, calls: &str) -> Result<Vec<u64>> {
+    fn numbers(&self, alloc: Global, kind: &str, calls: &str) -> Result<Vec<u64>, CaseFail> {
         let mut numbers = Vec::new(alloc);
         for section in self.sections {
             if section.kind == kind
@@ -84,18 +95,36 @@ impl<'a> Case<'a> {
         Ok(numbers)
     }
 
-    /// The check of a history that was printed for the plan of this name, at the same files.
-    pub(crate) fn check_of(&self, alloc: Global, plan: &Text, history: &[u8]) -> Result<Case<'a>> {
-        let mut check = Case::new(alloc, &[], limits_of(&[])?, None);
-        add_words(alloc, &mut check.words, "check", ' ')?;
-        check.words.push(plan.copy(alloc)?)?;
-        check.files = copies_of(alloc, &self.files)?;
-        check.input.extend_from_slice(history)?;
-        Ok(check)
+    /// The check of a history that was printed for the plan of this name, at the same files. An error is want of memory.
+    pub fn check_of(
+        &self,
+        alloc: Global,
+        plan: &Text,
+        history: &[u8],
+    ) -> Result<Case<'a>, AllocError> {
+        let words = check_words(alloc, plan)?;
+        let files = copies_of(alloc, &self.files)?;
+        let input = Vec::from_slice(alloc, history)?;
+        Ok(Case {
+            sections: &[],
+            limits: AMPLE_LIMITS,
+            each: None,
+            words,
+            files,
+            input,
+        })
     }
 }
 
-/// What the sections say of a case's calls:
+// The words of a check of a history for the plan of this name.
+fn check_words(alloc: Global, plan: &Text) -> Result<Vec<Text>, AllocError> {
+    let mut words = Vec::new(alloc);
+    words.push(Text::from_str(alloc, "check")?)?;
+    words.push(plan.copy(alloc)?)?;
+    Ok(words)
+}
+
+/// What the sections say of a case's calls. An error is a number, bytes or a change that none are, bytes of no file, or want of memory.
 ///
 /// - `words W W ..`: words, with single spaces between them. `word W`: the rest of the head is one word.
 /// - `file NAME`: a file of the section's other lines. `bytes DIGITS`: further bytes of the last file, in hexadecimal
@@ -115,28 +144,41 @@ impl<'a> Case<'a> {
 ///   them.
 /// - `each ..`: there is a call for each change of the input or each failure, as `each.rt` says. Of calls in a row that
 ///   wrote the same, what they wrote is printed once.
-pub(crate) fn case_of<'a>(alloc: Global, sections: &'a [Section<'a>]) -> Result<Case<'a>> {
-    let limits = limits_of(sections)?;
+pub fn case_of<'a>(alloc: Global, sections: &'a [Section<'a>]) -> Result<Case<'a>, CaseFail> {
     let each = each_of(rest_of(sections, "each"))?;
-    let mut case = Case::new(alloc, sections, limits, each);
-    for section in sections {
-        add_section(alloc, &mut case, section)?;
+    let mut case = Case::new(alloc, sections, each);
+    match add_all(alloc, &mut case, sections) {
+        Ok(()) => Ok(case),
+        Err(fail) => {
+            // Let go of as a whole: to prove that it ends field by field takes long.
+            drop(case);
+            Err(fail)
+        }
     }
-    Ok(case)
 }
 
-// The limits that a case says, or ample ones.
-fn limits_of(sections: &[Section]) -> Result<Limits> {
-    Ok(Limits {
-        room: number_in(sections, "room", AMPLE)?,
-        piece: number_in(sections, "pieces", AMPLE)?,
-        turns: number_in(sections, "meet", 0)?,
-        least_faults: number_in(sections, "faults", 0)?,
-    })
+// Adds what the sections say.
+fn add_all(alloc: Global, case: &mut Case, sections: &[Section]) -> Result<(), CaseFail> {
+    for section in sections {
+        add_section(alloc, case, section)?;
+    }
+    Ok(())
 }
 
-// Adds what a section says of words, files or input.
-fn add_section(alloc: Global, case: &mut Case, section: &Section) -> Result<()> {
+// Sets the limit that a section says.
+fn set_limit(limits: &mut Limits, section: &Section) -> Result<(), CaseFail> {
+    let number = number_of(section.rest)?;
+    match section.kind {
+        "room" => limits.room = number,
+        "pieces" => limits.piece = number,
+        "meet" => limits.turns = number,
+        _ => limits.least_faults = number,
+    }
+    Ok(())
+}
+
+// Adds what a section says of words, files, input or limits.
+fn add_section(alloc: Global, case: &mut Case, section: &Section) -> Result<(), CaseFail> {
     match section.kind {
         "words" => add_words(alloc, &mut case.words, section.rest, ' '),
         "word" => add_words(alloc, &mut case.words, section.rest, '\n'),
@@ -144,12 +186,18 @@ fn add_section(alloc: Global, case: &mut Case, section: &Section) -> Result<()> 
         "bytes" | "fill" | "times" => add_to_last(alloc, &mut case.files, section),
         "input" => add_input(alloc, &mut case.input, section),
         "empty" => add_empty_lines(&mut case.input, section.rest),
+        "room" | "pieces" | "meet" | "faults" => set_limit(&mut case.limits, section),
         _ => Ok(()),
     }
 }
 
 // Adds the words of a text.
-fn add_words(alloc: Global, words: &mut Vec<Text>, text: &str, between: char) -> Result<()> {
+fn add_words(
+    alloc: Global,
+    words: &mut Vec<Text>,
+    text: &str,
+    between: char,
+) -> Result<(), CaseFail> {
     for word in text.split(between) {
         words.push(Text::from_str(alloc, word)?)?;
     }
@@ -173,7 +221,7 @@ fn bytes_of(alloc: Global, lines: Option<&str>) -> Result<Vec<u8>, AllocError> {
 }
 
 // Adds the file that a section says.
-fn add_file(alloc: Global, files: &mut Vec<FileEntry>, section: &Section) -> Result<()> {
+fn add_file(alloc: Global, files: &mut Vec<FileEntry>, section: &Section) -> Result<(), CaseFail> {
     let bytes = bytes_of(alloc, section.lines)?;
     let name = Text::from_str(alloc, section.rest)?;
     files.push(FileEntry { name, bytes })?;
@@ -181,9 +229,13 @@ fn add_file(alloc: Global, files: &mut Vec<FileEntry>, section: &Section) -> Res
 }
 
 // Adds bytes to the last file.
-fn add_to_last(alloc: Global, files: &mut Vec<FileEntry>, section: &Section) -> Result<()> {
+fn add_to_last(
+    alloc: Global,
+    files: &mut Vec<FileEntry>,
+    section: &Section,
+) -> Result<(), CaseFail> {
     let Some(file) = files.last_mut() else {
-        return Err(anyhow!("no file for further bytes"));
+        return Err(CaseFail::NoFile);
     };
     match section.kind {
         "bytes" => add_digits(alloc, &mut file.bytes, section.rest),
@@ -193,7 +245,7 @@ fn add_to_last(alloc: Global, files: &mut Vec<FileEntry>, section: &Section) -> 
 }
 
 // Adds the bytes that hexadecimal digits give; spaces between them don't count.
-fn add_digits(alloc: Global, bytes: &mut Vec<u8>, digits: &str) -> Result<()> {
+fn add_digits(alloc: Global, bytes: &mut Vec<u8>, digits: &str) -> Result<(), CaseFail> {
     let digits = digits.replace(alloc, ' ', "")?;
     let digits = hex::decode(alloc, digits)?;
     bytes.extend_from_slice(digits.as_slice())?;
@@ -201,7 +253,7 @@ fn add_digits(alloc: Global, bytes: &mut Vec<u8>, digits: &str) -> Result<()> {
 }
 
 // Adds a text so many times.
-fn fill(bytes: &mut Vec<u8>, rest: &str) -> Result<()> {
+fn fill(bytes: &mut Vec<u8>, rest: &str) -> Result<(), CaseFail> {
     let (times, text) = rest.split_once(' ').unwrap_or((rest, ""));
     for _ in 0..number_of(times)? {
         bytes.extend_from_slice(text.as_bytes())?;
@@ -210,7 +262,12 @@ fn fill(bytes: &mut Vec<u8>, rest: &str) -> Result<()> {
 }
 
 // Adds the lines of a section with a number for `{n}`.
-fn add_numbered(alloc: Global, bytes: &mut Vec<u8>, lines: &str, number: u64) -> Result<()> {
+fn add_numbered(
+    alloc: Global,
+    bytes: &mut Vec<u8>,
+    lines: &str,
+    number: u64,
+) -> Result<(), CaseFail> {
     let number = format!(in alloc; "{number}")?;
     let lines = lines.replace(alloc, "{n}", number.as_str())?;
     add_lines(bytes, lines.as_str())?;
@@ -218,7 +275,7 @@ fn add_numbered(alloc: Global, bytes: &mut Vec<u8>, lines: &str, number: u64) ->
 }
 
 // Adds the lines of a section so many times.
-fn add_times(alloc: Global, bytes: &mut Vec<u8>, section: &Section) -> Result<()> {
+fn add_times(alloc: Global, bytes: &mut Vec<u8>, section: &Section) -> Result<(), CaseFail> {
     let lines = section.lines.unwrap_or("");
     for turn in 0..number_of(section.rest)? {
         add_numbered(alloc, bytes, lines, turn)?;
@@ -227,7 +284,7 @@ fn add_times(alloc: Global, bytes: &mut Vec<u8>, section: &Section) -> Result<()
 }
 
 // Adds what a section says to the input.
-fn add_input(alloc: Global, input: &mut Vec<u8>, section: &Section) -> Result<()> {
+fn add_input(alloc: Global, input: &mut Vec<u8>, section: &Section) -> Result<(), CaseFail> {
     if let Some(lines) = section.lines {
         add_lines(input, lines)?;
     }
@@ -235,7 +292,7 @@ fn add_input(alloc: Global, input: &mut Vec<u8>, section: &Section) -> Result<()
 }
 
 // Adds so many empty lines to the input.
-fn add_empty_lines(input: &mut Vec<u8>, digits: &str) -> Result<()> {
+fn add_empty_lines(input: &mut Vec<u8>, digits: &str) -> Result<(), CaseFail> {
     let len = input.len().saturating_add(number_of(digits)? as usize);
     input.resize(len, b'\n')?;
     Ok(())

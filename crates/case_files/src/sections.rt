@@ -1,5 +1,5 @@
 //! The sections of a case.
-use anyhow::{Result, anyhow};
+use crate::fails::CaseFail;
 use std::alloc::Global;
 
 /// The kinds of sections.
@@ -10,14 +10,14 @@ static KINDS: [&str; 20] = [
 
 /// A section: its kind, which is the first word of its head, the rest of its head, and its other lines.
 #[derive(Clone, Copy)]
-pub(crate) struct Section<'a> {
+pub struct Section<'a> {
     pub(crate) kind: &'a str,
     pub(crate) rest: &'a str,
     pub(crate) lines: Option<&'a str>,
 }
 
 // The section of these lines. Empty lines at its end don't count.
-fn section_of(text: &str) -> Result<Section<'_>> {
+fn section_of(text: &str) -> Result<Section<'_>, CaseFail> {
     let text = text.trim_end_matches('\n');
     let (head, lines) = match text.split_once('\n') {
         Some((head, lines)) => (head, Some(lines)),
@@ -25,25 +25,26 @@ fn section_of(text: &str) -> Result<Section<'_>> {
     };
     let (kind, rest) = head.split_once(' ').unwrap_or((head, ""));
     if !KINDS.contains(&kind) {
-        return Err(anyhow!("no such section: {kind}"));
+        return Err(CaseFail::Section);
     }
     Ok(Section { kind, rest, lines })
 }
 
 // Adds the sections of a part of a case file. What stands before the first is passed over.
-fn add_sections<'a>(sections: &mut Vec<Section<'a>>, part: &'a str) -> Result<()> {
+fn add_sections<'a>(sections: &mut Vec<Section<'a>>, part: &'a str) -> Result<(), CaseFail> {
     for section in part.split("\n--- ").skip(1) {
         sections.push(section_of(section)?)?;
     }
     Ok(())
 }
 
-/// The sections that these parts of a case file have.
-pub(crate) fn sections_of<'a>(
+/// The sections of a case: those of the part that all cases of its file have, and then its own. An error is a section of no kind, or
+/// want of memory.
+pub fn sections_of<'a>(
     alloc: Global,
     shared: &'a str,
     own: &'a str,
-) -> Result<Vec<Section<'a>>> {
+) -> Result<Vec<Section<'a>>, CaseFail> {
     let mut sections = Vec::new(alloc);
     add_sections(&mut sections, shared)?;
     add_sections(&mut sections, own)?;
@@ -62,17 +63,9 @@ pub(crate) fn rest_of<'a>(sections: &[Section<'a>], kind: &str) -> Option<&'a st
 }
 
 /// The number that these digits write.
-pub(crate) fn number_of(digits: &str) -> Result<u64> {
+pub(crate) fn number_of(digits: &str) -> Result<u64, CaseFail> {
     match digits.parse::<u64>() {
         Ok(number) => Ok(number),
-        Err(_) => Err(anyhow!("no number: {digits}")),
-    }
-}
-
-/// The number in the last section of this kind, or another one where there is none.
-pub(crate) fn number_in(sections: &[Section], kind: &str, default: u64) -> Result<u64> {
-    match rest_of(sections, kind) {
-        Some(digits) => number_of(digits),
-        None => Ok(default),
+        Err(_) => Err(CaseFail::Digits),
     }
 }

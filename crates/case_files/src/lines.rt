@@ -3,8 +3,10 @@ use std::alloc::{AllocError, Global};
 
 /// What is written in place of a line.
 #[derive(Clone, Copy)]
-pub(crate) enum LineChange {
+pub enum LineChange {
+    /// Nothing.
     LeftOut,
+    /// It and the same once more.
     Twice,
     /// The next line and then this one. The last line is left out.
     BehindTheNext,

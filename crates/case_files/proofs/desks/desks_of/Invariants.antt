@@ -3,7 +3,7 @@ use Rattle.std.specs.Prelude.{IfSome}
 use Rattle.std.specs.List.{All}
 use Rattle.file_access.specs.Folders.{folder_of}
 use Rattle.daemon_desk.specs.MemoryDeskView.{MemoryDeskView, known_files}
-use Rattle.gate_cases.proofs.calls.desks_of.Given as goal
+use Rattle.case_files.proofs.desks.desks_of.Given as goal
 
 -- as many desks as turns, and each that knows its files has these
 abbrev pub invariant-loop-desk : goal.invariant-loop-desk

@@ -1,12 +1,12 @@
 //! Calls that differ from one another in their input, or in which call fails.
+use crate::fails::CaseFail;
 use crate::lines::{LineChange, line_change, with_changed_line};
-use anyhow::{Result, anyhow};
 use std::alloc::{AllocError, Global};
 use std::cmp::min;
 
 /// What differs from call to call.
 #[derive(Clone, Copy)]
-pub(crate) enum Each {
+pub enum Each {
     /// How many of the first bytes of the input there are.
     Beginning,
     /// Which byte of the input is another: of its bits these are kept, and then these turned over.
@@ -29,7 +29,7 @@ pub(crate) enum Each {
 /// - `line CHANGE`: each line of the input in turn is changed, as `lines.rt` says.
 /// - `take`, `put`: each call of the input or of the output fails in turn, and at last none.
 /// - `room`: the output takes no bytes, one, and so on up to all.
-pub(crate) fn each_of(rest: Option<&str>) -> Result<Option<Each>> {
+pub(crate) fn each_of(rest: Option<&str>) -> Result<Option<Each>, CaseFail> {
     let Some(rest) = rest else {
         return Ok(None);
     };
@@ -42,29 +42,29 @@ pub(crate) fn each_of(rest: Option<&str>) -> Result<Option<Each>> {
         "take" => Ok(Some(Each::Take)),
         "put" => Ok(Some(Each::Put)),
         "room" => Ok(Some(Each::Room)),
-        _ => Err(anyhow!("no such change: {rest}")),
+        _ => Err(CaseFail::Change),
     }
 }
 
 // Each text that differs in one byte, by this pattern of bits.
-fn each_byte(kept: u8, turned: &str) -> Result<Option<Each>> {
+fn each_byte(kept: u8, turned: &str) -> Result<Option<Each>, CaseFail> {
     match turned.parse::<u8>() {
         Ok(turned) => Ok(Some(Each::Byte(kept, turned))),
-        Err(_) => Err(anyhow!("no byte: {turned}")),
+        Err(_) => Err(CaseFail::Digits),
     }
 }
 
 // Each text that differs in one line, by the change of this name.
-fn each_line(change: &str) -> Result<Option<Each>> {
+fn each_line(change: &str) -> Result<Option<Each>, CaseFail> {
     match line_change(change) {
         Some(change) => Ok(Some(Each::Line(change))),
-        None => Err(anyhow!("no such change of a line: {change}")),
+        None => Err(CaseFail::Change),
     }
 }
 
 impl Each {
     /// How many calls there are, at most.
-    pub(crate) fn calls(&self, input: &[u8]) -> usize {
+    pub fn calls(&self, input: &[u8]) -> usize {
         match self {
             Each::Beginning => input.len().saturating_add(1),
             Each::Byte(_, _) => input.len(),
@@ -74,7 +74,7 @@ impl Each {
     }
 
     /// Whether a call without a failure is the last.
-    pub(crate) fn ends_without_failure(&self) -> bool {
+    pub fn ends_without_failure(&self) -> bool {
         matches!(self, Each::Take | Each::Put | Each::Room)
     }
 
