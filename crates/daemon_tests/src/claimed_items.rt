@@ -10,7 +10,7 @@ use coordination::{Coordination, Halt, Opened, Pass, openings_are_at_rest};
 use daemon_desk::Desk;
 use daemon_manager::Tally;
 use daemon_requirements::Work;
-use item_work::{PoolLock, Ran, SharedPool, run_item};
+use item_work::{Ran, SharedPool, run_item};
 use lease_service::current_lease;
 use lock_journal::Book;
 use lock_transforms::kinds::{Claim, Close, Start, Submit};
@@ -91,25 +91,36 @@ pub(crate) fn last_pass(service: &Coordination, passes: &mut Vec<Pass>) -> Resul
 }
 
 // Starts the task, and queues its items.
-fn queue<R: Wait + Abort>(rt: &R, service: &Coordination, pass: &mut Pass) -> Result<(), AllocError>
+fn queue_with<R: Wait + Abort>(
+    rt: &R,
+    service: &Coordination,
+    pass: &mut Pass,
+) -> Result<(), AllocError>
     requires { pass.old.service ≡ service.now.service }
 {
     enter(rt, service, pass, &Start { task: 0 })?;
     enter(rt, service, pass, &Submit { action: 0 })
 }
 
+// Starts the task and queues its items, with the last of the passes.
+fn queue<R: Wait + Abort>(rt: &R, opened: &mut Opened) -> Result<(), AllocError>
+    requires { All (λ p. p.service ≡ opened.old.service.service) opened.old.passes.items }
+    ensures { All (λ p. p.service ≡ opened.new.service.service) opened.new.passes.items }
+{
+    let Opened { service, passes } = opened;
+    let mut starter = last_pass(service, passes)?;
+    let queued = queue_with(rt, service, &mut starter);
+    drop(starter);
+    queued
+}
+
 /// A service over a task whose items are queued, and the passes of two workers that run items.
 pub(crate) fn queue_items<R: Wait + Abort>(rt: &R, alloc: Global) -> Result<Box<Opened>, AllocError>
     ensures { IfOk result (λ opened. All (λ p. p.service ≡ opened.value.service.service) opened.value.passes.items) }
 {
-    let opened = open(rt, alloc)?;
-    let Opened {
-        service,
-        mut passes,
-    } = Box::into_inner(opened);
-    let mut starter = last_pass(&service, &mut passes)?;
-    queue(rt, &service, &mut starter)?;
-    Ok(Box::new(alloc, Opened { service, passes })?)
+    let mut opened = open(rt, alloc)?;
+    queue(rt, &mut opened)?;
+    Ok(opened)
 }
 
 // Whether the pass runs this unit and nothing else.
@@ -142,11 +153,9 @@ pub(crate) fn claim<R: Wait + Abort>(
 
 /// Runs an item that the pass has claimed. What it leaves to stop is stopped once the item is closed.
 pub(crate) fn run_claimed<R: Wait, D: Desk, U: Ledger, F: Ledger>(
-    rt: &R,
-    alloc: Global,
+    pool: &SharedPool<'_, R, D::Link, U, F>,
     pass: &Pass,
     desk: &mut D,
-    pool: &PoolLock<D::Link, U, F>,
     mine: &mut Tally<U, F>,
     unit: u32,
     work: &Work,
@@ -159,8 +168,7 @@ pub(crate) fn run_claimed<R: Wait, D: Desk, U: Ledger, F: Ledger>(
     let Some(lease) = current_lease(pass) else {
         unreachable!()
     };
-    let shared = SharedPool { rt, alloc, pool };
-    run_item(&shared, &lease, desk, mine, unit, work)
+    run_item(pool, &lease, desk, mine, unit, work)
 }
 
 /// Closes an item that the pass has run.

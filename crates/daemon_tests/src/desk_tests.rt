@@ -39,12 +39,14 @@ fn ask<D: Desk>(
     alloc: Global,
     desk: &mut D,
     link: &mut D::Link,
-    request: &Request,
+    request: Request,
     line: &mut String,
 ) -> Result<(), AllocError>
-    requires { is_file_name request.now.file ≡ true }
+    requires { is_file_name request.file ≡ true }
 {
-    if let Err(fail) = desk.send(alloc, link, request) {
+    let sent = desk.send(alloc, link, &request);
+    drop(request);
+    if let Err(fail) = sent {
         return add_failed("send", fail, line);
     }
     match desk.receive(alloc, link) {
@@ -62,15 +64,17 @@ fn ask_both<D: Desk>(
     line: &mut String,
 ) -> Result<(), AllocError> {
     let lines = request(alloc, 0, ItemAction::Lines, keep)?;
-    ask(alloc, desk, link, &lines, line)?;
+    ask(alloc, desk, link, lines, line)?;
     let bytes = request(alloc, 1, ItemAction::Bytes, keep)?;
-    ask(alloc, desk, link, &bytes, line)
+    ask(alloc, desk, link, bytes, line)
 }
 
 // Starts a daemon for what is asked.
 fn start<D: Desk>(alloc: Global, desk: &mut D, asked: &Asked) -> Result<D::Link, DeskFail> {
     let asked = requirements(alloc, asked)?;
-    desk.start(alloc, &asked)
+    let started = desk.start(alloc, &asked);
+    drop(asked);
+    started
 }
 
 // Starts a daemon, asks it for the lines and then for the bytes of a.txt, in this mode, and stops it.

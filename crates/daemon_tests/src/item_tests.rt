@@ -1,5 +1,5 @@
 //! Tests of `item_work`: items on a.txt that daemons in memory work out, one after the other.
-ghost use Rattle.std.specs.Prelude.{◌≡◌, [], IfOk};
+ghost use Rattle.std.specs.Prelude.{◌≡◌, [], All, IfOk};
 ghost use Rattle.item_work.specs.Sends.{IsNamedFor};
 ghost use Rattle.daemon_tests.specs.Asking.{AsksProcess};
 
@@ -12,7 +12,7 @@ use daemon_desk::{Desk, MemoryDesk};
 use daemon_manager::{CountedPool, Event, Pool, Tallies, Tally};
 use daemon_requirements::{Isolation, Work};
 use item_actions::{ItemAction, Outcome, Text, is_file_name};
-use item_work::{PoolLock, Ran};
+use item_work::{PoolLock, Ran, SharedPool};
 use lock_transforms::Closed;
 use std::alloc::{AllocError, Global};
 use std::marker::Brand;
@@ -43,94 +43,88 @@ pub(crate) fn work(
     })
 }
 
+/// A pass of a service.
+#[derive(Drop)]
+struct Seat<'a> {
+    service: &'a Coordination,
+    pass: Pass,
+}
+
 // Has a worker claim a unit's item, run it in a daemon, and close it.
 fn run_unit<R: Wait + Abort, D: Desk, U: Ledger, F: Ledger>(
-    rt: &R,
-    alloc: Global,
+    pool: &SharedPool<'_, R, D::Link, U, F>,
     desk: &mut D,
-    pool: &PoolLock<D::Link, U, F>,
     mine: &mut Tally<U, F>,
-    service: &Coordination,
-    pass: &mut Pass,
+    seat: &mut Seat<'_>,
     unit: u32,
     work: &Work,
 ) -> Result<Outcome, AllocError>
-    requires service { pass.old.service ≡ service.now.service }
+    requires service { seat.old.pass.service ≡ seat.old.service.now.service }
     requires named { IsNamedFor work.now.isolation work.now.file }
-    ensures { pass.new.service ≡ pass.old.service }
+    ensures { seat.new.pass.service ≡ seat.new.service.now.service }
 {
-    claim(rt, service, pass, unit)?;
-    let Ran { outcome, spare } = run_claimed(rt, alloc, pass, desk, pool, mine, unit, work);
-    let closed = close_item(rt, service, pass, Closed { unit, outcome });
+    let Seat { service, pass } = seat;
+    claim(pool.rt, service, pass, unit)?;
+    let Ran { outcome, spare } = run_claimed(pool, pass, desk, mine, unit, work);
+    let closed = close_item(pool.rt, service, pass, Closed { unit, outcome });
     stop_spare(desk, spare);
     closed?;
     Ok(outcome)
 }
 
-// Has a worker run a unit's item in a daemon with this heap at least.
-fn add_worked<R: Wait + Abort, D: Desk, U: Ledger, F: Ledger>(
-    rt: &R,
-    alloc: Global,
-    desk: &mut D,
-    pool: &PoolLock<D::Link, U, F>,
-    mine: &mut Tally<U, F>,
-    service: &Coordination,
-    pass: &mut Pass,
-    unit: u32,
-    heap_mb: u32,
-    line: &mut String,
-) -> Result<(), AllocError>
-    requires { pass.old.service ≡ service.now.service }
-    ensures { pass.new.service ≡ pass.old.service }
-{
-    let work = work(rt, alloc, unit, heap_mb)?;
-    let outcome = run_unit(rt, alloc, desk, pool, mine, service, pass, unit, &work)?;
-    add_outcome(outcome, line)
-}
-
-// Has a worker run items, units 0 and so on, which ask for these heaps.
+// Has a worker run items, units 0 and so on, each in a daemon with this heap at least.
 fn add_each<R: Wait + Abort, D: Desk, U: Ledger, F: Ledger>(
-    rt: &R,
-    alloc: Global,
+    pool: &SharedPool<'_, R, D::Link, U, F>,
     desk: &mut D,
-    pool: &PoolLock<D::Link, U, F>,
     mine: &mut Tally<U, F>,
-    service: &Coordination,
-    pass: &mut Pass,
+    seat: &mut Seat<'_>,
     heaps: &[u32],
     line: &mut String,
 ) -> Result<(), AllocError>
-    requires { pass.old.service ≡ service.now.service }
+    requires { seat.old.pass.service ≡ seat.old.service.now.service }
 {
     let mut unit = 0u32;
     for heap_mb in heaps {
-        add_worked(
-            rt, alloc, desk, pool, mine, service, pass, unit, *heap_mb, line,
-        )?;
+        let work = work(pool.rt, pool.alloc, unit, *heap_mb)?;
+        let outcome = run_unit(pool, desk, mine, seat, unit, &work);
+        drop(work);
+        add_outcome(outcome?, line)?;
         unit = unit.saturating_add(1);
     }
     Ok(())
 }
 
+// Has a worker of the service run queued items.
+fn add_queued<R: Wait + Abort, D: Desk, U: Ledger, F: Ledger>(
+    pool: &SharedPool<'_, R, D::Link, U, F>,
+    desk: &mut D,
+    mine: &mut Tally<U, F>,
+    opened: &mut Opened,
+    heaps: &[u32],
+    line: &mut String,
+) -> Result<(), AllocError>
+    requires { All (λ p. p.service ≡ opened.old.service.service) opened.old.passes.items }
+{
+    let Opened { service, passes } = opened;
+    let pass = last_pass(service, passes)?;
+    let mut seat = Seat { service, pass };
+    let added = add_each(pool, desk, mine, &mut seat, heaps, line);
+    drop(seat);
+    added
+}
+
 // Queues items, and has a worker run them.
 fn add_items<R: Wait + Abort, D: Desk, U: Ledger, F: Ledger>(
-    rt: &R,
-    alloc: Global,
+    pool: &SharedPool<'_, R, D::Link, U, F>,
     desk: &mut D,
-    pool: &PoolLock<D::Link, U, F>,
     mine: &mut Tally<U, F>,
     heaps: &[u32],
     line: &mut String,
 ) -> Result<(), AllocError> {
-    let opened = queue_items(rt, alloc)?;
-    let Opened {
-        service,
-        mut passes,
-    } = Box::into_inner(opened);
-    let mut first = last_pass(&service, &mut passes)?;
-    add_each(
-        rt, alloc, desk, pool, mine, &service, &mut first, heaps, line,
-    )
+    let mut opened = queue_items(pool.rt, pool.alloc)?;
+    let added = add_queued(pool, desk, mine, &mut opened, heaps, line);
+    drop(opened);
+    added
 }
 
 /// Stops a daemon that is one too many, if there is one.
@@ -166,24 +160,29 @@ fn close<D: Desk, U: Ledger, F: Ledger>(
     pool.audit(all).into_events()
 }
 
-// The outcomes of these items on a new pool, and all events. The counts are in these ledgers.
+// The outcomes of these items on a new pool, and all events. The counts of reserved and of failed daemons are in these ledgers.
 fn add_counted<R: Wait + Abort, D: Desk, U: Ledger, F: Ledger>(
     rt: &R,
     alloc: Global,
     desk: &mut D,
-    reserved: Blank,
-    failed: Blank,
+    blanks: (Blank, Blank),
     heaps: &[u32],
     line: &mut String,
 ) -> Result<(), AllocError>
-    requires reserved { (reserved.name ≡ U.name) × (reserved.parts ≡ U.parts) × (U.parts ≡ 2) }
-    requires failed { (failed.name ≡ F.name) × (failed.parts ≡ F.parts) × (F.parts ≡ 2) }
+    requires reserved { (blanks.0.name ≡ U.name) × (blanks.0.parts ≡ U.parts) × (U.parts ≡ 2) }
+    requires failed { (blanks.1.name ≡ F.name) × (blanks.1.parts ≡ F.parts) × (F.parts ≡ 2) }
 {
     let pool = Pool::new(alloc)?;
+    let (reserved, failed) = blanks;
     let (pool, mut all) = CountedPool::<D::Link, U, F>::new(pool, reserved, failed);
     let pool = Mutex::new(pool);
     let mut mine = all.split_off();
-    let added = add_items(rt, alloc, desk, &pool, &mut mine, heaps, line);
+    let shared = SharedPool {
+        rt,
+        alloc,
+        pool: &pool,
+    };
+    let added = add_items(&shared, desk, &mut mine, heaps, line);
     all.merge(mine);
     let events = close(desk, pool, all);
     added?;
@@ -201,12 +200,14 @@ fn ran<R: Wait + Abort>(
 ) -> Result<String, AllocError> {
     let mut desk = desk(alloc, failing, lie)?;
     let mut line = String::new(alloc);
-    let reserved = Blank::new(2);
-    let failed = Blank::new(2);
-    add_counted::<R, MemoryDesk, Brand, Brand>(
-        rt, alloc, &mut *desk, reserved, failed, heaps, &mut line,
-    )?;
-    write!(line, "{} failed", desk.count())?;
+    let blanks = (Blank::new(2), Blank::new(2));
+    let added = add_counted::<R, MemoryDesk, Brand, Brand>(
+        rt, alloc, &mut *desk, blanks, heaps, &mut line,
+    );
+    let count = desk.count();
+    drop(desk);
+    added?;
+    write!(line, "{count} failed")?;
     Ok(line)
 }
 

@@ -102,7 +102,9 @@ fn a_daemon_is_used_again_where_it_covers(rt: HostRuntime) -> Result<(), AllocEr
 // Whether an idle daemon serves for this mode.
 fn is_reserved(alloc: Global, pool: &mut Pool<Link>, keep: KeepAlive) -> Result<bool, AllocError> {
     let asked = requirements(alloc, &Asked { keep, ..PLAIN })?;
-    match pool.reserve_idle(1, &asked)? {
+    let found = pool.reserve_idle(1, &asked);
+    drop(asked);
+    match found? {
         Some(reserved) => {
             let _ = pool.release(reserved);
             Ok(true)
@@ -138,7 +140,9 @@ fn fails(alloc: Global, pool: &mut Pool<Link>) -> Result<bool, AllocError> {
     let is_first = is_first(&mut reserved);
     reserved.link().settled = false;
     let link = pool.fail(reserved);
-    Ok(is_first && heap_of(&link) == 512 && has_failed(pool))
+    let has_heap = heap_of(&link) == 512;
+    drop(link);
+    Ok(is_first && has_heap && has_failed(pool))
 }
 
 // Whether an idle daemon serves in its own mode, and a daemon that failed isn't used again.

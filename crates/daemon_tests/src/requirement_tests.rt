@@ -4,11 +4,20 @@ use daemon_requirements::{Linked, PairList, RequirementRefusal, Requirements};
 use item_actions::KeepAlive;
 use std::alloc::{AllocError, Global};
 
+// Whether a daemon of these requirements covers what is asked for.
+fn covers_asked(alloc: Global, daemon: &Requirements, asked: &Asked) -> Result<bool, AllocError> {
+    let asked = requirements(alloc, asked)?;
+    let covered = daemon.covers(&asked);
+    drop(asked);
+    Ok(covered)
+}
+
 // Whether a daemon for the first covers what the second asks for.
 fn covers(alloc: Global, daemon: &Asked, asked: &Asked) -> Result<bool, AllocError> {
     let daemon = requirements(alloc, daemon)?;
-    let asked = requirements(alloc, asked)?;
-    Ok(daemon.covers(&asked))
+    let covered = covers_asked(alloc, &daemon, asked);
+    drop(daemon);
+    covered
 }
 
 const A_1: Asked = Asked {
@@ -147,9 +156,17 @@ static ONE_OF_EACH: Asked = Asked {
 // Whether a copy of what is asked covers it, is covered by it and has its heap.
 fn copies(alloc: Global, asked: &Asked) -> Result<bool, AllocError> {
     let requirements = requirements(alloc, asked)?;
+    let are_same = is_copied(alloc, &requirements);
+    drop(requirements);
+    are_same
+}
+
+fn is_copied(alloc: Global, requirements: &Requirements) -> Result<bool, AllocError> {
     let copy = requirements.copy(alloc)?;
-    let are_same = requirements.covers(&copy) && copy.covers(&requirements);
-    Ok(are_same && copy.fields().heap_mb == 512)
+    let is_same = requirements.covers(&copy) && copy.covers(requirements);
+    let has_heap = copy.fields().heap_mb == 512;
+    drop(copy);
+    Ok(is_same && has_heap)
 }
 
 /// A link that is nothing but the requirements that it is made for, and whether it is settled.

@@ -162,8 +162,11 @@ fn has_tasks_of(graph: &Graph, locks: &[u32]) -> bool {
 #[test]
 fn a_task_that_asks_for_all_projects_has_their_lock(rt: HostRuntime) -> Result<(), Fail> {
     let plan = read_plan(rt.alloc(), ALL_PROJECTS.as_bytes())?;
-    let parallel = has_locks(rt.alloc(), &plan, true, [0, 3, 2, 4])?;
-    let alone = has_locks(rt.alloc(), &plan, false, [0, 1, 0, 2])?;
-    assert!(rt; ask_in_turn(&plan) && parallel && alone);
+    assert!(rt; ask_in_turn(&plan) && has_locks_of_both(rt.alloc(), &plan)?);
     Ok(())
+}
+
+// Whether the graphs of the plan have their locks, where projects have locks of their own and where they don't.
+fn has_locks_of_both(alloc: Global, plan: &Plan) -> Result<bool, AllocError> {
+    Ok(has_locks(alloc, plan, true, [0, 3, 2, 4])? && has_locks(alloc, plan, false, [0, 1, 0, 2])?)
 }

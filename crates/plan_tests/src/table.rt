@@ -46,10 +46,18 @@ fn is_large(requirements: &Value) -> bool {
         && keep_alive_of(requirements) == "daemon"
 }
 
+// Whether the document has the large requirements, read by every key.
+fn has_large(document: &Value) -> bool {
+    match requirements_of(document) {
+        [large] => is_large(large),
+        _ => false,
+    }
+}
+
 #[test]
 fn every_key_of_requirements_is_read(rt: HostRuntime) -> Result<(), Fail> {
     let document = read_document(rt.alloc(), EVERY_KEY.as_bytes())?;
-    assert!(rt; matches!(requirements_of(&document).first(), Some(large) if is_large(large)));
+    assert!(rt; has_large(&document));
     Ok(())
 }
 
@@ -145,15 +153,19 @@ fn is_unknown(refusal: Option<PlanRefusal>) -> bool {
     matches!(refusal, Some(PlanRefusal::UnknownKey(place)) if place.number == 0)
 }
 
+// How the document of a text is refused, if it is.
+fn refusal_of(alloc: Global, text: &str) -> Result<Option<PlanRefusal>, PlanFail> {
+    let document = read_document(alloc, text.as_bytes())?;
+    Ok(table_refusal(&document))
+}
+
 #[test]
 fn whether_all_projects_are_asked_for_is_a_boolean_of_a_task(rt: HostRuntime) -> Result<(), Fail> {
     for text in &NOT_SAID {
-        let document = read_document(rt.alloc(), text.as_bytes())?;
-        assert!(rt; is_wrong_type(table_refusal(&document)));
+        assert!(rt; is_wrong_type(refusal_of(rt.alloc(), text)?));
     }
     for text in &NO_KEY_THERE {
-        let document = read_document(rt.alloc(), text.as_bytes())?;
-        assert!(rt; is_unknown(table_refusal(&document)));
+        assert!(rt; is_unknown(refusal_of(rt.alloc(), text)?));
     }
     Ok(())
 }
@@ -177,28 +189,46 @@ fn has_lists(alloc: Global, large: &mut Value) -> bool {
         && take_variables(alloc, large).len() == 1
 }
 
+// Whether the texts and the lists of the large requirements are taken, and its name stays.
+fn are_taken(alloc: Global, taken: &mut [Value]) -> Result<bool, AllocError> {
+    match taken {
+        [large] => Ok(
+            has_texts(alloc, large, "java", "US-ASCII")?
+                && has_lists(alloc, large)
+                && name_of(large) == "large"
+                && args_of(large).is_empty(),
+        ),
+        _ => Ok(false),
+    }
+}
+
 #[test]
 fn texts_of_requirements_are_taken(rt: HostRuntime) -> Result<(), Fail> {
     let mut document = read_document(rt.alloc(), EVERY_KEY.as_bytes())?;
     let mut taken = take_requirements(rt.alloc(), &mut document);
-    assert!(rt; taken.len() == 1 && requirements_of(&document).is_empty());
-    for large in &mut taken {
-        let has_texts = has_texts(rt.alloc(), large, "java", "US-ASCII")?;
-        assert!(rt; has_texts && has_lists(rt.alloc(), large));
-        assert!(rt; name_of(large) == "large" && args_of(large).is_empty());
-    }
+    assert!(rt; requirements_of(&document).is_empty() && are_taken(rt.alloc(), &mut taken)?);
     Ok(())
+}
+
+// Whether the texts that requirements don't say are taken as their defaults.
+fn are_defaults(alloc: Global, taken: &mut [Value]) -> Result<bool, AllocError> {
+    match taken {
+        [plain] => has_texts(alloc, plain, "self", "UTF-8"),
+        _ => Ok(false),
+    }
+}
+
+// Whether no projects and one task are taken.
+fn are_tables_taken(alloc: Global, document: &mut Value) -> bool {
+    take_projects(alloc, document).is_empty() && take_tasks(alloc, document).len() == 1
 }
 
 #[test]
 fn absent_texts_are_taken_as_their_defaults(rt: HostRuntime) -> Result<(), Fail> {
     let mut document = read_document(rt.alloc(), NO_KEY.as_bytes())?;
     let mut taken = take_requirements(rt.alloc(), &mut document);
-    assert!(rt; taken.len() == 1);
-    for plain in &mut taken {
-        assert!(rt; has_texts(rt.alloc(), plain, "self", "UTF-8")?);
-    }
-    assert!(rt; take_projects(rt.alloc(), &mut document).is_empty());
-    assert!(rt; take_tasks(rt.alloc(), &mut document).len() == 1);
+    assert!(rt;
+        are_tables_taken(rt.alloc(), &mut document) && are_defaults(rt.alloc(), &mut taken)?
+    );
     Ok(())
 }

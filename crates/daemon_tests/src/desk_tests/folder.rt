@@ -49,6 +49,17 @@ fn remove_files(rt: &HostRuntime) -> io::Result<()> {
     fs::remove_file(rt, "daemon_desk_came")
 }
 
+// What the desk gets of a child for what is asked, and how many of its calls failed.
+fn ask_and_count<R: rt::Files + Processes<Started = SystemProcess>>(
+    alloc: Global,
+    desk: &mut FolderDesk<&R>,
+    asked: &Asked,
+    line: &mut String,
+) -> Result<(), AllocError> {
+    ask_twice(alloc, desk, asked, Some(asked.keep), line)?;
+    write!(line, "{} failed", desk.count())
+}
+
 // What a desk whose own program is `program` gets of a child for what is asked, and how many of its calls failed. Whether a
 // request can still be sent to a child that ended isn't known, so both steps have one name here.
 fn seen<R: rt::Files + Processes<Started = SystemProcess>>(
@@ -60,8 +71,9 @@ fn seen<R: rt::Files + Processes<Started = SystemProcess>>(
     let program = Text::from_str(alloc, program)?;
     let mut desk = FolderDesk::new(rt, alloc, program);
     let mut line = String::new(alloc);
-    ask_twice(alloc, &mut desk, asked, Some(asked.keep), &mut line)?;
-    write!(line, "{} failed", desk.count())?;
+    let asked = ask_and_count(alloc, &mut desk, asked, &mut line);
+    drop(desk);
+    asked?;
     line.as_str().replace(alloc, "send", "receive")
 }
 
@@ -148,16 +160,29 @@ fn add_read<R: rt::Files>(
 ) -> Result<(), AllocError> {
     let name = Text::from_str(alloc, name)?;
     let read = desk.read(alloc, &name, 10);
-    write!(line, "{}, {} failed. ", word(&read), desk.count())
+    let word = word(&read);
+    drop(read);
+    write!(line, "{word}, {} failed. ", desk.count())
 }
 
 // What comes of reading a file that isn't there, and then the folder itself.
+fn add_reads<R: rt::Files>(
+    alloc: Global,
+    desk: &mut FolderDesk<&R>,
+    line: &mut String,
+) -> Result<(), AllocError> {
+    add_read(alloc, desk, "daemon_desk_none", line)?;
+    add_read(alloc, desk, ".", line)
+}
+
+// What a desk of the folder comes to by these reads.
 fn reads<R: rt::Files>(rt: &R, alloc: Global) -> Result<String, AllocError> {
     let program = Text::from_str(alloc, "sh")?;
     let mut desk = FolderDesk::new(rt, alloc, program);
     let mut line = String::new(alloc);
-    add_read(alloc, &mut desk, "daemon_desk_none", &mut line)?;
-    add_read(alloc, &mut desk, ".", &mut line)?;
+    let added = add_reads(alloc, &mut desk, &mut line);
+    drop(desk);
+    added?;
     Ok(line)
 }
 

@@ -3,6 +3,7 @@ use super::ask_twice;
 use crate::asked::{Asked, PLAIN};
 use crate::lines::check;
 use crate::memory_desks::desk;
+use daemon_desk::MemoryDesk;
 use item_actions::KeepAlive;
 use std::alloc::{AllocError, Global};
 
@@ -18,6 +19,17 @@ static ASKED: Asked = Asked {
 type Row = (&'static [u64], Option<&'static [u8]>, &'static str);
 
 // What two requests in this mode come to, how many calls failed, and how many requests were sent.
+fn ask_and_count(
+    alloc: Global,
+    desk: &mut MemoryDesk,
+    keep: Option<KeepAlive>,
+    line: &mut String,
+) -> Result<(), AllocError> {
+    ask_twice(alloc, desk, &ASKED, keep, line)?;
+    write!(line, "{} failed, {} sent", desk.count(), desk.sent().len())
+}
+
+// What they come to on a desk of whose calls these fail, with this lie in place of the first reply.
 fn seen(
     alloc: Global,
     keep: Option<KeepAlive>,
@@ -26,8 +38,9 @@ fn seen(
 ) -> Result<String, AllocError> {
     let mut desk = desk(alloc, failing, lie)?;
     let mut line = String::new(alloc);
-    ask_twice(alloc, &mut *desk, &ASKED, keep, &mut line)?;
-    write!(line, "{} failed, {} sent", desk.count(), desk.sent().len())?;
+    let asked = ask_and_count(alloc, &mut desk, keep, &mut line);
+    drop(desk);
+    asked?;
     Ok(line)
 }
 

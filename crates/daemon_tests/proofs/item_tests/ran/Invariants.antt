@@ -1,7 +1,7 @@
 use Rattle.daemon_tests.proofs.item_tests.ran.Given as goal
 
 abbrev pub ghosts-add_counted-U-Ledger : goal.ghosts-add_counted-U-Ledger
-ghosts-add_counted-U-Ledger g a = record { name = a.reserved.name; parts = a.reserved.parts }
+ghosts-add_counted-U-Ledger g a = record { name = a.blanks.0.name; parts = a.blanks.0.parts }
 
 abbrev pub ghosts-add_counted-F-Ledger : goal.ghosts-add_counted-F-Ledger
-ghosts-add_counted-F-Ledger g a = record { name = a.failed.name; parts = a.failed.parts }
+ghosts-add_counted-F-Ledger g a = record { name = a.blanks.1.name; parts = a.blanks.1.parts }

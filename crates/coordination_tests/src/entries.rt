@@ -1,0 +1,106 @@
+//! Questions about the entries of a book.
+ghost use Rattle.std.specs.Prelude.{◌≡◌, ◌<◌, None, length};
+
+use coordination::{Coordination, Pass, Question};
+use lock_journal::Book;
+use lock_transforms::Kind;
+use resource_lock::{Change, WorkerId};
+use std::sync::Wait;
+use worker_choices::Awaited;
+
+/// An entry as it has to be.
+#[derive(Clone, Copy)]
+pub struct EntryRow<'a> {
+    /// Its place in the history.
+    pub place: u64,
+    /// What it is for.
+    pub kind: Kind,
+    /// The changes, or none where the transform failed.
+    pub changes: Option<&'a [Change]>,
+}
+
+// Whether the history has this entry.
+fn has_entry(book: &Book, row: &EntryRow<'_>) -> bool {
+    if row.place >= book.len() {
+        return false;
+    }
+    let shown = book.entry(row.place);
+    let as_changed = match row.changes {
+        Some(changes) => !shown.failed && shown.changes == changes,
+        None => shown.failed,
+    };
+    as_changed && shown.kind == row.kind
+}
+
+// Whether the history has all of these entries.
+fn has_entries(book: &Book, rows: &[EntryRow<'_>]) -> bool {
+    for row in rows {
+        if !has_entry(book, row) {
+            return false;
+        }
+    }
+    true
+}
+
+/// Whether the history has these entries.
+#[derive(Clone, Copy)]
+struct HasEntries<'a> {
+    rows: &'a [EntryRow<'a>],
+}
+
+impl Question for HasEntries<'_> {
+    type Answer = bool;
+
+    ghost answers = { λ _ _ _ _ _. Unit {0} };
+
+    ghost waits_on = { λ _ _ _ _. ⊥ };
+
+    ghost awaits = { λ _. None };
+
+    fn awaited(&self) -> Option<Awaited> {
+        None
+    }
+
+    fn ask(&self, _worker: WorkerId, book: &Book, _queued: bool) -> Option<bool> {
+        Some(has_entries(book, self.rows))
+    }
+}
+
+/// Whether the book's history has these entries.
+pub fn are_entries<R: Wait>(
+    rt: &R,
+    service: &Coordination,
+    pass: &mut Pass,
+    rows: &[EntryRow<'_>],
+) -> bool
+    requires { pass.old.service ≡ service.now.service }
+    ensures service { pass.new.service ≡ pass.old.service }
+    ensures worker { pass.new.sight.worker ≡ pass.old.sight.worker }
+{
+    matches!(service.ask(rt, pass, &HasEntries { rows }), Ok(true))
+}
+
+/// How many entries there are, once there are so many.
+#[derive(Clone, Copy)]
+pub struct EntriesFrom {
+    pub least: u64,
+}
+
+impl Question for EntriesFrom {
+    type Answer = u64;
+
+    ghost answers = { λ _ _ _ book entries. entries ≡ length book.history };
+
+    ghost waits_on = { λ q _ _ book. length book.history < q.least };
+
+    ghost awaits = { λ _. None };
+
+    fn awaited(&self) -> Option<Awaited> {
+        None
+    }
+
+    fn ask(&self, _worker: WorkerId, book: &Book, _queued: bool) -> Option<u64> {
+        let entries = book.len();
+        (self.least <= entries).then_some(entries)
+    }
+}

@@ -1,7 +1,0 @@
-use Rattle.resource_lock.specs.Shape.{BelongsTo}
-use Rattle.ready_work.specs.ReadyWork.{IsIndexOf}
-use Rattle.lock_tests.proofs.ready_work_tests.follows_all_steps.Given as goal
-
--- the index is that of the state
-abbrev pub invariant-loop-id : goal.invariant-loop-id
-invariant-loop-id l = BelongsTo l.graph l.state × IsIndexOf l.graph l.state l.ready

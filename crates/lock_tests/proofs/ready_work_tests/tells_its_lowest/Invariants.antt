@@ -1,7 +1,0 @@
-use Rattle.std.proofs.Common.{◌≤◌}
-use Rattle.ready_work.specs.NumberSetView.{room_of}
-use Rattle.lock_tests.proofs.ready_work_tests.tells_its_lowest.Given as goal
-
--- there is room for all
-abbrev pub invariant-loop-number : goal.invariant-loop-number
-invariant-loop-number l = 8192 ≤ room_of l.set

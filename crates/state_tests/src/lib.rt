@@ -1,0 +1,23 @@
+//! Tests of the crates from `resource_lock` to `lock_journal`, and graphs for those of the crates above.
+#![tactic(auto)]
+
+#[cfg(test)]
+mod all_projects_tests;
+#[cfg(test)]
+mod book_tests;
+#[cfg(test)]
+mod fitting;
+pub mod graphs;
+#[cfg(test)]
+mod indexed;
+#[cfg(test)]
+mod lock_calls;
+#[cfg(test)]
+mod numbers;
+#[cfg(test)]
+mod ready_work_tests;
+#[cfg(test)]
+mod resource_lock_tests;
+pub mod rows;
+#[cfg(test)]
+mod task_ranks_tests;

@@ -1,6 +1,0 @@
--- the pass is still the worker's, of the same service
-use Rattle.std.proofs.Common.{◌≡◌}
-use Rattle.worker_tests.proofs.coordination_tests.take_turns.Given as goal
-
-abbrev pub invariant-loop-turn : goal.invariant-loop-turn
-invariant-loop-turn g l = (l.pass.service ≡ l.initial.pass.service) × (l.pass.sight.worker ≡ l.initial.pass.sight.worker)
