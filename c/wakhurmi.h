@@ -32,6 +32,12 @@
  * wakhurmi_leases_out and wakhurmi_finish: by workers. wakhurmi_stop: constant, and all that wait wake. wakhurmi_history: by the bytes
  * written. wakhurmi_close: by entries, each of which is kept until then.
  *
+ * In which order calls get what they wait for. Whoever looks first gets what is free. But a call that has waited for 10 milliseconds, while 4
+ * entries or more let something go, is queued. From then on a later call waits for it, though it could be done at once, where both take one
+ * lock, or where the queued one found all leases out. Those aren't kept back so: wakhurmi_try_take; a call of a worker that has a lease, as
+ * the queued one may wait for just what that worker has; and any call that was kept back for 100 milliseconds, since a worker with a lock may
+ * wait elsewhere for the one that is kept back. wakhurmi_leave is queued for its lease, and not for its locks.
+ *
  * Calls of several threads may meet inside the service. Then all but one pause, and after some 20 microseconds each naps, for 50 or more at a
  * time, until it finds nobody inside. No comment below calls that waiting, no deadline ends it, and nothing bounds how often a call naps.
  * Where threads did nothing but call, one hand-back in a hundred napped 32 to 42 times or more, and the worst 1,713 times. Where they work
@@ -68,7 +74,8 @@ typedef enum {
 wakhurmi_answer wakhurmi_open(uint32_t workers, uint32_t max_leases, uint32_t locks, wakhurmi_service **service);
 
 /* Takes a lease and these locks in one entry: the locks that the worker doesn't own yet, and the lease where it has none. It waits
- * while another worker owns one of the locks, or the worker has no lease and as many as may be are out. `count` may be 0.
+ * while another worker owns one of the locks, or the worker has no lease and as many as may be are out; and for calls that are queued, as
+ * said above. `count` may be 0.
  *
  * OK          The worker has a lease, these locks, and all that it had before.
  * STOPPED     The call would have to wait, and the service has been stopped.

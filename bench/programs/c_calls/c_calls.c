@@ -3,6 +3,7 @@
  *     c_calls */
 #include <pthread.h>
 #include <stdatomic.h>
+#include <stdbool.h>
 #include <stdio.h>
 #include <stdlib.h>
 #include <sys/wait.h>
@@ -366,12 +367,63 @@ static void check_stops(void) {
     close_ended();
 }
 
-/* A stop before anybody waits is heard by the first who would, without any wake. */
+/* A stop before anybody waits is heard by the first who would, without any wake. A stop without a mark would be heard by nobody, and the
+ * deadline would end the call. */
 static void check_stop_beforehand(void) {
+    struct timespec soon = after(SECOND);
     open_service(2);
     EXPECT(OK, wakhurmi_stop(service));
     EXPECT(OK, wakhurmi_take(service, 0, zero, 1));
+    EXPECT(STOPPED, wakhurmi_take_until(service, 1, zero, 1, &soon));
     EXPECT(STOPPED, wakhurmi_take(service, 1, zero, 1));
+    close_ended();
+}
+
+static atomic_bool is_served, may_end;
+static atomic_int rounds;
+
+static void *take_both(void *worker) {
+    EXPECT(OK, wakhurmi_take(service, (uint32_t)(size_t)worker, both, 2));
+    atomic_store(&is_served, true);
+    while (!atomic_load(&may_end)) sleep_for(MILLISECOND);
+    return (void *)(size_t)wakhurmi_hand_back(service, (uint32_t)(size_t)worker);
+}
+
+static long time_of(struct timespec time) { return time.tv_sec * SECOND + time.tv_nsec; }
+
+/* Takes the second lock again and again, until worker 1 has been served. The longest take, in nanoseconds. */
+static void *take_one_again(void *worker) {
+    long longest = 0;
+    while (!atomic_load(&is_served)) {
+        long begin = time_of(after(0));
+        EXPECT(OK, wakhurmi_take(service, (uint32_t)(size_t)worker, one, 1));
+        long length = time_of(after(0)) - begin;
+        if (length > longest) longest = length;
+        EXPECT(OK, wakhurmi_hand_back(service, (uint32_t)(size_t)worker));
+        atomic_fetch_add(&rounds, 1);
+        if (atomic_load(&is_served)) break;
+    }
+    return (void *)longest;
+}
+
+/* Who waits for two locks is queued, also while one of them is free most of the time: who takes that one later is kept back, but not for
+ * longer than a tenth of a second. Once the other lock is handed back the one that is queued goes first. */
+static void check_queue(void) {
+    open_service(3);
+    EXPECT(OK, wakhurmi_take(service, 0, zero, 1));
+    pthread_t first = start(take_both, 1);
+    sleep_for(20 * MILLISECOND);
+    pthread_t later = start(take_one_again, 2);
+    sleep_for(400 * MILLISECOND);
+    int before = atomic_load(&rounds);
+    EXPECT(OK, wakhurmi_hand_back(service, 0));
+    while (!atomic_load(&is_served)) sleep_for(MILLISECOND);
+    demand(atomic_load(&rounds) <= before + 2, "who is queued goes first");
+    atomic_store(&may_end, true);
+    long longest = (long)result_of(later);
+    demand(longest >= 90 * MILLISECOND, "who comes later is kept back");
+    demand(longest < 10 * SECOND, "and is so for a while alone");
+    demand(result_of(first) == WAKHURMI_OK, "handed back");
     close_ended();
 }
 
@@ -386,7 +438,8 @@ int main(void) {
     check_early_end();
     check_fork();
     check_deadlines();
-    check_stops();
     check_stop_beforehand();
+    check_stops();
+    check_queue();
     return 0;
 }

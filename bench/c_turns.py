@@ -1,0 +1,66 @@
+#!/usr/bin/env python3
+"""Measures in C how locks that several threads want come round: the rounds of each thread, and the longest wait.
+
+bench/programs/c_turns runs with 8 and 32 threads over two locks, with work of 2 microseconds to 1 millisecond under the lock, by a
+service and by a plain mutex for each lock. Then eight threads have a lock each, most of the time, and a ninth takes all eight at once.
+Each row is judged: the fewest rounds of a thread are at least half the most, where the work is a millisecond; and no take waits for
+longer than 100 ms by a service (the ninth thread's too).
+
+The archive is made by c/build.sh, which proves crates/wakhurmi_c where that is still to be done. Not part of the gate.
+
+    bench/c_turns.py [SECONDS]
+
+SECONDS is for each row, 3 where it isn't given.
+
+Measured: HERE
+"""
+
+import pathlib
+import subprocess
+import sys
+import tempfile
+
+import measure
+
+TOP = measure.TOP
+SECONDS = sys.argv[1] if len(sys.argv) > 1 else "3"
+LENGTHS = {"2 us": 2_000, "20 us": 20_000, "1 ms": 1_000_000}
+
+# In milliseconds.
+LONGEST = 100
+
+
+def build(folder: pathlib.Path) -> pathlib.Path:
+    subprocess.run([str(TOP / "c/build.sh"), str(folder)], check=True, stdout=subprocess.DEVNULL)
+    program = folder / "c_turns"
+    source = TOP / "bench/programs/c_turns/c_turns.c"
+    words = ["cc", "-O2", "-Wall", "-Wextra", "-Werror", f"-I{folder}", str(source), "-o", str(program), f"-L{folder}", "-lwakhurmi", "-pthread"]
+    subprocess.run(words, check=True)
+    return program
+
+
+def turns(program: pathlib.Path, kind: str, threads: int, locks: int, length: int) -> list[int]:
+    words = [str(program), kind, str(threads), str(locks), str(length), SECONDS]
+    return [int(word) for word in subprocess.run(words, check=True, capture_output=True, text=True).stdout.split()]
+
+
+def main() -> None:
+    measure.skip_without("rt", "cc", "ar")
+    met = True
+    print("| Threads | Work | By | Rounds | Fewest | Most | Longest wait, ms |\n|---|---|---|---|---|---|---|")
+    with tempfile.TemporaryDirectory() as name:
+        program = build(pathlib.Path(name))
+        for threads in (8, 32):
+            for length, nanoseconds in LENGTHS.items():
+                for kind in ("service", "mutex"):
+                    rounds, fewest, most, _, longest, _ = turns(program, kind, threads, 2, nanoseconds)
+                    print(f"| {threads} | {length} | {kind} | {rounds} | {fewest} | {most} | {longest / 1000:.1f} |", flush=True)
+                    if kind == "service":
+                        met = met and longest <= LONGEST * 1000 and (nanoseconds < 1_000_000 or fewest * 2 >= most)
+        rounds, _, most, first, _, longest = turns(program, "several", 9, 8, 1_500_000)
+        print(f"\nOne that takes eight locks: {first} rounds, where the others had at most {most}; its longest wait {longest / 1000:.1f} ms.")
+        met = met and longest <= LONGEST * 1000
+    print("met: yes" if met else "met: no")
+
+
+main()

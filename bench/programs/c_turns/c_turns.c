@@ -1,0 +1,128 @@
+/* Threads that take locks again and again: how many rounds each has, and how long a take waits at most.
+ *
+ *     c_turns KIND THREADS LOCKS NANOSECONDS SECONDS
+ *
+ * In each round a thread takes the lock of its number, modulo LOCKS, works for so many nanoseconds, which is a sleep from half a millisecond
+ * on, and hands back. KIND says by what: `service` is a service with a lease for each thread, `mutex` a plain mutex for each lock. With
+ * `several` the service's first thread takes all locks at once, and rests for a millisecond between its rounds.
+ *
+ * It prints all rounds, the fewest and the most of a thread, those of the first, and the longest wait in microseconds of all and of the
+ * first. Where two threads have one lock at once it ends with status 1. */
+#include <pthread.h>
+#include <stdatomic.h>
+#include <stdbool.h>
+#include <stdio.h>
+#include <stdlib.h>
+#include <string.h>
+#include <time.h>
+#include <wakhurmi.h>
+
+enum { MOST_THREADS = 32, MOST_LOCKS = 8, WORK_BY_SLEEP = 500000, REST = 1000000 };
+#define SECOND 1000000000L
+
+typedef struct {
+    uint32_t worker;
+    long rounds, longest;
+} turns;
+
+static wakhurmi_service *service;
+static pthread_mutex_t mutexes[MOST_LOCKS];
+static atomic_uint owners[MOST_LOCKS];
+static atomic_bool ended;
+static bool by_mutex, several;
+static uint32_t locks;
+static long length;
+
+static void demand(bool holds, const char *what) {
+    if (holds) return;
+    fprintf(stderr, "wrong: %s\n", what);
+    exit(1);
+}
+
+static long now(void) {
+    struct timespec time;
+    clock_gettime(CLOCK_MONOTONIC, &time);
+    return time.tv_sec * SECOND + time.tv_nsec;
+}
+
+static void rest(long nanoseconds) { nanosleep(&(struct timespec){nanoseconds / SECOND, nanoseconds % SECOND}, NULL); }
+
+static void work(void) {
+    if (length >= WORK_BY_SLEEP) {
+        rest(length);
+    } else {
+        for (long begin = now(); now() - begin < length;) {}
+    }
+}
+
+static void take(uint32_t worker, const uint32_t *wanted, size_t count) {
+    if (by_mutex) {
+        pthread_mutex_lock(&mutexes[wanted[0]]);
+    } else {
+        demand(wakhurmi_take(service, worker, wanted, count) == WAKHURMI_OK, "a take");
+    }
+}
+
+static void hand_back(uint32_t worker, const uint32_t *wanted) {
+    if (by_mutex) {
+        pthread_mutex_unlock(&mutexes[wanted[0]]);
+    } else {
+        demand(wakhurmi_hand_back(service, worker) == WAKHURMI_OK, "a hand-back");
+    }
+}
+
+static void *turn_after_turn(void *argument) {
+    turns *own = argument;
+    bool takes_all = several && own->worker == 0;
+    uint32_t wanted[MOST_LOCKS] = {own->worker % locks};
+    size_t count = takes_all ? locks : 1;
+    for (uint32_t lock = 0; takes_all && lock < locks; lock++) wanted[lock] = lock;
+    while (!atomic_load(&ended)) {
+        long begin = now();
+        take(own->worker, wanted, count);
+        long waited = now() - begin;
+        if (waited > own->longest) own->longest = waited;
+        for (size_t at = 0; at < count; at++) demand(atomic_exchange(&owners[wanted[at]], own->worker + 1) == 0, "one owner");
+        work();
+        for (size_t at = 0; at < count; at++) atomic_store(&owners[wanted[at]], 0);
+        hand_back(own->worker, wanted);
+        own->rounds++;
+        if (takes_all) rest(REST);
+    }
+    return NULL;
+}
+
+static void print(const turns *all, uint32_t threads) {
+    long sum = 0, fewest = all[0].rounds, most = 0, longest = 0;
+    for (uint32_t at = 0; at < threads; at++) {
+        sum += all[at].rounds;
+        if (all[at].rounds < fewest) fewest = all[at].rounds;
+        if (all[at].rounds > most) most = all[at].rounds;
+        if (all[at].longest > longest) longest = all[at].longest;
+    }
+    printf("%ld %ld %ld %ld %ld %ld\n", sum, fewest, most, all[0].rounds, longest / 1000, all[0].longest / 1000);
+}
+
+int main(int count, char **words) {
+    demand(count == 6, "c_turns KIND THREADS LOCKS NANOSECONDS SECONDS");
+    by_mutex = strcmp(words[1], "mutex") == 0;
+    several = strcmp(words[1], "several") == 0;
+    uint32_t threads = (uint32_t)atoi(words[2]);
+    locks = (uint32_t)atoi(words[3]);
+    length = atol(words[4]);
+    demand(threads >= 1 && threads <= MOST_THREADS && locks >= 1 && locks <= MOST_LOCKS, "threads and locks");
+    for (uint32_t lock = 0; lock < locks; lock++) pthread_mutex_init(&mutexes[lock], NULL);
+    demand(wakhurmi_open(threads, threads, locks, &service) == WAKHURMI_OK, "a service");
+    turns all[MOST_THREADS] = {{0}};
+    pthread_t started[MOST_THREADS];
+    for (uint32_t at = 0; at < threads; at++) {
+        all[at].worker = at;
+        demand(pthread_create(&started[at], NULL, turn_after_turn, &all[at]) == 0, "a thread");
+    }
+    rest((long)(atof(words[5]) * SECOND));
+    atomic_store(&ended, true);
+    for (uint32_t at = 0; at < threads; at++) pthread_join(started[at], NULL);
+    print(all, threads);
+    wakhurmi_close(service);
+    return 0;
+}

@@ -1,0 +1,85 @@
+/* In which order calls that sleep get what they wait for. A part of wakhurmi.c, whose mutex is locked around each call of this one.
+ *
+ * Whoever looks first gets what is free, which is fast. But who sleeps looks late, so a worker that takes again and again could keep it
+ * waiting for ever. A call that has slept for a while, and was overtaken meanwhile, is queued. From then on a later call is kept back, and
+ * sleeps without a look, where both take the same lock, or where the queued one found all leases out. So what becomes free comes to the one
+ * that is queued, also where that takes several locks which are never free at once by chance.
+ *
+ * Two kinds of calls aren't kept back. That of a worker that has a lease or locks: the queued one may wait for just these. And one that
+ * was kept back for KEPT_BACK in all: a worker may have a lock, and wait outside of this service for the one that is kept back.
+ *
+ * Which locks wakhurmi_leave takes is known to the proved part alone, so such a call is queued for a lease, and not for locks. */
+#include <stdbool.h>
+#include <stddef.h>
+#include <stdint.h>
+
+#define MAX_WORKERS 32
+/* A call is queued once it has slept so many nanoseconds, and so often something was let go that it didn't get. Where locks are had for
+ * microseconds, to hand one over to a thread that sleeps takes longer than the work: so few are. */
+#define PATIENCE 10000000
+#define OVERTAKES 4
+/* In nanoseconds. */
+#define KEPT_BACK 100000000
+
+/* A call that sleeps. */
+typedef struct {
+    uint64_t number; /* The lower came earlier. */
+    const uint32_t *locks; /* Those that it takes, which strictly rise. */
+    size_t count;
+    bool found_none; /* At its last look all leases were out. */
+} arrival;
+
+typedef struct {
+    bool taken;
+    bool keeps_back; /* A call was kept back for it. */
+    arrival call;
+} queue_place;
+
+typedef struct {
+    uint32_t length;
+    queue_place places[MAX_WORKERS]; /* By worker. */
+} queue;
+
+/* Whether two lists that strictly rise have a lock in common. */
+static bool share_a_lock(const arrival *one, const arrival *other) {
+    for (size_t i = 0, k = 0; i < one->count && k < other->count;) {
+        if (one->locks[i] == other->locks[k]) return true;
+        if (one->locks[i] < other->locks[k]) {
+            i++;
+        } else {
+            k++;
+        }
+    }
+    return false;
+}
+
+/* Whether a call has to let one go first that came earlier. */
+static bool has_to_let_go_first(queue *all, const arrival *call) {
+    bool found = false;
+    for (uint32_t worker = 0; worker < MAX_WORKERS; worker++) {
+        queue_place *held = &all->places[worker];
+        if (!held->taken || held->call.number >= call->number) continue;
+        if (!held->call.found_none && !share_a_lock(&held->call, call)) continue;
+        held->keeps_back = found = true;
+    }
+    return found;
+}
+
+/* Queues a worker's call, which looked in vain, or notes what it found. True says that calls may go on that were kept back for it. */
+static bool queue_up(queue *all, uint32_t worker, const arrival *call) {
+    queue_place *held = &all->places[worker];
+    bool frees = held->keeps_back && held->call.found_none && !call->found_none;
+    if (frees) held->keeps_back = false;
+    if (!held->taken) all->length++;
+    held->taken = true;
+    held->call = *call;
+    return frees;
+}
+
+/* A worker's call leaves the queue. True says that calls may go on that were kept back for it. */
+static bool depart(queue *all, uint32_t worker) {
+    bool frees = all->places[worker].keeps_back;
+    all->places[worker] = (queue_place){0};
+    all->length--;
+    return frees;
+}
