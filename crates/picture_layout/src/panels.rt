@@ -26,13 +26,13 @@ pub(crate) const VIEWED: u64 = 32_768;
 
 /// The entries of a panel: from `first` on, before `behind`.
 #[derive(Clone, Copy)]
-struct Part {
+struct PanelEntries {
     first: u32,
     behind: u32,
 }
 
 /// Whether a span covers an entry of a panel.
-fn touches(part: Part, span: &Span) -> bool
+fn touches(part: PanelEntries, span: &Span) -> bool
     ensures { result ≡ touches part.first part.behind span.now }
 {
     span.from < u64::from(part.behind)
@@ -41,7 +41,7 @@ fn touches(part: Part, span: &Span) -> bool
 }
 
 /// The spans of these that cover an entry of a panel.
-fn shown_in(alloc: Global, spans: &[Span], part: Part) -> Result<Vec<Span>, AllocError>
+fn shown_in(alloc: Global, spans: &[Span], part: PanelEntries) -> Result<Vec<Span>, AllocError>
     ensures { IfOk result (λ shown. shown.items ≡ filter (touches part.first part.behind) spans.now) }
 {
     spans
@@ -56,7 +56,7 @@ fn shown_of(
     alloc: Global,
     before: &[Span],
     begun: &[Span],
-    part: Part,
+    part: PanelEntries,
 ) -> Result<Vec<Span>, AllocError>
     ensures { IfOk result (λ shown. shown.items ≡ filter (touches part.first part.behind) (before.now ++ begun.now)) }
 {
@@ -209,7 +209,7 @@ fn panel_at(
     workers: u32,
     scale: Scale,
     shown: Vec<Span>,
-    part: Part,
+    part: PanelEntries,
     top: u32,
 ) -> Result<Panel, LayoutFail>
     ensures panel { IfOk result (λ panel. panel_view panel ≡ panel_with workers scale part.first part.behind top shown.items) }
@@ -303,7 +303,7 @@ fn panels_from(
     for place in 0..scale.panels {
         let behind = (first + scale.size).min(end);
         let (begun, later) = split_begun(rest, behind);
-        let part = Part { first, behind };
+        let part = PanelEntries { first, behind };
         let shown = shown_of(alloc, shown_last(&panels), begun, part)?;
         let panel = panel_at(alloc, workers, scale, shown, part, place_of(top)?)?;
         top = panel.layout.bottom() + u64::from(spacing.gap);

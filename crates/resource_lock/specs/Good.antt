@@ -10,7 +10,8 @@ AllAlone s = (v w : WorkerId) (l k : LockId) → is_all s l ≡ true → owns s 
 
 -- At most max leases are out. Where a worker owns the all-projects lock, no other worker owns a lock. No worker owns a lock that it has
 -- parked, and no blocked worker has a lease.
--- No worker has parked a lock twice, and none but a lock of the state: undoing a change rests on these two. (That a lock has at most one owner is the form of the state.)
+-- No worker has parked a lock twice, and none but a lock of the state: undoing a change rests on these two. (That a lock
+-- has at most one owner is the form of the state.)
 pub record Good (s : StateView) : Type 0 where
   pub few_leases : leases_out s ≤ s.max_leases
   pub all_alone : AllAlone s
