@@ -1,7 +1,7 @@
 #!/usr/bin/env python3
 """500 random tables of tasks, each ordered by trying every order. Prints the sum that the test of task_ordering compares.
 
-The numbers come from the generator that the test has too (`Numbers` in library_tests, task_ordering_tests)."""
+The numbers come from the generator that the test has too (`Numbers` in ordering_and_ticket_tests, task_ordering_tests)."""
 from itertools import permutations
 
 TABLES = 500

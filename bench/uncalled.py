@@ -26,7 +26,7 @@ import schedule  # noqa: E402
 PROGRAM = "leases"
 
 # Crates that are no library for whoever embeds.
-OTHERS = re.compile(r"_tests$|^(leases|leases_picture|embedding|shared_connections|budgeted_daemons|gate_cases|wakhurmi_c)$")
+OTHERS = re.compile(r"_tests$|^(leases|leases_picture|embedding|shared_connections|budgeted_daemons|case_files|gate_cases|wakhurmi_c)$")
 
 EXPORT = re.compile(r"^pub use ([^;]*);", re.M)
 IMPL = re.compile(r"^impl\b(?:<[^{]*?>)? ?(?P<name>\w+)[^{]*?\{", re.M)
