@@ -3,8 +3,8 @@
 
 bench/programs/c_turns runs with 8 and 32 threads over two locks, with work of 2 microseconds to 1 millisecond under the lock, by a
 service and by a plain mutex for each lock. Then eight threads have a lock each, most of the time, and a ninth takes all eight at once.
-Each row is judged: the fewest rounds of a thread are at least half the most, where the work is a millisecond; and no take waits for
-longer than 100 ms by a service (the ninth thread's too).
+Each row of a service is judged: the fewest rounds of a thread are at least half the most, and no take waits for longer than 100 ms, the
+ninth thread's too.
 
 The archive is made by c/build.sh, which proves crates/wakhurmi_c where that is still to be done. Not part of the gate.
 
@@ -12,7 +12,8 @@ The archive is made by c/build.sh, which proves crates/wakhurmi_c where that is 
 
 SECONDS is for each row, 3 where it isn't given.
 
-Measured: HERE
+Measured: by a service no take waits longer than 29 ms, and the fewest rounds of a thread are 0.58 to 0.94 of the most; by mutexes 1,064 ms,
+and 0.23 to 0.90. The ninth thread has 203 rounds in 3 seconds, and waits 15 ms at most. A service makes 0.35 to 0.98 of the mutexes' rounds.
 """
 
 import pathlib
@@ -56,7 +57,7 @@ def main() -> None:
                     rounds, fewest, most, _, longest, _ = turns(program, kind, threads, 2, nanoseconds)
                     print(f"| {threads} | {length} | {kind} | {rounds} | {fewest} | {most} | {longest / 1000:.1f} |", flush=True)
                     if kind == "service":
-                        met = met and longest <= LONGEST * 1000 and (nanoseconds < 1_000_000 or fewest * 2 >= most)
+                        met = met and longest <= LONGEST * 1000 and fewest * 2 >= most
         rounds, _, most, first, _, longest = turns(program, "several", 9, 8, 1_500_000)
         print(f"\nOne that takes eight locks: {first} rounds, where the others had at most {most}; its longest wait {longest / 1000:.1f} ms.")
         met = met and longest <= LONGEST * 1000

@@ -381,6 +381,7 @@ static void check_stop_beforehand(void) {
 
 static atomic_bool is_served, may_end;
 static atomic_int rounds;
+static atomic_long longest;
 
 static void *take_both(void *worker) {
     EXPECT(OK, wakhurmi_take(service, (uint32_t)(size_t)worker, both, 2));
@@ -391,19 +392,17 @@ static void *take_both(void *worker) {
 
 static long time_of(struct timespec time) { return time.tv_sec * SECOND + time.tv_nsec; }
 
-/* Takes the second lock again and again, until worker 1 has been served. The longest take, in nanoseconds. */
+/* Takes the second lock again and again, until worker 1 has been served, and notes its longest take in nanoseconds. */
 static void *take_one_again(void *worker) {
-    long longest = 0;
     while (!atomic_load(&is_served)) {
         long begin = time_of(after(0));
         EXPECT(OK, wakhurmi_take(service, (uint32_t)(size_t)worker, one, 1));
         long length = time_of(after(0)) - begin;
-        if (length > longest) longest = length;
+        if (length > atomic_load(&longest)) atomic_store(&longest, length);
         EXPECT(OK, wakhurmi_hand_back(service, (uint32_t)(size_t)worker));
         atomic_fetch_add(&rounds, 1);
-        if (atomic_load(&is_served)) break;
     }
-    return (void *)longest;
+    return NULL;
 }
 
 /* Who waits for two locks is queued, also while one of them is free most of the time: who takes that one later is kept back, but not for
@@ -414,15 +413,17 @@ static void check_queue(void) {
     pthread_t first = start(take_both, 1);
     sleep_for(20 * MILLISECOND);
     pthread_t later = start(take_one_again, 2);
-    sleep_for(400 * MILLISECOND);
+    for (int looks = 0; atomic_load(&longest) < 90 * MILLISECOND; looks++) {
+        demand(looks < 3000, "who comes later is kept back");
+        sleep_for(10 * MILLISECOND);
+    }
     int before = atomic_load(&rounds);
     EXPECT(OK, wakhurmi_hand_back(service, 0));
     while (!atomic_load(&is_served)) sleep_for(MILLISECOND);
     demand(atomic_load(&rounds) <= before + 2, "who is queued goes first");
     atomic_store(&may_end, true);
-    long longest = (long)result_of(later);
-    demand(longest >= 90 * MILLISECOND, "who comes later is kept back");
-    demand(longest < 10 * SECOND, "and is so for a while alone");
+    result_of(later);
+    demand(atomic_load(&longest) < 10 * SECOND, "and is so for a while alone");
     demand(result_of(first) == WAKHURMI_OK, "handed back");
     close_ended();
 }
