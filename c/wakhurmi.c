@@ -374,7 +374,6 @@ wakhurmi_answer wakhurmi_finish(wakhurmi_service *service) {
 #define SHORT_LINE 1023
 #define LONGEST_LINE 99999
 
-
 /* A line of the history, where it fits. */
 static uint32_t write_line(handle *book, uint64_t place, char *buffer, size_t size, size_t *line) {
     size_t little = size < SHORT_LINE ? size : SHORT_LINE;
