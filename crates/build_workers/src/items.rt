@@ -220,7 +220,8 @@ where
     requires item { IsItemHere site.now.graph unit }
     requires claimed { Contains (claimed_shown worker.old.pass.sight) (ids.Unit unit) }
     requires lease { lease_shown worker.old.pass.sight ≡ true }
-    ensures ran { IfOk result (λ decided. HasRunBefore site.now worker.old worker.new (ShowsClosed unit) (λ s. HasDecided (AsTold TicketsTell (Q.answers next.now))
+    ensures ran { IfOk result (λ decided. HasRunBefore site.now worker.old worker.new (ShowsClosed unit)
+        (λ s. HasDecided (AsTold TicketsTell (Q.answers next.now))
         (Q.step_of next.now) Q.Step.kind_of Q.Step.makes Q.Step.fails_on Q.Step.retries_on s worker.new.pass.sight decided)) }
     ensures broken_off { OnErr result (Steps site.now worker.old worker.new false) }
 {
@@ -242,7 +243,8 @@ where
     requires of { IsOf site.now worker.old }
     requires item { IsItemHere site.now.graph unit }
     requires helps { CanHelp worker.old.pass.sight }
-    ensures helped { IfOk result (λ decided. HasRunBefore site.now worker.old worker.new ShowsTheSame (λ s. HasDecided (AsTold TicketsTell (Q.answers next.now))
+    ensures helped { IfOk result (λ decided. HasRunBefore site.now worker.old worker.new ShowsTheSame
+        (λ s. HasDecided (AsTold TicketsTell (Q.answers next.now))
         (Q.step_of next.now) Q.Step.kind_of Q.Step.makes Q.Step.fails_on Q.Step.retries_on s worker.new.pass.sight decided)) }
     ensures broken_off { OnErr result (Steps site.now worker.old worker.new false) }
 {
@@ -270,7 +272,8 @@ where
     Q::Answer: Drop,
     requires of { IsOf site.now worker.old }
     requires helps { CanHelp worker.old.pass.sight }
-    ensures helped { IfOk result (λ decided. HasRunBefore site.now worker.old worker.new ShowsTheSame (λ s. HasDecided (AsTold TicketsTell (Q.answers next.now))
+    ensures helped { IfOk result (λ decided. HasRunBefore site.now worker.old worker.new ShowsTheSame
+        (λ s. HasDecided (AsTold TicketsTell (Q.answers next.now))
         (Q.step_of next.now) Q.Step.kind_of Q.Step.makes Q.Step.fails_on Q.Step.retries_on s worker.new.pass.sight decided)) }
     ensures broken_off { OnErr result (Steps site.now worker.old worker.new false) }
 {
