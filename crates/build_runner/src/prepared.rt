@@ -2,9 +2,9 @@
 ghost use Rattle.std.specs.Prelude.{◌≡◌, ◌≤◌, [], All, IfOk, IfSome, Option, Some, length, map};
 ghost use Rattle.logbook.specs.Pages.{Book as Ledger};
 ghost use Rattle.resource_lock.specs.Opening.{opening_of};
-ghost use Rattle.resource_lock.specs.declared.limits.TheConstants.{MAX_LEASES, MAX_WORKERS};
 ghost use Rattle.coordination.specs.Passes.{ServiceId};
 ghost use Rattle.plan_reader.specs.Graph.{graph_of};
+ghost use Rattle.plan_reader.specs.declared.limits.TheConstants.{MAX_LEASES, MAX_WORKERS};
 ghost use Rattle.build_runner.specs.Prepared.{IsOpenedOn, IsPrepared};
 ghost use Rattle.build_runner.specs.Watching.{IsWatchedBy};
 ghost use Rattle.plan_reader.specs.Units.{unit_view};

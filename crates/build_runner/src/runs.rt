@@ -1,7 +1,6 @@
 //! A whole run of a plan.
 ghost use Rattle.std.specs.Prelude.{◌≡◌, ◌+◌, ◌++◌, ◌<◌, ◌≤◌, ℕ, All, IfOk, OnErr, drop, get_or, length, map, sum_by};
 ghost use Rattle.std.specs.Prelude.{Option, true, vec_capacity, vec_len};
-ghost use Rattle.resource_lock.specs.declared.limits.TheConstants.{MAX_LEASES, MAX_WORKERS};
 ghost use Rattle.daemon_manager.specs.Counts.{failures, reservations};
 ghost use Rattle.daemon_manager.specs.Events.{NoneIdle, IsLegal};
 ghost use Rattle.lock_journal.specs.ClosedBy.{closed_by};
@@ -9,6 +8,7 @@ ghost use Rattle.history_views.specs.Growing.{IsLater};
 ghost use Rattle.coordination.specs.Passes.{PassView};
 ghost use Rattle.coordination.specs.Sights.{workers_from};
 ghost use Rattle.plan_reader.specs.Graph.{graph_of};
+ghost use Rattle.plan_reader.specs.declared.limits.TheConstants.{MAX_LEASES, MAX_WORKERS};
 ghost use Rattle.plan_reader.specs.Units.{plan_units};
 ghost use Rattle.build_runner.specs.Books.{AreBack, GivesBook, GivesEnd, IsClosedBook, Leaves};
 ghost use Rattle.build_runner.specs.Desks.{AreAlike, desks_view, known_by};

@@ -1,7 +1,7 @@
 -- The laws of the second line.
 use Rattle.std.proofs.Common.{◌≡◌, ◌≢◌, ℕ, ◌+◌, ◌^◌, ◌<◌, ◌≤◌, List, [], ◌∷◌, ◌++◌, Option, Some, None, IfSome, Bool, true, false, refl, sym, ap, subst, ◌∙◌, append_assoc, append-nil, arith, decimal, codes, nat_eq, cond}
 use Rattle.std.proofs.lemmas.Bool.{ne_eqb, eqb-false}
-use Rattle.resource_lock.specs.declared.limits.TheConstants.{MAX_WORKERS}
+use Rattle.plan_reader.specs.declared.limits.TheConstants.{MAX_LEASES, MAX_WORKERS}
 use Rattle.history_text.specs.Text.{parallel_text, locks_text}
 use Rattle.history_text.specs.Fitting.{HeadFits}
 use Rattle.history_text.specs.declared.heads.Settings.{Settings}
@@ -12,29 +12,29 @@ use Rattle.history_text.specs.Reading.{◌>>=◌, on, after, branch, plain, numb
 use Rattle.history_text.proofs.Numbers.{number_again, number_taken}
 use Rattle.history_text.proofs.Words.{Spelled, some_is, none_some, bind_some, after_taken, either, plain_spelled}
 
-record CountRead (text : List ℕ) (y : ℕ × List ℕ) : Type 0 where
+record CountRead (most : ℕ) (text : List ℕ) (y : ℕ × List ℕ) : Type 0 where
   is : text ≡ decimal y.0 ++ y.1
   some : 1 ≤ y.0
-  few : y.0 ≤ MAX_WORKERS
+  few : y.0 ≤ most
 
-count_taken : (text : List ℕ) (y : ℕ × List ℕ) → count_at text ≡ Some y → CountRead text y
+count_taken : (most : ℕ) (text : List ℕ) (y : ℕ × List ℕ) → 9 ≤ most → most < 2 ^ 32 → count_at most text ≡ Some y → CountRead most text y
 unfolding count_at
-count_taken text y e =
-    let n = bind_some (number_at (MAX_WORKERS + 1) text) _ y e in
-    let a = number_taken (MAX_WORKERS + 1) text n.0 (omega arith) (omega arith) n.1 in
+count_taken most text y least few_enough e =
+    let n = bind_some (number_at (most + 1) text) _ y e in
+    let a = number_taken (most + 1) text n.0 (omega (arith, least)) (omega (arith, few_enough)) n.1 in
     at n.0 a.0 a.1 (nat_eq n.0.0 0) refl n.2
   where
-    at : (n : ℕ × List ℕ) → n.0 < MAX_WORKERS + 1 → text ≡ decimal n.0 ++ n.1 → (b : Bool) → nat_eq n.0 0 ≡ b → cond (nat_eq n.0 0) None (Some n) ≡ Some y → CountRead text y
+    at : (n : ℕ × List ℕ) → n.0 < most + 1 → text ≡ decimal n.0 ++ n.1 → (b : Bool) → nat_eq n.0 0 ≡ b → cond (nat_eq n.0 0) None (Some n) ≡ Some y → CountRead most text y
     at n few is true s h = absurd (none_some (sym (ap (λ b. cond b None (Some n)) s) ∙ h))
     at n few is false s h =
         let ne : n.0 ≢ 0 = eqb-false n.0 0 s in
-        subst (λ z. CountRead text z) (some_is (sym (ap (λ b. cond b None (Some n)) s) ∙ h)) (record { is = is; some = omega arith; few = omega arith })
+        subst (λ z. CountRead most text z) (some_is (sym (ap (λ b. cond b None (Some n)) s) ∙ h)) (record { is = is; some = omega arith; few = omega (arith, few) })
 
-count_again : (n : ℕ) (rest : List ℕ) → 1 ≤ n → n ≤ MAX_WORKERS → begins_with_digit rest ≡ false → count_at (decimal n ++ rest) ≡ Some (n, rest)
+count_again : (most n : ℕ) (rest : List ℕ) → 9 ≤ most → most < 2 ^ 32 → 1 ≤ n → n ≤ most → begins_with_digit rest ≡ false → count_at most (decimal n ++ rest) ≡ Some (n, rest)
 unfolding count_at
-count_again n rest some few nd =
+count_again most n rest least few_enough some few nd =
     let ne : n ≢ 0 = omega arith in
-    ap (λ r. r >>= λ k. cond (nat_eq k.0 0) None (Some k)) (number_again (MAX_WORKERS + 1) n rest (omega arith) (omega arith) nd)
+    ap (λ r. r >>= λ k. cond (nat_eq k.0 0) None (Some k)) (number_again (most + 1) n rest (omega (arith, few)) (omega (arith, few_enough)) nd)
     ∙ ap (λ b. cond b None (Some (n, rest))) (ne_eqb n 0 ne)
 
 abbrev Any : Bool → Type 0
@@ -88,15 +88,15 @@ pub settings_taken : (v : Version) (text : List ℕ) (y : Settings × List ℕ) 
 unfolding settings_at
 settings_taken v text y e =
     let front = bind_some (after (codes "workers ") text) _ y e in
-    let w = bind_some (count_at front.0) _ y front.2 in
+    let w = bind_some (count_at MAX_WORKERS front.0) _ y front.2 in
     let gap = bind_some (after (codes " max ") w.0.1) _ y w.2 in
-    let m = bind_some (count_at gap.0) _ y gap.2 in
+    let m = bind_some (count_at MAX_LEASES gap.0) _ y gap.2 in
     let gap' = bind_some (after (codes " parallel ") m.0.1) _ y m.2 in
     let p = bind_some (parallel_at gap'.0) _ y gap'.2 in
     let k = bind_some (locks_at v p.0.1) _ y p.2 in
     let end = bind_some (after (codes "\n") k.0.1) _ y k.2 in
-    let a = count_taken front.0 w.0 w.1 in
-    let b = count_taken gap.0 m.0 m.1 in
+    let a = count_taken MAX_WORKERS front.0 w.0 (omega arith) (omega arith) w.1 in
+    let b = count_taken MAX_LEASES gap.0 m.0 (omega arith) (omega arith) m.1 in
     let c = parallel_taken gap'.0 p.0 p.1 in
     let d = locks_taken v p.0.1 k.0 k.1 in
     let whole : text ≡ codes "workers " ++ (decimal w.0.0 ++ (codes " max " ++ (decimal m.0.0 ++ (codes " parallel " ++ (parallel_text p.0.0 ++ (locks_text k.0.0 ++ (codes "\n" ++ end.0))))))) =
@@ -119,10 +119,10 @@ settings_again w m p l rest fits =
     let regroup : second_line w m p l ++ rest ≡ codes "workers " ++ (decimal w ++ (codes " max " ++ (decimal m ++ (codes " parallel " ++ (parallel_text p ++ (locks_text l ++ (codes "\n" ++ rest))))))) =
     sym (eight (codes "workers ") (decimal w) (codes " max ") (decimal m) (codes " parallel ") (parallel_text p) (locks_text l) (codes "\n") rest) in
     ap (settings_at (version_of l)) regroup
-    ∙ (ap (λ r. r >>= λ w. after (codes " max ") w.1 >>= λ r'. count_at r' >>= λ m. after (codes " parallel ") m.1 >>= λ r''. parallel_at r'' >>= λ p. locks_at (version_of l) p.1 >>= λ k. after (codes "\n") k.1 >>= λ rest. Some (said w.0 m.0 p.0 k.0, rest))
-    (count_again w (codes " max " ++ (decimal m ++ (codes " parallel " ++ (parallel_text p ++ behind)))) fits.some_worker fits.few_workers refl)
+    ∙ (ap (λ r. r >>= λ w. after (codes " max ") w.1 >>= λ r'. count_at MAX_LEASES r' >>= λ m. after (codes " parallel ") m.1 >>= λ r''. parallel_at r'' >>= λ p. locks_at (version_of l) p.1 >>= λ k. after (codes "\n") k.1 >>= λ rest. Some (said w.0 m.0 p.0 k.0, rest))
+    (count_again MAX_WORKERS w (codes " max " ++ (decimal m ++ (codes " parallel " ++ (parallel_text p ++ behind)))) (omega arith) (omega arith) fits.some_worker fits.few_workers refl)
     ∙ (ap (λ r. r >>= λ m. after (codes " parallel ") m.1 >>= λ r''. parallel_at r'' >>= λ p. locks_at (version_of l) p.1 >>= λ k. after (codes "\n") k.1 >>= λ rest. Some (said w m.0 p.0 k.0, rest))
-    (count_again m (codes " parallel " ++ (parallel_text p ++ behind)) fits.some_lease fits.few_leases refl)
+    (count_again MAX_LEASES m (codes " parallel " ++ (parallel_text p ++ behind)) (omega arith) (omega arith) fits.some_lease fits.few_leases refl)
     ∙ (ap (λ r. r >>= λ p. locks_at (version_of l) p.1 >>= λ k. after (codes "\n") k.1 >>= λ rest. Some (said w m p.0 k.0, rest)) (parallel_again p behind)
     ∙ ap (λ r. r >>= λ k. after (codes "\n") k.1 >>= λ rest. Some (said w m p k.0, rest)) (locks_again l (codes "\n" ++ rest) fits.few_locks refl))))
 

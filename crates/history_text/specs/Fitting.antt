@@ -15,6 +15,7 @@ use Rattle.lock_transforms.specs.Entry.{Entry}
 use Rattle.lock_transforms.specs.declared.entries.Closed.{Closed}
 use Rattle.lock_transforms.specs.declared.entries.Kind.{Kind}
 use Rattle.lock_transforms.specs.declared.entries.Kind.TheVariants as kinds
+use Rattle.plan_reader.specs.declared.limits.TheConstants.{MAX_LEASES, MAX_WORKERS}
 
 -- a mark that runs is run by the entry's worker
 abbrev pub MarkFits : WorkerId → Mark → Type 0
@@ -76,7 +77,7 @@ EntriesFit es = AllByRecursion EntryFits es
 -- workers, leases and the number of locks or none, as the head names them
 pub record HeadFits (workers max_leases : ℕ) (locks : Option ℕ) : Type 0 where
   pub some_worker : 1 ≤ workers
-  pub few_workers : workers ≤ 32
+  pub few_workers : workers ≤ MAX_WORKERS
   pub some_lease : 1 ≤ max_leases
-  pub few_leases : max_leases ≤ 32
+  pub few_leases : max_leases ≤ MAX_LEASES
   pub few_locks : IfSome locks (λ l. l < 2 ^ 32)

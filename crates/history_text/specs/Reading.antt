@@ -4,8 +4,8 @@ use Rattle.std.specs.Prelude.{Err, ◌≡◌, zero, suc, Bool, true, false, if�
 use Rattle.history_text.specs.Plain.{LockId, WorkerId, MarkId, TaskOf, ActionOf, UnitOf, Mark, Waiting, Queued, Running, Passed, Failed, Skipped, Change}
 use Rattle.history_text.specs.Plain.{Lock, Unlock, Take, Give, Move, Park, Unpark, Enter, Leave, Outcome, Number, Digest, NotThere, TooLong, Fault, NoMemory}
 use Rattle.history_text.specs.Plain.{Closed, Kind, Start, Skip, Submit, ParkFor, Resume, Claim, Close, Block, Unblock, End, Acquire, HandBack}
-use Rattle.resource_lock.specs.declared.limits.TheConstants.{MAX_WORKERS}
 use Rattle.lock_transforms.specs.Entry.{Entry}
+use Rattle.plan_reader.specs.declared.limits.TheConstants.{MAX_LEASES, MAX_WORKERS}
 use Rattle.history_text.specs.declared.heads.Settings.{Settings}
 use Rattle.history_text.specs.declared.heads.Version.{Version}
 use Rattle.history_text.specs.declared.heads.Version.TheVariants.{One, Two}
@@ -176,9 +176,9 @@ Gives view (Ok x) read = read ≡ Some (view x)
 Gives view (Err Wrong) read = read ≡ None
 Gives view (Err Memory) read = Unit {0}
 
--- a number of workers or leases
-unfoldable pub count_at : List ℕ → Option (ℕ × List ℕ)
-count_at text = number_at (MAX_WORKERS + 1) text >>= λ n. if nat_eq n.0 0 then None else Some n
+-- how many there are, at least 1 and at most so many
+unfoldable pub count_at : ℕ → List ℕ → Option (ℕ × List ℕ)
+count_at most text = number_at (most + 1) text >>= λ n. if nat_eq n.0 0 then None else Some n
 
 unfoldable pub parallel_at : List ℕ → Option (Bool × List ℕ)
 parallel_at text = branch (codes "yes") text (plain true) (branch (codes "no") text (plain false) None)
@@ -190,6 +190,6 @@ locks_at Two text = after (codes " locks ") text >>= number_as (λ n. Some n)
 
 unfoldable pub settings_at : Version → List ℕ → Option (Settings × List ℕ)
 settings_at v text =
-    after (codes "workers ") text >>= λ r. count_at r >>= λ w. after (codes " max ") w.1 >>= λ r'. count_at r' >>= λ m.
+    after (codes "workers ") text >>= λ r. count_at MAX_WORKERS r >>= λ w. after (codes " max ") w.1 >>= λ r'. count_at MAX_LEASES r' >>= λ m.
     after (codes " parallel ") m.1 >>= λ r''. parallel_at r'' >>= λ p. locks_at v p.1 >>= λ l.
     after (codes "\n") l.1 >>= λ rest. Some (record { workers = w.0; max = m.0; parallel = p.0; locks = l.0 }, rest)

@@ -1,10 +1,10 @@
-ghost use Rattle.std.specs.Prelude.{◌≡◌, IfSome, IfNone};
+ghost use Rattle.std.specs.Prelude.{◌≡◌, ◌<◌, ◌≤◌, ◌^◌, IfSome, IfNone};
 ghost use Rattle.std.specs.Option.{option_map};
 ghost use Rattle.history_text.specs.Reading.{count_at, locks_at, parallel_at, settings_at};
 ghost use Rattle.history_text.specs.Lines.{first_line, IsNoFirst, OpensNone, IsSaidBy};
 
 use crate::tokens::{by_word, read_number, read_short, text_after};
-use resource_lock::MAX_WORKERS;
+use plan_reader::{MAX_LEASES, MAX_WORKERS};
 
 /// Which version of the text it is.
 #[derive(Clone, Copy)]
@@ -39,12 +39,14 @@ pub fn read_version(line: &[u8]) -> Option<Version>
     }
 }
 
-// How many workers there are or leases may be out: at least 1, and of both at most MAX_WORKERS.
+// Reads how many there are, from 1 to the most, and gives what follows.
 #[tactic(auto, unfolding(crate::specs::Reading::count_at))]
-fn read_count(text: &[u8]) -> Option<(u32, &[u8])>
-    ensures { option_map (λ x. (x.0, x.1.now)) result ≡ count_at text.now }
+fn read_count(text: &[u8], most: u64) -> Option<(u32, &[u8])>
+    requires least { 9 ≤ most }
+    requires few { most < 2 ^ 32 }
+    ensures { option_map (λ x. (x.0, x.1.now)) result ≡ count_at most text.now }
 {
-    let (count, rest) = read_number(text, u64::from(MAX_WORKERS))?;
+    let (count, rest) = read_number(text, most)?;
     if count == 0 {
         return None;
     }
@@ -84,9 +86,9 @@ fn read_settings(version: Version, text: &[u8]) -> Option<(Settings, &[u8])>
     ensures { option_map (λ x. (x.0, x.1.now)) result ≡ settings_at version text.now }
 {
     let rest = text_after(text, b"workers ")?;
-    let (workers, rest) = read_count(rest)?;
+    let (workers, rest) = read_count(rest, u64::from(MAX_WORKERS))?;
     let rest = text_after(rest, b" max ")?;
-    let (max, rest) = read_count(rest)?;
+    let (max, rest) = read_count(rest, u64::from(MAX_LEASES))?;
     let rest = text_after(rest, b" parallel ")?;
     let (parallel, rest) = read_parallel(rest)?;
     let (locks, rest) = read_locks(version, rest)?;

@@ -24,8 +24,7 @@ use Rattle.plan_table.specs.Search.{places, table_refusal}
 use Rattle.plan_table.specs.Formed.{IsFormedAction}
 use Rattle.plan_table.proofs.lemmas.Lists.{map_of_map}
 use Rattle.plan_table.proofs.lemmas.FormedLaws.{is_formed}
-use Rattle.resource_lock.specs.declared.limits.TheConstants.{MAX_TASKS, MAX_UNITS, MAX_ACTIONS_PER_TASK, MAX_AFTER}
-use Rattle.plan_reader.specs.declared.limits.TheConstants.{MAX_PROJECTS, MAX_REQUIREMENTS, MAX_LISTED}
+use Rattle.plan_reader.specs.declared.limits.TheConstants.{MAX_PROJECTS, MAX_TASKS, MAX_UNITS, MAX_REQUIREMENTS, MAX_ACTIONS_PER_TASK, MAX_AFTER, MAX_LISTED}
 use Rattle.plan_reader.specs.declared.rows.Row.TheVariants.{NoSuchProject, ReleaseNotLast, ClassLoader, TooMany, BadRequirements}
 use Rattle.plan_reader.specs.PlanView.{PlanActionView}
 use Rattle.plan_reader.specs.Units.{fetch_units, item_unit, action_units, task_units, plan_units}

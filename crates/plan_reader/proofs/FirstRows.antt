@@ -16,8 +16,7 @@ use Rattle.plan_table.specs.Keys.{projects_of, tasks_of, requirements_of, action
 use Rattle.plan_table.specs.Search.{first_of, places, first_place}
 use Rattle.plan_table.proofs.lemmas.FirstAnswers.{option_map_none, option_map_some, first_of_none, first_of_some}
 use Rattle.plan_table.proofs.lemmas.FirstPlaces.{no_place, place_first}
-use Rattle.resource_lock.specs.declared.limits.TheConstants.{MAX_TASKS, MAX_UNITS, MAX_ACTIONS_PER_TASK, MAX_AFTER}
-use Rattle.plan_reader.specs.declared.limits.TheConstants.{MAX_PROJECTS, MAX_REQUIREMENTS}
+use Rattle.plan_reader.specs.declared.limits.TheConstants.{MAX_PROJECTS, MAX_TASKS, MAX_UNITS, MAX_REQUIREMENTS, MAX_ACTIONS_PER_TASK, MAX_AFTER}
 use Rattle.plan_reader.specs.declared.rows.Row.{Row}
 use Rattle.plan_reader.specs.declared.rows.Row.TheVariants.{TooMany}
 use Rattle.plan_reader.specs.First.{row_holds, passes_limit}

@@ -12,8 +12,8 @@ use Rattle.resource_lock.specs.GraphView.{GraphTaskView, graph_view, no_task, no
 use Rattle.resource_lock.specs.Made.{made_of}
 use Rattle.resource_lock.specs.Ranges.{fetches, units_in, IsIn}
 use Rattle.resource_lock.specs.Fits.{Follow, Fits}
-use Rattle.resource_lock.specs.declared.limits.TheConstants.{MAX_LOCKS, MAX_ACTIONS_PER_TASK, MAX_AFTER}
-use Rattle.plan_reader.specs.declared.limits.TheConstants.{MAX_PROJECTS}
+use Rattle.resource_lock.specs.declared.limits.TheConstants as state
+use Rattle.plan_reader.specs.declared.limits.TheConstants.{MAX_LEASES, MAX_PROJECTS, MAX_WORKERS}
 use Rattle.plan_reader.specs.PlanView.{PlanActionView, PlanTaskView, PlanView}
 use Rattle.plan_reader.specs.Units.{fetch_units, item_unit, action_units, task_units, plan_units}
 use Rattle.plan_reader.specs.IsPlan.{IsPlan}
@@ -45,7 +45,7 @@ lock_within : (of_all parallel : Bool) (project projects : ℕ) → project < pr
 lock_within true parallel project projects within = omega arith
 lock_within false parallel project projects within = omega (arith, project_lock_within parallel project projects within)
 
-pub few_locks : (parallel : Bool) (projects : ℕ) → projects ≤ MAX_PROJECTS → project_lock_count parallel projects + 1 ≤ MAX_LOCKS
+pub few_locks : (parallel : Bool) (projects : ℕ) → projects ≤ MAX_PROJECTS → project_lock_count parallel projects + 1 ≤ state.MAX_LOCKS
 few_locks true projects few = omega (arith, few)
 few_locks false projects few = omega (arith, few)
 
@@ -152,20 +152,20 @@ own_task lock n task first (x ∷ ts) a m within e t is =
     (task_of_action task first x.actions a)
     (λ b lt. own_task lock (n + length x.actions) (task + 1) (first + units_in_all x.actions) ts b m lt)
 
-pub graph_fits : (p : PlanView) (workers max_leases : ℕ) (parallel : Bool) → IsPlan p → 1 ≤ workers → workers ≤ 32 → 1 ≤ max_leases → max_leases ≤ 32 → Fits (graph_of p workers max_leases parallel)
+pub graph_fits : (p : PlanView) (workers max_leases : ℕ) (parallel : Bool) → IsPlan p → 1 ≤ workers → workers ≤ MAX_WORKERS → 1 ≤ max_leases → max_leases ≤ MAX_LEASES → Fits (graph_of p workers max_leases parallel)
 graph_fits p workers max_leases parallel h some_worker few_workers some_lease few_leases =
     let tasks : length (tasks_from (task_lock (all_projects_lock p parallel) parallel) 0 p.tasks) ≡ length p.tasks = length-tasks_from (task_lock (all_projects_lock p parallel) parallel) 0 p.tasks in
     record {
       some_worker = some_worker;
-      few_workers = few_workers;
+      few_workers = omega (arith, few_workers);
       some_lease = some_lease;
-      few_leases = few_leases;
+      few_leases = omega (arith, few_leases);
       few_locks = few_locks parallel (length p.projects) h.few_projects;
       all_within = omega arith;
-      few_tasks = rw tasks h.few_tasks;
-      few_units = h.few_units;
-      few_actions = each_task (λ t. t.actions ≤ MAX_ACTIONS_PER_TASK) (task_lock (all_projects_lock p parallel) parallel) 0 p.tasks (λ k d within n. h.few_actions k d within);
-      few_after = each_task (λ t. length t.after ≤ MAX_AFTER) (task_lock (all_projects_lock p parallel) parallel) 0 p.tasks (λ k d within n. h.few_after k d within);
+      few_tasks = omega (arith, tasks, h.few_tasks);
+      few_units = omega (arith, h.few_units);
+      few_actions = each_task (λ t. t.actions ≤ state.MAX_ACTIONS_PER_TASK) (task_lock (all_projects_lock p parallel) parallel) 0 p.tasks (λ k d within n. omega (arith, h.few_actions k d within));
+      few_after = each_task (λ t. length t.after ≤ state.MAX_AFTER) (task_lock (all_projects_lock p parallel) parallel) 0 p.tasks (λ k d within n. omega (arith, h.few_after k d within));
       locks_within = each_task (λ t. t.lock.0 < project_lock_count parallel (length p.projects) + 1) (task_lock (all_projects_lock p parallel) parallel) 0 p.tasks (λ k d within n. lock_within _ parallel _ (length p.projects) (h.project_within k d within));
       after_within = subst (λ n. All (λ t. All (λ m. m < n) t.after) (tasks_from (task_lock (all_projects_lock p parallel) parallel) 0 p.tasks)) (sym tasks) (each_task (λ t. All (λ m. m < length p.tasks) t.after) (task_lock (all_projects_lock p parallel) parallel) 0 p.tasks (λ k d within n. h.after_within k d within));
       actions_follow = actions_follow (task_lock (all_projects_lock p parallel) parallel) 0 0 0 p.tasks (length (all_actions_from 0 0 p.tasks)) (omega arith);

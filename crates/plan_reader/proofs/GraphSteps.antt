@@ -7,7 +7,7 @@ use Rattle.std.proofs.Math.ListN.{drop_of_length-le}
 use Rattle.resource_lock.specs.declared.ids.LockId.{LockId}
 use Rattle.resource_lock.specs.declared.graphs.GraphAction.{GraphAction}
 use Rattle.resource_lock.specs.GraphView.{GraphTaskView}
-use Rattle.resource_lock.specs.declared.limits.TheConstants.{MAX_ACTIONS_PER_TASK}
+use Rattle.plan_reader.specs.declared.limits.TheConstants.{MAX_ACTIONS_PER_TASK}
 use Rattle.plan_reader.specs.declared.plans.PlanAction.{PlanAction}
 use Rattle.plan_reader.specs.declared.plans.PlanTask.{PlanTask}
 use Rattle.plan_table.specs.Forms.{Text}

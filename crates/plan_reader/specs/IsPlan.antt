@@ -2,13 +2,12 @@
 use Rattle.std.specs.Prelude.{ℕ, ◌≡◌, ◌≢◌, ◌+◌, ◌<◌, ◌≤◌, true, List, map, length, slice_index_or}
 use Rattle.std.specs.List.{All, AllPairs}
 use Rattle.resource_lock.specs.declared.graphs.Retention.TheVariants.{Release}
-use Rattle.resource_lock.specs.declared.limits.TheConstants.{MAX_TASKS, MAX_UNITS, MAX_ACTIONS_PER_TASK, MAX_AFTER}
 use Rattle.daemon_requirements.specs.RequirementsView.{RequirementsView}
 use Rattle.ready_work.specs.Rank.{Ranked}
 use Rattle.item_actions.specs.Forms.{is_file_name}
 use Rattle.plan_table.specs.Forms.{is_name}
 use Rattle.plan_table.specs.Formed.{IsFetch}
-use Rattle.plan_reader.specs.declared.limits.TheConstants.{MAX_PROJECTS, MAX_REQUIREMENTS, MAX_LISTED}
+use Rattle.plan_reader.specs.declared.limits.TheConstants.{MAX_PROJECTS, MAX_TASKS, MAX_UNITS, MAX_REQUIREMENTS, MAX_ACTIONS_PER_TASK, MAX_AFTER, MAX_LISTED}
 use Rattle.plan_reader.specs.PlanView.{PlanActionView, PlanTaskView, PlanView}
 use Rattle.plan_reader.specs.Units.{plan_units}
 

@@ -13,8 +13,7 @@ use Rattle.plan_table.specs.declared.refusals.Which.TheVariants.{Projects, Tasks
 use Rattle.plan_table.specs.Forms.{Text}
 use Rattle.plan_table.specs.Keys.{projects_of, tasks_of, requirements_of, project_of, after_of, actions_of, wait_of, fetch_of, items_of, isolation_of}
 use Rattle.plan_table.specs.Keys.{requirements_name_of, heap_of, args_of, properties_of, variables_of}
-use Rattle.resource_lock.specs.declared.limits.TheConstants.{MAX_TASKS, MAX_UNITS, MAX_ACTIONS_PER_TASK, MAX_AFTER}
-use Rattle.plan_reader.specs.declared.limits.TheConstants.{MAX_PROJECTS, MAX_REQUIREMENTS, MAX_LISTED}
+use Rattle.plan_reader.specs.declared.limits.TheConstants.{MAX_PROJECTS, MAX_TASKS, MAX_UNITS, MAX_REQUIREMENTS, MAX_ACTIONS_PER_TASK, MAX_AFTER, MAX_LISTED}
 use Rattle.plan_reader.specs.declared.rows.Row.{Row}
 use Rattle.plan_reader.specs.declared.rows.Row.TheVariants as row
 use Rattle.plan_reader.specs.NameNumbers.{has_name}

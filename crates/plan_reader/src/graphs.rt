@@ -3,7 +3,8 @@ ghost use Rattle.std.specs.Prelude.{◌≡◌, ◌+◌, ◌<◌, ◌≤◌, ◌+
 ghost use Rattle.std.specs.List.{flat_map};
 ghost use Rattle.resource_lock.specs.GraphView.{graph_view};
 ghost use Rattle.resource_lock.specs.ProjectLocks.{project_lock_count};
-ghost use Rattle.resource_lock.specs.declared.limits.TheConstants.{MAX_ACTIONS_PER_TASK, MAX_LEASES, MAX_LOCKS, MAX_TASKS, MAX_UNITS, MAX_WORKERS};
+ghost use Rattle.resource_lock.specs.declared.limits.TheConstants.{MAX_LOCKS};
+ghost use Rattle.plan_reader.specs.declared.limits.TheConstants.{MAX_ACTIONS_PER_TASK, MAX_LEASES, MAX_TASKS, MAX_UNITS, MAX_WORKERS};
 ghost use Rattle.plan_reader.specs.PlanView.{plan_action_view, plan_task_view};
 ghost use Rattle.plan_reader.specs.Units.{task_units};
 ghost use Rattle.plan_reader.specs.Graph.{all_projects_lock, task_lock, tasks_from, actions_from, units_in_all, all_actions_from, graph_of};
@@ -13,8 +14,8 @@ use resource_lock::{Graph, GraphAction, GraphTask, LockId, project_lock, project
 use std::alloc::{AllocError, Global};
 
 impl Plan {
-    /// The graph of the plan, for so many workers and leases. With `parallel` each project has a lock of
-    /// its own, without it all share one. Behind these stands the all-projects lock, which the tasks have
+    /// The graph of the plan, for 1 to `MAX_WORKERS` workers and 1 to `MAX_LEASES` leases. With `parallel`
+    /// each project has a lock of its own, without it all share one. Behind these stands the all-projects lock, which the tasks have
     /// that ask for all projects. An error is want of memory.
     pub fn graph(
         &self,

@@ -6,7 +6,7 @@ ghost use Rattle.toml.specs.View.{view};
 ghost use Rattle.plan_table.specs.Forms.{Text};
 ghost use Rattle.plan_table.specs.Values.{text_of};
 ghost use Rattle.plan_table.specs.Keys.{projects_of, tasks_of, requirements_of, actions_of, items_of, after_of, args_of};
-ghost use Rattle.resource_lock.specs.declared.limits.TheConstants.{MAX_UNITS};
+ghost use Rattle.plan_reader.specs.declared.limits.TheConstants.{MAX_UNITS};
 ghost use Rattle.plan_reader.specs.Rooms.{IsLeft};
 ghost use Rattle.plan_reader.specs.Rows.{unit_count, task_unit_count, plan_unit_count, excess_of_plan, excess_of_task, has_few_lists, excess_of_requirements};
 ghost use Rattle.plan_reader.specs.Rows.{excess};
@@ -15,11 +15,28 @@ use plan_table::{
     Part, Which, actions_of, after_of, args_of, fetch_of, items_of, projects_of, properties_of,
     requirements_of, tasks_of, variables_of,
 };
-use resource_lock::{MAX_ACTIONS_PER_TASK, MAX_AFTER, MAX_TASKS, MAX_UNITS};
 use toml::{Table, Value};
+
+/// The most workers that a plan's graph is made for.
+pub const MAX_WORKERS: u32 = 32;
+
+/// The most leases that may be out at once in a plan's graph.
+pub const MAX_LEASES: u32 = 32;
 
 // The most projects of a plan.
 const MAX_PROJECTS: usize = 512;
+
+// The most tasks of a plan.
+const MAX_TASKS: usize = 2_048;
+
+// The most actions of a task.
+const MAX_ACTIONS_PER_TASK: usize = 8;
+
+// The most texts in a task's `after`.
+const MAX_AFTER: usize = 64;
+
+// The most units of a plan, fetches and items together.
+const MAX_UNITS: usize = 8_192;
 
 // The most tables of requirements of a plan.
 const MAX_REQUIREMENTS: usize = 256;
@@ -79,7 +96,7 @@ fn room_after_tasks(mut room: usize, tasks: &[Value]) -> Option<usize>
 fn has_many_units(document: &Value) -> bool
     ensures { result ≡ nat_lt MAX_UNITS (plan_unit_count (view document.now)) }
 {
-    room_after_tasks(MAX_UNITS as usize, tasks_of(document)).is_none()
+    room_after_tasks(MAX_UNITS, tasks_of(document)).is_none()
 }
 
 // What the plan has too many of, the first in the order of the limits.
@@ -104,7 +121,7 @@ fn excess_of_plan(document: &Value) -> Option<Which>
 fn excess_of_task(task: &Value) -> Option<Which>
     ensures { result ≡ excess_of_task (view task.now) }
 {
-    if table_count(actions_of(task)) > MAX_ACTIONS_PER_TASK as usize {
+    if table_count(actions_of(task)) > MAX_ACTIONS_PER_TASK {
         Some(Which::Actions)
     } else if text_count(after_of(task)) > MAX_AFTER {
         Some(Which::After)

@@ -20,6 +20,12 @@ use std::sync::Wait;
 /// How many jobs a run has at most.
 pub const MAX_JOBS: usize = 8192;
 
+/// On how many desks jobs are run at most, each with a worker of its own.
+pub const MAX_DESKS: usize = 32;
+
+/// How many leases may be out at once at most in a run of jobs.
+pub const MAX_JOB_LEASES: u32 = 32;
+
 /// An action that is to be worked out on a file, while a use of each of these services is held.
 #[derive(Drop)]
 pub struct Job {

@@ -15,7 +15,7 @@ mod uses;
 mod workers;
 
 pub use job_laws::fresh_passes_can_run;
-pub use jobs::{Job, JobDone, MAX_JOBS};
+pub use jobs::{Job, JobDone, MAX_DESKS, MAX_JOB_LEASES, MAX_JOBS};
 pub use laws::{no_service_has_more_users_than_its_maximum, uses_can_be_taken_again};
 pub use runs::{JobsEnd, run_jobs};
 pub use services::{MAX_SERVICES, MAX_USES, ServiceTable};

@@ -2,8 +2,8 @@
 ghost use Rattle.std.specs.Prelude.{◌≡◌, ◌≤◌, [], All, IfOk, None, length, map, vec_capacity};
 ghost use Rattle.resource_lock.specs.Made.{made_of};
 ghost use Rattle.resource_lock.specs.Opening.{opening_of};
-ghost use Rattle.resource_lock.specs.declared.limits.TheConstants.{MAX_LEASES, MAX_WORKERS};
 ghost use Rattle.coordination.specs.Sights.{workers_from};
+ghost use Rattle.shared_services.specs.declared.jobs.TheConstants.{MAX_DESKS, MAX_JOB_LEASES};
 ghost use Rattle.shared_services.specs.Services.{lock_count};
 ghost use Rattle.shared_services.specs.Worked.{CanRun};
 
@@ -19,9 +19,9 @@ use std::alloc::{AllocError, Global};
 // A graph with the locks of the services, and without tasks.
 fn graph_of(alloc: Global, table: &ServiceTable, workers: u32, max_leases: u32) -> Graph
     requires some_worker { 1 ≤ workers }
-    requires few_workers { workers ≤ MAX_WORKERS }
+    requires few_workers { workers ≤ MAX_DESKS }
     requires some_lease { 1 ≤ max_leases }
-    requires few_leases { max_leases ≤ MAX_LEASES }
+    requires few_leases { max_leases ≤ MAX_JOB_LEASES }
     ensures { result ≡ made_of (lock_count table.now) None workers max_leases [] [] }
 {
     let locks = table.locks();
@@ -67,9 +67,9 @@ pub(crate) fn open(
     max_leases: u32,
 ) -> Result<Box<Opened>, AllocError>
     requires some_worker { 1 ≤ workers }
-    requires few_workers { workers ≤ MAX_WORKERS }
+    requires few_workers { workers ≤ MAX_DESKS }
     requires some_lease { 1 ≤ max_leases }
-    requires few_leases { max_leases ≤ MAX_LEASES }
+    requires few_leases { max_leases ≤ MAX_JOB_LEASES }
     ensures graph { IfOk result (λ opened. opened.value.service.book.graph ≡ made_of (lock_count table.now) None workers max_leases [] []) }
     ensures len { IfOk result (λ opened. length opened.value.passes.items ≡ workers) }
     ensures workers { IfOk result (λ opened. map (λ p. p.sight.worker.0) opened.value.passes.items ≡ workers_from 0 workers) }

@@ -2,12 +2,12 @@
 ghost use Rattle.std.specs.Prelude.{◌≡◌, ◌<◌, ◌≤◌, ◌+◌, ◌-◌, ◌^◌, ℕ, [], All, IfOk, Ok, get_or, length, map};
 ghost use Rattle.std.specs.Prelude.{vec_capacity, vec_len};
 ghost use Rattle.resource_lock.specs.AtRest.{IsAtRest};
-ghost use Rattle.resource_lock.specs.declared.limits.TheConstants.{MAX_LEASES, MAX_WORKERS};
 ghost use Rattle.coordination.specs.Agrees.{Agrees, IsSoundBook};
 ghost use Rattle.coordination.specs.Holds.{HoldsNothing};
 ghost use Rattle.coordination.specs.Passes.{PassView};
 ghost use Rattle.coordination.specs.Sights.{workers_from};
 ghost use Rattle.coordination.specs.Together.{ComeTo};
+ghost use Rattle.shared_services.specs.declared.jobs.TheConstants.{MAX_DESKS, MAX_JOB_LEASES};
 ghost use Rattle.shared_services.specs.Fit.{FitJobs};
 ghost use Rattle.shared_services.specs.Done.{IsHonestJob, faults_of};
 ghost use Rattle.shared_services.specs.OneByOne.{OneByOne};
@@ -48,7 +48,7 @@ fn run_team<R: Threads + Wait + Sync, F: Files + Send + Drop>(
 ) -> Result<Vec<JobDone>, AllocError>
     requires same { vec_len passes.old ≡ vec_len desks.old }
     requires workers { vec_len desks.old ≡ site.now.workers }
-    requires few_workers { site.now.workers ≤ MAX_WORKERS }
+    requires few_workers { site.now.workers ≤ MAX_DESKS }
     requires empty { (room.team.items ≡ []) × (room.passes.items ≡ []) × (room.desks.items ≡ []) }
     requires room { (vec_len desks.old ≤ vec_capacity room.team) × (vec_len desks.old ≤ vec_capacity room.passes)
         × (vec_len desks.old ≤ vec_capacity room.desks) }
@@ -127,9 +127,9 @@ pub fn run_jobs<R: Threads + Wait + Sync, F: Files + Send + Drop>(
     desks: &mut Vec<F>,
 ) -> Result<JobsEnd, AllocError>
     requires some_desk { 1 ≤ length desks.old.items }
-    requires few_desks { length desks.old.items ≤ MAX_WORKERS }
+    requires few_desks { length desks.old.items ≤ MAX_DESKS }
     requires some_lease { 1 ≤ max_leases }
-    requires few_leases { max_leases ≤ MAX_LEASES }
+    requires few_leases { max_leases ≤ MAX_JOB_LEASES }
     requires jobs { FitJobs table.now jobs.now }
     ensures places { length desks.new.items ≡ length desks.old.items }
     ensures files { (i : ℕ) (d : F) → F.files (get_or desks.new.items i d) ≡ F.files (get_or desks.old.items i d) }

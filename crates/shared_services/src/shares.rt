@@ -1,6 +1,6 @@
 //! Which jobs a worker runs.
 ghost use Rattle.std.specs.Prelude.{◌≡◌, ◌<◌, ◌≤◌, All, length};
-ghost use Rattle.resource_lock.specs.declared.limits.TheConstants.{MAX_WORKERS};
+ghost use Rattle.shared_services.specs.declared.jobs.TheConstants.{MAX_DESKS};
 ghost use Rattle.shared_services.specs.Services.{AreServices};
 ghost use Rattle.shared_services.specs.Fit.{FitJobs};
 ghost use Rattle.shared_services.specs.Shares.{jobs_of};
@@ -16,7 +16,7 @@ pub(crate) fn share_of<'a>(
     place: usize,
 ) -> &'a [Job]
     requires place { place < workers }
-    requires workers { workers ≤ MAX_WORKERS }
+    requires workers { workers ≤ MAX_DESKS }
     requires jobs { FitJobs table.now jobs.now }
     ensures jobs { result.now ≡ jobs_of workers jobs.entry.now place }
     ensures services { All (λ job. AreServices table.now job.uses.items) result.now }

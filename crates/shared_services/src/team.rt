@@ -1,6 +1,6 @@
 //! The workers of a run, each with its pass and its desk.
 ghost use Rattle.std.specs.Prelude.{◌≡◌, ◌<◌, ◌≤◌, ℕ, [], All, IfOk, flat_map, get_or, length, map, true, vec_capacity, vec_len};
-ghost use Rattle.resource_lock.specs.declared.limits.TheConstants.{MAX_WORKERS};
+ghost use Rattle.shared_services.specs.declared.jobs.TheConstants.{MAX_DESKS};
 ghost use Rattle.shared_services.specs.Fit.{FitJobs};
 ghost use Rattle.shared_services.specs.Shares.{jobs_of};
 ghost use Rattle.shared_services.specs.Team.{HasWorked};
@@ -49,7 +49,7 @@ pub(crate) fn work<R: Threads + Wait + Sync, F: Files + Send + Drop>(
     team: &mut [Worker<F>],
 )
     requires workers { length team.old ≡ site.now.workers }
-    requires few_workers { site.now.workers ≤ MAX_WORKERS }
+    requires few_workers { site.now.workers ≤ MAX_DESKS }
     requires jobs { FitJobs site.now.table.now site.now.jobs.now }
     requires service { All (λ w. w.pass.service ≡ site.now.service.now.service) team.old }
     requires ready { All (λ w. CanRun site.now.table.now w.pass.sight) team.old }
@@ -66,7 +66,7 @@ pub(crate) fn work<R: Threads + Wait + Sync, F: Files + Send + Drop>(
         threads,
         &|place: usize, worker: &mut Worker<F>|
             requires place { place < site.now.workers }
-            requires workers { site.now.workers ≤ MAX_WORKERS }
+            requires workers { site.now.workers ≤ MAX_DESKS }
             requires jobs { FitJobs site.now.table.now site.now.jobs.now }
             requires service { worker.old.pass.service ≡ site.now.service.now.service }
             requires ready { CanRun site.now.table.now worker.old.pass.sight }

@@ -1,6 +1,6 @@
 //! A worker, and the jobs that it runs.
 ghost use Rattle.std.specs.Prelude.{◌≡◌, ◌<◌, ◌≤◌, [], All, length};
-ghost use Rattle.resource_lock.specs.declared.limits.TheConstants.{MAX_WORKERS};
+ghost use Rattle.shared_services.specs.declared.jobs.TheConstants.{MAX_DESKS};
 ghost use Rattle.shared_services.specs.Fit.{FitJobs};
 ghost use Rattle.shared_services.specs.Shares.{jobs_of};
 ghost use Rattle.shared_services.specs.Team.{HasWorked};
@@ -43,7 +43,7 @@ impl<F: Files> Worker<F> {
     /// for it.
     pub fn work<R: Wait>(&mut self, rt: &R, site: &Site<'_>, place: usize)
         requires place { place < site.now.workers }
-        requires workers { site.now.workers ≤ MAX_WORKERS }
+        requires workers { site.now.workers ≤ MAX_DESKS }
         requires jobs { FitJobs site.now.table.now site.now.jobs.now }
         requires service { self.old.pass.service ≡ site.now.service.now.service }
         requires ready { CanRun site.now.table.now self.old.pass.sight }

@@ -8,7 +8,7 @@ use crate::replays::{MAXIMA, is_run_of};
 use file_access::{FileEntry, FileMap};
 use item_actions::{ItemAction, Outcome, Text};
 use resource_lock::{Change, LockId};
-use shared_services::{Job, JobDone, JobsEnd, MAX_JOBS, ServiceTable, run_jobs};
+use shared_services::{Job, JobDone, JobsEnd, MAX_DESKS, MAX_JOBS, ServiceTable, run_jobs};
 use std::alloc::{AllocError, Global};
 use std::process::Abort;
 use std::sync::Wait;
@@ -135,7 +135,7 @@ fn run_on<R: Threads + Wait + Sync + Abort>(
     for _ in 0..count {
         desks.push(desk(alloc)?)?;
     }
-    assert!(rt; !desks.is_empty() && desks.len() <= 32 && fit(table, jobs));
+    assert!(rt; !desks.is_empty() && desks.len() <= MAX_DESKS && fit(table, jobs));
     assert!(rt; 1 <= leases && leases <= LEASES);
     run_jobs(rt, alloc, table, jobs, leases, &mut desks)
 }

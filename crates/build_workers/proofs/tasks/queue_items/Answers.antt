@@ -5,6 +5,7 @@ use Rattle.resource_lock.specs.Fits.{Fits}
 use Rattle.resource_lock.specs.GraphView.{GraphView, action_of}
 use Rattle.resource_lock.specs.Ranges.{IsActionOf, fetches, lock_with, units_in}
 use Rattle.resource_lock.specs.declared.graphs.GraphAction.{GraphAction}
+use Rattle.resource_lock.specs.declared.limits.TheConstants.{MAX_UNITS}
 use Rattle.lock_transforms.proofs.lemmas.Within.{units_within}
 use Rattle.resource_lock.specs.declared.ids.WorkerId.{WorkerId}
 use Rattle.coordination.specs.Attempts.{Cause}
@@ -26,13 +27,13 @@ use Rattle.build_workers.proofs.Stepping.{is_of, of_fields, step_from, step_move
 use Rattle.build_workers.proofs.tasks.queue_items.Goals as goal
 
 -- the units of an action of the graph have numbers that fit
-sum_fits : {g : GraphView} (found : GraphAction) (a fetch : ℕ) → Fits g → a < length g.actions → found ≡ action_of g a → fetch ≡ bool_byte found.fetch → found.first_unit + fetch + found.items ≤ 8192
+sum_fits : {g : GraphView} (found : GraphAction) (a fetch : ℕ) → Fits g → a < length g.actions → found ≡ action_of g a → fetch ≡ bool_byte found.fetch → found.first_unit + fetch + found.items ≤ MAX_UNITS
 sum_fits {g} found a fetch fits within is gives = at found.fetch refl
   where
     units : found.first_unit + units_in found ≤ g.units
     units = subst (λ (k : GraphAction). k.first_unit + units_in k ≤ g.units) (sym is) (units_within fits a within)
 
-    at : (b : Bool) → found.fetch ≡ b → found.first_unit + fetch + found.items ≤ 8192
+    at : (b : Bool) → found.fetch ≡ b → found.first_unit + fetch + found.items ≤ MAX_UNITS
     at true e = let one : fetches found.fetch ≡ 1 = ap fetches e in let more : bool_byte found.fetch ≡ 1 = ap bool_byte e in omega (arith, units, fits.few_units, gives, one, more)
     at false e = let none : fetches found.fetch ≡ 0 = ap fetches e in let more : bool_byte found.fetch ≡ 0 = ap bool_byte e in omega (arith, units, fits.few_units, gives, none, more)
 

@@ -1,6 +1,6 @@
 use Rattle.std.proofs.Common.{◌≡◌, ◌≤◌, ◌*◌, ◌++◌, map, drop}
 use Rattle.resource_lock.specs.GraphView.{graph_view}
-use Rattle.resource_lock.specs.declared.limits.TheConstants.{MAX_ACTIONS_PER_TASK}
+use Rattle.plan_reader.specs.declared.limits.TheConstants.{MAX_ACTIONS_PER_TASK}
 use Rattle.plan_reader.specs.PlanView.{plan_task_view}
 use Rattle.plan_reader.specs.Graph.{task_lock, tasks_from}
 use Rattle.plan_reader.proofs.graphs.graph_tasks.Given as goal

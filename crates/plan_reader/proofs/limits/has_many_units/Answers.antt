@@ -1,5 +1,5 @@
 use Rattle.std.proofs.Common.{sym, subst}
-use Rattle.resource_lock.specs.declared.limits.TheConstants.{MAX_UNITS}
+use Rattle.plan_reader.specs.declared.limits.TheConstants.{MAX_UNITS}
 use Rattle.plan_reader.specs.Rooms.{IsLeft}
 use Rattle.plan_reader.specs.Rows.{task_unit_count}
 use Rattle.plan_reader.proofs.Lists.{sum_by_of_elements}

@@ -10,6 +10,6 @@ use Rattle.shared_services.proofs.opening.graph_of.Goals as goal
 pub new-requires-3 : goal.new-requires-3
 new-requires-3 c =
     let few = few_locks c.args.table.now c.locks-locks.ensures.fit in
-    let fits = no_tasks_fit c.locks-locks.result c.args.workers c.args.max_leases (omega (arith, few, c.locks-locks.ensures.count)) c.requires.some_worker c.requires.few_workers c.requires.some_lease c.requires.few_leases in
+    let fits = no_tasks_fit c.locks-locks.result c.args.workers c.args.max_leases (omega (arith, few, c.locks-locks.ensures.count)) c.requires.some_worker (omega (arith, c.requires.few_workers)) c.requires.some_lease (omega (arith, c.requires.few_leases)) in
     subst (λ (tasks : List GraphTask). Fits (made_of c.locks-locks.result None c.args.workers c.args.max_leases tasks c.new-2.result.items)) (sym c.new.ensures.items)
     (subst (λ (actions : List GraphAction). Fits (made_of c.locks-locks.result None c.args.workers c.args.max_leases [] actions)) (sym c.new-2.ensures.items) fits)
