@@ -11,7 +11,8 @@ use std::alloc::Global;
 
 // A book without entries, for so many workers with a lease each, and no lock.
 fn book_of(alloc: Global, workers: u32) -> Result<Box<Book>>
-    ensures { IfOk result (λ book. book.value.state ≡ opening_of book.value.graph) }
+    ensures state { IfOk result (λ book. book.value.state ≡ opening_of book.value.graph) }
+    ensures whole { IfOk result (λ book. book.value.given ≡ 0) }
 {
     if !Graph::fits(0, None, workers, workers, &[], &[]) {
         bail!("there are too many workers");

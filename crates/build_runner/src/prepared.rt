@@ -66,6 +66,7 @@ pub(crate) fn boxed<T: Drop>(alloc: Global, value: T) -> Result<Box<T>, AllocErr
 fn open_book(alloc: Global, graph: Graph) -> Result<Book, AllocError>
     ensures graph { IfOk result (λ book. book.graph ≡ graph) }
     ensures state { IfOk result (λ book. book.state ≡ opening_of graph) }
+    ensures whole { IfOk result (λ book. book.given ≡ 0) }
     ensures history { IfOk result (λ book. book.history ≡ []) }
 {
     let tasks = graph.tasks().len() as u64;

@@ -76,6 +76,7 @@ fn close_service<R: Wait>(
         → WasThere (plan_units plan.now) (before i) (after i) (get_or opened.entry.value.passes.items i p))
         → WasBrokenOff plan.now options.now before after }
     ensures graph { result.value.graph ≡ graph_of plan.now options.now.workers options.now.max_leases options.now.parallel }
+    ensures whole { result.value.given ≡ 0 }
     ensures later { All (λ p. IsLater p.sight.seen result.value) opened.entry.value.passes.items }
     ensures closings { (i : ℕ) (p : PassView) → i < options.now.workers
         → closed_by (record { 0 = i }) result.value.history
@@ -170,6 +171,7 @@ fn close_run<R: Wait>(
     requires graph { opened.value.service.book.graph ≡ graph_of plan.now options.now.workers options.now.max_leases options.now.parallel }
     requires watched { (looks : Option ℕ) × HasRoomToLook options.now.watch opened.value.service.book.graph.units looks
         × IsBoardFor opened.value.passes.items looks board }
+    ensures whole { IfOk result (λ ran. ran.0.value.given ≡ 0) }
     ensures run { IfOk result (λ ran. IsClosedBook plan.now options.now ended opened.entry.value.passes.items ran.0.value ran.1.items) }
     ensures broken_off { (before after : ℕ → DeskView)
         → ((i : ℕ) (p : PassView) → i < options.now.workers
@@ -204,6 +206,7 @@ fn run_book<T: RunTypes>(
     requires parts { input.now.options.now.workers < tallies.old.parts }
     ensures leaves { Leaves (desk_view T.Desk.files T.Desk.faults T.Desk.sends T.Desk.sent) input.now.options.now.workers desks.old.items desks.new.items
         tallies.old tallies.new }
+    ensures whole { IfOk result (λ ran. ran.0.value.given ≡ 0) }
     ensures run { IfOk result (λ ran. GivesBook (desk_view T.Desk.files T.Desk.faults T.Desk.sends T.Desk.sent) input.now.plan.now input.now.options.now
         desks.old.items desks.new.items tallies.old tallies.new ran.0.value ran.1.items) }
     ensures broken_off { (d : T.Desk) → OnErr result (WasBrokenOff input.now.plan.now input.now.options.now

@@ -55,7 +55,8 @@ pub(crate) fn board_of(passes: &[Pass], kits: Vec<Kit>, room: Option<BoardRoom>)
 
 /// What was seen by rising unit, where the run was watched.
 pub(crate) fn watches_of(alloc: Global, board: Option<Board>, book: &Book) -> Vec<Watch>
-    requires { IfSome board (IsSeenBy book.now) }
+    requires seen { IfSome board (IsSeenBy book.now) }
+    requires whole { book.now.given ≡ 0 }
     ensures some { IfSome board (λ _. AreWatchesOf book.now result.items) }
     ensures none { board ≡ None → result.items ≡ [] }
 {

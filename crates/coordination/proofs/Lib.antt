@@ -2,6 +2,7 @@ pub mod lemmas
 pub mod Moves
 pub mod Seating
 pub mod TakenBooks
+pub mod GivenBooks
 pub mod TurnAfterTurn
 pub mod TurnKinds
 pub mod Calls

@@ -1,5 +1,5 @@
 -- One try under the lock, as the worker sees it.
-use Rattle.std.proofs.Common.{◌≡◌, ◌<◌, List, [], ◌∷◌, ◌++◌, Result, Ok, Err, Option, Some, None, refl, sym, ap, ◌∙◌, subst, append-nil}
+use Rattle.std.proofs.Common.{◌≡◌, ◌<◌, ◌≤◌, true, List, [], ◌∷◌, ◌++◌, length, length-append, Result, Ok, Err, Option, Some, None, refl, sym, ap, ◌∙◌, subst, append-nil, arith}
 use Rattle.resource_lock.specs.declared.ids.WorkerId.{WorkerId}
 use Rattle.resource_lock.specs.declared.changes.Change.{Change}
 use Rattle.resource_lock.specs.GraphView.{GraphView}
@@ -17,6 +17,7 @@ use Rattle.coordination.specs.declared.rule.Sight.{Sight}
 use Rattle.coordination.specs.Agrees.{IsSoundBook}
 use Rattle.coordination.specs.Attempts.{Answers, Asked, Attempted, Cause, Making, Ran}
 use Rattle.coordination.specs.Rule.{AddsOwn, M, Taken, carried_book}
+use Rattle.coordination.specs.SleepAndWake.{has_entered}
 use Rattle.coordination.specs.Sights.{one, seeing, sight_of}
 use Rattle.coordination.specs.Turns.{HasLeft, HasTurned, Leaves, sight_at}
 use Rattle.coordination.specs.declared.turns.Came.{Came}
@@ -42,7 +43,7 @@ sound-push old new e sound graph allowed history state =
       replays = state ∙ (ap (λ (s : StateView). effect s e) sound.replays ∙ (sym (replay-push old.graph old.history e) ∙ (λ i. replay (sym graph i) (sym history i))));
     }
 
-sound-same : (old new : BookView) → IsSoundBook old → new.graph ≡ old.graph → new.state ≡ old.state → new.history ≡ old.history → IsSoundBook new
+pub sound-same : (old new : BookView) → IsSoundBook old → new.graph ≡ old.graph → new.state ≡ old.state → new.history ≡ old.history → IsSoundBook new
 sound-same old new sound graph state history = record {
   lawful = subst (λ (p : GraphView × List Entry). Lawful p.0 p.1) (λ i. (sym graph i, sym history i)) sound.lawful;
   replays = state ∙ (sound.replays ∙ (λ i. replay (sym graph i) (sym history i)));
@@ -98,8 +99,16 @@ grew kind makes fails retries w old new (Ok Retry) ran = (ran.history, ran.state
 grew kind makes fails retries w old new (Err e) ran = (ran.history, ran.state)
 
 pub follows : {E : Type 0} (kind : Kind) (makes : Making) (fails retries : Cause) (w : WorkerId) (old new : BookView) (r : Result Disposition E) (part : WorkerPart) → IsSoundBook old → new.graph ≡ old.graph → Ran kind makes fails retries w old new r
-    → IsPartOf old w part → HasListRoom old.graph.locks (marks_of old.graph) part → Follows w old new r part
-follows kind makes fails retries w old new r part sound graph ran p room = record { sound = sound; graph = graph; grew = grew kind makes fails retries w old new r ran; kept = p; room = room }
+    → new.given ≡ old.given → old.given ≤ length old.history → IsPartOf old w part → HasListRoom old.graph.locks (marks_of old.graph) part → Follows w old new r part
+follows kind makes fails retries w old new r part sound graph ran given within p room = record { sound = sound; graph = graph; grew = grew kind makes fails retries w old new r ran; given = given; within = within; kept = p; room = room }
+
+-- an entry that was made wasn't given away
+pub entry_kept : {E : Type 0} (kind : Kind) (makes : Making) (fails retries : Cause) (w : WorkerId) (old new : BookView) (r : Result Disposition E) → Ran kind makes fails retries w old new r → new.given ≡ old.given → old.given ≤ length old.history
+    → has_entered r ≡ true → new.given < length new.history
+entry_kept kind makes fails retries w old new (Ok Finished) ran given within entered = let more = ap (λ (h : List Entry). length h) ran.1.history ∙ length-append old.history (entry w kind (Some ran.0) ∷ []) in omega arith
+entry_kept kind makes fails retries w old new (Ok Failed) ran given within entered = let more = ap (λ (h : List Entry). length h) ran.history ∙ length-append old.history (entry w kind None ∷ []) in omega arith
+entry_kept kind makes fails retries w old new (Ok Retry) ran given within entered = absurd (cc)
+entry_kept kind makes fails retries w old new (Err e) ran given within entered = absurd (cc)
 
 module _ {E : Type 0} (kind : Kind) (makes : Making) (fails retries : Cause) (r : Result Disposition E) (m m' m'' : M) (t : Taken m m') (same : m''.0 ≡ m'.0) (worker : WorkerId) (is : worker ≡ (sight_of m.0).worker)
     (graph : (carried_book m''.1).graph ≡ (carried_book m'.1).graph) (ran : Ran kind makes fails retries worker (carried_book m'.1) (carried_book m''.1) r) where

@@ -1,6 +1,7 @@
 pub mod Shown
 pub mod WorkerEntries
 pub mod Agrees
+pub mod Giving
 pub mod Holds
 pub mod Kept
 pub mod Sights

@@ -115,5 +115,7 @@ pub record Follows {E : Type 0} (w : WorkerId) (old new : BookView) (ran : Resul
   pub sound : IsSoundBook old
   pub graph : new.graph ≡ old.graph
   pub grew : Grew w old new ran
+  pub given : new.given ≡ old.given
+  pub within : old.given ≤ length old.history
   pub kept : IsPartOf old w part
   pub room : HasListRoom old.graph.locks (marks_of old.graph) part

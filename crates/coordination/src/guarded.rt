@@ -7,7 +7,7 @@ ghost use Rattle.coordination.specs.Decisions.{HasDecidedHeld, awaits_if};
 ghost use Rattle.coordination.specs.Parts.{IsPartHere};
 
 use crate::decisions::{Decided, Decision};
-use crate::keepers::Keeper;
+use crate::keepers::{Giver, Keeper};
 use crate::outside_work::Offers;
 use crate::parts::Notes;
 use crate::questions::Question;
@@ -15,7 +15,7 @@ use crate::sleepers::{Sleepers, Wakes};
 use crate::slots::{ask_of, decide_on, run_on};
 use crate::turns::Came;
 use history_views::Reach;
-use lock_journal::Book;
+use lock_journal::{Book, Segment};
 use lock_transforms::{Disposition, Transform};
 use resource_lock::WorkerId;
 use std::alloc::{AllocError, Global};
@@ -66,6 +66,8 @@ impl<O: Offers, K: Keeper> Keeper for Guarded<O, K> {
 
     ghost ledger_of = { λ g. K.ledger_of g.keeper };
 
+    ghost keeps = { K.keeps };
+
     fn book(&self) -> &Book {
         self.keeper.book()
     }
@@ -91,6 +93,13 @@ impl<O: Offers, K: Keeper> Keeper for Guarded<O, K> {
             offers: _,
         } = self;
         keeper.into_book()
+    }
+}
+
+impl<O: Offers, K: Giver> Giver for Guarded<O, K> {
+    #[inline]
+    fn give(&mut self, segment: &mut Segment) -> bool {
+        self.keeper.give(segment)
     }
 }
 

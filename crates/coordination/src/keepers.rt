@@ -1,15 +1,16 @@
 //! What lies in the slot of a service: its book, with or without a stage that shows it to views.
-ghost use Rattle.std.specs.Prelude.{◌≡◌, ◌<◌, List, None, Ok, OnErr, Option};
+ghost use Rattle.std.specs.Prelude.{◌≡◌, ◌<◌, ◌≤◌, List, None, Ok, OnErr, Option, false, length, true};
 ghost use Rattle.logbook.specs.Pages.{Book as Ledger};
 ghost use Rattle.resource_lock.specs.declared.changes.Change.{Change};
 ghost use Rattle.lock_journal.specs.BookView.{BookView};
+ghost use Rattle.lock_journal.specs.Giving.{CanGive, GivesTo};
 ghost use Rattle.lock_journal.specs.Ran.{FailsIn, FinishesIn, IsToRetry};
 ghost use Rattle.history_views.specs.ShownBooks.{IsUnchanged};
 ghost use Rattle.history_views.specs.ShownBooks.{IsTold};
 
 use crate::boxed_books::BoxedBook;
 use history_views::{Reach, ShownBook};
-use lock_journal::Book;
+use lock_journal::{Book, Segment};
 use lock_transforms::{Disposition, Transform};
 use resource_lock::WorkerId;
 use std::alloc::AllocError;
@@ -23,6 +24,9 @@ pub trait Keeper: Drop {
 
     /// The ledger that shows its history, if one does.
     ghost ledger_of: { Self → Option Ledger };
+
+    /// What holds of each book that it keeps.
+    ghost keeps: { BookView → Type 0 };
 
     /// The book.
     fn book(&self) -> &Book
@@ -38,6 +42,8 @@ pub trait Keeper: Drop {
         requires { worker.0 < (book_of self.old).graph.workers }
         ensures ledger { ledger_of self.new ≡ ledger_of self.old }
         ensures graph { (book_of self.new).graph ≡ (book_of self.old).graph }
+        ensures given { (book_of self.new).given ≡ (book_of self.old).given }
+        ensures within { (book_of self.old).given ≤ length (book_of self.old).history }
         ensures finished { result ≡ Ok Disposition.Finished
             → (changes : List Change) × FinishesIn (T.makes transform.now) (book_of self.old) (book_of self.new) worker (T.kind_of transform.now) changes }
         ensures failed { result ≡ Ok Disposition.Failed
@@ -54,13 +60,27 @@ pub trait Keeper: Drop {
 
     /// The book alone.
     fn into_book(self) -> Box<Book>
-        ensures { result.value ≡ book_of self };
+        ensures value { result.value ≡ book_of self }
+        ensures keeps { keeps result.value };
+}
+
+/// What keeps a book whose entries may be given away while the service runs.
+pub trait Giver: Keeper {
+    /// Gives the entries away that the book keeps (`Book::give`).
+    fn give(&mut self, segment: &mut Segment) -> bool
+        ensures ledger { Self.ledger_of self.new ≡ Self.ledger_of self.old }
+        ensures given { result ≡ true → GivesTo (Self.book_of self.old) (Self.book_of self.new) segment.old segment.new }
+        ensures can { result ≡ true → CanGive (Self.book_of self.old) segment.old }
+        ensures not { result ≡ false → (Self.book_of self.new ≡ Self.book_of self.old) × (segment.new ≡ segment.old) }
+        ensures why { result ≡ false → CanGive (Self.book_of self.old) segment.old → ⊥ };
 }
 
 impl Keeper for BoxedBook {
     ghost book_of = { λ b. b };
 
     ghost ledger_of = { λ b. None };
+
+    ghost keeps = { λ book. Unit {0} };
 
     fn book(&self) -> &Book {
         &self.inner
@@ -83,10 +103,18 @@ impl Keeper for BoxedBook {
     }
 }
 
+impl Giver for BoxedBook {
+    fn give(&mut self, segment: &mut Segment) -> bool {
+        self.inner.give(segment)
+    }
+}
+
 impl<R: Wait + Drop> Keeper for ShownBook<R> {
     ghost book_of = { λ s. s.book };
 
     ghost ledger_of = { λ s. s.ledger };
+
+    ghost keeps = { λ book. book.given ≡ 0 };
 
     fn book(&self) -> &Book {
         self.book()

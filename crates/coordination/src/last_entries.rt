@@ -8,6 +8,7 @@ use std::alloc::{AllocError, Global};
 
 /// The number of the worker's last entry, counted from 1, or 0 where it has none. It goes through the whole history.
 pub fn last_number(book: &Book, worker: WorkerId) -> u64
+    requires { book.now.given ≡ 0 }
     ensures { result ≡ last_of worker book.now.history }
 {
     let mut last = 0;

@@ -4,6 +4,7 @@
 mod attempts;
 mod boxed_books;
 mod decisions;
+mod giving;
 mod guarded;
 mod halts;
 mod holds;
@@ -29,7 +30,7 @@ mod turns;
 pub use boxed_books::BoxedBook;
 pub use decisions::{Decided, Decision, Followed};
 pub use halts::Halt;
-pub use keepers::Keeper;
+pub use keepers::{Giver, Keeper};
 pub use laws::{
     openings_are_at_rest, sound_books_have_good_states, used_passes_have_their_numbers,
 };

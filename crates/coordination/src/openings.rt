@@ -36,7 +36,8 @@ pub struct Stock {
 impl Stock {
     /// For the workers of a book in which nobody has anything. It fails for want of memory alone.
     pub fn of(alloc: Global, book: &Book) -> Result<Stock, AllocError>
-        requires { IsAtRest book.now.state }
+        requires rest { IsAtRest book.now.state }
+        requires whole { book.now.given ≡ 0 }
         ensures len { IfOk result (λ stock. length stock.parts.items ≡ book.now.graph.workers) }
         ensures parts { IfOk result (λ stock. ArePartsFrom 0 book.now stock.parts.items) }
         ensures empty { IfOk result (λ stock. stock.passes.items ≡ []) }
@@ -82,7 +83,8 @@ impl Slot {
     /// A service without its state lock over the book, in which nobody has anything, with a pass for each worker of its
     /// graph in order. Each has seen this book. It fails for want of memory alone.
     pub fn opening(alloc: Global, book: Box<Book>) -> Result<(Slot, Vec<Pass>), AllocError>
-        requires { IsAtRest book.value.state }
+        requires rest { IsAtRest book.value.state }
+        requires whole { book.value.given ≡ 0 }
         ensures book { IfOk result (λ opened. opened.0.table.shared.key.kept.value.book ≡ book.value) }
         ensures passes { IfOk result (λ opened. map (λ p. p.sight) opened.1.items ≡ sights_from 0 book.value.graph.workers book.value) }
         ensures workers { IfOk result (λ opened. map (λ p. p.sight.worker.0) opened.1.items ≡ workers_from 0 book.value.graph.workers) }
@@ -99,7 +101,8 @@ impl Slot {
 
 // The parts of all workers of a book in which nobody has anything, in order.
 fn parts_of(alloc: Global, book: &Book) -> Result<Vec<WorkerPart>, AllocError>
-    requires { IsAtRest book.now.state }
+    requires rest { IsAtRest book.now.state }
+    requires whole { book.now.given ≡ 0 }
     ensures len { IfOk result (λ parts. length parts.items ≡ book.now.graph.workers) }
     ensures parts { IfOk result (λ parts. ArePartsFrom 0 book.now parts.items) }
 {

@@ -113,7 +113,8 @@ impl<K: Keeper> Slot<K> {
     pub fn close(self, passes: Vec<Pass>) -> Box<Book>
         requires service { All (λ p. p.service.table ≡ self.table.shared.table_id) passes.items }
         requires all { map (λ p. p.sight.worker.0) passes.items ≡ workers_from 0 self.table.shared.key.kept.value.book.graph.workers }
-        ensures { IsClosedBy passes.items self.table.shared.key.kept.value.book.graph result.value }
+        ensures closed { IsClosedBy passes.items self.table.shared.key.kept.value.book.graph result.value }
+        ensures keeps { K.keeps result.value }
     {
         let seat = self.join(passes);
         let Slot { table } = self;
@@ -135,6 +136,7 @@ impl<K: Keeper> Slot<K> {
             ≡ workers_from 0 self.now.table.shared.key.kept.value.book.graph.workers }
         ensures workers { result.value.graph.workers ≡ self.now.table.shared.key.kept.value.book.graph.workers }
         ensures closed { IsClosedBy passes.items result.value.graph result.value }
+        ensures keeps { K.keeps result.value }
     {
         let mut seat = self.join(passes);
         self.table.shared.swap::<TakeForGood>(&mut seat, 0, 1);

@@ -61,7 +61,8 @@ pub struct Opened<O: Offers = ()> {
 impl Coordination {
     /// A service without work outside the book: `open_with` of nothing.
     pub fn open(alloc: Global, book: Box<Book>) -> Result<Opened, AllocError>
-        requires { IsAtRest book.value.state }
+        requires rest { IsAtRest book.value.state }
+        requires whole { book.value.given ≡ 0 }
         ensures book { IfOk result (λ opened. opened.service.book ≡ book.value) }
         ensures passes { IfOk result (λ opened. map (λ p. p.sight) opened.passes.items ≡ sights_from 0 book.value.graph.workers book.value) }
         ensures len { IfOk result (λ opened. length opened.passes.items ≡ book.value.graph.workers) }
@@ -79,7 +80,8 @@ impl<O: Offers> Coordination<O> {
     /// its graph. Each has seen this book. Beside the book work waits that the offers tell of. It fails
     /// for want of memory alone.
     pub fn open_with(alloc: Global, book: Box<Book>, offers: O) -> Result<Opened<O>, AllocError>
-        requires { IsAtRest book.value.state }
+        requires rest { IsAtRest book.value.state }
+        requires whole { book.value.given ≡ 0 }
         ensures book { IfOk result (λ opened. opened.service.book ≡ book.value) }
         ensures passes { IfOk result (λ opened. map (λ p. p.sight) opened.passes.items ≡ sights_from 0 book.value.graph.workers book.value) }
         ensures len { IfOk result (λ opened. length opened.passes.items ≡ book.value.graph.workers) }
@@ -231,6 +233,7 @@ impl<O: Offers, K: Keeper> Coordination<O, K> {
         requires service { All (λ p. p.service ≡ self.service) passes.items }
         requires all { map (λ p. p.sight.worker.0) passes.items ≡ workers_from 0 self.book.graph.workers }
         ensures graph { result.value.graph ≡ self.book.graph }
+        ensures keeps { K.keeps result.value }
         ensures agrees { All (λ p. Agrees p.sight.worker p.sight.seen result.value) passes.items }
         ensures rest { All (λ p. HoldsNothing p.sight) passes.items → IsAtRest result.value.state }
         ensures entries { All (λ e. e.worker.0 < result.value.graph.workers) result.value.history }

@@ -44,7 +44,8 @@ impl<O: Offers, R: Wait + Drop> Coordination<O, ShownBook<R>> {
         offers: O,
         views: u32,
     ) -> Result<OpenedWithViews<O, R>, AllocError>
-        requires { IsAtRest book.value.state }
+        requires rest { IsAtRest book.value.state }
+        requires whole { book.value.given ≡ 0 }
         ensures book { IfOk result (λ opened. opened.service.book ≡ book.value) }
         ensures passes { IfOk result (λ opened. map (λ p. p.sight) opened.passes.items ≡ sights_from 0 book.value.graph.workers book.value) }
         ensures len { IfOk result (λ opened. length opened.passes.items ≡ book.value.graph.workers) }
@@ -77,6 +78,7 @@ fn with_views<R: Wait + Drop>(
     book: Box<Book>,
     count: u32,
 ) -> Result<(ShownBook<R>, Vec<View>), AllocError>
+    requires { book.value.given ≡ 0 }
     ensures book { IfOk result (λ made. made.0.book ≡ book.value) }
     ensures len { IfOk result (λ made. length made.1.items ≡ count) }
     ensures ledger { IfOk result (λ made. All (λ v. made.0.ledger ≡ Some v.ledger) made.1.items) }

@@ -1,5 +1,5 @@
 //! Who sleeps, and whom the end of a hold of the state lock wakes.
-ghost use Rattle.std.specs.Prelude.{◌≡◌, IfOk, false, replicate};
+ghost use Rattle.std.specs.Prelude.{◌≡◌, ◌<◌, IfOk, false, length, replicate, true};
 ghost use Rattle.worker_choices.specs.declared.stances.Stance.TheVariants as stance;
 ghost use Rattle.coordination.specs.Decisions.{noted_deciding};
 ghost use Rattle.coordination.specs.SleepAndWake.{EndsHold, begun, goes_to_work, has_entered, looks_if, stance_after, stance_asking, woken_if};
@@ -115,6 +115,7 @@ impl Sleepers {
         stance: Stance,
         entered: bool,
     ) -> Wakes
+        requires { entered ≡ true → book.now.given < length book.now.history }
         ensures { EndsHold book.now worker stance entered self.old self.new result }
     {
         let workers = self.stances.settle(book, self.queued, worker, stance);
@@ -138,6 +139,7 @@ impl Sleepers {
         kind: Kind,
         ran: &Result<Disposition, AllocError>,
     ) -> Wakes
+        requires { has_entered ran.now ≡ true → book.now.given < length book.now.history }
         ensures { EndsHold book.now worker (stance_after self.old.promised kind ran.now) (has_entered ran.now) self.old self.new result }
     {
         let again = match ran {

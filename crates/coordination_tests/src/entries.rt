@@ -21,7 +21,7 @@ pub struct EntryRow<'a> {
 
 // Whether the history has this entry.
 fn has_entry(book: &Book, row: &EntryRow<'_>) -> bool {
-    if row.place >= book.len() {
+    if row.place < book.given() || row.place >= book.len() {
         return false;
     }
     let shown = book.entry(row.place);

@@ -6,9 +6,13 @@ mod async_tracker_tests;
 #[cfg(test)]
 mod blocking_section_tests;
 #[cfg(test)]
+mod closing_tests;
+#[cfg(test)]
 mod coordination_tests;
 #[cfg(test)]
 mod entries;
+#[cfg(test)]
+mod giving_tests;
 #[cfg(test)]
 mod lease_service_tests;
 #[cfg(test)]

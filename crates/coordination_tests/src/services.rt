@@ -24,6 +24,7 @@ fn book_of(
 ) -> Result<Box<Book>, AllocError>
     ensures graph { IfOk result (λ book. book.value.graph ≡ graph_of_rows limits.now rows.now actions.now) }
     ensures state { IfOk result (λ book. book.value.state ≡ opening_of book.value.graph) }
+    ensures whole { IfOk result (λ book. book.value.given ≡ 0) }
 {
     let graph = graph_of(alloc, limits, rows, actions)?.expect(rt, "a graph that fits");
     let book = Book::opening(alloc, Box::into_inner(graph), 0, 0)?;

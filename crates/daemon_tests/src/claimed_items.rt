@@ -49,7 +49,8 @@ fn graph(rt: &impl Abort, alloc: Global) -> Result<Graph, AllocError> {
 }
 
 fn book(rt: &impl Abort, alloc: Global) -> Result<Box<Book>, AllocError>
-    ensures { IfOk result (λ book. book.value.state ≡ opening_of book.value.graph) }
+    ensures state { IfOk result (λ book. book.value.state ≡ opening_of book.value.graph) }
+    ensures whole { IfOk result (λ book. book.value.given ≡ 0) }
 {
     let graph = graph(rt, alloc)?;
     Ok(Box::new(alloc, Book::opening(alloc, graph, 0, 0)?)?)

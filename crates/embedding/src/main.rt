@@ -5,10 +5,11 @@ mod opening;
 mod working;
 
 use crate::opening::open;
-use crate::working::work_in_threads;
+use crate::working::{Parts, work_in_threads};
 use anyhow::Result;
 use coordination::Opened;
-use std::sync::Wait;
+use lock_journal::Segment;
+use std::sync::{Mutex, Wait};
 use std::thread::Threads;
 
 /// How many workers there are, each with a project of its own, and how many of them may work at once.
@@ -24,9 +25,16 @@ fn run<R: Threads + Wait + Sync>(rt: &HostRuntime, threads: &R) -> Result<()> {
         service,
         mut passes,
     } = Box::into_inner(opened);
-    work_in_threads(threads, &service, &mut passes, WORKERS);
+    // The service has no plan, and so no units.
+    let segment = Segment::opening(rt.alloc(), 0, 0, 0)?;
+    let parts = Mutex::new(Parts {
+        segment,
+        entries: 0,
+    });
+    work_in_threads(threads, &service, &mut passes, WORKERS, &parts);
     let book = service.finish(passes);
     println!(rt; "entries: {}", book.len())?;
+    println!(rt; "taken on the way: {}", parts.into_inner().entries)?;
     println!(rt; "leases out: {}", book.state().leases_out())?;
     Ok(())
 }

@@ -14,6 +14,7 @@ use std::alloc::Global;
 fn book_of(alloc: Global, workers: u32, max_leases: u32) -> Result<Box<Book>>
     ensures locks { IfOk result (λ book. book.value.graph.locks ≡ workers) }
     ensures state { IfOk result (λ book. book.value.state ≡ opening_of book.value.graph) }
+    ensures whole { IfOk result (λ book. book.value.given ≡ 0) }
 {
     if !Graph::fits(workers, None, workers, max_leases, &[], &[]) {
         bail!("there are too many workers or leases");

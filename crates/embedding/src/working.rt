@@ -6,10 +6,18 @@ ghost use Rattle.lease_service.specs.Shows.{MayTake};
 use blocking_section::{StillBlocked, enter, leave};
 use coordination::{Coordination, Halt, Pass, used_passes_have_their_numbers};
 use lease_service::{hand_back, take_locks};
+use lock_journal::Segment;
 use resource_lock::LockId;
-use std::sync::Wait;
+use std::sync::{Mutex, Wait};
 use std::thread;
 use std::thread::Threads;
+
+/// The history as it is taken: its last part, and how many entries all parts had.
+#[derive(Drop)]
+pub(crate) struct Parts {
+    pub segment: Segment,
+    pub entries: u64,
+}
 
 // Waits for something without a lease and without a lock: other workers work meanwhile.
 fn step_aside<R: Wait>(rt: &R, service: &Coordination, pass: &mut Pass) -> Result<(), Halt>
@@ -59,9 +67,23 @@ fn work_in<R: Wait>(
     }
 }
 
-// Works in the worker's own project, whose lock has the worker's number. Whoever finds no memory stops the others, so that
-// none waits for it.
-fn work<R: Wait>(rt: &R, service: &Coordination, pass: &mut Pass, locks: u32)
+// Takes the entries that came since they were taken last. A program that keeps its history writes them to a file before it clears them.
+// The service goes on in the room of the part before, so the two take turns, and memory doesn't grow with the history.
+fn take_part<R: Wait>(rt: &R, service: &Coordination, pass: &mut Pass, parts: &Mutex<Parts>)
+    requires { pass.old.service ≡ service.now.service }
+    ensures service { pass.new.service ≡ pass.old.service }
+    ensures worker { pass.new.sight.worker ≡ pass.old.sight.worker }
+{
+    let mut parts = parts.lock(rt);
+    if service.take_history(rt, pass, &mut parts.segment) {
+        parts.entries = parts.entries.saturating_add(parts.segment.len());
+        parts.segment.clear();
+    }
+}
+
+// Works in the worker's own project, whose lock has the worker's number, and takes a part of the history then. Whoever finds no memory
+// stops the others, so that none waits for it.
+fn work<R: Wait>(rt: &R, service: &Coordination, pass: &mut Pass, locks: u32, parts: &Mutex<Parts>)
     requires service { pass.old.service ≡ service.now.service }
     requires locks { pass.old.sight.seen.graph.locks ≡ locks }
     ensures service { pass.new.service ≡ pass.old.service }
@@ -75,6 +97,7 @@ fn work<R: Wait>(rt: &R, service: &Coordination, pass: &mut Pass, locks: u32)
     if matches!(work_in(rt, service, pass, lock), Err(Halt::NoMemory)) {
         service.stop_all(rt, pass);
     }
+    take_part(rt, service, pass, parts);
 }
 
 /// Has each worker work in a thread of its own, and waits for all of them.
@@ -83,6 +106,7 @@ pub(crate) fn work_in_threads<R: Threads + Wait + Sync>(
     service: &Coordination,
     passes: &mut [Pass],
     locks: u32,
+    parts: &Mutex<Parts>,
 )
     requires service { All (λ p. p.service ≡ service.now.service) passes.old }
     requires locks { All (λ p. p.sight.seen.graph.locks ≡ locks) passes.old }
@@ -95,6 +119,6 @@ pub(crate) fn work_in_threads<R: Threads + Wait + Sync>(
         rt,
         passes,
         threads,
-        &|_, pass| { work(rt, service, pass, locks) },
+        &|_, pass| { work(rt, service, pass, locks, parts) },
     );
 }

@@ -18,13 +18,13 @@ use std::test::Fail;
 use worker_choices::all_ended;
 
 /// A task with a fetch and an item.
-static PLAN: &[u8] = b"[[project]]\nname = \"p\"\n\n\
+pub(crate) static PLAN: &[u8] = b"[[project]]\nname = \"p\"\n\n\
     [[task]]\nname = \"t\"\nproject = \"p\"\n\n\
     [[task.action]]\nwait = \"retain\"\nfetch = \"a.txt\"\n\n\
     [[task.action.item]]\ndo = \"lines\"\nfile = \"b.txt\"\n";
 
 // A book of the plan's graph, for 32 workers and 4 leases.
-fn open(alloc: Global, plan: &Plan) -> Result<Box<Book>, AllocError>
+pub(crate) fn open(alloc: Global, plan: &Plan) -> Result<Box<Book>, AllocError>
     ensures { IfOk result (λ book. book.value.graph ≡ graph_of plan.now 32 4 true) }
 {
     let graph = plan.graph(alloc, 32, 4, true)?;
@@ -43,7 +43,7 @@ fn finishes<T: Transform>(book: &mut Book, worker: u32, transform: &T) -> bool
 }
 
 // Has worker 1 take the lock twice, worker 31 fail to, and worker 1 step aside without a unit.
-fn steps_aside(book: &mut Book) -> bool
+pub(crate) fn steps_aside(book: &mut Book) -> bool
     ensures { book.new.graph ≡ book.old.graph }
 {
     let acquire = Acquire {
@@ -58,7 +58,7 @@ fn steps_aside(book: &mut Book) -> bool
 }
 
 // Has worker 1 run the task's fetch, for which there is no memory.
-fn fetches(book: &mut Book) -> bool
+pub(crate) fn fetches(book: &mut Book) -> bool
     ensures { book.new.graph ≡ book.old.graph }
 {
     let closed = Closed {
@@ -74,7 +74,7 @@ fn fetches(book: &mut Book) -> bool
 }
 
 // Has worker 1 run the task's item, whose file is too long, and end the task.
-fn ends(book: &mut Book) -> bool
+pub(crate) fn ends(book: &mut Book) -> bool
     ensures { book.new.graph ≡ book.old.graph }
 {
     let closed = Closed {
@@ -95,7 +95,7 @@ fn write(plan: &Plan, book: &Book, sink: &mut MemorySink) -> bool
 {
     every_run_comes_to_its_plan();
     let _state = book.state();
-    if !all_ended(book) || book.graph().tasks().len() != plan.tasks().len() {
+    if book.given() > 0 || !all_ended(book) || book.graph().tasks().len() != plan.tasks().len() {
         return false;
     }
     let mut page = Page::new();

@@ -21,3 +21,5 @@ mod piece_tests;
 mod recorded_run_tests;
 #[cfg(test)]
 mod run_spans_tests;
+#[cfg(test)]
+mod segment_text_tests;

@@ -50,7 +50,7 @@ pub(crate) struct Answer {
 // How many entries of the book finished.
 fn finished_entries(book: &Book) -> u64 {
     let mut finished = 0u64;
-    for place in 0..book.len() {
+    for place in book.given()..book.len() {
         if !book.entry(place).failed {
             finished = finished.saturating_add(1);
         }
@@ -62,7 +62,7 @@ fn finished_entries(book: &Book) -> u64 {
 fn faults_in(book: &Book) -> u64 {
     let mut faults = 0u64;
     for unit in 0..book.graph().units() {
-        if matches!(book.outcome(unit), Some(Outcome::Fault)) {
+        if book.given() == 0 && matches!(book.outcome(unit), Some(Outcome::Fault)) {
             faults = faults.saturating_add(1);
         }
     }

@@ -17,7 +17,7 @@ fn leases_after(leases: u32, change: &Change) -> u32 {
 // How many leases are out after so many entries, by what they changed.
 fn leases_at(book: &Book, entries: u64) -> u32 {
     let mut leases = 0;
-    for place in 0..book.len() {
+    for place in book.given()..book.len() {
         if place < entries {
             for change in book.entry(place).changes {
                 leases = leases_after(leases, change);
@@ -29,7 +29,7 @@ fn leases_at(book: &Book, entries: u64) -> u32 {
 
 // The item that the entry at a place closed, if it closed one.
 fn closed_at(book: &Book, place: u64) -> Option<u32> {
-    if place >= book.len() {
+    if place < book.given() || place >= book.len() {
         return None;
     }
     let entry = book.entry(place);
@@ -41,7 +41,7 @@ fn closed_at(book: &Book, place: u64) -> Option<u32> {
 
 // The number of the entry that closed an item, counted from 1, if one did.
 fn closing_of(book: &Book, unit: u32) -> Option<u64> {
-    for place in 0..book.len() {
+    for place in book.given()..book.len() {
         if closed_at(book, place) == Some(unit) {
             return Some(place.saturating_add(1));
         }
@@ -59,7 +59,7 @@ fn holds(book: &Book, watch: &Watch) -> bool {
 // How many items the book closed.
 fn closed_items(book: &Book) -> u64 {
     let mut count = 0u64;
-    for place in 0..book.len() {
+    for place in book.given()..book.len() {
         if closed_at(book, place).is_some() {
             count = count.saturating_add(1);
         }

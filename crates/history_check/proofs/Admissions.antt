@@ -37,8 +37,9 @@ module _ (p : PlanView) (h : HistoryView) (c : CheckView) (check : IsCheckOf p h
         verdict.0,
         record {
           graph = finish.2;
-          entries = subst (λ (k : Option (List Entry)). IfSome k (λ es. es ≡ check.front)) finish.3 check.kept
+          entries = subst (λ (k : Option (List Entry)). IfSome k (λ es. es ≡ check.front)) finish.4 check.kept
               ∙ all_admitted c.graph h.entries check.front check.behind check.entries check.refused verdict.1;
+          whole = finish.3;
           lawful = verdict.1;
         },
       )

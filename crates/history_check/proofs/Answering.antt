@@ -26,7 +26,7 @@ use Rattle.history_check.specs.declared.again.Again.TheVariants as again
 -- ---- a whole history
 
 pub fits_plan : (p : PlanView) (h : HistoryView) (a : Admitted) → IsAdmissionOf p h a → FitsPlan p a
-fits_plan p h (admitted.Lawful b) is = ap (λ (g : GraphView). g.units) is.1.graph
+fits_plan p h (admitted.Lawful b) is = (ap (λ (g : GraphView). g.units) is.1.graph, is.1.whole)
 fits_plan p h (admitted.NotLawful n) is = tt
 
 module _ (p : PlanView) (known : Option Folder) (Read : List Closed → Type 0) where

@@ -14,7 +14,7 @@ pub record AdmitterView : Type 0 where
   pub entries : ℕ
   pub kept : Option (List Entry)
 
--- a book keeps its entries
+-- a book that gave none of its entries away keeps them
 abbrev pub book_admits : BookView → AdmitterView
 book_admits b = record { graph = b.graph; state = b.state; entries = length b.history; kept = Some b.history }
 

@@ -25,10 +25,11 @@ abbrev pub checked_of : Admitted → Checked
 checked_of (admitted.Lawful b) = checked.Lawful (length b.history)
 checked_of (admitted.NotLawful n) = checked.NotLawful n
 
--- the entries are lawful, and the book is that of the graph and of exactly these entries
+-- the entries are lawful, and the book is that of the graph and of exactly these entries, and keeps them
 pub record IsBookOf (g : GraphView) (es : List Entry) (b : BookView) : Type 0 where
   pub graph : b.graph ≡ g
   pub entries : b.history ≡ es
+  pub whole : b.given ≡ 0
   pub lawful : Lawful g es
 
 abbrev pub IsAdmission : GraphView → Option ℕ → List Entry → Admitted → Type 0
@@ -41,7 +42,7 @@ IsAdmissionOf p h a = IsAdmission (graph_of p h.workers h.max h.parallel) h.lock
 
 -- the answer, with the book that a check keeps its entries in where they are lawful
 abbrev pub IsFinish : CheckView → Checked → Admitted → Type 0
-IsFinish c (checked.Lawful n) a = (b : BookView) × (a ≡ admitted.Lawful b) × (b.graph ≡ c.graph) × (c.kept ≡ Some b.history)
+IsFinish c (checked.Lawful n) a = (b : BookView) × (a ≡ admitted.Lawful b) × (b.graph ≡ c.graph) × (b.given ≡ 0) × (c.kept ≡ Some b.history)
 IsFinish c (checked.NotLawful n) a = a ≡ admitted.NotLawful n
 
 -- What came is the text of a history behind lines that are passed over, and its entries come to this.

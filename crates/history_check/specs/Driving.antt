@@ -123,9 +123,9 @@ again_at (stop.Differs n o) = Ok (Differs n o)
 again_at (stop.ReadFault u) = Ok (ReadFault u)
 again_at stop.NoMemory = Err (record {})
 
--- the entries that were admitted are of a graph with the plan's units
+-- the entries that were admitted are of a graph with the plan's units, and their book keeps them
 abbrev pub FitsPlan : PlanView → Admitted → Type 0
-FitsPlan p (admitted.Lawful b) = b.graph.units ≡ length (plan_units p)
+FitsPlan p (admitted.Lawful b) = (b.graph.units ≡ length (plan_units p)) × (b.given ≡ 0)
 FitsPlan p (admitted.NotLawful n) = Unit {0}
 
 -- what becomes of entries that were admitted: their book stays, and an answer that they aren't lawful too

@@ -3,12 +3,11 @@ ghost use Rattle.std.specs.Prelude.{◌≡◌, ◌<◌, ◌-◌, ◌^◌, Ok, tr
 ghost use Rattle.lock_transforms.specs.Entry.{entry};
 ghost use Rattle.history_check.specs.AdmitterView.{AdmitterView, Admits, IsOpened, Refuses};
 
-use lock_journal::Book;
 use lock_transforms::Kind;
 use resource_lock::{Change, Graph, WorkerId};
 use std::alloc::{AllocError, Global};
 
-/// What admits the entries of a history one by one: a book, which keeps them, or the state alone that they lead to.
+/// What admits the entries of a history one by one: a `WholeBook`, which keeps them, or `Reached`, the state alone that they lead to.
 pub trait Admitter: Drop {
     /// The graph, the state that the entries lead to, how many they are, and the entries where they are kept.
     ghost seen: { Self → AdmitterView };
@@ -33,27 +32,4 @@ pub trait Admitter: Drop {
         ensures admitted { result ≡ Ok true → Admits (seen self.old) (seen self.new) (entry worker kind.now (option_map (λ c. c.now) changes.entry)) }
         ensures refused { result ≡ Ok false → Refuses (seen self.old) (seen self.new) (entry worker kind.now (option_map (λ c. c.now) changes.entry)) }
         ensures no_memory { OnErr result (seen self.new ≡ seen self.old) };
-}
-
-impl Admitter for Book {
-    ghost use Rattle.history_check.specs.AdmitterView.{book_admits};
-
-    ghost seen = { book_admits };
-
-    fn open(alloc: Global, graph: Graph) -> Result<Book, AllocError> {
-        Book::opening(alloc, graph, 0, 0)
-    }
-
-    fn admitted(&self) -> u64 {
-        self.len()
-    }
-
-    fn admit_next(
-        &mut self,
-        worker: WorkerId,
-        kind: &Kind,
-        changes: Option<&[Change]>,
-    ) -> Result<bool, AllocError> {
-        self.admit(worker, kind, changes)
-    }
 }

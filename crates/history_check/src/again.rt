@@ -101,7 +101,8 @@ fn drive_lawful<F: Files>(
     book: Book,
     files: &mut F,
 ) -> Result<Again, AllocError>
-    requires { book.graph.units ≡ length (plan_units plan.now) }
+    requires fits { book.graph.units ≡ length (plan_units plan.now) }
+    requires whole { book.given ≡ 0 }
     ensures files { F.files files.new ≡ F.files files.old }
     ensures counted { IsAgainCounted (F.faults files.old) (F.faults files.new) result }
     ensures gone_on { HasGoneOn plan.now (F.files files.old) (ReadsFor F.keeps files.old files.new) (admissions.Lawful book) result }

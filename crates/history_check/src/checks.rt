@@ -9,8 +9,8 @@ ghost use Rattle.history_check.specs.Verdict.{IsVerdict};
 use crate::admitted::Admitted;
 use crate::admitters::Admitter;
 use crate::entry_checks::EntryCheck;
+use crate::whole_books::WholeBook;
 use history_text::{EntryHead, History, HistoryLine, LineHead, TextFail, Version, read_line_into};
-use lock_journal::Book;
 use plan_reader::Plan;
 use resource_lock::Change;
 use std::alloc::Global;
@@ -27,7 +27,7 @@ pub enum Checked {
     NotLawful(u64),
 }
 
-/// A history that comes line by line, and is checked against a plan. A `Book` keeps the entries up to the first that
+/// A history that comes line by line, and is checked against a plan. A `WholeBook` keeps the entries up to the first that
 /// isn't allowed. `Reached` keeps none, and then the check's memory doesn't grow with the history.
 #[derive(Drop)]
 pub struct HistoryCheck<A: Admitter> {
@@ -105,7 +105,7 @@ impl<A: Admitter> HistoryCheck<A> {
     }
 }
 
-impl HistoryCheck<Book> {
+impl HistoryCheck<WholeBook> {
     /// What the history so far comes to by the answer: its book where all entries are lawful.
     pub(crate) fn finish(self, answer: Checked) -> Admitted
         ensures { IsFinish self answer result }

@@ -23,7 +23,8 @@ pub(crate) fn drive_book<F: Files>(
     book: &Book,
     files: &mut F,
 ) -> Result<(), Stop>
-    requires { book.now.graph.units ≡ length (plan_units plan.now) }
+    requires fits { book.now.graph.units ≡ length (plan_units plan.now) }
+    requires whole { book.now.given ≡ 0 }
     ensures files { F.files files.new ≡ F.files files.old }
     ensures counted { IsStopCounted (F.faults files.old) (F.faults files.new) result }
     ensures driven { AreDriven plan.now (F.files files.old) book.now.history (ReadsFor F.keeps files.old files.new) result }
@@ -41,6 +42,7 @@ fn drive_entries<F: Files>(
     files: &mut F,
 ) -> Result<(), Stop>
     requires fits { book.now.graph.units ≡ length (plan_units plan.now) }
+    requires whole { book.now.given ≡ 0 }
     requires units { map unit_view units.now ≡ plan_units plan.now }
     ensures files { F.files files.new ≡ F.files files.old }
     ensures counted { IsStopCounted (F.faults files.old) (F.faults files.new) result }

@@ -11,7 +11,7 @@ ghost use Rattle.history_check.specs.Verdict.{IsVerdict, names_other_locks};
 use crate::admitted::Admitted;
 use crate::admitters::Admitter;
 use crate::checks::Checked;
-use lock_journal::Book;
+use crate::whole_books::WholeBook;
 use lock_transforms::Kind;
 use plan_reader::Plan;
 use resource_lock::{Change, Graph, WorkerId};
@@ -101,13 +101,13 @@ impl<A: Admitter> EntryCheck<A> {
     }
 }
 
-impl EntryCheck<Book> {
+impl EntryCheck<WholeBook> {
     /// What the entries come to by the answer: their book where all are lawful.
     pub(crate) fn finish(self, answer: Checked) -> Admitted
         ensures { IsFinish self answer result }
     {
         match answer {
-            Checked::Lawful(_) => Admitted::Lawful(self.admitter),
+            Checked::Lawful(_) => Admitted::Lawful(self.admitter.into_book()),
             Checked::NotLawful(number) => {
                 // Let go of as a whole: to prove that it ends field by field takes a minute.
                 drop(self);

@@ -13,9 +13,9 @@ use crate::checks::{Checked, HistoryCheck};
 use crate::fails::CheckFail;
 use crate::lines::Lines;
 use crate::reached::Reached;
+use crate::whole_books::WholeBook;
 use file_access::Source;
 use history_text::{HistoryLine, TextFail, Version, read_version};
-use lock_journal::Book;
 use plan_reader::Plan;
 use std::alloc::Global;
 
@@ -97,7 +97,7 @@ fn admit_behind<I: Source>(
     requires { HasBytesLeft 0 lines.old }
     ensures { (start : SourceView) → HasTaken start (I.seen input.old) lines.old (first_line version) → HasAdmitted plan.now start (I.seen input.new) result }
 {
-    let opened = open_check::<Book, I>(alloc, plan, version, input, lines)?;
+    let opened = open_check::<WholeBook, I>(alloc, plan, version, input, lines)?;
     match opened {
         None => Ok(Admitted::NotLawful(0)),
         Some(mut check) => match check_lines(alloc, &mut check, input, lines) {

@@ -15,6 +15,7 @@ mod reached;
 mod stops;
 mod values;
 mod whole;
+mod whole_books;
 
 pub use admitted::Admitted;
 pub use admitters::Admitter;
@@ -29,3 +30,4 @@ pub use laws::{
 pub use lines::MAX_PIECE;
 pub use reached::Reached;
 pub use whole::{admit, check};
+pub use whole_books::WholeBook;

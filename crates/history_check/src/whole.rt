@@ -10,8 +10,8 @@ use crate::admitters::Admitter;
 use crate::checks::Checked;
 use crate::entry_checks::EntryCheck;
 use crate::reached::Reached;
+use crate::whole_books::WholeBook;
 use history_text::History;
-use lock_journal::Book;
 use plan_reader::Plan;
 use std::alloc::{AllocError, Global};
 
@@ -21,7 +21,7 @@ pub fn admit(alloc: Global, plan: &Plan, history: &History) -> Result<Admitted, 
     requires { HeadFits history.now.workers history.now.max history.now.locks }
     ensures { IfOk result (IsAdmissionOf plan.now (history_view history.now)) }
 {
-    let check = check_entries::<Book>(alloc, plan, history)?;
+    let check = check_entries::<WholeBook>(alloc, plan, history)?;
     let answer = check.answer();
     Ok(check.finish(answer))
 }

@@ -13,3 +13,4 @@ pub mod EntryLaws
 pub mod SettingsLaws
 pub mod Further
 pub mod BookLaws
+pub mod Segments

@@ -15,6 +15,7 @@ use Rattle.lock_transforms.specs.declared.entries.Closed.{Closed}
 use Rattle.lock_transforms.specs.declared.entries.Kind.{Kind}
 use Rattle.lock_transforms.specs.declared.entries.Kind.TheVariants as kinds
 use Rattle.lock_transforms.specs.Entry.{Entry}
+use Rattle.lock_journal.specs.SegmentView.{SegmentView}
 
 abbrev pub mark_text : Mark → List ℕ
 mark_text Waiting = codes "waiting"
@@ -92,6 +93,10 @@ entry_text n e = decimal n ++ codes " w" ++ decimal e.worker.0 ++ codes " " ++ k
 abbrev pub numbered : {X : Type 0} → (ℕ → X → List ℕ) → ℕ → List X → List ℕ
 numbered line n [] = []
 numbered line n (x ∷ xs) = line n x ++ numbered line (n + 1) xs
+
+-- the lines of a segment's entries
+abbrev pub segment_lines : SegmentView → List ℕ
+segment_lines s = numbered entry_text (s.before + 1) s.entries
 
 abbrev pub parallel_text : Bool → List ℕ
 parallel_text true = codes "yes"

@@ -19,6 +19,7 @@ pub(crate) fn mark_of(book: &Book, task: u32) -> Mark
 pub(crate) fn outcome_of(book: &Book, unit: u32) -> Outcome
     requires within { unit < book.now.graph.units }
     requires ended { HasEnded book.now.state }
+    requires whole { book.now.given ≡ 0 }
     ensures { result ≡ outcome_in book.now.history unit }
 {
     // The state is one of the graph, and the lawful history leads to it: a skipped unit was never closed.

@@ -1,4 +1,4 @@
-ghost use Rattle.std.specs.Prelude.{length, Some};
+ghost use Rattle.std.specs.Prelude.{◌≡◌, length, Some};
 ghost use Rattle.file_access.specs.PageView.{Adds};
 ghost use Rattle.history_text.specs.Text.{parallel_text, head_text, end_text, history_text};
 
@@ -19,7 +19,7 @@ fn write_parallel<K: Sink>(parallel: bool, page: &mut Page, sink: &mut K)
 }
 
 /// Writes the two lines before the entries. They are those of version 2, which name how many locks there are.
-pub(crate) fn write_head_lines<K: Sink>(
+pub fn write_head_lines<K: Sink>(
     workers: u32,
     max_leases: u32,
     parallel: bool,
@@ -63,8 +63,9 @@ pub fn write_end<K: Sink>(book: &Book, page: &mut Page, sink: &mut K)
 }
 
 /// Writes the history text of a book, of version 2: how many workers there are and how many leases may be out,
-/// whether each project has a lock of its own, how many locks there are, and each entry.
+/// whether each project has a lock of its own, how many locks there are, and each entry. The book keeps all entries.
 pub fn write_history<K: Sink>(book: &Book, parallel: bool, page: &mut Page, sink: &mut K)
+    requires { book.now.given ≡ 0 }
     ensures { Adds (K.seen sink.old) page.old (K.seen sink.new) page.new
         (history_text book.now.graph.workers book.now.graph.max_leases parallel (Some book.now.graph.locks) book.now.history) }
 {

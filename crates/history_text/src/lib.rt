@@ -30,12 +30,12 @@ mod units;
 
 pub use books::every_book_has_a_text;
 pub use changes::{write_effect, write_mark};
-pub use entries::{write_entry, write_kind};
+pub use entries::{write_entry, write_kept, write_kind, write_segment};
 pub use events::write_events;
 pub use fails::TextFail;
 pub use heads::{Version, read_version};
-pub use histories::{write_end, write_head, write_history};
-pub use laws::results_go_by_number;
+pub use histories::{write_end, write_head, write_head_lines, write_history};
+pub use laws::{results_go_by_number, segments_are_one_text};
 pub use lines::{LineHead, LineValue, read_line, read_line_into};
 pub use outcomes::write_outcome;
 pub use read::read_history;

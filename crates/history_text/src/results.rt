@@ -40,6 +40,7 @@ fn write_task<K: Sink>(
     requires few { book.now.graph.units < 2 ^ 32 }
     requires within { first + length (task_units (plan_task_view task.now)) ≤ book.now.graph.units }
     requires ended { HasEnded book.now.state }
+    requires whole { book.now.given ≡ 0 }
     ensures text { Adds (K.seen sink.old) page.old (K.seen sink.new) page.new
         (task_text (task_marks book.now.state) (outcome_in book.now.history) number first (plan_task_view task.now)) }
     ensures next { result ≡ first + length (task_units (plan_task_view task.now)) }
@@ -55,6 +56,7 @@ fn write_tasks<K: Sink>(tasks: &[PlanTask], book: &Book, page: &mut Page, sink: 
     requires tasks { length book.now.graph.tasks ≡ length tasks.now }
     requires units { book.now.graph.units ≡ length (flat_map task_units (map plan_task_view tasks.now)) }
     requires ended { HasEnded book.now.state }
+    requires whole { book.now.given ≡ 0 }
     ensures { Adds (K.seen sink.old) page.old (K.seen sink.new) page.new
         (tasks_text (task_marks book.now.state) (outcome_in book.now.history) 0 0 (map plan_task_view tasks.now)) }
 {
@@ -69,6 +71,7 @@ fn write_whole<K: Sink>(plan: &Plan, book: &Book, page: &mut Page, sink: &mut K)
     requires tasks { length book.now.graph.tasks ≡ length plan.now.tasks }
     requires units { book.now.graph.units ≡ length (plan_units plan.now) }
     requires ended { HasEnded book.now.state }
+    requires whole { book.now.given ≡ 0 }
     ensures { Adds (K.seen sink.old) page.old (K.seen sink.new) page.new
         (results_text plan.now (task_marks book.now.state) (outcome_in book.now.history)) }
 {
@@ -78,7 +81,7 @@ fn write_whole<K: Sink>(plan: &Plan, book: &Book, page: &mut Page, sink: &mut K)
 
 /// Writes the results text of a plan whose marks have all ended: a line for each task and each of its
 /// units, and three lines of summary; or the summary alone. The book's graph has as many tasks and units
-/// as the plan.
+/// as the plan, and the book keeps all entries.
 pub fn write_results<K: Sink>(
     plan: &Plan,
     book: &Book,
@@ -89,6 +92,7 @@ pub fn write_results<K: Sink>(
     requires tasks { length book.now.graph.tasks ≡ length plan.now.tasks }
     requires units { book.now.graph.units ≡ length (plan_units plan.now) }
     requires ended { HasEnded book.now.state }
+    requires whole { book.now.given ≡ 0 }
     ensures { Adds (K.seen sink.old) page.old (K.seen sink.new) page.new
         ((if summary then summary_text else results_text) plan.now (task_marks book.now.state) (outcome_in book.now.history)) }
 {

@@ -24,7 +24,8 @@ fn count_tasks(book: &Book) -> Counts
 
 // How many units passed, failed and were skipped.
 fn count_units(book: &Book) -> Counts
-    requires { HasEnded book.now.state }
+    requires ended { HasEnded book.now.state }
+    requires whole { book.now.given ≡ 0 }
     ensures { result ≡ unit_counts (below book.now.graph.units (outcome_in book.now.history)) }
 {
     let mut counts = Counts::NONE;
@@ -36,7 +37,8 @@ fn count_units(book: &Book) -> Counts
 
 // The sum of the Number outcomes, which can pass 64 bits.
 fn total_of(book: &Book) -> u128
-    requires { HasEnded book.now.state }
+    requires ended { HasEnded book.now.state }
+    requires whole { book.now.given ≡ 0 }
     ensures { result ≡ sum_by number_in (below book.now.graph.units (outcome_in book.now.history)) }
 {
     let mut total = 0;
@@ -79,7 +81,8 @@ fn write_tasks_line<K: Sink>(book: &Book, page: &mut Page, sink: &mut K)
 
 // Writes the line with the counts of units.
 fn write_units_line<K: Sink>(book: &Book, page: &mut Page, sink: &mut K)
-    requires { HasEnded book.now.state }
+    requires ended { HasEnded book.now.state }
+    requires whole { book.now.given ≡ 0 }
     ensures { Adds (K.seen sink.old) page.old (K.seen sink.new) page.new
         (codes "units: " ++ counts_text (unit_counts (below book.now.graph.units (outcome_in book.now.history)))) }
 {
@@ -89,7 +92,8 @@ fn write_units_line<K: Sink>(book: &Book, page: &mut Page, sink: &mut K)
 
 // Writes the line with the sum of all numbers.
 fn write_total_line<K: Sink>(book: &Book, page: &mut Page, sink: &mut K)
-    requires { HasEnded book.now.state }
+    requires ended { HasEnded book.now.state }
+    requires whole { book.now.given ≡ 0 }
     ensures { Adds (K.seen sink.old) page.old (K.seen sink.new) page.new
         (codes "total: " ++ decimal (sum_by number_in (below book.now.graph.units (outcome_in book.now.history))) ++ codes "\n") }
 {
@@ -100,7 +104,8 @@ fn write_total_line<K: Sink>(book: &Book, page: &mut Page, sink: &mut K)
 
 /// Writes the three lines of summary of a book whose marks have ended.
 pub(crate) fn write_summary<K: Sink>(book: &Book, page: &mut Page, sink: &mut K)
-    requires { HasEnded book.now.state }
+    requires ended { HasEnded book.now.state }
+    requires whole { book.now.given ≡ 0 }
     ensures { Adds (K.seen sink.old) page.old (K.seen sink.new) page.new
         (summary_of (below (length book.now.graph.tasks) (task_marks book.now.state)) (below book.now.graph.units (outcome_in book.now.history))) }
 {

@@ -46,6 +46,7 @@ pub(crate) fn write_unit<K: Sink>(
 fn write_item<K: Sink>(work: &Work, number: u32, book: &Book, page: &mut Page, sink: &mut K)
     requires within { number < book.now.graph.units }
     requires ended { HasEnded book.now.state }
+    requires whole { book.now.given ≡ 0 }
     ensures { Adds (K.seen sink.old) page.old (K.seen sink.new) page.new
         (unit_text (outcome_in book.now.history) number (item_unit (work_view work.now))) }
 {
@@ -59,6 +60,7 @@ fn write_items<K: Sink>(items: &[Work], first: u32, book: &Book, page: &mut Page
     requires few { book.now.graph.units < 2 ^ 32 }
     requires within { first + length items.now ≤ book.now.graph.units }
     requires ended { HasEnded book.now.state }
+    requires whole { book.now.given ≡ 0 }
     ensures { Adds (K.seen sink.old) page.old (K.seen sink.new) page.new
         (numbered (unit_text (outcome_in book.now.history)) first (map item_unit (map work_view items.now))) }
 {
@@ -78,6 +80,7 @@ fn write_fetch<K: Sink>(
     requires few { book.now.graph.units < 2 ^ 32 }
     requires within { first + length (fetch_units fetch.now) ≤ book.now.graph.units }
     requires ended { HasEnded book.now.state }
+    requires whole { book.now.given ≡ 0 }
     ensures text { Adds (K.seen sink.old) page.old (K.seen sink.new) page.new
         (numbered (unit_text (outcome_in book.now.history)) first (fetch_units fetch.now)) }
     ensures next { result ≡ first + length (fetch_units fetch.now) }
@@ -104,6 +107,7 @@ fn write_action<K: Sink>(
     requires few { book.now.graph.units < 2 ^ 32 }
     requires within { first + length (action_units (plan_action_view action.now)) ≤ book.now.graph.units }
     requires ended { HasEnded book.now.state }
+    requires whole { book.now.given ≡ 0 }
     ensures text { Adds (K.seen sink.old) page.old (K.seen sink.new) page.new
         (numbered (unit_text (outcome_in book.now.history)) first (action_units (plan_action_view action.now))) }
     ensures next { result ≡ first + length (action_units (plan_action_view action.now)) }
@@ -125,6 +129,7 @@ pub(crate) fn write_actions<K: Sink>(
     requires few { book.now.graph.units < 2 ^ 32 }
     requires within { first + length (flat_map action_units (map plan_action_view actions.now)) ≤ book.now.graph.units }
     requires ended { HasEnded book.now.state }
+    requires whole { book.now.given ≡ 0 }
     ensures text { Adds (K.seen sink.old) page.old (K.seen sink.new) page.new
         (numbered (unit_text (outcome_in book.now.history)) first (flat_map action_units (map plan_action_view actions.now))) }
     ensures next { result ≡ first + length (flat_map action_units (map plan_action_view actions.now)) }

@@ -19,7 +19,7 @@ abbrev pub no_graph : GraphView
 no_graph = record { locks = 0; all = None; workers = 0; max_leases = 0; units = 0; tasks = []; actions = [] }
 
 abbrev pub no_book : BookView
-no_book = record { graph = no_graph; state = opening_of no_graph; history = []; spare_entries = 0; spare_changes = 0 }
+no_book = record { graph = no_graph; state = opening_of no_graph; history = []; given = 0; spare_entries = 0; spare_changes = 0 }
 
 abbrev pub last_book : List BookView → BookView
 last_book [] = no_book

@@ -1,5 +1,5 @@
 //! A book whose history can be seen without its lock.
-ghost use Rattle.std.specs.Prelude.{◌≡◌, ◌<◌, ◌-◌, IfOk, IfSome, IsNone, IsSome, None, OnErr, List, Ok, Some, length, take, true, false};
+ghost use Rattle.std.specs.Prelude.{◌≡◌, ◌<◌, ◌≤◌, ◌-◌, IfOk, IfSome, IsNone, IsSome, None, OnErr, List, Ok, Some, length, take, true, false};
 ghost use Rattle.resource_lock.specs.declared.changes.Change.{Change};
 ghost use Rattle.lock_transforms.specs.Entry.{prefix_state};
 ghost use Rattle.lock_journal.specs.Ran.{FinishesIn, FailsIn, IsToRetry};
@@ -16,8 +16,8 @@ use std::alloc::{AllocError, Global};
 use std::marker::Model;
 use std::sync::Wait;
 
-/// A book with the stage that shows its history, or without one. Contracts see the book, and which ledger has its history, where
-/// it is shown.
+/// A book with the stage that shows its history, or without one. It keeps all entries. Contracts see the book, and which ledger has its
+/// history, where it is shown.
 #[derive(Drop)]
 pub struct ShownBook<R: Wait + Drop> {
     book: Box<Book>,
@@ -25,13 +25,14 @@ pub struct ShownBook<R: Wait + Drop> {
 }
 
 impl<R: Wait + Drop> Model for ShownBook<R> {
+    ghost use Rattle.std.specs.Prelude.{◌≡◌};
     ghost use Rattle.history_views.specs.ShownBooks.{IsOnStage, ShownView, ledger_at};
 
     ghost Value = { ShownView };
 
     ghost view = { λ s. record { book = s.book.value; ledger = ledger_at s.stage } };
 
-    ghost invariant = { λ s. IsOnStage s.stage s.book.value };
+    ghost invariant = { λ s. IsOnStage s.stage s.book.value × (s.book.value.given ≡ 0) };
 }
 
 impl<R: Wait + Drop> ShownBook<R> {
@@ -43,6 +44,7 @@ impl<R: Wait + Drop> ShownBook<R> {
         book: Box<Book>,
         views: u32,
     ) -> Result<ShownBook<R>, AllocError>
+        requires { book.value.given ≡ 0 }
         ensures book { IfOk result (λ s. s.book ≡ book.value) }
         ensures shown { IfOk result (λ s. 0 < views → IsSome s.ledger) }
         ensures plain { IfOk result (λ s. views ≡ 0 → IsNone s.ledger) }
@@ -59,7 +61,8 @@ impl<R: Wait + Drop> ShownBook<R> {
 
     /// The book.
     pub fn book(&self) -> &Book
-        ensures { result.now ≡ self.now.book }
+        ensures value { result.now ≡ self.now.book }
+        ensures whole { result.now.given ≡ 0 }
     {
         &self.book
     }
@@ -111,6 +114,8 @@ impl<R: Wait + Drop> ShownBook<R> {
         requires { worker.0 < self.old.book.graph.workers }
         ensures ledger { self.new.ledger ≡ self.old.ledger }
         ensures graph { self.new.book.graph ≡ self.old.book.graph }
+        ensures given { self.new.book.given ≡ self.old.book.given }
+        ensures within { self.old.book.given ≤ length self.old.book.history }
         ensures finished { result ≡ Ok Disposition.Finished
             → (changes : List Change) × FinishesIn (T.makes transform.now) self.old.book self.new.book worker (T.kind_of transform.now) changes }
         ensures failed { result ≡ Ok Disposition.Failed
@@ -135,7 +140,8 @@ impl<R: Wait + Drop> ShownBook<R> {
 
     /// The book alone. Its views see nothing more of it.
     pub fn into_book(self) -> Box<Book>
-        ensures { result.value ≡ self.book }
+        ensures value { result.value ≡ self.book }
+        ensures whole { result.value.given ≡ 0 }
     {
         let ShownBook { book, stage: _ } = self;
         book
@@ -145,11 +151,12 @@ impl<R: Wait + Drop> ShownBook<R> {
 // Shows the last entry of the book where there is a stage, or takes it back.
 #[inline(always)]
 fn show_last<R: Wait + Drop>(book: &mut Book, stage: &mut Option<Stage<R>>) -> bool
-    requires some { 0 < length book.old.history }
+    requires some { book.old.given < length book.old.history }
     requires later { IfSome stage.old (λ s. IsLater (last_book s.log) book.old) }
     ensures ledger { ledger_at stage.new ≡ ledger_at stage.old }
     ensures book { result ≡ true → book.new ≡ book.old }
     ensures shown { result ≡ true → IsOnStage stage.new book.new }
+    ensures given { book.new.given ≡ book.old.given }
     ensures taken { result ≡ false → IsTaken book.old book.new }
     ensures stage { result ≡ false → stage.new ≡ stage.old }
 {
@@ -162,11 +169,12 @@ fn show_last<R: Wait + Drop>(book: &mut Book, stage: &mut Option<Stage<R>>) -> b
 // Shows the last entry of the book on the stage, or takes it back. It stands apart, so that who shows nothing passes it by.
 #[inline(never)]
 fn show_on<R: Wait + Drop>(book: &mut Book, stage: &mut Stage<R>) -> bool
-    requires some { 0 < length book.old.history }
+    requires some { book.old.given < length book.old.history }
     requires later { IsLater (last_book stage.old.log) book.old }
     ensures ledger { stage.new.ledger ≡ stage.old.ledger }
     ensures book { result ≡ true → book.new ≡ book.old }
     ensures shown { result ≡ true → SameHistory (last_book stage.new.log) book.new }
+    ensures given { book.new.given ≡ book.old.given }
     ensures taken { result ≡ false → IsTaken book.old book.new }
     ensures stage { result ≡ false → stage.new ≡ stage.old }
 {

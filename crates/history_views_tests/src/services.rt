@@ -21,6 +21,7 @@ pub struct Limits {
 /// A book without entries, whose graph has no tasks.
 pub fn book_of(rt: &impl Abort, alloc: Global, limits: &Limits) -> Result<Box<Book>, AllocError>
     ensures state { IfOk result (λ book. book.value.state ≡ opening_of book.value.graph) }
+    ensures whole { IfOk result (λ book. book.value.given ≡ 0) }
     ensures workers { IfOk result (λ book. book.value.graph.workers ≡ limits.now.workers) }
 {
     let tasks = Vec::new(alloc);

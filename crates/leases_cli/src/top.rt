@@ -89,6 +89,7 @@ fn read_first<D: Desk>(alloc: Global, name: &Text, desks: &mut Vec<D>) -> Result
 
 // Writes the history of a run, where the words ask for it.
 fn write_history_asked<O: Sink>(asked: &RunWords, book: &Book, page: &mut Page, out: &mut O)
+    requires { book.now.given ≡ 0 }
     ensures { Adds (O.seen out.old) page.old (O.seen out.new) page.new (history_asked asked.now book.now) }
 {
     if asked.history {

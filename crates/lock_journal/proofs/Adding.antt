@@ -1,5 +1,5 @@
 -- A history with one more entry, and one without its last.
-use Rattle.std.proofs.Common.{◌≡◌, ℕ, ◌-◌, length, take, drop, List, [], ◌∷◌, ◌++◌, cond, get_or, Some, None, refl, sym, ◌∙◌, ap, subst, arith}
+use Rattle.std.proofs.Common.{◌≡◌, ◌≤◌, ℕ, ◌-◌, length, take, drop, List, [], ◌∷◌, ◌++◌, cond, get_or, Some, None, refl, sym, ◌∙◌, ap, subst, arith}
 use Rattle.std.specs.Prelude.{slice_get}
 use Rattle.std.specs.List.{slice_index_or}
 use Rattle.std.proofs.lemmas.List.{length-append, length-take-le, take-append-drop}
@@ -9,10 +9,10 @@ use Rattle.resource_lock.specs.declared.changes.Change.{Change}
 use Rattle.lock_transforms.specs.Entry.{entry}
 use Rattle.lock_transforms.specs.declared.entries.Closed.{Closed}
 use Rattle.lock_transforms.specs.declared.entries.Kind.{Kind}
-use Rattle.lock_journal.specs.History.{history_view, IsSoundHistory}
+use Rattle.lock_journal.specs.Segment.{segment_view, IsSoundSegment}
 use Rattle.lock_journal.specs.StoredEntry.{AreStored, IsLastNumber, closings_until, entries_from, entry_from, kind_from, place_by, place_in, KeepEarlier}
-use Rattle.lock_journal.specs.declared.histories.History.TheInside.{Inside}
-use Rattle.lock_journal.specs.declared.histories.TheConstants.{NOWHERE}
+use Rattle.lock_journal.specs.declared.segments.Segment.TheInside.{Inside}
+use Rattle.lock_journal.specs.declared.segments.TheConstants.{MOST_BEFORE, NOWHERE}
 use Rattle.lock_journal.specs.declared.stored_entries.StoredEntry.{StoredEntry}
 use Rattle.lock_journal.proofs.Stored.{until_within}
 use Rattle.lock_journal.proofs.Pushed.{Keeps, Popped, SameKinds, entries-push, keep-pop, keep-push, keep-same, kinds_back, kinds_stay, place_in-push, place_in-same, slice_range-new, stored-pop, stored-push}
@@ -29,20 +29,21 @@ pub record Adds (a b : Inside) (k : StoredEntry) (kind : Kind) (new : List Chang
   pub number : IsLastNumber (length b.closings.items) k.kind k.number
   pub until : closings_until k.kind k.number (length b.closings.items) ≡ length a.closings.items
   pub kind_is : kind_from b.closings.items k.kind k.number ≡ kind
+  pub before : b.before ≡ a.before
   pub place : (u : ℕ) → place_at b u ≡ place_by b.closings.items k k.number u (place_at a u)
   pub earlier : (u : ℕ) → place_by b.closings.items k k.earlier u (place_at b u) ≡ place_at a u
 
-module _ (a b : Inside) (k : StoredEntry) (kind : Kind) (new : List Change) (more : List Closed) (sound : IsSoundHistory a) (adds : Adds a b k kind new more) where
-  pub entries_added : (history_view b).entries ≡ (history_view a).entries ++ entry k.worker kind (cond k.failed None (Some new)) ∷ []
+module _ (a b : Inside) (k : StoredEntry) (kind : Kind) (new : List Change) (more : List Closed) (sound : IsSoundSegment a) (adds : Adds a b k kind new more) where
+  pub entries_added : (segment_view b).entries ≡ (segment_view a).entries ++ entry k.worker kind (cond k.failed None (Some new)) ∷ []
   entries_added =
       let ds : List Closed = a.closings.items ++ more in
       ap (λ cs. entries_from cs b.closings.items b.stored.items) adds.changes
       ∙ ap (λ es. entries_from (a.changes.items ++ new) es b.stored.items) adds.closings
       ∙ ap (entries_from (a.changes.items ++ new) ds) adds.stored
       ∙ entries-push a.changes.items new a.closings.items ds k adds.start (length a.closings.items) a.stored.items sound.stored (kinds_stay (length a.changes.items) a.closings.items more a.stored.items sound.stored)
-      ∙ ap (λ x. (history_view a).entries ++ entry k.worker (kind_from ds k.kind k.number) (cond k.failed None (Some x)) ∷ []) (slice_range-new a.changes.items new k.start adds.start)
-      ∙ ap (λ es. (history_view a).entries ++ entry k.worker (kind_from es k.kind k.number) (cond k.failed None (Some new)) ∷ []) (sym adds.closings)
-      ∙ ap (λ x. (history_view a).entries ++ entry k.worker x (cond k.failed None (Some new)) ∷ []) adds.kind_is
+      ∙ ap (λ x. (segment_view a).entries ++ entry k.worker (kind_from ds k.kind k.number) (cond k.failed None (Some x)) ∷ []) (slice_range-new a.changes.items new k.start adds.start)
+      ∙ ap (λ es. (segment_view a).entries ++ entry k.worker (kind_from es k.kind k.number) (cond k.failed None (Some new)) ∷ []) (sym adds.closings)
+      ∙ ap (λ x. (segment_view a).entries ++ entry k.worker x (cond k.failed None (Some new)) ∷ []) adds.kind_is
 
   -- the places in the closings of both
   place_stays : (u : ℕ) → place_in b.closings.items a.stored.items u NOWHERE ≡ place_in a.closings.items a.stored.items u NOWHERE
@@ -53,7 +54,7 @@ module _ (a b : Inside) (k : StoredEntry) (kind : Kind) (new : List Change) (mor
   place_then : (u : ℕ) → place_at b u ≡ place_by b.closings.items k k.number u (place_in b.closings.items a.stored.items u NOWHERE)
   place_then u = adds.place u ∙ ap (place_by b.closings.items k k.number u) (sound.closed u ∙ sym (place_stays u))
 
-  pub sound_added : IsSoundHistory b
+  pub sound_added : IsSoundSegment b
   sound_added = record {
     stored = subst (AreStored (length b.changes.items) (length b.closings.items)) (sym adds.stored)
         (stored-push (length b.changes.items) (length b.closings.items) k a.stored.items (omega (arith, adds.start, ap length adds.changes, length-append a.changes.items new)) adds.number
@@ -69,10 +70,12 @@ module _ (a b : Inside) (k : StoredEntry) (kind : Kind) (new : List Change) (mor
         (subst (λ (es : List Closed). KeepEarlier es a.stored.items u NOWHERE) (sym adds.closings)
         (keep-same a.closings.items (a.closings.items ++ more) a.stored.items u NOWHERE (kinds_stay (length a.changes.items) a.closings.items more a.stored.items sound.stored) (sound.earlier u)))
         (ap (place_by b.closings.items k k.earlier u) (sym (place_then u)) ∙ adds.earlier u ∙ sound.closed u ∙ sym (place_stays u)));
+    few = subst (λ n. n ≤ MOST_BEFORE) (sym adds.before) sound.few;
   }
 
 -- b is a without its last entry, stored as k
 pub record Drops (a b : Inside) (k : StoredEntry) : Type 0 where
+  pub before : b.before ≡ a.before
   pub stored : a.stored.items ≡ b.stored.items ++ k ∷ []
   pub changes : b.changes.items ≡ take k.start a.changes.items
   pub closings : b.closings.items ≡ take (closings_until k.kind k.number (length a.closings.items)) a.closings.items
@@ -90,7 +93,7 @@ last_at xs ys x is =
     let at : get_or xs (length xs - 1) x ≡ x = ap (λ n. get_or xs n x) (last_place xs ys x is) ∙ ap (λ zs. get_or zs (length ys) x) is ∙ get_or-append_seam ys x [] x in
     slice_get_read xs (length xs) (length xs - 1) x refl (omega (arith, ap length is, length-append ys (x ∷ []))) (sym at)
 
-module _ (a b : Inside) (k : StoredEntry) (sound : IsSoundHistory a) (drops : Drops a b k) where
+module _ (a b : Inside) (k : StoredEntry) (sound : IsSoundSegment a) (drops : Drops a b k) where
   popped : Popped (length a.changes.items) (length a.closings.items) k b.stored.items
   popped = stored-pop (length a.changes.items) (length a.closings.items) k b.stored.items (subst (AreStored (length a.changes.items) (length a.closings.items)) drops.stored sound.stored)
 
@@ -117,19 +120,19 @@ module _ (a b : Inside) (k : StoredEntry) (sound : IsSoundHistory a) (drops : Dr
       (ap (λ ds. ds ++ drop n a.closings.items) drops.closings ∙ take-append-drop n a.closings.items)
       (kinds_stay (length b.changes.items) b.closings.items (drop n a.closings.items) b.stored.items front)
 
-  last_dropped : (history_view a).entries ≡ (history_view b).entries ++ entry_from a.changes.items a.closings.items (length a.changes.items) k ∷ []
+  last_dropped : (segment_view a).entries ≡ (segment_view b).entries ++ entry_from a.changes.items a.closings.items (length a.changes.items) k ∷ []
   last_dropped =
       ap (entries_from a.changes.items a.closings.items) drops.stored
-      ∙ subst (λ (cs : List Change). entries_from cs a.closings.items (b.stored.items ++ k ∷ []) ≡ (history_view b).entries ++ entry_from cs a.closings.items (length cs) k ∷ []) (sym changes_whole)
+      ∙ subst (λ (cs : List Change). entries_from cs a.closings.items (b.stored.items ++ k ∷ []) ≡ (segment_view b).entries ++ entry_from cs a.closings.items (length cs) k ∷ []) (sym changes_whole)
       (entries-push b.changes.items (drop k.start a.changes.items) b.closings.items a.closings.items k (sym start_is) (length b.closings.items) b.stored.items front same)
 
-  pub entries_dropped : (history_view b).entries ≡ take (length (history_view a).entries - 1) (history_view a).entries
-  entries_dropped = front_is (history_view a).entries (history_view b).entries (entry_from a.changes.items a.closings.items (length a.changes.items) k) last_dropped
+  pub entries_dropped : (segment_view b).entries ≡ take (length (segment_view a).entries - 1) (segment_view a).entries
+  entries_dropped = front_is (segment_view a).entries (segment_view b).entries (entry_from a.changes.items a.closings.items (length a.changes.items) k) last_dropped
 
   kept : (u : ℕ) → KeepEarlier a.closings.items b.stored.items u NOWHERE × Keeps a.closings.items k u (place_in a.closings.items b.stored.items u NOWHERE)
   kept u = keep-pop a.closings.items k b.stored.items u NOWHERE (subst (λ (ks : List StoredEntry). KeepEarlier a.closings.items ks u NOWHERE) drops.stored (sound.earlier u))
 
-  pub sound_dropped : IsSoundHistory b
+  pub sound_dropped : IsSoundSegment b
   sound_dropped = record {
     stored = front;
     closed = λ u.
@@ -138,4 +141,5 @@ module _ (a b : Inside) (k : StoredEntry) (sound : IsSoundHistory a) (drops : Dr
         ∙ (kept u).1
         ∙ place_in-same b.closings.items a.closings.items b.stored.items u NOWHERE same;
     earlier = λ u. keep-same a.closings.items b.closings.items b.stored.items u NOWHERE (kinds_back b.closings.items a.closings.items b.stored.items same) (kept u).0;
+    few = subst (λ n. n ≤ MOST_BEFORE) (sym drops.before) sound.few;
   }

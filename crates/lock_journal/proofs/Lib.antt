@@ -3,7 +3,10 @@ pub mod Outcomes
 pub mod Stored
 pub mod Pushed
 pub mod Adding
+pub mod Behind
 pub mod TakingBack
+pub mod Giving
+pub mod Given
 pub mod Conditions
 pub mod Ranges
 pub mod Marks

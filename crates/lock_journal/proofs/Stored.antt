@@ -6,14 +6,14 @@ use Rattle.std.proofs.lemmas.Option.{slice_get_read, slice_get_within}
 use Rattle.std.proofs.lemmas.List.{drop_all, take_all, length-drop}
 use Rattle.resource_lock.specs.declared.changes.Change.{Change}
 use Rattle.lock_journal.specs.StoredEntry.{AreStored, IsLastNumber, IsNumberOf, closings_before, closings_until, end_before, entries_from, entry_from}
-use Rattle.lock_journal.specs.History.{history_view}
-use Rattle.lock_journal.specs.HistoryView.{HistoryView}
+use Rattle.lock_journal.specs.Segment.{segment_view}
+use Rattle.lock_journal.specs.SegmentView.{SegmentView}
 use Rattle.lock_journal.specs.LastChanges.{last_changes, made_by, made_where_finished}
 use Rattle.lock_transforms.specs.declared.entries.Closed.{Closed}
 use Rattle.lock_journal.specs.declared.stored_entries.StoredEntry.{StoredEntry}
 use Rattle.lock_journal.specs.declared.stored_entries.StoredKind.{StoredKind}
 use Rattle.lock_journal.specs.declared.stored_entries.StoredKind.TheVariants as stored
-use Rattle.lock_journal.specs.declared.histories.History.TheInside.{Inside}
+use Rattle.lock_journal.specs.declared.segments.Segment.TheInside.{Inside}
 
 pub length_of_entries : (cs : List Change) (ds : List Closed) (ks : List StoredEntry) → length (entries_from cs ds ks) ≡ length ks
 length_of_entries cs ds [] = refl
@@ -91,9 +91,9 @@ stands_at n m ks i k h at =
     subst (λ x. StandsAt n m (end_before (drop x ks) n) k) next (stands_at-suc n m ks i k h at)
 
 -- what is read at a place of the view
-pub read_at : (h : Inside) (v : HistoryView) (i : ℕ) (k : StoredEntry) → history_view h ≡ v → i < length v.entries → k ≡ slice_index_or h.stored.items i k → slice_get h.stored.items i ≡ Some k
+pub read_at : (h : Inside) (v : SegmentView) (i : ℕ) (k : StoredEntry) → segment_view h ≡ v → i < length v.entries → k ≡ slice_index_or h.stored.items i k → slice_get h.stored.items i ≡ Some k
 read_at h v i k view within is =
-    let same = ap (λ (w : HistoryView). length w.entries) view in
+    let same = ap (λ (w : SegmentView). length w.entries) view in
     let long = length_of_entries h.changes.items h.closings.items h.stored.items in
     slice_get_read h.stored.items (length h.stored.items) i k refl (omega arith) is
 

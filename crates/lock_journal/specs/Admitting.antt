@@ -11,6 +11,7 @@ pub record HasAdmitted (old new : BookView) (e : Entry) : Type 0 where
   pub allowed : Allowed old.graph old.state e
   pub history : new.history ≡ old.history ++ e ∷ []
   pub state : new.state ≡ effect old.state e
+  pub given : new.given ≡ old.given
 
 -- The entry wasn't allowed, and nothing is changed.
 pub record IsRefused (old new : BookView) (e : Entry) : Type 0 where
@@ -18,6 +19,7 @@ pub record IsRefused (old new : BookView) (e : Entry) : Type 0 where
   pub not_allowed : ¬ Allowed old.graph old.state e
   pub history : new.history ≡ old.history
   pub state : new.state ≡ old.state
+  pub given : new.given ≡ old.given
 
 -- there isn't room for an entry with these changes, or for one that failed
 abbrev pub IsFullFor : BookView → Option (List Change) → Type 0

@@ -3,10 +3,12 @@ pub mod LastChanges
 pub mod Bounds
 pub mod Shown
 pub mod StoredEntry
+pub mod SegmentView
+pub mod Segment
 pub mod HistoryView
-pub mod History
 pub mod BookView
 pub mod Book
+pub mod Giving
 pub mod Ran
 pub mod Admitting
 pub mod Marks

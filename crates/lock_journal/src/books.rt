@@ -17,6 +17,7 @@ ghost use Rattle.lock_transforms.specs.Allowed.{Lawful};
 ghost use Rattle.lock_journal.specs.Bounds.{IsFitKind};
 ghost use Rattle.lock_journal.specs.Ran.{FinishesIn, FailsIn, IsToRetry};
 ghost use Rattle.lock_transforms.specs.declared.kinds.admitting.TheConstants.{MAX_CHANGES};
+ghost use Rattle.lock_journal.specs.declared.segments.TheConstants.{MOST_BEFORE};
 
 use crate::histories::History;
 use crate::shown_entries::Shown;
@@ -29,10 +30,13 @@ use std::alloc::{AllocError, Global};
 use std::marker::Model;
 
 mod admitting;
+mod giving;
 mod taking_back;
 
 /// A graph, the state, and the history that led to it. Of every book the history is lawful, and
 /// the state is what it leads to. An index of the state tells in a few steps what can be done next.
+///
+/// The entries so far can be given away (`give`): the history is then as it was, but those entries can't be read here.
 #[derive(Drop)]
 pub struct Book {
     tentative: Tentative,
@@ -65,10 +69,11 @@ impl Book {
         ensures graph { IfOk result (λ book. book.graph ≡ graph) }
         ensures state { IfOk result (λ book. book.state ≡ opening_of graph) }
         ensures history { IfOk result (λ book. book.history ≡ []) }
+        ensures given { IfOk result (λ book. book.given ≡ 0) }
         ensures entries { IfOk result (λ book. entries ≤ book.spare_entries) }
         ensures changes { IfOk result (λ book. changes ≤ book.spare_changes) }
     {
-        let history = History::opening(alloc, graph.units(), entries as usize, changes as usize)?;
+        let history = History::opening(alloc, graph.units(), entries, changes)?;
         let room = changes.max(MAX_CHANGES);
         let tentative = Tentative::opening(alloc, graph, room as usize)?;
         Book::begin(alloc, tentative, history)
@@ -114,32 +119,43 @@ impl Book {
 
     /// How many entries the history has.
     pub fn len(&self) -> u64
-        ensures { result ≡ length self.now.history }
+        ensures value { result ≡ length self.now.history }
+        ensures given { self.now.given ≤ length self.now.history }
     {
         self.history.len()
     }
 
-    /// The entry at a place of the history, counted from 0.
+    /// How many of them were given away.
+    pub fn given(&self) -> u64
+        ensures value { result ≡ self.now.given }
+        ensures few { result ≤ MOST_BEFORE }
+    {
+        self.history.given()
+    }
+
+    /// The entry at a place of the history, counted from 0. It is one that wasn't given away.
     pub fn entry(&self, place: u64) -> Shown<'_>
-        requires { place < length self.now.history }
+        requires kept { self.now.given ≤ place }
+        requires within { place < length self.now.history }
         ensures shown { slice_get self.now.history place ≡ Some (entry_shown result) }
         ensures no_changes { IsTrue result.failed → result.changes.now ≡ [] }
     {
         self.history.entry(place)
     }
 
-    /// The changes of the history's last entry, in order. Where it failed, or there is no entry, there
-    /// are none.
+    /// The changes of the history's last entry, in order. Where it failed there are none. It wasn't given away.
     pub fn last_changes(&self) -> &[Change]
+        requires { self.now.given < length self.now.history }
         ensures { result.now ≡ last_changes self.now.history }
     {
         self.history.last_changes()
     }
 
     /// A unit's outcome: that of its closing entry, or Skipped where it was skipped. None where it
-    /// hasn't ended.
+    /// hasn't ended. No entry was given away: else a unit's outcome is that of the segment which has its closing entry.
     pub fn outcome(&self, unit: u32) -> Option<Outcome>
-        requires { unit < self.now.graph.units }
+        requires whole { self.now.given ≡ 0 }
+        requires within { unit < self.now.graph.units }
         ensures { result ≡ outcome_of self.now.state self.now.history unit }
     {
         match self.state().mark(MarkId::Unit(unit)) {
@@ -223,6 +239,8 @@ impl Book {
     ) -> Result<Disposition, AllocError>
         requires { worker.0 < self.old.graph.workers }
         ensures graph { self.new.graph ≡ self.old.graph }
+        ensures given { self.new.given ≡ self.old.given }
+        ensures within { self.old.given ≤ length self.old.history }
         ensures finished { result ≡ Ok Disposition.Finished
             → (changes : List Change) × FinishesIn (T.makes transform.now) self.old self.new worker (T.kind_of transform.now) changes }
         ensures failed { result ≡ Ok Disposition.Failed
@@ -234,6 +252,8 @@ impl Book {
         ensures spare_entries { self.old.spare_entries ≤ self.new.spare_entries + 1 }
         ensures spare_changes { self.old.spare_changes ≤ self.new.spare_changes + T.most transform.now }
     {
+        // Of the length, that no more entries were given away than there are.
+        let _ = self.len();
         self.reserve(1, transform.most_changes())?;
         let disposition = self.tentative.attempt(worker, transform);
         match disposition {

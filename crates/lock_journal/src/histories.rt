@@ -1,47 +1,40 @@
-ghost use Rattle.std.specs.Prelude.{◌≡◌, ◌<◌, ◌≤◌, ◌+◌, ◌-◌, ◌⊎◌, ◌∷◌, ◌++◌, [], ℕ, length, take, IsTrue};
-ghost use Rattle.std.specs.Prelude.{Some, None, OnOk, OnErr, IfOk, IfSome, All, slice_get, slice_index_or};
-ghost use Rattle.lock_journal.specs.Bounds.{IsFitKind, IsFitOutcome};
+//! The history of a book.
+ghost use Rattle.std.specs.Prelude.{◌≡◌, ◌<◌, ◌≤◌, ◌+◌, ◌-◌, ◌⊎◌, ◌∷◌, ◌++◌, [], length, take, IsTrue};
+ghost use Rattle.std.specs.Prelude.{Some, None, OnOk, OnErr, IfOk, IfSome, slice_get};
+ghost use Rattle.lock_journal.specs.Bounds.{IsFitKind};
 ghost use Rattle.lock_transforms.specs.Entry.{entry};
 ghost use Rattle.lock_journal.specs.Shown.{entry_shown};
-ghost use Rattle.lock_journal.specs.Closings.{closing_of, outcome_in, ClosesWithin};
-ghost use Rattle.lock_journal.specs.StoredEntry.{IsNumberOf, closing_at, kind_from, place_after, place_by};
-ghost use Rattle.lock_journal.specs.HistoryView.{SameHistory};
+ghost use Rattle.lock_journal.specs.Closings.{outcome_in, ClosesWithin};
+ghost use Rattle.lock_journal.specs.HistoryView.{GivesAway, SameHistory};
 ghost use Rattle.lock_journal.specs.LastChanges.{last_changes};
-ghost use Rattle.lock_journal.specs.declared.histories.TheConstants.{NOWHERE};
+ghost use Rattle.lock_journal.specs.declared.segments.TheConstants.{MOST_BEFORE};
 
+use crate::pasts::Past;
+use crate::segments::Segment;
 use crate::shown_entries::Shown;
-use crate::stored_entries::{
-    StoredEntry, changes_of, closings_until, end_before, kind_of, store_kind,
-};
 use item_actions::Outcome;
-use lock_transforms::{Closed, Kind};
+use lock_transforms::Kind;
 use resource_lock::{Change, WorkerId};
 use std::alloc::{AllocError, Global};
 use std::marker::Model;
+use std::mem::swap;
 
-/// Where a unit's closing stands that has none.
-const NOWHERE: usize = usize::MAX;
-
-/// The entries so far. The changes of all entries stand in a row, and so do the closings that their
-/// kinds carry. Of each unit it is kept where its last closing stands.
+/// The entries so far. Those that were given away are known to contracts alone; the segment has the others.
 #[derive(Drop)]
 pub(crate) struct History {
-    stored: Vec<StoredEntry>,
-    changes: Vec<Change>,
-    closings: Vec<Closed>,
-    closed_at: Vec<usize>,
+    past: Past,
+    kept: Segment,
 }
 
 impl Model for History {
-    ghost use Rattle.lock_journal.specs.HistoryView.{HistoryView};
+    ghost use Rattle.std.specs.Prelude.{◌≡◌, ◌++◌, length};
+    ghost use Rattle.lock_journal.specs.HistoryView.{HistoryView, history_of};
 
     ghost Value = { HistoryView };
 
-    ghost use Rattle.lock_journal.specs.History.{history_view, IsSoundHistory};
+    ghost view = { λ h. history_of h.past h.kept };
 
-    ghost view = { history_view };
-
-    ghost invariant = { IsSoundHistory };
+    ghost invariant = { λ h. h.kept.before ≡ length h.past };
 }
 
 impl History {
@@ -49,44 +42,50 @@ impl History {
     pub(crate) fn opening(
         alloc: Global,
         units: u32,
-        entries: usize,
-        changes: usize,
+        entries: u64,
+        changes: u64,
     ) -> Result<History, AllocError>
         ensures none { IfOk result (λ history. history.entries ≡ []) }
+        ensures given { IfOk result (λ history. history.given ≡ 0) }
         ensures units { IfOk result (λ history. history.units ≡ units) }
         ensures entries { IfOk result (λ history. entries ≤ history.spare_entries) }
         ensures changes { IfOk result (λ history. changes ≤ history.spare_changes) }
     {
+        let kept = Segment::opening(alloc, units, entries, changes)?;
         Ok(History {
-            stored: Vec::with_capacity(alloc, entries)?,
-            changes: Vec::with_capacity(alloc, changes)?,
-            closings: Vec::with_capacity(alloc, entries)?,
-            closed_at: vec![in alloc; NOWHERE; units as usize]?,
+            past: Past::none(),
+            kept,
         })
     }
 
     /// How many entries there are.
-    #[tactic(auto, using(crate::proofs::Stored::length_of_entries))]
     pub(crate) fn len(&self) -> u64
-        ensures { result ≡ length self.now.entries }
+        ensures value { result ≡ length self.now.entries }
+        ensures given { self.now.given ≤ length self.now.entries }
     {
-        self.stored.len() as u64
+        self.kept.end()
+    }
+
+    /// How many of them were given away.
+    pub(crate) fn given(&self) -> u64
+        ensures value { result ≡ self.now.given }
+        ensures few { result ≤ MOST_BEFORE }
+    {
+        self.kept.before()
     }
 
     /// How many more entries there is room for, also where each has a closing.
     pub(crate) fn spare_entries(&self) -> u64
         ensures { result ≡ self.now.spare_entries }
     {
-        let entries = self.stored.capacity() - self.stored.len();
-        let closings = self.closings.capacity() - self.closings.len();
-        entries.min(closings) as u64
+        self.kept.spare_entries()
     }
 
     /// How many more changes there is room for.
     pub(crate) fn spare_changes(&self) -> u64
         ensures { result ≡ self.now.spare_changes }
     {
-        (self.changes.capacity() - self.changes.len()) as u64
+        self.kept.spare_changes()
     }
 
     /// Makes room for so many more entries and changes.
@@ -96,45 +95,34 @@ impl History {
         ensures changes { OnOk result (changes ≤ self.new.spare_changes) }
         ensures full { OnErr result ((self.old.spare_entries < entries) ⊎ (self.old.spare_changes < changes)) }
     {
-        self.stored.try_reserve(entries)?;
-        self.closings.try_reserve(entries)?;
-        self.changes.try_reserve(changes)
+        self.kept.reserve(entries, changes)
     }
 
-    /// The entry at a place, counted from 0.
-    #[tactic(auto, using(crate::proofs::Stored::length_of_entries))]
+    /// The entry at a place, counted from 0, which wasn't given away.
     pub(crate) fn entry(&self, place: u64) -> Shown<'_>
-        requires { place < length self.now.entries }
+        requires kept { self.now.given ≤ place }
+        requires within { place < length self.now.entries }
         ensures shown { slice_get self.now.entries place ≡ Some (entry_shown result) }
         ensures no_changes { IsTrue result.failed → result.changes.now ≡ [] }
     {
-        let place = place as usize;
-        let stored = self.stored[place];
-        let end = end_before(&self.stored[place + 1..], self.changes.len());
-        Shown {
-            worker: stored.worker,
-            kind: kind_of(stored, &self.closings),
-            failed: stored.failed,
-            changes: changes_of(stored, end, &self.changes),
-        }
+        self.kept.entry(place - self.kept.before())
     }
 
-    /// The changes of the last entry. Where it failed, or there is no entry, there are none.
+    /// The changes of the last entry, which wasn't given away. Where it failed there are none.
     pub(crate) fn last_changes(&self) -> &[Change]
+        requires { self.now.given < length self.now.entries }
         ensures { result.now ≡ last_changes self.now.entries }
     {
-        match self.stored.last() {
-            Some(last) => changes_of(*last, self.changes.len(), &self.changes),
-            None => &[],
-        }
+        self.kept.last_changes()
     }
 
-    /// A unit's outcome by its closing entry, or Skipped where it has none.
+    /// A unit's outcome by its closing entry, or Skipped where it has none. No entry was given away.
     pub(crate) fn outcome(&self, unit: u32) -> Outcome
-        requires { unit < self.now.units }
+        requires whole { self.now.given ≡ 0 }
+        requires within { unit < self.now.units }
         ensures { result ≡ outcome_in self.now.entries unit }
     {
-        outcome_at(&self.closings, self.closed_at[unit as usize])
+        self.kept.outcome(unit)
     }
 
     /// Adds a finished entry.
@@ -144,131 +132,50 @@ impl History {
         requires some_changes { length changes.now ≤ self.old.spare_changes }
         requires closes { ClosesWithin self.old.units kind.now }
         ensures entries { self.new.entries ≡ self.old.entries ++ entry worker kind.now (Some changes.now) ∷ [] }
+        ensures given { self.new.given ≡ self.old.given }
         ensures units { self.new.units ≡ self.old.units }
         ensures spare_entries { self.old.spare_entries ≤ self.new.spare_entries + 1 }
         ensures spare_changes { self.old.spare_changes ≤ self.new.spare_changes + length changes.now }
         ensures fit { IsFitKind kind.now }
     {
-        note_bounds(kind);
-        let start = self.changes.len();
-        // There is room, so this takes no memory.
-        let _ = self.changes.extend_from_slice(changes);
-        let (stored_kind, number) = store_kind(kind, &mut self.closings);
-        let earlier = set_place(&mut self.closed_at, kind, number);
-        self.stored.push_reserved(StoredEntry {
-            start,
-            number,
-            earlier,
-            worker,
-            kind: stored_kind,
-            failed: false,
-        });
+        self.kept.push_finished(worker, kind, changes);
     }
 
     /// Adds a failed entry.
     pub(crate) fn push_failed(&mut self, worker: WorkerId, kind: &Kind)
         requires { 0 < self.old.spare_entries }
         ensures entries { self.new.entries ≡ self.old.entries ++ entry worker kind.now None ∷ [] }
+        ensures given { self.new.given ≡ self.old.given }
         ensures units { self.new.units ≡ self.old.units }
         ensures spare_entries { self.old.spare_entries ≤ self.new.spare_entries + 1 }
         ensures spare_changes { self.new.spare_changes ≡ self.old.spare_changes }
         ensures fit { IsFitKind kind.now }
     {
-        note_bounds(kind);
-        let (kind, number) = store_kind(kind, &mut self.closings);
-        self.stored.push_reserved(StoredEntry {
-            start: self.changes.len(),
-            number,
-            earlier: NOWHERE,
-            worker,
-            kind,
-            failed: true,
-        });
+        self.kept.push_failed(worker, kind);
     }
 
-    /// Removes the last entry. Where it closed a unit, the unit's earlier closing, if it has one, is its
-    /// last again.
+    /// Removes the last entry, which wasn't given away.
     pub(crate) fn pop(&mut self)
-        requires some_entry { 0 < length self.old.entries }
+        requires some_entry { self.old.given < length self.old.entries }
         requires closes { IfSome (slice_get self.old.entries (length self.old.entries - 1)) (λ e. ClosesWithin self.old.units e.kind) }
         ensures entries { self.new.entries ≡ take (length self.old.entries - 1) self.old.entries }
+        ensures given { self.new.given ≡ self.old.given }
         ensures units { self.new.units ≡ self.old.units }
         ensures spare_entries { self.old.spare_entries ≤ self.new.spare_entries }
         ensures spare_changes { self.old.spare_changes ≤ self.new.spare_changes }
     {
-        if let Some(last) = self.stored.pop() {
-            put_back(&mut self.closed_at, last, &self.closings);
-            self.closings
-                .truncate(closings_until(last, self.closings.len()));
-            self.changes.truncate(last.start);
-        }
+        self.kept.pop();
+    }
+
+    /// Gives the entries away that are kept: they change places with the segment, which has none. The past is the whole history.
+    pub(crate) fn give(&mut self, whole: Past, segment: &mut Segment)
+        requires whole { whole ≡ self.old.entries }
+        requires few { length self.old.entries ≤ MOST_BEFORE }
+        requires empty { segment.old.entries ≡ [] }
+        ensures { GivesAway self.old self.new segment.old segment.new }
+    {
+        segment.begin_behind(self.kept.end());
+        swap(&mut self.kept, segment);
+        self.past = whole;
     }
 }
-
-// The outcome of the closing at a place, or Skipped where there is none.
-fn outcome_at(closings: &[Closed], place: usize) -> Outcome
-    ensures { result ≡ (closing_at closings.now place).outcome }
-{
-    match closings.get(place) {
-        Some(closed) => closed.outcome,
-        None => Outcome::Skipped,
-    }
-}
-
-// Sets the place of the closing of the unit that a finished entry of the kind closes, if it closes one,
-// and answers where it stood.
-fn set_place(all: &mut [usize], kind: &Kind, place: usize) -> usize
-    requires { ClosesWithin (length all.old) kind.now }
-    ensures len { length all.new ≡ length all.old }
-    ensures places { (u : ℕ) → slice_index_or all.new u NOWHERE ≡ place_after (closing_of u kind.now) place (slice_index_or all.old u NOWHERE) }
-    ensures earlier { (u : ℕ) → place_after (closing_of u kind.now) result (slice_index_or all.new u NOWHERE) ≡ slice_index_or all.old u NOWHERE }
-{
-    match *kind {
-        Kind::Close(closed) | Kind::Unblock(Some(closed)) => {
-            let earlier = all[closed.unit as usize];
-            all[closed.unit as usize] = place;
-            earlier
-        }
-        _ => NOWHERE,
-    }
-}
-
-// Sets where the closing stood before of the unit that a stored entry closed, if it closed one.
-fn put_back(all: &mut [usize], stored: StoredEntry, closings: &[Closed])
-    requires number { IsNumberOf (length closings.now) stored.kind stored.number }
-    requires closes { ClosesWithin (length all.old) (kind_from closings.now stored.kind stored.number) }
-    ensures len { length all.new ≡ length all.old }
-    ensures places { (u : ℕ) → slice_index_or all.new u NOWHERE ≡ place_by closings.now stored stored.earlier u (slice_index_or all.old u NOWHERE) }
-{
-    if !stored.failed {
-        set_place(all, &kind_of(stored, closings), stored.earlier);
-    }
-}
-
-// Does nothing. Its contract is what the type of a kind holds.
-fn note_bounds(kind: &Kind)
-    ensures { IsFitKind kind.now }
-{
-    match *kind {
-        Kind::Close(closed) | Kind::Unblock(Some(closed)) => note_outcome_bounds(closed.outcome),
-        _ => {}
-    }
-}
-
-// Does nothing. Its contract is what the type of an outcome holds.
-fn note_outcome_bounds(outcome: Outcome)
-    ensures { IsFitOutcome outcome }
-{
-    match outcome {
-        Outcome::Number(number) => {
-            let _ = number;
-        }
-        Outcome::Digest(digest) => note_byte_bounds(&digest),
-        _ => {}
-    }
-}
-
-// Does nothing. Its contract is what the type of bytes holds.
-fn note_byte_bounds(bytes: &[u8])
-    ensures { All (λ b. b < 256) bytes.now }
-{}

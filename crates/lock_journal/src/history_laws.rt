@@ -3,7 +3,7 @@ ghost use Rattle.item_actions.specs.declared.outcomes.Outcome.{Outcome};
 ghost use Rattle.item_actions.specs.declared.outcomes.Outcome.TheVariants.{NotThere, Number, Skipped as NotRun};
 ghost use Rattle.lock_transforms.specs.Allowed.{Allowed, Lawful};
 ghost use Rattle.lock_journal.specs.Closings.{closing_of, closings, last_or, outcome_in, where_finished};
-ghost use Rattle.lock_transforms.specs.Entry.{Entry, effect, replay};
+ghost use Rattle.lock_transforms.specs.Entry.{Entry, effect, replay, replay_from};
 ghost use Rattle.lock_transforms.specs.Table.{has_passed, owned, skipped_waiting};
 ghost use Rattle.resource_lock.specs.Change.{can_all, holding_after, make_all, NamesOnly};
 ghost use Rattle.resource_lock.specs.Fits.{Fits};
@@ -19,21 +19,24 @@ ghost use Rattle.resource_lock.specs.declared.marks.Mark.TheVariants.{Failed, Pa
 ghost use Rattle.resource_lock.specs.declared.marks.MarkId.TheVariants.{Action as ActionOf, Task as TaskOf, Unit as UnitOf};
 ghost use Rattle.resource_lock.specs.declared.marks.MarkId.{MarkId};
 ghost use Rattle.lock_journal.specs.Answers.{IsHonestWorker, answers};
+ghost use Rattle.lock_journal.specs.BookView.{BookView};
 ghost use Rattle.lock_journal.specs.ByNumber.{outcome_by};
 ghost use Rattle.lock_journal.specs.ClosedBy.{closed_at, closed_by, faults_by, faults_in};
 ghost use Rattle.lock_journal.specs.Closing.{IsClosedOnce, IsDone};
+ghost use Rattle.lock_journal.specs.Giving.{AreInTurn, GivesTo, IsCutFrom, joined};
 ghost use Rattle.lock_journal.specs.InOrder.{outcomes_of_task, units_of_actions};
 ghost use Rattle.lock_journal.specs.Marks.{HasEnded, IsEnded};
 ghost use Rattle.lock_journal.specs.Outcomes.{AreRanks, mark_by, task_outcome, task_passes, unit_outcome};
 ghost use Rattle.lock_journal.specs.Own.{NamesWorkers, NoneOf, SameFor, claimed};
 ghost use Rattle.lock_journal.specs.OwnChanges.{after_all, claimed_after, locks_after};
 ghost use Rattle.lock_journal.specs.PlainPlans.{NameLocksBelow, WasLawful, with_all};
+ghost use Rattle.lock_journal.specs.SegmentView.{SegmentView};
 ghost use Rattle.lock_journal.specs.Runs.{GivesClosedOutcomes, ComesTo, IsOrderly};
 ghost use Rattle.lock_journal.specs.WorkedRows.{IsWorkedRun, first_run, locks_by_turns, no_tasks, one_task, run_that_fails, run_that_fetches};
 ghost use Rattle.lock_journal.specs.WorkedRows.{run_that_reacquires, run_that_releases, start_too_early, two_tasks};
 ghost use Rattle.lock_journal.specs.WorkedRows.{all_beside_another, all_by_turns, another_beside_all, first_run_of_all, one_task_of_all, two_projects};
 ghost use Rattle.std.specs.List.{All, AllByRecursion, list_all, range_with_len};
-ghost use Rattle.std.specs.Prelude.{List, [], length, map, false, true, ◌+◌, ◌++◌, ◌<◌, ◌↔◌, ◌≡◌, ◌≢◌, ◌∷◌, ℕ};
+ghost use Rattle.std.specs.Prelude.{List, [], drop, length, map, false, true, ◌+◌, ◌++◌, ◌<◌, ◌≤◌, ◌↔◌, ◌≡◌, ◌≢◌, ◌∷◌, ℕ};
 
 /// Where a lawful history brought every task to its end, every action and unit has ended too, marks and outcomes are
 /// those of the plan alone, and each task was started or skipped once and each item claimed and closed once.
@@ -180,4 +183,18 @@ pub fn early_start_is_unlawful()
 /// Where a run comes to its plan, the outcome of each unit is that of the plan by the unit's number alone.
 pub fn outcomes_go_by_number()
     ensures { (g : GraphView) (h : List Entry) (v : ℕ → Outcome) (n u : ℕ) → Fits g → ComesTo g h v n → u < g.units → outcome_in h u ≡ outcome_by g v n u }
+{}
+
+/// Segments that begin where the one before ends, the first with the first entry, and the entries behind them are the whole history, and the
+/// state is what they lead to in turn. What a segment has of a history it has of each that goes on from it. What a book gave is such, and the
+/// next that it gives begins where this ends.
+pub fn segments_are_one_history()
+    ensures joined { (h : List Entry) (ss : List SegmentView) → AreInTurn 0 ss → All (IsCutFrom h) ss
+        → joined ss ++ drop (length (joined ss)) h ≡ h }
+    ensures replay { (g : GraphView) (h : List Entry) (ss : List SegmentView) → AreInTurn 0 ss → All (IsCutFrom h) ss
+        → replay_from (replay g (joined ss)) (drop (length (joined ss)) h) ≡ replay g h }
+    ensures cut { (h later : List Entry) (s : SegmentView) → s.before + length s.entries ≤ length h → IsCutFrom h s → IsCutFrom (h ++ later) s }
+    ensures given { (old new : BookView) (s s' : SegmentView) → GivesTo old new s s' → IsCutFrom new.history s' }
+    ensures turn { (old new : BookView) (s s' : SegmentView) → GivesTo old new s s' → old.given ≤ length old.history
+        → new.given ≡ s'.before + length s'.entries }
 {}

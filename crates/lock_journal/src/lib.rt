@@ -4,6 +4,8 @@
 mod books;
 mod histories;
 mod history_laws;
+mod pasts;
+mod segments;
 mod shown_entries;
 mod stored_entries;
 
@@ -14,6 +16,8 @@ pub use history_laws::{
     one_entry_more, only_items_are_queued, outcomes_follow_their_rule, outcomes_go_by_number,
     own_changes_say_all, own_entries_say_all, owners_of_all_projects_own_alone,
     plain_histories_are_lawful_as_without_all_projects, running_tasks_are_left_alone,
-    skipping_leaves_later_actions, tasks_without_after_have_rank_zero, worked_histories_are_lawful,
+    segments_are_one_history, skipping_leaves_later_actions, tasks_without_after_have_rank_zero,
+    worked_histories_are_lawful,
 };
+pub use segments::Segment;
 pub use shown_entries::Shown;

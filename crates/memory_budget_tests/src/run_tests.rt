@@ -74,7 +74,8 @@ pub(crate) fn desk(alloc: Global, failing: &[u64]) -> Result<Box<MemoryDesk>, Al
 }
 
 fn book<R: Abort>(rt: &R, alloc: Global) -> Result<Box<Book>, AllocError>
-    ensures { IfOk result (λ book. book.value.state ≡ opening_of book.value.graph) }
+    ensures state { IfOk result (λ book. book.value.state ≡ opening_of book.value.graph) }
+    ensures whole { IfOk result (λ book. book.value.given ≡ 0) }
 {
     let tasks = Vec::new(alloc);
     let actions = Vec::new(alloc);

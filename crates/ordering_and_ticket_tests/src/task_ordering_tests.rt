@@ -271,6 +271,7 @@ fn a_task_starts_after_those_before_it(rt: HostRuntime) -> Result<(), Fail> {
     };
     let mut early = book_of_two(&rt, rt.alloc())?;
     assert!(rt; finishes(&mut early, &Start { task: 1 })?);
+    assert!(rt; early.given() == 0);
     assert!(rt; ordering.check(rt.alloc(), &early)? == Kept::Broken(1));
 
     let mut kept = book_of_two(&rt, rt.alloc())?;
@@ -279,6 +280,7 @@ fn a_task_starts_after_those_before_it(rt: HostRuntime) -> Result<(), Fail> {
     assert!(rt; !finishes(&mut kept, &Start { task: 1 })?);
     assert!(rt; finishes(&mut kept, &End { task: 0 })?);
     assert!(rt; finishes(&mut kept, &Start { task: 1 })?);
+    assert!(rt; kept.given() == 0);
     assert!(rt; ordering.check(rt.alloc(), &kept)? == Kept::Kept);
     Ok(())
 }

@@ -128,6 +128,7 @@ impl Board {
     pub fn into_watches(self, book: &Book) -> Vec<Watch>
         requires later { IsLater self.seen book.now }
         requires units { self.units ≡ book.now.graph.units }
+        requires whole { book.now.given ≡ 0 }
         ensures { AreWatchesOf book.now result.items }
     {
         let Board {

@@ -18,7 +18,8 @@ fn closed_by(entry: &Shown<'_>) -> Option<u32>
 
 /// Notes for each unit the number of the entry that closed it as an item, counted from 1, or 0.
 pub(crate) fn note_closings(book: &Book, closings: &mut [u64])
-    requires { closings.old ≡ replicate (length closings.old) 0 }
+    requires none { closings.old ≡ replicate (length closings.old) 0 }
+    requires whole { book.now.given ≡ 0 }
     ensures len { length closings.new ≡ length closings.old }
     ensures closings { (u d : ℕ) → u < length closings.old → get_or closings.new u d ≡ closing_number u book.now.history }
 {

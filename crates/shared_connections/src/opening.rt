@@ -25,6 +25,7 @@ pub(crate) fn connections(alloc: Global, count: u32) -> Result<ServiceTable> {
 fn book_of(alloc: Global, table: &ServiceTable, workers: u32) -> Result<Box<Book>>
     ensures locks { IfOk result (λ book. HasTheLocks table.now book.value.graph) }
     ensures state { IfOk result (λ book. book.value.state ≡ opening_of book.value.graph) }
+    ensures whole { IfOk result (λ book. book.value.given ≡ 0) }
 {
     let locks = table.locks();
     if !Graph::fits(locks, None, workers, workers, &[], &[]) {

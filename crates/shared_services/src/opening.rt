@@ -49,6 +49,7 @@ fn changes_of(jobs: &[Job]) -> u64 {
 fn book_of(alloc: Global, graph: Graph, jobs: &[Job]) -> Result<Box<Book>, AllocError>
     ensures graph { IfOk result (λ book. book.value.graph ≡ graph) }
     ensures state { IfOk result (λ book. book.value.state ≡ opening_of graph) }
+    ensures whole { IfOk result (λ book. book.value.given ≡ 0) }
     ensures history { IfOk result (λ book. book.value.history ≡ []) }
 {
     let entries = (jobs.len() as u64).saturating_mul(2);

@@ -32,6 +32,7 @@ pub fn book_of(
 ) -> Result<Box<Book>, AllocError>
     ensures locks { IfOk result (λ book. HasTheLocks table.now book.value.graph) }
     ensures state { IfOk result (λ book. book.value.state ≡ opening_of book.value.graph) }
+    ensures whole { IfOk result (λ book. book.value.given ≡ 0) }
     ensures history { IfOk result (λ book. book.value.history ≡ []) }
 {
     let locks = table.locks();
@@ -51,7 +52,7 @@ pub fn book_of(
 pub type EntryRow = (u32, Option<&'static [Change]>);
 
 fn has_entry(book: &Book, place: u64, row: &EntryRow) -> bool {
-    if place >= book.len() {
+    if place < book.given() || place >= book.len() {
         return false;
     }
     let (worker, changes) = row;

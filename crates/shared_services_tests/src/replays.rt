@@ -99,7 +99,7 @@ fn keeps_all_maxima(book: &Book, max_leases: u32) -> bool {
         owners: [NOBODY; 36],
         leases: [0; 32],
     };
-    for place in 0..book.len() {
+    for place in book.given()..book.len() {
         let shown = book.entry(place);
         for change in shown.changes {
             if !replay.follow(shown.worker.0, change) {
@@ -135,7 +135,7 @@ fn takes(changes: &[Change], uses: &[u32]) -> bool {
 fn took_its_uses(book: &Book, job: &Job, ran: &JobDone) -> bool
     ensures { result ≡ true → 0 < ran.now.taken }
 {
-    if ran.taken == 0 || ran.taken > book.len() {
+    if ran.taken <= book.given() || ran.taken > book.len() {
         return false;
     }
     let shown = book.entry(ran.taken - 1);

@@ -3,7 +3,7 @@ use crate::fitting::fitting_graph;
 use crate::numbers::Numbers;
 use crate::rows::{Limits, TaskRow};
 use item_actions::Outcome;
-use lock_journal::Book;
+use lock_journal::{Book, Shown};
 use lock_transforms::kinds::{
     Acquire, Block, Claim, Close, End, HandBack, Park, Resume, Shortage, Skip, Start, Submit,
     Unblock,
@@ -54,14 +54,18 @@ static ACTIONS: [GraphAction; 2] = [
 ];
 
 // A book of these tasks without entries.
-fn opening(rt: &impl Abort, alloc: Global) -> Result<Box<Book>, AllocError> {
+pub(crate) fn opening(rt: &impl Abort, alloc: Global) -> Result<Box<Book>, AllocError> {
     let graph = fitting_graph(rt, alloc, &LIMITS, &TASKS, &ACTIONS)?;
     let book = Book::opening(alloc, Box::into_inner(graph), 0, 0)?;
     Ok(Box::new(alloc, book)?)
 }
 
 // Runs the transform of a kind. An `Acquire` takes the first lock, or fails.
-fn run(book: &mut Book, worker: WorkerId, kind: Kind) -> Result<Disposition, AllocError> {
+pub(crate) fn run(
+    book: &mut Book,
+    worker: WorkerId,
+    kind: Kind,
+) -> Result<Disposition, AllocError> {
     if worker.0 >= book.graph().workers() {
         return Ok(Disposition::Retry);
     }
@@ -94,7 +98,7 @@ fn run(book: &mut Book, worker: WorkerId, kind: Kind) -> Result<Disposition, All
 // Takes entries back until there are so many, and answers whether there are.
 fn take_back_to(book: &mut Book, len: u64) -> bool {
     for _ in len..book.len() {
-        if book.len() == 0 {
+        if book.len() == book.given() {
             return false;
         }
         book.take_back();
@@ -183,13 +187,13 @@ static KINDS: [Kind; 24] = [
 ];
 
 // A worker, and what it tries.
-fn draw(numbers: &mut Numbers) -> (WorkerId, Kind) {
+pub(crate) fn draw(numbers: &mut Numbers) -> (WorkerId, Kind) {
     let kind = KINDS[numbers.below(24) as usize];
     (WorkerId(numbers.below(2)), kind)
 }
 
 // Whether both tell the same of what can be done next, and have as many entries.
-fn tell_the_same(one: &Book, other: &Book) -> bool {
+pub(crate) fn tell_the_same(one: &Book, other: &Book) -> bool {
     one.len() == other.len()
         && one.first_open_unit(0) == other.first_open_unit(0)
         && one.first_open_unit(2) == other.first_open_unit(2)
@@ -199,8 +203,11 @@ fn tell_the_same(one: &Book, other: &Book) -> bool {
         && one.state().leases_out() == other.state().leases_out()
 }
 
-// Whether each unit has the same outcome in both.
+// Whether each unit has the same outcome in both, which keep all entries.
 fn have_the_same_outcomes(one: &Book, other: &Book) -> bool {
+    if one.given() > 0 || other.given() > 0 {
+        return false;
+    }
     let units = one.graph().units().min(other.graph().units());
     for unit in 0..units {
         if one.outcome(unit) != other.outcome(unit) {
@@ -210,17 +217,21 @@ fn have_the_same_outcomes(one: &Book, other: &Book) -> bool {
     true
 }
 
-// Whether both have the same entries.
+// Whether both show the same.
+pub(crate) fn are_alike(one: &Shown<'_>, other: &Shown<'_>) -> bool {
+    one.worker == other.worker
+        && one.kind == other.kind
+        && one.failed == other.failed
+        && one.changes == other.changes
+}
+
+// Whether both keep all entries, and have the same.
 fn have_the_same_entries(one: &Book, other: &Book) -> bool {
     for place in 0..one.len() {
-        if place >= other.len() {
+        if place < one.given() || place < other.given() || place >= other.len() {
             return false;
         }
-        let (shown, copied) = (one.entry(place), other.entry(place));
-        if shown.worker != copied.worker || shown.kind != copied.kind {
-            return false;
-        }
-        if shown.failed != copied.failed || shown.changes != copied.changes {
+        if !are_alike(&one.entry(place), &other.entry(place)) {
             return false;
         }
     }

@@ -7,6 +7,8 @@ mod all_projects_tests;
 mod book_tests;
 #[cfg(test)]
 mod fitting;
+#[cfg(test)]
+mod giving_tests;
 pub mod graphs;
 #[cfg(test)]
 mod indexed;

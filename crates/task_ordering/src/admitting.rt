@@ -14,6 +14,7 @@ pub fn first_unlawful<H: Entries>(
     graph: Graph,
     history: &H,
 ) -> Result<Option<u64>, AllocError>
+    requires { H.whole history.now }
     ensures { IfOk result (IsUnlawfulAt graph (H.entries history.now)) }
 {
     let mut book = Book::opening(alloc, graph, history.count(), 0)?;
@@ -24,7 +25,8 @@ pub fn first_unlawful<H: Entries>(
 
 // Admits the entries in a book without entries, up to the first that isn't allowed.
 fn admit_all<H: Entries>(book: &mut Book, history: &H) -> Result<Option<u64>, AllocError>
-    requires { book.old.history ≡ [] }
+    requires none { book.old.history ≡ [] }
+    requires whole { H.whole history.now }
     ensures { IfOk result (IsUnlawfulAt book.old.graph (H.entries history.now)) }
 {
     for place in 0..history.count() {

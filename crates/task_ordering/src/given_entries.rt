@@ -16,18 +16,24 @@ pub trait Entries {
     /// The entries, in order.
     ghost entries: { Self → List Entry };
 
+    /// That each of them can be read here. A book that gave some away can't show those.
+    ghost whole: { Self → Type 0 };
+
     /// How many there are.
     fn count(&self) -> u64
         ensures { result ≡ length (entries self.now) };
 
     /// The one at a place, counted from 0.
     fn at(&self, place: u64) -> Shown<'_>
-        requires { place < length (entries self.now) }
+        requires whole { whole self.now }
+        requires within { place < length (entries self.now) }
         ensures { slice_get (entries self.now) place ≡ Some (entry_shown result) };
 }
 
 impl Entries for Book {
     ghost entries = { λ book. book.history };
+
+    ghost whole = { λ book. book.given ≡ 0 };
 
     fn count(&self) -> u64 {
         self.len()
@@ -54,6 +60,8 @@ impl Entries for Vec<GivenEntry> {
     ghost use Rattle.task_ordering.specs.Entries.{entry_given};
 
     ghost entries = { λ given. map entry_given given.items };
+
+    ghost whole = { λ given. Unit {0} };
 
     fn count(&self) -> u64 {
         self.len() as u64

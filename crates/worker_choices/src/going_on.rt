@@ -1,5 +1,5 @@
 //! Which entries can let another worker go on.
-ghost use Rattle.std.specs.Prelude.{◌≡◌};
+ghost use Rattle.std.specs.Prelude.{◌≡◌, ◌<◌, length};
 ghost use Rattle.std.specs.List.{list_any};
 ghost use Rattle.lock_transforms.specs.GoingOn.{lets_go_on};
 ghost use Rattle.worker_choices.specs.GoingOn.{last_lets_go_on};
@@ -34,8 +34,9 @@ fn any_lets_go_on(changes: &[Change]) -> bool
     changes.iter().any(|change| lets_go_on(*change))
 }
 
-/// Whether the last entry of the book can let another worker go on.
+/// Whether the last entry of the book can let another worker go on. It wasn't given away.
 pub fn last_lets_go_on(book: &Book) -> bool
+    requires { book.now.given < length book.now.history }
     ensures { result ≡ last_lets_go_on book.now.history }
 {
     any_lets_go_on(book.last_changes())

@@ -1,5 +1,5 @@
 -- A worker's part of a book after a transform of the worker.
-use Rattle.std.proofs.Common.{◌≡◌, ℕ, ◌-◌, List, [], ◌∷◌, ◌++◌, length, length-append, Result, Ok, Some, None, refl, sym, ap, ◌∙◌, subst, arith}
+use Rattle.std.proofs.Common.{◌≡◌, ℕ, ◌-◌, ◌<◌, List, [], ◌∷◌, ◌++◌, length, length-append, Result, Ok, Some, None, refl, sym, ap, ◌∙◌, subst, arith}
 use Rattle.std.specs.Prelude.{slice_get}
 use Rattle.std.proofs.Math.Seq.{get_or-append_seam}
 use Rattle.std.proofs.lemmas.Option.{slice_get-get_or}
@@ -54,6 +54,13 @@ last_of_more h e =
     ap (slice_get (h ++ e ∷ [])) place ∙ slice_get-get_or (h ++ e ∷ []) (length h) e (omega arith) ∙ ap Some (get_or-append_seam h e [] e)
 
 module _ {E : Type 0} (w : WorkerId) (old new : BookView) (part : WorkerPart) (f : Follows {E = E} w old new (Ok Finished) part) where
+  -- the last entry wasn't given away
+  pub last_kept : new.given < length new.history
+  last_kept =
+      let more = ap (λ (h : List Entry). length h) f.grew.2.history ∙ length-append old.history (entry w f.grew.0 (Some f.grew.1) ∷ []) in
+      let given = f.given in
+      let within = f.within in omega arith
+
   -- the last entry's changes are those that were made
   pub changes_made : last_changes new.history ≡ f.grew.1
   changes_made = ap last_changes f.grew.2.history ∙ ap made_by (last_of_more old.history (entry w f.grew.0 (Some f.grew.1)))

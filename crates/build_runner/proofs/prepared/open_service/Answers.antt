@@ -7,8 +7,11 @@ use Rattle.build_runner.proofs.AtFirst.{all_ready, all_untouched}
 use Rattle.build_runner.proofs.Begun.{IsBegun}
 use Rattle.build_runner.proofs.prepared.open_service.Goals as goal
 
-pub open_with_views-requires : goal.open_with_views-requires
-open_with_views-requires g c = subst IsAtRest (sym (ap (λ (b : BookView). b.state) c.in_ok-book.ensures ∙ c.in_ok-open_book.ensures.state)) (c.openings_are_at_rest.ensures _)
+pub open_with_views-requires-clause-rest : goal.open_with_views-requires-clause-rest
+open_with_views-requires-clause-rest g c = subst IsAtRest (sym (ap (λ (b : BookView). b.state) c.in_ok-book.ensures ∙ c.in_ok-open_book.ensures.state)) (c.openings_are_at_rest.ensures _)
+
+pub open_with_views-requires-clause-whole : goal.open_with_views-requires-clause-whole
+open_with_views-requires-clause-whole g c = ap (λ (b : BookView). b.given) c.in_ok-book.ensures ∙ c.in_ok-open_book.ensures.whole
 
 pub returns-clause-opened : goal.returns-clause-opened
 returns-clause-opened g c =

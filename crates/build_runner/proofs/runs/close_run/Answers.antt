@@ -7,8 +7,8 @@ use Rattle.build_runner.specs.Watching.{IsSeenBy}
 use Rattle.build_runner.proofs.Watched.{board_is_seen, run_is_watched}
 use Rattle.build_runner.proofs.runs.close_run.Goals as goal
 
-pub watches_of-watch-requires : goal.watches_of-watch-requires
-watches_of-watch-requires g c =
+pub watches_of-watch-requires-clause-seen : goal.watches_of-watch-requires-clause-seen
+watches_of-watch-requires-clause-seen g c =
     let closed = c.close_service-book.ensures in
     let book : BookView = c.close_service-book.result.value in
     let opened = c.args.opened.value in

@@ -14,7 +14,7 @@ loop-worker-preserved c =
     let items = c.in_ok-push.ensures.items in
     let long : length c.push.new.self.items ≡ length parts + 1 = ap (λ (l : List WorkerPart). length l) items ∙ length-append parts (part ∷ []) in
     let fresh = c.in_ok-fresh.ensures in
-    let mine = fresh_part book _ (record { 0 = c.loop-worker.worker }) _ part c.requires fresh c.last_number-last.ensures in
+    let mine = fresh_part book _ (record { 0 = c.loop-worker.worker }) _ part c.requires.rest fresh c.last_number-last.ensures in
     let here : IsPartOf book (record { 0 = 0 + length parts }) part = subst (λ (n : ℕ). IsPartOf book (record { 0 = n }) part) (omega (arith, count)) mine in
     let locks = c.of-room.ensures.locks ∙ ap (λ (g : GraphView). g.locks) c.graph.ensures.value in
     let marks = c.of-room.ensures.marks ∙ ap marks_of c.graph.ensures.value in

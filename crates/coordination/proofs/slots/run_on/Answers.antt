@@ -1,9 +1,9 @@
-use Rattle.std.proofs.Common.{rules, subst, sym}
+use Rattle.std.proofs.Common.{◌<◌, length, rules, subst, sym}
 use Rattle.lock_journal.specs.BookView.{BookView}
 use Rattle.coordination.specs.Parts.{Follows, HasListRoom, IsPartOf, marks_of}
 use Rattle.lock_transforms.specs.declared.entries.Kind.{Kind}
 use Rattle.coordination.specs.SleepAndWake.{EndsHold, has_entered, stance_after}
-use Rattle.coordination.proofs.TakenBooks.{follows, ran_of}
+use Rattle.coordination.proofs.TakenBooks.{entry_kept, follows, ran_of}
 use Rattle.coordination.proofs.slots.run_on.Goals as goal
 
 pub follow-requires : goal.follow-requires
@@ -15,8 +15,18 @@ follow-requires g c =
     let r = c.requires.part in (
       B c.args.keeper.now,
       subst (λ (b : BookView). Follows c.args.worker (B c.args.keeper.now) b c.run-ran.result c.args.notes.now.part) (sym c.book-book.ensures) (follows (T.kind_of t) (T.makes t) (T.fails_on t) (T.retries_on t) c.args.worker (B c.args.keeper.now) (B c.run-ran.new.self) c.run-ran.result c.args.notes.now.part r.sound e.graph
-          (ran_of (T.kind_of t) (T.makes t) (T.fails_on t) (T.retries_on t) c.args.worker (B c.args.keeper.now) (B c.run-ran.new.self) c.run-ran.result e.finished e.failed e.retry (λ x is. search rules)) r.kept r.room),
+          (ran_of (T.kind_of t) (T.makes t) (T.fails_on t) (T.retries_on t) c.args.worker (B c.args.keeper.now) (B c.run-ran.new.self) c.run-ran.result e.finished e.failed e.retry (λ x is. search rules)) e.given e.within r.kept r.room),
     )
+
+pub end_transform-wakes-requires : goal.end_transform-wakes-requires
+end_transform-wakes-requires g c = λ entered.
+    let T = g.T.Transform in
+    let t = c.args.transform.now in
+    let e = c.run-ran.ensures in
+    let B = g.K.Keeper.book_of in
+    subst (λ (b : BookView). b.given < length b.history) (sym c.book-book.ensures)
+    (entry_kept (T.kind_of t) (T.makes t) (T.fails_on t) (T.retries_on t) c.args.worker (B c.args.keeper.now) (B c.run-ran.new.self) c.run-ran.result
+    (ran_of (T.kind_of t) (T.makes t) (T.fails_on t) (T.retries_on t) c.args.worker (B c.args.keeper.now) (B c.run-ran.new.self) c.run-ran.result e.finished e.failed e.retry (λ x is. search rules)) e.given e.within entered)
 
 pub returns-clause-run : goal.returns-clause-run
 returns-clause-run g c =

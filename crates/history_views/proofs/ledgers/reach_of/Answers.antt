@@ -10,7 +10,7 @@ invariant_of-result c =
     let out : c.leases_out.result ≡ leases_out c.args.book.now.state = c.leases_out.ensures.out ∙ ap leases_out c.state.ensures.value in
     let few : c.leases_out.result ≤ c.args.book.now.graph.max_leases = omega (arith, out, c.state.ensures.good.few_leases, c.state.ensures.belongs.max_leases) in
     let sound : IsSound c.args.book.now = record { lawful = c.state.ensures.lawful; replays = c.state.ensures.replays } in record {
-      entries = c.len.ensures ∙ ap (λ (b : BookView). length b.history) last;
+      entries = c.len.ensures.value ∙ ap (λ (b : BookView). length b.history) last;
       leases = out ∙ ap (λ (b : BookView). leases_out b.state) last;
       few = subst (λ (b : BookView). c.leases_out.result ≤ b.graph.max_leases) last few;
       some = c.requires.some;

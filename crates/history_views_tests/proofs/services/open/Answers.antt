@@ -2,5 +2,5 @@ use Rattle.std.proofs.Common.{subst, sym}
 use Rattle.resource_lock.specs.AtRest.{IsAtRest}
 use Rattle.history_views_tests.proofs.services.open.Goals as goal
 
-pub open_with_views-requires : goal.open_with_views-requires
-open_with_views-requires g c = subst IsAtRest (sym c.in_ok-book.ensures.state) (c.openings_are_at_rest.ensures _)
+pub open_with_views-requires-clause-rest : goal.open_with_views-requires-clause-rest
+open_with_views-requires-clause-rest g c = subst IsAtRest (sym c.in_ok-book.ensures.state) (c.openings_are_at_rest.ensures _)

@@ -25,5 +25,5 @@ returns g c =
       workers = workers_first ps _ book passes;
       service = e.service;
       seen = saw;
-      rest = all_rest ps book c.requires saw;
+      rest = all_rest ps book c.requires.rest saw;
     }

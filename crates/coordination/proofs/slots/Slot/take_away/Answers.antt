@@ -40,8 +40,9 @@ returns g c =
     let sights = ap (λ (n : M). n.0.sights) c.join-seat.ensures.view in
     let numbers = workers_taken m m' t ps sights in
     let book : c.into_book.result.value ≡ t.book =
-    c.into_book.ensures ∙ (ap (λ (x : KeptView). x.book) c.keeper.view_is ∙ (sym (ap carried_book c.exchange.ensures.2) ∙ ap carried_book (carries m m' t))) in record {
+    c.into_book.ensures.value ∙ (ap (λ (x : KeptView). x.book) c.keeper.view_is ∙ (sym (ap carried_book c.exchange.ensures.2) ∙ ap carried_book (carries m m' t))) in record {
       workers = ap (λ (b : BookView). b.graph.workers) book ∙ (sym (how_many ps t.book.graph.workers numbers) ∙ how_many ps _ c.requires.all);
       closed = of_own_graph t.book.graph ps c.into_book.result.value
           (closed_by t.book.graph ps _ (kept t.book m.0.ledger) c.into_book.result.value numbers (closes_taken m m' t (map (λ p. p.sight) ps) sights) refl book);
+      keeps = c.into_book.ensures.keeps;
     }

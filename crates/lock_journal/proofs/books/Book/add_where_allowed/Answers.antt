@@ -39,4 +39,5 @@ returns-clause-admitted c = λ _.
       allowed = subst (λ (o : GraphView). Allowed o c.args.self.now.state e) graph (subst (λ (s : StateView). Allowed c.self.inside.tentative.graph s e) state more.allowed);
       history = more.entries ∙ ap (λ (h : List Entry). h ++ e ∷ []) history;
       state = more.state ∙ ap (λ (s : StateView). effect s e) state;
+      given = c.push_finished.ensures.given ∙ ap (λ (l : BookView). l.given) c.self.view_is;
     }

@@ -70,3 +70,15 @@ returns-in-Finished-clause-finished g c = λ _.
         state = more.state ∙ ap (λ (s : StateView). effect s (entry c.args.worker (g.T.Transform.kind_of c.args.transform.now) (Some c.attempt-disposition.new.self.made))) state;
       },
     )
+
+pub returns-in_err-reserve-clause-within : goal.returns-in_err-reserve-clause-within
+returns-in_err-reserve-clause-within g c = c.len.ensures.given
+
+pub returns-in-Finished-clause-within : goal.returns-in-Finished-clause-within
+returns-in-Finished-clause-within g c = c.len.ensures.given
+
+pub returns-in-Failed-clause-within : goal.returns-in-Failed-clause-within
+returns-in-Failed-clause-within g c = c.len.ensures.given
+
+pub returns-in-Retry-clause-within : goal.returns-in-Retry-clause-within
+returns-in-Retry-clause-within g c = c.len.ensures.given

@@ -1,61 +1,14 @@
-use Rattle.std.proofs.Common.{◌≡◌, ℕ, ◌<◌, ◌+◌, length, drop, List, [], Some, None, cond, sym, ◌∙◌, ap, subst, arith}
+use Rattle.std.proofs.Common.{◌≡◌, ◌-◌, ◌≤◌, length, sym, ◌∙◌, ap, arith}
 use Rattle.std.specs.Prelude.{slice_get}
-use Rattle.std.specs.List.{slice_range, slice_index_or}
-use Rattle.resource_lock.specs.declared.changes.Change.{Change}
-use Rattle.lock_transforms.specs.Entry.{entry}
-use Rattle.lock_journal.specs.StoredEntry.{IsNumberOf, end_before, kind_from}
-use Rattle.lock_journal.specs.History.{history_view, IsSoundHistory}
 use Rattle.lock_journal.specs.HistoryView.{HistoryView}
-use Rattle.lock_transforms.specs.declared.entries.Closed.{Closed}
-use Rattle.lock_transforms.specs.declared.entries.Kind.{Kind}
-use Rattle.lock_journal.specs.declared.stored_entries.StoredEntry.{StoredEntry}
-use Rattle.lock_journal.specs.declared.histories.History.TheInside.{Inside}
-use Rattle.lock_journal.proofs.Stored.{StandsAt, end_read, entry_at, read_at, shown_as, stands_at}
+use Rattle.lock_journal.proofs.Behind.{got_behind}
 use Rattle.lock_journal.proofs.histories.History.entry.Goals as goal
-
--- the entry that is read has a range and a number
-stands : (h : Inside) (v : HistoryView) (i : ℕ) (k : StoredEntry) → IsSoundHistory h → history_view h ≡ v → i < length v.entries → k ≡ slice_index_or h.stored.items i k
-    → StandsAt (length h.changes.items) (length h.closings.items) (end_before (drop (i + 1) h.stored.items) (length h.changes.items)) k
-stands h v i k sound view within is = stands_at (length h.changes.items) (length h.closings.items) h.stored.items i k sound.stored (read_at h v i k view within is)
-
-pub kind_of-requires : goal.kind_of-requires
-kind_of-requires c =
-    let k : StoredEntry = c.index-stored.result.now in
-    subst (λ (ds : List Closed). IsNumberOf (length ds) k.kind k.number) (sym c.deref-2.ensures.value)
-    (stands c.self.inside c.args.self.now c.args.place k c.self.invariant c.self.view_is c.requires c.index-stored.ensures).number
-
-pub changes_of-requires-clause-ordered : goal.changes_of-requires-clause-ordered
-changes_of-requires-clause-ordered c =
-    let st = stands c.self.inside c.args.self.now c.args.place c.index-stored.result.now c.self.invariant c.self.view_is c.requires c.index-stored.ensures in
-    let end = end_read c.self.inside.stored.items c.deref.result.now (c.args.place + 1) c.len.result c.end_before-end.result c.deref.ensures.value c.end_before-end.ensures in
-    let long : c.len.result ≡ length c.self.inside.changes.items = c.len.ensures ∙ c.self.inside.changes.ok.0 in
-    let there = ap (end_before (drop (c.args.place + 1) c.self.inside.stored.items)) long in
-    omega (arith, st.ordered, end, there)
-
-pub changes_of-requires-clause-bounded : goal.changes_of-requires-clause-bounded
-changes_of-requires-clause-bounded c =
-    let st = stands c.self.inside c.args.self.now c.args.place c.index-stored.result.now c.self.invariant c.self.view_is c.requires c.index-stored.ensures in
-    let end = end_read c.self.inside.stored.items c.deref.result.now (c.args.place + 1) c.len.result c.end_before-end.result c.deref.ensures.value c.end_before-end.ensures in
-    let long : c.len.result ≡ length c.self.inside.changes.items = c.len.ensures ∙ c.self.inside.changes.ok.0 in
-    let there = ap (end_before (drop (c.args.place + 1) c.self.inside.stored.items)) long in
-    let all = ap (λ (cs : List Change). length cs) c.deref-3.ensures.value in
-    omega (arith, st.bounded, end, there, all)
 
 pub returns-clause-shown : goal.returns-clause-shown
 returns-clause-shown c =
-    let k : StoredEntry = c.index-stored.result.now in
-    let h : Inside = c.self.inside in
-    let i = c.args.place in
-    let long : c.len.result ≡ length h.changes.items = c.len.ensures ∙ h.changes.ok.0 in
-    let end : c.end_before-end.result ≡ end_before (drop (i + 1) h.stored.items) (length h.changes.items) =
-    end_read h.stored.items c.deref.result.now (i + 1) c.len.result c.end_before-end.result c.deref.ensures.value c.end_before-end.ensures
-    ∙ ap (end_before (drop (i + 1) h.stored.items)) long in
-    let kind : c.kind_of.result ≡ kind_from h.closings.items k.kind k.number = c.kind_of.ensures ∙ ap (λ ds. kind_from ds k.kind k.number) c.deref-2.ensures.value in
-    let changes : c.changes_of.result.now ≡ cond k.failed [] (slice_range h.changes.items k.start (end_before (drop (i + 1) h.stored.items) (length h.changes.items))) =
-    c.changes_of.ensures
-    ∙ ap (λ cs. cond k.failed [] (slice_range cs k.start c.end_before-end.result)) c.deref-3.ensures.value
-    ∙ ap (λ e. cond k.failed [] (slice_range h.changes.items k.start e)) end in
-    ap (λ (v : HistoryView). slice_get v.entries i) (sym c.self.view_is)
-    ∙ entry_at h.changes.items h.closings.items h.stored.items i k (read_at h c.args.self.now i k c.self.view_is c.requires c.index-stored.ensures)
-    ∙ ap (λ (x : Kind). Some (entry k.worker x (cond k.failed None (Some (slice_range h.changes.items k.start (end_before (drop (i + 1) h.stored.items) (length h.changes.items))))))) (sym kind)
-    ∙ ap (λ cs. Some (entry k.worker c.kind_of.result cs)) (shown_as k.failed _ c.changes_of.result.now changes)
+    let behind : length c.self.inside.past ≤ c.args.place = omega (arith, c.requires.kept, ap (λ (h : HistoryView). h.given) c.self.view_is, c.self.invariant) in
+    let place : c.args.place - length c.self.inside.past ≡ c.args.place - c.before-2.result = omega (arith, c.before-2.ensures.value, c.self.invariant) in
+    ap (λ (h : HistoryView). slice_get h.entries c.args.place) (sym c.self.view_is)
+    ∙ got_behind c.self.inside.past c.self.inside.kept.entries c.args.place behind
+    ∙ ap (slice_get c.self.inside.kept.entries) place
+    ∙ c.entry.ensures.shown

@@ -1,67 +1,25 @@
-use Rattle.std.proofs.Common.{◌≡◌, ℕ, ◌+◌, ◌-◌, length, take, drop, List, Some, sym, ◌∙◌, ap, subst, arith}
-use Rattle.std.specs.Vec.{with_items}
-use Rattle.std.specs.Prelude.{IfSome, slice_get, slice_index_or}
-use Rattle.std.proofs.lemmas.List.{with_items_is}
+use Rattle.std.proofs.Common.{◌≡◌, ◌-◌, length, take, ◌++◌, Option, sym, ◌∙◌, ap, subst}
+use Rattle.std.specs.Prelude.{IfSome, slice_get}
 use Rattle.lock_transforms.specs.Entry.{Entry}
-use Rattle.lock_transforms.specs.declared.entries.Closed.{Closed}
 use Rattle.lock_journal.specs.Closings.{ClosesWithin}
-use Rattle.lock_journal.specs.History.{history_view}
 use Rattle.lock_journal.specs.HistoryView.{HistoryView}
-use Rattle.lock_journal.specs.StoredEntry.{AreStored, IsNumberOf, closings_until, end_before, entry_from, kind_from, place_by}
-use Rattle.lock_journal.specs.declared.histories.TheConstants.{NOWHERE}
-use Rattle.lock_journal.specs.declared.histories.History.TheInside.{Inside}
-use Rattle.lock_journal.specs.declared.stored_entries.StoredEntry.{StoredEntry}
-use Rattle.lock_journal.proofs.Stored.{entry_at, length_of_entries, number_among}
-use Rattle.lock_journal.proofs.Pushed.{Popped, stored-pop}
-use Rattle.lock_journal.proofs.Adding.{Drops, entries_dropped, last_at, sound_dropped}
+use Rattle.lock_journal.proofs.Behind.{front_behind, last_behind, some_kept}
 use Rattle.lock_journal.proofs.histories.History.pop.Goals as goal
 
-popped : (c : goal.After-deref) → Popped (length c.self.inside.changes.items) (length c.self.inside.closings.items) c.in-Some.last c.pop.new.self.items
-popped c = stored-pop _ _ c.in-Some.last c.pop.new.self.items (subst (AreStored (length c.self.inside.changes.items) (length c.self.inside.closings.items)) c.in-Some.ensures.items c.self.invariant.stored)
+pub pop-requires-clause-some_entry : goal.pop-requires-clause-some_entry
+pop-requires-clause-some_entry c = some_kept c.self.inside.past c.self.inside.kept c.args.self.now c.self.view_is c.self.invariant c.requires.some_entry
 
-pub put_back-requires-clause-number : goal.put_back-requires-clause-number
-put_back-requires-clause-number c =
-    let m : ℕ = length c.self.inside.closings.items in
-    subst (λ (ds : List Closed). IsNumberOf (length ds) c.in-Some.last.kind c.in-Some.last.number) (sym c.deref.ensures.value)
-    (number_among m m c.in-Some.last.kind c.in-Some.last.number (omega arith) (popped c).number)
+pub pop-requires-clause-closes : goal.pop-requires-clause-closes
+pop-requires-clause-closes c =
+    let some = some_kept c.self.inside.past c.self.inside.kept c.args.self.now c.self.view_is c.self.invariant c.requires.some_entry in
+    let last : slice_get c.args.self.now.entries (length c.args.self.now.entries - 1) ≡ slice_get c.self.inside.kept.entries (length c.self.inside.kept.entries - 1) =
+    ap (λ (h : HistoryView). slice_get h.entries (length h.entries - 1)) (sym c.self.view_is) ∙ last_behind c.self.inside.past c.self.inside.kept.entries some in
+    subst (λ n. IfSome (slice_get c.self.inside.kept.entries (length c.self.inside.kept.entries - 1)) (λ (e : Entry). ClosesWithin n e.kind)) (sym (ap (λ (h : HistoryView). h.units) c.self.view_is))
+    (subst (λ (o : Option Entry). IfSome o (λ (e : Entry). ClosesWithin c.args.self.now.units e.kind)) last c.requires.closes)
 
-pub put_back-requires-clause-closes : goal.put_back-requires-clause-closes
-put_back-requires-clause-closes c =
-    let h : Inside = c.self.inside in
-    let k : StoredEntry = c.in-Some.last in
-    let i : ℕ = length h.stored.items - 1 in
-    let last : slice_get h.stored.items i ≡ Some k = last_at h.stored.items c.pop.new.self.items k c.in-Some.ensures.items in
-    let shown : slice_get c.args.self.now.entries (length c.args.self.now.entries - 1) ≡ Some (entry_from h.changes.items h.closings.items (end_before (drop (i + 1) h.stored.items) (length h.changes.items)) k) =
-    ap (λ (v : HistoryView). slice_get v.entries (length v.entries - 1)) (sym c.self.view_is)
-    ∙ ap (λ n. slice_get (history_view h).entries (n - 1)) (length_of_entries h.changes.items h.closings.items h.stored.items)
-    ∙ entry_at h.changes.items h.closings.items h.stored.items i k last in
-    let closes : ClosesWithin c.args.self.now.units (kind_from h.closings.items k.kind k.number) = subst (λ o. IfSome o (λ (e : Entry). ClosesWithin c.args.self.now.units e.kind)) shown c.requires.closes in
-    let units : c.args.self.now.units ≡ length c.deref_mut.result.now = sym (ap (λ (v : HistoryView). v.units) c.self.view_is) ∙ sym c.deref_mut.ensures.len in
-    subst (λ (ds : List Closed). ClosesWithin (length c.deref_mut.result.now) (kind_from ds k.kind k.number)) (sym c.deref.ensures.value)
-    (subst (λ n. ClosesWithin n (kind_from h.closings.items k.kind k.number)) units closes)
-
-abbrev after : goal.After-truncate-in-Some → Inside
-after c = record { stored = c.pop.new.self; changes = c.truncate-in-Some.new.self; closings = c.truncate.new.self; closed_at = with_items c.self.inside.closed_at c.put_back.new.all }
-
-drops : (c : goal.After-truncate-in-Some) → Drops c.self.inside (after c) c.in-Some.last
-drops c =
-    let h : Inside = c.self.inside in
-    let k : StoredEntry = c.in-Some.last in
-    record {
-      stored = c.in-Some.ensures.items;
-      changes = c.truncate-in-Some.ensures.items;
-      closings = c.truncate.ensures.items ∙ ap (λ n. take n h.closings.items) (c.closings_until.ensures ∙ ap (closings_until k.kind k.number) (c.len.ensures ∙ h.closings.ok.0));
-      place = λ u.
-          ap (λ (ps : List ℕ). slice_index_or ps u NOWHERE) (with_items_is h.closed_at c.put_back.new.all (c.put_back.ensures.len ∙ c.deref_mut.ensures.len))
-          ∙ c.put_back.ensures.places u
-          ∙ ap (λ (ds : List Closed). place_by ds k k.earlier u (slice_index_or c.deref_mut.result.now u NOWHERE)) c.deref.ensures.value
-          ∙ ap (λ (ps : List ℕ). place_by h.closings.items k k.earlier u (slice_index_or ps u NOWHERE)) c.deref_mut.ensures.value;
-    }
-
-pub invariant_of-self : goal.invariant_of-self
-invariant_of-self c = sound_dropped c.self.inside (after c) c.in-Some.last c.self.invariant (drops c)
-
-pub returns-in-Some-clause-entries : goal.returns-in-Some-clause-entries
-returns-in-Some-clause-entries c =
-    entries_dropped c.self.inside (after c) c.in-Some.last c.self.invariant (drops c)
-    ∙ ap (λ (v : HistoryView). take (length v.entries - 1) v.entries) c.self.view_is
+pub returns-clause-entries : goal.returns-clause-entries
+returns-clause-entries c =
+    let some = some_kept c.self.inside.past c.self.inside.kept c.args.self.now c.self.view_is c.self.invariant c.requires.some_entry in
+    ap (λ es. c.self.inside.past ++ es) c.pop.ensures.entries
+    ∙ front_behind c.self.inside.past c.self.inside.kept.entries some
+    ∙ ap (λ (h : HistoryView). take (length h.entries - 1) h.entries) c.self.view_is

@@ -1,37 +1,12 @@
-use Rattle.std.proofs.Common.{[], ◌∷◌, ◌++◌, None, true, refl, sym, ◌∙◌, ap}
-use Rattle.std.proofs.lemmas.List.{append-nil}
-use Rattle.lock_journal.specs.Closings.{closed_of}
-use Rattle.lock_transforms.specs.Entry.{entry}
+use Rattle.std.proofs.Common.{List, [], ◌∷◌, ◌++◌, None, sym, ◌∙◌, ap}
+use Rattle.std.proofs.lemmas.List.{append_assoc}
+use Rattle.lock_transforms.specs.Entry.{Entry, entry}
 use Rattle.lock_journal.specs.HistoryView.{HistoryView}
-use Rattle.lock_journal.specs.declared.histories.TheConstants.{NOWHERE}
-use Rattle.lock_journal.specs.declared.stored_entries.StoredEntry.{StoredEntry}
-use Rattle.lock_journal.specs.declared.histories.History.TheInside.{Inside}
-use Rattle.lock_journal.proofs.Adding.{Adds, entries_added, sound_added}
 use Rattle.lock_journal.proofs.histories.History.push_failed.Goals as goal
-
-abbrev after : goal.After-push_reserved → Inside
-after c = record { stored = c.push_reserved.new.self; changes = c.self.inside.changes; closings = c.store_kind-kind.new.closings; closed_at = c.self.inside.closed_at }
-
-abbrev stored : goal.After-push_reserved → StoredEntry
-stored c = record { start = c.len.result; number = c.store_kind-kind.result.1; earlier = NOWHERE; worker = c.args.worker; kind = c.store_kind-kind.result.0; failed = true }
-
-adds : (c : goal.After-push_reserved) → Adds c.self.inside (after c) (stored c) c.args.kind.now [] (closed_of c.args.kind.now)
-adds c = record {
-  stored = c.push_reserved.ensures.items;
-  changes = sym (append-nil c.self.inside.changes.items);
-  closings = c.store_kind-kind.ensures.items;
-  start = c.len.ensures ∙ c.self.inside.changes.ok.0;
-  number = c.store_kind-kind.ensures.number;
-  until = c.store_kind-kind.ensures.until;
-  kind_is = c.store_kind-kind.ensures.kind;
-  place = λ u. refl;
-  earlier = λ u. refl;
-}
-
-pub invariant_of-self : goal.invariant_of-self
-invariant_of-self c = sound_added c.self.inside (after c) (stored c) c.args.kind.now [] (closed_of c.args.kind.now) c.self.invariant (adds c)
 
 pub returns-clause-entries : goal.returns-clause-entries
 returns-clause-entries c =
-    entries_added c.self.inside (after c) (stored c) c.args.kind.now [] (closed_of c.args.kind.now) c.self.invariant (adds c)
-    ∙ ap (λ (v : HistoryView). v.entries ++ entry c.args.worker c.args.kind.now None ∷ []) c.self.view_is
+    let more : List Entry = entry c.args.worker c.args.kind.now None ∷ [] in
+    ap (λ es. c.self.inside.past ++ es) c.push_failed.ensures.entries
+    ∙ sym (append_assoc c.self.inside.past c.self.inside.kept.entries more)
+    ∙ ap (λ (h : HistoryView). h.entries ++ more) c.self.view_is

@@ -1,0 +1,64 @@
+use Rattle.std.proofs.Common.{◌≡◌, ℕ, List, sym, refl, ◌≤◌, ◌+◌, ◌-◌, length, [], ◌∷◌, ◌++◌, Some, ◌∙◌, ap, arith, cond, true, false, is_ok}
+use Rattle.std.specs.Vec.{vec_len, vec_capacity, with_items}
+use Rattle.std.specs.Prelude.{slice_index_or}
+use Rattle.std.proofs.lemmas.List.{with_items_is}
+use Rattle.lock_journal.specs.Closings.{closed_of, closing_of}
+use Rattle.lock_journal.specs.StoredEntry.{place_after}
+use Rattle.lock_transforms.specs.Entry.{entry}
+use Rattle.lock_transforms.specs.declared.entries.Kind.{Kind}
+use Rattle.lock_journal.specs.SegmentView.{SegmentView}
+use Rattle.lock_journal.specs.declared.segments.TheConstants.{NOWHERE}
+use Rattle.lock_journal.specs.declared.stored_entries.StoredEntry.{StoredEntry}
+use Rattle.lock_journal.specs.declared.segments.Segment.TheInside.{Inside}
+use Rattle.lock_journal.proofs.Adding.{Adds, entries_added, place_at, sound_added}
+use Rattle.lock_journal.proofs.segments.Segment.push_finished.Goals as goal
+
+abbrev after : goal.After-push_reserved → Inside
+after c = record { stored = c.push_reserved.new.self; changes = c.extend_from_slice.new.self; closings = c.store_kind-stored_kind.new.closings; closed_at = with_items c.self.inside.closed_at c.set_place-earlier.new.all; before = c.self.inside.before }
+
+abbrev stored : goal.After-push_reserved → StoredEntry
+stored c = record { start = c.len-start.result; number = c.store_kind-stored_kind.result.1; earlier = c.set_place-earlier.result; worker = c.args.worker; kind = c.store_kind-stored_kind.result.0; failed = false }
+
+-- the places after it
+placed : (c : goal.After-push_reserved) (u : ℕ) → place_at (after c) u ≡ slice_index_or c.set_place-earlier.new.all u NOWHERE
+placed c u = ap (λ (ps : List ℕ). slice_index_or ps u NOWHERE) (with_items_is c.self.inside.closed_at c.set_place-earlier.new.all (c.set_place-earlier.ensures.len ∙ c.deref_mut.ensures.len))
+
+before : (c : goal.After-push_reserved) (u : ℕ) → slice_index_or c.deref_mut.result.now u NOWHERE ≡ place_at c.self.inside u
+before c u = ap (λ (ps : List ℕ). slice_index_or ps u NOWHERE) c.deref_mut.ensures.value
+
+adds : (c : goal.After-push_reserved) → Adds c.self.inside (after c) (stored c) c.args.kind.now c.args.changes.now (closed_of c.args.kind.now)
+adds c =
+    let kind : Kind = c.args.kind.now in
+    let number : ℕ = c.store_kind-stored_kind.result.1 in
+    let spare : length c.args.changes.now ≤ c.args.self.now.spare_changes = c.requires.some_changes in
+    let view : vec_capacity c.self.inside.changes - vec_len c.self.inside.changes ≡ c.args.self.now.spare_changes = ap (λ (p : SegmentView). p.spare_changes) c.self.view_is in
+    let fits : vec_len c.self.inside.changes + length c.args.changes.now ≤ vec_capacity c.self.inside.changes = omega arith in
+    let ok : is_ok c.extend_from_slice.result ≡ true = c.extend_from_slice.ensures.succeeds fits in
+    record {
+      stored = c.push_reserved.ensures.items;
+      changes = c.extend_from_slice.ensures.items ∙ ap (λ b. cond b (c.self.inside.changes.items ++ c.args.changes.now) c.self.inside.changes.items) ok;
+      closings = c.store_kind-stored_kind.ensures.items;
+      start = c.len-start.ensures ∙ c.self.inside.changes.ok.0;
+      number = c.store_kind-stored_kind.ensures.number;
+      until = c.store_kind-stored_kind.ensures.until;
+      kind_is = c.store_kind-stored_kind.ensures.kind;
+      before = refl;
+      place = λ u.
+          placed c u
+          ∙ c.set_place-earlier.ensures.places u
+          ∙ ap (place_after (closing_of u kind) number) (before c u)
+          ∙ ap (λ k. place_after (closing_of u k) number (place_at c.self.inside u)) (sym c.store_kind-stored_kind.ensures.kind);
+      earlier = λ u.
+          ap (λ k. place_after (closing_of u k) c.set_place-earlier.result (place_at (after c) u)) c.store_kind-stored_kind.ensures.kind
+          ∙ ap (place_after (closing_of u kind) c.set_place-earlier.result) (placed c u)
+          ∙ c.set_place-earlier.ensures.earlier u
+          ∙ before c u;
+    }
+
+pub invariant_of-self : goal.invariant_of-self
+invariant_of-self c = sound_added c.self.inside (after c) (stored c) c.args.kind.now c.args.changes.now (closed_of c.args.kind.now) c.self.invariant (adds c)
+
+pub returns-clause-entries : goal.returns-clause-entries
+returns-clause-entries c =
+    entries_added c.self.inside (after c) (stored c) c.args.kind.now c.args.changes.now (closed_of c.args.kind.now) c.self.invariant (adds c)
+    ∙ ap (λ (p : SegmentView). p.entries ++ entry c.args.worker c.args.kind.now (Some c.args.changes.now) ∷ []) c.self.view_is
