@@ -3,6 +3,7 @@ mod Causes
 mod Counting
 mod Gathering
 pub mod HeldBookValues
+pub mod HeldPartValues
 pub mod HeldValues
 mod Numbered
 pub mod Values

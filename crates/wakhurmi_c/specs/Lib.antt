@@ -7,4 +7,5 @@ pub mod Numbers
 pub mod Opened
 pub mod Owned
 pub mod Places
+pub mod Taken
 pub mod Texts

@@ -19,10 +19,19 @@ use resource_lock::{Graph, MAX_WORKERS};
 use std::alloc::{AllocError, Global};
 use std::sync::Arc;
 
+/// What a service is opened with.
+#[derive(Clone, Copy)]
+struct Numbers {
+    workers: u32,
+    max_leases: u32,
+    locks: u32,
+}
+
 /// The book of a service for workers without tasks.
 fn book_of(alloc: Global, workers: u32, max_leases: u32, locks: u32) -> Result<Box<Book>, Answer>
     ensures err { IfErr result (WhyUnopened workers max_leases locks) }
     ensures rest { IfOk result (λ book. IsAtRest book.value.state) }
+    ensures whole { IfOk result (λ book. book.value.given ≡ 0) }
     ensures fits { IfOk result (λ _. Fits (made_of locks None workers max_leases [] [])) }
     ensures graph { IfOk result (λ book. book.value.graph ≡ made_of locks None workers max_leases [] []) }
     ensures workers { IfOk result (λ book. book.value.graph.workers ≡ workers) }
@@ -56,13 +65,13 @@ fn worker_of(
     alloc: Global,
     service: &Arc<Slot, Global>,
     pass: Pass,
-    workers: u32,
-    locks: u32,
+    numbers: Numbers,
 ) -> Result<Box<Worker, Global>, AllocError>
     requires service { pass.service.table ≡ (arc_value service.now).table.shared.table_id }
-    requires workers { workers ≡ (arc_value service.now).table.shared.key.kept.value.book.graph.workers }
+    requires workers { numbers.workers ≡ (arc_value service.now).table.shared.key.kept.value.book.graph.workers }
     requires no_tasks { HasNoTasks (arc_value service.now).table.shared.key.kept.value.book.graph }
-    requires locks { locks ≡ (arc_value service.now).table.shared.key.kept.value.book.graph.locks }
+    requires locks { numbers.locks ≡ (arc_value service.now).table.shared.key.kept.value.book.graph.locks }
+    requires leases { numbers.max_leases ≡ (arc_value service.now).table.shared.key.kept.value.book.graph.max_leases }
     requires seen { pass.sight.seen ≡ (arc_value service.now).table.shared.key.kept.value.book }
     ensures { IfOk result (λ worker. worker.value.pass ≡ pass) }
 {
@@ -71,8 +80,9 @@ fn worker_of(
     let worker = Worker {
         service,
         pass,
-        workers,
-        locks,
+        workers: numbers.workers,
+        locks: numbers.locks,
+        max_leases: numbers.max_leases,
         asked: Vec::new(alloc),
         sleepers,
     };
@@ -84,19 +94,19 @@ fn workers_of(
     alloc: Global,
     service: &Arc<Slot, Global>,
     passes: Vec<Pass>,
-    workers: u32,
-    locks: u32,
+    numbers: Numbers,
 ) -> Result<Vec<Box<Worker, Global>>, AllocError>
     requires service { All (λ p. p.service.table ≡ (arc_value service.now).table.shared.table_id) passes.items }
-    requires workers { workers ≡ (arc_value service.now).table.shared.key.kept.value.book.graph.workers }
+    requires workers { numbers.workers ≡ (arc_value service.now).table.shared.key.kept.value.book.graph.workers }
     requires no_tasks { HasNoTasks (arc_value service.now).table.shared.key.kept.value.book.graph }
-    requires locks { locks ≡ (arc_value service.now).table.shared.key.kept.value.book.graph.locks }
+    requires locks { numbers.locks ≡ (arc_value service.now).table.shared.key.kept.value.book.graph.locks }
+    requires leases { numbers.max_leases ≡ (arc_value service.now).table.shared.key.kept.value.book.graph.max_leases }
     requires seen { All (λ p. p.sight.seen ≡ (arc_value service.now).table.shared.key.kept.value.book) passes.items }
     ensures { IfOk result (λ all. map (λ w. w.value.pass) all.items ≡ passes.items) }
 {
     let mut all = Vec::with_capacity(alloc, passes.len())?;
     for pass in passes {
-        all.push(worker_of(alloc, service, pass, workers, locks)?)?;
+        all.push(worker_of(alloc, service, pass, numbers)?)?;
     }
     Ok(all)
 }
@@ -118,7 +128,12 @@ fn open_workers(
     let Ok(service) = Arc::new(alloc, slot) else {
         return Err(Answer::NoMemory);
     };
-    match workers_of(alloc, &service, passes, workers, locks) {
+    let numbers = Numbers {
+        workers,
+        max_leases,
+        locks,
+    };
+    match workers_of(alloc, &service, passes, numbers) {
         Ok(all) => Ok(all),
         Err(_) => Err(Answer::NoMemory),
     }

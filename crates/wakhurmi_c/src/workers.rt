@@ -19,6 +19,8 @@ pub struct Worker {
     pub workers: u32,
     /// How many project locks it has.
     pub locks: u32,
+    /// How many leases may be out at once.
+    pub max_leases: u32,
     // The locks that a call asks for. It is kept, so that most calls take no memory for them.
     pub(crate) asked: Vec<LockId>,
     // Who sleeps is known to C alone. So each entry is asked whether it would wake a transform that sleeps.
@@ -27,5 +29,7 @@ pub struct Worker {
     // So all that keeps a call from its entry is what other workers have.
     ghost no_tasks: { HasNoTasks pass.sight.seen.graph },
     ghost locks_are: { locks ≡ pass.sight.seen.graph.locks },
+    ghost leases_are: { max_leases ≡ pass.sight.seen.graph.max_leases },
+    ghost seen_workers: { workers ≡ pass.sight.seen.graph.workers },
     ghost workers_are: { workers ≡ (arc_value service).table.shared.key.kept.value.book.graph.workers },
 }
