@@ -60,6 +60,12 @@ uint32_t wakhurmi_c_history(handle *book, uint64_t part, uint8_t *buffer, size_t
     return 0;
 }
 uint32_t wakhurmi_c_close_book(handle *book) { return wakhurmi_c_close(book); }
+uint32_t wakhurmi_c_take_history(handle *worker, handle *part) { (void)worker, (void)part; return 0; }
+uint32_t wakhurmi_c_part(handle *part, uint64_t line, uint8_t *buffer, size_t size, size_t *written) {
+    return wakhurmi_c_history(part, line, buffer, size, written);
+}
+uint32_t wakhurmi_c_empty_part(handle *part) { (void)part; return 0; }
+uint32_t wakhurmi_c_close_part(handle *part) { (void)part; return 0; }
 """
 
 KIT = """
@@ -205,14 +211,14 @@ class InterfaceTests(unittest.TestCase):
         self.assertEqual(ran.returncode, 0, ran.stdout[-4000:])
         return ran.stdout
 
-    def program(self, source: pathlib.Path) -> str:
+    def program(self, source: pathlib.Path, *more: str) -> str:
         program = str(self.folder / source.stem)
         flags = ["-O2", "-std=gnu11", "-Wall", "-Wextra", "-Werror", f"-I{self.made}", f"-L{self.made}"]
-        self.said_by(["cc", *flags, str(source), "-o", program, "-lwakhurmi", "-pthread"])
+        self.said_by(["cc", *flags, str(source), "-o", program, "-lwakhurmi", "-pthread", *more])
         return program
 
-    def bench_program(self, name: str) -> str:
-        return self.program(TOP / f"bench/programs/{name}/{name}.c")
+    def bench_program(self, name: str, *more: str) -> str:
+        return self.program(TOP / f"bench/programs/{name}/{name}.c", *more)
 
     def assert_lawful(self, history: str) -> None:
         """By the replay, and by the program that the gate has built."""
@@ -226,6 +232,16 @@ class InterfaceTests(unittest.TestCase):
 
     def test_cancelled_threads_keep_nobody_from_a_call(self) -> None:
         self.assert_lawful(self.said_by([self.bench_program("c_cancel"), "10000"]))
+
+    def test_a_history_is_taken_in_parts_or_its_last_entries_are_kept(self) -> None:
+        program = self.bench_program("c_history")
+        self.assertEqual(self.said_by([program, "calls"]), "")
+        self.assert_lawful(self.said_by([program, "parts", "8", "5000"]))
+        self.assert_lawful(self.said_by([program, "cancel", "1000"]))
+
+    def test_nothing_is_lost_where_memory_is_refused(self) -> None:
+        wraps = [f"-Wl,--wrap={name}" for name in ("malloc", "realloc", "calloc", "aligned_alloc")]
+        self.assertEqual(self.said_by([self.bench_program("c_refused", *wraps)]), "")
 
     def test_threads_have_leases_and_locks_as_promised(self) -> None:
         self.assert_lawful(self.said_by([self.bench_program("c_rounds"), "check", "4", "5000"]))

@@ -7,9 +7,11 @@ The archive is made by c/build.sh, which needs the command rt and proves crates/
   by the program `leases` against a plan of three projects without tasks;
 * bench/programs/c_calls compares answers with those that are known beforehand: to misuse, in the child of a fork, at deadlines, after stops;
 * bench/programs/c_cancel cancels 10,000 threads at random moments; the history is replayed and checked;
+* bench/programs/c_history has histories taken in parts, by threads that are cancelled too, and services keep their last entries; parts that
+  stand behind each other are replayed and checked. bench/programs/c_refused refuses memory to each allocation of that;
 * bench/programs/c_rounds checks four threads over 400,000 rounds, while a fifth asks for the leases: never more at work than may be, one
   owner a lock; the history is replayed and checked.
-  All three run under memcheck and helgrind too, and built with the compiler's sanitizers, with less to do. Helgrind and the sanitizer of
+  All of these run under memcheck and helgrind too, and built with the compiler's sanitizers, with less to do. Helgrind and the sanitizer of
   threads follow no lock of the proved library, so for them its calls are made one at a time under a mutex;
 * a take and a hand-back are timed in processor time, by one thread and by four, beside a plain mutex with a counter.
 
@@ -37,7 +39,10 @@ import measure
 TOP = measure.TOP
 EXAMPLE = TOP / "examples/embedding-in-c"
 LEASES = pathlib.Path(sys.argv[1]).resolve() if len(sys.argv) > 1 else TOP / "out/leases"
-PROGRAMS = [TOP / f"bench/programs/{name}/{name}.c" for name in ("c_rounds", "c_calls", "c_cancel")] + [EXAMPLE / "eight.c"]
+NAMES = ("c_rounds", "c_calls", "c_cancel", "c_history", "c_refused")
+PROGRAMS = [TOP / f"bench/programs/{name}/{name}.c" for name in NAMES] + [EXAMPLE / "eight.c"]
+# c_refused has calls of these from the archive come to functions of its own.
+WRAPS = [f"-Wl,--wrap={name}" for name in ("malloc", "realloc", "calloc", "aligned_alloc")]
 ROUNDS, FEWER_ROUNDS, FEW_ROUNDS = 100_000, 10_000, 2_000
 CANCELLED, FEWER_CANCELLED, FEW_CANCELLED = 10_000, 2_000, 400
 TIMED_ROUNDS = 400_000
@@ -73,7 +78,8 @@ def build(folder: pathlib.Path, name: str, *flags: str) -> pathlib.Path:
         f"-I{made}", f"-L{made}", "-lwakhurmi", "-pthread"
     ]
     for source in PROGRAMS:
-        call(["cc", "-O2", "-g", "-Wall", "-Wextra", "-Werror", *flags, str(source), "-o", str(made / source.stem), *words])
+        more = WRAPS if source.stem == "c_refused" else []
+        call(["cc", "-O2", "-g", "-Wall", "-Wextra", "-Werror", *flags, str(source), "-o", str(made / source.stem), *words, *more])
     return made
 
 
@@ -90,7 +96,13 @@ def judged(history: str) -> str:
 
 def check(made: pathlib.Path, rounds: int, cancelled: int, tool: list[str], what: str) -> None:
     call([*tool, str(made / "c_calls")], env=SETTINGS)
+    call([*tool, str(made / "c_history"), "calls"], env=SETTINGS)
+    call([*tool, str(made / "c_refused")], env=SETTINGS)
     print(f"{what}: all answers are those known beforehand", flush=True)
+    history = call([*tool, str(made / "c_history"), "parts", "8", str(rounds // 4)], env=SETTINGS)
+    print(f"{what}: eight threads, {2 * rounds} rounds, the history taken in parts: {judged(history)}", flush=True)
+    history = call([*tool, str(made / "c_history"), "cancel", str(cancelled // 10)], env=SETTINGS)
+    print(f"{what}: {cancelled // 10} threads that took the history were cancelled: {judged(history)}", flush=True)
     history = call([*tool, str(made / "c_cancel"), str(cancelled)], env=SETTINGS)
     print(f"{what}: {cancelled} threads were cancelled: {judged(history)}", flush=True)
     history = call([*tool, str(made / "c_rounds"), "check", "4", str(rounds)], env=SETTINGS)

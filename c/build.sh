@@ -1,5 +1,5 @@
 #!/bin/sh
-# Builds libwakhurmi.a, one archive for a program to link with -pthread: the part that waits, the proved library, and the kit's
+# Builds libwakhurmi.a, one archive for a program to link with -pthread: the part in C, the proved library, and the kit's
 # functions over malloc. All names that it exports begin with wakhurmi_. Beside it: the header, and wakhurmi.pc for pkg-config.
 #
 #     c/build.sh FOLDER [FLAG..]     the flags go to the compiler, which is the words of CC, or cc
@@ -26,8 +26,10 @@ for object in "$objects"/*.o; do
     objcopy --redefine-syms="$objects/names" "$object"
 done
 # CC may have words beside the compiler's name.
-# shellcheck disable=SC2086
-${CC:-cc} -std=gnu11 -O2 -fPIC -Wall -Wextra "$@" -c "$here/wakhurmi.c" -o "$objects/wakhurmi.o"
+for file in wakhurmi history; do
+    # shellcheck disable=SC2086
+    ${CC:-cc} -std=gnu11 -O2 -fPIC -Wall -Wextra "$@" -c "$here/$file.c" -o "$objects/layer-$file.o"
+done
 rm -f -- "$folder/libwakhurmi.a"
 ar rcs "$folder/libwakhurmi.a" "$objects"/*.o
 cp -- "$here/wakhurmi.h" "$folder"

@@ -9,6 +9,8 @@
  * was kept back for KEPT_BACK in all: a worker may have a lock, and wait outside of this service for the one that is kept back.
  *
  * Which locks wakhurmi_leave takes is known to the proved part alone, so such a call is queued for a lease, and not for locks. */
+#ifndef WAKHURMI_QUEUE_H
+#define WAKHURMI_QUEUE_H
 #include <stdbool.h>
 #include <stddef.h>
 #include <stdint.h>
@@ -41,7 +43,7 @@ typedef struct {
 } queue;
 
 /* Whether two lists that strictly rise have a lock in common. */
-static bool share_a_lock(const arrival *one, const arrival *other) {
+static inline bool share_a_lock(const arrival *one, const arrival *other) {
     for (size_t i = 0, k = 0; i < one->count && k < other->count;) {
         if (one->locks[i] == other->locks[k]) return true;
         if (one->locks[i] < other->locks[k]) {
@@ -54,7 +56,7 @@ static bool share_a_lock(const arrival *one, const arrival *other) {
 }
 
 /* Whether a call has to let one go first that came earlier. */
-static bool has_to_let_go_first(queue *all, const arrival *call) {
+static inline bool has_to_let_go_first(queue *all, const arrival *call) {
     bool found = false;
     for (uint32_t worker = 0; worker < MAX_WORKERS; worker++) {
         queue_place *held = &all->places[worker];
@@ -66,7 +68,7 @@ static bool has_to_let_go_first(queue *all, const arrival *call) {
 }
 
 /* Queues a worker's call, which looked in vain, or notes what it found. True says that calls may go on that were kept back for it. */
-static bool queue_up(queue *all, uint32_t worker, const arrival *call) {
+static inline bool queue_up(queue *all, uint32_t worker, const arrival *call) {
     queue_place *held = &all->places[worker];
     bool frees = held->keeps_back && held->call.found_none && !call->found_none;
     if (frees) held->keeps_back = false;
@@ -77,9 +79,10 @@ static bool queue_up(queue *all, uint32_t worker, const arrival *call) {
 }
 
 /* A worker's call leaves the queue. True says that calls may go on that were kept back for it. */
-static bool depart(queue *all, uint32_t worker) {
+static inline bool depart(queue *all, uint32_t worker) {
     bool frees = all->places[worker].keeps_back;
     all->places[worker] = (queue_place){0};
     all->length--;
     return frees;
 }
+#endif

@@ -1,14 +1,17 @@
-/* Slots: who touches a handle of the proved library, and how it looks there. A part of wakhurmi.c.
+/* Slots: who touches a handle of the proved library, and how calls that meet wait for a moment.
  *
  * The proved library asks that one call at a time has a handle. So each lies in a slot, whose use says who has it. Between calls it says
  * what the worker has: it is EMPTY, or IN_SECTION, or HOLDING a lease. A call changes it to IN_CALL by one compare-and-exchange, and back as
  * the last thing that it does with the service. A second call with this worker, and wakhurmi_finish, find it IN_CALL and answer MISUSED.
- * While a call sleeps it doesn't touch the handle, and the use is ASLEEP. wakhurmi_leases_out has a handle that no call touches LENT to it
- * for one call of the proved library, and wakhurmi_finish has all; who finds the own handle LENT looks again after a moment. From the end
- * of the service on they are GONE.
+ * While a call sleeps it doesn't touch the handle, and the use is ASLEEP. wakhurmi_leases_out and wakhurmi_take_history have a handle that no
+ * call touches LENT to them for one call of the proved library, and wakhurmi_finish has all; who finds the own handle LENT looks again after a
+ * moment. From the end of the service on they are GONE. The handles of a book and of parts lie in slots too, and are EMPTY where no call has
+ * them.
  * The exchange acquires and the change back releases, so a call sees what the one before it did to the handle.
  *
  * A call that finds another worker inside looks again after a pause or a short nap. Nobody wakes it, so there is no wake-up to lose. */
+#ifndef WAKHURMI_SLOTS_H
+#define WAKHURMI_SLOTS_H
 #include <pthread.h>
 #include <stdatomic.h>
 #include <stdbool.h>
@@ -42,6 +45,10 @@ uint32_t wakhurmi_c_close(handle *worker);
 uint32_t wakhurmi_c_finish(handle *workers, size_t count, handle *book);
 uint32_t wakhurmi_c_history(handle *book, uint64_t part, uint8_t *buffer, size_t size, size_t *written);
 uint32_t wakhurmi_c_close_book(handle *book);
+uint32_t wakhurmi_c_take_history(handle *worker, handle *part);
+uint32_t wakhurmi_c_part(handle *part, uint64_t line, uint8_t *buffer, size_t size, size_t *written);
+uint32_t wakhurmi_c_empty_part(handle *part);
+uint32_t wakhurmi_c_close_part(handle *part);
 
 /* A worker that takes or gives back a lock or two is inside for less than a microsecond. With many locks it is longer by their number,
  * and by some microseconds where the system has to give its history new memory. So a call that finds it there pauses before it looks
@@ -63,15 +70,16 @@ static inline bool is_untouched(use found) { return found <= ASLEEP; }
 typedef struct {
     _Alignas(64) _Atomic(use) use;
     handle held;
+    int64_t until_counted; /* How many entries the worker makes until they are counted (history.c). */
 } slot;
 
 /* With WAKHURMI_ONE_AT_A_TIME each call of the proved library is made under a mutex, and each use is changed by an exchange, so that tools
  * that know mutexes and exchanges alone can follow. */
 #ifdef WAKHURMI_ONE_AT_A_TIME
-static pthread_mutex_t inside = PTHREAD_MUTEX_INITIALIZER;
-static void go_in(void) { pthread_mutex_lock(&inside); }
-static void go_out(void) { pthread_mutex_unlock(&inside); }
-static void let_go(slot *held, use next) { atomic_exchange(&held->use, next); }
+extern pthread_mutex_t wakhurmi_inside __attribute__((visibility("hidden")));
+static inline void go_in(void) { pthread_mutex_lock(&wakhurmi_inside); }
+static inline void go_out(void) { pthread_mutex_unlock(&wakhurmi_inside); }
+static inline void let_go(slot *held, use next) { atomic_exchange(&held->use, next); }
 #else
 static inline void go_in(void) {}
 static inline void go_out(void) {}
@@ -82,19 +90,19 @@ static inline void let_go(slot *held, use next) { atomic_store_explicit(&held->u
 typedef int64_t moment;
 #define NEVER INT64_MAX
 
-static moment now(void) {
+static inline moment now(void) {
     struct timespec time;
     clock_gettime(CLOCK_MONOTONIC, &time);
     return (moment)time.tv_sec * SECOND + time.tv_nsec;
 }
 
 /* A time that is too far away to be told is never, and one before the clock's first is the first. */
-static moment moment_of(const struct timespec *time) {
+static inline moment moment_of(const struct timespec *time) {
     if (time->tv_sec < 0) return 0;
     return time->tv_sec >= NEVER / SECOND ? NEVER : (moment)time->tv_sec * SECOND + time->tv_nsec;
 }
 
-static void pause_for(moment length) {
+static inline void pause_for(moment length) {
     moment begin = now();
     do {
 #if defined(__x86_64__)
@@ -105,7 +113,7 @@ static void pause_for(moment length) {
     } while (now() - begin < length);
 }
 
-static void nap(void) {
+static inline void nap(void) {
     int state;
     pthread_setcancelstate(PTHREAD_CANCEL_DISABLE, &state);
     nanosleep(&(struct timespec){.tv_nsec = NAP}, NULL);
@@ -113,7 +121,7 @@ static void nap(void) {
 }
 
 /* `looks` is how many were in vain. */
-static void wait_a_moment(unsigned looks) {
+static inline void wait_a_moment(unsigned looks) {
     if (looks < LOOKS) {
         pause_for((moment)FIRST_PAUSE << (looks - 1));
     } else {
@@ -121,8 +129,7 @@ static void wait_a_moment(unsigned looks) {
     }
 }
 
-/* What each call is made of. In each of them the deed is known, so no call chooses among them while it runs. What is seldom needed stands in
- * functions of its own. */
+/* What stands in each call. What is seldom needed stands in functions of its own. */
 #define IN_EACH_CALL static inline __attribute__((always_inline))
 #define SELDOM static __attribute__((noinline, cold))
 
@@ -132,7 +139,7 @@ IN_EACH_CALL bool claim_at_once(slot *wanted, use before, use after) {
 }
 
 /* The same, and waits while the handle is lent. */
-static bool claim(slot *wanted, use before, use after) {
+static inline bool claim(slot *wanted, use before, use after) {
     for (unsigned looks = 1;; looks++) {
         if (claim_at_once(wanted, before, after)) return true;
         use found = atomic_load(&wanted->use);
@@ -140,60 +147,4 @@ static bool claim(slot *wanted, use before, use after) {
         wait_a_moment(looks);
     }
 }
-
-/* The same from whatever use a worker has between calls, which it gives back; IN_CALL says that it has none of these. That use changes by
- * calls with this worker alone. */
-SELDOM use claim_whatever(slot *wanted, use after) {
-    for (use before = EMPTY; before <= HOLDING; before++) {
-        if (claim(wanted, before, after)) return before;
-    }
-    return IN_CALL;
-}
-
-typedef enum { TAKE, TRY_TAKE, HAND_BACK, ENTER, LEAVE } deed;
-
-typedef struct {
-    deed what;
-    const uint32_t *locks;
-    size_t count;
-    moment deadline;
-} request;
-
-/* What a worker's use is before most calls of a deed, and after one that did it. */
-IN_EACH_CALL use before_most(deed what) { return what == LEAVE ? IN_SECTION : what == HAND_BACK || what == ENTER ? HOLDING : EMPTY; }
-IN_EACH_CALL use after_done(deed what) { return what == HAND_BACK ? EMPTY : what == ENTER ? IN_SECTION : HOLDING; }
-
-IN_EACH_CALL told look_once(slot *own, deed what, const uint32_t *locks, size_t count) {
-    go_in();
-    told said;
-    switch (what) {
-    case TAKE: said = wakhurmi_c_take(&own->held, locks, count); break;
-    case TRY_TAKE: said = wakhurmi_c_try_take(&own->held, locks, count); break;
-    case HAND_BACK: said = wakhurmi_c_hand_back(&own->held); break;
-    case ENTER: said = wakhurmi_c_enter(&own->held); break;
-    default: said = wakhurmi_c_leave(&own->held); break;
-    }
-    go_out();
-    return said;
-}
-
-/* Looks again while another worker is inside. */
-static told look_again(slot *own, request asked) {
-    for (unsigned looks = 1;; looks++) {
-        wait_a_moment(looks);
-        told said = look_once(own, asked.what, asked.locks, asked.count);
-        if (said.answer != AGAIN) return said;
-    }
-}
-
-static told look(slot *own, request asked) {
-    told said = look_once(own, asked.what, asked.locks, asked.count);
-    return said.answer == AGAIN ? look_again(own, asked) : said;
-}
-
-/* Has the proved part know of a stop. */
-static void tell_stop(slot *own) {
-    go_in();
-    wakhurmi_c_stop(&own->held);
-    go_out();
-}
+#endif

@@ -18,35 +18,26 @@
  * leaves the queue changes the number afterwards, where a call was kept back for it. So no such wake-up is lost either. A first look is
  * kept back where the service's `usual` says that somebody is queued. It may be read too early: then one more is overtaken.
  *
+ * Who asks without a worker, for the leases or the history, borrows a handle that is in no call. Workers that do little between their calls
+ * leave hardly a moment in which there is one and nobody is inside. So who has looked in vain for some microseconds notes that, and looks on. A
+ * call that finds the note waits, before it has its handle, for some microseconds and a nap: who asks may need its processor. Then it takes the
+ * note away and goes on.
+ *
  * A thread that is cancelled is so at a cancellation point. Two functions here call one, and put cancellation off meanwhile: so no thread
  * ends inside a call, with the mutex locked or a slot taken. To clean up in place of that would end a wait earlier, and unwind from here
  * through callers in other languages, which may not be ready for it. */
 #define _GNU_SOURCE
-#include "wakhurmi.h"
-#include "queue.h"
-#include "slots.h"
+#include "service.h"
+#include "looks.h"
 #include <stdlib.h>
 #include <string.h>
 
-struct wakhurmi_service {
-    pthread_mutex_t mutex;
-    pthread_cond_t freed;
-    atomic_uint sleepers, news;
-    atomic_bool stopped;
-    uint32_t count, max_leases, locks;
-    unsigned forks;
-    atomic_uint usual; /* `forks`, with SOMEBODY_QUEUED where that is so. */
-    atomic_ullong arrivals;
-    queue queue; /* Under the mutex. */
-    slot book;
-    slot workers[MAX_WORKERS];
-};
+atomic_uint wakhurmi_forks;
+#ifdef WAKHURMI_ONE_AT_A_TIME
+pthread_mutex_t wakhurmi_inside = PTHREAD_MUTEX_INITIALIZER;
+#endif
 
-/* How many forks lie between this process and the one that opened the first service. It changes while there is one thread. To ask for the
- * process's number would be a system call in each call. */
-static atomic_uint forks;
-
-static void count_fork(void) { atomic_fetch_add(&forks, 1); }
+static void count_fork(void) { atomic_fetch_add(&wakhurmi_forks, 1); }
 
 /* Two threads that do this at once have each fork counted twice, which tells it as well. */
 static bool has_forks_counted(void) {
@@ -58,18 +49,21 @@ static bool has_forks_counted(void) {
     return true;
 }
 
-#define SOMEBODY_QUEUED (1u << 31)
-
-static inline bool is_ours(const wakhurmi_service *service) {
-    return service != NULL && service->forks == atomic_load_explicit(&forks, memory_order_relaxed);
-}
-
-/* Whether the service is this process's, and nobody is queued: one comparison in each call. */
+/* Whether the service is this process's, and nothing is noted: one comparison in each call. */
 static inline bool is_as_usual(wakhurmi_service *service) {
-    return service != NULL && atomic_load_explicit(&service->usual, memory_order_relaxed) == atomic_load_explicit(&forks, memory_order_relaxed);
+    return service != NULL && is_of_this_process(atomic_load_explicit(&service->usual, memory_order_relaxed));
 }
 
-static bool has_ended(wakhurmi_service *service) { return atomic_load(&service->workers[0].use) == GONE; }
+static bool is_noted(wakhurmi_service *service, unsigned note) { return (atomic_load(&service->usual) & note) != 0; }
+
+static void note_whether(wakhurmi_service *service, unsigned note, bool holds) {
+    if (is_noted(service, note) == holds) return;
+    if (holds) {
+        atomic_fetch_or(&service->usual, note);
+    } else {
+        atomic_fetch_and(&service->usual, ~note);
+    }
+}
 
 SELDOM void wake(wakhurmi_service *service) {
     pthread_mutex_lock(&service->mutex);
@@ -103,8 +97,7 @@ typedef struct {
 
 /* Notes whether anybody is queued, and wakes all where calls may go on. The mutex is locked. */
 static void tell_of_queue(wakhurmi_service *service, bool frees) {
-    unsigned usual = service->forks | (service->queue.length > 0 ? SOMEBODY_QUEUED : 0);
-    if (usual != atomic_load(&service->usual)) atomic_store(&service->usual, usual);
+    note_whether(service, SOMEBODY_QUEUED, service->queue.length > 0);
     if (!frees) return;
     atomic_fetch_add(&service->news, 1);
     pthread_cond_broadcast(&service->freed);
@@ -112,7 +105,7 @@ static void tell_of_queue(wakhurmi_service *service, bool frees) {
 
 /* Whether a call is kept back for one that came earlier. */
 static bool is_kept_back(wakhurmi_service *service, sleeper *own) {
-    if (!own->may_be_kept_back || atomic_load(&service->usual) == service->forks || now() >= own->kept_until) return false;
+    if (!own->may_be_kept_back || !is_noted(service, SOMEBODY_QUEUED) || now() >= own->kept_until) return false;
     pthread_mutex_lock(&service->mutex);
     bool found = has_to_let_go_first(&service->queue, &own->call);
     pthread_mutex_unlock(&service->mutex);
@@ -162,7 +155,7 @@ static told sleep_until_done(wakhurmi_service *service, slot *held, request aske
 }
 
 static told sleep_for(wakhurmi_service *service, uint32_t worker, request asked, use before) {
-    atomic_fetch_add(&service->sleepers, 1);
+    atomic_fetch_add(&service->sleepers, SLEEPER);
     sleeper own = {
         .worker = worker,
         .may_be_kept_back = before != HOLDING,
@@ -172,17 +165,26 @@ static told sleep_for(wakhurmi_service *service, uint32_t worker, request asked,
         .call = {.number = atomic_fetch_add(&service->arrivals, 1), .locks = asked.locks, .count = asked.count},
     };
     told said = sleep_until_done(service, &service->workers[worker], asked, &own);
-    atomic_fetch_sub(&service->sleepers, 1);
+    atomic_fetch_sub(&service->sleepers, SLEEPER);
     if (own.is_queued) leave_queue(service, worker);
     return said;
 }
 
+/* How many entries are noted once one was made. What a lease or a section began with is noted at its end, so that most calls that take note
+ * nothing. */
+static int entries_to_note(deed what, use before, uint32_t answer) {
+    if (answer != WAKHURMI_OK) return answer == REFUSED ? 1 : 0;
+    return gives_back(what) ? 2 : before == HOLDING ? 1 : 0;
+}
+
 /* What comes after a first look, where that didn't do the deed or there are sleepers to wake. */
-SELDOM wakhurmi_answer complete(wakhurmi_service *service, uint32_t worker, request asked, use before, told said) {
-    slot *held = &service->workers[worker];
+SELDOM wakhurmi_answer complete(wakhurmi_service *service, uint32_t worker, request asked, use before, uint32_t answer, bool wakes) {
+    told said = {answer, wakes};
+    slot *held = service->workers + worker;
     if (said.answer == AGAIN) said = look_again(held, asked);
     if (said.answer == WAKHURMI_BUSY) said = sleep_for(service, worker, asked, before);
-    if (said.wakes && atomic_load(&service->sleepers) > 0) wake(service);
+    if (said.wakes && has_sleepers(service)) wake(service);
+    note_entries(service, held, entries_to_note(asked.what, before, said.answer));
     let_go(held, said.answer == WAKHURMI_OK ? after_done(asked.what) : before);
     return said.answer == REFUSED ? WAKHURMI_BUSY : (wakhurmi_answer)said.answer;
 }
@@ -196,36 +198,56 @@ static bool strictly_rise(const wakhurmi_service *service, request asked) {
     return asked.count == 0 || asked.locks[asked.count - 1] < service->locks;
 }
 
-/* A call that isn't as most are: somebody is queued, a handle is lent, the call doesn't fit what its worker has, and the like. */
+/* Waits a moment while somebody asks. */
+static void let_ask(wakhurmi_service *service) {
+    for (unsigned looks = 1; looks <= LOOKS; looks++) {
+        if (!is_noted(service, SOMEBODY_ASKS)) return;
+        wait_a_moment(looks);
+    }
+    note_whether(service, SOMEBODY_ASKS, false);
+}
+
+/* A call that isn't as most are: somebody is queued or asks, a handle is lent, the call doesn't fit what its worker has, and the like. */
 SELDOM wakhurmi_answer perform_unusual(wakhurmi_service *service, uint32_t worker, request asked) {
     if (!is_ours(service)) return WAKHURMI_MISUSED;
     if (worker >= service->count) return WAKHURMI_BAD_NUMBER;
-    slot *held = &service->workers[worker];
+    slot *held = service->workers + worker;
+    let_ask(service);
     use before = claim_whatever(held, IN_CALL);
     if (before == IN_CALL) return WAKHURMI_MISUSED;
     bool may_sleep = (asked.what == TAKE && before == EMPTY && strictly_rise(service, asked)) || (asked.what == LEAVE && before == IN_SECTION);
-    bool sleeps = may_sleep && !is_as_usual(service);
+    bool sleeps = may_sleep && is_noted(service, SOMEBODY_QUEUED);
     told said = sleeps ? (told){WAKHURMI_BUSY, false} : look_once(held, asked.what, asked.locks, asked.count);
-    return complete(service, worker, asked, before, said);
+    return complete(service, worker, asked, before, said.answer, said.wakes);
+}
+
+/* Whether a first look did the deed, and nobody sleeps whom it may wake. */
+IN_EACH_CALL bool is_all_done(wakhurmi_service *service, slot *held, deed what, told said) {
+    if (said.answer != WAKHURMI_OK) return false;
+    if (!gives_back(what) && !said.wakes) return true;
+    int left_to_do = atomic_load(&service->sleepers);
+    if (left_to_do == 0) return true;
+    if (left_to_do > 0) return false;
+    if (gives_back(what)) note_entries(service, held, 2);
+    return true;
 }
 
 /* A request is put together where it is needed, which is seldom. */
 IN_EACH_CALL wakhurmi_answer perform(wakhurmi_service *service, uint32_t worker, deed what, const uint32_t *locks, size_t count, moment deadline) {
-    if (!is_as_usual(service) || worker >= service->count || !claim_at_once(&service->workers[worker], before_most(what), IN_CALL)) {
+    if (!is_as_usual(service) || worker >= service->count || !claim_at_once(service->workers + worker, before_most(what), IN_CALL)) {
         return perform_unusual(service, worker, (request){what, locks, count, deadline});
     }
-    slot *held = &service->workers[worker];
+    slot *held = service->workers + worker;
     told said = look_once(held, what, locks, count);
-    if (said.answer != WAKHURMI_OK || (said.wakes && atomic_load(&service->sleepers) > 0)) {
-        return complete(service, worker, (request){what, locks, count, deadline}, before_most(what), said);
+    if (!is_all_done(service, held, what, said)) {
+        return complete(service, worker, (request){what, locks, count, deadline}, before_most(what), said.answer, said.wakes);
     }
     let_go(held, after_done(what));
     return WAKHURMI_OK;
 }
 
-/* The proved library takes no null pointer, not even for no locks and no room. */
+/* The proved library takes no null pointer, not even for no locks. */
 static const uint32_t no_locks[1];
-static char no_room[1];
 
 static bool is_time(const struct timespec *deadline) { return deadline->tv_nsec >= 0 && deadline->tv_nsec < SECOND; }
 
@@ -268,7 +290,7 @@ wakhurmi_answer wakhurmi_stop(wakhurmi_service *service) {
 }
 
 /* Asks by the first handle that nobody has at this moment. AGAIN says that there is none, or that another worker was inside. */
-static uint32_t count_leases(wakhurmi_service *service, uint32_t *leases) {
+static uint32_t ask_once(wakhurmi_service *service, question *ask, void *about) {
     for (uint32_t worker = 0; worker < service->count; worker++) {
         slot *lent = &service->workers[worker];
         use before = atomic_load(&lent->use);
@@ -276,7 +298,7 @@ static uint32_t count_leases(wakhurmi_service *service, uint32_t *leases) {
         if (!is_untouched(before)) continue;
         if (!atomic_compare_exchange_strong(&lent->use, &before, LENT)) continue;
         go_in();
-        uint32_t answer = wakhurmi_c_leases_out(&lent->held, leases);
+        uint32_t answer = ask(&lent->held, about);
         go_out();
         let_go(lent, before);
         return answer;
@@ -284,13 +306,32 @@ static uint32_t count_leases(wakhurmi_service *service, uint32_t *leases) {
     return AGAIN;
 }
 
+/* The same again and again for a moment. */
+static uint32_t ask_for_a_moment(wakhurmi_service *service, question *ask, void *about) {
+    uint32_t answer = ask_once(service, ask, about);
+    for (unsigned looks = 1; answer == AGAIN && looks < LOOKS; looks++) {
+        wait_a_moment(looks);
+        answer = ask_once(service, ask, about);
+    }
+    return answer;
+}
+
+wakhurmi_answer wakhurmi_ask_any(wakhurmi_service *service, question *ask, void *about) {
+    uint32_t answer = ask_for_a_moment(service, ask, about);
+    while (answer == AGAIN) {
+        note_whether(service, SOMEBODY_ASKS, true);
+        answer = ask_for_a_moment(service, ask, about);
+        if (answer == AGAIN) nap();
+    }
+    note_whether(service, SOMEBODY_ASKS, false);
+    return (wakhurmi_answer)answer;
+}
+
+static uint32_t count_leases(handle *worker, void *leases) { return wakhurmi_c_leases_out(worker, leases); }
+
 wakhurmi_answer wakhurmi_leases_out(wakhurmi_service *service, uint32_t *leases) {
     if (!is_ours(service) || leases == NULL) return WAKHURMI_MISUSED;
-    for (unsigned looks = 1;; looks++) {
-        uint32_t answer = count_leases(service, leases);
-        if (answer != AGAIN) return (wakhurmi_answer)answer;
-        wait_a_moment(looks);
-    }
+    return wakhurmi_ask_any(service, count_leases, leases);
 }
 
 /* The value of a handle, which is empty afterwards. */
@@ -316,7 +357,7 @@ static bool has_waiting_tools(wakhurmi_service *service) {
     return false;
 }
 
-wakhurmi_answer wakhurmi_open(uint32_t workers, uint32_t max_leases, uint32_t locks, wakhurmi_service **opened) {
+wakhurmi_answer wakhurmi_open_keeping(uint32_t workers, uint32_t max_leases, uint32_t locks, uint64_t entries, wakhurmi_service **opened) {
     if (opened == NULL) return WAKHURMI_MISUSED;
     if (workers < 1 || workers > MAX_WORKERS) return WAKHURMI_BAD_NUMBER;
     wakhurmi_service *service = aligned_alloc(_Alignof(wakhurmi_service), sizeof *service);
@@ -335,12 +376,17 @@ wakhurmi_answer wakhurmi_open(uint32_t workers, uint32_t max_leases, uint32_t lo
     service->count = workers;
     service->max_leases = max_leases;
     service->locks = locks;
-    service->forks = atomic_load(&forks);
+    service->forks = atomic_load(&wakhurmi_forks);
     atomic_store(&service->usual, service->forks);
     let_go(&service->book, GONE);
     for (uint32_t worker = 0; worker < workers; worker++) service->workers[worker].held = moved(&handles[worker]);
+    wakhurmi_begin_history(service, entries);
     *opened = service;
     return WAKHURMI_OK;
+}
+
+wakhurmi_answer wakhurmi_open(uint32_t workers, uint32_t max_leases, uint32_t locks, wakhurmi_service **opened) {
+    return wakhurmi_open_keeping(workers, max_leases, locks, UINT64_MAX, opened);
 }
 
 /* Has all handles lent, or none, and notes what their uses were. */
@@ -369,44 +415,9 @@ wakhurmi_answer wakhurmi_finish(wakhurmi_service *service) {
     return (wakhurmi_answer)answer;
 }
 
-/* The proved library takes a byte more than a line has room for a moment, so a line is tried in little room first. None is longer than the
- * second. */
-#define SHORT_LINE 1023
-#define LONGEST_LINE 99999
-
-/* A line of the history, where it fits. */
-static uint32_t write_line(handle *book, uint64_t place, char *buffer, size_t size, size_t *line) {
-    size_t little = size < SHORT_LINE ? size : SHORT_LINE;
-    uint32_t answer = wakhurmi_c_history(book, place, (uint8_t *)buffer, little, line);
-    if (answer != WAKHURMI_BAD_NUMBER || little == size) return answer;
-    return wakhurmi_c_history(book, place, (uint8_t *)buffer, size < LONGEST_LINE ? size : LONGEST_LINE, line);
-}
-
-/* The next lines that fit, at least one of them. */
-static uint32_t write_lines(handle *book, uint64_t *place, char *buffer, size_t size, size_t *written) {
-    size_t filled = 0, line = 0;
-    uint32_t answer;
-    while ((answer = write_line(book, *place, buffer + filled, size - filled, &line)) == WAKHURMI_OK && line > 0) {
-        filled += line;
-        ++*place;
-    }
-    if (answer != WAKHURMI_OK && filled == 0) return answer;
-    *written = filled;
-    return WAKHURMI_OK;
-}
-
-wakhurmi_answer wakhurmi_history(wakhurmi_service *service, uint64_t *place, char *buffer, size_t size, size_t *written) {
-    if (!is_ours(service) || place == NULL || written == NULL || (buffer == NULL && size > 0)) return WAKHURMI_MISUSED;
-    if (!claim(&service->book, EMPTY, IN_CALL)) return WAKHURMI_MISUSED;
-    go_in();
-    uint32_t answer = write_lines(&service->book.held, place, size == 0 ? no_room : buffer, size, written);
-    go_out();
-    let_go(&service->book, EMPTY);
-    return (wakhurmi_answer)answer;
-}
-
 void wakhurmi_close(wakhurmi_service *service) {
     if (!is_ours(service)) return;
+    wakhurmi_forget_history(service);
     if (service->book.held.full) wakhurmi_c_close_book(&service->book.held);
     for (uint32_t worker = 0; worker < service->count; worker++) {
         if (service->workers[worker].held.full) wakhurmi_c_close(&service->workers[worker].held);

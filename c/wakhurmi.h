@@ -6,31 +6,38 @@
  *
  * What is proved: all that a call does to the service, in the library that this one calls (crates/wakhurmi_c). By its contracts no
  * more leases are out than may be, no lock has two owners, an answer is the one that the state gives, and the history is lawful,
- * whatever the other threads do. What is not proved: the file wakhurmi.c, which waits and wakes, and the caller's part below. Each
- * comment here says in words what the contract of the proved call says, and what wakhurmi.c adds: waiting, deadlines, and the tests of what
- * a call is given.
+ * whatever the other threads do. What is not proved: the files in C beside this one, which wait and wake, and the caller's part below. Each
+ * comment here says in words what the contract of the proved call says, and what those files add: waiting, deadlines, the tests of what
+ * a call is given, and when the entries of a history are dropped.
  *
  * Misuse that is told. WAKHURMI_MISUSED is the answer to
  *   - a call that doesn't fit what its worker has: nothing, or a lease with or without locks, or a blocking section that it is in;
  *   - a call with a worker while another thread is in a call with it, and wakhurmi_finish while any thread is in a call with a worker;
+ *   - a call with a part while another thread is in a call with it;
  *   - a call after the end of the service, and wakhurmi_history before it. A number that is no worker's answers BAD_NUMBER first;
  *   - a null pointer where one is needed. `locks` may be null where `count` is 0, and `buffer` where `size` is 0;
- *   - a call of the parent's service in the child of a fork, where wakhurmi_close does nothing. The child may open a service of its own. What
- *     vfork or a bare system call makes isn't known as a child.
+ *   - a call of the parent's service or part in the child of a fork, where wakhurmi_close and wakhurmi_close_part do nothing. The child may
+ *     open a service of its own. What vfork or a bare system call makes isn't known as a child.
  *
- * The caller's part, of which nothing is told. A service is one that wakhurmi_open gave and wakhurmi_close hasn't taken, and while it is
- * closed no other call of it runs: a second close can't be told from the first. Pointers are valid for what is read or written there.
- * Numbers may be any: each is tested.
+ * The caller's part, of which nothing is told. A service is one that wakhurmi_open or wakhurmi_open_keeping gave and wakhurmi_close hasn't
+ * taken, and while it is closed no other call of it runs: a second close can't be told from the first. The same holds of a part, which
+ * wakhurmi_take_history gives and wakhurmi_close_part takes. Pointers are valid for what is read or written there. Numbers may be any: each
+ * is tested.
  *
- * Where calls may be made. wakhurmi_stop and wakhurmi_leases_out: in any thread, however many at once, whatever the workers do.
- * wakhurmi_history and wakhurmi_finish: in any thread. The others: in a thread that uses the worker. None in a signal handler, and none in a
- * thread whose cancellation is asynchronous. Else a thread may be cancelled: no call is a cancellation point, so the thread goes on until
- * its call has answered, and waits no less. What its worker has then any thread may hand back, or a cleanup handler.
+ * Where calls may be made. wakhurmi_stop, wakhurmi_leases_out and wakhurmi_take_history: in any thread, however many at once, whatever the
+ * workers do. wakhurmi_history, wakhurmi_finish and the calls with a part: in any thread. The others: in a thread that uses the worker. None
+ * in a signal handler, and none in a thread whose cancellation is asynchronous. Else a thread may be cancelled: no call is a cancellation
+ * point, so the thread goes on until its call has answered, and waits no less. What its worker has then any thread may hand back, or a cleanup
+ * handler.
  *
  * What calls cost. wakhurmi_open: by workers and locks. A call that takes or gives back K locks: by K, and more than in proportion above
  * some hundreds; 4,096 at once take milliseconds. One that is refused for its numbers reads them up to the first that is wrong.
- * wakhurmi_leases_out and wakhurmi_finish: by workers. wakhurmi_stop: constant, and all that wait wake. wakhurmi_history: by the bytes
- * written. wakhurmi_close: by entries, each of which is kept until then.
+ * wakhurmi_leases_out and wakhurmi_finish: by workers. wakhurmi_stop: constant, and all that wait wake. wakhurmi_history and
+ * wakhurmi_part_text: by the bytes written. wakhurmi_take_history: by the entries of an old part, outside the service; inside it is constant.
+ * wakhurmi_close and wakhurmi_close_part: by the entries that are there.
+ *
+ * How much memory a history takes. An entry takes some 60 bytes, and is kept until it is taken, or until wakhurmi_close. A service that lives
+ * long has its history taken now and then, or is opened by wakhurmi_open_keeping: then it keeps the last entries alone, or hardly any.
  *
  * In which order calls get what they wait for. Whoever looks first gets what is free. But a call that has waited for 10 milliseconds, while 4
  * entries or more let something go, is queued. From then on a later call waits for it, though it could be done at once, where both take one
@@ -40,6 +47,7 @@
  *
  * Calls of several threads may meet inside the service. Then all but one pause, and after some 20 microseconds each naps, for 50 or more at a
  * time, until it finds nobody inside. No comment below calls that waiting, no deadline ends it, and nothing bounds how often a call naps.
+ * Where wakhurmi_leases_out or wakhurmi_take_history has looked in vain for some 20 microseconds, calls that begin wait for it, for a nap at most.
  * Where threads did nothing but call, one hand-back in a hundred napped 32 to 42 times or more, and the worst 1,713 times. Where they work
  * between their calls, hardly any call naps. */
 #ifndef WAKHURMI_H
@@ -52,6 +60,7 @@ extern "C" {
 
 struct timespec;
 typedef struct wakhurmi_service wakhurmi_service;
+typedef struct wakhurmi_part wakhurmi_part; /* Entries of a history, which were taken. */
 
 /* After every answer but WAKHURMI_OK the worker has what it had, and what is written by a pointer is as it was. The history is longer
  * by a failed entry where wakhurmi_try_take answers WAKHURMI_BUSY, and else as the other workers leave it. */
@@ -72,6 +81,14 @@ typedef enum {
  * MISUSED     `service` is null.
  * NO_MEMORY */
 wakhurmi_answer wakhurmi_open(uint32_t workers, uint32_t max_leases, uint32_t locks, wakhurmi_service **service);
+
+/* The same for a service that keeps the last `entries` of its history alone, though nobody takes it. Older ones are dropped some thousands at
+ * a time, and 0 says that hardly any are kept: there are at least so many, or all where fewer came, and hardly more than twice as many and
+ * 4,000. UINT64_MAX says that all are kept, as by wakhurmi_open.
+ *
+ * A call that makes an entry may be the one that drops the older. It does so behind its entry and waits for nobody. Its worker's call takes
+ * longer by that: it goes through the entries that it drops. Others don't wait for this. */
+wakhurmi_answer wakhurmi_open_keeping(uint32_t workers, uint32_t max_leases, uint32_t locks, uint64_t entries, wakhurmi_service **service);
 
 /* Takes a lease and these locks in one entry: the locks that the worker doesn't own yet, and the lease where it has none. It waits
  * while another worker owns one of the locks, or the worker has no lease and as many as may be are out; and for calls that are queued, as
@@ -147,6 +164,31 @@ wakhurmi_answer wakhurmi_stop(wakhurmi_service *service);
  * MISUSED     As said above: the service has been ended, say. */
 wakhurmi_answer wakhurmi_leases_out(wakhurmi_service *service, uint32_t *leases);
 
+/* Takes the history so far, while the service runs: the entries that it keeps become those of a part. The service goes on from the state as
+ * it is, and keeps the entries that come. It needs no worker, and waits for none. Where calls of all workers are inside at once it looks again
+ * until one isn't. What it does inside takes constant time, however many entries there are.
+ *
+ * `*part` is null, or a part whose entries are needed no more, of this service or another: it gets the new ones, and its room serves again. So
+ * the memory of a service that lives long doesn't grow where its history is taken now and then, into two parts by turns.
+ *
+ * OK          The part, which isn't null, is written to `part`. It may be without entries. It doesn't need the service.
+ * MISUSED     As said above: the service has been ended, say, or another thread is in a call with the part.
+ * BAD_NUMBER  The history has more than 2^62 entries.
+ * NO_MEMORY   Only where `*part` is null.
+ * After another answer than OK the service has all entries that it had, and an old part has its own or none. */
+wakhurmi_answer wakhurmi_take_history(wakhurmi_service *service, wakhurmi_part **part);
+
+/* Writes the next whole lines of a part's text, as wakhurmi_history does. The texts of a service's parts, in the order in which they were taken,
+ * and then what wakhurmi_history writes are one text: the first part that has entries begins with the head, each entry's line has its number,
+ * and a part has no last line. So written behind each other they can be checked as that text.
+ *
+ * OK, BAD_NUMBER, NO_MEMORY   As wakhurmi_history.
+ * MISUSED     As said above. */
+wakhurmi_answer wakhurmi_part_text(wakhurmi_part *part, uint64_t *place, char *buffer, size_t size, size_t *written);
+
+/* Gives a part's memory back. It takes a null pointer too, and doesn't need the service. */
+void wakhurmi_close_part(wakhurmi_part *part);
+
 /* Ends the service. What workers still have stays theirs in the history.
  *
  * OK          The history can be read from now on, and no worker can do anything.
@@ -156,7 +198,8 @@ wakhurmi_answer wakhurmi_finish(wakhurmi_service *service);
 
 /* Writes the next whole lines of the history's text that fit into the buffer, and how many bytes they have. `place` is 0 at first,
  * and each call moves it on. The text is what `leases run --history` prints: a head of two lines, which are written together, a line
- * for each entry, and a last one.
+ * for each entry, and a last one. Of a service whose history was taken it is what comes behind the parts, and where entries were dropped what
+ * comes behind those: then there is no head, and the text can be read and not checked.
  *
  * `leases check PLAN` checks the text by a plan whose run has as many locks. To a plan's run the last lock is the all-projects lock, which
  * nobody may own while another worker owns a project's. Here it is a lock like the others: a history in which it was owned beside

@@ -1,0 +1,79 @@
+/* What the files of the part in C share: a service, and what they ask of each other. */
+#ifndef WAKHURMI_SERVICE_H
+#define WAKHURMI_SERVICE_H
+#include "wakhurmi.h"
+#include "queue.h"
+#include "slots.h"
+
+/* What a service has put aside of its history, where it keeps the last entries alone. The use of `older` is LENT to who changes any of it. */
+typedef struct {
+    slot older;               /* The entries before those in the book. */
+    handle spare;             /* Room for those that are put aside next. */
+    atomic_ullong counted;    /* How many entries came since the last were put aside. Some aren't counted yet. */
+    unsigned long long most;  /* So many are put aside at once. */
+} kept_entries;
+
+struct wakhurmi_service {
+    pthread_mutex_t mutex;
+    pthread_cond_t freed;
+    atomic_int sleepers; /* See below. */
+    atomic_uint news;
+    atomic_bool stopped;
+    uint32_t count, max_leases, locks;
+    unsigned forks;
+    atomic_uint usual; /* `forks`, with those of the notes below that hold. */
+    atomic_ullong arrivals;
+    queue queue; /* Under the mutex. */
+    slot book;
+    kept_entries kept;
+    slot workers[MAX_WORKERS];
+};
+
+/* Notes: a call is queued; somebody asks by the handle of any worker, and asked in vain. */
+#define SOMEBODY_QUEUED (1u << 31)
+#define SOMEBODY_ASKS (1u << 30)
+
+/* `sleepers` says in one comparison what a call that gave something back has to do yet. Each call that sleeps adds SLEEPER, and a service that
+ * counts its entries begins with COUNTS_ENTRIES. So it is 0 where there is nothing to do, above 0 where somebody sleeps, and below 0 where
+ * nobody does and entries are counted. */
+#define SLEEPER 2
+#define COUNTS_ENTRIES (-1)
+
+/* The names that one file has for another are none of a program's. */
+#pragma GCC visibility push(hidden)
+
+/* How many forks lie between this process and the one that opened the first service. It changes while there is one thread. To ask for the
+ * process's number would be a system call in each call. */
+extern atomic_uint wakhurmi_forks;
+
+/* Asks by the handle of any worker that is in no call, or asleep, until one has been asked and nobody else was inside. */
+typedef uint32_t question(handle *worker, void *about);
+wakhurmi_answer wakhurmi_ask_any(wakhurmi_service *service, question *ask, void *about);
+
+/* Counts the entries that a worker has made since its last were counted. The worker is in a call. */
+void wakhurmi_count_entries(wakhurmi_service *service, slot *own);
+
+/* Begins to keep the history of a service that is being opened, or its last entries. */
+void wakhurmi_begin_history(wakhurmi_service *service, uint64_t entries);
+
+/* Forgets what was put aside. */
+void wakhurmi_forget_history(wakhurmi_service *service);
+
+#pragma GCC visibility pop
+
+static inline bool is_of_this_process(unsigned opened_at) {
+    return opened_at == atomic_load_explicit(&wakhurmi_forks, memory_order_relaxed);
+}
+
+static inline bool is_ours(const wakhurmi_service *service) { return service != NULL && is_of_this_process(service->forks); }
+
+static inline bool has_ended(wakhurmi_service *service) { return atomic_load(&service->workers[0].use) == GONE; }
+
+static inline bool has_sleepers(wakhurmi_service *service) { return atomic_load(&service->sleepers) > 0; }
+
+/* So many entries have been made by this worker's handle since its last were noted. */
+IN_EACH_CALL void note_entries(wakhurmi_service *service, slot *own, int entries) {
+    own->until_counted -= entries;
+    if (own->until_counted < 0) wakhurmi_count_entries(service, own);
+}
+#endif
