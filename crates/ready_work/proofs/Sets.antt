@@ -1,15 +1,14 @@
 -- A set of numbers by its words and their summary.
-use Rattle.std.proofs.Common.{◌≡◌, ◌≢◌, ℕ, ◌+◌, ◌-◌, ◌*◌, ◌/◌, ◌^◌, ◌<◌, ◌≤◌, Bool, true, false, not, ◌||◌, eqb, Option, None, Some, List, length, get_or, w64, refl, sym, ◌∙◌, subst, ap, arith, ◌⊎◌, inl, inr}
+use Rattle.std.proofs.Common.{◌≡◌, ◌≢◌, ℕ, ◌+◌, ◌-◌, ◌*◌, ◌/◌, ◌^◌, ◌<◌, ◌≤◌, Bool, true, false, not, ◌||◌, eqb, Option, None, Some, List, length, get_or, refl, sym, ◌∙◌, subst, ap, arith, ◌⊎◌, inl, inr}
 use Rattle.std.proofs.lemmas.List.{get_or_past}
 use Rattle.std.proofs.lemmas.List.FromFn.{get_or-map-range_with_len, length-map-range_with_len}
 use Rattle.std.proofs.lemmas.Bool.{cases_eq, cases_lt, eq-eqb, eqb-false, eqb-true, ne_eqb, or_cases, or_parts, false_from_ne_true, true≢false}
 use Rattle.std.specs.Prelude.{IfNone}
-use Rattle.std.specs.Int.{trailing_zeros}
-use Rattle.ready_work.specs.WordBits.{bit_in, HasBit, IsInWord}
+use Rattle.ready_work.specs.WordBits.{bit_in, HasBit, IsInWord, Summarizes}
 use Rattle.ready_work.specs.Lowest.{IsFrom, IsLowest, IsNone, NoneBelow}
-use Rattle.ready_work.specs.NumberSet.{Summarizes, set_in}
+use Rattle.ready_work.specs.NumberSet.{set_in}
 use Rattle.ready_work.specs.NumberSetView.{has, room_of, set_where, IsMember}
-use Rattle.ready_work.proofs.Words.{NoneBefore, bit_below_2, bit_of_zero, in_range, all_of_word, lowest_in_next, next_bit, none_in, none_in_all}
+use Rattle.ready_work.proofs.Words.{NoneBefore, bit_below_2, bit_of_zero, in_range, lowest_in_next, none_in, none_in_all}
 
 -- words that are all 0
 pub summarizes_none : (words summary : List ℕ) → length words ≤ 2 ^ 26 → length summary ≤ 2 ^ 26 → length words ≤ 64 * length summary → ((i : ℕ) → get_or words i 0 ≡ 0) → ((i : ℕ) → get_or summary i 0 ≡ 0) → Summarizes words summary
@@ -148,26 +147,15 @@ none_before_filled words summary from i is none least k lt has = at (cases_eq (k
     at (inr ne) = filled ne (cases_eq (get_or words (k / 64) 0) 0)
 
 -- the lowest bit of the next word that the summary has a bit of
-pub lowest_filled : (words summary : List ℕ) (from i : ℕ) → Summarizes words summary → IsNone (IsFrom from (IsInWord words (from / 64))) → IsLowest (IsFrom (from / 64 + 1) (HasBit summary)) i → get_or words i 0 < 2 ^ 64 → IsLowest (IsFrom from (HasBit words)) (i * 64 + trailing_zeros w64 (get_or words i 0))
-lowest_filled words summary from i is none place fits =
+pub lowest_filled : (words summary : List ℕ) (from i n : ℕ) → Summarizes words summary → IsNone (IsFrom from (IsInWord words (from / 64))) → IsLowest (IsFrom (from / 64 + 1) (HasBit summary)) i → IsLowest (IsFrom (i * 64) (HasBit words)) n → IsLowest (IsFrom from (HasBit words)) n
+lowest_filled words summary from i n is none place low =
     let past = place.is.past in
-    let at_0 : i * 64 + 0 ≡ i * 64 = omega arith in
-    lowest_in_next words from i (i * 64 + trailing_zeros w64 (get_or words i 0)) (omega arith) (none_before_filled words summary from i is none place.least)
-    (subst (λ start. IsLowest (IsFrom start (HasBit words)) (i * 64 + trailing_zeros w64 (get_or words i 0))) at_0
-    (next_bit words i 0 (get_or words i 0) (omega arith) (all_of_word (get_or words i 0)) (is.filled i place.is.such) fits))
+    lowest_in_next words from i n (omega arith) (none_before_filled words summary from i is none place.least) low
 
 -- no word has a bit where the summary has no more
 pub none_filled : (words summary : List ℕ) (from : ℕ) → Summarizes words summary → IsNone (IsFrom from (IsInWord words (from / 64))) → IsNone (IsFrom (from / 64 + 1) (HasBit summary)) → IsNone (IsFrom from (HasBit words))
 none_filled words summary from is none no_place =
     none_in_all words from (length words) (omega arith) (none_before_filled words summary from (length words) is none (λ k lt has. no_place.none k has))
-
--- the word of a bit of the summary is there
-pub word_within : (words summary : List ℕ) (i : ℕ) → Summarizes words summary → HasBit summary i → i < length words
-word_within words summary i is bit = at (cases_lt i (length words))
-  where
-    at : (i < length words) ⊎ (length words ≤ i) → i < length words
-    at (inl lt) = lt
-    at (inr past) = absurd (omega (arith, is.filled i bit, get_or_past words i 0 past))
 
 pub number_fits : (words summary : List ℕ) (n : ℕ) → Summarizes words summary → HasBit words n → n < 2 ^ 32
 number_fits words summary n is bit = at (cases_lt (n / 64) (length words))

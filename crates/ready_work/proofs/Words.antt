@@ -1,5 +1,5 @@
 -- Bits of a list of words: one word replaced, and the lowest bit.
-use Rattle.std.proofs.Common.{◌≡◌, ◌≢◌, ℕ, ◌+◌, ◌-◌, ◌*◌, ◌/◌, ◌%◌, ◌^◌, ◌<◌, ◌≤◌, List, length, get_or, set, w64, refl, sym, ◌∙◌, ap, arith, ◌⊎◌, inl, inr}
+use Rattle.std.proofs.Common.{◌≡◌, ◌≢◌, ℕ, ◌+◌, ◌-◌, ◌*◌, ◌/◌, ◌%◌, ◌^◌, ◌<◌, ◌≤◌, List, length, get_or, set, w64, refl, sym, ◌∙◌, subst, ap, arith, ◌⊎◌, inl, inr}
 use Rattle.std.specs.Int.{bit_at, trailing_zeros}
 use Rattle.std.proofs.lemmas.Bool.{cases_eq, cases_lt}
 use Rattle.std.proofs.lemmas.List.{get_or-set_same, get_or-set_other, get_or_past}
@@ -97,8 +97,22 @@ next_bit words place j rest inside parts some fits = record {
         absurd (omega (arith, is.such, ap (λ n. bit_at (get_or words n 0) (k % 64)) here, first.least (k % 64) low, parts.from (k % 64) in_word le))
 
 -- a word is all of itself
-pub all_of_word : (word : ℕ) → IsRestOf word 0 word
+all_of_word : (word : ℕ) → IsRestOf word 0 word
 all_of_word word = record { below = λ i lt. absurd (omega arith); from = λ i within le. refl }
+
+-- the lowest bit of a word that isn't 0
+pub lowest_of_word : (words : List ℕ) (i : ℕ) → 0 < get_or words i 0 → get_or words i 0 < 2 ^ 64 → IsLowest (IsFrom (i * 64) (HasBit words)) (i * 64 + trailing_zeros w64 (get_or words i 0))
+lowest_of_word words i some fits =
+    let at_0 : i * 64 + 0 ≡ i * 64 = omega arith in
+    subst (λ start. IsLowest (IsFrom start (HasBit words)) (i * 64 + trailing_zeros w64 (get_or words i 0))) at_0
+    (next_bit words i 0 (get_or words i 0) (omega arith) (all_of_word (get_or words i 0)) some fits)
+
+pub within_words : (words : List ℕ) (i : ℕ) → 0 < get_or words i 0 → i < length words
+within_words words i some = at (cases_lt i (length words))
+  where
+    at : (i < length words) ⊎ (length words ≤ i) → i < length words
+    at (inl lt) = lt
+    at (inr past) = absurd (omega (arith, some, get_or_past words i 0 past))
 
 -- where the rest of a word is 0 it has no more bit
 pub none_from : (words : List ℕ) (from rest : ℕ) → IsRestOf (get_or words (from / 64) 0) (from % 64) rest → rest ≡ 0 → IsNone (IsFrom from (IsInWord words (from / 64)))

@@ -3,7 +3,7 @@ ghost use Rattle.std.specs.Int.{bit_at};
 ghost use Rattle.std.specs.Prelude.{◌≡◌, ◌≢◌, ◌==◌, ◌||◌, ◌<◌, ◌≤◌, ◌+◌, ◌-◌, ◌*◌, ◌/◌, ◌^◌, ℕ};
 ghost use Rattle.std.specs.Prelude.{IfNone, IfOk, IfSome, length, slice_index_or};
 ghost use Rattle.ready_work.specs.Lowest.{IsFrom, IsLowest, IsNone};
-ghost use Rattle.ready_work.specs.WordBits.{bit_in, HasBit, IsInWord};
+ghost use Rattle.ready_work.specs.WordBits.{bit_in, HasBit, IsInWord, Summarizes};
 
 use std::alloc::{AllocError, Global};
 
@@ -31,8 +31,8 @@ impl Bits {
         self.words.len()
     }
 
-    /// The word at a place.
-    pub(crate) fn word(&self, place: usize) -> u64
+    // The word at a place.
+    fn word(&self, place: usize) -> u64
         requires { place < length self.now.words.items }
         ensures { result ≡ slice_index_or self.now.words.items place 0 }
     {
@@ -62,7 +62,35 @@ impl Bits {
         word == 0 || flipped == 0
     }
 
-    /// The lowest bit from a number on that is set.
+    /// Turns a bit round, and the bit of its word in the summary where the word was 0 or is 0 now.
+    pub(crate) fn flip_with(&mut self, summary: &mut Bits, number: usize)
+        requires within { number / 64 < length self.old.words.items }
+        requires summarized { Summarizes self.old.words.items summary.old.words.items }
+        ensures size { length self.new.words.items ≡ length self.old.words.items }
+        ensures flipped { bit_in self.new.words.items number ≡ 1 - bit_in self.old.words.items number }
+        ensures bits { (k : ℕ) → k ≢ number → bit_in self.new.words.items k ≡ bit_in self.old.words.items k }
+        ensures summarized { Summarizes self.new.words.items summary.new.words.items }
+    {
+        if self.flip(number) {
+            summary.flip(number / 64);
+        }
+    }
+
+    /// The lowest bit from a number on that is set: in the number's own word, or else in the next
+    /// word that the summary has.
+    pub(crate) fn next_by(&self, summary: &Bits, from: usize) -> Option<usize>
+        requires { Summarizes self.now.words.items summary.now.words.items }
+        ensures some { IfSome result (IsLowest (IsFrom from (HasBit self.now.words.items))) }
+        ensures none { IfNone result (IsNone (IsFrom from (HasBit self.now.words.items))) }
+    {
+        if let Some(number) = self.next_in_word(from) {
+            return Some(number);
+        }
+        let place = summary.next_from(from / 64 + 1)?;
+        Some(self.lowest_in(place))
+    }
+
+    /// The lowest bit from a number on that is set, by a look at each word.
     pub(crate) fn next_from(&self, from: usize) -> Option<usize>
         requires { length self.now.words.items ≤ 2 ^ 26 }
         ensures some { IfSome result (IsLowest (IsFrom from (HasBit self.now.words.items))) }
@@ -97,6 +125,15 @@ impl Bits {
             return None;
         }
         Some(place * 64 + rest.trailing_zeros() as usize)
+    }
+
+    /// The lowest bit that is set in a word that isn't 0.
+    pub(crate) fn lowest_in(&self, place: usize) -> usize
+        requires few { length self.now.words.items ≤ 2 ^ 26 }
+        requires filled { 0 < slice_index_or self.now.words.items place 0 }
+        ensures { IsLowest (IsFrom (place * 64) (HasBit self.now.words.items)) result }
+    {
+        place * 64 + self.word(place).trailing_zeros() as usize
     }
 }
 

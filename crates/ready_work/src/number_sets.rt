@@ -15,6 +15,8 @@ pub struct NumberSet {
     members: Bits,
     /// A bit for each word of `members`, set where it isn't 0.
     filled: Bits,
+    /// A bit for each word of `filled`, set where it isn't 0.
+    blocks: Bits,
 }
 
 impl Model for NumberSet {
@@ -36,7 +38,12 @@ impl NumberSet {
     {
         let members = Bits::clear(alloc, len as usize)?;
         let filled = Bits::clear(alloc, members.word_count())?;
-        Ok(NumberSet { members, filled })
+        let blocks = Bits::clear(alloc, filled.word_count())?;
+        Ok(NumberSet {
+            members,
+            filled,
+            blocks,
+        })
     }
 
     /// Makes a number a member, or none.
@@ -60,7 +67,8 @@ impl NumberSet {
         ensures others { (k : ℕ) → k ≢ number → has self.new k ≡ has self.old k }
     {
         if self.members.flip(number as usize) {
-            self.filled.flip(number as usize / 64);
+            let place = number as usize / 64;
+            self.filled.flip_with(&mut self.blocks, place);
         }
     }
 
@@ -113,7 +121,7 @@ impl NumberSet {
         if let Some(number) = self.members.next_in_word(from) {
             return Some(number);
         }
-        let place = self.filled.next_from(from / 64 + 1)?;
-        Some(place * 64 + self.members.word(place).trailing_zeros() as usize)
+        let place = self.filled.next_by(&self.blocks, from / 64 + 1)?;
+        Some(self.members.lowest_in(place))
     }
 }

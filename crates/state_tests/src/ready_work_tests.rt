@@ -178,7 +178,9 @@ fn a_name_that_stands_twice_has_passed_at_once(rt: HostRuntime) -> Result<(), Al
 
 /// A number that is put into a set or taken from it, and then the lowest member, and the lowest
 /// from 64 on.
-static PUTS: [(u32, bool, Option<u32>, Option<u32>); 8] = [
+type Put = (u32, bool, Option<u32>, Option<u32>);
+
+static PUTS: [Put; 8] = [
     (8_191, true, Some(8_191), Some(8_191)),
     (4_096, true, Some(4_096), Some(4_096)),
     (64, true, Some(64), Some(64)),
@@ -189,11 +191,28 @@ static PUTS: [(u32, bool, Option<u32>, Option<u32>); 8] = [
     (8_191, false, None, None),
 ];
 
-fn tells_its_lowest(set: &mut NumberSet) -> bool
-    requires { 8192 ≤ room_of set.old }
+/// At both sides of where a word of each level ends.
+static PUTS_OF_MANY: [Put; 12] = [
+    (4_194_303, true, Some(4_194_303), Some(4_194_303)),
+    (262_144, true, Some(262_144), Some(262_144)),
+    (262_143, true, Some(262_143), Some(262_143)),
+    (4_096, true, Some(4_096), Some(4_096)),
+    (4_095, true, Some(4_095), Some(4_095)),
+    (63, true, Some(63), Some(4_095)),
+    (4_095, false, Some(63), Some(4_096)),
+    (4_096, false, Some(63), Some(262_143)),
+    (63, false, Some(262_143), Some(262_143)),
+    (262_143, false, Some(262_144), Some(262_144)),
+    (262_144, false, Some(4_194_303), Some(4_194_303)),
+    (4_194_303, false, None, None),
+];
+
+// Whether a set of so many numbers tells what it has to behind each put.
+fn tells_its_lowest(set: &mut NumberSet, len: u32, puts: &[Put]) -> bool
+    requires { len ≤ room_of set.old }
 {
-    for (number, is_member, first, next) in &PUTS {
-        if *number >= 8_192 {
+    for (number, is_member, first, next) in puts {
+        if *number >= len {
             return false;
         }
         set.put(*number, *is_member);
@@ -207,6 +226,13 @@ fn tells_its_lowest(set: &mut NumberSet) -> bool
 #[test]
 fn a_set_tells_its_lowest_number(rt: HostRuntime) -> Result<(), AllocError> {
     let mut set = NumberSet::new(rt.alloc(), 8_192)?;
-    assert!(rt; tells_its_lowest(&mut set));
+    assert!(rt; tells_its_lowest(&mut set, 8_192, &PUTS));
+    Ok(())
+}
+
+#[test]
+fn a_large_set_tells_its_lowest_number(rt: HostRuntime) -> Result<(), AllocError> {
+    let mut set = NumberSet::new(rt.alloc(), 4_194_304)?;
+    assert!(rt; tells_its_lowest(&mut set, 4_194_304, &PUTS_OF_MANY));
     Ok(())
 }

@@ -2,3 +2,4 @@ pub mod Stances
 pub mod NextSteps
 pub mod Choices
 pub mod GoingOn
+pub mod NoWork

@@ -12,19 +12,25 @@ flip-requires c =
     let inside = room_set c.self.inside.members.words.items in
     omega arith
 
-pub flip-requires-then-flip : goal.flip-requires-then-flip
-flip-requires-then-flip c =
+pub flip_with-requires-clause-within : goal.flip_with-requires-clause-within
+flip_with-requires-clause-within c =
     let room = c.requires in
     let is = ap room_of c.self.view_is in
     let inside = room_set c.self.inside.members.words.items in
-    let size = c.self.invariant.size in
+    let size = c.self.invariant.members.size in
     omega arith
 
 pub invariant_of-self : goal.invariant_of-self
-invariant_of-self c = filled_flipped c.self.inside.members.words.items c.flip.new.self.words.items c.self.inside.filled.words.items c.flip-then-flip.new.self.words.items c.args.number c.self.invariant c.flip.ensures.size c.flip-then-flip.ensures.size c.flip.ensures.words c.flip.ensures.flipped (sym c.flip.ensures.empty ∙ c.if-flip.true) c.flip-then-flip.ensures.flipped c.flip-then-flip.ensures.bits
+invariant_of-self c = record {
+  members = filled_flipped c.self.inside.members.words.items c.flip.new.self.words.items c.self.inside.filled.words.items c.flip_with.new.self.words.items c.args.number c.self.invariant.members c.flip.ensures.size c.flip_with.ensures.size c.flip.ensures.words c.flip.ensures.flipped (sym c.flip.ensures.empty ∙ c.if-flip.true) c.flip_with.ensures.flipped c.flip_with.ensures.bits;
+  filled = c.flip_with.ensures.summarized;
+}
 
 pub invariant_of-self-else-flip : goal.invariant_of-self-else-flip
-invariant_of-self-else-flip c = still_filled c.self.inside.members.words.items c.flip.new.self.words.items c.self.inside.filled.words.items c.args.number c.self.invariant c.flip.ensures.size c.flip.ensures.words (sym c.flip.ensures.empty ∙ c.if-flip.false)
+invariant_of-self-else-flip c = record {
+  members = still_filled c.self.inside.members.words.items c.flip.new.self.words.items c.self.inside.filled.words.items c.args.number c.self.invariant.members c.flip.ensures.size c.flip.ensures.words (sym c.flip.ensures.empty ∙ c.if-flip.false);
+  filled = c.self.invariant.filled;
+}
 
 same_room : (old new : List ℕ) (set : NumberSetView) → set_in old ≡ set → length new ≡ length old → room_of (set_in new) ≡ room_of set
 same_room old new set is size = room_set new ∙ ap (λ n. 64 * n) size ∙ sym (room_set old) ∙ ap room_of is

@@ -8,4 +8,4 @@ pub returns-then-number-eq4294967295-clause-none : goal.returns-then-number-eq42
 returns-then-number-eq4294967295-clause-none c =
     let last = c.if-number-eq4294967295.true in
     subst (λ (set : NumberSetView). IsNone (IsFrom (c.args.number + 1) (IsMember set))) c.self.view_is
-    (none_unfit c.self.inside.members.words.items c.self.inside.filled.words.items (c.args.number + 1) c.self.invariant (omega arith))
+    (none_unfit c.self.inside.members.words.items c.self.inside.filled.words.items (c.args.number + 1) c.self.invariant.members (omega arith))

@@ -1,5 +1,4 @@
-use Rattle.std.proofs.Common.{◌≡◌, List, ◌<◌, ◌+◌, ◌*◌, ◌^◌, ℕ, w64, sym, subst, arith}
-use Rattle.std.specs.Int.{trailing_zeros}
+use Rattle.std.proofs.Common.{◌≡◌, List, ℕ, subst}
 use Rattle.ready_work.specs.Lowest.{IsFrom, IsLowest, IsNone}
 use Rattle.ready_work.specs.NumberSet.{set_in}
 use Rattle.ready_work.specs.NumberSetView.{NumberSetView, IsMember}
@@ -18,22 +17,17 @@ pub returns-in_err-place-clause-none : goal.returns-in_err-place-clause-none
 returns-in_err-place-clause-none c = if_none (IsNone (IsFrom c.args.from (IsMember c.args.self.now))) c.from_residual.result
     (subst (λ (set : NumberSetView). IsNone (IsFrom c.args.from (IsMember set))) c.self.view_is
     (no_member c.self.inside.members.words.items c.args.from
-    (none_filled c.self.inside.members.words.items c.self.inside.filled.words.items c.args.from c.self.invariant c.in_default.ensures.none c.in_err-place.ensures.none)))
+    (none_filled c.self.inside.members.words.items c.self.inside.filled.words.items c.args.from c.self.invariant.members c.in_default.ensures.none c.in_err-place.ensures.none)))
+
+pub lowest_in-requires-clause-filled : goal.lowest_in-requires-clause-filled
+lowest_in-requires-clause-filled c = c.self.invariant.members.filled c.in_ok-place.place c.in_ok-place.ensures.some.is.such
 
 -- the lowest bit of the next word that isn't 0
-low : (c : goal.After-word) → IsLowest (IsFrom c.args.from (HasBit c.self.inside.members.words.items)) (c.in_ok-place.place * 64 + trailing_zeros w64 c.word.result)
-low c =
-    let fits : c.word.result < 2 ^ 64 = c.word.type_inv in
-    subst (λ (w : ℕ). IsLowest (IsFrom c.args.from (HasBit c.self.inside.members.words.items)) (c.in_ok-place.place * 64 + trailing_zeros w64 w)) (sym c.word.ensures)
-    (lowest_filled c.self.inside.members.words.items c.self.inside.filled.words.items c.args.from c.in_ok-place.place c.self.invariant c.in_default.ensures.none c.in_ok-place.ensures.some (subst (λ (w : ℕ). w < 2 ^ 64) c.word.ensures fits))
-
-pub overflow_add-result : goal.overflow_add-result
-overflow_add-result c =
-    let fits = number_fits c.self.inside.members.words.items c.self.inside.filled.words.items (c.in_ok-place.place * 64 + trailing_zeros w64 c.word.result) c.self.invariant (low c).is.such in
-    omega arith
+low : (c : goal.After-lowest_in) → IsLowest (IsFrom c.args.from (HasBit c.self.inside.members.words.items)) c.lowest_in.result
+low c = lowest_filled c.self.inside.members.words.items c.self.inside.filled.words.items c.args.from c.in_ok-place.place c.lowest_in.result c.self.invariant.members c.in_default.ensures.none c.in_ok-place.ensures.some c.lowest_in.ensures
 
 pub returns-clause-few : goal.returns-clause-few
-returns-clause-few c = number_fits c.self.inside.members.words.items c.self.inside.filled.words.items (c.in_ok-place.place * 64 + trailing_zeros w64 c.word.result) c.self.invariant (low c).is.such
+returns-clause-few c = number_fits c.self.inside.members.words.items c.self.inside.filled.words.items c.lowest_in.result c.self.invariant.members (low c).is.such
 
 pub returns-clause-some : goal.returns-clause-some
-returns-clause-some c = shown c.self.inside.members.words.items c.args.self.now c.args.from (c.in_ok-place.place * 64 + trailing_zeros w64 c.word.result) c.self.view_is (low c)
+returns-clause-some c = shown c.self.inside.members.words.items c.args.self.now c.args.from c.lowest_in.result c.self.view_is (low c)
