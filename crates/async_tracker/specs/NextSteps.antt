@@ -1,8 +1,7 @@
 -- What a worker does next that has nothing: the step of its choice, and what that leaves.
 use mathlib.Core.Logic.{inl, inr}
-use Rattle.std.specs.Prelude.{ℕ, ◌+◌, ◌⊎◌, Bool, Option, Some, None}
+use Rattle.std.specs.Prelude.{ℕ, ◌⊎◌, Bool, Option, Some, None}
 use Rattle.resource_lock.specs.declared.ids.WorkerId.{WorkerId}
-use Rattle.resource_lock.specs.declared.limits.TheConstants.{MAX_ACTIONS_PER_TASK, MAX_UNITS}
 use Rattle.lock_transforms.specs.Allowed.{IsFixedList}
 use Rattle.lock_transforms.specs.declared.entries.Kind.{Kind}
 use Rattle.lock_transforms.specs.declared.entries.Kind.TheVariants as kinds
@@ -28,10 +27,6 @@ kind_of_step (steps.Skip t) = kinds.Skip t
 abbrev pub task_of_step : TaskStep → ℕ
 task_of_step (steps.Start t) = t
 task_of_step (steps.Skip t) = t
-
-abbrev pub most_of_step : TaskStep → ℕ
-most_of_step (steps.Start t) = 3
-most_of_step (steps.Skip t) = 1 + MAX_ACTIONS_PER_TASK + MAX_UNITS
 
 -- a task is skipped or started at once
 abbrev pub step_of_choice : Choice → Option TaskStep

@@ -1,11 +1,13 @@
 //! The start or the skip of a task as one transform.
 ghost use Rattle.std.specs.Prelude.{◌≡◌, ◌≤◌, false, length};
 ghost use Rattle.lock_transforms.specs.Allowed.{IsFixedList};
+ghost use Rattle.lock_transforms.specs.MostChanges.{most_of};
 ghost use Rattle.lock_transforms.specs.Table.{is_enabled};
-ghost use Rattle.async_tracker.specs.NextSteps.{kind_of_step, most_of_step, task_of_step};
+ghost use Rattle.async_tracker.specs.NextSteps.{kind_of_step, task_of_step};
 
 use lock_transforms::kinds::{Skip, Start};
 use lock_transforms::{Disposition, Kind, Tentative, Transform};
+use resource_lock::{Graph, State, WorkerId};
 
 /// Starts or skips a task.
 #[derive(Clone, Copy, Drop)]
@@ -19,7 +21,7 @@ pub enum TaskStep {
 impl Transform for TaskStep {
     ghost kind_of = { kind_of_step };
 
-    ghost most = { most_of_step };
+    ghost most = { λ step g w s. most_of g w s (kind_of_step step) };
 
     ghost makes = { λ s. IsFixedList (kind_of_step s) };
 
@@ -34,10 +36,10 @@ impl Transform for TaskStep {
         }
     }
 
-    fn most_changes(&self) -> u64 {
+    fn most_changes(&self, graph: &Graph, state: &State, worker: WorkerId) -> u64 {
         match *self {
-            TaskStep::Start(task) => Start { task }.most_changes(),
-            TaskStep::Skip(task) => Skip { task }.most_changes(),
+            TaskStep::Start(task) => Start { task }.most_changes(graph, state, worker),
+            TaskStep::Skip(task) => Skip { task }.most_changes(graph, state, worker),
         }
     }
 

@@ -15,7 +15,7 @@ use build_workers::{Hand, Kit, Queue, QueuePlace, RunService};
 use coordination::{Coordination, OpenedWithViews, Pass, openings_are_at_rest};
 use history_views::View;
 use lock_journal::Book;
-use lock_transforms::kinds::MAX_CHANGES;
+use lock_transforms::kinds::room_for_any;
 use plan_reader::{Plan, UnitWork, units_of};
 use resource_lock::Graph;
 use run_watch::{BoardRoom, Watcher};
@@ -76,7 +76,7 @@ fn open_book(alloc: Global, graph: Graph) -> Result<Book, AllocError>
     let changes = CHANGES_A_TASK * tasks
         + CHANGES_AN_ACTION * actions
         + CHANGES_A_UNIT * units
-        + MAX_CHANGES;
+        + room_for_any(&graph);
     Book::opening(alloc, graph, entries, changes)
 }
 

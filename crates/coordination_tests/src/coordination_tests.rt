@@ -18,7 +18,7 @@ use coordination::{
 use lock_journal::{Book, own_changes_say_all};
 use lock_transforms::kinds::{End, Start};
 use lock_transforms::{Disposition, Kind, Tentative, Transform};
-use resource_lock::{LockId, Mark, MarkId, WorkerId};
+use resource_lock::{Graph, LockId, Mark, MarkId, State, WorkerId};
 use state_tests::rows::{Limits, TaskRow};
 use std::alloc::{AllocError, Global};
 use std::process::Abort;
@@ -35,7 +35,7 @@ struct Await {
 impl Transform for Await {
     ghost kind_of = { λ t. kinds.Start t.start.task };
 
-    ghost most = { λ _. 3 };
+    ghost most = { λ _ _ _ _. 3 };
 
     ghost makes = { λ t. IsFixedList (kinds.Start t.start.task) };
 
@@ -47,8 +47,8 @@ impl Transform for Await {
         self.start.kind()
     }
 
-    fn most_changes(&self) -> u64 {
-        self.start.most_changes()
+    fn most_changes(&self, graph: &Graph, state: &State, worker: WorkerId) -> u64 {
+        self.start.most_changes(graph, state, worker)
     }
 
     fn apply(&self, work: &mut Tentative) -> Disposition {
@@ -71,7 +71,7 @@ struct TryStart {
 impl Transform for TryStart {
     ghost kind_of = { λ t. kinds.Start t.wait.start.task };
 
-    ghost most = { λ _. 3 };
+    ghost most = { λ _ _ _ _. 3 };
 
     ghost makes = { λ t. IsFixedList (kinds.Start t.wait.start.task) };
 
@@ -84,8 +84,8 @@ impl Transform for TryStart {
         self.wait.kind()
     }
 
-    fn most_changes(&self) -> u64 {
-        self.wait.most_changes()
+    fn most_changes(&self, graph: &Graph, state: &State, worker: WorkerId) -> u64 {
+        self.wait.most_changes(graph, state, worker)
     }
 
     fn apply(&self, work: &mut Tentative) -> Disposition {
@@ -175,7 +175,7 @@ pub struct FailAtOnce;
 impl Transform for FailAtOnce {
     ghost kind_of = { λ _. kinds.Acquire };
 
-    ghost most = { λ _. 0 };
+    ghost most = { λ _ _ _ _. 0 };
 
     ghost makes = { λ _ _ _ _ _. ⊥ };
 
@@ -187,7 +187,7 @@ impl Transform for FailAtOnce {
         Kind::Acquire
     }
 
-    fn most_changes(&self) -> u64 {
+    fn most_changes(&self, _graph: &Graph, _state: &State, _worker: WorkerId) -> u64 {
         0
     }
 

@@ -1,7 +1,7 @@
 -- What the fields of a `Reached` stand for, and what holds of them.
-use Rattle.std.specs.Prelude.{ℕ, ◌≡◌, ◌≤◌, [], None}
+use Rattle.std.specs.Prelude.{ℕ, ◌≡◌, [], None}
 use Rattle.lock_transforms.specs.TentativeView.{TentativeView}
-use Rattle.lock_transforms.specs.declared.kinds.admitting.TheConstants.{MAX_CHANGES}
+use Rattle.lock_transforms.specs.MostChanges.{IsRoomFor}
 use Rattle.history_check.specs.AdmitterView.{AdmitterView}
 
 -- the state of so many entries, none of which is kept
@@ -11,4 +11,4 @@ reached_view t entries = record { graph = t.graph; state = t.state; entries = en
 -- No change is under way, and there is room for the changes of any entry.
 pub record IsBetweenEntries (t : TentativeView) : Type 0 where
   pub fresh : t.made ≡ []
-  pub room : MAX_CHANGES ≤ t.room
+  pub room : IsRoomFor t.graph t.room

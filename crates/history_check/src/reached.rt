@@ -5,7 +5,7 @@ ghost use Rattle.lock_transforms.specs.Entry.{entry};
 ghost use Rattle.history_check.specs.AdmitterView.{Admits, Refuses};
 
 use crate::admitters::Admitter;
-use lock_transforms::kinds::{MAX_CHANGES, is_kind_of};
+use lock_transforms::kinds::{is_kind_of, room_for_any};
 use lock_transforms::{Kind, Tentative};
 use resource_lock::{Change, Graph, WorkerId};
 use std::alloc::{AllocError, Global};
@@ -52,7 +52,8 @@ impl Admitter for Reached {
     ghost seen = { λ r. r };
 
     fn open(alloc: Global, graph: Graph) -> Result<Reached, AllocError> {
-        let tentative = Tentative::opening(alloc, graph, MAX_CHANGES as usize)?;
+        let room = room_for_any(&graph) as usize;
+        let tentative = Tentative::opening(alloc, graph, room)?;
         Ok(Reached {
             tentative,
             entries: 0,

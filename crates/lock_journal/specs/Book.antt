@@ -1,12 +1,12 @@
 -- What the fields of a `Book` stand for, and what holds of them.
-use Rattle.std.specs.Prelude.{◌≡◌, ◌≤◌, [], All}
+use Rattle.std.specs.Prelude.{◌≡◌, [], All}
 use Rattle.ready_work.specs.ReadyWork.{IsIndexOf}
 use Rattle.lock_transforms.specs.Entry.{replay}
 use Rattle.lock_transforms.specs.Allowed.{Lawful}
 use Rattle.lock_journal.specs.Bounds.{IsFitKind}
 use Rattle.lock_journal.specs.BookView.{BookView, begun}
 use Rattle.lock_journal.specs.declared.books.Book.TheInside.{Inside}
-use Rattle.lock_transforms.specs.declared.kinds.admitting.TheConstants.{MAX_CHANGES}
+use Rattle.lock_transforms.specs.MostChanges.{IsRoomFor}
 
 abbrev pub book_view : Inside → BookView
 book_view b = begun b.tentative b.history
@@ -16,7 +16,7 @@ book_view b = begun b.tentative b.history
 -- state.
 pub record IsSound (b : Inside) : Type 0 where
   pub fresh : b.tentative.made ≡ []
-  pub room : MAX_CHANGES ≤ b.tentative.room
+  pub room : IsRoomFor b.tentative.graph b.tentative.room
   pub units : b.history.units ≡ b.tentative.graph.units
   pub fit : All (λ e. IsFitKind e.kind) b.history.entries
   pub lawful : Lawful b.tentative.graph b.history.entries

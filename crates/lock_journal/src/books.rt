@@ -16,13 +16,13 @@ ghost use Rattle.lock_journal.specs.LastChanges.{last_changes};
 ghost use Rattle.lock_transforms.specs.Allowed.{Lawful};
 ghost use Rattle.lock_journal.specs.Bounds.{IsFitKind};
 ghost use Rattle.lock_journal.specs.Ran.{FinishesIn, FailsIn, IsToRetry};
-ghost use Rattle.lock_transforms.specs.declared.kinds.admitting.TheConstants.{MAX_CHANGES};
 ghost use Rattle.lock_journal.specs.declared.segments.TheConstants.{MOST_BEFORE};
+ghost use Rattle.lock_transforms.specs.MostChanges.{IsRoomFor};
 
 use crate::histories::History;
 use crate::shown_entries::Shown;
 use item_actions::Outcome;
-use lock_transforms::kinds::MAX_CHANGES;
+use lock_transforms::kinds::room_for_any;
 use lock_transforms::{Disposition, Tentative, Transform};
 use ready_work::ReadyWork;
 use resource_lock::{Change, Graph, Mark, MarkId, State, WorkerId};
@@ -74,7 +74,7 @@ impl Book {
         ensures changes { IfOk result (λ book. changes ≤ book.spare_changes) }
     {
         let history = History::opening(alloc, graph.units(), entries, changes)?;
-        let room = changes.max(MAX_CHANGES);
+        let room = changes.max(room_for_any(&graph));
         let tentative = Tentative::opening(alloc, graph, room as usize)?;
         Book::begin(alloc, tentative, history)
     }
@@ -83,7 +83,7 @@ impl Book {
     fn begin(alloc: Global, tentative: Tentative, history: History) -> Result<Book, AllocError>
         requires state { tentative.state ≡ opening_of tentative.graph }
         requires made { tentative.made ≡ [] }
-        requires room { MAX_CHANGES ≤ tentative.room }
+        requires room { IsRoomFor tentative.graph tentative.room }
         requires none { history.entries ≡ [] }
         requires units { history.units ≡ tentative.graph.units }
         ensures { IfOk result (λ book. book ≡ begun tentative history) }
@@ -248,13 +248,14 @@ impl Book {
         ensures retry { result ≡ Ok Disposition.Retry
             → IsToRetry (T.retries_on transform.now) self.old self.new worker }
         ensures no_memory { OnErr result (SameBook self.old self.new) }
-        ensures full { OnErr result ((self.old.spare_entries < 1) ⊎ (self.old.spare_changes < T.most transform.now)) }
+        ensures full { OnErr result ((self.old.spare_entries < 1) ⊎ (self.old.spare_changes < T.most transform.now self.old.graph worker self.old.state)) }
         ensures spare_entries { self.old.spare_entries ≤ self.new.spare_entries + 1 }
-        ensures spare_changes { self.old.spare_changes ≤ self.new.spare_changes + T.most transform.now }
+        ensures spare_changes { self.old.spare_changes ≤ self.new.spare_changes + T.most transform.now self.old.graph worker self.old.state }
     {
         // Of the length, that no more entries were given away than there are.
         let _ = self.len();
-        self.reserve(1, transform.most_changes())?;
+        let most = transform.most_changes(self.graph(), self.state(), worker);
+        self.reserve(1, most)?;
         let disposition = self.tentative.attempt(worker, transform);
         match disposition {
             Disposition::Finished => {

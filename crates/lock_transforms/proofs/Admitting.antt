@@ -110,7 +110,7 @@ acquire_from t cs sound met list within = record {
   condition = met;
   list = list;
   named = within_named t.state 0 (holding_of t.state t.worker).lease cs list (ap (λ n. list_all (takes_within n) cs) sound.belongs.locks ∙ within);
-  few = omega (arith, sound.fits.few_locks, few_acquired t.graph.locks 0 (holding_of t.state t.worker).lease cs (omega arith) list within);
+  few = omega (arith, few_acquired t.graph.locks 0 (holding_of t.state t.worker).lease cs (omega arith) list within);
 }
 
 -- it isn't allowed otherwise

@@ -1,14 +1,13 @@
 -- The locks that a worker owns, given back one after another.
-use Rattle.std.proofs.Common.{◌≡◌, ◌≢◌, ℕ, ◌<◌, ◌≤◌, ◌+◌, length, take, drop, List, [], ◌∷◌, ◌++◌, map, Bool, true, false, ◌&&◌, get_or, cond, refl, sym, ◌∙◌, ap, subst, arith, Option, None, inl, inr}
-use Rattle.std.specs.List.{AllByRecursion, slice_index_or}
+use Rattle.std.proofs.Common.{◌≡◌, ◌≢◌, ℕ, ◌<◌, ◌≤◌, ◌+◌, ◌*◌, length, take, drop, List, [], ◌∷◌, ◌++◌, map, Bool, true, false, ◌&&◌, get_or, cond, refl, sym, ◌∙◌, ap, subst, arith, Option, None, inl, inr}
+use Rattle.std.specs.List.{AllByRecursion, count_by, slice_index_or}
 use Rattle.std.proofs.Math.Bool.{and-true}
 use Rattle.std.proofs.lemmas.Bool.{and_from, cases_Bool}
-use Rattle.std.proofs.lemmas.List.{length-append, length-map, length-take-le, map-append, take_all, take_more, take-append-drop, drop_more, length-drop, drop-set-lt, get_or-set_other}
+use Rattle.std.proofs.lemmas.List.{length-append, length-take-le, map-append, take_all, take_more, take-append-drop, drop_more, length-drop, drop-set-lt, get_or-set_other}
+use Rattle.std.proofs.lemmas.List.Sums.{sum_by-cons}
 use Rattle.resource_lock.specs.StateView.{StateView, Holding, empty_holding, holding_of, owner_of, is_owner, owns}
 use Rattle.resource_lock.specs.Change.{make, make_all, can_all}
 use Rattle.resource_lock.specs.GraphView.{GraphView}
-use Rattle.resource_lock.specs.Fits.{Fits}
-use Rattle.resource_lock.specs.Shape.{BelongsTo}
 use Rattle.resource_lock.proofs.lemmas.Runs.{can_all-append}
 use Rattle.resource_lock.specs.declared.ids.LockId.{LockId}
 use Rattle.resource_lock.specs.declared.ids.WorkerId.{WorkerId}
@@ -54,6 +53,18 @@ few_owned_from n (o ∷ os) w = elim (is_owner o w) as (λ b. length (cond b (lo
   | true ↦ omega (arith, few_owned_from (n + 1) os w)
   | false ↦ omega (arith, few_owned_from (n + 1) os w)
 ]
+
+-- they are those that are counted
+length-owned_from : (n : ℕ) (os : List (Option WorkerId)) (w : WorkerId) → length (owned_from n os w) ≡ count_by (λ o. is_owner o w) os
+length-owned_from n [] w = refl
+length-owned_from n (o ∷ os) w =
+    (elim (is_owner o w) as (λ b. length (cond b (lock_at n ∷ owned_from (n + 1) os w) (owned_from (n + 1) os w)) ≡ cond b 1 0 + count_by (λ o. is_owner o w) os) [
+      | true ↦ omega (arith, length-owned_from (n + 1) os w)
+      | false ↦ omega (arith, length-owned_from (n + 1) os w)
+    ]) ∙ sym (sum_by-cons (λ o. cond (is_owner o w) 1 0) o os)
+
+pub length-owned : (s : StateView) (w : WorkerId) → length (owned s w) ≡ count_by (λ o. is_owner o w) s.owners
+length-owned s w = length-owned_from 0 s.owners w
 
 pub few_owned : (s : StateView) (w : WorkerId) → length (owned s w) ≤ length s.owners
 few_owned s w = few_owned_from 0 s.owners w
@@ -168,15 +179,8 @@ then_give {a} {b} {c} front room is =
     ∙ ap (λ (hs : List Holding). slice_index_or hs a.worker.0 empty_holding) (holdings_unlocked a.state a.worker (owned a.state a.worker)) in
     makes_then front (subst (λ (h : Holding). Makes b c (cond h.lease (Give ∷ []) []) true) holding (subst (λ (x : TentativeView). Makes b x (lease_given b.state b.worker) true) (sym is) (makes_give b room)))
 
-few_given : (s : StateView) (w : WorkerId) → length (lease_given s w) ≤ 1
+pub few_given : (s : StateView) (w : WorkerId) → length (lease_given s w) ≤ 1
 few_given s w = elim (holding_of s w).lease as (λ b. length (cond b (Give ∷ []) []) ≤ 1) [ true ↦ omega arith | false ↦ omega arith ]
-
--- a graph that fits has at most 4,096 locks
-pub few_locks_owned : {g : GraphView} {s : StateView} (w : WorkerId) → Fits g → BelongsTo g s → length (owned s w) ≤ 4096
-few_locks_owned {s = s} w fits belongs = omega (arith, few_owned s w, belongs.locks, fits.few_locks)
-
-pub few_handed_back : {g : GraphView} {s : StateView} (w : WorkerId) → Fits g → BelongsTo g s → length (map Unlock (owned s w) ++ lease_given s w) ≤ 4097
-few_handed_back {s = s} w fits belongs = omega (arith, few_locks_owned w fits belongs, few_given s w, length-append (map Unlock (owned s w)) (lease_given s w), length-map (owned s w) Unlock)
 
 -- A worker can give back all that it owns.
 pub rest_of : (xs os : List (Option WorkerId)) (o : Option WorkerId) (k : ℕ) → drop k xs ≡ o ∷ os → (drop (k + 1) xs ≡ os) × (get_or xs k None ≡ o)
@@ -212,8 +216,8 @@ pub not_to_hand_back : (g : GraphView) (s : StateView) (w : WorkerId) → is_ena
 not_to_hand_back g s w is = sym (and-true (condition g s w kinds.HandBack)) ∙ ap (λ b. condition g s w kinds.HandBack && b) (sym (can_hand_back s w)) ∙ is
 
 -- all locks given back and parked, and what comes before and behind
-pub few_set_down : {g : GraphView} {s : StateView} (w : WorkerId) → Fits g → BelongsTo g s → length (set_down s w) ≤ 8194
-few_set_down {s = s} w fits belongs = omega (arith, few_locks_owned w fits belongs, length-parked_locks (owned s w), length-append (parked_locks (owned s w)) (Enter ∷ []))
+pub length-set_down : (s : StateView) (w : WorkerId) → length (set_down s w) ≡ 2 + 2 * length (owned s w)
+length-set_down s w = omega (arith, length-parked_locks (owned s w), length-append (parked_locks (owned s w)) (Enter ∷ []))
 
 -- the same locks, once the lease was given back
 pub owned_without : {a b : TentativeView} → Makes a b (Give ∷ []) true → owned b.state b.worker ≡ owned a.state a.worker

@@ -7,5 +7,6 @@ pub mod Taken
 pub mod Freed
 pub mod TakenUp
 pub mod SetDown
+pub mod Most
 mod Admitting
 mod SameChanges

@@ -5,8 +5,8 @@ use Rattle.std.proofs.lemmas.List.{append_assoc, append-nil, length-append, get_
 use Rattle.std.proofs.lemmas.List.FromFn.{length-map-range_with_len}
 use Rattle.resource_lock.specs.StateView.{StateView, mark_of}
 use Rattle.resource_lock.specs.Change.{same_mark, make, make_all}
-use Rattle.resource_lock.specs.GraphView.{GraphView, task_of, action_of}
-use Rattle.resource_lock.specs.Ranges.{units_in, actions_of, units_of}
+use Rattle.resource_lock.specs.GraphView.{GraphView, action_of}
+use Rattle.resource_lock.specs.Ranges.{units_in, units_of}
 use Rattle.resource_lock.specs.Fits.{Fits}
 use Rattle.resource_lock.specs.declared.ids.WorkerId.{WorkerId}
 use Rattle.resource_lock.specs.declared.marks.Mark.{Mark}
@@ -18,7 +18,7 @@ use Rattle.lock_transforms.specs.TentativeView.{TentativeView}
 use Rattle.lock_transforms.specs.Making.{Makes}
 use Rattle.lock_transforms.specs.Table.{moved_units, skipped_action, skipped_actions, skipped_waiting}
 use Rattle.lock_transforms.proofs.Makings.{Joins}
-use Rattle.lock_transforms.proofs.lemmas.Within.{IsTaskOf, task_fits, units_within, next_units}
+use Rattle.lock_transforms.proofs.lemmas.Within.{units_meet}
 
 pub skipped_actions-append : (g : GraphView) → Joins (skipped_actions g)
 skipped_actions-append g [] bs = refl
@@ -36,32 +36,41 @@ length-skipped_action g a =
     let units : length (moved_units (units_of g a) Waiting Skipped) ≡ units_in (action_of g a) = length-map-range_with_len (λ u. Move (UnitOf u) Waiting Skipped) (action_of g a).first_unit (units_in (action_of g a)) in
     omega arith
 
--- those that skip actions one behind the other, the first unit of which is at the start or later
-few_skipped_from : {g : GraphView} → Fits g → (first n start : ℕ) → first + n ≤ length g.actions → start ≤ g.units → (0 < n → start ≤ (action_of g first).first_unit) → length (skipped_actions g (range_with_len first n)) + start ≤ n + g.units
-few_skipped_from {g} fits first zero start within low behind = omega arith
-few_skipped_from {g} fits first (suc n) start within low behind =
-    let stop : (action_of g first).first_unit + units_in (action_of g first) ≤ g.units = units_within fits first (omega arith) in
-    let rest : length (skipped_actions g (range_with_len (first + 1) n)) + ((action_of g first).first_unit + units_in (action_of g first)) ≤ n + g.units = few_skipped_from fits (first + 1) n ((action_of g first).first_unit + units_in (action_of g first)) (omega arith) stop (λ some. next_units fits first (omega arith)) in
-    let begins : start ≤ (action_of g first).first_unit = behind (omega arith) in
-    let all : length (skipped_actions g (range_with_len first (suc n))) ≡ length (skipped_action g first) + length (skipped_actions g (range_with_len (first + 1) n)) = length-append (skipped_action g first) (skipped_actions g (range_with_len (first + 1) n)) in
-    omega (arith, length-skipped_action g first)
+-- where the units of an action end
+abbrev pub units_end : GraphView → ℕ → ℕ
+units_end g a = (action_of g a).first_unit + units_in (action_of g a)
 
--- those that skip the actions of a task
-pub few_skipped : {g : GraphView} → Fits g → (t : ℕ) → t < length g.tasks → length (skipped_actions g (actions_of g t)) ≤ 8200
-few_skipped {g} fits t within =
-    let task : IsTaskOf g (task_of g t) = task_fits fits t within in
-    let few : length (skipped_actions g (actions_of g t)) + 0 ≤ (task_of g t).actions + g.units = few_skipped_from fits (task_of g t).first_action (task_of g t).actions 0 task.actions (omega arith) (λ some. omega arith) in
-    omega (arith, fits.few_units, task.few)
+-- those that skip actions one behind the other: one for each action, and one for each unit from the first to the last
+skipped_from : {g : GraphView} → Fits g → (first n : ℕ) → first + n < length g.actions
+    → length (skipped_actions g (range_with_len first (suc n))) + (action_of g first).first_unit ≡ suc n + units_end g (first + n)
+skipped_from {g} fits first zero within =
+    let last : first ≡ first + zero = omega arith in
+    omega (arith, length-skipped_action g first, length-append (skipped_action g first) [], ap (units_end g) last)
+skipped_from {g} fits first (suc n) within =
+    let same : first + 1 + n ≡ first + suc n = omega arith in
+    let rest : length (skipped_actions g (range_with_len (first + 1) (suc n))) + (action_of g (first + 1)).first_unit ≡ suc n + units_end g (first + 1 + n) = skipped_from fits (first + 1) n (omega arith) in
+    let all : length (skipped_actions g (range_with_len first (suc (suc n)))) ≡ length (skipped_action g first) + length (skipped_actions g (range_with_len (first + 1) (suc n))) = length-append (skipped_action g first) (skipped_actions g (range_with_len (first + 1) (suc n))) in
+    omega (arith, length-skipped_action g first, units_meet fits first (omega arith), ap (units_end g) same)
 
-fewer_waiting : (g : GraphView) (s : StateView) (as' : List ℕ) → length (skipped_waiting g s as') ≤ length (skipped_actions g as')
+pub skipped_by_units : {g : GraphView} → Fits g → (first count : ℕ) → 0 < count → first + count ≤ length g.actions
+    → length (skipped_actions g (range_with_len first count)) + (action_of g first).first_unit ≡ count + units_end g (first + (count - 1))
+skipped_by_units {g} fits first zero some within = absurd (omega (arith, some))
+skipped_by_units {g} fits first (suc n) some within =
+    let last : first + n ≡ first + (suc n - 1) = omega arith in
+    omega (arith, skipped_from fits first n (omega (arith, within)), ap (units_end g) last)
+
+-- at least one for each action
+pub each_skipped : (g : GraphView) (first n : ℕ) → n ≤ length (skipped_actions g (range_with_len first n))
+each_skipped g first zero = omega arith
+each_skipped g first (suc n) =
+    omega (arith, each_skipped g (first + 1) n, length-skipped_action g first, length-append (skipped_action g first) (skipped_actions g (range_with_len (first + 1) n)))
+
+pub fewer_waiting : (g : GraphView) (s : StateView) (as' : List ℕ) → length (skipped_waiting g s as') ≤ length (skipped_actions g as')
 fewer_waiting g s [] = omega arith
 fewer_waiting g s (a ∷ as') = elim (same_mark (mark_of s (ActionOf a)) Waiting) as (λ b. length (cond b (skipped_action g a) [] ++ skipped_waiting g s as') ≤ length (skipped_action g a ++ skipped_actions g as')) [
   | true ↦ omega (arith, fewer_waiting g s as', length-append (skipped_action g a) (skipped_waiting g s as'), length-append (skipped_action g a) (skipped_actions g as'))
   | false ↦ omega (arith, fewer_waiting g s as', length-append (skipped_action g a) (skipped_actions g as'))
 ]
-
-pub few_waiting : {g : GraphView} → Fits g → (s : StateView) (t : ℕ) → t < length g.tasks → length (skipped_waiting g s (actions_of g t)) ≤ 8200
-few_waiting {g} fits s t within = omega (arith, few_skipped fits t within, fewer_waiting g s (actions_of g t))
 
 -- a change of the mark of an action other than this one, or of no action's
 abbrev Elsewhere : ℕ → Change → Type 0

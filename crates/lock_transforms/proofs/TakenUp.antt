@@ -1,5 +1,5 @@
 -- Parked locks taken again.
-use Rattle.std.proofs.Common.{◌≡◌, ℕ, ◌<◌, ◌≤◌, ◌+◌, ◌-◌, length, take, drop, get_or, reverse, List, [], ◌∷◌, ◌++◌, Bool, true, false, eqb, cond, refl, sym, ◌∙◌, ap, subst, arith}
+use Rattle.std.proofs.Common.{◌≡◌, ℕ, ◌<◌, ◌≤◌, ◌+◌, ◌*◌, ◌-◌, length, take, drop, get_or, reverse, List, [], ◌∷◌, ◌++◌, Bool, true, false, eqb, cond, refl, sym, ◌∙◌, ap, subst, arith}
 use Rattle.std.proofs.lemmas.List.{get_or-reverse, get_or-take, length-append, length-reverse, length-take-le, take_all, take-append-drop, take_more, take-take}
 use Rattle.std.proofs.lemmas.List.Folds.{list_any_at}
 use Rattle.std.proofs.lemmas.Bool.{and_parts, eq-eqb}
@@ -8,6 +8,8 @@ use Rattle.resource_lock.proofs.lemmas.Undo.{holding_now}
 use Rattle.resource_lock.proofs.lemmas.Runs.{worker_along, same_shape-make}
 use Rattle.resource_lock.specs.StateView.{StateView, Holding, holding_of, stands_in, IsLockOf, IsWorkerOf}
 use Rattle.resource_lock.specs.Good.{Good}
+use Rattle.resource_lock.specs.GraphView.{GraphView}
+use Rattle.resource_lock.specs.Shape.{BelongsTo}
 use Rattle.resource_lock.specs.Change.{make, make_all, without_last, holding_after}
 use Rattle.resource_lock.specs.declared.ids.LockId.{LockId}
 use Rattle.resource_lock.specs.declared.ids.WorkerId.{WorkerId}
@@ -115,12 +117,14 @@ all_parked {a} {b} n past front = subst (λ (ls : List LockId). Makes a b (taken
 pub room_parked : {a b : TentativeView} (i : ℕ) → i < length (holding_of a.state a.worker).parked → Makes a b (taken_again (take i (last_first a))) true → length (taken_again (last_first a)) ≤ a.room → 2 ≤ b.room
 room_parked {a} {b} i within front room = omega (arith, front.room, front.few, length-taken_again (take i (last_first a)), length-taken_again (last_first a), length-reverse (holding_of a.state a.worker).parked, length-take-le i (last_first a) (omega (arith, length-reverse (holding_of a.state a.worker).parked)))
 
--- a worker has parked at most 4,096 locks
-pub few_parked : {t : TentativeView} → IsSoundTentative t → length (holding_of t.state t.worker).parked ≤ 4096
-few_parked {t} sound = omega (arith, length-le_from_once (length t.state.owners) (holding_of t.state t.worker).parked (sound.good.parked_once t.worker) (sound.good.parked_locks t.worker), sound.belongs.locks, sound.fits.few_locks)
+-- a worker has parked at most as many locks as the graph has
+pub few_parked : {g : GraphView} {s : StateView} → BelongsTo g s → Good s → (w : WorkerId) → length (holding_of s w).parked ≤ g.locks
+few_parked {s = s} belongs good w = omega (arith, length-le_from_once (length s.owners) (holding_of s w).parked (good.parked_once w) (good.parked_locks w), belongs.locks)
 
-pub few_taken_up : {t : TentativeView} → IsSoundTentative t → length (taken_up t.state t.worker) ≤ 8194
-few_taken_up {t} sound = omega (arith, few_parked sound, length-taken_again (last_first t), length-reverse (holding_of t.state t.worker).parked, length-append (taken_again (last_first t)) (Take ∷ []))
+pub length-taken_up : (s : StateView) (w : WorkerId) → length (taken_up s w) ≡ 2 + 2 * length (holding_of s w).parked
+length-taken_up s w =
+    let again : List LockId = reverse (holding_of s w).parked in
+    omega (arith, length-taken_again again, length-reverse (holding_of s w).parked, length-append (taken_again again) (Take ∷ []))
 
 is_worker : {t : TentativeView} → IsSoundTentative t → IsWorkerOf t.state t.worker
 is_worker sound = omega (arith, sound.worker, sound.belongs.workers)
@@ -135,15 +139,15 @@ after_leave {a} {b} sound left =
 same_parked : {a b : TentativeView} → IsSoundTentative a → Makes a b (Leave ∷ []) true → last_first b ≡ last_first a
 same_parked sound left = ap (λ (h : Holding). reverse h.parked) (after_leave sound left)
 
-pub room_after_leave : {a b : TentativeView} → IsSoundTentative a → 8194 ≤ a.room → Makes a b (Leave ∷ []) true → length (taken_again (last_first b)) ≤ b.room
-room_after_leave {a} {b} sound room left = omega (arith, few_parked sound, length-taken_again (last_first b), ap length (same_parked sound left), length-reverse (holding_of a.state a.worker).parked, left.room, left.few)
+pub room_after_leave : {a b : TentativeView} → IsSoundTentative a → 2 + 2 * length (holding_of a.state a.worker).parked ≤ a.room → Makes a b (Leave ∷ []) true → length (taken_again (last_first b)) ≤ b.room
+room_after_leave {a} {b} sound room left = omega (arith, length-taken_again (last_first b), ap length (same_parked sound left), length-reverse (holding_of a.state a.worker).parked, left.room, left.few)
 
 -- what left, and took the parked locks again
 pub parked_too : {a b c : TentativeView} {all : Bool} → IsSoundTentative a → Makes a b (Leave ∷ []) true → Makes b c (taken_again (last_first b)) all → Makes a c (Leave ∷ taken_again (last_first a)) all
 parked_too {b = b} {c} {all} sound left taken = makes_then left (subst (λ (ls : List LockId). Makes b c (taken_again ls) all) (same_parked sound left) taken)
 
-pub room_for_lease : {a c : TentativeView} → IsSoundTentative a → 8194 ≤ a.room → Makes a c (Leave ∷ taken_again (last_first a)) true → 1 ≤ c.room
-room_for_lease {a} sound room taken = omega (arith, few_parked sound, length-taken_again (last_first a), length-reverse (holding_of a.state a.worker).parked, taken.room, taken.few)
+pub room_for_lease : {a c : TentativeView} → IsSoundTentative a → 2 + 2 * length (holding_of a.state a.worker).parked ≤ a.room → Makes a c (Leave ∷ taken_again (last_first a)) true → 1 ≤ c.room
+room_for_lease {a} sound room taken = omega (arith, length-taken_again (last_first a), length-reverse (holding_of a.state a.worker).parked, taken.room, taken.few)
 
 -- it isn't blocked then, and has no lease
 pub holding_then : {a b c : TentativeView} → IsSoundTentative a → Makes a b (Leave ∷ []) true → Makes b c (taken_again (last_first b)) true → ((holding_of c.state c.worker).blocked ≡ false) × ((holding_of c.state c.worker).lease ≡ false)

@@ -1,4 +1,5 @@
 pub mod Disabled
 pub mod Locking
+pub mod Rooms
 pub mod Waits
 pub mod Within

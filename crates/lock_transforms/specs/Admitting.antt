@@ -5,7 +5,6 @@ use Rattle.resource_lock.specs.Change.{NamesOnly}
 use Rattle.resource_lock.specs.StateView.{holding_of}
 use Rattle.resource_lock.specs.declared.changes.Change.{Change}
 use Rattle.resource_lock.specs.declared.changes.Change.TheVariants.{Lock}
-use Rattle.resource_lock.specs.declared.limits.TheConstants.{MAX_LOCKS}
 use Rattle.lock_transforms.specs.Entry.{entry}
 use Rattle.lock_transforms.specs.Allowed.{Allowed}
 use Rattle.lock_transforms.specs.TentativeView.{TentativeView, Worked}
@@ -31,4 +30,4 @@ pub record IsAcquire (t : TentativeView) (cs : List Change) : Type 0 where
   pub condition : condition t.graph t.state t.worker Acquire ≡ true
   pub list : acquires 0 (holding_of t.state t.worker).lease cs ≡ true
   pub named : AllByRecursion (NamesOnly t.state) cs
-  pub few : length cs ≤ MAX_LOCKS + 1
+  pub few : length cs ≤ t.graph.locks + 1

@@ -1,5 +1,6 @@
 pub mod Entry
 pub mod Table
+pub mod MostChanges
 pub mod Allowed
 pub mod TentativeView
 pub mod Tentative

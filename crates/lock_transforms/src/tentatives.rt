@@ -9,10 +9,10 @@ ghost use Rattle.resource_lock.specs.Shape.{BelongsTo};
 ghost use Rattle.resource_lock.specs.StateView.{StateView, IsLockOf, holding_of, has_parked};
 ghost use Rattle.resource_lock.specs.Trying.{can_own, can_lease};
 ghost use Rattle.lock_transforms.specs.Allowed.{Allowed, IsKindOf};
+ghost use Rattle.lock_transforms.specs.MostChanges.{IsRoomFor};
 ghost use Rattle.lock_transforms.specs.TentativeView.{SameTentative, noted, settled, taken_back, with_lease, with_lock, with_state, without_lease};
 ghost use Rattle.lock_transforms.specs.TentativeView.{without_lock};
 ghost use Rattle.lock_transforms.specs.Entry.{entry};
-ghost use Rattle.lock_transforms.specs.declared.kinds.admitting.TheConstants.{MAX_CHANGES};
 
 use crate::entries::Kind;
 use crate::kinds::admitting::make_given;
@@ -184,10 +184,10 @@ impl Tentative {
     pub fn attempt<T: Transform>(&mut self, worker: WorkerId, transform: &T) -> Disposition
         requires worker_in_range { worker.0 < self.old.graph.workers }
         requires fresh { self.old.made ≡ [] }
-        requires room { T.most transform.now ≤ self.old.room }
+        requires room { T.most transform.now self.old.graph worker self.old.state ≤ self.old.room }
         ensures graph { self.new.graph ≡ self.old.graph }
         ensures room { self.new.room + length self.new.made ≡ self.old.room }
-        ensures few { length self.new.made ≤ T.most transform.now }
+        ensures few { length self.new.made ≤ T.most transform.now self.old.graph worker self.old.state }
         ensures made { result ≡ Disposition.Finished
             → self.new.state ≡ make_all self.old.state worker self.new.made }
         ensures allowed { result ≡ Disposition.Finished
@@ -216,7 +216,7 @@ impl Tentative {
     pub fn admit(&mut self, worker: WorkerId, kind: Kind, changes: &[Change], keep: bool) -> bool
         requires worker_in_range { worker.0 < self.old.graph.workers }
         requires fresh { self.old.made ≡ [] }
-        requires room { MAX_CHANGES ≤ self.old.room }
+        requires room { IsRoomFor self.old.graph self.old.room }
         ensures graph { self.new.graph ≡ self.old.graph }
         ensures room { self.new.room + length self.new.made ≡ self.old.room }
         ensures allowed { result ≡ true → Allowed self.old.graph self.old.state (entry worker kind (Some changes.now)) }

@@ -1,5 +1,6 @@
 //! What a transform is, and how it ends.
-ghost use Rattle.std.specs.Prelude.{◌≡◌, ◌≢◌, ◌≤◌, ◌⊎◌, ℕ, List, [], length, Some};
+ghost use Rattle.std.specs.Prelude.{◌≡◌, ◌≢◌, ◌<◌, ◌≤◌, ◌⊎◌, ℕ, List, [], length, Some};
+ghost use Rattle.resource_lock.specs.Shape.{BelongsTo};
 ghost use Rattle.resource_lock.specs.StateView.{StateView};
 ghost use Rattle.resource_lock.specs.GraphView.{GraphView};
 ghost use Rattle.resource_lock.specs.declared.changes.Change.{Change};
@@ -12,6 +13,7 @@ ghost use Rattle.lock_transforms.specs.GoingOn.{WaitsForNews};
 
 use crate::entries::Kind;
 use crate::tentatives::Tentative;
+use resource_lock::{Graph, State, WorkerId};
 
 /// How a transform ended.
 #[derive(Clone, Copy)]
@@ -29,8 +31,8 @@ pub trait Transform {
     /// What its entries are for.
     ghost kind_of: { Self → Kind };
 
-    /// At most how many changes it makes.
-    ghost most: { Self → ℕ };
+    /// At most how many changes it makes: by the graph, the worker and the state before.
+    ghost most: { Self → GraphView → WorkerId → StateView → ℕ };
 
     /// Which changes it makes, where it finishes: a fact of the graph, the worker, the state before
     /// and their list.
@@ -46,16 +48,18 @@ pub trait Transform {
     fn kind(&self) -> Kind
         ensures { result ≡ kind_of self.now };
 
-    /// At most how many changes it makes.
-    fn most_changes(&self) -> u64
-        ensures { result ≡ most self.now };
+    /// At most how many changes it makes for a worker in a state of the graph. It takes constant time.
+    fn most_changes(&self, graph: &Graph, state: &State, worker: WorkerId) -> u64
+        requires belongs { BelongsTo graph.now state.now }
+        requires worker_in_range { worker.0 < graph.now.workers }
+        ensures { result ≡ most self.now graph.now worker state.now };
 
     /// Makes its changes. Those of a transform that doesn't finish are taken back by its caller.
     fn apply(&self, work: &mut Tentative) -> Disposition
         requires fresh { work.old.made ≡ [] }
-        requires room { most self.now ≤ work.old.room }
+        requires room { most self.now work.old.graph work.old.worker work.old.state ≤ work.old.room }
         ensures worked { Worked work.old work.new }
-        ensures few { length work.new.made ≤ most self.now }
+        ensures few { length work.new.made ≤ most self.now work.old.graph work.old.worker work.old.state }
         // Where it finishes, the entry of its kind and its changes is allowed in the state before.
         ensures finished { result ≡ Disposition.Finished
             → Allowed work.old.graph work.old.state (entry work.old.worker (kind_of self.now) (Some work.new.made)) }

@@ -8,7 +8,7 @@ ghost use Rattle.shared_services.specs.Takings.{HasTheLocks, IsShort, MayNotTake
 use crate::services::{MAX_SERVICES, ServiceTable};
 use lock_transforms::kinds::{Acquire, Shortage};
 use lock_transforms::{Disposition, Kind, Tentative, Transform};
-use resource_lock::{Graph, LockId};
+use resource_lock::{Graph, LockId, State, WorkerId};
 
 /// Takes the lowest lock without owner of each of some services, given in strictly rising order, and a lease, for a worker that
 /// has nothing.
@@ -33,7 +33,7 @@ pub struct TakeUses<'a> {
 impl Transform for TakeUses<'_> {
     ghost kind_of = { λ _. kinds.Acquire };
 
-    ghost most = { λ t. length t.asked.now + 1 };
+    ghost most = { λ t g w s. length t.asked.now + 1 };
 
     ghost makes = { λ t. TakesUses t.table.now t.asked.now };
 
@@ -45,7 +45,7 @@ impl Transform for TakeUses<'_> {
         Kind::Acquire
     }
 
-    fn most_changes(&self) -> u64 {
+    fn most_changes(&self, _graph: &Graph, _state: &State, _worker: WorkerId) -> u64 {
         self.asked.len() as u64 + 1
     }
 

@@ -20,6 +20,8 @@ mod numbers;
 mod ready_work_tests;
 #[cfg(test)]
 mod resource_lock_tests;
+#[cfg(test)]
+mod room_tests;
 pub mod rows;
 #[cfg(test)]
 mod task_ranks_tests;

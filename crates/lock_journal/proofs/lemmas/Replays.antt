@@ -1,6 +1,6 @@
 -- A history with one more entry, what it leads to, and the book that has it.
 use Rattle.std.specs.Prelude.{IfSome}
-use Rattle.std.proofs.Common.{◌≡◌, ◌<◌, ◌≤◌, Option, None, Some, List, [], ◌∷◌, ◌++◌, refl, sym, ◌∙◌, ap, subst}
+use Rattle.std.proofs.Common.{◌≡◌, ◌<◌, Option, None, Some, List, [], ◌∷◌, ◌++◌, refl, sym, ◌∙◌, ap, subst}
 use Rattle.std.specs.List.{All}
 use Rattle.std.proofs.lemmas.List.Elements.{All-push}
 use Rattle.resource_lock.proofs.lemmas.Runs.{belongs_along, kept_all, same_shape-make_all, worker_from}
@@ -19,7 +19,7 @@ use Rattle.lock_transforms.specs.declared.entries.Kind.{Kind}
 use Rattle.lock_journal.specs.Bounds.{IsFitKind}
 use Rattle.lock_journal.specs.Book.{IsSound}
 use Rattle.lock_journal.specs.declared.books.Book.TheInside.{Inside}
-use Rattle.lock_transforms.specs.declared.kinds.admitting.TheConstants.{MAX_CHANGES}
+use Rattle.lock_transforms.specs.MostChanges.{IsRoomFor}
 
 pub replay_from-push : (s : StateView) (h : List Entry) (e : Entry) → replay_from s (h ++ e ∷ []) ≡ effect (replay_from s h) e
 replay_from-push s [] e = refl
@@ -53,7 +53,7 @@ entries_good g (e ∷ h) s lawful old = entries_good g h (effect s e) lawful.1 (
 -- b is a with one more entry, which was allowed, with its effect, and with the index of that
 pub record Extends (a b : Inside) (e : Entry) : Type 0 where
   pub fresh : b.tentative.made ≡ []
-  pub room : MAX_CHANGES ≤ b.tentative.room
+  pub room : IsRoomFor b.tentative.graph b.tentative.room
   pub graph : b.tentative.graph ≡ a.tentative.graph
   pub units : b.history.units ≡ a.history.units
   pub entries : b.history.entries ≡ a.history.entries ++ e ∷ []

@@ -20,14 +20,14 @@ within_follow first count n [] stop i d f within = absurd (omega arith)
 within_follow first count n (x ∷ xs) stop zero d f within = let rest : n + count x ≤ stop = stop_follow first count (n + count x) xs stop f.1 in omega (arith, f.0)
 within_follow first count n (x ∷ xs) stop (suc i) d f within = within_follow first count (n + count x) xs stop i d f.1 (omega arith)
 
--- each range ends before the next begins
-next_follow : {X : Type 0} (first count : X → ℕ) (n : ℕ) (xs : List X) (stop i : ℕ) (d : X) → Follow first count n xs stop → i + 1 < length xs → first (get_or xs i d) + count (get_or xs i d) ≤ first (get_or xs (i + 1) d)
-next_follow first count n [] stop i d f within = absurd (omega arith)
-next_follow first count n (x ∷ []) stop zero d f within = absurd (omega arith)
-next_follow first count n (x ∷ y ∷ xs) stop zero d f within = omega (arith, f.0, f.1.0)
-next_follow first count n (x ∷ xs) stop (suc i) d f within =
+-- each range ends where the next begins
+meets_follow : {X : Type 0} (first count : X → ℕ) (n : ℕ) (xs : List X) (stop i : ℕ) (d : X) → Follow first count n xs stop → i + 1 < length xs → first (get_or xs i d) + count (get_or xs i d) ≡ first (get_or xs (i + 1) d)
+meets_follow first count n [] stop i d f within = absurd (omega arith)
+meets_follow first count n (x ∷ []) stop zero d f within = absurd (omega arith)
+meets_follow first count n (x ∷ y ∷ xs) stop zero d f within = omega (arith, f.0, f.1.0)
+meets_follow first count n (x ∷ xs) stop (suc i) d f within =
     let later : suc (i + 1) ≡ suc i + 1 = omega arith in
-    subst (λ j. first (get_or xs i d) + count (get_or xs i d) ≤ first (get_or (x ∷ xs) j d)) later (next_follow first count (n + count x) xs stop i d f.1 (omega arith))
+    subst (λ j. first (get_or xs i d) + count (get_or xs i d) ≡ first (get_or (x ∷ xs) j d)) later (meets_follow first count (n + count x) xs stop i d f.1 (omega arith))
 
 -- ranges of at most so many each
 few_follow : {X : Type 0} (first count : X → ℕ) (n most : ℕ) (xs : List X) (stop : ℕ) → AllByRecursion (λ x. count x ≤ most) xs → Follow first count n xs stop → stop ≤ n + length xs * most
@@ -43,8 +43,8 @@ actions_within {g} fits t within = within_follow (λ t. t.first_action) (λ t. t
 pub units_within : {g : GraphView} → Fits g → (a : ℕ) → a < length g.actions → (action_of g a).first_unit + units_in (action_of g a) ≤ g.units
 units_within {g} fits a within = within_follow (λ a. a.first_unit) units_in 0 g.actions g.units a no_action fits.units_follow within
 
-pub next_units : {g : GraphView} → Fits g → (a : ℕ) → a + 1 < length g.actions → (action_of g a).first_unit + units_in (action_of g a) ≤ (action_of g (a + 1)).first_unit
-next_units {g} fits a within = next_follow (λ a. a.first_unit) units_in 0 g.actions g.units a no_action fits.units_follow within
+pub units_meet : {g : GraphView} → Fits g → (a : ℕ) → a + 1 < length g.actions → (action_of g a).first_unit + units_in (action_of g a) ≡ (action_of g (a + 1)).first_unit
+units_meet {g} fits a within = meets_follow (λ a. a.first_unit) units_in 0 g.actions g.units a no_action fits.units_follow within
 
 pub few_actions : {g : GraphView} → Fits g → length g.actions ≤ 16384
 few_actions {g} fits =

@@ -39,7 +39,7 @@ pub struct Acquire<'a> {
 impl Transform for Acquire<'_> {
     ghost kind_of = { λ _. kinds.Acquire };
 
-    ghost most = { λ t. length t.locks.now + 1 };
+    ghost most = { λ t g w s. length t.locks.now + 1 };
 
     ghost makes = { λ t g w s cs. cs ≡ acquired s w t.locks.now };
 
@@ -51,7 +51,7 @@ impl Transform for Acquire<'_> {
         Kind::Acquire
     }
 
-    fn most_changes(&self) -> u64 {
+    fn most_changes(&self, _graph: &Graph, _state: &State, _worker: WorkerId) -> u64 {
         self.locks.len() as u64 + 1
     }
 

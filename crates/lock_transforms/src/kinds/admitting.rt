@@ -1,11 +1,12 @@
 //! Entries with given changes: whether they are allowed.
-ghost use Rattle.std.specs.Prelude.{◌≡◌, ◌≤◌, ◌↔◌, ◌+◌, IsTrue, [], Some, true, false};
+ghost use Rattle.std.specs.Prelude.{◌≡◌, ◌↔◌, ◌+◌, IsTrue, [], Some, true, false};
 ghost use Rattle.std.specs.Bool.{Decides};
 ghost use Rattle.std.specs.List.{list_all};
 ghost use Rattle.resource_lock.specs.StateView.{holding_of};
 ghost use Rattle.lock_transforms.specs.Admitting.{IsAcquire, HasTried, takes_within};
 ghost use Rattle.lock_transforms.specs.Allowed.{Allowed, IsClosedOf, IsKindOf};
 ghost use Rattle.lock_transforms.specs.Entry.{entry};
+ghost use Rattle.lock_transforms.specs.MostChanges.{IsRoomFor};
 ghost use Rattle.lock_transforms.specs.Table.{acquires, condition};
 ghost use Rattle.lock_transforms.specs.TentativeView.{IsSoundTentative};
 ghost use Rattle.lock_transforms.specs.declared.entries.Kind.TheVariants as kinds;
@@ -26,17 +27,13 @@ use crate::kinds::submits::Submit;
 use crate::kinds::unblocks::Unblock;
 use crate::tentatives::Tentative;
 use item_actions::Outcome;
-use resource_lock::{Change, Graph, LockId, MAX_ACTIONS_PER_TASK, MAX_LOCKS, MAX_UNITS};
-
-/// At most how many changes an entry has. It is an end's, which may skip each action of its task and
-/// each unit: one change for each, and three that end the task and give its lock and the lease back.
-pub const MAX_CHANGES: u64 = 3 + MAX_ACTIONS_PER_TASK as u64 + MAX_UNITS;
+use resource_lock::{Change, Graph, LockId};
 
 /// Makes the changes given, where an entry of the kind is allowed with them, and answers whether it
 /// is. Where it isn't, some changes may be made.
 pub(crate) fn make_given(work: &mut Tentative, kind: Kind, changes: &[Change]) -> bool
     requires fresh { work.old.made ≡ [] }
-    requires room { MAX_CHANGES ≤ work.old.room }
+    requires room { IsRoomFor work.old.graph work.old.room }
     ensures { HasTried work.old work.new kind changes.now result }
 {
     match kind {
@@ -59,9 +56,12 @@ pub(crate) fn make_given(work: &mut Tentative, kind: Kind, changes: &[Change]) -
 // compared with those given.
 fn make_fixed<K: FixedKind>(work: &mut Tentative, kind: &K, changes: &[Change]) -> bool
     requires fresh { work.old.made ≡ [] }
-    requires room { K.most kind.now ≤ work.old.room }
+    requires room { IsRoomFor work.old.graph work.old.room }
     ensures { HasTried work.old work.new (K.kind_of kind.now) changes.now result }
 {
+    // Of the graph and the state, that the room for any entry is enough.
+    let _ = work.graph();
+    let _ = work.state();
     match run_fixed(kind, work) {
         Progress::Made => are_same(work.made(), changes),
         Progress::NotEnabled | Progress::OutOfRange => false,
@@ -93,7 +93,7 @@ fn is_same(made: Change, given: Change) -> bool
 // `make_given` for an `Acquire`, which may take any locks in rising order.
 fn acquire_given(work: &mut Tentative, changes: &[Change]) -> bool
     requires fresh { work.old.made ≡ [] }
-    requires room { MAX_LOCKS + 1 ≤ work.old.room }
+    requires room { IsRoomFor work.old.graph work.old.room }
     ensures { HasTried work.old work.new kinds.Acquire changes.now result }
 {
     are_acquired(work, changes) && try_changes(work, changes)

@@ -1,6 +1,5 @@
 //! Entering a blocking section.
 ghost use Rattle.std.specs.Prelude.{◌≡◌, ◌≤◌, ◌<◌, ◌&&◌, ◌==◌, ◌∷◌, Some, false, length, ◌+◌, ◌*◌};
-ghost use Rattle.resource_lock.specs.declared.limits.TheConstants.{MAX_LOCKS};
 ghost use Rattle.resource_lock.specs.Change.{same_mark};
 ghost use Rattle.resource_lock.specs.Fits.{Fits};
 ghost use Rattle.resource_lock.specs.GraphView.{action_of};
@@ -9,7 +8,8 @@ ghost use Rattle.resource_lock.specs.Shape.{BelongsTo};
 ghost use Rattle.resource_lock.specs.StateView.{mark_of};
 ghost use Rattle.lock_transforms.specs.Allowed.{IsFixedList, IsUnmet};
 ghost use Rattle.lock_transforms.specs.Making.{Makes};
-ghost use Rattle.lock_transforms.specs.Table.{condition, earlier_passed, set_down, works_on};
+ghost use Rattle.lock_transforms.specs.MostChanges.{most_of};
+ghost use Rattle.lock_transforms.specs.Table.{condition, earlier_passed, owned, set_down, works_on};
 ghost use Rattle.lock_transforms.specs.declared.entries.Kind.TheVariants as kinds;
 ghost use Rattle.resource_lock.specs.declared.marks.MarkId.TheVariants as ids;
 ghost use Rattle.resource_lock.specs.declared.marks.Mark.TheVariants as marks;
@@ -19,10 +19,11 @@ use crate::kinds::fixed::{FixedKind, finish_or_retry};
 use crate::kinds::freeing::free_locks;
 use crate::kinds::making::try_change;
 use crate::kinds::marks::{earlier_passed, works_on};
+use crate::kinds::most::most_of;
 use crate::kinds::ranges::action_of;
 use crate::tentatives::Tentative;
 use crate::transforms::{Disposition, Transform};
-use resource_lock::{Change, Graph, MAX_LOCKS, Mark, MarkId, State, WorkerId};
+use resource_lock::{Change, Graph, Mark, MarkId, State, WorkerId};
 
 /// Enters a blocking section: the worker gives back its lease and all its locks, which it parks by
 /// rising number, and is blocked then. Where it is for a fetch, the fetch's mark becomes Running.
@@ -40,7 +41,7 @@ pub struct Block {
 impl Transform for Block {
     ghost kind_of = { λ t. kinds.Block t.unit };
 
-    ghost most = { λ _. 3 + 2 * MAX_LOCKS };
+    ghost most = { λ t g w s. most_of g w s (kinds.Block t.unit) };
 
     ghost makes = { λ t. IsFixedList (kinds.Block t.unit) };
 
@@ -52,8 +53,8 @@ impl Transform for Block {
         Kind::Block(self.unit)
     }
 
-    fn most_changes(&self) -> u64 {
-        3 + 2 * u64::from(MAX_LOCKS)
+    fn most_changes(&self, graph: &Graph, state: &State, worker: WorkerId) -> u64 {
+        most_of(graph, state, worker, self.kind())
     }
 
     fn apply(&self, work: &mut Tentative) -> Disposition {
@@ -65,8 +66,6 @@ impl Transform for Block {
 
 impl FixedKind for Block {
     ghost kind_of = { λ t. kinds.Block t.unit };
-
-    ghost most = { λ _. 3 + 2 * MAX_LOCKS };
 
     fn is_in_range(&self, graph: &Graph) -> bool {
         match self.unit {
@@ -92,13 +91,11 @@ impl FixedKind for Block {
 
 // Moves a fetch's mark from Waiting to Running, and sets down the lease and the locks. The mark comes first here, and last in Unblock.
 fn begin_fetch(work: &mut Tentative, unit: u32) -> bool
-    requires fits { Fits work.old.graph }
     requires belongs { BelongsTo work.old.graph work.old.state }
     requires in_range { unit < work.old.graph.units }
-    requires room { 3 + 2 * MAX_LOCKS ≤ work.old.room }
-    ensures made { Makes work.old work.new (Change.Move (ids.Unit unit) marks.Waiting (marks.Running work.old.worker)
+    requires room { 3 + 2 * length (owned work.old.state work.old.worker) ≤ work.old.room }
+    ensures { Makes work.old work.new (Change.Move (ids.Unit unit) marks.Waiting (marks.Running work.old.worker)
         ∷ set_down work.old.state work.old.worker) result }
-    ensures few { length (set_down work.old.state work.old.worker) ≤ 2 + 2 * MAX_LOCKS }
 {
     let running = Mark::Running(work.worker());
     if !try_change(
@@ -112,11 +109,9 @@ fn begin_fetch(work: &mut Tentative, unit: u32) -> bool
 
 // Gives the lease back, gives back and parks each lock by rising number, and enters.
 fn set_down(work: &mut Tentative) -> bool
-    requires fits { Fits work.old.graph }
     requires belongs { BelongsTo work.old.graph work.old.state }
-    requires room { 2 + 2 * MAX_LOCKS ≤ work.old.room }
-    ensures made { Makes work.old work.new (set_down work.old.state work.old.worker) result }
-    ensures few { length (set_down work.old.state work.old.worker) ≤ 2 + 2 * MAX_LOCKS }
+    requires room { 2 + 2 * length (owned work.old.state work.old.worker) ≤ work.old.room }
+    ensures { Makes work.old work.new (set_down work.old.state work.old.worker) result }
 {
     if !try_change(work, Change::Give) {
         return false;

@@ -2,6 +2,7 @@
 ghost use Rattle.std.specs.Prelude.{◌≡◌, ◌≢◌, ◌<◌, false};
 ghost use Rattle.resource_lock.specs.StateView.{mark_of};
 ghost use Rattle.lock_transforms.specs.Allowed.{IsFixedList};
+ghost use Rattle.lock_transforms.specs.MostChanges.{most_of};
 ghost use Rattle.lock_transforms.specs.Table.{is_enabled};
 ghost use Rattle.lock_transforms.specs.declared.entries.Kind.TheVariants as kinds;
 ghost use Rattle.resource_lock.specs.declared.marks.MarkId.TheVariants as ids;
@@ -10,6 +11,7 @@ ghost use Rattle.resource_lock.specs.declared.marks.Mark.TheVariants as marks;
 use crate::entries::Kind;
 use crate::kinds::fixed::{FixedKind, finish_or_retry};
 use crate::kinds::making::try_change;
+use crate::kinds::most::most_of;
 use crate::tentatives::Tentative;
 use crate::transforms::{Disposition, Transform};
 use resource_lock::{Change, Graph, Mark, MarkId, State, WorkerId};
@@ -28,7 +30,7 @@ pub struct Claim {
 impl Transform for Claim {
     ghost kind_of = { λ t. kinds.Claim t.unit };
 
-    ghost most = { λ _. 2 };
+    ghost most = { λ t g w s. most_of g w s (kinds.Claim t.unit) };
 
     ghost makes = { λ t. IsFixedList (kinds.Claim t.unit) };
 
@@ -41,8 +43,8 @@ impl Transform for Claim {
         Kind::Claim(self.unit)
     }
 
-    fn most_changes(&self) -> u64 {
-        2
+    fn most_changes(&self, graph: &Graph, state: &State, worker: WorkerId) -> u64 {
+        most_of(graph, state, worker, self.kind())
     }
 
     fn apply(&self, work: &mut Tentative) -> Disposition {
@@ -60,8 +62,6 @@ impl Transform for Claim {
 
 impl FixedKind for Claim {
     ghost kind_of = { λ t. kinds.Claim t.unit };
-
-    ghost most = { λ _. 2 };
 
     fn is_in_range(&self, graph: &Graph) -> bool {
         self.unit < graph.units()

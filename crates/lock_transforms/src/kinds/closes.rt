@@ -1,6 +1,7 @@
 //! Ending an item.
 ghost use Rattle.std.specs.Prelude.{◌≡◌, false};
 ghost use Rattle.lock_transforms.specs.Allowed.{IsDisabled, IsFixedList};
+ghost use Rattle.lock_transforms.specs.MostChanges.{most_of};
 ghost use Rattle.lock_transforms.specs.Table.{is_enabled};
 ghost use Rattle.lock_transforms.specs.declared.entries.Kind.TheVariants as kinds;
 
@@ -8,6 +9,7 @@ use crate::entries::{Closed, Kind};
 use crate::kinds::fixed::{FixedKind, finish_or_retry};
 use crate::kinds::making::try_change;
 use crate::kinds::marks::mark_from;
+use crate::kinds::most::most_of;
 use crate::tentatives::Tentative;
 use crate::transforms::{Disposition, Transform};
 use item_actions::Outcome;
@@ -27,7 +29,7 @@ pub struct Close {
 impl Transform for Close {
     ghost kind_of = { λ t. kinds.Close t.closed };
 
-    ghost most = { λ _. 2 };
+    ghost most = { λ t g w s. most_of g w s (kinds.Close t.closed) };
 
     ghost makes = { λ t. IsFixedList (kinds.Close t.closed) };
 
@@ -39,8 +41,8 @@ impl Transform for Close {
         Kind::Close(self.closed)
     }
 
-    fn most_changes(&self) -> u64 {
-        2
+    fn most_changes(&self, graph: &Graph, state: &State, worker: WorkerId) -> u64 {
+        most_of(graph, state, worker, self.kind())
     }
 
     fn apply(&self, work: &mut Tentative) -> Disposition {
@@ -52,8 +54,6 @@ impl Transform for Close {
 
 impl FixedKind for Close {
     ghost kind_of = { λ t. kinds.Close t.closed };
-
-    ghost most = { λ _. 2 };
 
     fn is_in_range(&self, graph: &Graph) -> bool {
         self.closed.unit < graph.units() && !matches!(self.closed.outcome, Outcome::Skipped)

@@ -4,11 +4,11 @@ ghost use Rattle.std.specs.List.{list_all, list_any, range_with_len};
 ghost use Rattle.resource_lock.specs.Change.{same_mark};
 ghost use Rattle.resource_lock.specs.GraphView.{task_of};
 ghost use Rattle.resource_lock.specs.Ranges.{actions_of, earlier_actions, units_of};
-ghost use Rattle.resource_lock.specs.declared.limits.TheConstants.{MAX_ACTIONS_PER_TASK, MAX_UNITS};
 ghost use Rattle.resource_lock.specs.Shape.{BelongsTo};
 ghost use Rattle.resource_lock.specs.StateView.{mark_of};
 ghost use Rattle.lock_transforms.specs.Allowed.{IsDisabled, IsFixedList};
 ghost use Rattle.lock_transforms.specs.Making.{Makes};
+ghost use Rattle.lock_transforms.specs.MostChanges.{most_of};
 ghost use Rattle.lock_transforms.specs.Table.{end_mark, has_passed, is_enabled, never_ran, units_passed};
 ghost use Rattle.lock_transforms.specs.declared.entries.Kind.TheVariants as kinds;
 ghost use Rattle.resource_lock.specs.declared.marks.MarkId.TheVariants as ids;
@@ -18,13 +18,12 @@ use crate::entries::Kind;
 use crate::kinds::fixed::{FixedKind, finish_or_retry};
 use crate::kinds::making::try_change;
 use crate::kinds::marks::units_passed;
+use crate::kinds::most::most_of;
 use crate::kinds::ranges::{NumberRange, actions_of, earlier_actions, lock_of, units_of};
 use crate::kinds::skipping::skip_waiting;
 use crate::tentatives::Tentative;
 use crate::transforms::{Disposition, Transform};
-use resource_lock::{
-    Change, Graph, MAX_ACTIONS_PER_TASK, MAX_UNITS, Mark, MarkId, State, WorkerId,
-};
+use resource_lock::{Change, Graph, Mark, MarkId, State, WorkerId};
 
 /// Ends a task that the worker runs: the actions that never ran are skipped with their units, and
 /// the task's mark becomes Passed, or Failed where one of its units hasn't passed. A worker with a
@@ -45,7 +44,7 @@ pub struct End {
 impl Transform for End {
     ghost kind_of = { λ t. kinds.End t.task };
 
-    ghost most = { λ _. 3 + MAX_ACTIONS_PER_TASK + MAX_UNITS };
+    ghost most = { λ t g w s. most_of g w s (kinds.End t.task) };
 
     ghost makes = { λ t. IsFixedList (kinds.End t.task) };
 
@@ -57,8 +56,8 @@ impl Transform for End {
         Kind::End(self.task)
     }
 
-    fn most_changes(&self) -> u64 {
-        3 + u64::from(MAX_ACTIONS_PER_TASK) + MAX_UNITS
+    fn most_changes(&self, graph: &Graph, state: &State, worker: WorkerId) -> u64 {
+        most_of(graph, state, worker, self.kind())
     }
 
     fn apply(&self, work: &mut Tentative) -> Disposition {
@@ -70,8 +69,6 @@ impl Transform for End {
 
 impl FixedKind for End {
     ghost kind_of = { λ t. kinds.End t.task };
-
-    ghost most = { λ _. 3 + MAX_ACTIONS_PER_TASK + MAX_UNITS };
 
     fn is_in_range(&self, graph: &Graph) -> bool {
         (self.task as usize) < graph.tasks().len()

@@ -1,11 +1,12 @@
 //! What the kinds share whose changes the graph, the state and the worker fix.
-ghost use Rattle.std.specs.Prelude.{◌≡◌, ◌≢◌, ◌<◌, ◌≤◌, ◌↔◌, ℕ, IsTrue, [], false, true, length, Some};
+ghost use Rattle.std.specs.Prelude.{◌≡◌, ◌≢◌, ◌<◌, ◌≤◌, ◌↔◌, IsTrue, [], false, true, length, Some};
 ghost use Rattle.resource_lock.specs.Fits.{Fits};
 ghost use Rattle.resource_lock.specs.Shape.{BelongsTo};
 ghost use Rattle.lock_transforms.specs.Allowed.{Allowed, IsDisabled, IsFixedList, IsKindOf, IsListOf};
 ghost use Rattle.lock_transforms.specs.TentativeView.{IsSoundTentative, Worked};
 ghost use Rattle.lock_transforms.specs.Entry.{entry};
 ghost use Rattle.lock_transforms.specs.Making.{Makes};
+ghost use Rattle.lock_transforms.specs.MostChanges.{most_of};
 ghost use Rattle.lock_transforms.specs.Table.{condition, list_of, is_enabled};
 ghost use Rattle.lock_transforms.specs.declared.entries.Kind.{Kind};
 ghost use Rattle.lock_transforms.specs.declared.entries.Kind.TheVariants as kinds;
@@ -17,9 +18,6 @@ use resource_lock::{Graph, State, WorkerId};
 /// A kind of entry whose changes the graph, the state before and the worker fix.
 pub(crate) trait FixedKind {
     ghost kind_of: { Self → Kind };
-
-    /// At most how many changes it makes.
-    ghost most: { Self → ℕ };
 
     /// Whether its numbers are the graph's, and it carries no Skipped.
     fn is_in_range(&self, graph: &Graph) -> bool
@@ -39,9 +37,8 @@ pub(crate) trait FixedKind {
         requires in_range { IsKindOf work.old.graph (kind_of self.now) }
         requires sound { IsSoundTentative work.old }
         requires belongs { BelongsTo work.old.graph work.old.state }
-        requires room { most self.now ≤ work.old.room }
+        requires room { most_of work.old.graph work.old.worker work.old.state (kind_of self.now) ≤ work.old.room }
         ensures made { Makes work.old work.new (list_of work.old.graph work.old.state work.old.worker (kind_of self.now)) result }
-        ensures few { length (list_of work.old.graph work.old.state work.old.worker (kind_of self.now)) ≤ most self.now }
         ensures fixed { IsListOf work.old.graph work.old.state work.old.worker (kind_of self.now)
             (list_of work.old.graph work.old.state work.old.worker (kind_of self.now)) };
 }
@@ -60,9 +57,9 @@ pub(crate) enum Progress {
 /// Makes the changes of an entry where its condition holds, up to the first that can't be made.
 pub(crate) fn run_fixed<K: FixedKind>(kind: &K, work: &mut Tentative) -> Progress
     requires fresh { work.old.made ≡ [] }
-    requires room { K.most kind.now ≤ work.old.room }
+    requires room { most_of work.old.graph work.old.worker work.old.state (K.kind_of kind.now) ≤ work.old.room }
     ensures worked { Worked work.old work.new }
-    ensures few { length work.new.made ≤ K.most kind.now }
+    ensures few { length work.new.made ≤ most_of work.old.graph work.old.worker work.old.state (K.kind_of kind.now) }
     ensures made { result ≡ Progress.Made
         → Allowed work.old.graph work.old.state (entry work.old.worker (K.kind_of kind.now) (Some work.new.made)) }
     ensures list { result ≡ Progress.Made
@@ -89,12 +86,12 @@ pub(crate) fn run_fixed<K: FixedKind>(kind: &K, work: &mut Tentative) -> Progres
 
 /// Applies a kind that never fails: where its changes can't all be made, it asks to be run again.
 // It can't be a default of `Transform`, and no trait of these kinds can stand above `Transform`: a method that leads back to its block
-// isn't proved yet, and a macro that writes blocks is refused. So each of these kinds says its kind and its most changes in both blocks.
+// isn't proved yet, and a macro that writes blocks is refused. So each of these kinds says its kind in both blocks.
 pub(crate) fn finish_or_retry<K: FixedKind>(kind: &K, work: &mut Tentative) -> Disposition
     requires fresh { work.old.made ≡ [] }
-    requires room { K.most kind.now ≤ work.old.room }
+    requires room { most_of work.old.graph work.old.worker work.old.state (K.kind_of kind.now) ≤ work.old.room }
     ensures worked { Worked work.old work.new }
-    ensures few { length work.new.made ≤ K.most kind.now }
+    ensures few { length work.new.made ≤ most_of work.old.graph work.old.worker work.old.state (K.kind_of kind.now) }
     ensures allowed { result ≡ Disposition.Finished
         → Allowed work.old.graph work.old.state (entry work.old.worker (K.kind_of kind.now) (Some work.new.made)) }
     ensures list { result ≡ Disposition.Finished

@@ -1,16 +1,17 @@
 //! Giving back all locks and the lease.
-ghost use Rattle.std.specs.Prelude.{◌≡◌, false, ◌+◌};
-ghost use Rattle.resource_lock.specs.declared.limits.TheConstants.{MAX_LOCKS};
+ghost use Rattle.std.specs.Prelude.{◌≡◌, false};
 ghost use Rattle.lock_transforms.specs.Allowed.{IsFixedList, IsUnmet};
+ghost use Rattle.lock_transforms.specs.MostChanges.{most_of};
 ghost use Rattle.lock_transforms.specs.Table.{condition};
 ghost use Rattle.lock_transforms.specs.declared.entries.Kind.TheVariants as kinds;
 
 use crate::entries::Kind;
 use crate::kinds::fixed::{FixedKind, finish_or_retry};
 use crate::kinds::freeing::free_locks;
+use crate::kinds::most::most_of;
 use crate::tentatives::Tentative;
 use crate::transforms::{Disposition, Transform};
-use resource_lock::{Graph, MAX_LOCKS, State, WorkerId};
+use resource_lock::{Graph, State, WorkerId};
 
 /// Gives back all locks that the worker owns, by rising number, and then its lease, where it has one.
 ///
@@ -22,7 +23,7 @@ pub struct HandBack;
 impl Transform for HandBack {
     ghost kind_of = { λ _. kinds.HandBack };
 
-    ghost most = { λ _. 1 + MAX_LOCKS };
+    ghost most = { λ _ g w s. most_of g w s kinds.HandBack };
 
     ghost makes = { λ _. IsFixedList kinds.HandBack };
 
@@ -34,8 +35,8 @@ impl Transform for HandBack {
         Kind::HandBack
     }
 
-    fn most_changes(&self) -> u64 {
-        1 + u64::from(MAX_LOCKS)
+    fn most_changes(&self, graph: &Graph, state: &State, worker: WorkerId) -> u64 {
+        most_of(graph, state, worker, self.kind())
     }
 
     fn apply(&self, work: &mut Tentative) -> Disposition {
@@ -47,8 +48,6 @@ impl Transform for HandBack {
 
 impl FixedKind for HandBack {
     ghost kind_of = { λ _. kinds.HandBack };
-
-    ghost most = { λ _. 1 + MAX_LOCKS };
 
     fn is_in_range(&self, _graph: &Graph) -> bool {
         true

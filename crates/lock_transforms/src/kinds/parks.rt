@@ -3,6 +3,7 @@ ghost use Rattle.std.specs.Prelude.{◌≡◌, ◌≤◌, false, length};
 ghost use Rattle.resource_lock.specs.StateView.{IsLockOf};
 ghost use Rattle.lock_transforms.specs.Allowed.{IsDisabled, IsFixedList};
 ghost use Rattle.lock_transforms.specs.Making.{Makes};
+ghost use Rattle.lock_transforms.specs.MostChanges.{most_of};
 ghost use Rattle.lock_transforms.specs.Table.{is_enabled, on_park};
 ghost use Rattle.lock_transforms.specs.declared.entries.Kind.TheVariants as kinds;
 
@@ -10,6 +11,7 @@ use crate::entries::Kind;
 use crate::kinds::fixed::{FixedKind, finish_or_retry};
 use crate::kinds::making::try_change;
 use crate::kinds::marks::works_on;
+use crate::kinds::most::most_of;
 use crate::kinds::parking::park_lock;
 use crate::kinds::ranges::{action_of, lock_of};
 use crate::tentatives::Tentative;
@@ -31,7 +33,7 @@ pub struct Park {
 impl Transform for Park {
     ghost kind_of = { λ t. kinds.Park t.action };
 
-    ghost most = { λ _. 4 };
+    ghost most = { λ t g w s. most_of g w s (kinds.Park t.action) };
 
     ghost makes = { λ t. IsFixedList (kinds.Park t.action) };
 
@@ -43,8 +45,8 @@ impl Transform for Park {
         Kind::Park(self.action)
     }
 
-    fn most_changes(&self) -> u64 {
-        4
+    fn most_changes(&self, graph: &Graph, state: &State, worker: WorkerId) -> u64 {
+        most_of(graph, state, worker, self.kind())
     }
 
     fn apply(&self, work: &mut Tentative) -> Disposition {
@@ -56,8 +58,6 @@ impl Transform for Park {
 
 impl FixedKind for Park {
     ghost kind_of = { λ t. kinds.Park t.action };
-
-    ghost most = { λ _. 4 };
 
     fn is_in_range(&self, graph: &Graph) -> bool {
         (self.action as usize) < graph.actions().len()

@@ -4,6 +4,7 @@ ghost use Rattle.std.specs.List.{list_all, range_with_len};
 ghost use Rattle.resource_lock.specs.StateView.{IsLockOf, mark_of};
 ghost use Rattle.lock_transforms.specs.Allowed.{IsDisabled, IsFixedList};
 ghost use Rattle.lock_transforms.specs.Making.{Makes};
+ghost use Rattle.lock_transforms.specs.MostChanges.{most_of};
 ghost use Rattle.lock_transforms.specs.Table.{has_ended, is_enabled, on_resume};
 ghost use Rattle.lock_transforms.specs.declared.entries.Kind.TheVariants as kinds;
 ghost use Rattle.resource_lock.specs.declared.marks.MarkId.TheVariants as ids;
@@ -11,6 +12,7 @@ ghost use Rattle.resource_lock.specs.declared.marks.MarkId.TheVariants as ids;
 use crate::entries::Kind;
 use crate::kinds::fixed::{FixedKind, finish_or_retry};
 use crate::kinds::making::try_change;
+use crate::kinds::most::most_of;
 use crate::kinds::parking::unpark_lock;
 use crate::kinds::ranges::{NumberRange, action_of, items_of, lock_of};
 use crate::tentatives::Tentative;
@@ -33,7 +35,7 @@ pub struct Resume {
 impl Transform for Resume {
     ghost kind_of = { λ t. kinds.Resume t.action };
 
-    ghost most = { λ _. 4 };
+    ghost most = { λ t g w s. most_of g w s (kinds.Resume t.action) };
 
     ghost makes = { λ t. IsFixedList (kinds.Resume t.action) };
 
@@ -45,8 +47,8 @@ impl Transform for Resume {
         Kind::Resume(self.action)
     }
 
-    fn most_changes(&self) -> u64 {
-        4
+    fn most_changes(&self, graph: &Graph, state: &State, worker: WorkerId) -> u64 {
+        most_of(graph, state, worker, self.kind())
     }
 
     fn apply(&self, work: &mut Tentative) -> Disposition {
@@ -58,8 +60,6 @@ impl Transform for Resume {
 
 impl FixedKind for Resume {
     ghost kind_of = { λ t. kinds.Resume t.action };
-
-    ghost most = { λ _. 4 };
 
     fn is_in_range(&self, graph: &Graph) -> bool {
         (self.action as usize) < graph.actions().len()

@@ -1,20 +1,19 @@
 //! Skipping a task.
-ghost use Rattle.std.specs.Prelude.{◌≡◌, ◌+◌, ◌≤◌, false, length};
+ghost use Rattle.std.specs.Prelude.{◌≡◌, ◌≤◌, false, length};
 ghost use Rattle.lock_transforms.specs.Allowed.{IsFixedList};
+ghost use Rattle.lock_transforms.specs.MostChanges.{most_of};
 ghost use Rattle.lock_transforms.specs.Table.{is_enabled};
 ghost use Rattle.lock_transforms.specs.declared.entries.Kind.TheVariants as kinds;
-ghost use Rattle.resource_lock.specs.declared.limits.TheConstants.{MAX_ACTIONS_PER_TASK, MAX_UNITS};
 
 use crate::entries::Kind;
 use crate::kinds::fixed::{FixedKind, Progress, run_fixed};
 use crate::kinds::making::try_change;
+use crate::kinds::most::most_of;
 use crate::kinds::ranges::{actions_of, after_of};
 use crate::kinds::skipping::skip_actions;
 use crate::tentatives::Tentative;
 use crate::transforms::{Disposition, Transform};
-use resource_lock::{
-    Change, Graph, MAX_ACTIONS_PER_TASK, MAX_UNITS, Mark, MarkId, State, WorkerId,
-};
+use resource_lock::{Change, Graph, Mark, MarkId, State, WorkerId};
 
 /// Skips a task that is Waiting and comes after one that failed or was skipped: its mark and those
 /// of its actions and units become Skipped.
@@ -30,7 +29,7 @@ pub struct Skip {
 impl Transform for Skip {
     ghost kind_of = { λ t. kinds.Skip t.task };
 
-    ghost most = { λ _. 1 + MAX_ACTIONS_PER_TASK + MAX_UNITS };
+    ghost most = { λ t g w s. most_of g w s (kinds.Skip t.task) };
 
     ghost makes = { λ t. IsFixedList (kinds.Skip t.task) };
 
@@ -42,8 +41,8 @@ impl Transform for Skip {
         Kind::Skip(self.task)
     }
 
-    fn most_changes(&self) -> u64 {
-        1 + u64::from(MAX_ACTIONS_PER_TASK) + MAX_UNITS
+    fn most_changes(&self, graph: &Graph, state: &State, worker: WorkerId) -> u64 {
+        most_of(graph, state, worker, self.kind())
     }
 
     fn apply(&self, work: &mut Tentative) -> Disposition {
@@ -59,8 +58,6 @@ impl Transform for Skip {
 
 impl FixedKind for Skip {
     ghost kind_of = { λ t. kinds.Skip t.task };
-
-    ghost most = { λ _. 1 + MAX_ACTIONS_PER_TASK + MAX_UNITS };
 
     fn is_in_range(&self, graph: &Graph) -> bool {
         (self.task as usize) < graph.tasks().len()

@@ -1,12 +1,14 @@
 //! Starting a task.
 ghost use Rattle.std.specs.Prelude.{◌≡◌, ◌≤◌, false, length};
 ghost use Rattle.lock_transforms.specs.Allowed.{IsFixedList};
+ghost use Rattle.lock_transforms.specs.MostChanges.{most_of};
 ghost use Rattle.lock_transforms.specs.Table.{is_enabled};
 ghost use Rattle.lock_transforms.specs.declared.entries.Kind.TheVariants as kinds;
 
 use crate::entries::Kind;
 use crate::kinds::fixed::{FixedKind, Progress, run_fixed};
 use crate::kinds::making::try_change;
+use crate::kinds::most::most_of;
 use crate::kinds::ranges::{after_of, lock_of};
 use crate::tentatives::Tentative;
 use crate::transforms::{Disposition, Transform};
@@ -26,7 +28,7 @@ pub struct Start {
 impl Transform for Start {
     ghost kind_of = { λ t. kinds.Start t.task };
 
-    ghost most = { λ _. 3 };
+    ghost most = { λ t g w s. most_of g w s (kinds.Start t.task) };
 
     ghost makes = { λ t. IsFixedList (kinds.Start t.task) };
 
@@ -38,8 +40,8 @@ impl Transform for Start {
         Kind::Start(self.task)
     }
 
-    fn most_changes(&self) -> u64 {
-        3
+    fn most_changes(&self, graph: &Graph, state: &State, worker: WorkerId) -> u64 {
+        most_of(graph, state, worker, self.kind())
     }
 
     fn apply(&self, work: &mut Tentative) -> Disposition {
@@ -55,8 +57,6 @@ impl Transform for Start {
 
 impl FixedKind for Start {
     ghost kind_of = { λ t. kinds.Start t.task };
-
-    ghost most = { λ _. 3 };
 
     fn is_in_range(&self, graph: &Graph) -> bool {
         (self.task as usize) < graph.tasks().len()

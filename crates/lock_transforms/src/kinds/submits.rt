@@ -1,8 +1,8 @@
 //! Queueing the items of an action.
-ghost use Rattle.std.specs.Prelude.{◌≡◌, ◌+◌, ◌<◌, length};
-ghost use Rattle.resource_lock.specs.declared.limits.TheConstants.{MAX_UNITS};
+ghost use Rattle.std.specs.Prelude.{◌≡◌, ◌<◌, length};
 ghost use Rattle.resource_lock.specs.Shape.{BelongsTo};
 ghost use Rattle.lock_transforms.specs.Allowed.{IsDisabled, IsFixedList};
+ghost use Rattle.lock_transforms.specs.MostChanges.{most_of};
 ghost use Rattle.lock_transforms.specs.Table.{fetch_closed, is_enabled};
 ghost use Rattle.lock_transforms.specs.declared.entries.Kind.TheVariants as kinds;
 
@@ -10,10 +10,11 @@ use crate::entries::Kind;
 use crate::kinds::fixed::{FixedKind, finish_or_retry};
 use crate::kinds::making::{move_units, try_change};
 use crate::kinds::marks::{earlier_passed, works_on};
+use crate::kinds::most::most_of;
 use crate::kinds::ranges::{action_of, items_of};
 use crate::tentatives::Tentative;
 use crate::transforms::{Disposition, Transform};
-use resource_lock::{Change, Graph, MAX_UNITS, Mark, MarkId, State, WorkerId};
+use resource_lock::{Change, Graph, Mark, MarkId, State, WorkerId};
 
 /// Queues the items of an action whose task the worker works on, after all that comes before it in
 /// the task has passed.
@@ -30,7 +31,7 @@ pub struct Submit {
 impl Transform for Submit {
     ghost kind_of = { λ t. kinds.Submit t.action };
 
-    ghost most = { λ _. 1 + MAX_UNITS };
+    ghost most = { λ t g w s. most_of g w s (kinds.Submit t.action) };
 
     ghost makes = { λ t. IsFixedList (kinds.Submit t.action) };
 
@@ -42,8 +43,8 @@ impl Transform for Submit {
         Kind::Submit(self.action)
     }
 
-    fn most_changes(&self) -> u64 {
-        1 + MAX_UNITS
+    fn most_changes(&self, graph: &Graph, state: &State, worker: WorkerId) -> u64 {
+        most_of(graph, state, worker, self.kind())
     }
 
     fn apply(&self, work: &mut Tentative) -> Disposition {
@@ -55,8 +56,6 @@ impl Transform for Submit {
 
 impl FixedKind for Submit {
     ghost kind_of = { λ t. kinds.Submit t.action };
-
-    ghost most = { λ _. 1 + MAX_UNITS };
 
     fn is_in_range(&self, graph: &Graph) -> bool {
         (self.action as usize) < graph.actions().len()

@@ -1,9 +1,9 @@
 //! Leaving a blocking section.
 ghost use Rattle.std.specs.Prelude.{◌≡◌, ◌≤◌, ◌<◌, ◌+◌, ◌++◌, ◌∷◌, [], false, length, reverse, ◌*◌};
-ghost use Rattle.resource_lock.specs.declared.limits.TheConstants.{MAX_LOCKS};
 ghost use Rattle.resource_lock.specs.StateView.{holding_of};
 ghost use Rattle.lock_transforms.specs.Allowed.{IsDisabled, IsFixedList};
 ghost use Rattle.lock_transforms.specs.Making.{Makes};
+ghost use Rattle.lock_transforms.specs.MostChanges.{most_of};
 ghost use Rattle.lock_transforms.specs.Table.{is_enabled, mark_from, taken_again, taken_up};
 ghost use Rattle.lock_transforms.specs.TentativeView.{IsSoundTentative};
 ghost use Rattle.lock_transforms.specs.declared.entries.Kind.TheVariants as kinds;
@@ -14,12 +14,13 @@ use crate::entries::{Closed, Kind};
 use crate::kinds::fixed::{FixedKind, finish_or_retry};
 use crate::kinds::making::try_change;
 use crate::kinds::marks::mark_from;
+use crate::kinds::most::most_of;
 use crate::kinds::parking::unpark_lock;
 use crate::kinds::taking::take_all;
 use crate::tentatives::Tentative;
 use crate::transforms::{Disposition, Transform};
 use item_actions::Outcome;
-use resource_lock::{Change, Graph, MAX_LOCKS, Mark, MarkId, State, WorkerId};
+use resource_lock::{Change, Graph, Mark, MarkId, State, WorkerId};
 
 /// Leaves a blocking section: the worker takes its parked locks again, from the last parked to the
 /// first, and then a lease. Where the section was for a fetch, the fetch's mark becomes Passed or
@@ -37,7 +38,7 @@ pub struct Unblock {
 impl Transform for Unblock {
     ghost kind_of = { λ t. kinds.Unblock t.closed };
 
-    ghost most = { λ _. 3 + 2 * MAX_LOCKS };
+    ghost most = { λ t g w s. most_of g w s (kinds.Unblock t.closed) };
 
     ghost makes = { λ t. IsFixedList (kinds.Unblock t.closed) };
 
@@ -49,8 +50,8 @@ impl Transform for Unblock {
         Kind::Unblock(self.closed)
     }
 
-    fn most_changes(&self) -> u64 {
-        3 + 2 * u64::from(MAX_LOCKS)
+    fn most_changes(&self, graph: &Graph, state: &State, worker: WorkerId) -> u64 {
+        most_of(graph, state, worker, self.kind())
     }
 
     fn apply(&self, work: &mut Tentative) -> Disposition {
@@ -62,8 +63,6 @@ impl Transform for Unblock {
 
 impl FixedKind for Unblock {
     ghost kind_of = { λ t. kinds.Unblock t.closed };
-
-    ghost most = { λ _. 3 + 2 * MAX_LOCKS };
 
     fn is_in_range(&self, graph: &Graph) -> bool {
         match self.closed {
@@ -96,10 +95,9 @@ impl FixedKind for Unblock {
 fn end_fetch(work: &mut Tentative, closed: Closed) -> bool
     requires sound { IsSoundTentative work.old }
     requires in_range { closed.unit < work.old.graph.units }
-    requires room { 3 + 2 * MAX_LOCKS ≤ work.old.room }
-    ensures made { Makes work.old work.new (taken_up work.old.state work.old.worker
+    requires room { 3 + 2 * length (holding_of work.old.state work.old.worker).parked ≤ work.old.room }
+    ensures { Makes work.old work.new (taken_up work.old.state work.old.worker
         ++ Change.Move (ids.Unit closed.unit) (marks.Running work.old.worker) (mark_from closed.outcome) ∷ []) result }
-    ensures few { length (taken_up work.old.state work.old.worker) ≤ 2 + 2 * MAX_LOCKS }
 {
     if !take_up(work) {
         return false;
@@ -115,9 +113,8 @@ fn end_fetch(work: &mut Tentative, closed: Closed) -> bool
 // Leaves, takes each parked lock again, the last first, and then a lease.
 fn take_up(work: &mut Tentative) -> bool
     requires sound { IsSoundTentative work.old }
-    requires room { 2 + 2 * MAX_LOCKS ≤ work.old.room }
-    ensures made { Makes work.old work.new (taken_up work.old.state work.old.worker) result }
-    ensures few { length (taken_up work.old.state work.old.worker) ≤ 2 + 2 * MAX_LOCKS }
+    requires room { 2 + 2 * length (holding_of work.old.state work.old.worker).parked ≤ work.old.room }
+    ensures { Makes work.old work.new (taken_up work.old.state work.old.worker) result }
 {
     if !try_change(work, Change::Leave) {
         return false;

@@ -1,15 +1,22 @@
 //! What a worker owns and runs, by its counts.
 #![tactic(auto, using(crate::proofs::lemmas::Counted::any_counted))]
 
-ghost use Rattle.std.specs.Prelude.{◌≡◌};
+ghost use Rattle.std.specs.Prelude.{◌≡◌, count_by};
 ghost use Rattle.resource_lock.specs.Counting.{counts_of};
-ghost use Rattle.resource_lock.specs.StateView.{IsWorkerOf, runs_task, runs_unit, is_parked, runs_any, owns_any, is_idle};
+ghost use Rattle.resource_lock.specs.StateView.{IsWorkerOf, is_owner, runs_task, runs_unit, is_parked, runs_any, owns_any, is_idle};
 
 use super::State;
 use super::held::Counts;
 use crate::ids::WorkerId;
 
 impl State {
+    /// How many locks a worker owns.
+    pub fn lock_count(&self, worker: WorkerId) -> usize
+        ensures { result ≡ count_by (λ o. is_owner o worker) self.now.owners }
+    {
+        self.counts(worker).locks
+    }
+
     /// Whether a worker owns a lock.
     pub fn owns_any(&self, worker: WorkerId) -> bool
         ensures { result ≡ owns_any self.now worker }

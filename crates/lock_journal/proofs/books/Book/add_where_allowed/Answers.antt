@@ -6,6 +6,7 @@ use Rattle.lock_transforms.specs.Allowed.{Allowed}
 use Rattle.lock_journal.specs.BookView.{BookView}
 use Rattle.lock_transforms.specs.Entry.{Entry, entry, effect}
 use Rattle.lock_transforms.specs.TentativeView.{TentativeView}
+use Rattle.lock_transforms.proofs.lemmas.Rooms.{more_room}
 use Rattle.lock_journal.proofs.lemmas.Replays.{Extends, sound_extended}
 use Rattle.lock_journal.proofs.books.Book.add_where_allowed.Goals as goal
 
@@ -13,7 +14,7 @@ use Rattle.lock_journal.proofs.books.Book.add_where_allowed.Goals as goal
 extended : (c : goal.After-settle) → Extends c.self.inside (record { tentative = c.settle.new.self; history = c.push_finished.new.self; ready = c.follow.new.self }) (entry c.args.worker c.args.kind (Some c.args.changes.now))
 extended c = record {
   fresh = ap (λ (t : TentativeView). t.made) c.settle.ensures;
-  room = omega (arith, ap (λ (t : TentativeView). t.room) c.settle.ensures, c.if-not-admit.ensures.room, c.self.invariant.room);
+  room = more_room c.self.invariant.room (ap (λ (t : TentativeView). t.graph) c.settle.ensures ∙ c.if-not-admit.ensures.graph) (omega (arith, ap (λ (t : TentativeView). t.room) c.settle.ensures, c.if-not-admit.ensures.room));
   graph = ap (λ (t : TentativeView). t.graph) c.settle.ensures ∙ c.if-not-admit.ensures.graph;
   units = c.push_finished.ensures.units;
   entries = c.push_finished.ensures.entries;

@@ -10,6 +10,7 @@ use Rattle.lock_transforms.specs.Allowed.{Allowed}
 use Rattle.lock_journal.specs.Bounds.{IsFitKind}
 use Rattle.lock_transforms.specs.TentativeView.{TentativeView}
 use Rattle.lock_journal.specs.BookView.{BookView}
+use Rattle.lock_transforms.proofs.lemmas.Rooms.{more_room}
 use Rattle.lock_journal.proofs.lemmas.Replays.{Extends, sound_extended}
 use Rattle.lock_journal.proofs.books.Book.run.Given.{Over}
 use Rattle.lock_journal.proofs.books.Book.run.Goals as goal
@@ -19,7 +20,7 @@ extended : (g : Over) (c : goal.After-settle g) → Extends c.self.inside (recor
 extended g c =
     record {
       fresh = ap (λ (t : TentativeView). t.made) c.settle.ensures;
-      room = omega (arith, ap (λ (t : TentativeView). t.room) c.settle.ensures, c.attempt-disposition.ensures.room, c.self.invariant.room);
+      room = more_room c.self.invariant.room (ap (λ (t : TentativeView). t.graph) c.settle.ensures ∙ c.attempt-disposition.ensures.graph) (omega (arith, ap (λ (t : TentativeView). t.room) c.settle.ensures, c.attempt-disposition.ensures.room));
       graph = ap (λ (t : TentativeView). t.graph) c.settle.ensures ∙ c.attempt-disposition.ensures.graph;
       units = c.push_finished.ensures.units;
       entries = c.push_finished.ensures.entries
@@ -28,8 +29,8 @@ extended g c =
       state = ap (λ (t : TentativeView). t.state) c.settle.ensures ∙ c.attempt-disposition.ensures.made c.in-Finished.is;
       allowed = c.attempt-disposition.ensures.allowed c.in-Finished.is;
       fit = subst IsFitKind c.kind.ensures c.push_finished.ensures.fit;
-      index = subst (λ (o : GraphView). IsIndexOf o c.settle.new.self.state c.follow.new.self) (c.graph.ensures.value ∙ sym (ap (λ (t : TentativeView). t.graph) c.settle.ensures))
-          (subst (λ (s : StateView). IsIndexOf c.graph.result.now s c.follow.new.self) (c.state.ensures.value ∙ sym (ap (λ (t : TentativeView). t.state) c.settle.ensures)) c.follow.ensures);
+      index = subst (λ (o : GraphView). IsIndexOf o c.settle.new.self.state c.follow.new.self) (c.graph-in-Finished.ensures.value ∙ sym (ap (λ (t : TentativeView). t.graph) c.settle.ensures))
+          (subst (λ (s : StateView). IsIndexOf c.graph-in-Finished.result.now s c.follow.new.self) (c.state-in-Finished.ensures.value ∙ sym (ap (λ (t : TentativeView). t.state) c.settle.ensures)) c.follow.ensures);
     }
 
 pub invariant_of-self : goal.invariant_of-self
@@ -41,7 +42,7 @@ invariant_of-self-in-Failed g c =
     let graph : c.self.inside.tentative.graph ≡ c.args.self.now.graph = ap (λ (l : BookView). l.graph) c.self.view_is ∙ c.in_ok-reserve.ensures.same.graph in
     let more : Extends c.self.inside (record { tentative = c.attempt-disposition.new.self; history = c.push_failed.new.self; ready = c.self.inside.ready }) (entry c.args.worker (g.T.Transform.kind_of c.args.transform.now) None) = record {
       fresh = c.attempt-disposition.ensures.fresh unfinished;
-      room = omega (arith, ap length (c.attempt-disposition.ensures.fresh unfinished), c.attempt-disposition.ensures.room, c.self.invariant.room);
+      room = more_room c.self.invariant.room c.attempt-disposition.ensures.graph (omega (arith, ap length (c.attempt-disposition.ensures.fresh unfinished), c.attempt-disposition.ensures.room));
       graph = c.attempt-disposition.ensures.graph;
       units = c.push_failed.ensures.units;
       entries = c.push_failed.ensures.entries

@@ -1,7 +1,11 @@
 use Rattle.std.proofs.Common.{◌≡◌, Decides, List, inl, inr, subst}
 use Rattle.resource_lock.specs.declared.changes.Change.{Change}
 use Rattle.lock_transforms.proofs.Admitting.{made_tried, outside_tried, stopped_tried}
+use Rattle.lock_transforms.proofs.Most.{room_for}
 use Rattle.lock_transforms.proofs.kinds.admitting.make_fixed.Goals as goal
+
+pub run_fixed-requires-clause-room : goal.run_fixed-requires-clause-room
+run_fixed-requires-clause-room g c = room_for c.graph.ensures.fits c.graph.ensures.belongs c.state.ensures.good c.args.work.now.worker c.args.work.now.room (g.K.FixedKind.kind_of c.args.kind.now) c.requires.room
 
 pub returns-in-Made : goal.returns-in-Made
 returns-in-Made g c = made_tried c.run_fixed.ensures.worked (c.run_fixed.ensures.made c.in-Made.is) c.run_fixed.ensures.fixed

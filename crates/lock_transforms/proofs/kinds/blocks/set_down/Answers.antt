@@ -4,7 +4,7 @@ use Rattle.resource_lock.specs.declared.changes.Change.TheVariants.{Give, Enter}
 use Rattle.lock_transforms.specs.TentativeView.{TentativeView}
 use Rattle.lock_transforms.specs.Making.{Makes}
 use Rattle.lock_transforms.specs.Table.{owned, parked_locks}
-use Rattle.lock_transforms.proofs.Freed.{few_locks_owned, few_set_down, length-parked_locks, owned_without}
+use Rattle.lock_transforms.proofs.Freed.{length-parked_locks, owned_without}
 use Rattle.lock_transforms.proofs.Makings.{makes_then, makes_stopped}
 use Rattle.lock_transforms.proofs.kinds.blocks.set_down.Goals as goal
 
@@ -12,25 +12,16 @@ use Rattle.lock_transforms.proofs.kinds.blocks.set_down.Goals as goal
 freed_too : {a b c : TentativeView} {all : Bool} → Makes a b (Give ∷ []) true → Makes b c (parked_locks (owned b.state b.worker)) all → Makes a c (Give ∷ parked_locks (owned a.state a.worker)) all
 freed_too {b = b} {c} {all} given freed = makes_then given (subst (λ (ls : List LockId). Makes b c (parked_locks ls) all) (owned_without given) freed)
 
-pub returns-then-not-try_change-clause-few : goal.returns-then-not-try_change-clause-few
-returns-then-not-try_change-clause-few c = few_set_down c.args.work.now.worker c.requires.fits c.requires.belongs
-
 pub free_locks-requires-clause-room : goal.free_locks-requires-clause-room
-free_locks-requires-clause-room c = omega (arith, ap length (owned_without c.if-not-try_change.ensures), length-parked_locks (owned c.try_change.new.work.state c.try_change.new.work.worker), few_locks_owned c.args.work.now.worker c.requires.fits c.requires.belongs, c.requires.room, c.if-not-try_change.ensures.room, c.if-not-try_change.ensures.few)
+free_locks-requires-clause-room c = omega (arith, ap length (owned_without c.if-not-try_change.ensures), length-parked_locks (owned c.try_change.new.work.state c.try_change.new.work.worker), c.requires.room, c.if-not-try_change.ensures.room, c.if-not-try_change.ensures.few)
 
-pub returns-then-not-free_locks-clause-made : goal.returns-then-not-free_locks-clause-made
-returns-then-not-free_locks-clause-made c = makes_stopped (Enter ∷ []) (freed_too c.if-not-try_change.ensures c.if-not-free_locks.ensures)
-
-pub returns-then-not-free_locks-clause-few : goal.returns-then-not-free_locks-clause-few
-returns-then-not-free_locks-clause-few c = few_set_down c.args.work.now.worker c.requires.fits c.requires.belongs
+pub returns-then-not-free_locks : goal.returns-then-not-free_locks
+returns-then-not-free_locks c = makes_stopped (Enter ∷ []) (freed_too c.if-not-try_change.ensures c.if-not-free_locks.ensures)
 
 pub try_change-requires-2-clause-room : goal.try_change-requires-2-clause-room
 try_change-requires-2-clause-room c =
     let freed : Makes c.args.work.now c.free_locks.new.work (Give ∷ parked_locks (owned c.args.work.now.state c.args.work.now.worker)) true = freed_too c.if-not-try_change.ensures c.if-not-free_locks.ensures in
-    omega (arith, length-parked_locks (owned c.args.work.now.state c.args.work.now.worker), few_locks_owned c.args.work.now.worker c.requires.fits c.requires.belongs, c.requires.room, freed.room, freed.few)
+    omega (arith, length-parked_locks (owned c.args.work.now.state c.args.work.now.worker), c.requires.room, freed.room, freed.few)
 
-pub returns-clause-made : goal.returns-clause-made
-returns-clause-made c = makes_then (freed_too c.if-not-try_change.ensures c.if-not-free_locks.ensures) c.try_change-2.ensures
-
-pub returns-clause-few : goal.returns-clause-few
-returns-clause-few c = few_set_down c.args.work.now.worker c.requires.fits c.requires.belongs
+pub returns : goal.returns
+returns c = makes_then (freed_too c.if-not-try_change.ensures c.if-not-free_locks.ensures) c.try_change-2.ensures
