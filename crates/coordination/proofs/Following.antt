@@ -1,8 +1,8 @@
 -- The part of a worker after changes of its own.
-use Rattle.std.proofs.Common.{◌≡◌, ℕ, suc, ◌+◌, ◌<◌, ◌≤◌, Bool, true, false, cond, List, [], ◌∷◌, ◌++◌, length, length-append, map, get_or, take, drop, Option, refl, sym, ap, ◌∙◌, subst, arith}
+use Rattle.std.proofs.Common.{◌≡◌, ℕ, ◌+◌, ◌<◌, ◌≤◌, Bool, true, false, cond, List, [], ◌∷◌, length, get_or, take, drop, Option, refl, sym, ap, ◌∙◌, subst, arith}
 use Rattle.std.specs.Prelude.{vec_capacity}
 use Rattle.std.proofs.lemmas.Bool.{and_parts}
-use Rattle.std.proofs.lemmas.List.{length-map, length_push, take_more, drop_more}
+use Rattle.std.proofs.lemmas.List.{length_push, take_more, drop_more}
 use Rattle.resource_lock.specs.Change.{can, can_all, holding_after, make, make_all}
 use Rattle.resource_lock.specs.Good.{Good}
 use Rattle.resource_lock.specs.StateView.{Holding, StateView, holding_of, is_owner, runs_by}
@@ -16,29 +16,14 @@ use Rattle.resource_lock.proofs.lemmas.Kept.{kept}
 use Rattle.resource_lock.proofs.lemmas.Lists.{length-le_from_once}
 use Rattle.resource_lock.proofs.lemmas.Runs.{all_named_along, make_all-append, same_shape-make, worker_along}
 use Rattle.lock_transforms.specs.Table.{owned, owned_from}
-use Rattle.lock_journal.specs.Own.{action_at, claimed, places_from, task_at, unit_at}
+use Rattle.lock_journal.specs.Own.{claimed}
 use Rattle.lock_journal.specs.OwnChanges.{claimed_after, locks_after, lock_before, mark_before, with_if, with_member, without_if}
 use Rattle.lock_journal.proofs.lemmas.OwnChanges.{own_claimed, own_holding, own_locks}
-use Rattle.coordination.specs.Parts.{HasRoomFor, IsAfter, LeadsOn, mark_count}
+use Rattle.coordination.specs.Parts.{HasRoomFor, IsAfter, LeadsOn}
 use Rattle.coordination.specs.declared.parts.WorkerPart.{WorkerPart}
+use Rattle.coordination.proofs.lemmas.OnTheWay.{length_with}
 
--- how long the lists are
-length_with : {X : Type 0} (before : X → X → Bool) (x : X) (xs : List X) → length (with_member before x xs) ≡ suc (length xs)
-length_with before x [] = refl
-length_with before x (y ∷ ys) = at (before y x) (length_with before x ys)
-  where
-    at : (b : Bool) → length (with_member before x ys) ≡ suc (length ys) → length (cond b (y ∷ with_member before x ys) (x ∷ y ∷ ys)) ≡ suc (length (y ∷ ys))
-    at true rest = omega arith
-    at false rest = refl
-
-length_places : {X : Type 0} (test : X → Bool) (n : ℕ) (xs : List X) → length (places_from test n xs) ≤ length xs
-length_places test n [] = omega arith
-length_places test n (x ∷ xs) = at (test x) (length_places test (n + 1) xs)
-  where
-    at : (b : Bool) → length (places_from test (n + 1) xs) ≤ length xs → length (cond b (n ∷ places_from test (n + 1) xs) (places_from test (n + 1) xs)) ≤ length (x ∷ xs)
-    at true rest = omega arith
-    at false rest = omega arith
-
+-- how long the list of locks is
 length_owned : (n : ℕ) (os : List (Option WorkerId)) (w : WorkerId) → length (owned_from n os w) ≤ length os
 length_owned n [] w = omega arith
 length_owned n (o ∷ os) w = at (is_owner o w) (length_owned (n + 1) os w)
@@ -46,23 +31,6 @@ length_owned n (o ∷ os) w = at (is_owner o w) (length_owned (n + 1) os w)
     at : (b : Bool) → length (owned_from (n + 1) os w) ≤ length os → length (cond b (record { 0 = n } ∷ owned_from (n + 1) os w) (owned_from (n + 1) os w)) ≤ length (o ∷ os)
     at true rest = omega arith
     at false rest = omega arith
-
-length_claimed : (s : StateView) (w : WorkerId) → length (claimed s w) ≤ mark_count s
-length_claimed s w =
-    let ts : List ℕ = places_from (runs_by w) 0 s.tasks in
-    let qs : List ℕ = places_from (runs_by w) 0 s.actions in
-    let us : List ℕ = places_from (runs_by w) 0 s.units in
-    omega (
-      arith,
-      length-append (map task_at ts) (map action_at qs ++ map unit_at us),
-      length-append (map action_at qs) (map unit_at us),
-      length-map ts task_at,
-      length-map qs action_at,
-      length-map us unit_at,
-      length_places (runs_by w) 0 s.tasks,
-      length_places (runs_by w) 0 s.actions,
-      length_places (runs_by w) 0 s.units,
-    )
 
 module _ (s : StateView) (w : WorkerId) (part : WorkerPart) (c : Change) (cs : List Change) (l : LeadsOn s w part (c ∷ cs)) where
   possible : (can s w c ≡ true) × (can_all (make s w c) w cs ≡ true)
@@ -84,9 +52,10 @@ module _ (s : StateView) (w : WorkerId) (part : WorkerPart) (c : Change) (cs : L
           locks = a.locks ∙ (ap (λ (ls : List LockId). locks_after ls c) l.has.locks ∙ sym (own_locks s w c l.named.0 possible.0));
           claimed = a.claimed ∙ (ap (λ (ms : List MarkId). claimed_after w ms c) l.has.claimed ∙ sym (own_claimed s w c l.named.0 possible.0));
         };
+        few = λ front behind is. l.few (c ∷ front) behind (ap (λ (ds : List Change). c ∷ ds) is);
         room = record {
           lock_room = omega (arith, shape.locks, a.lock_room, l.room.lock_room);
-          mark_room = omega (arith, shape.tasks, shape.actions, shape.units, a.mark_room, l.room.mark_room);
+          mark_room = omega (arith, a.mark_room, l.room.mark_room);
           park_room = omega (arith, shape.locks, a.park_room, l.room.park_room);
         };
       }
@@ -96,17 +65,13 @@ room_to_move : (s : StateView) (w : WorkerId) (part : WorkerPart) (m : MarkId) (
     → length (without_if mark_before (runs_by w from) m part.claimed.items) < vec_capacity part.claimed
 room_to_move s w part m from to cs l is =
     let c : Change = Move m from to in
-    let shape = same_shape-make s w c in
     let less : List MarkId = without_if mark_before (runs_by w from) m (claimed s w) in
     let after : claimed (make s w c) w ≡ with_member mark_before m less = own_claimed s w c l.named.0 (possible s w part c cs l).0 ∙ ap (λ b. with_if mark_before b m less) is in
     omega (
       arith,
       ap (λ (ms : List MarkId). length ms) after,
       length_with mark_before m less,
-      length_claimed (make s w c) w,
-      shape.tasks,
-      shape.actions,
-      shape.units,
+      l.few (c ∷ []) cs refl,
       l.room.mark_room,
       ap (λ (ms : List MarkId). length (without_if mark_before (runs_by w from) m ms)) l.has.claimed,
     )

@@ -12,6 +12,7 @@ pub mod Taking
 pub mod Ended
 pub mod Opening
 pub mod SortedLists
+pub mod Rising
 pub mod Following
 pub mod AtRest
 pub mod Totals

@@ -7,7 +7,7 @@ use Rattle.coordination.specs.declared.parts.Notes.{Notes}
 use Rattle.coordination.specs.declared.parts.WorkerPart.{WorkerPart}
 use Rattle.coordination.specs.declared.rule.Sight.{Sight}
 use Rattle.coordination.specs.Agrees.{Agrees}
-use Rattle.coordination.specs.Parts.{HasListRoom, IsPartOf, marks_of}
+use Rattle.coordination.specs.Parts.{HasListRoom, IsPartOf}
 use Rattle.history_views.specs.ShownBooks.{IsTold}
 use Rattle.coordination.specs.Passes.{IsPass, me_in, view_in}
 use Rattle.coordination.specs.declared.rule.SeatView.{SeatView}
@@ -23,17 +23,17 @@ part_on w seen book part a p = record {
   last = p.last ∙ sym a.last;
 }
 
-pub room_on : (w : WorkerId) (seen book : BookView) (part : WorkerPart) → Agrees w seen book → HasListRoom seen.graph.locks (marks_of seen.graph) part → HasListRoom book.graph.locks (marks_of book.graph) part
-room_on w seen book part a room = subst (λ (g : GraphView). HasListRoom g.locks (marks_of g) part) (sym a.graph) room
+pub room_on : (w : WorkerId) (seen book : BookView) (part : WorkerPart) → Agrees w seen book → HasListRoom seen.graph.locks part → HasListRoom book.graph.locks part
+room_on w seen book part a room = subst (λ (g : GraphView). HasListRoom g.locks part) (sym a.graph) room
 
 -- a seat that is alone again is a pass
 pub closes_pass : (worker : WorkerId) (notes : Notes) (me : M) (l : Option Ledger) (k s : Sight) → me ≡ (one l k, []) → sight_of me.0 ≡ s → worker ≡ s.worker → IsPartOf s.seen s.worker notes.part
-    → HasListRoom s.seen.graph.locks (marks_of s.seen.graph) notes.part → IsTold l notes.reach s.seen → IsPass worker notes me
+    → HasListRoom s.seen.graph.locks notes.part → IsTold l notes.reach s.seen → IsPass worker notes me
 closes_pass worker notes me l k s lone is w p room told = record {
   lone = lone ∙ (λ i. (one (sym (ap (λ (m : M). m.0.ledger) lone) i) (sym (ap (λ (m : M). sight_of m.0) lone) i), []));
   worker_is = w ∙ sym (ap (λ (x : Sight). x.worker) is);
   part_is = subst (λ (x : Sight). IsPartOf x.seen x.worker notes.part) (sym is) p;
-  room = subst (λ (x : Sight). HasListRoom x.seen.graph.locks (marks_of x.seen.graph) notes.part) (sym is) room;
+  room = subst (λ (x : Sight). HasListRoom x.seen.graph.locks notes.part) (sym is) room;
   told = subst (λ (p : Option Ledger × Sight). IsTold p.0 notes.reach p.1.seen) (λ i. (sym (ap (λ (m : M). m.0.ledger) lone) i, sym is i)) told;
 }
 

@@ -21,7 +21,7 @@ use Rattle.coordination.specs.SleepAndWake.{has_entered}
 use Rattle.coordination.specs.Sights.{one, seeing, sight_of}
 use Rattle.coordination.specs.Turns.{HasLeft, HasTurned, Leaves, sight_at}
 use Rattle.coordination.specs.declared.turns.Came.{Came}
-use Rattle.coordination.specs.Parts.{Follows, Grew, HasListRoom, IsPartOf, marks_of}
+use Rattle.coordination.specs.Parts.{Follows, Grew, HasListRoom, IsPartOf}
 use Rattle.coordination.specs.declared.parts.WorkerPart.{WorkerPart}
 use Rattle.coordination.proofs.PassSteps.{part_on, room_on}
 
@@ -86,10 +86,10 @@ pub part_in : (m m' : M) (t : Taken m m') (worker : WorkerId) (part : WorkerPart
 part_in m m' t worker part is p =
     subst (λ (x : WorkerId × BookView). IsPartOf x.1 x.0 part) (λ i. (sym is i, sym (taken_book m m' t) i)) (part_on (sight_of m.0).worker (sight_of m.0).seen t.book part t.found.agrees p)
 
-pub room_in : (m m' : M) (t : Taken m m') (part : WorkerPart) → HasListRoom (sight_of m.0).seen.graph.locks (marks_of (sight_of m.0).seen.graph) part
-    → HasListRoom (carried_book m'.1).graph.locks (marks_of (carried_book m'.1).graph) part
+pub room_in : (m m' : M) (t : Taken m m') (part : WorkerPart) → HasListRoom (sight_of m.0).seen.graph.locks part
+    → HasListRoom (carried_book m'.1).graph.locks part
 room_in m m' t part room =
-    subst (λ (b : BookView). HasListRoom b.graph.locks (marks_of b.graph) part) (sym (taken_book m m' t)) (room_on (sight_of m.0).worker (sight_of m.0).seen t.book part t.found.agrees room)
+    subst (λ (b : BookView). HasListRoom b.graph.locks part) (sym (taken_book m m' t)) (room_on (sight_of m.0).worker (sight_of m.0).seen t.book part t.found.agrees room)
 
 -- what a transform left of a book is what a part can follow
 grew : {E : Type 0} (kind : Kind) (makes : Making) (fails retries : Cause) (w : WorkerId) (old new : BookView) (r : Result Disposition E) → Ran kind makes fails retries w old new r → Grew w old new r
@@ -99,7 +99,7 @@ grew kind makes fails retries w old new (Ok Retry) ran = (ran.history, ran.state
 grew kind makes fails retries w old new (Err e) ran = (ran.history, ran.state)
 
 pub follows : {E : Type 0} (kind : Kind) (makes : Making) (fails retries : Cause) (w : WorkerId) (old new : BookView) (r : Result Disposition E) (part : WorkerPart) → IsSoundBook old → new.graph ≡ old.graph → Ran kind makes fails retries w old new r
-    → new.given ≡ old.given → old.given ≤ length old.history → IsPartOf old w part → HasListRoom old.graph.locks (marks_of old.graph) part → Follows w old new r part
+    → new.given ≡ old.given → old.given ≤ length old.history → IsPartOf old w part → HasListRoom old.graph.locks part → Follows w old new r part
 follows kind makes fails retries w old new r part sound graph ran given within p room = record { sound = sound; graph = graph; grew = grew kind makes fails retries w old new r ran; given = given; within = within; kept = p; room = room }
 
 -- an entry that was made wasn't given away

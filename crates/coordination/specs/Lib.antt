@@ -9,8 +9,10 @@ pub mod Rule
 pub mod Attempts
 pub mod Offered
 pub mod Calls
+pub mod Orders
 pub mod SortedLists
 pub mod Stops
+pub mod FewMarks
 pub mod Parts
 pub mod Passes
 pub mod Together

@@ -2,9 +2,8 @@
 use Rattle.std.specs.Prelude.{◌≡◌, ◌+◌, ◌<◌, ◌≤◌, ℕ, suc, true, false, List, [], ◌∷◌, ◌++◌, length, vec_capacity}
 use Rattle.std.specs.Prelude.{vec_len, Result, Ok, Err, None}
 use Rattle.std.specs.List.{AllByRecursion}
-use Rattle.resource_lock.specs.Change.{can_all, holding_after, NamesOnly}
+use Rattle.resource_lock.specs.Change.{can_all, holding_after, make_all, NamesOnly}
 use Rattle.resource_lock.specs.Good.{Good}
-use Rattle.resource_lock.specs.GraphView.{GraphView}
 use Rattle.resource_lock.specs.StateView.{Holding, IsWorkerOf, StateView, holding_of, runs_by}
 use Rattle.resource_lock.specs.declared.changes.Change.{Change}
 use Rattle.resource_lock.specs.declared.changes.Change.TheVariants.{Lock, Move, Park}
@@ -17,11 +16,11 @@ use Rattle.lock_transforms.specs.declared.entries.Kind.{Kind}
 use Rattle.lock_transforms.specs.declared.transforms.Disposition.{Disposition}
 use Rattle.lock_transforms.specs.declared.transforms.Disposition.TheVariants.{Finished, Failed, Retry}
 use Rattle.lock_journal.specs.Own.{claimed}
-use Rattle.lock_journal.specs.OwnChanges.{claimed_after, locks_after, mark_before, without_if}
+use Rattle.lock_journal.specs.OwnChanges.{claimed_after, lock_before, locks_after, mark_before, without_if}
 use Rattle.coordination.specs.Agrees.{IsSoundBook}
+use Rattle.coordination.specs.SortedLists.{IsRising}
 use Rattle.coordination.specs.WorkerEntries.{last_of}
 use Rattle.coordination.specs.declared.parts.WorkerPart.{WorkerPart}
-use Rattle.coordination.specs.declared.parts.ListRoom.{ListRoom}
 
 abbrev pub holding_in : WorkerPart → Holding
 holding_in part = record { lease = part.lease; parked = part.parked.items; blocked = part.blocked }
@@ -37,21 +36,10 @@ pub record IsPartOf (book : BookView) (w : WorkerId) (part : WorkerPart) : Type 
   pub has : Has book.state w part
   pub last : part.last ≡ last_of w book.history
 
--- how many tasks, actions and units there are together
-abbrev pub marks_of : GraphView → ℕ
-marks_of g = length g.tasks + length g.actions + g.units
-
-abbrev pub mark_count : StateView → ℕ
-mark_count s = length s.tasks + length s.actions + length s.units
-
-pub record IsRoomOf (g : GraphView) (room : ListRoom) : Type 0 where
-  pub locks : room.locks ≡ g.locks
-  pub marks : room.marks ≡ marks_of g
-
--- its lists have room for so many locks and marks
-pub record HasListRoom (locks marks : ℕ) (part : WorkerPart) : Type 0 where
+-- its lists have room for so many locks, and for the three marks that a worker runs at most
+pub record HasListRoom (locks : ℕ) (part : WorkerPart) : Type 0 where
   pub lock_room : locks ≤ vec_capacity part.locks
-  pub mark_room : marks ≤ vec_capacity part.claimed
+  pub mark_room : 3 ≤ vec_capacity part.claimed
   pub park_room : locks ≤ vec_capacity part.parked
 
 -- The part is that of a worker of a sound book, and has room for all that the worker may have.
@@ -59,22 +47,22 @@ pub record IsPartHere (w : WorkerId) (book : BookView) (part : WorkerPart) : Typ
   pub known : w.0 < book.graph.workers
   pub sound : IsSoundBook book
   pub kept : IsPartOf book w part
-  pub room : HasListRoom book.graph.locks (marks_of book.graph) part
+  pub room : HasListRoom book.graph.locks part
 
 -- the part of a worker that has nothing, with room for all
-pub record IsFreshPart (room : ListRoom) (last : ℕ) (part : WorkerPart) : Type 0 where
+pub record IsFreshPart (locks last : ℕ) (part : WorkerPart) : Type 0 where
   pub lease : part.lease ≡ false
   pub blocked : part.blocked ≡ false
-  pub locks : part.locks.items ≡ []
+  pub owned : part.locks.items ≡ []
   pub claimed : part.claimed.items ≡ []
   pub parked : part.parked.items ≡ []
   pub number : part.last ≡ last
-  pub has_room : HasListRoom room.locks room.marks part
+  pub has_room : HasListRoom locks part
 
 -- these are the parts of the workers from w on, each with room for all that its worker may have
 abbrev pub ArePartsFrom : ℕ → BookView → List WorkerPart → Type 0
 ArePartsFrom w book [] = Unit {0}
-ArePartsFrom w book (part ∷ parts) = IsPartOf book (record { 0 = w }) part × HasListRoom book.graph.locks (marks_of book.graph) part
+ArePartsFrom w book (part ∷ parts) = IsPartOf book (record { 0 = w }) part × HasListRoom book.graph.locks part
     × ArePartsFrom (suc w) book parts
 
 -- its lists have room for a change of the worker
@@ -83,6 +71,11 @@ HasRoomFor w part (Lock l) = vec_len part.locks < vec_capacity part.locks
 HasRoomFor w part (Park l) = vec_len part.parked < vec_capacity part.parked
 HasRoomFor w part (Move m from to) = runs_by w to ≡ true → length (without_if mark_before (runs_by w from) m part.claimed.items) < vec_capacity part.claimed
 HasRoomFor w part _ = Unit {0}
+
+-- what the worker owns and runs stands in order
+pub record StandsInOrder (part : WorkerPart) : Type 0 where
+  pub locks : IsRising lock_before part.locks.items
+  pub claimed : IsRising mark_before part.claimed.items
 
 -- the part after a change of the worker, which takes no memory
 pub record IsAfter (w : WorkerId) (c : Change) (old new : WorkerPart) : Type 0 where
@@ -94,14 +87,16 @@ pub record IsAfter (w : WorkerId) (c : Change) (old new : WorkerPart) : Type 0 w
   pub mark_room : vec_capacity new.claimed ≡ vec_capacity old.claimed
   pub park_room : vec_capacity new.parked ≡ vec_capacity old.parked
 
--- The part is that of the worker in a good state, in which it can make these changes in turn, and has room for all.
+-- The part is that of the worker in a good state, in which it can make these changes in turn, and has room for all. No state on the
+-- way has more of its marks than it has room for.
 pub record LeadsOn (s : StateView) (w : WorkerId) (part : WorkerPart) (changes : List Change) : Type 0 where
   pub good : Good s
   pub worker : IsWorkerOf s w
   pub named : AllByRecursion (NamesOnly s) changes
   pub possible : can_all s w changes ≡ true
   pub has : Has s w part
-  pub room : HasListRoom (length s.owners) (mark_count s) part
+  pub few : (front behind : List Change) → changes ≡ front ++ behind → length (claimed (make_all s w front) w) ≤ 3
+  pub room : HasListRoom (length s.owners) part
 
 -- a book after a transform of the worker
 abbrev pub Grew : {E : Type 0} → WorkerId → BookView → BookView → Result Disposition E → Type 0
@@ -118,4 +113,4 @@ pub record Follows {E : Type 0} (w : WorkerId) (old new : BookView) (ran : Resul
   pub given : new.given ≡ old.given
   pub within : old.given ≤ length old.history
   pub kept : IsPartOf old w part
-  pub room : HasListRoom old.graph.locks (marks_of old.graph) part
+  pub room : HasListRoom old.graph.locks part

@@ -1,4 +1,4 @@
-ghost use Rattle.std.specs.Prelude.{◌≡◌, ◌<◌, ℕ, List, get_or, length, map};
+ghost use Rattle.std.specs.Prelude.{◌≡◌, ◌<◌, ◌≤◌, ℕ, List, get_or, length, map};
 ghost use Rattle.resource_lock.specs.AtRest.{IsAtRest};
 ghost use Rattle.resource_lock.specs.Good.{Good};
 ghost use Rattle.resource_lock.specs.GraphView.{GraphView};
@@ -6,9 +6,12 @@ ghost use Rattle.resource_lock.specs.Opening.{opening_of};
 ghost use Rattle.resource_lock.specs.Shape.{BelongsTo};
 ghost use Rattle.resource_lock.specs.StateView.{IsWorkerOf};
 ghost use Rattle.resource_lock.specs.declared.ids.WorkerId.{WorkerId};
+ghost use Rattle.lock_transforms.specs.Allowed.{Lawful};
+ghost use Rattle.lock_transforms.specs.Entry.{Entry, replay};
 ghost use Rattle.lock_journal.specs.BookView.{BookView};
-ghost use Rattle.lock_journal.specs.Own.{NamesWorkers};
+ghost use Rattle.lock_journal.specs.Own.{NamesWorkers, claimed};
 ghost use Rattle.coordination.specs.Agrees.{IsSoundBook};
+ghost use Rattle.coordination.specs.FewMarks.{RunsFew};
 ghost use Rattle.coordination.specs.Passes.{PassView};
 
 /// In the state that a run begins in nobody has anything, so a service can be opened with it.
@@ -23,6 +26,12 @@ pub fn sound_books_have_good_states()
     ensures belongs { (book : BookView) → IsSoundBook book → BelongsTo book.graph book.state }
     ensures workers { (book : BookView) → IsSoundBook book → NamesWorkers book.graph.workers book.state }
     ensures known { (book : BookView) (w : WorkerId) → IsSoundBook book → w.0 < book.graph.workers → IsWorkerOf book.state w }
+{}
+
+/// In every lawful history a worker runs at most a task, an action and a unit, so a pass never shows more than three marks.
+pub fn workers_run_few_marks()
+    ensures each { (g : GraphView) (h : List Entry) (w : WorkerId) → Lawful g h → RunsFew (replay g h) w }
+    ensures all { (g : GraphView) (h : List Entry) (w : WorkerId) → Lawful g h → length (claimed (replay g h) w) ≤ 3 }
 {}
 
 /// Passes that have, place by place, the workers of others have their numbers. So a service can be finished with the passes that

@@ -33,6 +33,7 @@ pub use halts::Halt;
 pub use keepers::{Giver, Keeper};
 pub use laws::{
     openings_are_at_rest, sound_books_have_good_states, used_passes_have_their_numbers,
+    workers_run_few_marks,
 };
 pub use outside_work::Offers;
 pub use passes::Pass;

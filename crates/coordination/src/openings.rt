@@ -10,7 +10,7 @@ use crate::guarded::Guarded;
 use crate::keepers::{Keeper, Kept};
 use crate::last_entries::last_number;
 use crate::outside_work::Offers;
-use crate::parts::{ListRoom, WorkerPart};
+use crate::parts::WorkerPart;
 use crate::passes::Pass;
 use crate::rule::SeatView;
 use crate::services::{Coordination, service_of};
@@ -106,11 +106,11 @@ fn parts_of(alloc: Global, book: &Book) -> Result<Vec<WorkerPart>, AllocError>
     ensures len { IfOk result (λ parts. length parts.items ≡ book.now.graph.workers) }
     ensures parts { IfOk result (λ parts. ArePartsFrom 0 book.now parts.items) }
 {
-    let room = ListRoom::of(book.graph());
+    let locks = book.graph().locks() as usize;
     let mut parts = Vec::new(alloc);
     for worker in 0..book.graph().workers() {
         let last = last_number(book, WorkerId(worker));
-        parts.push(WorkerPart::fresh(alloc, room, last)?)?;
+        parts.push(WorkerPart::fresh(alloc, locks, last)?)?;
     }
     Ok(parts)
 }

@@ -4,35 +4,18 @@ ghost use Rattle.resource_lock.specs.Change.{make_all};
 ghost use Rattle.resource_lock.specs.StateView.{StateView, runs_by};
 ghost use Rattle.lock_journal.specs.BookView.{BookView};
 ghost use Rattle.lock_journal.specs.OwnChanges.{mark_before, with_if, without_if};
-ghost use Rattle.coordination.specs.Parts.{Follows, HasListRoom, HasRoomFor, IsAfter, IsPartOf, IsFreshPart, IsRoomOf, LeadsOn, marks_of};
+ghost use Rattle.coordination.specs.SortedLists.{IsRising};
+ghost use Rattle.coordination.specs.Parts.{Follows, HasListRoom, HasRoomFor, IsAfter, IsPartOf, IsFreshPart, LeadsOn, StandsInOrder};
 
 use crate::sorted_lists::{add, remove};
 use history_views::Reach;
 use lock_journal::Book;
 use lock_transforms::Disposition;
-use resource_lock::{Change, Graph, LockId, Mark, MarkId, WorkerId};
+use resource_lock::{Change, LockId, Mark, MarkId, WorkerId};
 use std::alloc::{AllocError, Global};
 
-/// How many locks a graph has, and how many tasks, actions and units together.
-#[derive(Clone, Copy)]
-pub struct ListRoom {
-    /// How many locks.
-    pub locks: usize,
-    /// How many marks: of tasks, actions and units.
-    pub marks: usize,
-}
-
-impl ListRoom {
-    /// The room that a graph needs.
-    pub fn of(graph: &Graph) -> ListRoom
-        ensures { IsRoomOf graph.now result }
-    {
-        ListRoom {
-            locks: graph.locks() as usize,
-            marks: graph.tasks().len() + graph.actions().len() + graph.units() as usize,
-        }
-    }
-}
+// How many marks a worker runs at most: of a task, of an action and of a unit.
+const MOST_MARKS: usize = 3;
 
 /// What a pass keeps of the book that its worker last let go of.
 #[derive(Drop)]
@@ -61,18 +44,18 @@ pub struct WorkerPart {
 }
 
 impl WorkerPart {
-    /// The part of a worker that has nothing, with room for all that it can ever have. It fails for want of memory alone.
-    pub fn fresh(alloc: Global, room: ListRoom, last: u64) -> Result<WorkerPart, AllocError>
-        ensures { IfOk result (IsFreshPart room last) }
+    /// The part of a worker that has nothing, with room for all that it can ever have where there are so many locks. It fails for want of memory alone.
+    pub fn fresh(alloc: Global, locks: usize, last: u64) -> Result<WorkerPart, AllocError>
+        ensures { IfOk result (IsFreshPart locks last) }
     {
-        let locks = Vec::with_capacity(alloc, room.locks)?;
-        let claimed = Vec::with_capacity(alloc, room.marks)?;
-        let parked = Vec::with_capacity(alloc, room.locks)?;
+        let owned = Vec::with_capacity(alloc, locks)?;
+        let claimed = Vec::with_capacity(alloc, MOST_MARKS)?;
+        let parked = Vec::with_capacity(alloc, locks)?;
         Ok(WorkerPart {
             last,
             lease: false,
             blocked: false,
-            locks,
+            locks: owned,
             claimed,
             parked,
         })
@@ -83,7 +66,7 @@ impl WorkerPart {
     pub fn follow(&mut self, worker: WorkerId, book: &Book, ran: &Result<Disposition, AllocError>)
         requires { (before : BookView) × Follows worker before book.now ran.now self.old }
         ensures part { IsPartOf book.now worker self.new }
-        ensures room { HasListRoom book.now.graph.locks (marks_of book.now.graph) self.new }
+        ensures room { HasListRoom book.now.graph.locks self.new }
     {
         match ran {
             Ok(Disposition::Finished) => {
@@ -108,7 +91,8 @@ impl WorkerPart {
 
     // Notes a change of the worker.
     fn note(&mut self, worker: WorkerId, change: Change)
-        requires { HasRoomFor worker self.old change }
+        requires room { HasRoomFor worker self.old change }
+        requires order { StandsInOrder self.old }
         ensures { IsAfter worker change self.old self.new }
     {
         match change {
@@ -129,7 +113,8 @@ impl WorkerPart {
 
 // The marks that run by a worker, after it has moved one.
 fn note_move(claimed: &mut Vec<MarkId>, worker: WorkerId, id: MarkId, from: Mark, to: Mark)
-    requires { runs_by worker to ≡ true → length (without_if mark_before (runs_by worker from) id claimed.old.items) < vec_capacity claimed.old }
+    requires rises { IsRising mark_before claimed.old.items }
+    requires room { runs_by worker to ≡ true → length (without_if mark_before (runs_by worker from) id claimed.old.items) < vec_capacity claimed.old }
     ensures items { claimed.new.items ≡ with_if mark_before (runs_by worker to) id (without_if mark_before (runs_by worker from) id claimed.old.items) }
     ensures capacity { vec_capacity claimed.new ≡ vec_capacity claimed.old }
 {

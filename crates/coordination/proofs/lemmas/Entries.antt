@@ -18,9 +18,11 @@ use Rattle.lock_transforms.specs.declared.transforms.Disposition.TheVariants.{Fi
 use Rattle.lock_journal.proofs.lemmas.Named.{belongs, good}
 use Rattle.coordination.specs.Agrees.{IsSoundBook}
 use Rattle.coordination.specs.WorkerEntries.{last_of}
-use Rattle.coordination.specs.Parts.{Follows, Has, HasListRoom, IsPartOf, LeadsOn, mark_count, marks_of}
+use Rattle.coordination.specs.Parts.{Follows, Has, HasListRoom, IsPartOf, LeadsOn}
 use Rattle.coordination.specs.declared.parts.WorkerPart.{WorkerPart}
+use Rattle.coordination.proofs.lemmas.FewMarks.{Keeps, keeps}
 use Rattle.coordination.proofs.lemmas.Growing.{last_of-own}
+use Rattle.coordination.proofs.lemmas.OnTheWay.{few_on_the_way}
 
 -- at a result that is known by an equation
 pub follows_at : {E : Type 0} (w : WorkerId) (old new : BookView) (r s : Result Disposition E) (part : WorkerPart) → r ≡ s → Follows w old new r part → Follows w old new s part
@@ -33,17 +35,17 @@ pub good_sound : (book : BookView) → IsSoundBook book → Good book.state
 good_sound book sound = subst Good (sym sound.replays) (good book.graph book.history sound.lawful)
 
 -- the room of the graph is that of its states
-room_in : (g : GraphView) (s : StateView) (part : WorkerPart) → BelongsTo g s → HasListRoom g.locks (marks_of g) part → HasListRoom (length s.owners) (mark_count s) part
+room_in : (g : GraphView) (s : StateView) (part : WorkerPart) → BelongsTo g s → HasListRoom g.locks part → HasListRoom (length s.owners) part
 room_in g s part b room = record {
   lock_room = omega (arith, b.locks, room.lock_room);
-  mark_room = omega (arith, b.tasks, b.actions, b.units, room.mark_room);
+  mark_room = room.mark_room;
   park_room = omega (arith, b.locks, room.park_room);
 }
 
-room_out : (g : GraphView) (s : StateView) (part : WorkerPart) → BelongsTo g s → HasListRoom (length s.owners) (mark_count s) part → HasListRoom g.locks (marks_of g) part
+room_out : (g : GraphView) (s : StateView) (part : WorkerPart) → BelongsTo g s → HasListRoom (length s.owners) part → HasListRoom g.locks part
 room_out g s part b room = record {
   lock_room = omega (arith, b.locks, room.lock_room);
-  mark_room = omega (arith, b.tasks, b.actions, b.units, room.mark_room);
+  mark_room = room.mark_room;
   park_room = omega (arith, b.locks, room.park_room);
 }
 
@@ -74,6 +76,8 @@ module _ {E : Type 0} (w : WorkerId) (old new : BookView) (part : WorkerPart) (f
         named = finishes.finished.named;
         possible = finishes.finished.possible;
         has = record { holding = f.kept.has.holding; locks = f.kept.has.locks; claimed = f.kept.has.claimed };
+        few = few_on_the_way old.graph old.state w f.grew.0 f.grew.1 b (worker_from old.graph old.state w b finishes.worker) finishes.kind finishes.finished
+            (subst (λ s. Keeps s w) (sym f.sound.replays) (keeps old.graph old.history w f.sound.lawful));
         room = let r = room_in old.graph old.state part b f.room in record { lock_room = r.lock_room; mark_room = r.mark_room; park_room = r.park_room };
       }
 
@@ -86,9 +90,9 @@ module _ {E : Type 0} (w : WorkerId) (old new : BookView) (part : WorkerPart) (f
           last = last ∙ (long ∙ (ap (λ (h : List Entry). length h) history ∙ sym (ap (λ (h : List Entry). last_of w h) history ∙ last_of-own w old.history e refl)));
         }
 
-    pub room_after : HasListRoom new.graph.locks (marks_of new.graph) after
+    pub room_after : HasListRoom new.graph.locks after
     room_after =
-        subst (λ (g : GraphView). HasListRoom g.locks (marks_of g) after) (sym f.graph)
+        subst (λ (g : GraphView). HasListRoom g.locks after) (sym f.graph)
         (room_out old.graph (make_all old.state w f.grew.1) after (belongs_along old.graph old.state (make_all old.state w f.grew.1) (same_shape-make_all old.state w f.grew.1) (belongs_sound old f.sound)) leads.room)
 
 -- a failed transform leaves all but the number of the last entry
