@@ -1,6 +1,7 @@
 //! A whole run of a plan.
 ghost use Rattle.std.specs.Prelude.{◌≡◌, ◌+◌, ◌++◌, ◌<◌, ◌≤◌, ℕ, All, IfOk, OnErr, drop, get_or, length, map, sum_by};
 ghost use Rattle.std.specs.Prelude.{Option, true, vec_capacity, vec_len};
+ghost use Rattle.daemon_manager.specs.Asking.{AreAskedFor};
 ghost use Rattle.daemon_manager.specs.Counts.{failures, reservations};
 ghost use Rattle.daemon_manager.specs.Events.{NoneIdle, IsLegal};
 ghost use Rattle.lock_journal.specs.ClosedBy.{closed_by};
@@ -16,6 +17,7 @@ ghost use Rattle.build_workers.specs.Desks.{DeskView, desk_view};
 ghost use Rattle.build_runner.specs.Failing.{unreal_of, unreal_seen};
 ghost use Rattle.build_runner.specs.Rooms.{IsEmptyFor};
 ghost use Rattle.build_runner.specs.Run.{IsRunOf, WasBrokenOff};
+ghost use Rattle.build_workers.specs.Units.{AllMayAsk, AsksFor};
 ghost use Rattle.build_workers.specs.Worked.{CanWork};
 ghost use Rattle.build_runner.specs.Watching.{HasRoomToLook, IsBoardFor, IsWatched, IsWatchedRun};
 ghost use Rattle.build_runner.specs.Worked.{HasComeToTheEnd, TookPart, WasThere};
@@ -30,7 +32,7 @@ use crate::watching::{board_of, watches_of};
 use build_workers::{Kit, RunTypes, Site, Types};
 use coordination::Pass;
 use daemon_desk::Desk;
-use daemon_manager::{CountedPool, Pool, Tallies};
+use daemon_manager::{CountedPool, Pool, ReservationLedger, Tallies};
 use file_access::Gate;
 use item_work::PoolLock;
 use lock_journal::{
@@ -204,6 +206,7 @@ fn run_book<T: RunTypes>(
     requires alike { (d : T.Desk)
         → AreAlike input.now.options.now.workers (desks_view (desk_view T.Desk.files T.Desk.faults T.Desk.sends T.Desk.sent) desks.old.items d) }
     requires parts { input.now.options.now.workers < tallies.old.parts }
+    requires asks { AllMayAsk T.Reserved.asks (plan_units input.now.plan.now) }
     ensures leaves { Leaves (desk_view T.Desk.files T.Desk.faults T.Desk.sends T.Desk.sent) input.now.options.now.workers desks.old.items desks.new.items
         tallies.old tallies.new }
     ensures whole { IfOk result (λ ran. ran.0.value.given ≡ 0) }
@@ -256,7 +259,7 @@ fn run_counted<
     R: Threads + Wait + Sync,
     D: Desk + Send + Drop,
     G: Gate + Sync,
-    U: Ledger + Send + Sync,
+    U: ReservationLedger + Send + Sync,
     F: Ledger + Send + Sync,
 >(
     input: &RunInput<'_, R, G>,
@@ -272,9 +275,11 @@ fn run_counted<
     requires alike { (d : D) → AreAlike input.now.options.now.workers (desks_view (desk_view D.files D.faults D.sends D.sent) desks.old.items d) }
     requires reserved { (reserved.name ≡ U.name) × (reserved.parts ≡ U.parts) × (U.parts ≡ input.now.options.now.workers + 1) }
     requires failed { (failed.name ≡ F.name) × (failed.parts ≡ F.parts) × (F.parts ≡ input.now.options.now.workers + 1) }
+    requires asks { AllMayAsk U.asks (plan_units input.now.plan.now) }
     ensures back { AreBack (desk_view D.files D.faults D.sends D.sent) input.now.options.now.workers desks.old.items desks.new.items }
     ensures run { IfOk result (λ end. GivesEnd (desk_view D.files D.faults D.sends D.sent) input.now.plan.now input.now.options.now
         desks.old.items desks.new.items end.book.value end.watch.items end.events.items) }
+    ensures units { IfOk result (λ end. AreAskedFor U.asks end.events.items) }
     ensures broken_off { (d : D) → OnErr result (WasBrokenOff input.now.plan.now input.now.options.now
         (desks_view (desk_view D.files D.faults D.sends D.sent) desks.old.items d)
         (desks_view (desk_view D.files D.faults D.sends D.sent) desks.new.items d)) }
@@ -308,7 +313,8 @@ fn run_counted<
 /// outcome is neither `Fault` nor `NoMemory`.
 ///
 /// Beside the book it gives all that happened to daemons. Those that are idle when the workers have
-/// ended are stopped through the first desk, also after an error, so none is idle then. At least as many
+/// ended are stopped through the first desk, also after an error, so none is idle then. Each reservation names
+/// an item of the plan that runs in a process, and its daemon covers what the item asks for. At least as many
 /// daemons were reserved as requests were sent: each request had its reservation. No more daemons failed
 /// than its workers closed units with `Fault` or `NoMemory`.
 ///
@@ -348,6 +354,7 @@ pub fn run_plan<R: Threads + Wait + Sync, D: Desk + Send + Drop, G: Gate + Sync>
     ensures none_idle { IfOk result (λ end. NoneIdle end.events.items) }
     ensures reserved { IfOk result (λ end. sum_by D.sends desks.new.items ≤ sum_by D.sends desks.old.items + reservations end.events.items) }
     ensures failed { IfOk result (λ end. failures end.events.items ≤ unreal_of options.now.workers end.book.value.history) }
+    ensures units { IfOk result (λ end. AreAskedFor (AsksFor (plan_units plan.now)) end.events.items) }
 {
     let parts = u64::from(options.workers) + 1;
     let reserved = Blank::new(parts);

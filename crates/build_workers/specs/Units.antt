@@ -1,9 +1,10 @@
 -- The units of a plan by their numbers, and what each gives.
-use Rattle.std.specs.Prelude.{ℕ, ◌≡◌, true, List, Some, length, slice_get}
+use Rattle.std.specs.Prelude.{ℕ, ◌≡◌, true, List, Some, length, option_and_then, slice_get}
 use Rattle.std.specs.List.{All}
 use Rattle.item_actions.specs.Files.{Folder}
 use Rattle.item_actions.specs.Forms.{is_file_name}
 use Rattle.item_actions.specs.declared.outcomes.Outcome.{Outcome}
+use Rattle.daemon_requirements.specs.RequirementsView.{RequirementsView}
 use Rattle.resource_lock.specs.Fits.{Fits}
 use Rattle.resource_lock.specs.GraphView.{GraphView}
 use Rattle.resource_lock.specs.Ranges.{IsFetchOf, is_item}
@@ -33,3 +34,11 @@ pub record AreUnitsOf (g : GraphView) (units : List PlannedUnit) : Type 0 where
   pub fetches : (a u : ℕ) → IsFetchOf g a u → IsFetched units u
   pub items : (u : ℕ) → is_item g u ≡ true → IsPlannedItem units u
   pub named : All HasFileName units
+
+-- the unit with this number is an item in a process, which asks for a daemon that covers these requirements
+abbrev pub AsksFor : List PlannedUnit → ℕ → RequirementsView → Type 0
+AsksFor units u asked = option_and_then (λ (unit : PlannedUnit). unit.process) (slice_get units u) ≡ Some asked
+
+-- where `asks` says what a unit may ask for, each may ask for what it asks for
+abbrev pub AllMayAsk : (ℕ → RequirementsView → Type 0) → List PlannedUnit → Type 0
+AllMayAsk asks units = (u : ℕ) (asked : RequirementsView) → AsksFor units u asked → asks u asked

@@ -1,5 +1,6 @@
 //! The types of a run.
 use daemon_desk::Desk;
+use daemon_manager::ReservationLedger;
 use file_access::Gate;
 use std::marker::PhantomData;
 use std::sync::ledger::Ledger;
@@ -17,8 +18,8 @@ pub trait RunTypes: Send + Sync {
     /// What an item passes before it runs.
     type Gate: Gate + Sync;
 
-    /// The ledger of the daemons that were reserved.
-    type Reserved: Ledger + Send + Sync;
+    /// The ledger of the daemons that were reserved, which knows what the units ask for.
+    type Reserved: ReservationLedger + Send + Sync;
 
     /// The ledger of the daemons that failed.
     type Failed: Ledger + Send + Sync;
@@ -32,7 +33,7 @@ impl<
     R: Threads + Wait + Sync,
     D: Desk + Send + Drop,
     G: Gate + Sync,
-    U: Ledger + Send + Sync,
+    U: ReservationLedger + Send + Sync,
     F: Ledger + Send + Sync,
 > RunTypes for Types<'a, R, D, G, U, F> {
     type Runtime = R;

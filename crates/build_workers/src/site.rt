@@ -5,6 +5,7 @@ ghost use Rattle.resource_lock.specs.Fits.{Fits};
 ghost use Rattle.resource_lock.specs.GraphView.{action_of, task_of};
 ghost use Rattle.resource_lock.specs.Ranges.{IsActionOf, IsFetchOf};
 ghost use Rattle.async_tracker.specs.Shows.{IsItemHere};
+ghost use Rattle.item_work.specs.Sends.{MayAskFor};
 ghost use Rattle.plan_reader.specs.PlanView.{work_view};
 ghost use Rattle.plan_reader.specs.Units.{fetch_unit, item_unit};
 
@@ -24,7 +25,7 @@ use std::ops::Range;
 /// The service of a run.
 pub type RunService<'a, R> = ShownService<QueuePlace, &'a R>;
 
-/// What the workers of a run share. The units are those of the graph.
+/// What the workers of a run share. The units are those of the graph, and each may ask the pool for what it asks for.
 #[derive(Drop)]
 pub struct Site<'a, 'r, T: RunTypes> {
     /// What lets a worker wait.
@@ -50,11 +51,12 @@ impl<'a, 'r, T: RunTypes> Model for Site<'a, 'r, T> {
     ghost Value = { SiteView };
 
     ghost use Rattle.plan_reader.specs.Units.{unit_view};
-    ghost use Rattle.build_workers.specs.Units.{AreUnitsOf};
+    ghost use Rattle.build_workers.specs.Units.{AllMayAsk, AreUnitsOf};
 
     ghost view = { λ s. record { service = s.service.now; graph = s.graph.now; units = map unit_view s.units.now } };
 
-    ghost invariant = { λ s. AreUnitsOf s.graph.now (map unit_view s.units.now) };
+    ghost invariant = { λ s. AreUnitsOf s.graph.now (map unit_view s.units.now)
+        × AllMayAsk T.Reserved.asks (map unit_view s.units.now) };
 }
 
 impl<'a, 'r, T: RunTypes> Site<'a, 'r, T> {
@@ -104,6 +106,7 @@ impl<'a, 'r, T: RunTypes> Site<'a, 'r, T> {
         requires { IsItemHere self.now.graph unit }
         ensures unit { slice_get self.now.units unit ≡ Some (item_unit (work_view result.now)) }
         ensures named { is_file_name result.now.file ≡ true }
+        ensures asks { MayAskFor (T.Reserved.asks unit) result.now.isolation }
     {
         let found = self.units[unit as usize];
         let UnitWork::Item(work) = found else {

@@ -1,2 +1,4 @@
 pub mod Appending
 pub mod PoolKept
+pub mod Asked
+pub mod Coverings

@@ -1,5 +1,6 @@
 pub mod Calls
 pub mod Counts
+pub mod Asking
 pub mod Events
 pub mod IdleOrder
 pub mod EventLogView

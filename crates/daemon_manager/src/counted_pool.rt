@@ -1,5 +1,6 @@
 //! A pool that counts what its users do.
 ghost use Rattle.std.specs.Prelude.{◌≡◌, ◌≤◌, [], IfOk, IfErr, MatchResult, OnErr, false, true};
+ghost use Rattle.daemon_manager.specs.Asking.{AreAskedFor};
 ghost use Rattle.daemon_manager.specs.Calls.{Adopts, FailsOrNot, Releases, StopsOrNot};
 ghost use Rattle.daemon_manager.specs.Counts.{and_failed, and_reserved, failures, reservations};
 ghost use Rattle.daemon_manager.specs.Searches.{IsSettledSearch, Searches, after_search};
@@ -7,7 +8,7 @@ ghost use Rattle.daemon_manager.specs.Searches.{IsSettledSearch, Searches, after
 use crate::pools::Pool;
 use crate::reserved::Reserved;
 use crate::searches::{Search, StartLeave};
-use crate::tallies::{Tallies, Tally, TallyBooks};
+use crate::tallies::{ReservationLedger, Tallies, Tally, TallyBooks};
 use daemon_requirements::{Linked, Requirements};
 use std::alloc::AllocError;
 use std::marker::Model;
@@ -17,14 +18,15 @@ use std::sync::ledger::{Blank, Ledger};
 ///
 /// Behind a lock no contract sees what happens to the pool. So each call counts in the tally of who makes it: once all tallies
 /// are together again, they tell how many daemons were reserved, and how many failed at most. What is counted takes no bytes
-/// and no time.
-pub struct CountedPool<L: Linked, U: Ledger, F: Ledger> {
+/// and no time. Each reservation is for a unit that may ask for it.
+pub struct CountedPool<L: Linked, U: ReservationLedger, F: Ledger> {
     pool: Pool<L>,
     books: TallyBooks<U, F>,
 }
 
-impl<L: Linked, U: Ledger, F: Ledger> Model for CountedPool<L, U, F> {
+impl<L: Linked, U: ReservationLedger, F: Ledger> Model for CountedPool<L, U, F> {
     ghost use Rattle.std.specs.Prelude.{◌≡◌, ◌≤◌};
+    ghost use Rattle.daemon_manager.specs.Asking.{AreAskedFor};
     ghost use Rattle.daemon_manager.specs.Counts.{failures, reservations};
     ghost use Rattle.daemon_manager.specs.PoolView.{PoolView};
 
@@ -32,10 +34,11 @@ impl<L: Linked, U: Ledger, F: Ledger> Model for CountedPool<L, U, F> {
 
     ghost view = { λ p. p.pool };
 
-    ghost invariant = { λ p. (p.books.reserved ≡ reservations p.pool.events) × (failures p.pool.events ≤ p.books.failed) };
+    ghost invariant = { λ p. (p.books.reserved ≡ reservations p.pool.events) × (failures p.pool.events ≤ p.books.failed)
+        × AreAskedFor U.asks p.pool.events };
 }
 
-impl<L: Linked, U: Ledger, F: Ledger> CountedPool<L, U, F> {
+impl<L: Linked, U: ReservationLedger, F: Ledger> CountedPool<L, U, F> {
     /// Counts from now on in these ledgers, for a pool to which nothing has happened. It gives all parts, for the tallies.
     pub fn new(
         pool: Pool<L>,
@@ -53,13 +56,15 @@ impl<L: Linked, U: Ledger, F: Ledger> CountedPool<L, U, F> {
         (CountedPool { pool, books }, tallies)
     }
 
-    /// As `Pool::reserve_idle`. A daemon that it gives is counted as reserved. Where none covers, it gives the leave to start one.
+    /// As `Pool::reserve_idle`, for a unit that may ask for this. A daemon that it gives is counted as reserved. Where none covers, it
+    /// gives the leave to start one.
     pub fn reserve_idle(
         &mut self,
         mine: &mut Tally<U, F>,
         unit: u32,
         asked: &Requirements,
     ) -> Result<Search<L, U>, AllocError>
+        requires { U.asks unit asked.now }
         ensures found { IfOk result (Searches L.requirements self.old self.new asked.now unit) }
         ensures settled { IfOk result (IsSettledSearch L.settled) }
         ensures no_memory { OnErr result (self.new ≡ self.old) }
@@ -72,8 +77,8 @@ impl<L: Linked, U: Ledger, F: Ledger> CountedPool<L, U, F> {
         Ok(Search::Idle(reserved))
     }
 
-    /// As `Pool::adopt`, of a daemon that was started with what the leave is for: so none that covers it was idle. The daemon that
-    /// it gives is counted as reserved.
+    /// As `Pool::adopt`, of a daemon that was started with what the leave is for, and its unit may ask for: so none that covers it was
+    /// idle. The daemon that it gives is counted as reserved.
     pub fn adopt(
         &mut self,
         mine: &mut Tally<U, F>,
@@ -84,6 +89,7 @@ impl<L: Linked, U: Ledger, F: Ledger> CountedPool<L, U, F> {
     ) -> Result<Reserved<L>, L>
         requires made { L.requirements link ≡ requirements }
         requires leave { leave.asked.value ≡ requirements }
+        requires asks { U.asks unit requirements }
         ensures adopted { IfOk result (Adopts L.requirements self.old self.new link requirements unit) }
         ensures no_memory { OnErr result (self.new ≡ self.old) }
         ensures link { IfErr result (λ returned. returned ≡ link) }
@@ -122,11 +128,12 @@ impl<L: Linked, U: Ledger, F: Ledger> CountedPool<L, U, F> {
     }
 
     /// Ends the counting, and gives the pool. Where the tallies are all parts, as many daemons were reserved as they say, and
-    /// no more failed than they say.
+    /// no more failed than they say. Each was reserved for units alone that may ask for it.
     pub fn audit(self, all: Tallies<U, F>) -> Pool<L>
         ensures pool { result ≡ self }
         ensures reserved { all.parts ≡ U.parts → reservations result.events ≡ all.reserved }
         ensures failed { all.parts ≡ F.parts → failures result.events ≤ all.failed }
+        ensures units { AreAskedFor U.asks result.events }
     {
         let CountedPool { pool, books } = self;
         books.audit(all);

@@ -18,4 +18,4 @@ pub use laws::{busy_daemons_are_given_to_nobody_else, events_about_others_leave_
 pub use pools::Pool;
 pub use reserved::Reserved;
 pub use searches::{Search, StartLeave};
-pub use tallies::{Tallies, Tally, TallyBooks};
+pub use tallies::{ReservationLedger, Tallies, Tally, TallyBooks};

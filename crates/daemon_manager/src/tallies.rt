@@ -2,8 +2,21 @@
 ghost use Rattle.std.specs.Prelude.{◌≡◌, ◌+◌, ◌<◌};
 ghost use Rattle.daemon_manager.specs.Counts.{and_failed, and_reserved};
 
-use std::marker::Model;
+use std::marker::{Brand, Model};
 use std::sync::ledger::{Blank, Book, Ledger, Share};
+
+/// The ledger of the reservations of a pool, and what the units may ask the pool for.
+pub trait ReservationLedger: Ledger {
+    ghost use Rattle.std.specs.Prelude.{ℕ};
+    ghost use Rattle.daemon_requirements.specs.RequirementsView.{RequirementsView};
+
+    /// Whether the unit with a number may ask for a daemon that covers these requirements.
+    ghost asks: { ℕ → RequirementsView → Type 0 };
+}
+
+impl ReservationLedger for Brand {
+    ghost asks = { λ unit asked. ⊥ };
+}
 
 /// What one worker did with the daemons of a pool: how many it reserved, and how many it gave back as failed.
 ///

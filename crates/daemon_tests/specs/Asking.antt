@@ -1,5 +1,6 @@
 -- What the items of the tests ask for, and whether a pass may run one.
 use Rattle.std.specs.Prelude.{ℕ, ◌≡◌, true, Contains}
+use Rattle.daemon_requirements.specs.RequirementsView.{RequirementsView}
 use Rattle.daemon_requirements.specs.declared.work.Isolation.{Isolation}
 use Rattle.daemon_requirements.specs.declared.work.Isolation.TheVariants.{InThread, Process}
 use Rattle.daemon_requirements.specs.declared.work.Work.{Work}
@@ -7,6 +8,10 @@ use Rattle.resource_lock.specs.declared.marks.MarkId.TheVariants.{Unit as UnitOf
 use Rattle.coordination.specs.Passes.{PassView}
 use Rattle.coordination.specs.Shown.{claimed_shown, lease_shown}
 use Rattle.item_work.specs.Sends.{IsNamedFor}
+
+-- each unit may ask for any daemon
+abbrev pub AnyMayAsk : (ℕ → RequirementsView → Type 0) → Type 0
+AnyMayAsk asks = (unit : ℕ) (asked : RequirementsView) → asks unit asked
 
 -- the item runs in a process
 abbrev pub AsksProcess : Isolation → Type 0

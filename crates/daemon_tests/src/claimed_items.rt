@@ -4,11 +4,12 @@ ghost use Rattle.resource_lock.specs.Opening.{opening_of};
 ghost use Rattle.resource_lock.specs.declared.marks.MarkId.TheVariants as ids;
 ghost use Rattle.coordination.specs.Shown.{claimed_shown, lease_shown};
 ghost use Rattle.item_work.specs.Sends.{IsNamedFor};
+ghost use Rattle.daemon_tests.specs.Asking.{AnyMayAsk};
 ghost use Rattle.item_work.specs.Tallying.{TalliesFor};
 
 use coordination::{Coordination, Halt, Opened, Pass, openings_are_at_rest};
 use daemon_desk::Desk;
-use daemon_manager::Tally;
+use daemon_manager::{ReservationLedger, Tally};
 use daemon_requirements::Work;
 use item_work::{Ran, SharedPool, run_item};
 use lease_service::current_lease;
@@ -153,7 +154,7 @@ pub(crate) fn claim<R: Wait + Abort>(
 }
 
 /// Runs an item that the pass has claimed. What it leaves to stop is stopped once the item is closed.
-pub(crate) fn run_claimed<R: Wait, D: Desk, U: Ledger, F: Ledger>(
+pub(crate) fn run_claimed<R: Wait, D: Desk, U: ReservationLedger, F: Ledger>(
     pool: &SharedPool<'_, R, D::Link, U, F>,
     pass: &Pass,
     desk: &mut D,
@@ -164,6 +165,7 @@ pub(crate) fn run_claimed<R: Wait, D: Desk, U: Ledger, F: Ledger>(
     requires lease { lease_shown pass.now.sight ≡ true }
     requires claimed { Contains (claimed_shown pass.now.sight) (ids.Unit unit) }
     requires form { IsNamedFor work.now.isolation work.now.file }
+    requires asks { AnyMayAsk U.asks }
     ensures counted { TalliesFor work.now.isolation mine.old mine.new (D.sends desk.old) (D.sends desk.new) result.outcome }
 {
     let Some(lease) = current_lease(pass) else {

@@ -1,7 +1,7 @@
 //! Tests of `item_work`: items on a.txt that daemons in memory work out, one after the other.
 ghost use Rattle.std.specs.Prelude.{◌≡◌, [], All, IfOk};
 ghost use Rattle.item_work.specs.Sends.{IsNamedFor};
-ghost use Rattle.daemon_tests.specs.Asking.{AsksProcess};
+ghost use Rattle.daemon_tests.specs.Asking.{AnyMayAsk, AsksProcess};
 
 use crate::asked::requirements_of;
 use crate::claimed_items::{claim, close as close_item, last_pass, queue_items, run_claimed};
@@ -9,7 +9,7 @@ use crate::lines::{add_events, add_outcome, check};
 use crate::memory_desks::desk;
 use coordination::{Coordination, Opened, Pass};
 use daemon_desk::{Desk, MemoryDesk};
-use daemon_manager::{CountedPool, Event, Pool, Tallies, Tally};
+use daemon_manager::{CountedPool, Event, Pool, ReservationLedger, Tallies, Tally};
 use daemon_requirements::{Isolation, Work};
 use item_actions::{ItemAction, Outcome, Text, is_file_name};
 use item_work::{PoolLock, Ran, SharedPool};
@@ -51,7 +51,7 @@ struct Seat<'a> {
 }
 
 // Has a worker claim a unit's item, run it in a daemon, and close it.
-fn run_unit<R: Wait + Abort, D: Desk, U: Ledger, F: Ledger>(
+fn run_unit<R: Wait + Abort, D: Desk, U: ReservationLedger, F: Ledger>(
     pool: &SharedPool<'_, R, D::Link, U, F>,
     desk: &mut D,
     mine: &mut Tally<U, F>,
@@ -61,6 +61,7 @@ fn run_unit<R: Wait + Abort, D: Desk, U: Ledger, F: Ledger>(
 ) -> Result<Outcome, AllocError>
     requires service { seat.old.pass.service ≡ seat.old.service.now.service }
     requires named { IsNamedFor work.now.isolation work.now.file }
+    requires asks { AnyMayAsk U.asks }
     ensures { seat.new.pass.service ≡ seat.new.service.now.service }
 {
     let Seat { service, pass } = seat;
@@ -73,7 +74,7 @@ fn run_unit<R: Wait + Abort, D: Desk, U: Ledger, F: Ledger>(
 }
 
 // Has a worker run items, units 0 and so on, each in a daemon with this heap at least.
-fn add_each<R: Wait + Abort, D: Desk, U: Ledger, F: Ledger>(
+fn add_each<R: Wait + Abort, D: Desk, U: ReservationLedger, F: Ledger>(
     pool: &SharedPool<'_, R, D::Link, U, F>,
     desk: &mut D,
     mine: &mut Tally<U, F>,
@@ -81,7 +82,8 @@ fn add_each<R: Wait + Abort, D: Desk, U: Ledger, F: Ledger>(
     heaps: &[u32],
     line: &mut String,
 ) -> Result<(), AllocError>
-    requires { seat.old.pass.service ≡ seat.old.service.now.service }
+    requires service { seat.old.pass.service ≡ seat.old.service.now.service }
+    requires asks { AnyMayAsk U.asks }
 {
     let mut unit = 0u32;
     for heap_mb in heaps {
@@ -95,7 +97,7 @@ fn add_each<R: Wait + Abort, D: Desk, U: Ledger, F: Ledger>(
 }
 
 // Has a worker of the service run queued items.
-fn add_queued<R: Wait + Abort, D: Desk, U: Ledger, F: Ledger>(
+fn add_queued<R: Wait + Abort, D: Desk, U: ReservationLedger, F: Ledger>(
     pool: &SharedPool<'_, R, D::Link, U, F>,
     desk: &mut D,
     mine: &mut Tally<U, F>,
@@ -103,7 +105,8 @@ fn add_queued<R: Wait + Abort, D: Desk, U: Ledger, F: Ledger>(
     heaps: &[u32],
     line: &mut String,
 ) -> Result<(), AllocError>
-    requires { All (λ p. p.service ≡ opened.old.service.service) opened.old.passes.items }
+    requires service { All (λ p. p.service ≡ opened.old.service.service) opened.old.passes.items }
+    requires asks { AnyMayAsk U.asks }
 {
     let Opened { service, passes } = opened;
     let pass = last_pass(service, passes)?;
@@ -114,13 +117,15 @@ fn add_queued<R: Wait + Abort, D: Desk, U: Ledger, F: Ledger>(
 }
 
 // Queues items, and has a worker run them.
-fn add_items<R: Wait + Abort, D: Desk, U: Ledger, F: Ledger>(
+fn add_items<R: Wait + Abort, D: Desk, U: ReservationLedger, F: Ledger>(
     pool: &SharedPool<'_, R, D::Link, U, F>,
     desk: &mut D,
     mine: &mut Tally<U, F>,
     heaps: &[u32],
     line: &mut String,
-) -> Result<(), AllocError> {
+) -> Result<(), AllocError>
+    requires { AnyMayAsk U.asks }
+{
     let mut opened = queue_items(pool.rt, pool.alloc)?;
     let added = add_queued(pool, desk, mine, &mut opened, heaps, line);
     drop(opened);
@@ -137,7 +142,7 @@ pub(crate) fn stop_spare<D: Desk>(desk: &mut D, spare: Option<Box<D::Link>>)
 }
 
 /// Stops the idle daemons.
-pub(crate) fn stop_idle<D: Desk, U: Ledger, F: Ledger>(
+pub(crate) fn stop_idle<D: Desk, U: ReservationLedger, F: Ledger>(
     desk: &mut D,
     pool: &mut CountedPool<D::Link, U, F>,
 )
@@ -150,7 +155,7 @@ pub(crate) fn stop_idle<D: Desk, U: Ledger, F: Ledger>(
 }
 
 // Stops the idle daemons, and gives all events.
-fn close<D: Desk, U: Ledger, F: Ledger>(
+fn close<D: Desk, U: ReservationLedger, F: Ledger>(
     desk: &mut D,
     pool: PoolLock<D::Link, U, F>,
     all: Tallies<U, F>,
@@ -161,7 +166,7 @@ fn close<D: Desk, U: Ledger, F: Ledger>(
 }
 
 // The outcomes of these items on a new pool, and all events. The counts of reserved and of failed daemons are in these ledgers.
-fn add_counted<R: Wait + Abort, D: Desk, U: Ledger, F: Ledger>(
+fn add_counted<R: Wait + Abort, D: Desk, U: ReservationLedger, F: Ledger>(
     rt: &R,
     alloc: Global,
     desk: &mut D,
@@ -171,6 +176,7 @@ fn add_counted<R: Wait + Abort, D: Desk, U: Ledger, F: Ledger>(
 ) -> Result<(), AllocError>
     requires reserved { (blanks.0.name ≡ U.name) × (blanks.0.parts ≡ U.parts) × (U.parts ≡ 2) }
     requires failed { (blanks.1.name ≡ F.name) × (blanks.1.parts ≡ F.parts) × (F.parts ≡ 2) }
+    requires asks { AnyMayAsk U.asks }
 {
     let pool = Pool::new(alloc)?;
     let (reserved, failed) = blanks;

@@ -4,14 +4,14 @@ ghost use Rattle.resource_lock.specs.declared.marks.MarkId.TheVariants as ids;
 ghost use Rattle.coordination.specs.Shown.{claimed_shown, lease_shown};
 ghost use Rattle.daemon_manager.specs.Counts.{failures, reservations};
 ghost use Rattle.item_work.specs.Tallying.{TallyRises, one_if_unreal};
-ghost use Rattle.daemon_tests.specs.Asking.{CanRun};
+ghost use Rattle.daemon_tests.specs.Asking.{AnyMayAsk, CanRun};
 
 use crate::claimed_items::{claim, last_pass, queue_items, run_claimed};
 use crate::item_tests::{stop_idle, stop_spare, work};
 use crate::memory_desks::desk;
 use coordination::{Opened, Pass};
 use daemon_desk::{Desk, MemoryDesk};
-use daemon_manager::{CountedPool, Event, Pool, Tallies, Tally};
+use daemon_manager::{CountedPool, Event, Pool, ReservationLedger, Tallies, Tally};
 use daemon_requirements::Work;
 use item_actions::Outcome;
 use item_work::{PoolLock, Ran, SharedPool};
@@ -39,7 +39,7 @@ struct Ended<D> {
 }
 
 // Runs the item, which the pass has claimed.
-fn work_as<R: Wait, D: Desk, U: Ledger, F: Ledger>(
+fn work_as<R: Wait, D: Desk, U: ReservationLedger, F: Ledger>(
     pool: &SharedPool<'_, R, D::Link, U, F>,
     pass: &Pass,
     desk: D,
@@ -47,7 +47,8 @@ fn work_as<R: Wait, D: Desk, U: Ledger, F: Ledger>(
     unit: u32,
     work: &Work,
 ) -> Worked<D, U, F>
-    requires { CanRun pass.now unit work.now }
+    requires can { CanRun pass.now unit work.now }
+    requires asks { AnyMayAsk U.asks }
     ensures { TallyRises mine result.mine (D.sends desk) (D.sends result.desk) (one_if_unreal result.outcome) }
 {
     let mut desk = desk;
@@ -62,7 +63,7 @@ fn work_as<R: Wait, D: Desk, U: Ledger, F: Ledger>(
 }
 
 // Stops the idle daemons, and gives all events, which have the tallies' counts.
-fn close<D: Desk, U: Ledger, F: Ledger>(
+fn close<D: Desk, U: ReservationLedger, F: Ledger>(
     desk: &mut D,
     pool: PoolLock<D::Link, U, F>,
     all: Tallies<U, F>,
@@ -82,7 +83,7 @@ fn close<D: Desk, U: Ledger, F: Ledger>(
 fn work_at_once<
     R: Threads + Wait + Sync,
     D: Desk + Send + Drop,
-    U: Ledger + Send + Sync,
+    U: ReservationLedger + Send + Sync,
     F: Ledger + Send + Sync,
 >(
     rt: &R,
@@ -96,6 +97,7 @@ fn work_at_once<
     requires right { CanRun passes.1 1 work.now }
     requires reserved { (blanks.0.name ≡ U.name) × (blanks.0.parts ≡ U.parts) × (U.parts ≡ 3) }
     requires failed { (blanks.1.name ≡ F.name) × (blanks.1.parts ≡ F.parts) × (F.parts ≡ 3) }
+    requires asks { AnyMayAsk U.asks }
     ensures reserved { IfOk result (λ end. D.sends end.desks.0 + D.sends end.desks.1 ≤ D.sends desks.0 + D.sends desks.1 + reservations end.events.items) }
     ensures failed { IfOk result (λ end. failures end.events.items ≤ one_if_unreal end.outcomes.0 + one_if_unreal end.outcomes.1) }
 {
@@ -119,11 +121,13 @@ fn work_at_once<
     let (mut left, right) = join(
         rt,
         move || -> Worked<D, U, F>
-            requires { CanRun left_pass 0 work.now }
+            requires can { CanRun left_pass 0 work.now }
+            requires asks { AnyMayAsk U.asks }
             ensures { TallyRises one result.mine (D.sends first) (D.sends result.desk) (one_if_unreal result.outcome) }
         { work_as(shared, &left_pass, first, one, 0, work) },
         move || -> Worked<D, U, F>
-            requires { CanRun right_pass 1 work.now }
+            requires can { CanRun right_pass 1 work.now }
+            requires asks { AnyMayAsk U.asks }
             ensures { TallyRises two result.mine (D.sends second) (D.sends result.desk) (one_if_unreal result.outcome) }
         { work_as(shared, &right_pass, second, two, 1, work) },
     );

@@ -1,2 +1,1 @@
 pub mod Countings
-pub mod Coverings

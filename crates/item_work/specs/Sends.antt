@@ -6,6 +6,7 @@ use Rattle.item_actions.specs.declared.outcomes.Outcome.TheVariants.{Fault}
 use Rattle.daemon_requirements.specs.declared.work.Isolation.{Isolation}
 use Rattle.daemon_requirements.specs.declared.work.Isolation.TheVariants.{InThread, Process}
 use Rattle.daemon_protocol.specs.declared.frames.Request.{Request}
+use Rattle.daemon_requirements.specs.RequirementsView.{RequirementsView}
 use Rattle.file_access.specs.ReadView.{and_read}
 use Rattle.item_work.specs.Requests.{SentView, Sends}
 
@@ -13,6 +14,11 @@ use Rattle.item_work.specs.Requests.{SentView, Sends}
 abbrev pub IsNamedFor : Isolation → List ℕ → Type 0
 IsNamedFor InThread file = Unit {0}
 IsNamedFor (Process asked) file = is_file_name file ≡ true
+
+-- an item in a process may ask for the daemon that it asks for
+abbrev pub MayAskFor : (RequirementsView → Type 0) → Isolation → Type 0
+MayAskFor may InThread = Unit {0}
+MayAskFor may (Process asked) = may asked
 
 -- the file of an item in the worker's own thread is read once, and no file here for one in a process
 abbrev pub ReadsFileFor : Isolation → Option ℕ → Option ℕ → Type 0

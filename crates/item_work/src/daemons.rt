@@ -8,7 +8,7 @@ ghost use Rattle.item_work.specs.Searching.{FindsFor, IsForUnit};
 
 use crate::ran::Wanted;
 use daemon_desk::Desk;
-use daemon_manager::{CountedPool, Reserved, Search, StartLeave, Tally};
+use daemon_manager::{CountedPool, ReservationLedger, Reserved, Search, StartLeave, Tally};
 use daemon_requirements::{Linked, Requirements};
 use file_access::DeskFail;
 use std::alloc::{AllocError, Global};
@@ -21,7 +21,7 @@ pub type PoolLock<L, U, F> = Mutex<CountedPool<L, U, F>>;
 
 /// A worker's way to the pool of a run.
 #[derive(Drop)]
-pub struct SharedPool<'a, R, L: Linked, U: Ledger, F: Ledger> {
+pub struct SharedPool<'a, R, L: Linked, U: ReservationLedger, F: Ledger> {
     /// What lets the worker wait.
     pub rt: &'a R,
     /// Where files, requests and replies are kept.
@@ -31,13 +31,14 @@ pub struct SharedPool<'a, R, L: Linked, U: Ledger, F: Ledger> {
 }
 
 /// Reserves an idle daemon that covers what is wanted, for the request's unit. Where none does, it starts one. Its link is settled, and it
-/// is counted as reserved. Where there is no memory to keep a daemon that was started, it is stopped.
-pub(crate) fn reserve<R: Wait, D: Desk, U: Ledger, F: Ledger>(
+/// is counted as reserved. Where there is no memory to keep a daemon that was started, it is stopped. The unit may ask for it.
+pub(crate) fn reserve<R: Wait, D: Desk, U: ReservationLedger, F: Ledger>(
     pool: &SharedPool<'_, R, D::Link, U, F>,
     desk: &mut D,
     mine: &mut Tally<U, F>,
     wanted: &Wanted<'_>,
 ) -> Result<Reserved<D::Link>, DeskFail>
+    requires { U.asks wanted.now.request.now.unit wanted.now.requirements.now }
     ensures covers { IfOk result (λ reserved. Covers (D.Link.requirements reserved.link) wanted.now.requirements.now) }
     ensures unit { IfOk result (λ reserved. reserved.unit ≡ wanted.now.request.now.unit) }
     ensures settled { IfOk result (λ reserved. D.Link.settled reserved.link ≡ true) }
@@ -55,7 +56,7 @@ pub(crate) fn reserve<R: Wait, D: Desk, U: Ledger, F: Ledger>(
 }
 
 // Starts a daemon by the leave, reserved for the request's unit. Where there is no memory to keep it, it is stopped.
-fn start<R: Wait, D: Desk, U: Ledger, F: Ledger>(
+fn start<R: Wait, D: Desk, U: ReservationLedger, F: Ledger>(
     pool: &SharedPool<'_, R, D::Link, U, F>,
     desk: &mut D,
     mine: &mut Tally<U, F>,
@@ -63,6 +64,7 @@ fn start<R: Wait, D: Desk, U: Ledger, F: Ledger>(
     leave: StartLeave<U>,
 ) -> Result<Reserved<D::Link>, DeskFail>
     requires leave { leave.asked.value ≡ wanted.now.requirements.now }
+    requires asks { U.asks wanted.now.request.now.unit wanted.now.requirements.now }
     ensures made { IfOk result (λ reserved. D.Link.requirements reserved.link ≡ wanted.now.requirements.now) }
     ensures unit { IfOk result (λ reserved. reserved.unit ≡ wanted.now.request.now.unit) }
     ensures settled { IfOk result (λ reserved. D.Link.settled reserved.link ≡ true) }
@@ -84,13 +86,14 @@ fn start<R: Wait, D: Desk, U: Ledger, F: Ledger>(
     }
 }
 
-impl<'a, R: Wait, L: Linked, U: Ledger, F: Ledger> SharedPool<'a, R, L, U, F> {
+impl<'a, R: Wait, L: Linked, U: ReservationLedger, F: Ledger> SharedPool<'a, R, L, U, F> {
     // Reserves the last released idle daemon that covers what is wanted, for the request's unit. Where none does, one may be started.
     fn search(
         &self,
         mine: &mut Tally<U, F>,
         wanted: &Wanted<'_>,
     ) -> Result<Search<L, U>, AllocError>
+        requires { U.asks wanted.now.request.now.unit wanted.now.requirements.now }
         ensures found { IfOk result (FindsFor L.requirements wanted.now.requirements.now) }
         ensures unit { IfOk result (IsForUnit wanted.now.request.now.unit) }
         ensures settled { IfOk result (IsSettledSearch L.settled) }
@@ -113,6 +116,7 @@ impl<'a, R: Wait, L: Linked, U: Ledger, F: Ledger> SharedPool<'a, R, L, U, F> {
     ) -> Result<Reserved<L>, L>
         requires made { L.requirements link ≡ requirements }
         requires leave { leave.asked.value ≡ requirements }
+        requires asks { U.asks unit requirements }
         ensures adopted { IfOk result (λ reserved. reserved.link ≡ link) }
         ensures unit { IfOk result (λ reserved. reserved.unit ≡ unit) }
         ensures link { IfErr result (λ returned. returned ≡ link) }

@@ -5,14 +5,14 @@ ghost use Rattle.resource_lock.specs.declared.marks.MarkId.TheVariants as ids;
 ghost use Rattle.coordination.specs.Shown.{claimed_shown};
 ghost use Rattle.file_access.specs.ReadView.{IsOutcomeCounted, and_read};
 ghost use Rattle.item_work.specs.Requests.{request_for};
-ghost use Rattle.item_work.specs.Sends.{IsNamedFor, ReadsFileFor, SendsFor, SparesFor};
+ghost use Rattle.item_work.specs.Sends.{IsNamedFor, MayAskFor, ReadsFileFor, SendsFor, SparesFor};
 ghost use Rattle.item_work.specs.Tallying.{TalliesFor};
 
 use crate::daemons::SharedPool;
 use crate::processes::run_in_process;
 use crate::ran::Ran;
 use daemon_desk::Desk;
-use daemon_manager::Tally;
+use daemon_manager::{ReservationLedger, Tally};
 use daemon_requirements::{Isolation, Work};
 use file_access::work_out;
 use item_actions::{ItemAction, Outcome, Text};
@@ -24,7 +24,8 @@ use std::sync::ledger::Ledger;
 /// Runs an item: works its action out on its file, in the worker's own thread or in a daemon of the pool.
 ///
 /// The pass of the lease has claimed the item. While the item runs the lease borrows the pass, so the
-/// worker takes part in no transform. The file of an item in a process has the form of a file's name.
+/// worker takes part in no transform. The file of an item in a process has the form of a file's name, and the item may ask the pool for
+/// the daemon that it asks for.
 /// Where the files are known the outcome is the action's value on them, NotThere or TooLong; else Fault,
 /// where the desk failed, or NoMemory. The desk's count of faults rises by one at Fault, and at no other
 /// outcome.
@@ -38,7 +39,7 @@ use std::sync::ledger::Ledger;
 /// Where one daemon too many is idle behind an item in a process, it comes back with the outcome, which then isn't Fault. The
 /// caller stops it once the item is closed. Where there is no memory for the box of its link, it was stopped here, and its end
 /// waited for with the lease; the outcome stands. A daemon that failed was stopped here: nothing more is waited for at its end.
-pub fn run_item<R: Wait, D: Desk, U: Ledger, F: Ledger>(
+pub fn run_item<R: Wait, D: Desk, U: ReservationLedger, F: Ledger>(
     pool: &SharedPool<'_, R, D::Link, U, F>,
     lease: &Lease<'_>,
     desk: &mut D,
@@ -48,6 +49,7 @@ pub fn run_item<R: Wait, D: Desk, U: Ledger, F: Ledger>(
 ) -> Ran<Box<D::Link>>
     requires claimed { Contains (claimed_shown lease.now.sight) (ids.Unit unit) }
     requires form { IsNamedFor work.now.isolation work.now.file }
+    requires asks { MayAskFor (U.asks unit) work.now.isolation }
     ensures files { D.files desk.new ≡ D.files desk.old }
     ensures reads { ReadsFileFor work.now.isolation (D.reads desk.old) (D.reads desk.new) }
     ensures ran { result.outcome ≢ outcomes.Skipped }

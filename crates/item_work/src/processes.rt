@@ -14,7 +14,7 @@ ghost use Rattle.item_work.specs.Tallying.{TallyRises, one_if_err, one_if_unreal
 use crate::daemons::{SharedPool, reserve};
 use crate::ran::{Answered, Ran, Wanted};
 use daemon_desk::Desk;
-use daemon_manager::{Reserved, Tally};
+use daemon_manager::{ReservationLedger, Reserved, Tally};
 use daemon_protocol::{Reply, Request};
 use daemon_requirements::{Isolation, Linked, Requirements, Work};
 use file_access::DeskFail;
@@ -27,7 +27,7 @@ use std::sync::ledger::Ledger;
 ///
 /// What `run_item` says of an item in a process holds of it. A daemon that gave no reply is stopped, and never used again: its link is
 /// broken, and only settled ones are given back. No daemon is lost, since neither a reservation nor a link can be dropped.
-pub(crate) fn run_in_process<R: Wait, D: Desk, U: Ledger, F: Ledger>(
+pub(crate) fn run_in_process<R: Wait, D: Desk, U: ReservationLedger, F: Ledger>(
     pool: &SharedPool<'_, R, D::Link, U, F>,
     desk: &mut D,
     mine: &mut Tally<U, F>,
@@ -36,6 +36,7 @@ pub(crate) fn run_in_process<R: Wait, D: Desk, U: Ledger, F: Ledger>(
     asked: &Requirements,
 ) -> Ran<Box<D::Link>>
     requires asked { work.now.isolation ≡ Process asked.now }
+    requires asks { U.asks unit asked.now }
     requires form { is_file_name work.now.file ≡ true }
     ensures files { D.files desk.new ≡ D.files desk.old }
     ensures reads { D.reads desk.new ≡ D.reads desk.old }
@@ -60,12 +61,13 @@ pub(crate) fn run_in_process<R: Wait, D: Desk, U: Ledger, F: Ledger>(
 }
 
 // Lets a daemon of the pool answer the request, and says what it gives.
-fn work_in_daemon<R: Wait, D: Desk, U: Ledger, F: Ledger>(
+fn work_in_daemon<R: Wait, D: Desk, U: ReservationLedger, F: Ledger>(
     pool: &SharedPool<'_, R, D::Link, U, F>,
     desk: &mut D,
     mine: &mut Tally<U, F>,
     wanted: &Wanted<'_>,
 ) -> Ran<Box<D::Link>>
+    requires asks { U.asks wanted.now.request.now.unit wanted.now.requirements.now }
     requires form { is_file_name wanted.now.request.now.file ≡ true }
     ensures files { D.files desk.new ≡ D.files desk.old }
     ensures reads { D.reads desk.new ≡ D.reads desk.old }
@@ -114,13 +116,14 @@ fn mode_of(isolation: &Isolation) -> Option<KeepAlive>
 
 // Asks a daemon of the pool, and gives it back. One that gave no reply is never used again: it is stopped, which takes no time, as it
 // is killed.
-fn ask_daemon<R: Wait, D: Desk, U: Ledger, F: Ledger>(
+fn ask_daemon<R: Wait, D: Desk, U: ReservationLedger, F: Ledger>(
     pool: &SharedPool<'_, R, D::Link, U, F>,
     desk: &mut D,
     mine: &mut Tally<U, F>,
     wanted: &Wanted<'_>,
 ) -> Result<Answered<Box<D::Link>>, DeskFail>
-    requires { is_file_name wanted.now.request.now.file ≡ true }
+    requires asks { U.asks wanted.now.request.now.unit wanted.now.requirements.now }
+    requires form { is_file_name wanted.now.request.now.file ≡ true }
     ensures files { D.files desk.new ≡ D.files desk.old }
     ensures reads { D.reads desk.new ≡ D.reads desk.old }
     ensures faults { IsFaultCounted (D.faults desk.old) (D.faults desk.new) result }

@@ -15,16 +15,18 @@ use Rattle.lock_transforms.specs.Entry.{Entry}
 use Rattle.lock_transforms.specs.Table.{has_passed}
 use Rattle.file_access.specs.SinkView.{Wrote, Broke}
 use Rattle.plan_reader.specs.PlanView.{PlanView}
-use Rattle.plan_reader.specs.Units.{unit_value}
+use Rattle.plan_reader.specs.Units.{plan_units, unit_value}
 use Rattle.lock_journal.specs.Answers.{answers}
 use Rattle.lock_journal.specs.ByNumber.{outcome_by}
 use Rattle.lock_journal.specs.Outcomes.{task_outcome}
+use Rattle.daemon_manager.specs.Asking.{AreAskedFor}
 use Rattle.daemon_manager.specs.Counts.{failures, reservations}
 use Rattle.daemon_manager.specs.Events.{IsLegal, NoneIdle}
 use Rattle.daemon_manager.specs.declared.events.Event.{Event}
 use Rattle.run_watch.specs.declared.boards.Watch.{Watch}
 use Rattle.build_runner.specs.Desks.{known_by}
 use Rattle.build_workers.specs.Desks.{DeskView}
+use Rattle.build_workers.specs.Units.{AsksFor}
 use Rattle.build_runner.specs.Failing.{unreal_of}
 use Rattle.build_runner.specs.Run.{IsRunOf, WasBrokenOff, depth}
 use Rattle.build_runner.specs.declared.options.RunOptions.{RunOptions}
@@ -55,11 +57,13 @@ abbrev pub sent_by_first : ℕ → (ℕ → DeskView) → ℕ
 sent_by_first n desks = sum_by (λ i. (desks i).sent.count) (range_with_len 0 n)
 
 -- The book is that of a run of this plan, which stands under the name that is asked for, with the options asked for. At least as
--- many daemons were reserved as its desks sent requests, and no more failed than its workers closed units as a fault or without memory.
+-- many daemons were reserved as its desks sent requests, each for an item of the plan in a process whose demand it covers, and no more
+-- failed than its workers closed units as a fault or without memory.
 pub record IsNamedRun (asked : RunWords) (c : Call) (plan : PlanView) (b : BookView) : Type 0 where
   pub named : IsFileOf (c.before.desks 0).files asked.plan plan
   pub run : IsRunOf plan (options_of asked) c.before.desks c.after.desks b
   pub reserved : sent_by_first asked.threads c.after.desks ≤ sent_by_first asked.threads c.before.desks + reservations c.events
+  pub units : AreAskedFor (AsksFor (plan_units plan)) c.events
   pub failed : failures c.events ≤ unreal_of asked.threads b.history
   -- what the workers saw of this book, where it was asked for
   pub watch : IsWatchedRun (options_of asked) b c.watch

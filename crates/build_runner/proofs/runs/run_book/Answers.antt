@@ -12,6 +12,7 @@ use Rattle.build_runner.specs.Desks.{desks_view, known_by}
 use Rattle.build_workers.specs.Desks.{DeskView, desk_view}
 use Rattle.build_runner.specs.Run.{WasBrokenOff}
 use Rattle.build_workers.specs.Site.{SiteView}
+use Rattle.build_workers.specs.Units.{AllMayAsk}
 use Rattle.build_runner.specs.Watching.{HasRoomToLook, IsBoardFor, IsWatchedBy}
 use Rattle.build_runner.specs.Worked.{HasComeToTheEnd, WasThere}
 use Rattle.plan_reader.specs.declared.units.UnitWork.{UnitWork}
@@ -50,8 +51,10 @@ pub invariant_of-site : goal.invariant_of-site
 invariant_of-site g c =
     let options = c.args.input.now.options.now in
     let start = c.in_ok-prepared.ensures in
-    units_of_graph c.args.input.now.plan.now options.workers options.max_leases options.parallel c.in_ok-prepared.prepared.graph (map unit_view c.deref.result.now) c.tasks.ensures.plan c.tasks-2.ensures.fits start.graph
-    (ap (λ (us : List UnitWork). map unit_view us) c.deref.ensures.value ∙ start.units)
+    let units = ap (λ (us : List UnitWork). map unit_view us) c.deref.ensures.value ∙ start.units in (
+      units_of_graph c.args.input.now.plan.now options.workers options.max_leases options.parallel c.in_ok-prepared.prepared.graph (map unit_view c.deref.result.now) c.tasks.ensures.plan c.tasks-2.ensures.fits start.graph units,
+      subst (AllMayAsk g.T.Reserved.ReservationLedger.asks) (sym units) c.requires.asks,
+    )
 
 pub close_run-requires-clause-graph : goal.close_run-requires-clause-graph
 close_run-requires-clause-graph g c =

@@ -1,5 +1,5 @@
 use Rattle.std.proofs.lemmas.Result.{IfOk-weaker}
-use Rattle.item_work.proofs.lemmas.Coverings.{covers_itself}
+use Rattle.daemon_manager.proofs.lemmas.Coverings.{covers_itself}
 use Rattle.item_work.proofs.daemons.reserve.Goals as goal
 
 pub returns-in-Start-clause-covers : goal.returns-in-Start-clause-covers

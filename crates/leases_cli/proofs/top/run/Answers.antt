@@ -1,11 +1,14 @@
 use Rattle.std.proofs.Common.{◌≤◌, Vec, length, ap, arith, refl, subst, sym, ◌∙◌}
 use Rattle.std.specs.declared.alloc.Global.{Global}
+use Rattle.daemon_manager.specs.Asking.{AreAskedFor}
 use Rattle.daemon_manager.specs.Counts.{failures, reservations}
 use Rattle.daemon_manager.specs.declared.events.Event.{Event}
+use Rattle.plan_reader.specs.Units.{plan_units}
 use Rattle.run_watch.specs.declared.boards.Watch.{Watch}
 use Rattle.build_runner.specs.Watching.{IsWatchedRun}
 use Rattle.build_runner.specs.Desks.{desks_view}
 use Rattle.build_workers.specs.Desks.{DeskView, desk_view}
+use Rattle.build_workers.specs.Units.{AsksFor}
 use Rattle.build_runner.proofs.lemmas.KnownFiles.{still_alike}
 use Rattle.build_runner.proofs.lemmas.Within.{asked_nothing, broken_within, run_within}
 use Rattle.leases_cli.specs.Answered.{book_of, call_of, options_of}
@@ -65,8 +68,9 @@ returns-in-Ok-run_plan-clause-answer g c = λ d source.
     c.run_plan.ensures.rest (λ i. c.read_first.ensures.sent i d) c.in-Ok-run_plan.ensures.reserved in
     let kept = ap (λ (v : Vec Event Global). reservations v.items) c.report_run.ensures.kept.0 in
     let lost = ap (λ (v : Vec Event Global). failures v.items) c.report_run.ensures.kept.0 in
+    let units = subst (λ (v : Vec Event Global). AreAskedFor (AsksFor (plan_units plan)) v.items) (sym c.report_run.ensures.kept.0) c.in-Ok-run_plan.ensures.units in
     let watch = subst (λ (v : Vec Watch Global). IsWatchedRun (options_of asked) b v.items) (sym c.report_run.ensures.kept.1) c.in-Ok-run_plan.ensures.watch in
-    reported_answers asked call plan b (ap book_of c.report_run.ensures.book) (record { named = c.in-Ok.ensures.plan d; run = run; reserved = omega (arith, reserved, kept); failed = omega (arith, c.in-Ok-run_plan.ensures.failed, lost); watch = watch }) (c.report_run.ensures.status first after run)
+    reported_answers asked call plan b (ap book_of c.report_run.ensures.book) (record { named = c.in-Ok.ensures.plan d; run = run; reserved = omega (arith, reserved, kept); units = units; failed = omega (arith, c.in-Ok-run_plan.ensures.failed, lost); watch = watch }) (c.report_run.ensures.status first after run)
 
 pub returns-clause-answer : goal.returns-clause-answer
 returns-clause-answer g c = λ d source.

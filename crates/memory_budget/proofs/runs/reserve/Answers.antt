@@ -1,7 +1,7 @@
 use Rattle.std.proofs.Common.{◌∙◌, subst, sym}
 use Rattle.std.proofs.lemmas.Result.{IfOk-weaker}
 use Rattle.daemon_requirements.specs.Covers.{Covers}
-use Rattle.item_work.proofs.lemmas.Coverings.{covers_itself}
+use Rattle.daemon_manager.proofs.lemmas.Coverings.{covers_itself}
 use Rattle.memory_budget.specs.Waiting.{IsRoomFor}
 use Rattle.memory_budget.proofs.runs.reserve.Goals as goal
 

@@ -11,4 +11,4 @@ returns-in-Some-Item g c _ =
     let found = c.in-Some-Item in
     let at = slice_get_read us (length us) c.args.unit found.field-0.now refl found.ensures.lookup.3.0 found.ensures.lookup.1 in
     subst (λ (s : SiteView). IsItemHere s.graph c.args.unit) c.self.view_is
-    (item_here c.self.inside.graph.now c.args.unit us found.field-0-0 c.self.invariant (at ∙ ap Some found.field-0-is))
+    (item_here c.self.inside.graph.now c.args.unit us found.field-0-0 c.self.invariant.0 (at ∙ ap Some found.field-0-is))
