@@ -13,7 +13,7 @@ use task_ordering::{
 };
 
 /// The lists of a task: those that it comes after, those that it must run after, and those that finalize it.
-type Lists = (&'static [u32], &'static [u32], &'static [u32]);
+pub(crate) type Lists = (&'static [u32], &'static [u32], &'static [u32]);
 
 /// Those asked for, and the order.
 type Asked = (&'static [u32], Result<&'static [u32], OrderRefusal>);
@@ -57,7 +57,8 @@ static ROWS: [Row; 4] = [
     ),
 ];
 
-fn tasks_of(alloc: Global, lists: &[Lists]) -> Result<Vec<OrderTask>, AllocError> {
+/// Tasks of these lists.
+pub(crate) fn tasks_of(alloc: Global, lists: &[Lists]) -> Result<Vec<OrderTask>, AllocError> {
     let mut tasks = Vec::new(alloc);
     for (after, must_after, finalized_by) in lists {
         tasks.push(OrderTask {
@@ -246,7 +247,7 @@ fn task_alone(alloc: Global) -> GraphTask {
 }
 
 /// The graph of two tasks, for one worker.
-fn graph_of_two(rt: &impl Abort, alloc: Global) -> Result<Graph, AllocError> {
+pub(crate) fn graph_of_two(rt: &impl Abort, alloc: Global) -> Result<Graph, AllocError> {
     let mut tasks = Vec::new(alloc);
     tasks.push(task_alone(alloc))?;
     tasks.push(task_alone(alloc))?;
@@ -260,7 +261,7 @@ fn book_of_two(rt: &impl Abort, alloc: Global) -> Result<Book, AllocError> {
 }
 
 /// Task 1 after task 0.
-static PAIR: [Lists; 2] = [(&[], &[], &[]), (&[0], &[], &[])];
+pub(crate) static PAIR: [Lists; 2] = [(&[], &[], &[]), (&[0], &[], &[])];
 
 #[test]
 fn a_task_starts_after_those_before_it(rt: HostRuntime) -> Result<(), Fail> {

@@ -1,5 +1,5 @@
 -- The tasks to run are reached, each with what it needs.
-use Rattle.std.proofs.Common.{◌≡◌, ◌≢◌, ◌⊎◌, ◌<◌, ◌+◌, ◌-◌, take, ℕ, Bool, true, false, not, cond, List, [], ◌∷◌, ◌++◌, length, get_or, set, refl, sym, ap, ◌∙◌, arith, inl, inr, Contains, subst, length-append, length-set, get_or-set_same, get_or-set_other}
+use Rattle.std.proofs.Common.{◌≡◌, ◌≢◌, ◌⊎◌, ◌<◌, ◌+◌, ◌-◌, take, ℕ, Bool, true, false, not, cond, List, [], ◌∷◌, ◌++◌, length, get_or, set, sym, ap, ◌∙◌, arith, inl, inr, Contains, subst, length-append, length-set, get_or-set_same, get_or-set_other}
 use Rattle.std.specs.Prelude.{count_by}
 use Rattle.std.specs.List.{All}
 use Rattle.std.proofs.lemmas.Bool.{cases_eq, cases_lt, both_ways}
@@ -8,7 +8,7 @@ use Rattle.std.proofs.lemmas.List.Elements.{Contains-append_left, Contains-appen
 use Rattle.std.proofs.lemmas.List.Sums.{sum_by-set}
 use Rattle.task_ordering.specs.Marks.{IsMarked, MarksExactly}
 use Rattle.task_ordering.specs.Tasks.{after, finalized_by, Needs, IsToRun, is_asked, is_needed}
-use Rattle.task_ordering.specs.Reach.{work_left, Reaches, IsSoundReach}
+use Rattle.task_ordering.specs.Reach.{Reaches, IsSoundReach}
 use Rattle.task_ordering.specs.declared.tasks.OrderTask.{OrderTask}
 use Rattle.task_ordering.specs.declared.reaching.Reach.{Reach}
 

@@ -10,8 +10,7 @@ use lock_transforms::Kind;
 use resource_lock::{Change, WorkerId};
 
 /// The entries of a history, which needn't be lawful.
-// Histories that are read from texts stand in `history_text`, above this crate. A crate over both would have one in a type of its own, and
-// implement this for it.
+// `order_check` implements it for histories that were read from texts, so that this crate needs no reader of texts.
 pub trait Entries {
     /// The entries, in order.
     ghost entries: { Self → List Entry };

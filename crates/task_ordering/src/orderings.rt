@@ -78,7 +78,8 @@ impl Ordering {
     }
 
     /// Whether no finished entry of a history starts a task before those that stand before it have ended or been skipped. The
-    /// history may be a book that gave no entries away, or entries that needn't be lawful.
+    /// history may be a book that gave no entries away, or entries that needn't be lawful: given ones, or with `order_check`
+    /// those of a text.
     pub fn check<H: Entries>(&self, alloc: Global, history: &H) -> Result<Kept, AllocError>
         requires { H.whole history.now }
         ensures { IfOk result (IsFound self.now.befores (H.entries history.now)) }
