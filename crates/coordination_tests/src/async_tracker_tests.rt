@@ -100,21 +100,25 @@ pub(crate) fn run_item_to<R: Wait>(
     }
 }
 
-/// Runs both items. False says that one isn't Queued.
+/// Runs both items to these outcomes. False says that one isn't Queued.
 pub(crate) fn run_both<R: Wait>(
     rt: &R,
     service: &Coordination,
     pass: &mut Pass,
     parked: &Parked,
+    first: Outcome,
+    second: Outcome,
 ) -> Result<bool, Halt>
     requires service { pass.old.service ≡ service.now.service }
     requires helps { CanHelp pass.old.sight parked.now }
+    requires first { first ≢ outcomes.Skipped }
+    requires second { second ≢ outcomes.Skipped }
     ensures service { pass.new.service ≡ pass.old.service }
     ensures helps { OnOk result (CanHelp pass.new.sight parked.now) }
 {
-    let first = run_item(rt, service, pass, parked, 0, 3)?;
-    let second = run_item(rt, service, pass, parked, 1, 14)?;
-    Ok(first && second)
+    let ran = run_item_to(rt, service, pass, parked, 0, first)?;
+    let also = run_item_to(rt, service, pass, parked, 1, second)?;
+    Ok(ran && also)
 }
 
 /// Goes on once the items have ended. False says that one hasn't.
@@ -137,17 +141,25 @@ pub(crate) fn go_on<R: Wait>(
     }
 }
 
-// Works the whole task. False says that a call answered otherwise than one expects.
-fn run_task<R: Wait>(rt: &R, service: &Coordination, pass: &mut Pass) -> Result<bool, Halt>
+/// Works the whole task, whose items end so. False says that a call answered otherwise than one expects.
+pub(crate) fn run_task<R: Wait>(
+    rt: &R,
+    service: &Coordination,
+    pass: &mut Pass,
+    first: Outcome,
+    second: Outcome,
+) -> Result<bool, Halt>
     requires service { pass.old.service ≡ service.now.service }
     requires graph { HasTwoItems pass.old.sight.seen.graph }
     requires rests { HoldsNothing pass.old.sight }
+    requires first { first ≢ outcomes.Skipped }
+    requires second { second ≢ outcomes.Skipped }
     ensures service { pass.new.service ≡ pass.old.service }
 {
     let Some(parked) = wait_for_items(rt, service, pass)? else {
         return Ok(false);
     };
-    let ran = run_both(rt, service, pass, &parked)?;
+    let ran = run_both(rt, service, pass, &parked, first, second)?;
     if !go_on(rt, service, pass, parked)? {
         return Ok(false);
     }
@@ -332,7 +344,8 @@ fn makes<R: Wait>(rt: &R, service: &Coordination, pass: &mut Pass, rows: &[Entry
     requires graph { HasTwoItems pass.old.sight.seen.graph }
     requires rests { HoldsNothing pass.old.sight }
 {
-    matches!(run_task(rt, service, pass), Ok(true))
+    let ran = run_task(rt, service, pass, Outcome::Number(3), Outcome::Number(14));
+    matches!(ran, Ok(true))
         && pass.last() == 9
         && are_entries(rt, service, pass, &WORKED)
         && are_entries(rt, service, pass, rows)
@@ -440,7 +453,9 @@ fn a_task_is_worked_call_by_call(rt: HostRuntime) -> Result<(), AllocError> {
     for (retention, work) in &WORKS {
         let mut opened = open_task(&rt, rt.alloc(), *retention)?;
         let Opened { service, passes } = &mut *opened;
-        assert!(rt; works(&rt, service, &mut passes[0], *work));
+        let is_worked = works(&rt, service, &mut passes[0], *work);
+        drop(opened);
+        assert!(rt; is_worked);
     }
     Ok(())
 }

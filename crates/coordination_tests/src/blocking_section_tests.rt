@@ -205,7 +205,9 @@ fn lends_and_steps_aside<R: Wait>(rt: &R, service: &Coordination, passes: &mut [
 fn a_section_gives_back_all_meanwhile(rt: HostRuntime) -> Result<(), AllocError> {
     let mut opened = open(&rt, rt.alloc(), &LIMITS, &[], &[])?;
     let Opened { service, passes } = &mut *opened;
-    assert!(rt; lends_and_steps_aside(&rt, service, passes));
+    let gives_back = lends_and_steps_aside(&rt, service, passes);
+    drop(opened);
+    assert!(rt; gives_back);
     Ok(())
 }
 
@@ -291,6 +293,7 @@ fn leaving_waits_for_the_lease_of_another_thread_or_a_stop(
         let mut opened = open(&rt, rt.alloc(), &ONE_LEASE, &[], &[])?;
         let Opened { service, passes } = &mut *opened;
         play_in_threads(&rt, service, passes, stops);
+        drop(opened);
     }
     Ok(())
 }

@@ -15,8 +15,8 @@ use coordination::{Coordination, Decided, Decision, Halt, Opened, Pass};
 use item_actions::Outcome;
 use lock_transforms::Closed;
 use resource_lock::{MarkId, Retention, WorkerId};
+use std::alloc::AllocError;
 use std::sync::Wait;
-use std::test::Fail;
 
 /// An item that the worker has run.
 const CLOSED: Closed = Closed {
@@ -83,9 +83,10 @@ fn is_closed<R: Wait>(
     requires graph { HasTwoItems first.old.sight.seen.graph }
     requires rests { HoldsNothing first.old.sight }
 {
-    let Some(_parked) = wait_for_items(rt, service, first)? else {
+    let Some(parked) = wait_for_items(rt, service, first)? else {
         return Ok(false);
     };
+    drop(parked);
     service.stop_all(rt, second);
     let came = match run_first(rt, service, first, least) {
         Some(Ok(Decided::Entered(entries, false))) => entries == 5 && least <= 5,
@@ -117,11 +118,13 @@ fn is_closed_by_first<R: Wait>(
 #[test]
 fn an_item_is_closed_whatever_becomes_of_the_decision_behind_it(
     rt: HostRuntime,
-) -> Result<(), Fail> {
+) -> Result<(), AllocError> {
     for least in [0, 1000] {
         let mut opened = open_task(&rt, rt.alloc(), Retention::Release)?;
         let Opened { service, passes } = &mut *opened;
-        assert!(rt; is_closed_by_first(&rt, service, passes, least));
+        let is_closed = is_closed_by_first(&rt, service, passes, least);
+        drop(opened);
+        assert!(rt; is_closed);
     }
     Ok(())
 }

@@ -154,7 +154,9 @@ fn a_free_lock_is_taken_by_a_try(rt: HostRuntime) -> Result<(), AllocError> {
         &[],
     )?;
     let Opened { service, passes } = &mut *opened;
-    assert!(rt; takes_by_a_try(&rt, service, &mut passes[0]));
+    let takes = takes_by_a_try(&rt, service, &mut passes[0]);
+    drop(opened);
+    assert!(rt; takes);
     Ok(())
 }
 
@@ -427,7 +429,9 @@ fn comes_to_its_end<R: Threads + Wait + Abort + Sync>(
 ) -> Result<bool, AllocError> {
     let opened = open_scene(rt, alloc, scene)?;
     let book = play_out(rt, Box::into_inner(opened), scene);
-    Ok(book.len() == scene.entries && (scene.entries == 0 || is_at_rest(&book)))
+    let has_come = book.len() == scene.entries && (scene.entries == 0 || is_at_rest(&book));
+    drop(book);
+    Ok(has_come)
 }
 
 /// Two threads that retry take turns; many threads share few locks; a question waits for the failed entry of another thread;

@@ -1,16 +1,15 @@
 //! Services whose history is taken while their workers go on.
 ghost use Rattle.std.specs.Prelude.{◌≡◌, All};
 
-use crate::services::open;
+use crate::services::{book_of, open};
 use coordination::{Coordination, Opened, Pass};
 use lock_journal::{Book, Segment, Shown};
 use lock_transforms::kinds::{Acquire, HandBack, Shortage};
 use resource_lock::LockId;
-use state_tests::graphs::graph_of;
 use state_tests::rows::Limits;
 use std::alloc::{AllocError, Global};
 use std::process::Abort;
-use std::sync::Wait;
+use std::sync::{Mutex, Wait};
 use std::thread;
 use std::thread::Threads;
 
@@ -28,104 +27,105 @@ const TURNS: u32 = 400;
 /// After so many turns each takes a part of the history.
 const TURNS_TO_A_PART: u32 = 40;
 
-/// A worker of the service, and the parts of the history that it took.
-#[derive(Drop)]
-struct Taker<'a> {
-    service: &'a Coordination,
-    pass: Pass,
-    taken: Vec<Segment>,
-    ghost own: { pass.service ≡ service.now.service },
-}
-
-impl Taker<'_> {
-    // Takes what the service keeps of its history.
-    fn take_part<R: Wait>(&mut self, rt: &R, alloc: Global) -> Result<bool, AllocError> {
-        let mut segment = Segment::opening(alloc, 0, 64, 128)?;
-        let taken = self.service.take_history(rt, &mut self.pass, &mut segment);
-        self.taken.push(segment)?;
-        Ok(taken)
-    }
-
-    // Takes a lock and hands it back.
-    fn take_turn<R: Wait>(&mut self, rt: &R) -> bool {
-        let locks = [LockId(self.pass.worker().0 % 4)];
-        let acquire = Acquire {
-            locks: &locks,
-            shortage: Shortage::Waits,
-        };
-        let pass = &mut self.pass;
-        matches!(self.service.with_state_lock(rt, pass, &acquire), Ok(true))
-            && matches!(self.service.with_state_lock(rt, pass, &HandBack), Ok(true))
-    }
-
-    // Takes turns, and a part of the history now and then.
-    fn take_turns<R: Wait + Abort>(&mut self, rt: &R, alloc: Global) {
-        for turn in 0..TURNS {
-            assert!(rt; self.take_turn(rt));
-            if turn % TURNS_TO_A_PART == 0 {
-                assert!(rt; matches!(self.take_part(rt, alloc), Ok(true)));
-            }
-        }
-    }
-}
-
-// A taker with the last pass, where there is one.
-fn last_taker<'a>(
-    alloc: Global,
-    service: &'a Coordination,
-    passes: &mut Vec<Pass>,
-) -> Option<Taker<'a>>
-    requires { All (λ p. p.service ≡ service.now.service) passes.old.items }
-    ensures { All (λ p. p.service ≡ service.now.service) passes.new.items }
-{
-    let pass = passes.pop()?;
-    Some(Taker {
-        service,
-        pass,
-        taken: Vec::new(alloc),
-    })
-}
-
-// A taker for each pass.
-fn takers_of(
+// Takes what the service keeps of its history, as the next of the parts. False says that it could not be taken or kept.
+fn take_part<R: Wait>(
+    rt: &R,
     alloc: Global,
     service: &Coordination,
-    mut passes: Vec<Pass>,
-) -> Result<Vec<Taker<'_>>, AllocError>
-    requires { All (λ p. p.service ≡ service.now.service) passes.items }
+    pass: &mut Pass,
+    parts: &Mutex<Vec<Segment>>,
+) -> bool
+    requires { pass.old.service ≡ service.now.service }
+    ensures { pass.new.service ≡ pass.old.service }
 {
-    let mut takers = Vec::new(alloc);
-    for _ in 0..passes.len() {
-        if let Some(taker) = last_taker(alloc, service, &mut passes) {
-            takers.push(taker)?;
-        }
-    }
-    Ok(takers)
+    let Ok(mut segment) = Segment::opening(alloc, 0, 64, 128) else {
+        return false;
+    };
+    let taken = service.take_history(rt, pass, &mut segment);
+    let kept = parts.lock(rt).push(segment);
+    taken && kept.is_ok()
 }
 
-// Has each take its turns in a thread of its own, and then what is left of the history.
-fn take_all<R: Threads + Wait + Abort + Sync>(rt: &R, alloc: Global, takers: &mut [Taker<'_>]) {
-    let threads = takers.len().max(1);
+// Takes a lock and hands it back.
+fn take_turn<R: Wait>(rt: &R, service: &Coordination, pass: &mut Pass) -> bool
+    requires { pass.old.service ≡ service.now.service }
+    ensures { pass.new.service ≡ pass.old.service }
+{
+    let locks = [LockId(pass.worker().0 % 4)];
+    let acquire = Acquire {
+        locks: &locks,
+        shortage: Shortage::Waits,
+    };
+    matches!(service.with_state_lock(rt, pass, &acquire), Ok(true))
+        && matches!(service.with_state_lock(rt, pass, &HandBack), Ok(true))
+}
+
+// Takes turns, and a part of the history now and then.
+fn take_turns<R: Wait + Abort>(
+    rt: &R,
+    alloc: Global,
+    service: &Coordination,
+    pass: &mut Pass,
+    parts: &Mutex<Vec<Segment>>,
+)
+    requires { pass.old.service ≡ service.now.service }
+    ensures { pass.new.service ≡ pass.old.service }
+{
+    for turn in 0..TURNS {
+        let went = take_turn(rt, service, pass);
+        assert!(rt;
+            went && (turn % TURNS_TO_A_PART != 0 || take_part(rt, alloc, service, pass, parts))
+        );
+    }
+}
+
+// Has each worker take its turns in a thread of its own.
+fn take_turns_in_threads<R: Threads + Wait + Abort + Sync>(
+    rt: &R,
+    alloc: Global,
+    service: &Coordination,
+    passes: &mut [Pass],
+    parts: &Mutex<Vec<Segment>>,
+)
+    requires { All (λ p. p.service ≡ service.now.service) passes.old }
+    ensures { All (λ p. p.service ≡ service.now.service) passes.new }
+{
+    let threads = passes.len().max(1);
     thread::for_each_mut(
         rt,
-        takers,
+        passes,
         threads,
-        &|_, taker: &mut Taker<'_>| { taker.take_turns(rt, alloc) },
+        &|_, pass| { take_turns(rt, alloc, service, pass, parts) },
     );
-    for taker in takers {
-        assert!(rt; matches!(taker.take_part(rt, alloc), Ok(true)));
+}
+
+// Has each worker take what is left of the history.
+fn take_rest<R: Wait + Abort>(
+    rt: &R,
+    alloc: Global,
+    service: &Coordination,
+    passes: &mut [Pass],
+    parts: &Mutex<Vec<Segment>>,
+)
+    requires { All (λ p. p.service ≡ service.now.service) passes.old }
+{
+    for pass in passes {
+        assert!(rt; take_part(rt, alloc, service, pass, parts));
     }
 }
 
-// The parts that they took.
-fn parts_of(alloc: Global, takers: Vec<Taker<'_>>) -> Result<Vec<Segment>, AllocError> {
-    let mut parts = Vec::new(alloc);
-    for taker in takers {
-        for segment in taker.taken {
-            parts.push(segment)?;
-        }
-    }
-    Ok(parts)
+// Has the workers of a new service take their turns and its history.
+fn take_all<R: Threads + Wait + Abort + Sync>(
+    rt: &R,
+    alloc: Global,
+    parts: &Mutex<Vec<Segment>>,
+) -> Result<(), AllocError> {
+    let mut opened = open(rt, alloc, &LIMITS, &[], &[])?;
+    let Opened { service, passes } = &mut *opened;
+    take_turns_in_threads(rt, alloc, service, passes, parts);
+    take_rest(rt, alloc, service, passes, parts);
+    drop(opened);
+    Ok(())
 }
 
 // Admits an entry behind the others.
@@ -160,17 +160,23 @@ fn are_one_history(book: &mut Book, parts: &[Segment]) -> Result<bool, AllocErro
     Ok(true)
 }
 
+// Whether the parts are one history of all turns, at whose end no lease is out.
+fn are_the_history(rt: &impl Abort, alloc: Global, parts: &[Segment]) -> Result<bool, AllocError> {
+    let mut book = book_of(rt, alloc, &LIMITS, &[], &[])?;
+    let are_one = are_one_history(&mut book, parts);
+    let is_whole = book.len() == 8 * u64::from(TURNS) * 2 && book.state().leases_out() == 0;
+    drop(book);
+    Ok(are_one? && is_whole)
+}
+
 #[test]
 fn the_parts_of_a_history_are_one_history(rt: HostRuntime) -> Result<(), AllocError> {
-    let alloc = rt.alloc();
-    let opened = open(&rt, alloc, &LIMITS, &[], &[])?;
-    let Opened { service, passes } = Box::into_inner(opened);
-    let mut takers = takers_of(alloc, &service, passes)?;
-    take_all(&rt, alloc, takers.as_mut_slice());
-    let parts = parts_of(alloc, takers)?;
-    let graph = graph_of(alloc, &LIMITS, &[], &[])?.expect(&rt, "a graph that fits");
-    let mut book = Book::opening(alloc, Box::into_inner(graph), 0, 0)?;
-    assert!(rt; are_one_history(&mut book, &parts)?);
-    assert!(rt; book.len() == 8 * u64::from(TURNS) * 2 && book.state().leases_out() == 0);
+    let parts = Mutex::new(Vec::new(rt.alloc()));
+    let taken = take_all(&rt, rt.alloc(), &parts);
+    let parts = parts.into_inner();
+    let are_one = are_the_history(&rt, rt.alloc(), &parts);
+    drop(parts);
+    taken?;
+    assert!(rt; are_one?);
     Ok(())
 }

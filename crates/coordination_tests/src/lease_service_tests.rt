@@ -190,7 +190,9 @@ fn workers_take_free_locks_and_no_busy_ones(rt: HostRuntime) -> Result<(), Alloc
     for (turns, rows) in &PLAYS {
         let mut opened = open(&rt, rt.alloc(), &LIMITS, &[], &[])?;
         let Opened { service, passes } = &mut *opened;
-        assert!(rt; all_go(&rt, service, passes, turns, rows));
+        let go = all_go(&rt, service, passes, turns, rows);
+        drop(opened);
+        assert!(rt; go);
     }
     Ok(())
 }
@@ -211,6 +213,18 @@ static PROJECTS: [(&str, bool, Option<LockId>); 6] = [
     ("c", true, None),
 ];
 
+// The lock of the project with this name.
+fn lock_named(
+    alloc: Global,
+    locks: &ProjectLocks,
+    name: &str,
+) -> Result<Option<LockId>, AllocError> {
+    let name = Text::from_str(alloc, name)?;
+    let lock = locks.lock_of(&name);
+    drop(name);
+    Ok(lock)
+}
+
 // Whether the project has this lock.
 fn has_lock(
     alloc: Global,
@@ -218,16 +232,20 @@ fn has_lock(
     parallel: bool,
     expected: Option<LockId>,
 ) -> Result<bool, AllocError> {
-    let name = Text::from_str(alloc, name)?;
     let locks = two_projects(alloc, parallel)?;
-    Ok(locks.lock_of(&name) == expected && locks.count() == 1 + u32::from(parallel))
+    let lock = lock_named(alloc, &locks, name);
+    let count = locks.count();
+    drop(locks);
+    Ok(lock? == expected && count == 1 + u32::from(parallel))
 }
 
 // Whether a graph of two workers has the locks of both projects, and one for all projects behind them.
 fn has_lock_for_all(alloc: Global, parallel: bool) -> Result<bool, AllocError> {
     let locks = two_projects(alloc, parallel)?;
     let all = locks.all_lock();
-    Ok(all.0 == locks.count() && Graph::fits(all.0.saturating_add(1), Some(all), 2, 2, &[], &[]))
+    let count = locks.count();
+    drop(locks);
+    Ok(all.0 == count && Graph::fits(all.0.saturating_add(1), Some(all), 2, 2, &[], &[]))
 }
 
 #[test]
@@ -310,6 +328,7 @@ fn a_lock_is_waited_for_until_it_is_handed_back_or_a_stop(
         let mut opened = open(&rt, rt.alloc(), &LIMITS, &[], &[])?;
         let Opened { service, passes } = &mut *opened;
         wait_in_threads(&rt, service, passes, stops);
+        drop(opened);
     }
     Ok(())
 }

@@ -14,8 +14,18 @@ use std::alloc::{AllocError, Global};
 use std::process::Abort;
 use std::thread;
 
-// A book of the graph of these rows, without entries.
-fn book_of(
+// The value in a box.
+fn boxed<T: Drop>(alloc: Global, value: T) -> Result<Box<T>, AllocError>
+    ensures { IfOk result (λ b. b.value ≡ value) }
+{
+    match Box::new(alloc, value) {
+        Ok(value) => Ok(value),
+        Err(_) => Err(AllocError),
+    }
+}
+
+/// A book of the graph of these rows, without entries.
+pub fn book_of(
     rt: &impl Abort,
     alloc: Global,
     limits: &Limits,
@@ -27,8 +37,7 @@ fn book_of(
     ensures whole { IfOk result (λ book. book.value.given ≡ 0) }
 {
     let graph = graph_of(alloc, limits, rows, actions)?.expect(rt, "a graph that fits");
-    let book = Book::opening(alloc, Box::into_inner(graph), 0, 0)?;
-    Ok(Box::new(alloc, book)?)
+    boxed(alloc, Book::opening(alloc, Box::into_inner(graph), 0, 0)?)
 }
 
 /// A service over a new book of the graph of these rows, with a pass for each worker.
@@ -47,7 +56,7 @@ pub fn open(
 {
     openings_are_at_rest();
     let book = book_of(rt, alloc, limits, rows, actions)?;
-    Ok(Box::new(alloc, Coordination::open(alloc, book)?)?)
+    boxed(alloc, Coordination::open(alloc, book)?)
 }
 
 /// Lets other threads go on for a while.

@@ -7,6 +7,7 @@ use crate::async_tracker_tests::{go_on, open_task, run_both, run_item, wait_for_
 use crate::services::yield_a_while;
 use async_tracker::Parked;
 use coordination::{Coordination, Halt, Opened, Pass};
+use item_actions::Outcome;
 use lock_transforms::kinds::{Acquire, HandBack, Shortage};
 use resource_lock::{LockId, Retention, WorkerId};
 use std::alloc::AllocError;
@@ -68,7 +69,8 @@ fn prepare<R: Wait>(
     match wanted {
         Wanted::Lease => Ok(Some(parked)),
         Wanted::LockAndLease => {
-            let ran = run_both(rt, service, pass, &parked)?;
+            let (first, second) = (Outcome::Number(3), Outcome::Number(14));
+            let ran = run_both(rt, service, pass, &parked, first, second)?;
             Ok(ran.then_some(parked))
         }
     }
@@ -157,7 +159,9 @@ fn a_claim_waits_for_a_lease_and_a_resume_for_the_lock_too(
     for (retention, wanted, stops) in &WAITS {
         let mut opened = open_task(&rt, rt.alloc(), *retention)?;
         let Opened { service, passes } = &mut *opened;
-        assert!(rt; ends(&rt, service, passes, *wanted, *stops));
+        let ends = ends(&rt, service, passes, *wanted, *stops);
+        drop(opened);
+        assert!(rt; ends);
     }
     Ok(())
 }
