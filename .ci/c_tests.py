@@ -47,6 +47,7 @@ told wakhurmi_c_enter(handle *worker) { (void)worker; return done(); }
 told wakhurmi_c_leave(handle *worker) { (void)worker; return done(); }
 uint32_t wakhurmi_c_stop(handle *worker) { (void)worker; return 0; }
 uint32_t wakhurmi_c_leases_out(handle *worker, uint32_t *leases) { (void)worker; *leases = 0; return 0; }
+uint32_t wakhurmi_c_parked(handle *worker, size_t place, uint32_t *lock) { (void)worker, (void)place, (void)lock; return 6; }
 uint32_t wakhurmi_c_close(handle *worker) { rattle_dealloc(worker->at); return 0; }
 uint32_t wakhurmi_c_finish(handle *workers, size_t count, handle *book) {
     for (size_t worker = 1; worker < count; worker++) wakhurmi_c_close(&workers[worker]);

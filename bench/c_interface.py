@@ -10,7 +10,9 @@ The archive is made by c/build.sh, which needs the command rt and proves crates/
 * bench/programs/c_history has histories taken in parts, by threads that are cancelled too, and services keep their last entries; parts that
   stand behind each other are replayed and checked. bench/programs/c_refused refuses memory to each allocation of that;
 * bench/programs/c_rounds checks four threads over 400,000 rounds, while a fifth asks for the leases: never more at work than may be, one
-  owner a lock; the history is replayed and checked.
+  owner a lock; the history is replayed and checked;
+* bench/programs/c_turns has threads want the same locks all the time, and bench/programs/c_taking takes histories, and keeps last entries, beside
+  threads that work.
   All of these run under memcheck and helgrind too, and built with the compiler's sanitizers, with less to do. Helgrind and the sanitizer of
   threads follow no lock of the proved library, so for them its calls are made one at a time under a mutex;
 * a take and a hand-back are timed in processor time, by one thread and by four, beside a plain mutex with a counter.
@@ -39,7 +41,7 @@ import measure
 TOP = measure.TOP
 EXAMPLE = TOP / "examples/embedding-in-c"
 LEASES = pathlib.Path(sys.argv[1]).resolve() if len(sys.argv) > 1 else TOP / "out/leases"
-NAMES = ("c_rounds", "c_calls", "c_cancel", "c_history", "c_refused")
+NAMES = ("c_rounds", "c_calls", "c_cancel", "c_history", "c_refused", "c_turns", "c_taking")
 PROGRAMS = [TOP / f"bench/programs/{name}/{name}.c" for name in NAMES] + [EXAMPLE / "eight.c"]
 # c_refused has calls of these from the archive come to functions of its own.
 WRAPS = [f"-Wl,--wrap={name}" for name in ("malloc", "realloc", "calloc", "aligned_alloc")]
@@ -60,6 +62,18 @@ SANITIZERS = {
 # Where a thread is cancelled, the sanitizer of addresses takes what it does itself with the thread's stack for a mistake.
 SETTINGS = {**os.environ, "ASAN_OPTIONS": "use_sigaltstack=0"}
 VALGRIND = ["valgrind", "-q", "--error-exitcode=9"]
+# The system's own wait may signal the condition that it waits for, without the mutex. Helgrind takes that for a program's mistake.
+SUPPRESSED = """{
+   a signal of the system's own
+   Helgrind:Misc
+   obj:*/vgpreload_helgrind-*.so
+   fun:__pthread_cond_wait_common
+   ...
+}
+"""
+# What is measured elsewhere, and only tried here.
+TRIED = ("c_turns leaving 8 1 20000 1", "c_turns service 8 2 1000000 1", "c_turns several 5 4 1500000 1", "c_taking memory 8 {rounds} 1000",
+         "c_taking kept 8 {rounds} 1000", "c_taking waits 8 1 1000", "c_taking hold 1000")
 
 
 def call(words: list[str], **more: object) -> str:
@@ -107,6 +121,10 @@ def check(made: pathlib.Path, rounds: int, cancelled: int, tool: list[str], what
     print(f"{what}: {cancelled} threads were cancelled: {judged(history)}", flush=True)
     history = call([*tool, str(made / "c_rounds"), "check", "4", str(rounds)], env=SETTINGS)
     print(f"{what}: four threads, {4 * rounds} rounds: {judged(history)}", flush=True)
+    for tried in TRIED:
+        program, *words = tried.format(rounds=rounds).split()
+        call([*tool, str(made / program), *words], env=SETTINGS)
+    print(f"{what}: no complaint about threads that want the same, nor about histories that are taken meanwhile", flush=True)
 
 
 def try_in_rust(made: pathlib.Path, folder: pathlib.Path) -> None:
@@ -141,7 +159,8 @@ def main() -> None:
         if shutil.which("valgrind"):
             check(made, FEW_ROUNDS, FEW_CANCELLED, [*VALGRIND, "--leak-check=full"], "memcheck")
             single = build(folder, "single", "-g", ONE_AT_A_TIME)
-            check(single, FEW_ROUNDS, FEW_CANCELLED, [*VALGRIND, "--tool=helgrind"], "helgrind")
+            (folder / "suppressed").write_text(SUPPRESSED)
+            check(single, FEW_ROUNDS, FEW_CANCELLED, [*VALGRIND, "--tool=helgrind", f"--suppressions={folder}/suppressed"], "helgrind")
         else:
             print("memcheck, helgrind: passed over, there is no valgrind")
         time_rounds(made, 1, MOST_ALONE)

@@ -2,9 +2,9 @@
 """Measures in C how locks that several threads want come round: the rounds of each thread, and the longest wait.
 
 bench/programs/c_turns runs with 8 and 32 threads over two locks, with work of 2 microseconds to 1 millisecond under the lock, by a
-service and by a plain mutex for each lock. Then eight threads have a lock each, most of the time, and a ninth takes all eight at once.
-Each row of a service is judged: the fewest rounds of a thread are at least half the most, and no take waits for longer than 100 ms, the
-ninth thread's too.
+service and by a plain mutex for each lock. Then one thread enters and leaves blocking sections with a lock that all others, 7 or 31, take
+again and again. Then eight threads have a lock each, most of the time, and a ninth takes all eight at once. Each row of a service is judged: the
+fewest rounds of a thread are at least half the most, and no take and no leave waits for longer than 100 ms, the ninth thread's too.
 
 The archive is made by c/build.sh, which proves crates/wakhurmi_c where that is still to be done. Not part of the gate.
 
@@ -45,20 +45,39 @@ def turns(program: pathlib.Path, kind: str, threads: int, locks: int, length: in
     return [int(word) for word in subprocess.run(words, check=True, capture_output=True, text=True).stdout.split()]
 
 
-def main() -> None:
-    measure.skip_without("rt", "cc", "ar")
+def are_fair(program: pathlib.Path) -> bool:
+    """Whether threads that take and hand back come round."""
     met = True
     print("| Threads | Work | By | Rounds | Fewest | Most | Longest wait, ms |\n|---|---|---|---|---|---|---|")
+    for threads in (8, 32):
+        for length, nanoseconds in LENGTHS.items():
+            for kind in ("service", "mutex"):
+                rounds, fewest, most, _, longest, _ = turns(program, kind, threads, 2, nanoseconds)
+                print(f"| {threads} | {length} | {kind} | {rounds} | {fewest} | {most} | {longest / 1000:.1f} |", flush=True)
+                if kind == "service":
+                    met = met and longest <= LONGEST * 1000 and fewest * 2 >= most
+    return met
+
+
+def are_left(program: pathlib.Path) -> bool:
+    """Whether a thread that leaves sections comes round among others that take its lock."""
+    met = True
+    print("\n| Threads | Work | Its rounds | Fewest | Most | Its longest wait, ms | Longest wait, ms |\n|---|---|---|---|---|---|---|")
+    for threads in (8, 32):
+        for length, nanoseconds in LENGTHS.items():
+            _, fewest, most, own, longest, own_longest = turns(program, "leaving", threads, 1, nanoseconds)
+            print(f"| {threads} | {length} | {own} | {fewest} | {most} | {own_longest / 1000:.1f} | {longest / 1000:.1f} |", flush=True)
+            met = met and longest <= LONGEST * 1000 and fewest * 2 >= most
+    return met
+
+
+def main() -> None:
+    measure.skip_without("rt", "cc", "ar")
     with tempfile.TemporaryDirectory() as name:
         program = build(pathlib.Path(name))
-        for threads in (8, 32):
-            for length, nanoseconds in LENGTHS.items():
-                for kind in ("service", "mutex"):
-                    rounds, fewest, most, _, longest, _ = turns(program, kind, threads, 2, nanoseconds)
-                    print(f"| {threads} | {length} | {kind} | {rounds} | {fewest} | {most} | {longest / 1000:.1f} |", flush=True)
-                    if kind == "service":
-                        met = met and longest <= LONGEST * 1000 and fewest * 2 >= most
-        rounds, _, most, first, _, longest = turns(program, "several", 9, 8, 1_500_000)
+        met = are_fair(program)
+        met = are_left(program) and met
+        _, _, most, first, _, longest = turns(program, "several", 9, 8, 1_500_000)
         print(f"\nOne that takes eight locks: {first} rounds, where the others had at most {most}; its longest wait {longest / 1000:.1f} ms.")
         met = met and longest <= LONGEST * 1000
     print("met: yes" if met else "met: no")

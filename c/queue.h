@@ -8,7 +8,8 @@
  * Two kinds of calls aren't kept back. That of a worker that has a lease or locks: the queued one may wait for just these. And one that
  * was kept back for KEPT_BACK in all: a worker may have a lock, and wait outside of this service for the one that is kept back.
  *
- * Which locks wakhurmi_leave takes is known to the proved part alone, so such a call is queued for a lease, and not for locks. */
+ * A wakhurmi_leave is queued and kept back as a take of the locks that its worker had when it entered. Which these are the proved part tells when
+ * such a call is about to sleep, so no other call notes what it took. */
 #ifndef WAKHURMI_QUEUE_H
 #define WAKHURMI_QUEUE_H
 #include <stdbool.h>
@@ -16,6 +17,7 @@
 #include <stdint.h>
 
 #define MAX_WORKERS 32
+#define MAX_LOCKS 4096
 /* A call is queued once it has slept so many nanoseconds, and so often something was let go that it didn't get. Where locks are had for
  * microseconds, to hand one over to a thread that sleeps takes longer than the work: so few are. */
 #define PATIENCE 10000000

@@ -27,6 +27,7 @@ struct wakhurmi_service {
     slot book;
     kept_entries kept;
     slot workers[MAX_WORKERS];
+    uint32_t parked[]; /* Room for the locks that each worker's leave takes, as many as there are. */
 };
 
 /* Notes: a call is queued; somebody asks by the handle of any worker, and asked in vain. */

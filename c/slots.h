@@ -41,6 +41,7 @@ told wakhurmi_c_enter(handle *worker);
 told wakhurmi_c_leave(handle *worker);
 uint32_t wakhurmi_c_stop(handle *worker);
 uint32_t wakhurmi_c_leases_out(handle *worker, uint32_t *leases);
+uint32_t wakhurmi_c_parked(handle *worker, size_t place, uint32_t *lock);
 uint32_t wakhurmi_c_close(handle *worker);
 uint32_t wakhurmi_c_finish(handle *workers, size_t count, handle *book);
 uint32_t wakhurmi_c_history(handle *book, uint64_t part, uint8_t *buffer, size_t size, size_t *written);

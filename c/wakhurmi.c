@@ -154,6 +154,19 @@ static told sleep_until_done(wakhurmi_service *service, slot *held, request aske
     }
 }
 
+/* A call that is about to sleep. The locks that a leave takes are noted in its worker's room. They strictly rise, as an enter parks them so. */
+static arrival arrive(wakhurmi_service *service, uint32_t worker, request asked) {
+    arrival call = {.number = atomic_fetch_add(&service->arrivals, 1), .locks = asked.locks, .count = asked.count};
+    if (asked.what != LEAVE) return call;
+    uint32_t *parked = service->parked + (size_t)worker * service->locks;
+    handle *own = &service->workers[worker].held;
+    go_in();
+    while (call.count < service->locks && wakhurmi_c_parked(own, call.count, &parked[call.count]) == WAKHURMI_OK) call.count++;
+    go_out();
+    call.locks = parked;
+    return call;
+}
+
 static told sleep_for(wakhurmi_service *service, uint32_t worker, request asked, use before) {
     atomic_fetch_add(&service->sleepers, SLEEPER);
     sleeper own = {
@@ -162,7 +175,7 @@ static told sleep_for(wakhurmi_service *service, uint32_t worker, request asked,
         .first_news = atomic_load(&service->news),
         .patient_until = now() + PATIENCE,
         .kept_until = NEVER,
-        .call = {.number = atomic_fetch_add(&service->arrivals, 1), .locks = asked.locks, .count = asked.count},
+        .call = arrive(service, worker, asked),
     };
     told said = sleep_until_done(service, &service->workers[worker], asked, &own);
     atomic_fetch_sub(&service->sleepers, SLEEPER);
@@ -357,12 +370,19 @@ static bool has_waiting_tools(wakhurmi_service *service) {
     return false;
 }
 
+/* A service without handles, with room for the locks that each worker may have parked. */
+static wakhurmi_service *allocate(uint32_t workers, uint32_t locks) {
+    const size_t line = _Alignof(wakhurmi_service), parked = (size_t)workers * locks * sizeof(uint32_t);
+    wakhurmi_service *service = aligned_alloc(line, sizeof *service + (parked + line - 1) / line * line);
+    if (service != NULL) memset(service, 0, sizeof *service);
+    return service;
+}
+
 wakhurmi_answer wakhurmi_open_keeping(uint32_t workers, uint32_t max_leases, uint32_t locks, uint64_t entries, wakhurmi_service **opened) {
     if (opened == NULL) return WAKHURMI_MISUSED;
-    if (workers < 1 || workers > MAX_WORKERS) return WAKHURMI_BAD_NUMBER;
-    wakhurmi_service *service = aligned_alloc(_Alignof(wakhurmi_service), sizeof *service);
+    if (workers < 1 || workers > MAX_WORKERS || locks > MAX_LOCKS) return WAKHURMI_BAD_NUMBER;
+    wakhurmi_service *service = allocate(workers, locks);
     if (service == NULL) return WAKHURMI_NO_MEMORY;
-    memset(service, 0, sizeof *service);
     handle handles[MAX_WORKERS] = {{0}};
     uint32_t answer = wakhurmi_c_open(max_leases, locks, handles, workers);
     if (answer == WAKHURMI_OK && !has_waiting_tools(service)) {

@@ -43,7 +43,7 @@
  * entries or more let something go, is queued. From then on a later call waits for it, though it could be done at once, where both take one
  * lock, or where the queued one found all leases out. Those aren't kept back so: wakhurmi_try_take; a call of a worker that has a lease, as
  * the queued one may wait for just what that worker has; and any call that was kept back for 100 milliseconds, since a worker with a lock may
- * wait elsewhere for the one that is kept back. wakhurmi_leave is queued for its lease, and not for its locks.
+ * wait elsewhere for the one that is kept back. wakhurmi_leave is queued and kept back for its lease and its locks, as a take of these.
  *
  * Calls of several threads may meet inside the service. Then all but one pause, and after some 20 microseconds each naps, for 50 or more at a
  * time, until it finds nobody inside. No comment below calls that waiting, no deadline ends it, and nothing bounds how often a call naps.

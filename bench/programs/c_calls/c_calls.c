@@ -1,46 +1,19 @@
 /* Answers of the C interface that are known beforehand, also to calls that a caller shouldn't make. It prints nothing where all are right.
  *
  *     c_calls */
-#include <pthread.h>
+#include "../c_common.h"
 #include <stdatomic.h>
-#include <stdbool.h>
-#include <stdio.h>
-#include <stdlib.h>
 #include <sys/wait.h>
-#include <time.h>
 #include <unistd.h>
-#include <wakhurmi.h>
 
 enum { MOST = 2, LOCKS = 3, CROWD = 8, ROUNDS = 2000, LONGEST_LINE = 100000, LIMIT = 300 };
 #define MILLISECOND 1000000L
-#define SECOND 1000000000L
 
 static const uint32_t zero[1] = {0}, one[1] = {1}, both[2] = {0, 1}, high[1] = {LOCKS};
 static const struct timespec long_past = {0, 0};
 static wakhurmi_service *service;
 
-static void demand(int holds, const char *what) {
-    if (holds) return;
-    fprintf(stderr, "wrong: %s\n", what);
-    exit(1);
-}
-
-static void expect(wakhurmi_answer wanted, wakhurmi_answer answer, const char *what) {
-    if (wanted == answer) return;
-    fprintf(stderr, "wrong: %s answers %d in place of %d\n", what, (int)answer, (int)wanted);
-    exit(1);
-}
-#define EXPECT(wanted, call) expect(WAKHURMI_##wanted, call, #call)
-
 static void open_service(uint32_t workers) { EXPECT(OK, wakhurmi_open(workers, MOST, LOCKS, &service)); }
-
-static void sleep_for(long nanoseconds) { nanosleep(&(struct timespec){.tv_nsec = nanoseconds}, NULL); }
-
-static long processor_time(void) {
-    struct timespec time;
-    clock_gettime(CLOCK_THREAD_CPUTIME_ID, &time);
-    return time.tv_sec * SECOND + time.tv_nsec;
-}
 
 static struct timespec after(long nanoseconds) {
     struct timespec time;
@@ -51,12 +24,6 @@ static struct timespec after(long nanoseconds) {
 
 static int is_before(struct timespec time, struct timespec other) {
     return time.tv_sec < other.tv_sec || (time.tv_sec == other.tv_sec && time.tv_nsec < other.tv_nsec);
-}
-
-static pthread_t start(void *(*body)(void *), size_t argument) {
-    pthread_t thread;
-    demand(pthread_create(&thread, NULL, body, (void *)argument) == 0, "a thread");
-    return thread;
 }
 
 static size_t result_of(pthread_t thread) {
@@ -185,7 +152,7 @@ static void *take_zero_by_one(void *argument) {
 
 /* Has a thread wait for lock 0 as worker 1. A call that would be refused else tells when it is in its call. */
 static pthread_t start_waiter(void) {
-    pthread_t waiter = start(take_zero_by_one, 1);
+    pthread_t waiter = start(take_zero_by_one, NULL);
     while (wakhurmi_try_take(service, 1, high, 1) == WAKHURMI_BAD_NUMBER) sleep_for(MILLISECOND);
     sleep_for(50 * MILLISECOND);
     return waiter;
@@ -230,7 +197,7 @@ static void *share_a_worker(void *argument) {
 static void check_shared_worker(void) {
     pthread_t crowd[CROWD];
     open_service(1);
-    for (size_t at = 0; at < CROWD; at++) crowd[at] = start(share_a_worker, at);
+    for (size_t at = 0; at < CROWD; at++) crowd[at] = start(share_a_worker, NULL);
     for (size_t at = 0; at < CROWD; at++) pthread_join(crowd[at], NULL);
     EXPECT(OK, wakhurmi_finish(service));
     demand(count_entries() == atomic_load(&made), "an entry for each call that was done");
@@ -253,7 +220,7 @@ static void check_early_end(void) {
     open_service(3);
     EXPECT(OK, wakhurmi_take(service, 2, zero, 1));
     pthread_t waiter = start_waiter();
-    pthread_t worker = start(work, 0);
+    pthread_t worker = start(work, NULL);
     while (!atomic_load(&worked)) EXPECT(MISUSED, wakhurmi_finish(service));
     pthread_join(worker, NULL);
     EXPECT(OK, wakhurmi_hand_back(service, 2));
@@ -288,7 +255,7 @@ static void check_fork(void) {
     int status;
     open_service(2);
     EXPECT(OK, wakhurmi_take(service, 0, zero, 1));
-    pthread_t waiter = start(take_zero, 1);
+    pthread_t waiter = start(take_zero, (void *)1);
     sleep_for(50 * MILLISECOND);
     pid_t child = fork();
     if (child == 0) be_a_child();
@@ -307,9 +274,9 @@ static void check_deadlines(void) {
     EXPECT(OK, wakhurmi_take_until(service, 0, both, 2, &long_past));
     EXPECT(TIMED_OUT, wakhurmi_take_until(service, 1, one, 1, &long_past));
     soon = after(200 * MILLISECOND);
-    long begin = processor_time();
+    long begin = nanoseconds_of(CLOCK_THREAD_CPUTIME_ID);
     EXPECT(TIMED_OUT, wakhurmi_take_until(service, 1, zero, 1, &soon));
-    demand(processor_time() - begin < 20 * MILLISECOND, "who waits for a deadline sleeps");
+    demand(nanoseconds_of(CLOCK_THREAD_CPUTIME_ID) - begin < 20 * MILLISECOND, "who waits for a deadline sleeps");
     demand(!is_before(after(0), soon) && is_before(after(0), late), "the deadline has passed, and not much more");
     EXPECT(MISUSED, wakhurmi_hand_back(service, 1));
     EXPECT(OK, wakhurmi_enter(service, 0));
@@ -320,7 +287,7 @@ static void check_deadlines(void) {
     EXPECT(MISUSED, wakhurmi_hand_back(service, 0));
     EXPECT(OK, wakhurmi_hand_back(service, 1));
     EXPECT(OK, wakhurmi_leave_until(service, 0, &long_past));
-    pthread_t waiter = start(take_zero_until, (size_t)&late);
+    pthread_t waiter = start(take_zero_until, &late);
     sleep_for(50 * MILLISECOND);
     EXPECT(OK, wakhurmi_hand_back(service, 0));
     demand(result_of(waiter) == WAKHURMI_OK && is_before(after(0), late), "got before the deadline");
@@ -350,11 +317,11 @@ static void check_stops(void) {
     EXPECT(OK, wakhurmi_enter(service, 2));
     EXPECT(OK, wakhurmi_take(service, 0, zero, 1));
     EXPECT(OK, wakhurmi_take(service, 3, one, 1));
-    pthread_t waiters[4] = {start(take_one_by_zero, 0), start(take_zero_until, (size_t)&late), start(leave_section, 2), start(take_zero, 3)};
+    pthread_t waiters[4] = {start(take_one_by_zero, NULL), start(take_zero_until, &late), start(leave_section, (void *)2), start(take_zero, (void *)3)};
     sleep_for(50 * MILLISECOND);
     EXPECT(OK, wakhurmi_leases_out(service, &leases));
     demand(leases == 2, "two leases are out while all wait");
-    for (size_t at = 0; at < CROWD; at++) crowd[at] = start(stop, at);
+    for (size_t at = 0; at < CROWD; at++) crowd[at] = start(stop, NULL);
     for (size_t at = 0; at < CROWD; at++) demand(result_of(crowd[at]) == WAKHURMI_OK, "stopped");
     for (size_t at = 0; at < 4; at++) demand(result_of(waiters[at]) == WAKHURMI_STOPPED, "who waited hears of the stop");
     EXPECT(STOPPED, wakhurmi_take(service, 1, zero, 1));
@@ -382,37 +349,62 @@ static void check_stop_beforehand(void) {
 static atomic_bool is_served, may_end;
 static atomic_int rounds;
 static atomic_long longest;
+static bool first_leaves, later_leaves;
 
-static void *take_both(void *worker) {
-    EXPECT(OK, wakhurmi_take(service, (uint32_t)(size_t)worker, both, 2));
-    atomic_store(&is_served, true);
-    while (!atomic_load(&may_end)) sleep_for(MILLISECOND);
-    return (void *)(size_t)wakhurmi_hand_back(service, (uint32_t)(size_t)worker);
+/* Has worker 1 in a section whose leave takes both locks. It took them one after the other, and calls that were refused have changed nothing. */
+static void enter_with_both(void) {
+    EXPECT(OK, wakhurmi_take(service, 1, one, 1));
+    EXPECT(BAD_NUMBER, wakhurmi_take(service, 1, high, 1));
+    EXPECT(OK, wakhurmi_try_take(service, 1, zero, 1));
+    EXPECT(MISUSED, wakhurmi_leave(service, 1));
+    EXPECT(OK, wakhurmi_enter(service, 1));
+    EXPECT(MISUSED, wakhurmi_take(service, 1, high, 1));
+    EXPECT(OK, wakhurmi_take(service, 0, zero, 1));
+    EXPECT(TIMED_OUT, wakhurmi_leave_until(service, 1, &long_past));
 }
 
-static long time_of(struct timespec time) { return time.tv_sec * SECOND + time.tv_nsec; }
+static void *get_both(void *argument) {
+    (void)argument;
+    EXPECT(OK, first_leaves ? wakhurmi_leave(service, 1) : wakhurmi_take(service, 1, both, 2));
+    atomic_store(&is_served, true);
+    while (!atomic_load(&may_end)) sleep_for(MILLISECOND);
+    return (void *)(size_t)wakhurmi_hand_back(service, 1);
+}
 
-/* Takes the second lock again and again, until worker 1 has been served, and notes its longest take in nanoseconds. */
-static void *take_one_again(void *worker) {
+/* Worker 2 gets the second lock again and again, until worker 1 has been served, and notes for how long it waits in nanoseconds at most. */
+static void *get_one_again(void *argument) {
+    (void)argument;
+    if (later_leaves) {
+        EXPECT(OK, wakhurmi_take(service, 2, one, 1));
+        EXPECT(OK, wakhurmi_enter(service, 2));
+    }
     while (!atomic_load(&is_served)) {
-        long begin = time_of(after(0));
-        EXPECT(OK, wakhurmi_take(service, (uint32_t)(size_t)worker, one, 1));
-        long length = time_of(after(0)) - begin;
+        long begin = now();
+        EXPECT(OK, later_leaves ? wakhurmi_leave(service, 2) : wakhurmi_take(service, 2, one, 1));
+        long length = now() - begin;
         if (length > atomic_load(&longest)) atomic_store(&longest, length);
-        EXPECT(OK, wakhurmi_hand_back(service, (uint32_t)(size_t)worker));
+        EXPECT(OK, later_leaves ? wakhurmi_enter(service, 2) : wakhurmi_hand_back(service, 2));
         atomic_fetch_add(&rounds, 1);
     }
     return NULL;
 }
 
-/* Who waits for two locks is queued, also while one of them is free most of the time: who takes that one later is kept back, but not for
- * longer than a tenth of a second. Once the other lock is handed back the one that is queued goes first. */
+/* Who waits for two locks is queued, also while one of them is free most of the time: who wants that one later is kept back, but not for
+ * longer than a tenth of a second. Once the other lock is handed back the one that is queued goes first. There are leases for all, so it's the
+ * locks that the queued one waits for. */
 static void check_queue(void) {
-    open_service(3);
-    EXPECT(OK, wakhurmi_take(service, 0, zero, 1));
-    pthread_t first = start(take_both, 1);
+    EXPECT(OK, wakhurmi_open(3, 3, LOCKS, &service));
+    atomic_store(&is_served, false);
+    atomic_store(&may_end, false);
+    atomic_store(&longest, 0);
+    if (first_leaves) {
+        enter_with_both();
+    } else {
+        EXPECT(OK, wakhurmi_take(service, 0, zero, 1));
+    }
+    pthread_t first = start(get_both, NULL);
     sleep_for(20 * MILLISECOND);
-    pthread_t later = start(take_one_again, 2);
+    pthread_t later = start(get_one_again, NULL);
     for (int looks = 0; atomic_load(&longest) < 90 * MILLISECOND; looks++) {
         demand(looks < 3000, "who comes later is kept back");
         sleep_for(10 * MILLISECOND);
@@ -428,6 +420,15 @@ static void check_queue(void) {
     close_ended();
 }
 
+/* A leave is queued and kept back as a take. */
+static void check_queues(void) {
+    for (int turn = 0; turn < 4; turn++) {
+        first_leaves = turn / 2 == 1;
+        later_leaves = turn % 2 == 1;
+        check_queue();
+    }
+}
+
 int main(void) {
     // Where a call hangs, nobody else would end this.
     alarm(LIMIT);
@@ -441,6 +442,6 @@ int main(void) {
     check_deadlines();
     check_stop_beforehand();
     check_stops();
-    check_queue();
+    check_queues();
     return 0;
 }

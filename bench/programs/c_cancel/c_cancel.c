@@ -4,27 +4,15 @@
  *
  * Two threads take and hand back all the time and are never cancelled. Four others have a thread each that works with one
  * of their locks, which they cancel again and again, and whose worker they clear. Who is cancelled inside a call mustn't keep another from its own. */
-#include <pthread.h>
+#include "../c_common.h"
 #include <stdatomic.h>
-#include <stdio.h>
-#include <stdlib.h>
-#include <time.h>
 #include <unistd.h>
-#include <wakhurmi.h>
 
 enum { MOST = 3, LOCKS = 3, STEADY = 2, CANCELLERS = 4, LONGEST_DELAY = 300000, BODY = 10000, PAUSE = 100000, LIMIT = 300 };
 
 static wakhurmi_service *service;
 static atomic_int ended;
 static int each;
-
-static void demand(int holds, const char *what) {
-    if (holds) return;
-    fprintf(stderr, "wrong: %s\n", what);
-    exit(1);
-}
-
-static void sleep_for(long nanoseconds) { nanosleep(&(struct timespec){.tv_nsec = nanoseconds}, NULL); }
 
 static void *work_steadily(void *argument) {
     uint32_t worker = (uint32_t)(size_t)argument;
@@ -61,11 +49,10 @@ static void clear(uint32_t worker) {
 }
 
 /* One at a time, as a tool would else take it for a race that the system uses stacks again. */
-static pthread_t start(void *(*body)(void *), void *argument) {
+static pthread_t start_alone(void *(*body)(void *), void *argument) {
     static pthread_mutex_t mutex = PTHREAD_MUTEX_INITIALIZER;
-    pthread_t thread;
     pthread_mutex_lock(&mutex);
-    demand(pthread_create(&thread, NULL, body, argument) == 0, "a thread");
+    pthread_t thread = start(body, argument);
     pthread_mutex_unlock(&mutex);
     return thread;
 }
@@ -75,7 +62,7 @@ static void *cancel(void *argument) {
     unsigned seed = worker;
     for (int turn = 0; turn < each; turn++) {
         void *result;
-        pthread_t victim = start(work_until_cancelled, argument);
+        pthread_t victim = start_alone(work_until_cancelled, argument);
         sleep_for(rand_r(&seed) % LONGEST_DELAY);
         pthread_cancel(victim);
         pthread_join(victim, &result);
@@ -85,29 +72,17 @@ static void *cancel(void *argument) {
     return NULL;
 }
 
-static void print_history(void) {
-    char buffer[4096];
-    uint64_t place = 0;
-    size_t written;
-    do {
-        demand(wakhurmi_history(service, &place, buffer, sizeof buffer, &written) == WAKHURMI_OK, "the history");
-        fwrite(buffer, 1, written, stdout);
-    } while (written > 0);
-}
-
 int main(int count, char **words) {
     demand(count == 2, "c_cancel COUNT");
     each = atoi(words[1]) / CANCELLERS;
     // Where a call hangs, nobody else would end this.
     alarm(LIMIT);
-    demand(wakhurmi_open(STEADY + CANCELLERS, MOST, LOCKS + 1, &service) == WAKHURMI_OK, "opened");
+    service = open_to_check(STEADY + CANCELLERS, MOST, LOCKS);
     pthread_t threads[STEADY + CANCELLERS];
-    for (size_t at = 0; at < STEADY + CANCELLERS; at++) threads[at] = start(at < STEADY ? work_steadily : cancel, (void *)at);
+    for (size_t at = 0; at < STEADY + CANCELLERS; at++) threads[at] = start_alone(at < STEADY ? work_steadily : cancel, (void *)at);
     for (size_t at = STEADY; at < STEADY + CANCELLERS; at++) pthread_join(threads[at], NULL);
     atomic_store(&ended, 1);
     for (size_t at = 0; at < STEADY; at++) pthread_join(threads[at], NULL);
-    demand(wakhurmi_finish(service) == WAKHURMI_OK, "ended");
-    print_history();
-    wakhurmi_close(service);
+    print_history(service);
     return 0;
 }

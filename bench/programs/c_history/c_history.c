@@ -3,17 +3,12 @@
  *     c_history calls                    answers that are known beforehand; it prints nothing where all are right
  *     c_history parts THREADS ROUNDS     threads work, and one more takes the history into two parts by turns: the texts behind each other
  *     c_history cancel COUNT             the same of a part that so many threads take which are cancelled at random moments */
+#include "../c_common.h"
 #include <inttypes.h>
-#include <pthread.h>
 #include <stdatomic.h>
-#include <stdbool.h>
-#include <stdio.h>
-#include <stdlib.h>
 #include <string.h>
 #include <sys/wait.h>
-#include <time.h>
 #include <unistd.h>
-#include <wakhurmi.h>
 
 enum { MOST = 2, LOCKS = 3, MAX_THREADS = 32, ROUNDS = 5000, SHARED_ROUNDS = 100, LIMIT = 600 };
 enum { FEW_BYTES = 300, MANY_BYTES = 4096, TAKE_EACH = 100000, LONGEST_DELAY = 300000, BODY = 10000 };
@@ -34,27 +29,6 @@ typedef struct {
 static wakhurmi_service *service;
 static atomic_bool ended;
 static int rounds;
-
-static void demand(bool holds, const char *what) {
-    if (holds) return;
-    fprintf(stderr, "wrong: %s\n", what);
-    exit(1);
-}
-
-static void expect(wakhurmi_answer wanted, wakhurmi_answer answer, const char *what) {
-    if (wanted == answer) return;
-    fprintf(stderr, "wrong: %s answers %d in place of %d\n", what, (int)answer, (int)wanted);
-    exit(1);
-}
-#define EXPECT(wanted, call) expect(WAKHURMI_##wanted, call, #call)
-
-static void sleep_for(long nanoseconds) { nanosleep(&(struct timespec){.tv_nsec = nanoseconds}, NULL); }
-
-static pthread_t start(void *(*body)(void *), void *argument) {
-    pthread_t thread;
-    demand(pthread_create(&thread, NULL, body, argument) == 0, "a thread");
-    return thread;
-}
 
 static void append(text *to, const char *bytes, size_t count) {
     if (to->length + count >= to->room) {
@@ -462,9 +436,6 @@ static void cancel_takers(int count) {
     wakhurmi_close_part(part);
 }
 
-/* One lock more than are taken: a plan's run has the all-projects lock there, and its check of the history asks for as many. */
-static void open_for(size_t threads) { EXPECT(OK, wakhurmi_open((uint32_t)threads, MOST, LOCKS + 1, &service)); }
-
 static void end_and_print(void) {
     EXPECT(OK, wakhurmi_finish(service));
     append_rest(&joined, MANY_BYTES);
@@ -475,7 +446,7 @@ static void end_and_print(void) {
 
 static void run_beside_taker(size_t threads) {
     pthread_t started[MAX_THREADS];
-    open_for(threads);
+    service = open_to_check(threads, MOST, LOCKS);
     pthread_t taker = start(take_by_turns, NULL);
     for (size_t at = 0; at < threads; at++) started[at] = start(work, (void *)at);
     for (size_t at = 0; at < threads; at++) pthread_join(started[at], NULL);
@@ -487,7 +458,7 @@ static void run_beside_taker(size_t threads) {
 static void run_beside_cancelled(int count) {
     enum { THREADS = 4 };
     pthread_t started[THREADS];
-    open_for(THREADS);
+    service = open_to_check(THREADS, MOST, LOCKS);
     for (size_t at = 0; at < THREADS; at++) started[at] = start(work, (void *)at);
     cancel_takers(count);
     atomic_store(&ended, true);

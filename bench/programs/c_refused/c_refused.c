@@ -5,13 +5,10 @@
  *     c_refused
  *
  * It is linked with --wrap for malloc, realloc, calloc and aligned_alloc. */
+#include "../c_common.h"
 #include <inttypes.h>
-#include <stdbool.h>
-#include <stdio.h>
-#include <stdlib.h>
 #include <string.h>
 #include <unistd.h>
-#include <wakhurmi.h>
 
 enum { ENTRIES = 40, KEPT = 200, ROUNDS = 1500, MOST_REFUSED = 1000, ROOM = 1 << 16, LIMIT = 600 };
 enum { LARGE = 1 << 14, MEANWHILE = 3000, FEW = 128 };
@@ -51,12 +48,6 @@ static bool was_refused(void) {
 }
 
 static wakhurmi_service *service;
-
-static void demand(bool holds, const char *what) {
-    if (holds) return;
-    fprintf(stderr, "wrong: %s\n", what);
-    exit(1);
-}
 
 static void open_service(uint64_t kept) { demand(wakhurmi_open_keeping(1, 1, 1, kept, &service) == WAKHURMI_OK, "opened"); }
 

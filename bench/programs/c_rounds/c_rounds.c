@@ -3,25 +3,15 @@
  *     c_rounds check THREADS ROUNDS       tests, and the history on standard output
  *     c_rounds time THREADS ROUNDS        nanoseconds of processor time that a take and a hand-back have together
  *     c_rounds plain THREADS ROUNDS       the same of the counter */
-#include <pthread.h>
+#include "../c_common.h"
 #include <stdatomic.h>
-#include <stdio.h>
-#include <stdlib.h>
 #include <string.h>
-#include <time.h>
-#include <wakhurmi.h>
 
 enum { MOST = 2, LOCKS = 3, MAX_THREADS = 32, OBSERVE_EACH = 20000 };
 
 static int threads, rounds;
 static wakhurmi_service *service;
 static atomic_int at_work, owners[LOCKS], ended;
-
-static void demand(int holds, const char *what) {
-    if (holds) return;
-    fprintf(stderr, "wrong: %s\n", what);
-    exit(1);
-}
 
 static void work_with(const uint32_t *locks, size_t count) {
     demand(atomic_fetch_add(&at_work, 1) < MOST, "more at work than may be");
@@ -88,7 +78,7 @@ static void *plain_rounds(void *argument) {
 
 static void run(void *(*body)(void *)) {
     pthread_t started[MAX_THREADS];
-    for (int at = 0; at < threads; at++) pthread_create(&started[at], NULL, body, (void *)(size_t)at);
+    for (int at = 0; at < threads; at++) started[at] = start(body, (void *)(size_t)at);
     for (int at = 0; at < threads; at++) pthread_join(started[at], NULL);
 }
 
@@ -98,33 +88,16 @@ static void *observe(void *argument) {
     while (!atomic_load(&ended)) {
         uint32_t leases = MOST + 1;
         demand(wakhurmi_leases_out(service, &leases) == WAKHURMI_OK && leases <= MOST, "how many leases are out");
-        nanosleep(&(struct timespec){.tv_nsec = OBSERVE_EACH}, NULL);
+        sleep_for(OBSERVE_EACH);
     }
     return NULL;
 }
 
 static void run_observed(void) {
-    pthread_t observer;
-    demand(pthread_create(&observer, NULL, observe, NULL) == 0, "a thread");
+    pthread_t observer = start(observe, NULL);
     run(check_rounds);
     atomic_store(&ended, 1);
     pthread_join(observer, NULL);
-}
-
-static void print_history(void) {
-    char buffer[4096];
-    uint64_t place = 0;
-    size_t written;
-    do {
-        demand(wakhurmi_history(service, &place, buffer, sizeof buffer, &written) == WAKHURMI_OK, "the history");
-        fwrite(buffer, 1, written, stdout);
-    } while (written > 0);
-}
-
-static double processor_time(void) {
-    struct timespec now;
-    clock_gettime(CLOCK_PROCESS_CPUTIME_ID, &now);
-    return now.tv_sec * 1e9 + now.tv_nsec;
 }
 
 int main(int count, char **words) {
@@ -132,18 +105,15 @@ int main(int count, char **words) {
     threads = atoi(words[2]);
     rounds = atoi(words[3]);
     demand(threads >= 1 && threads <= MAX_THREADS && rounds > 0, "numbers");
-    int checks = strcmp(words[1], "check") == 0;
-    // One lock more than are taken: a plan's run has the all-projects lock there, and its check of the history asks for as many.
-    demand(wakhurmi_open(threads, MOST, LOCKS + 1, &service) == WAKHURMI_OK, "opened");
-    double begin = processor_time();
-    if (checks) {
+    service = open_to_check((size_t)threads, MOST, LOCKS);
+    if (strcmp(words[1], "check") == 0) {
         run_observed();
-    } else {
-        run(strcmp(words[1], "time") == 0 ? time_rounds : plain_rounds);
+        print_history(service);
+        return 0;
     }
-    if (!checks) printf("%.1f\n", (processor_time() - begin) / threads / rounds);
-    demand(wakhurmi_finish(service) == WAKHURMI_OK, "ended");
-    if (checks) print_history();
+    long begin = nanoseconds_of(CLOCK_PROCESS_CPUTIME_ID);
+    run(strcmp(words[1], "time") == 0 ? time_rounds : plain_rounds);
+    printf("%.1f\n", (double)(nanoseconds_of(CLOCK_PROCESS_CPUTIME_ID) - begin) / threads / rounds);
     wakhurmi_close(service);
     return 0;
 }

@@ -7,18 +7,12 @@
  *     c_taking hold ENTRIES                          nanoseconds that a taking of so many entries takes, and one into a part that has as many yet
  *     c_taking waits THREADS SECONDS MICROSECONDS    the longest call in microseconds, the longest of 999 in 1,000, and the calls; nobody takes
  *                                                    where MICROSECONDS is 0 */
-#include <pthread.h>
+#include "../c_common.h"
 #include <stdatomic.h>
-#include <stdbool.h>
-#include <stdio.h>
-#include <stdlib.h>
 #include <string.h>
 #include <sys/resource.h>
-#include <time.h>
-#include <wakhurmi.h>
 
 enum { MAX_THREADS = 32, TURNS = 21, WORK = 5000, LONGEST_NOTED = 1000 };
-#define SECOND 1000000000L
 
 typedef struct {
     uint32_t worker;
@@ -32,20 +26,6 @@ static long rounds, pause_length;
 static unsigned long parts_taken;
 static long longest_between;
 
-static void demand(bool holds, const char *what) {
-    if (holds) return;
-    fprintf(stderr, "wrong: %s\n", what);
-    exit(1);
-}
-
-static long now(void) {
-    struct timespec time;
-    clock_gettime(CLOCK_MONOTONIC, &time);
-    return time.tv_sec * SECOND + time.tv_nsec;
-}
-
-static void rest(long nanoseconds) { nanosleep(&(struct timespec){nanoseconds / SECOND, nanoseconds % SECOND}, NULL); }
-
 /* The most memory that the process had so far. */
 static long most_kilobytes(void) {
     struct rusage used;
@@ -54,8 +34,8 @@ static long most_kilobytes(void) {
 }
 
 static void make_round(uint32_t worker) {
-    demand(wakhurmi_take(service, worker, NULL, 0) == WAKHURMI_OK, "a take");
-    demand(wakhurmi_hand_back(service, worker) == WAKHURMI_OK, "a hand-back");
+    EXPECT(OK, wakhurmi_take(service, worker, NULL, 0));
+    EXPECT(OK, wakhurmi_hand_back(service, worker));
 }
 
 static void *make_rounds(void *worker) {
@@ -66,8 +46,8 @@ static void *make_rounds(void *worker) {
 static void *take_by_turns(void *argument) {
     wakhurmi_part *parts[2] = {NULL, NULL};
     (void)argument;
-    for (long last = now(); !atomic_load(&ended); rest(pause_length)) {
-        demand(wakhurmi_take_history(service, &parts[parts_taken++ % 2]) == WAKHURMI_OK, "a taking");
+    for (long last = now(); !atomic_load(&ended); sleep_for(pause_length)) {
+        EXPECT(OK, wakhurmi_take_history(service, &parts[parts_taken++ % 2]));
         long taken = now();
         if (taken - last > longest_between) longest_between = taken - last;
         last = taken;
@@ -80,8 +60,8 @@ static void *take_by_turns(void *argument) {
 static void run(void *(*body)(void *), size_t threads, void *const *arguments) {
     pthread_t started[MAX_THREADS + 1];
     size_t takers = pause_length > 0 ? 1 : 0;
-    if (takers > 0) demand(pthread_create(&started[threads], NULL, take_by_turns, NULL) == 0, "a thread");
-    for (size_t at = 0; at < threads; at++) demand(pthread_create(&started[at], NULL, body, arguments[at]) == 0, "a thread");
+    if (takers > 0) started[threads] = start(take_by_turns, NULL);
+    for (size_t at = 0; at < threads; at++) started[at] = start(body, arguments[at]);
     for (size_t at = 0; at < threads; at++) pthread_join(started[at], NULL);
     atomic_store(&ended, true);
     for (size_t at = threads; at < threads + takers; at++) pthread_join(started[at], NULL);
@@ -90,7 +70,7 @@ static void run(void *(*body)(void *), size_t threads, void *const *arguments) {
 static void measure_memory(size_t threads, uint64_t kept) {
     void *workers[MAX_THREADS] = {NULL};
     for (size_t at = 0; at < threads; at++) workers[at] = (void *)at;
-    demand(wakhurmi_open_keeping((uint32_t)threads, (uint32_t)threads, 1, kept, &service) == WAKHURMI_OK, "opened");
+    EXPECT(OK, wakhurmi_open_keeping((uint32_t)threads, (uint32_t)threads, 1, kept, &service));
     long first = most_kilobytes();
     rounds /= (long)threads;
     run(make_rounds, threads, workers);
@@ -100,7 +80,7 @@ static void measure_memory(size_t threads, uint64_t kept) {
 
 static long time_taking(wakhurmi_part **part) {
     long begin = now();
-    demand(wakhurmi_take_history(service, part) == WAKHURMI_OK, "a taking");
+    EXPECT(OK, wakhurmi_take_history(service, part));
     return now() - begin;
 }
 
@@ -118,7 +98,7 @@ static long middle_of(long times[TURNS]) {
 static void measure_hold(long entries) {
     long empty[TURNS], full[TURNS];
     wakhurmi_part *part = NULL;
-    demand(wakhurmi_open(1, 1, 1, &service) == WAKHURMI_OK, "opened");
+    EXPECT(OK, wakhurmi_open(1, 1, 1, &service));
     for (int turn = 0; turn < TURNS; turn++) {
         time_taking(&part);
         time_taking(&part);
@@ -143,11 +123,11 @@ static void *work_and_note(void *argument) {
     waits *own = argument;
     long end = now() + rounds * SECOND, begin;
     while ((begin = now()) < end) {
-        demand(wakhurmi_take(service, own->worker, NULL, 0) == WAKHURMI_OK, "a take");
+        EXPECT(OK, wakhurmi_take(service, own->worker, NULL, 0));
         note(own, now() - begin);
         for (begin = now(); now() - begin < WORK;) {}
         begin = now();
-        demand(wakhurmi_hand_back(service, own->worker) == WAKHURMI_OK, "a hand-back");
+        EXPECT(OK, wakhurmi_hand_back(service, own->worker));
         note(own, now() - begin);
         for (begin = now(); now() - begin < WORK;) {}
     }
@@ -157,7 +137,7 @@ static void *work_and_note(void *argument) {
 static void measure_waits(size_t threads) {
     void *all[MAX_THREADS] = {NULL};
     waits sum = {0};
-    demand(wakhurmi_open((uint32_t)threads, (uint32_t)threads, 1, &service) == WAKHURMI_OK, "opened");
+    EXPECT(OK, wakhurmi_open((uint32_t)threads, (uint32_t)threads, 1, &service));
     for (size_t at = 0; at < threads; at++) {
         waits *own = calloc(1, sizeof *own);
         demand(own != NULL, "memory");

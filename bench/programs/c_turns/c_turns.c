@@ -4,21 +4,16 @@
  *
  * In each round a thread takes the lock of its number, modulo LOCKS, works for so many nanoseconds, which is a sleep from half a millisecond
  * on, and hands back. KIND says by what: `service` is a service with a lease for each thread, `mutex` a plain mutex for each lock. With
- * `several` the service's first thread takes all locks at once, and rests for a millisecond between its rounds.
+ * `several` the service's first thread takes all locks at once, and rests for a millisecond between its rounds. With `leaving` it takes its lock
+ * once, and from then on enters a blocking section in place of each hand-back, and leaves it in place of each take.
  *
  * It prints all rounds, the fewest and the most of a thread, those of the first, and the longest wait in microseconds of all and of the
  * first. Where two threads have one lock at once it ends with status 1. */
-#include <pthread.h>
+#include "../c_common.h"
 #include <stdatomic.h>
-#include <stdbool.h>
-#include <stdio.h>
-#include <stdlib.h>
 #include <string.h>
-#include <time.h>
-#include <wakhurmi.h>
 
 enum { MOST_THREADS = 32, MOST_LOCKS = 8, WORK_BY_SLEEP = 500000, REST = 1000000 };
-#define SECOND 1000000000L
 
 typedef struct {
     uint32_t worker;
@@ -29,45 +24,33 @@ static wakhurmi_service *service;
 static pthread_mutex_t mutexes[MOST_LOCKS];
 static atomic_uint owners[MOST_LOCKS];
 static atomic_bool ended;
-static bool by_mutex, several;
+static bool by_mutex, several, leaving;
 static uint32_t locks;
 static long length;
 
-static void demand(bool holds, const char *what) {
-    if (holds) return;
-    fprintf(stderr, "wrong: %s\n", what);
-    exit(1);
-}
-
-static long now(void) {
-    struct timespec time;
-    clock_gettime(CLOCK_MONOTONIC, &time);
-    return time.tv_sec * SECOND + time.tv_nsec;
-}
-
-static void rest(long nanoseconds) { nanosleep(&(struct timespec){nanoseconds / SECOND, nanoseconds % SECOND}, NULL); }
-
 static void work(void) {
     if (length >= WORK_BY_SLEEP) {
-        rest(length);
+        sleep_for(length);
     } else {
         for (long begin = now(); now() - begin < length;) {}
     }
 }
 
-static void take(uint32_t worker, const uint32_t *wanted, size_t count) {
+static bool is_in_sections(uint32_t worker) { return leaving && worker == 0; }
+
+static void get(uint32_t worker, const uint32_t *wanted, size_t count) {
     if (by_mutex) {
         pthread_mutex_lock(&mutexes[wanted[0]]);
     } else {
-        demand(wakhurmi_take(service, worker, wanted, count) == WAKHURMI_OK, "a take");
+        EXPECT(OK, is_in_sections(worker) ? wakhurmi_leave(service, worker) : wakhurmi_take(service, worker, wanted, count));
     }
 }
 
-static void hand_back(uint32_t worker, const uint32_t *wanted) {
+static void give_back(uint32_t worker, const uint32_t *wanted) {
     if (by_mutex) {
         pthread_mutex_unlock(&mutexes[wanted[0]]);
     } else {
-        demand(wakhurmi_hand_back(service, worker) == WAKHURMI_OK, "a hand-back");
+        EXPECT(OK, is_in_sections(worker) ? wakhurmi_enter(service, worker) : wakhurmi_hand_back(service, worker));
     }
 }
 
@@ -77,17 +60,21 @@ static void *turn_after_turn(void *argument) {
     uint32_t wanted[MOST_LOCKS] = {own->worker % locks};
     size_t count = takes_all ? locks : 1;
     for (uint32_t lock = 0; takes_all && lock < locks; lock++) wanted[lock] = lock;
+    if (is_in_sections(own->worker)) {
+        EXPECT(OK, wakhurmi_take(service, own->worker, wanted, count));
+        EXPECT(OK, wakhurmi_enter(service, own->worker));
+    }
     while (!atomic_load(&ended)) {
         long begin = now();
-        take(own->worker, wanted, count);
+        get(own->worker, wanted, count);
         long waited = now() - begin;
         if (waited > own->longest) own->longest = waited;
         for (size_t at = 0; at < count; at++) demand(atomic_exchange(&owners[wanted[at]], own->worker + 1) == 0, "one owner");
         work();
         for (size_t at = 0; at < count; at++) atomic_store(&owners[wanted[at]], 0);
-        hand_back(own->worker, wanted);
+        give_back(own->worker, wanted);
         own->rounds++;
-        if (takes_all) rest(REST);
+        if (takes_all) sleep_for(REST);
     }
     return NULL;
 }
@@ -107,19 +94,20 @@ int main(int count, char **words) {
     demand(count == 6, "c_turns KIND THREADS LOCKS NANOSECONDS SECONDS");
     by_mutex = strcmp(words[1], "mutex") == 0;
     several = strcmp(words[1], "several") == 0;
+    leaving = strcmp(words[1], "leaving") == 0;
     uint32_t threads = (uint32_t)atoi(words[2]);
     locks = (uint32_t)atoi(words[3]);
     length = atol(words[4]);
     demand(threads >= 1 && threads <= MOST_THREADS && locks >= 1 && locks <= MOST_LOCKS, "threads and locks");
     for (uint32_t lock = 0; lock < locks; lock++) pthread_mutex_init(&mutexes[lock], NULL);
-    demand(wakhurmi_open(threads, threads, locks, &service) == WAKHURMI_OK, "a service");
+    EXPECT(OK, wakhurmi_open(threads, threads, locks, &service));
     turns all[MOST_THREADS] = {{0}};
     pthread_t started[MOST_THREADS];
     for (uint32_t at = 0; at < threads; at++) {
         all[at].worker = at;
-        demand(pthread_create(&started[at], NULL, turn_after_turn, &all[at]) == 0, "a thread");
+        started[at] = start(turn_after_turn, &all[at]);
     }
-    rest((long)(atof(words[5]) * SECOND));
+    sleep_for((long)(atof(words[5]) * SECOND));
     atomic_store(&ended, true);
     for (uint32_t at = 0; at < threads; at++) pthread_join(started[at], NULL);
     print(all, threads);

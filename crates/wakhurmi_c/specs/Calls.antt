@@ -1,5 +1,5 @@
 -- What each call of a worker leaves, by its answer.
-use Rattle.std.specs.Prelude.{◌≡◌, ℕ, false, List, None}
+use Rattle.std.specs.Prelude.{◌≡◌, ℕ, false, List, None, Some, slice_get}
 use Rattle.lock_transforms.specs.Allowed.{IsFixedList}
 use Rattle.lock_transforms.specs.Taking.{acquired, can_take_all}
 use Rattle.lock_transforms.specs.declared.entries.Kind.TheVariants as kinds
@@ -9,11 +9,11 @@ use Rattle.resource_lock.specs.StateView.{holding_of, leases_out}
 use Rattle.resource_lock.specs.declared.ids.LockId.{LockId}
 use Rattle.coordination.specs.declared.rule.Sight.{Sight}
 use Rattle.coordination.specs.Calls.{IsAnswered}
-use Rattle.coordination.specs.Shown.{blocked_shown, lease_shown}
+use Rattle.coordination.specs.Shown.{blocked_shown, lease_shown, parked_shown}
 use Rattle.wakhurmi_c.specs.Leaves.{Leaves}
 use Rattle.wakhurmi_c.specs.Places.{are_in_order, may_hand_back, may_take}
 use Rattle.wakhurmi_c.specs.declared.answers.Answer.{Answer}
-use Rattle.wakhurmi_c.specs.declared.answers.Answer.TheVariants.{Done, Again}
+use Rattle.wakhurmi_c.specs.declared.answers.Answer.TheVariants.{Done, Again, BadNumber}
 
 -- A lease and locks are taken. Where another worker owns one of the locks, or the worker has no lease and none is free, the
 -- call can't be done yet, or fails.
@@ -40,3 +40,9 @@ abbrev pub CountLeaves : ℕ → Sight → Sight → Answer → Type 0
 CountLeaves n old new Done = IsAnswered (λ w book m. m ≡ leases_out book.state) n old new
 CountLeaves n old new Again = new ≡ old
 CountLeaves n old new _ = ⊥
+
+-- The lock at this place among those that the worker has parked, or there is none.
+abbrev pub IsToldParked : ℕ → Sight → ℕ → Answer → Type 0
+IsToldParked place sight lock Done = slice_get (parked_shown sight) place ≡ Some (record { 0 = lock })
+IsToldParked place sight lock BadNumber = slice_get (parked_shown sight) place ≡ None
+IsToldParked place sight lock _ = ⊥

@@ -1,8 +1,9 @@
 //! What a worker does. Each call is tried once.
-ghost use Rattle.std.specs.Prelude.{◌≡◌, ◌&&◌, IfNone, IfSome};
+ghost use Rattle.std.specs.Prelude.{◌≡◌, ◌&&◌, IfNone, IfSome, None, Some, slice_get};
 ghost use Rattle.resource_lock.specs.StateView.{leases_out};
 ghost use Rattle.worker_choices.specs.GoingOn.{last_lets_go_on};
 ghost use Rattle.coordination.specs.Calls.{HasStopped, IsAnswered};
+ghost use Rattle.coordination.specs.Shown.{parked_shown};
 ghost use Rattle.wakhurmi_c.specs.Leaves.{is_entry};
 ghost use Rattle.wakhurmi_c.specs.Calls.{TakeLeaves, HandBackLeaves, EnterLeaves, LeaveLeaves};
 ghost use Rattle.wakhurmi_c.specs.Locks.{locks_of};
@@ -98,6 +99,17 @@ impl Worker {
             .service
             .attempt_ask(&mut self.pass, &LeasesOut, &mut self.sleepers)?;
         leases
+    }
+
+    /// The number of the lock at this place among those that the worker has parked. None says that it has parked no more.
+    pub(crate) fn parked(&self, place: usize) -> Option<u32>
+        ensures some { IfSome result (λ n. slice_get (parked_shown self.now.pass.sight) place ≡ Some (record { 0 = n })) }
+        ensures none { IfNone result (slice_get (parked_shown self.now.pass.sight) place ≡ None) }
+    {
+        match self.pass.parked().get(place) {
+            Some(lock) => Some(lock.0),
+            None => None,
+        }
     }
 }
 

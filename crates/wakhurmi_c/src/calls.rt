@@ -3,7 +3,7 @@ ghost use Rattle.std.specs.Prelude.{◌≡◌, ◌≢◌, ◌&&◌, true, false}
 ghost use Rattle.worker_choices.specs.GoingOn.{last_lets_go_on};
 ghost use Rattle.coordination.specs.Calls.{HasStopped};
 ghost use Rattle.lock_transforms.specs.declared.kinds.acquires.Shortage.TheVariants as shortages;
-ghost use Rattle.wakhurmi_c.specs.Calls.{CountLeaves, EnterLeaves, HandBackLeaves, LeaveLeaves, TakeLeaves};
+ghost use Rattle.wakhurmi_c.specs.Calls.{CountLeaves, EnterLeaves, HandBackLeaves, IsToldParked, LeaveLeaves, TakeLeaves};
 ghost use Rattle.wakhurmi_c.specs.Leaves.{is_entry};
 ghost use Rattle.wakhurmi_c.specs.Locks.{locks_of};
 ghost use Rattle.wakhurmi_c.specs.Numbers.{answer_of};
@@ -145,6 +145,36 @@ pub extern "C" fn wakhurmi_c_leases_out(alloc: Global, handle: &mut Handle, leas
             Answer::Done.number()
         }
         None => Answer::Again.number(),
+    }
+}
+
+/// Tells one of the locks that the worker takes again when it leaves its blocking section, by its place among them: the last parked stands
+/// last. `BadNumber` says that there are no more.
+#[unsafe(no_mangle)]
+pub extern "C" fn wakhurmi_c_parked(
+    alloc: Global,
+    handle: &mut Handle,
+    place: usize,
+    lock: &mut u32,
+) -> u32
+    ensures full { handle.new.full ≡ handle.old.full }
+    ensures empty { handle.old.full ≡ false → answer_of result ≡ answers.Empty }
+    ensures worker { handle.old.full ≡ true → handle.new.held.worker ≡ handle.old.held.worker }
+    ensures told { handle.old.full ≡ true → IsToldParked place handle.old.held.worker.pass.sight lock.new (answer_of result) }
+    ensures kept { answer_of result ≢ answers.Done → lock.new ≡ lock.old }
+{
+    if !handle.full {
+        return Answer::Empty.number();
+    }
+    let worker = handle.take(alloc);
+    let found = worker.parked(place);
+    *handle = Handle::of(worker);
+    match found {
+        Some(number) => {
+            *lock = number;
+            Answer::Done.number()
+        }
+        None => Answer::BadNumber.number(),
     }
 }
 

@@ -1,0 +1,63 @@
+/* What the programs in C share. */
+#ifndef C_COMMON_H
+#define C_COMMON_H
+#include <pthread.h>
+#include <stdbool.h>
+#include <stdint.h>
+#include <stdio.h>
+#include <stdlib.h>
+#include <time.h>
+#include <wakhurmi.h>
+
+#define SECOND 1000000000L
+
+/* Ends the program with status 1 where something isn't as it has to be. */
+static inline void demand(bool holds, const char *what) {
+    if (holds) return;
+    fprintf(stderr, "wrong: %s\n", what);
+    exit(1);
+}
+
+static inline void expect(wakhurmi_answer wanted, wakhurmi_answer answer, const char *what) {
+    if (wanted == answer) return;
+    fprintf(stderr, "wrong: %s answers %d in place of %d\n", what, (int)answer, (int)wanted);
+    exit(1);
+}
+#define EXPECT(wanted, call) expect(WAKHURMI_##wanted, call, #call)
+
+static inline long nanoseconds_of(clockid_t clock) {
+    struct timespec time;
+    clock_gettime(clock, &time);
+    return time.tv_sec * SECOND + time.tv_nsec;
+}
+
+static inline long now(void) { return nanoseconds_of(CLOCK_MONOTONIC); }
+
+static inline void sleep_for(long nanoseconds) { nanosleep(&(struct timespec){nanoseconds / SECOND, nanoseconds % SECOND}, NULL); }
+
+static inline pthread_t start(void *(*body)(void *), void *argument) {
+    pthread_t thread;
+    demand(pthread_create(&thread, NULL, body, argument) == 0, "a thread");
+    return thread;
+}
+
+/* One lock more than are taken: a plan's run has the all-projects lock there, and its check of the history asks for as many. */
+static inline wakhurmi_service *open_to_check(size_t threads, uint32_t leases, uint32_t locks) {
+    wakhurmi_service *service;
+    EXPECT(OK, wakhurmi_open((uint32_t)threads, leases, locks + 1, &service));
+    return service;
+}
+
+/* Ends a service, prints its history, and closes it. */
+static inline void print_history(wakhurmi_service *service) {
+    char buffer[4096];
+    uint64_t place = 0;
+    size_t written;
+    EXPECT(OK, wakhurmi_finish(service));
+    do {
+        EXPECT(OK, wakhurmi_history(service, &place, buffer, sizeof buffer, &written));
+        fwrite(buffer, 1, written, stdout);
+    } while (written > 0);
+    wakhurmi_close(service);
+}
+#endif
