@@ -18,16 +18,20 @@ const LIMITS: Limits = Limits {
 
 /// As many actions as a task has at most.
 const ACTIONS: u32 = 8;
+
+/// The items of each of them.
 const ITEMS: u32 = 1_000;
 
-/// The changes of the entries before the end of a task of so many actions, whose first has an item that fails: its start, the
-/// action's submit, park and resume, and a claim and a close for each item.
+/// The changes before the end of such a task, of whose first action an item fails: of its start, the action's submit, park and
+/// resume, and a claim and a close for each item.
 const CHANGES_BEFORE_END: u64 = 3 + (1 + 1_000) + 2 + 2 + 4 * 1_000;
+
+/// The entries that these are, and the end.
 const ENTRIES: u64 = 5 + 2 * 1_000;
 
-/// Where all actions are skipped.
+/// The most changes of the end, as if it skipped all actions.
 const MOST_CHANGES_OF_END: u64 = 3 + 8 * (1 + 1_000);
-/// All but the first.
+/// Its changes: it skips all but the first.
 const CHANGES_OF_END: u64 = 3 + 7 * (1 + 1_000);
 
 /// The whole run of a task with one item.
@@ -115,11 +119,13 @@ fn closes_items(book: &mut Book) -> Result<bool, AllocError> {
 
 // Whether a task's first action runs, so that only the end of the task is left.
 fn runs_first_action(book: &mut Book) -> Result<bool, AllocError> {
-    Ok(finishes(book, Kind::Start(0))?
-        && finishes(book, Kind::Submit(0))?
-        && finishes(book, Kind::Park(0))?
-        && closes_items(book)?
-        && finishes(book, Kind::Resume(0))?)
+    Ok(
+        finishes(book, Kind::Start(0))?
+            && finishes(book, Kind::Submit(0))?
+            && finishes(book, Kind::Park(0))?
+            && closes_items(book)?
+            && finishes(book, Kind::Resume(0))?,
+    )
 }
 
 #[test]
