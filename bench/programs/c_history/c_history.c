@@ -11,7 +11,7 @@
 #include <unistd.h>
 
 enum { MOST = 2, LOCKS = 3, MAX_THREADS = 32, ROUNDS = 5000, SHARED_ROUNDS = 100, LIMIT = 600 };
-enum { FEW_BYTES = 300, MANY_BYTES = 4096, TAKE_EACH = 100000, LONGEST_DELAY = 300000, BODY = 10000 };
+enum { FEW_BYTES = 300, MANY_BYTES = 4096, TAKE_EACH = 100000, LONGEST_DELAY = 300000, BODY = 10000, ROUNDS_A_TAKER = 100 };
 /* A service that keeps N entries hardly keeps more than twice as many and this. */
 enum { BEYOND = 4000 };
 
@@ -378,11 +378,24 @@ static void check_calls(void) {
     check_kept_by_threads();
 }
 
+/* So many rounds may all workers make beside a taker that is cancelled. Else they would make entries faster than a tool lets it write their text. */
+static atomic_int rounds_left;
+
+/* Whether a worker makes one more round. Where their number isn't known it waits for the next taker. */
+static bool may_go_on(int round) {
+    if (rounds > 0) return round < rounds;
+    while (!atomic_load(&ended)) {
+        if (atomic_fetch_sub(&rounds_left, 1) > 0) return true;
+        sleep_for(BODY);
+    }
+    return false;
+}
+
 /* Works with locks, by tries, and in sections. */
 static void *work(void *argument) {
     uint32_t worker = (uint32_t)(size_t)argument;
     static const uint32_t all[LOCKS] = {0, 1, 2};
-    for (int round = 0; round < rounds || (rounds == 0 && !atomic_load(&ended)); round++) {
+    for (int round = 0; may_go_on(round); round++) {
         const uint32_t *locks = &all[((uint32_t)round + worker) % LOCKS];
         size_t count = round % 7 == 0 ? (size_t)(all + LOCKS - locks) : (size_t)(round % 2);
         if (round % 11 == 5 && wakhurmi_try_take(service, worker, locks, count) == WAKHURMI_BUSY) continue;
@@ -427,6 +440,7 @@ static void cancel_takers(int count) {
     unsigned seed = 1;
     for (int turn = 0; turn < count; turn++) {
         void *result;
+        atomic_store(&rounds_left, ROUNDS_A_TAKER);
         pthread_t taker = start(take_until_cancelled, &part);
         sleep_for(rand_r(&seed) % LONGEST_DELAY);
         pthread_cancel(taker);
