@@ -1,12 +1,13 @@
 #!/usr/bin/env python3
 """Tests of the C library.
 
-BuildTests: of c/build.sh and of the Rust example's build script, with small stand-ins for the proved library and for the kit. What is
-tried is how the archive is made and found: by which folders, by which words for the compiler, with which names in it. The stand-in
-for the proved library has a service of no use, whose calls all answer 0.
+BuildTests: of c/build.sh, of the Rust example's build script and of the Python module's wheel, with small stand-ins for the proved library and for
+the kit. What is tried is how archive and shared library are made and found: by which folders, by which words for the compiler, with which names in
+them. The stand-in for the proved library has a service of no use, whose calls all answer 0.
 
-InterfaceTests: of the library itself, by programs in C and in Rust. `rt ci` proves crates/wakhurmi_c and leaves no archive, so c/build.sh
-has `rt lib` prove it once more, over the libraries that the gate has built. Without a gate before, that proves them all.
+InterfaceTests: of the library itself, by programs in C and in Rust, and by the Python module's own tests. `rt ci` proves crates/wakhurmi_c and
+leaves no archive, so c/build.sh has `rt lib` prove it once more, over the libraries that the gate has built. Without a gate before, that proves them
+all.
 """
 
 import os
@@ -15,12 +16,14 @@ import re
 import shlex
 import shutil
 import subprocess
+import sys
 import tempfile
 import unittest
 from typing import Dict, List
 
 TOP = pathlib.Path(__file__).resolve().parent.parent
-IN_C, IN_RUST = TOP / "examples/embedding-in-c", TOP / "examples/embedding-in-rust"
+IN_C, IN_RUST, IN_PYTHON = (TOP / "examples" / f"embedding-in-{language}" for language in ("c", "rust", "python"))
+MODULE = TOP / "python"
 # The program that the gate has built.
 LEASES = TOP / "crates/leases/out/leases"
 
@@ -99,6 +102,16 @@ def run(words: List[str], seconds: int = 60, **how: object) -> subprocess.Comple
     return subprocess.run(words, timeout=seconds, check=False, **streams, **how)
 
 
+def names_shown(library: pathlib.Path) -> List[str]:
+    told = run(["nm", "-D", "--defined-only", str(library)]).stdout
+    return re.findall(r"^[0-9a-f]+ \w (\S+)$", told, re.M)
+
+
+def names_declared() -> List[str]:
+    text = re.sub(r"/\*.*?\*/", "", (TOP / "c/wakhurmi.h").read_text(), flags=re.S)
+    return sorted(re.findall(r"\b(wakhurmi_\w+)\(", text))
+
+
 class BuildTests(unittest.TestCase):
     above: pathlib.Path
     env: Dict[str, str]
@@ -174,6 +187,7 @@ class BuildTests(unittest.TestCase):
         for compiler in ("false", "no-such-compiler"):
             self.assertNotEqual(self.build("failing", CC=compiler).returncode, 0)
             self.assertFalse((self.above / "failing/libwakhurmi.a").exists())
+            self.assertFalse((self.above / "failing/shared/libwakhurmi.so").exists())
 
     def test_the_proved_library_may_be_named_from_the_callers_folder(self) -> None:
         self.assert_well(self.build("named", WAKHURMI_PROVED="proved.a", CDPATH="/"))
@@ -184,6 +198,33 @@ class BuildTests(unittest.TestCase):
         names = re.findall(r"^[0-9a-f]+ \w (\S+)$", told, re.M)
         self.assertIn("wakhurmi_take", names)
         self.assertEqual([name for name in names if not name.startswith("wakhurmi_")], [])
+
+    def test_the_shared_library_shows_what_the_header_declares(self) -> None:
+        for name, flags in (("plain", ()), ("a b", ("-Werror",)), ("whole", ("-flto",)), ("-z", ("-g",))):
+            self.assert_well(self.build(f"shared/{name}", *flags))
+            library = self.above / "shared" / name / "shared/libwakhurmi.so"
+            self.assertEqual(names_shown(library), names_declared())
+            program = self.above / "loading"
+            self.assert_well(run(["cc", str(self.above / "program.c"), f"-I{TOP / 'c'}", str(library), "-o", str(program)]))
+            self.assertEqual(run([str(program)], env={**self.env, "LD_LIBRARY_PATH": str(library.parent)}).returncode, 0)
+
+    def test_the_python_module_is_installed_with_its_library(self) -> None:
+        if run([sys.executable, "-m", "pip", "--version"]).returncode != 0:
+            self.skipTest("there is no pip")
+        self.assert_well(self.build("for Python"))
+        source, target = self.above / "python", self.above / "installed"
+        shutil.copytree(MODULE, source)
+        env = {**self.env, "WAKHURMI": str(self.above / "for Python")}
+        for isolation in ([], ["--no-build-isolation"]):
+            words = [sys.executable, "-m", "pip", "install", "--no-index", "--upgrade", "--target", str(target), *isolation, str(source)]
+            installed = run(words, seconds=600, env=env)
+            self.assertEqual(installed.returncode, 0, installed.stdout)
+            text = "import wakhurmi\nwith wakhurmi.Service(1, 1) as service: service.take(0)\nprint(wakhurmi._library._name)"
+            ran = run([sys.executable, "-c", text], env={**self.env, "PYTHONPATH": str(target), "WAKHURMI": ""})
+            self.assertEqual(ran.stdout, f"{target / 'libwakhurmi.so'}\n")
+        refused = run(words, seconds=600, env={**env, "WAKHURMI": str(self.above / "kit")})
+        self.assertNotEqual(refused.returncode, 0)
+        self.assertIn("c/build.sh FOLDER makes it", refused.stdout)
 
     def test_the_rust_example_watches_what_it_links(self) -> None:
         rustc = shutil.which("rustc")
@@ -255,7 +296,13 @@ class InterfaceTests(unittest.TestCase):
         self.said_by(["cargo", "test", "-q", "--offline"], **how)
         self.assert_lawful(self.said_by(["cargo", "run", "-q", "--offline"], **how))
 
+    def test_the_python_module(self) -> None:
+        env = {**os.environ, "WAKHURMI": str(self.made), "PYTHONPATH": str(MODULE), "PYTHONDONTWRITEBYTECODE": "1"}
+        self.said_by([sys.executable, "-m", "unittest", "discover", "-s", str(MODULE / "tests")], env=env)
+        self.assert_lawful(self.said_by([str(IN_PYTHON / "eight.py")], env=env))
+
     def test_all_names_that_are_exported_begin_alike(self) -> None:
+        self.assertEqual(names_shown(self.made / "shared/libwakhurmi.so"), names_declared())
         archive = str(self.made / "libwakhurmi.a")
         names = re.findall(r"^[0-9a-f]+ \w (\S+)$", self.said_by(["nm", "-g", "--defined-only", archive]), re.M)
         self.assertIn("wakhurmi_take_until", names)

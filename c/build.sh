@@ -1,6 +1,8 @@
 #!/bin/sh
 # Builds libwakhurmi.a, one archive for a program to link with -pthread: the part in C, the proved library, and the kit's
 # functions over malloc. All names that it exports begin with wakhurmi_. Beside it: the header, and wakhurmi.pc for pkg-config.
+# The same as a shared library, for programs that load one, is shared/libwakhurmi.so, which shows what the header declares and
+# nothing else. It lies in a folder of its own, since a linker that found both beside each other would take it and not the archive.
 #
 #     c/build.sh FOLDER [FLAG..]     the flags go to the compiler, which is the words of CC, or cc
 #
@@ -30,8 +32,18 @@ for file in wakhurmi history; do
     # shellcheck disable=SC2086
     ${CC:-cc} -std=gnu11 -O2 -fPIC -Wall -Wextra "$@" -c "$here/$file.c" -o "$objects/layer-$file.o"
 done
-rm -f -- "$folder/libwakhurmi.a"
+mkdir -p -- "$folder/shared"
+rm -f -- "$folder/libwakhurmi.a" "$folder/shared/libwakhurmi.so"
 ar rcs "$folder/libwakhurmi.a" "$objects"/*.o
+# A pattern wouldn't do: linkers differ in which of two patterns goes before, that of the names shown or that of the others.
+{
+    echo '{ global:'
+    sed -n 's/^[a-z_]* \(wakhurmi_[a-z_]*\)(.*/    \1;/p' "$here/wakhurmi.h"
+    echo 'local: *; };'
+} >"$objects/shown"
+# shellcheck disable=SC2086
+${CC:-cc} -shared -O2 -fPIC "$@" "$objects"/*.o -Wl,--version-script="$objects/shown" -Wl,-z,noexecstack -Wl,-soname,libwakhurmi.so -pthread \
+    -o "$folder/shared/libwakhurmi.so"
 cp -- "$here/wakhurmi.h" "$folder"
 # pkg-config reads a folder's name as a shell does, so what a shell reads otherwise stands behind a backslash.
 escaped=$(printf '%s\n' "$folder" | sed "s/[][ \"'\\\\&|;<>()#*?!{}\`~]/\\\\&/g")
