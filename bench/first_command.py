@@ -36,7 +36,7 @@ sys.dont_write_bytecode = True
 sys.path.insert(0, str(TOP / "launch"))
 import schedule  # noqa: E402
 
-INTERVAL = 2.0
+INTERVAL = 10.0
 DONE = re.compile(r"^== (\w+): status \d+, jobs (\d+), seconds ([\d.]+), of processors ([\d.]+)$", re.M)
 TO_GO = re.compile(r"about (\d+) minutes? to go")
 
@@ -47,7 +47,7 @@ HEAD = """\
 
 
 class Memory(threading.Thread):
-    """Looks at how much memory all processes below one have, every two seconds: at most at once, and by the crate that they work for."""
+    """Looks at how much memory all processes below one have, every ten seconds: at most at once, and by the crate that they work for."""
 
     def __init__(self, top: int) -> None:
         super().__init__(daemon=True)

@@ -6,8 +6,8 @@ Makes its own plans and files in a temporary folder, and prints one line a plan.
 
     bench/runs.py [PROGRAM [ITEMS..]]
 
-Measured: instructions a unit: 52,384 with 1,024 items in as many tasks, 52,463 with 2,048, 37,109 with 4,096 in 2,048 tasks, 29,611 with
-8,192; a transform 953 to 1,052; peak 19.5 MB. 8 and 64 names in `after`: a unit without the plan's reading 19,867 and 23,571. An entry is
+Measured: instructions a unit: 51,941 with 1,024 items in as many tasks, 52,018 with 2,048, 36,763 with 4,096 in 2,048 tasks, 29,299 with
+8,192; a transform 886 to 952; peak 19.7 MB. 8 and 64 names in `after`: a unit without the plan's reading 19,034 and 22,629. An entry is
 printed in 422 to 446. `lines` over 64 files of 4 MiB takes 0.44 a byte.
 """
 
