@@ -6,6 +6,7 @@
 #include <stdint.h>
 #include <stdio.h>
 #include <stdlib.h>
+#include <string.h>
 #include <time.h>
 #include <wakhurmi.h>
 
@@ -39,6 +40,13 @@ static inline pthread_t start(void *(*body)(void *), void *argument) {
     pthread_t thread;
     demand(pthread_create(&thread, NULL, body, argument) == 0, "a thread");
     return thread;
+}
+
+/* Whether a text begins with a number, and this stands behind it. sscanf would go through the whole text for it. */
+static inline bool begins_with_number(const char *text, const char *behind, uint64_t *number) {
+    char *end;
+    *number = strtoull(text, &end, 10);
+    return end != text && strncmp(end, behind, strlen(behind)) == 0;
 }
 
 /* One lock more than are taken: a plan's run has the all-projects lock there, and its check of the history asks for as many. */

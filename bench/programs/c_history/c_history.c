@@ -4,9 +4,7 @@
  *     c_history parts THREADS ROUNDS     threads work, and one more takes the history into two parts by turns: the texts behind each other
  *     c_history cancel COUNT             the same of a part that so many threads take which are cancelled at random moments */
 #include "../c_common.h"
-#include <inttypes.h>
 #include <stdatomic.h>
-#include <string.h>
 #include <sys/wait.h>
 #include <unistd.h>
 
@@ -73,12 +71,13 @@ static summary summary_of(const text *of) {
             all.has_head = true;
         } else if (all.lines == 2 && all.has_head) {
             demand(strncmp(line, "workers ", 8) == 0, "the head's second line");
-        } else if (sscanf(line, "end %" SCNu64, &number) == 1) {
+        } else if (strncmp(line, "end ", 4) == 0) {
+            demand(begins_with_number(line + 4, "", &number), "a number at the end");
             demand(all.last == 0 || number == all.last, "the number at the end");
             all.last = number;
             all.has_end = true;
         } else {
-            demand(sscanf(line, "%" SCNu64 " w", &number) == 1 && (all.last == 0 || number == all.last + 1), "the next entry");
+            demand(begins_with_number(line, " w", &number) && (all.last == 0 || number == all.last + 1), "the next entry");
             if (all.first == 0) all.first = number;
             all.last = number;
         }
@@ -234,11 +233,18 @@ static void check_sleeper_and_fork(uint64_t kept) {
     wakhurmi_close_part(part);
 }
 
+/* Where all calls are made under a mutex, who calls again at once keeps others from it. */
+static void let_others_call(void) {
+#ifdef WAKHURMI_ONE_AT_A_TIME
+    sleep_for(BODY);
+#endif
+}
+
 static void *take_until_the_end(void *argument) {
     wakhurmi_part *part = NULL;
     wakhurmi_answer answer;
     (void)argument;
-    while ((answer = wakhurmi_take_history(service, &part)) == WAKHURMI_OK) {}
+    while ((answer = wakhurmi_take_history(service, &part)) == WAKHURMI_OK) let_others_call();
     demand(answer == WAKHURMI_MISUSED, "who takes hears of the end");
     wakhurmi_close_part(part);
     return NULL;

@@ -6,8 +6,6 @@
  *
  * It is linked with --wrap for malloc, realloc, calloc and aligned_alloc. */
 #include "../c_common.h"
-#include <inttypes.h>
-#include <string.h>
 #include <unistd.h>
 
 enum { ENTRIES = 40, KEPT = 200, ROUNDS = 1500, MOST_REFUSED = 1000, ROOM = 1 << 16, LIMIT = 600 };
@@ -162,7 +160,7 @@ static uint64_t end_and_find_first(uint64_t made) {
         text[written] = 0;
         for (const char *line = text; *line != 0; line = strchr(line, '\n') + 1) {
             uint64_t entry;
-            if (sscanf(line, "%" SCNu64 " w", &entry) != 1) continue;
+            if (!begins_with_number(line, " w", &entry)) continue;
             demand(first == 0 || entry == last + 1, "the next entry");
             if (first == 0) first = entry;
             last = entry;

@@ -5,7 +5,6 @@
  *     c_rounds plain THREADS ROUNDS       the same of the counter */
 #include "../c_common.h"
 #include <stdatomic.h>
-#include <string.h>
 
 enum { MOST = 2, LOCKS = 3, MAX_THREADS = 32, OBSERVE_EACH = 20000 };
 

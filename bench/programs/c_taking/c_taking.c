@@ -9,7 +9,6 @@
  *                                                    where MICROSECONDS is 0 */
 #include "../c_common.h"
 #include <stdatomic.h>
-#include <string.h>
 #include <sys/resource.h>
 
 enum { MAX_THREADS = 32, TURNS = 21, WORK = 5000, LONGEST_NOTED = 1000 };

@@ -11,7 +11,6 @@
  * first. Where two threads have one lock at once it ends with status 1. */
 #include "../c_common.h"
 #include <stdatomic.h>
-#include <string.h>
 
 enum { MOST_THREADS = 32, MOST_LOCKS = 8, WORK_BY_SLEEP = 500000, REST = 1000000 };
 
