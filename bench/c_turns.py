@@ -14,6 +14,8 @@ SECONDS is for each row, 3 where it isn't given.
 
 Measured: by a service no take waits longer than 29 ms, and the fewest rounds of a thread are 0.58 to 0.94 of the most; by mutexes 1,064 ms,
 and 0.23 to 0.90. The ninth thread has 203 rounds in 3 seconds, and waits 15 ms at most. A service makes 0.35 to 0.98 of the mutexes' rounds.
+Who leaves sections waits 39 to 60 ms at most, and has the rounds of the others, beside other work on the machine. As long as a leave wasn't queued for
+its locks, one with work of 1 ms had 1,228 rounds among 31 threads of which some had 8, and one of these waited 2,083 ms.
 """
 
 import pathlib
