@@ -12,10 +12,10 @@ The archive is made by c/build.sh, which proves crates/wakhurmi_c where that is 
 
 SECONDS is for each row, 3 where it isn't given.
 
-Measured: by a service no take waits longer than 29 ms, and the fewest rounds of a thread are 0.58 to 0.94 of the most; by mutexes 1,064 ms,
-and 0.23 to 0.90. The ninth thread has 203 rounds in 3 seconds, and waits 15 ms at most. A service makes 0.35 to 0.98 of the mutexes' rounds.
-Who leaves sections waits 39 to 60 ms at most, and has the rounds of the others, beside other work on the machine. As long as a leave wasn't queued for
-its locks, one with work of 1 ms had 1,228 rounds among 31 threads of which some had 8, and one of these waited 2,083 ms.
+Measured, 7 seconds a row: by a service no take or leave waits longer than 45 ms, and the fewest rounds of a thread are 0.53 to 0.97 of the
+most; by mutexes 7,001 ms, and 0.00 to 0.98. The ninth thread has 452 rounds, and waits 16 ms at most. A service makes 0.49 to 0.99 of the
+mutexes' rounds. In shorter rows the rounds of 32 threads differ more: 0.34 in 2 seconds. As long as a leave wasn't queued for its locks, one with work
+of 1 ms had 1,228 rounds among 31 threads of which some had 8, and one of these waited 2,083 ms.
 """
 
 import pathlib
