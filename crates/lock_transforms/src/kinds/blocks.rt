@@ -19,7 +19,7 @@ use crate::kinds::fixed::{FixedKind, finish_or_retry};
 use crate::kinds::freeing::free_locks;
 use crate::kinds::making::try_change;
 use crate::kinds::marks::{earlier_passed, works_on};
-use crate::kinds::most::most_of;
+use crate::kinds::most::owned_count;
 use crate::kinds::ranges::action_of;
 use crate::tentatives::Tentative;
 use crate::transforms::{Disposition, Transform};
@@ -54,7 +54,7 @@ impl Transform for Block {
     }
 
     fn most_changes(&self, graph: &Graph, state: &State, worker: WorkerId) -> u64 {
-        most_of(graph, state, worker, self.kind())
+        3 + 2 * owned_count(graph, state, worker)
     }
 
     fn apply(&self, work: &mut Tentative) -> Disposition {

@@ -11,7 +11,6 @@ ghost use Rattle.resource_lock.specs.declared.marks.Mark.TheVariants as marks;
 use crate::entries::Kind;
 use crate::kinds::fixed::{FixedKind, finish_or_retry};
 use crate::kinds::making::try_change;
-use crate::kinds::most::most_of;
 use crate::tentatives::Tentative;
 use crate::transforms::{Disposition, Transform};
 use resource_lock::{Change, Graph, Mark, MarkId, State, WorkerId};
@@ -43,8 +42,8 @@ impl Transform for Claim {
         Kind::Claim(self.unit)
     }
 
-    fn most_changes(&self, graph: &Graph, state: &State, worker: WorkerId) -> u64 {
-        most_of(graph, state, worker, self.kind())
+    fn most_changes(&self, _graph: &Graph, _state: &State, _worker: WorkerId) -> u64 {
+        2
     }
 
     fn apply(&self, work: &mut Tentative) -> Disposition {

@@ -9,7 +9,6 @@ use crate::entries::{Closed, Kind};
 use crate::kinds::fixed::{FixedKind, finish_or_retry};
 use crate::kinds::making::try_change;
 use crate::kinds::marks::mark_from;
-use crate::kinds::most::most_of;
 use crate::tentatives::Tentative;
 use crate::transforms::{Disposition, Transform};
 use item_actions::Outcome;
@@ -41,8 +40,8 @@ impl Transform for Close {
         Kind::Close(self.closed)
     }
 
-    fn most_changes(&self, graph: &Graph, state: &State, worker: WorkerId) -> u64 {
-        most_of(graph, state, worker, self.kind())
+    fn most_changes(&self, _graph: &Graph, _state: &State, _worker: WorkerId) -> u64 {
+        2
     }
 
     fn apply(&self, work: &mut Tentative) -> Disposition {

@@ -18,7 +18,7 @@ use crate::entries::Kind;
 use crate::kinds::fixed::{FixedKind, finish_or_retry};
 use crate::kinds::making::try_change;
 use crate::kinds::marks::units_passed;
-use crate::kinds::most::most_of;
+use crate::kinds::most::changes_below;
 use crate::kinds::ranges::{NumberRange, actions_of, earlier_actions, lock_of, units_of};
 use crate::kinds::skipping::skip_waiting;
 use crate::tentatives::Tentative;
@@ -56,8 +56,8 @@ impl Transform for End {
         Kind::End(self.task)
     }
 
-    fn most_changes(&self, graph: &Graph, state: &State, worker: WorkerId) -> u64 {
-        most_of(graph, state, worker, self.kind())
+    fn most_changes(&self, graph: &Graph, _state: &State, _worker: WorkerId) -> u64 {
+        3 + changes_below(graph, self.task)
     }
 
     fn apply(&self, work: &mut Tentative) -> Disposition {

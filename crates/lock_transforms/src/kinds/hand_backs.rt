@@ -8,7 +8,7 @@ ghost use Rattle.lock_transforms.specs.declared.entries.Kind.TheVariants as kind
 use crate::entries::Kind;
 use crate::kinds::fixed::{FixedKind, finish_or_retry};
 use crate::kinds::freeing::free_locks;
-use crate::kinds::most::most_of;
+use crate::kinds::most::owned_count;
 use crate::tentatives::Tentative;
 use crate::transforms::{Disposition, Transform};
 use resource_lock::{Graph, State, WorkerId};
@@ -36,7 +36,7 @@ impl Transform for HandBack {
     }
 
     fn most_changes(&self, graph: &Graph, state: &State, worker: WorkerId) -> u64 {
-        most_of(graph, state, worker, self.kind())
+        1 + owned_count(graph, state, worker)
     }
 
     fn apply(&self, work: &mut Tentative) -> Disposition {

@@ -3,36 +3,14 @@ ghost use Rattle.std.specs.Prelude.{◌≡◌, ◌<◌, ◌≤◌, ◌^◌, ℕ,
 ghost use Rattle.resource_lock.specs.GraphView.{action_of};
 ghost use Rattle.resource_lock.specs.Shape.{BelongsTo};
 ghost use Rattle.resource_lock.specs.StateView.{holding_of};
-ghost use Rattle.lock_transforms.specs.MostChanges.{IsRoomFor, changes_below, most_of};
+ghost use Rattle.lock_transforms.specs.MostChanges.{IsRoomFor, changes_below};
 ghost use Rattle.lock_transforms.specs.Table.{owned};
 
-use crate::entries::Kind;
 use crate::kinds::ranges::{action_of, actions_of, units_of};
 use resource_lock::{Graph, State, WorkerId};
 
-/// At most how many changes a worker's entry of the kind has in a state of the graph, by the graph's ranges and the worker's counts.
-// Numbers that aren't the graph's have no changes.
-pub(crate) fn most_of(graph: &Graph, state: &State, worker: WorkerId, kind: Kind) -> u64
-    requires belongs { BelongsTo graph.now state.now }
-    requires worker_in_range { worker.0 < graph.now.workers }
-    ensures { result ≡ most_of graph.now worker state.now kind }
-{
-    match kind {
-        Kind::Start(_) => 3,
-        Kind::Skip(task) => 1 + changes_below(graph, task),
-        Kind::Submit(action) => 1 + item_count(graph, action),
-        Kind::Park(_) | Kind::Resume(_) => 4,
-        Kind::Claim(_) | Kind::Close(_) => 2,
-        Kind::Block(_) => 3 + 2 * owned_count(graph, state, worker),
-        Kind::Unblock(_) => 3 + 2 * parked_count(graph, state, worker),
-        Kind::End(task) => 3 + changes_below(graph, task),
-        Kind::Acquire => 1 + u64::from(graph.locks()),
-        Kind::HandBack => 1 + owned_count(graph, state, worker),
-    }
-}
-
-// How many changes skip all actions of a task, and their units.
-fn changes_below(graph: &Graph, task: u32) -> u64
+/// How many changes skip all actions of a task, and their units.
+pub(crate) fn changes_below(graph: &Graph, task: u32) -> u64
     ensures value { result ≡ changes_below graph.now task }
     ensures few { result < 2 ^ 33 }
 {
@@ -48,8 +26,8 @@ fn changes_below(graph: &Graph, task: u32) -> u64
     u64::from(actions.count) + u64::from(last.first + last.count - first)
 }
 
-// How many items an action has.
-fn item_count(graph: &Graph, action: u32) -> u64
+/// How many items an action has.
+pub(crate) fn item_count(graph: &Graph, action: u32) -> u64
     ensures value { result ≡ (action_of graph.now action).items }
     ensures few { result < 2 ^ 32 }
 {
@@ -59,8 +37,8 @@ fn item_count(graph: &Graph, action: u32) -> u64
     u64::from(action_of(graph, action).items)
 }
 
-// How many locks a worker owns.
-fn owned_count(graph: &Graph, state: &State, worker: WorkerId) -> u64
+/// How many locks a worker owns.
+pub(crate) fn owned_count(graph: &Graph, state: &State, worker: WorkerId) -> u64
     requires { BelongsTo graph.now state.now }
     ensures value { result ≡ length (owned state.now worker) }
     ensures few { result < 2 ^ 32 }
@@ -70,8 +48,8 @@ fn owned_count(graph: &Graph, state: &State, worker: WorkerId) -> u64
     state.lock_count(worker) as u64
 }
 
-// How many locks a worker has parked.
-fn parked_count(graph: &Graph, state: &State, worker: WorkerId) -> u64
+/// How many locks a worker has parked.
+pub(crate) fn parked_count(graph: &Graph, state: &State, worker: WorkerId) -> u64
     requires belongs { BelongsTo graph.now state.now }
     requires worker_in_range { worker.0 < graph.now.workers }
     ensures value { result ≡ length (holding_of state.now worker).parked }

@@ -12,7 +12,6 @@ ghost use Rattle.resource_lock.specs.declared.marks.MarkId.TheVariants as ids;
 use crate::entries::Kind;
 use crate::kinds::fixed::{FixedKind, finish_or_retry};
 use crate::kinds::making::try_change;
-use crate::kinds::most::most_of;
 use crate::kinds::parking::unpark_lock;
 use crate::kinds::ranges::{NumberRange, action_of, items_of, lock_of};
 use crate::tentatives::Tentative;
@@ -47,8 +46,8 @@ impl Transform for Resume {
         Kind::Resume(self.action)
     }
 
-    fn most_changes(&self, graph: &Graph, state: &State, worker: WorkerId) -> u64 {
-        most_of(graph, state, worker, self.kind())
+    fn most_changes(&self, _graph: &Graph, _state: &State, _worker: WorkerId) -> u64 {
+        4
     }
 
     fn apply(&self, work: &mut Tentative) -> Disposition {

@@ -8,7 +8,7 @@ ghost use Rattle.lock_transforms.specs.declared.entries.Kind.TheVariants as kind
 use crate::entries::Kind;
 use crate::kinds::fixed::{FixedKind, Progress, run_fixed};
 use crate::kinds::making::try_change;
-use crate::kinds::most::most_of;
+use crate::kinds::most::changes_below;
 use crate::kinds::ranges::{actions_of, after_of};
 use crate::kinds::skipping::skip_actions;
 use crate::tentatives::Tentative;
@@ -41,8 +41,8 @@ impl Transform for Skip {
         Kind::Skip(self.task)
     }
 
-    fn most_changes(&self, graph: &Graph, state: &State, worker: WorkerId) -> u64 {
-        most_of(graph, state, worker, self.kind())
+    fn most_changes(&self, graph: &Graph, _state: &State, _worker: WorkerId) -> u64 {
+        1 + changes_below(graph, self.task)
     }
 
     fn apply(&self, work: &mut Tentative) -> Disposition {

@@ -10,7 +10,7 @@ use crate::entries::Kind;
 use crate::kinds::fixed::{FixedKind, finish_or_retry};
 use crate::kinds::making::{move_units, try_change};
 use crate::kinds::marks::{earlier_passed, works_on};
-use crate::kinds::most::most_of;
+use crate::kinds::most::item_count;
 use crate::kinds::ranges::{action_of, items_of};
 use crate::tentatives::Tentative;
 use crate::transforms::{Disposition, Transform};
@@ -43,8 +43,8 @@ impl Transform for Submit {
         Kind::Submit(self.action)
     }
 
-    fn most_changes(&self, graph: &Graph, state: &State, worker: WorkerId) -> u64 {
-        most_of(graph, state, worker, self.kind())
+    fn most_changes(&self, graph: &Graph, _state: &State, _worker: WorkerId) -> u64 {
+        1 + item_count(graph, self.action)
     }
 
     fn apply(&self, work: &mut Tentative) -> Disposition {

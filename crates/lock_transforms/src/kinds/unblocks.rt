@@ -14,7 +14,7 @@ use crate::entries::{Closed, Kind};
 use crate::kinds::fixed::{FixedKind, finish_or_retry};
 use crate::kinds::making::try_change;
 use crate::kinds::marks::mark_from;
-use crate::kinds::most::most_of;
+use crate::kinds::most::parked_count;
 use crate::kinds::parking::unpark_lock;
 use crate::kinds::taking::take_all;
 use crate::tentatives::Tentative;
@@ -51,7 +51,7 @@ impl Transform for Unblock {
     }
 
     fn most_changes(&self, graph: &Graph, state: &State, worker: WorkerId) -> u64 {
-        most_of(graph, state, worker, self.kind())
+        3 + 2 * parked_count(graph, state, worker)
     }
 
     fn apply(&self, work: &mut Tentative) -> Disposition {
