@@ -262,10 +262,14 @@ class InterfaceTests(unittest.TestCase):
     def bench_program(self, name: str, *more: str) -> str:
         return self.program(TOP / f"bench/programs/{name}/{name}.c", *more)
 
-    def assert_lawful(self, history: str) -> None:
-        """By the replay, and by the program that the gate has built."""
+    def assert_replayed(self, history: str) -> str:
         replayed = self.said_by([str(IN_C / "replay.py")], input=history)
         self.assertRegex(replayed, r"^lawful [0-9]+\n$")
+        return replayed
+
+    def assert_lawful(self, history: str) -> None:
+        """By the replay, and by the program that the gate has built."""
+        replayed = self.assert_replayed(history)
         if LEASES.exists():
             self.assertEqual(self.said_by([str(LEASES), "check", "plan.toml"], input=history, cwd=IN_C), replayed)
 
@@ -288,6 +292,12 @@ class InterfaceTests(unittest.TestCase):
     def test_threads_have_leases_and_locks_as_promised(self) -> None:
         self.assert_lawful(self.said_by([self.bench_program("c_rounds"), "check", "4", "5000"]))
         self.assert_lawful(self.said_by([self.program(IN_C / "eight.c")]))
+
+    def test_as_many_workers_as_may_be(self) -> None:
+        """Their histories are beyond what the program reads."""
+        program = self.bench_program("c_many")
+        self.assert_replayed(self.said_by([program, "apart", "256", "40"]))
+        self.assert_replayed(self.said_by([program, "meeting", "256", "60", "10"]))
 
     def test_the_rust_example(self) -> None:
         if shutil.which("cargo") is None:

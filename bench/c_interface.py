@@ -11,6 +11,7 @@ The archive is made by c/build.sh, which needs the command rt and proves crates/
   stand behind each other are replayed and checked. bench/programs/c_refused refuses memory to each allocation of that;
 * bench/programs/c_rounds checks four threads over 400,000 rounds, while a fifth asks for the leases: never more at work than may be, one
   owner a lock; the history is replayed and checked;
+* bench/programs/c_many has 256 workers that take locks of their own, or share eight locks and fewer leases; their histories are replayed;
 * bench/programs/c_turns has threads want the same locks all the time, and bench/programs/c_taking takes histories, and keeps last entries, beside
   threads that work.
   All of these run under memcheck and helgrind too, and built with the compiler's sanitizers, with less to do. Helgrind and the sanitizer of
@@ -41,7 +42,7 @@ import measure
 TOP = measure.TOP
 EXAMPLE = TOP / "examples/embedding-in-c"
 LEASES = pathlib.Path(sys.argv[1]).resolve() if len(sys.argv) > 1 else TOP / "out/leases"
-NAMES = ("c_rounds", "c_calls", "c_cancel", "c_history", "c_refused", "c_turns", "c_taking")
+NAMES = ("c_rounds", "c_calls", "c_cancel", "c_history", "c_refused", "c_turns", "c_taking", "c_many")
 PROGRAMS = [TOP / f"bench/programs/{name}/{name}.c" for name in NAMES] + [EXAMPLE / "eight.c"]
 # c_refused has calls of these from the archive come to functions of its own.
 WRAPS = [f"-Wl,--wrap={name}" for name in ("malloc", "realloc", "calloc", "aligned_alloc")]
@@ -97,9 +98,13 @@ def build(folder: pathlib.Path, name: str, *flags: str) -> pathlib.Path:
     return made
 
 
+def replayed_of(history: str) -> str:
+    return call([str(EXAMPLE / "replay.py")], input=history).strip()
+
+
 def judged(history: str) -> str:
     """What the replay and `leases check` say of a history. Where one of them refuses it, the bench ends."""
-    replayed = call([str(EXAMPLE / "replay.py")], input=history).strip()
+    replayed = replayed_of(history)
     if not os.access(LEASES, os.X_OK):
         return f"replayed: {replayed}; leases check: passed over, there is no {LEASES.name}"
     checked = call([str(LEASES), "check", "plan.toml"], input=history, cwd=EXAMPLE).strip()
@@ -119,6 +124,9 @@ def check(made: pathlib.Path, rounds: int, cancelled: int, tool: list[str], what
     print(f"{what}: {cancelled // 10} threads that took the history were cancelled: {judged(history)}", flush=True)
     history = call([*tool, str(made / "c_cancel"), str(cancelled)], env=SETTINGS)
     print(f"{what}: {cancelled} threads were cancelled: {judged(history)}", flush=True)
+    for words in (["apart", "256", str(rounds // 250)], ["meeting", "256", "60", str(rounds // 1_000)]):
+        history = call([*tool, str(made / "c_many"), *words], env=SETTINGS)
+        print(f"{what}: 256 threads, {' '.join(words)}: {replayed_of(history)}", flush=True)
     history = call([*tool, str(made / "c_rounds"), "check", "4", str(rounds)], env=SETTINGS)
     print(f"{what}: four threads, {4 * rounds} rounds: {judged(history)}", flush=True)
     for tried in TRIED:

@@ -9,8 +9,8 @@
  * does so moves the book's to a spare part, by its own handle within its own call, and the two parts change places: what was there before is
  * forgotten. It tries once. Where another worker is inside, or changes the parts, it leaves that to the next one that counts. So nobody waits,
  * and nothing is forgotten before as many newer entries are there. That each that was made is counted later, by its worker, is made up for by
- * UNCOUNTED more of them. All count from 0 again once the book's were moved, and not before: else entries that were moved would be taken for
- * newer ones.
+ * UNCOUNTED_EACH more of them for each worker. All count from 0 again once the book's were moved, and not before: else entries that were moved
+ * would be taken for newer ones.
  *
  * Who takes such a history has both, in that order, and keeps others from the parts meanwhile, as between the two takings nothing may change
  * places. */
@@ -21,7 +21,7 @@
 
 /* A worker counts so many entries at once, so that it seldom writes what all write. It may have made two more of which it hasn't noted the last. */
 #define COUNTED_AT_ONCE 32
-#define UNCOUNTED (MAX_WORKERS * (COUNTED_AT_ONCE + 2))
+#define UNCOUNTED_EACH (COUNTED_AT_ONCE + 2)
 
 /* A part has what a service put aside before, and what was in its book then. The use of `newest` is EMPTY, or IN_CALL while a call has it. */
 struct wakhurmi_part {
@@ -38,7 +38,8 @@ static void exchange(handle *one, handle *other) {
 
 void wakhurmi_begin_history(wakhurmi_service *service, uint64_t entries) {
     bool keeps_all = entries == UINT64_MAX;
-    service->kept.most = entries < UINT64_MAX - UNCOUNTED ? entries + UNCOUNTED : UINT64_MAX;
+    uint64_t uncounted = (uint64_t)service->count * UNCOUNTED_EACH;
+    service->kept.most = entries < UINT64_MAX - uncounted ? entries + uncounted : UINT64_MAX;
     if (!keeps_all) atomic_store(&service->sleepers, COUNTS_ENTRIES);
     for (uint32_t worker = 0; worker < service->count; worker++) service->workers[worker].until_counted = keeps_all ? INT64_MAX : COUNTED_AT_ONCE;
 }
@@ -124,10 +125,10 @@ void wakhurmi_close_part(wakhurmi_part *part) {
     free(part);
 }
 
-/* The proved library takes a byte more than a line has room for a moment, so a line is tried in little room first. None is longer than the
- * second. */
+/* The proved library takes a byte more than a line has room for a moment, so a line is tried in little room first, and in so many times as much
+ * in each next try. */
 #define SHORT_LINE 1023
-#define LONGEST_LINE 99999
+#define MORE_ROOM 16
 
 /* What has lines, and by which call of the proved library they are written. */
 typedef struct {
@@ -147,10 +148,12 @@ static char nothing[1];
 /* A line, where it fits. */
 static uint32_t write_line(source from, uint64_t line, const room *to, size_t *length) {
     uint8_t *bytes = (uint8_t *)to->bytes + to->filled;
-    size_t left = to->size - to->filled, little = left < SHORT_LINE ? left : SHORT_LINE;
-    uint32_t answer = from.write(from.from, line, bytes, little, length);
-    if (answer != WAKHURMI_BAD_NUMBER || little == left) return answer;
-    return from.write(from.from, line, bytes, left < LONGEST_LINE ? left : LONGEST_LINE, length);
+    size_t left = to->size - to->filled, tried = left < SHORT_LINE ? left : SHORT_LINE;
+    uint32_t answer;
+    while ((answer = from.write(from.from, line, bytes, tried, length)) == WAKHURMI_BAD_NUMBER && tried < left) {
+        tried = tried < left / MORE_ROOM ? tried * MORE_ROOM : left;
+    }
+    return answer;
 }
 
 /* The lines that fit, from one on. `line` is the next behind them. */

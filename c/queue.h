@@ -16,8 +16,8 @@
 #include <stddef.h>
 #include <stdint.h>
 
-#define MAX_WORKERS 32
-#define MAX_LOCKS 4096
+#define MAX_WORKERS 256
+#define MAX_LOCKS 65536
 /* A call is queued once it has slept so many nanoseconds, and so often something was let go that it didn't get. Where locks are had for
  * microseconds, to hand one over to a thread that sleeps takes longer than the work: so few are. */
 #define PATIENCE 10000000
@@ -34,14 +34,14 @@ typedef struct {
 } arrival;
 
 typedef struct {
-    bool taken;
+    uint32_t worker;
     bool keeps_back; /* A call was kept back for it. */
     arrival call;
 } queue_place;
 
 typedef struct {
     uint32_t length;
-    queue_place places[MAX_WORKERS]; /* By worker. */
+    queue_place *places; /* The first ones are taken, in no order. There is one for each worker. */
 } queue;
 
 /* Whether two lists that strictly rise have a lock in common. */
@@ -60,31 +60,37 @@ static inline bool share_a_lock(const arrival *one, const arrival *other) {
 /* Whether a call has to let one go first that came earlier. */
 static inline bool has_to_let_go_first(queue *all, const arrival *call) {
     bool found = false;
-    for (uint32_t worker = 0; worker < MAX_WORKERS; worker++) {
-        queue_place *held = &all->places[worker];
-        if (!held->taken || held->call.number >= call->number) continue;
+    for (uint32_t at = 0; at < all->length; at++) {
+        queue_place *held = &all->places[at];
+        if (held->call.number >= call->number) continue;
         if (!held->call.found_none && !share_a_lock(&held->call, call)) continue;
         held->keeps_back = found = true;
     }
     return found;
 }
 
+/* The place of a worker's call, or the first that is free. */
+static inline queue_place *place_of(queue *all, uint32_t worker) {
+    uint32_t at = 0;
+    while (at < all->length && all->places[at].worker != worker) at++;
+    return &all->places[at];
+}
+
 /* Queues a worker's call, which looked in vain, or notes what it found. True says that calls may go on that were kept back for it. */
 static inline bool queue_up(queue *all, uint32_t worker, const arrival *call) {
-    queue_place *held = &all->places[worker];
-    bool frees = held->keeps_back && held->call.found_none && !call->found_none;
-    if (frees) held->keeps_back = false;
-    if (!held->taken) all->length++;
-    held->taken = true;
-    held->call = *call;
+    queue_place *held = place_of(all, worker);
+    bool is_new = held == &all->places[all->length];
+    bool frees = !is_new && held->keeps_back && held->call.found_none && !call->found_none;
+    *held = (queue_place){worker, !is_new && held->keeps_back && !frees, *call};
+    if (is_new) all->length++;
     return frees;
 }
 
-/* A worker's call leaves the queue. True says that calls may go on that were kept back for it. */
+/* A worker's call leaves the queue, in which it is. True says that calls may go on that were kept back for it. */
 static inline bool depart(queue *all, uint32_t worker) {
-    bool frees = all->places[worker].keeps_back;
-    all->places[worker] = (queue_place){0};
-    all->length--;
+    queue_place *held = place_of(all, worker);
+    bool frees = held->keeps_back;
+    *held = all->places[--all->length];
     return frees;
 }
 #endif

@@ -13,6 +13,12 @@ typedef struct {
     unsigned long long most;  /* So many are put aside at once. */
 } kept_entries;
 
+/* Locks, and for how many there is room. */
+typedef struct {
+    uint32_t *locks;
+    size_t room;
+} lock_list;
+
 struct wakhurmi_service {
     pthread_mutex_t mutex;
     pthread_cond_t freed;
@@ -26,8 +32,11 @@ struct wakhurmi_service {
     queue queue; /* Under the mutex. */
     slot book;
     kept_entries kept;
-    slot workers[MAX_WORKERS];
-    uint32_t parked[]; /* Room for the locks that each worker's leave takes, as many as there are. */
+    /* By worker: the locks that its leave takes, once it has slept; its use and its handle, while a call has those of all workers. */
+    lock_list *parked;
+    use *uses;
+    handle *handles;
+    slot workers[]; /* As many as `count`. */
 };
 
 /* Notes: a call is queued; somebody asks by the handle of any worker, and asked in vain. */

@@ -154,16 +154,37 @@ static told sleep_until_done(wakhurmi_service *service, slot *held, request aske
     }
 }
 
-/* A call that is about to sleep. The locks that a leave takes are noted in its worker's room. They strictly rise, as an enter parks them so. */
+#define FIRST_ROOM 8
+
+static bool make_more_room(lock_list *list) {
+    size_t room = list->room == 0 ? FIRST_ROOM : 2 * list->room;
+    uint32_t *locks = realloc(list->locks, room * sizeof *locks);
+    if (locks == NULL) return false;
+    *list = (lock_list){locks, room};
+    return true;
+}
+
+/* Notes the locks that a worker has parked, and answers how many are noted: all, or as many as there is memory for. The call is queued for these
+ * alone then. */
+static size_t note_parked(handle *own, lock_list *parked) {
+    size_t count = 0;
+    uint32_t lock;
+    while (wakhurmi_c_parked(own, count, &lock) == WAKHURMI_OK) {
+        if (count == parked->room && !make_more_room(parked)) break;
+        parked->locks[count++] = lock;
+    }
+    return count;
+}
+
+/* A call that is about to sleep. The locks that a leave takes strictly rise, as an enter parks them so. */
 static arrival arrive(wakhurmi_service *service, uint32_t worker, request asked) {
     arrival call = {.number = atomic_fetch_add(&service->arrivals, 1), .locks = asked.locks, .count = asked.count};
     if (asked.what != LEAVE) return call;
-    uint32_t *parked = service->parked + (size_t)worker * service->locks;
-    handle *own = &service->workers[worker].held;
+    lock_list *parked = &service->parked[worker];
     go_in();
-    while (call.count < service->locks && wakhurmi_c_parked(own, call.count, &parked[call.count]) == WAKHURMI_OK) call.count++;
+    call.count = note_parked(&service->workers[worker].held, parked);
     go_out();
-    call.locks = parked;
+    call.locks = parked->locks;
     return call;
 }
 
@@ -370,36 +391,52 @@ static bool has_waiting_tools(wakhurmi_service *service) {
     return false;
 }
 
-/* A service without handles, with room for the locks that each worker may have parked. */
-static wakhurmi_service *allocate(uint32_t workers, uint32_t locks) {
-    const size_t line = _Alignof(wakhurmi_service), parked = (size_t)workers * locks * sizeof(uint32_t);
-    wakhurmi_service *service = aligned_alloc(line, sizeof *service + (parked + line - 1) / line * line);
-    if (service != NULL) memset(service, 0, sizeof *service);
-    return service;
+/* Gives back the memory of a service, which has no handles. */
+static void deallocate(wakhurmi_service *service) {
+    for (uint32_t worker = 0; service->parked != NULL && worker < service->count; worker++) free(service->parked[worker].locks);
+    free(service->parked);
+    free(service->uses);
+    free(service->handles);
+    free(service->queue.places);
+    free(service);
+}
+
+/* A service for so many workers, without handles. */
+static wakhurmi_service *allocate(uint32_t workers) {
+    const size_t size = sizeof(wakhurmi_service) + workers * sizeof(slot);
+    wakhurmi_service *service = aligned_alloc(_Alignof(wakhurmi_service), size);
+    if (service == NULL) return NULL;
+    memset(service, 0, size);
+    service->count = workers;
+    service->parked = calloc(workers, sizeof *service->parked);
+    service->uses = calloc(workers, sizeof *service->uses);
+    service->handles = calloc(workers, sizeof *service->handles);
+    service->queue.places = calloc(workers, sizeof *service->queue.places);
+    if (service->parked != NULL && service->uses != NULL && service->handles != NULL && service->queue.places != NULL) return service;
+    deallocate(service);
+    return NULL;
 }
 
 wakhurmi_answer wakhurmi_open_keeping(uint32_t workers, uint32_t max_leases, uint32_t locks, uint64_t entries, wakhurmi_service **opened) {
     if (opened == NULL) return WAKHURMI_MISUSED;
     if (workers < 1 || workers > MAX_WORKERS || locks > MAX_LOCKS) return WAKHURMI_BAD_NUMBER;
-    wakhurmi_service *service = allocate(workers, locks);
+    wakhurmi_service *service = allocate(workers);
     if (service == NULL) return WAKHURMI_NO_MEMORY;
-    handle handles[MAX_WORKERS] = {{0}};
-    uint32_t answer = wakhurmi_c_open(max_leases, locks, handles, workers);
+    uint32_t answer = wakhurmi_c_open(max_leases, locks, service->handles, workers);
     if (answer == WAKHURMI_OK && !has_waiting_tools(service)) {
-        for (uint32_t worker = 0; worker < workers; worker++) wakhurmi_c_close(&handles[worker]);
+        for (uint32_t worker = 0; worker < workers; worker++) wakhurmi_c_close(&service->handles[worker]);
         answer = WAKHURMI_NO_MEMORY;
     }
     if (answer != WAKHURMI_OK) {
-        free(service);
+        deallocate(service);
         return (wakhurmi_answer)answer;
     }
-    service->count = workers;
     service->max_leases = max_leases;
     service->locks = locks;
     service->forks = atomic_load(&wakhurmi_forks);
     atomic_store(&service->usual, service->forks);
     let_go(&service->book, GONE);
-    for (uint32_t worker = 0; worker < workers; worker++) service->workers[worker].held = moved(&handles[worker]);
+    for (uint32_t worker = 0; worker < workers; worker++) service->workers[worker].held = moved(&service->handles[worker]);
     wakhurmi_begin_history(service, entries);
     *opened = service;
     return WAKHURMI_OK;
@@ -409,29 +446,33 @@ wakhurmi_answer wakhurmi_open(uint32_t workers, uint32_t max_leases, uint32_t lo
     return wakhurmi_open_keeping(workers, max_leases, locks, UINT64_MAX, opened);
 }
 
-/* Has all handles lent, or none, and notes what their uses were. */
-static bool borrow_all(wakhurmi_service *service, use *uses) {
+/* Has all handles lent, or none, and notes what their uses were. Who has the first worker's lent notes the others': two that finish at once
+ * don't get beyond the first. */
+static bool borrow_all(wakhurmi_service *service) {
     for (uint32_t worker = 0; worker < service->count; worker++) {
-        uses[worker] = claim_whatever(&service->workers[worker], LENT);
-        if (uses[worker] != IN_CALL) continue;
-        while (worker-- > 0) let_go(&service->workers[worker], uses[worker]);
+        use before = claim_whatever(&service->workers[worker], LENT);
+        if (before != IN_CALL) {
+            service->uses[worker] = before;
+            continue;
+        }
+        while (worker-- > 0) let_go(&service->workers[worker], service->uses[worker]);
         return false;
     }
     return true;
 }
 
 wakhurmi_answer wakhurmi_finish(wakhurmi_service *service) {
-    use uses[MAX_WORKERS];
-    if (!is_ours(service) || !borrow_all(service, uses)) return WAKHURMI_MISUSED;
-    handle handles[MAX_WORKERS] = {{0}};
+    if (!is_ours(service) || !borrow_all(service)) return WAKHURMI_MISUSED;
+    handle *all = service->handles;
     go_in();
-    for (uint32_t worker = 0; worker < service->count; worker++) handles[worker] = moved(&service->workers[worker].held);
-    uint32_t answer = wakhurmi_c_finish(handles, service->count, &service->book.held);
-    for (uint32_t worker = 0; worker < service->count; worker++) service->workers[worker].held = moved(&handles[worker]);
+    for (uint32_t worker = 0; worker < service->count; worker++) all[worker] = moved(&service->workers[worker].held);
+    uint32_t answer = wakhurmi_c_finish(all, service->count, &service->book.held);
+    for (uint32_t worker = 0; worker < service->count; worker++) service->workers[worker].held = moved(&all[worker]);
     go_out();
     bool ended = answer == WAKHURMI_OK;
     if (ended) let_go(&service->book, EMPTY);
-    for (uint32_t worker = 0; worker < service->count; worker++) let_go(&service->workers[worker], ended ? GONE : uses[worker]);
+    /* The first worker's last: until then nobody else writes the noted uses. */
+    for (uint32_t worker = service->count; worker-- > 0;) let_go(&service->workers[worker], ended ? GONE : service->uses[worker]);
     return (wakhurmi_answer)answer;
 }
 
@@ -444,5 +485,5 @@ void wakhurmi_close(wakhurmi_service *service) {
     }
     pthread_cond_destroy(&service->freed);
     pthread_mutex_destroy(&service->mutex);
-    free(service);
+    deallocate(service);
 }

@@ -74,7 +74,7 @@ typedef enum {
     WAKHURMI_TIMED_OUT = 10  /* Another worker has what the call takes, and the deadline has passed. */
 } wakhurmi_answer;
 
-/* Opens a service for 1 to 32 workers, of whom 1 to 32 may have a lease at once, with at most 4,096 project locks.
+/* Opens a service for 1 to 256 workers, of whom 1 to 256 may have a lease at once, with at most 65,536 project locks.
  *
  * OK          The service is written to `service`. Nobody has anything, and the history is empty.
  * BAD_NUMBER  One of the three numbers isn't in its range.
@@ -84,7 +84,7 @@ wakhurmi_answer wakhurmi_open(uint32_t workers, uint32_t max_leases, uint32_t lo
 
 /* The same for a service that keeps the last `entries` of its history alone, though nobody takes it. Older ones are dropped some thousands at
  * a time, and 0 says that hardly any are kept: there are at least so many, or all where fewer came, and hardly more than twice as many and
- * 4,000. UINT64_MAX says that all are kept, as by wakhurmi_open.
+ * 200 for each worker. UINT64_MAX says that all are kept, as by wakhurmi_open.
  *
  * A call that makes an entry may be the one that drops the older. It does so behind its entry and waits for nobody. Its worker's call takes
  * longer by that: it goes through the entries that it drops. Others don't wait for this. */
@@ -206,10 +206,10 @@ wakhurmi_answer wakhurmi_finish(wakhurmi_service *service);
  * another isn't lawful there. So who wants to check opens the service with one lock more, and never takes the last.
  *
  * OK          So many bytes are written to `written`, 0 behind the last line.
- * BAD_NUMBER  The buffer is too small for the next line. A line has less than 100,000 bytes, and that of an entry that takes or gives
- *             back K locks less than 100 + 24 K.
+ * BAD_NUMBER  The buffer is too small for the next line. A line has less than 1,800,000 bytes, and that of an entry that takes or gives
+ *             back K locks less than 100 + 26 K.
  * MISUSED     The service hasn't been ended, or another thread reads the history at this moment.
- * NO_MEMORY   For a moment a call takes as much as the buffer has, and at most 100,000 bytes. */
+ * NO_MEMORY   For a moment a call takes as much as the buffer has, and at most 16 times as much as the longest of its lines, or 1,024 bytes. */
 wakhurmi_answer wakhurmi_history(wakhurmi_service *service, uint64_t *place, char *buffer, size_t size, size_t *written);
 
 /* Closes the service, ended or not, and gives all its memory back. It takes a null pointer too. */

@@ -152,9 +152,9 @@ def _count_fork() -> None:
 os.register_at_fork(after_in_child=_count_fork)
 
 _LARGEST = 2**32 - 1
-# So long the main thread waits at once, in seconds, and how much of a history is read at once: more than the longest line has.
+# So long the main thread waits at once, in seconds. So much of a history is read at once, and more than the longest line has where a line has more.
 _SLICE = 0.1
-_ROOM = 2**17
+_ROOM, _MOST_ROOM = 2**17, 2**21
 
 
 class _Deed(NamedTuple):
@@ -246,7 +246,13 @@ class _Owner:
     def _lines(self, call: str) -> Iterator[bytes]:
         place, written, room = ctypes.c_uint64(), ctypes.c_size_t(), ctypes.create_string_buffer(_ROOM)
         while True:
-            self._do(call, ctypes.byref(place), room, _ROOM, ctypes.byref(written))
+            try:
+                self._do(call, ctypes.byref(place), room, len(room), ctypes.byref(written))
+            except BadNumber:
+                if len(room) == _MOST_ROOM:
+                    raise
+                room = ctypes.create_string_buffer(_MOST_ROOM)
+                continue
             if written.value == 0:
                 return
             yield from room[: written.value].splitlines(keepends=True)
@@ -293,9 +299,10 @@ class Part(_Owner):
 
 
 class Service(_Owner):
-    """A service for 1 to 32 workers, of whom 1 to 32 may have a lease at once, with at most 4,096 project locks.
+    """A service for 1 to 256 workers, of whom 1 to 256 may have a lease at once, with at most 65,536 project locks.
 
-    With `keeping` it keeps so many of the last entries of its history, and hardly more than twice as many and 4,000; else all.
+    With `keeping` it keeps so many of the last entries of its history, and hardly more than twice as many and 200 for
+    each worker; else all.
     Raises BadNumber where a number isn't in its range, and NoMemory.
 
     As a context manager it closes at the end. Where an error leaves the block, or Ctrl-C, the service is stopped first, so that no thread waits on,

@@ -166,7 +166,7 @@ class CallTests(Case):
         self.assertEqual(self.assert_lawful(b"".join(lines)), 8)
 
     def test_numbers_out_of_range(self) -> None:
-        opened = [(0, 1, 1), (33, 1, 1), (1, 0, 1), (1, 33, 1), (1, 1, 4097), (-1, 1, 1), (2**32 + 1, 1, 1), (1, 2**32 + 1, 1), (1, 1, 2**32)]
+        opened = [(0, 1, 1), (257, 1, 1), (1, 0, 1), (1, 257, 1), (1, 1, 65537), (-1, 1, 1), (2**32 + 1, 1, 1), (1, 2**32 + 1, 1), (1, 1, 2**32)]
         self.assert_refused(BadNumber, [lambda numbers=numbers: Service(*numbers) for numbers in opened])
         self.assert_refused(BadNumber, [lambda: Service(1, 1, keeping=-1), lambda: Service(1, 1, keeping=2**64)])
         service = self.service()

@@ -54,10 +54,10 @@ static void check_numbers(void) {
     static const uint32_t falling[2] = {1, 0}, same[2] = {1, 1};
     wakhurmi_service *other = NULL;
     EXPECT(BAD_NUMBER, wakhurmi_open(0, 1, 1, &other));
-    EXPECT(BAD_NUMBER, wakhurmi_open(33, 1, 1, &other));
+    EXPECT(BAD_NUMBER, wakhurmi_open(257, 1, 1, &other));
     EXPECT(BAD_NUMBER, wakhurmi_open(1, 0, 1, &other));
-    EXPECT(BAD_NUMBER, wakhurmi_open(1, 33, 1, &other));
-    EXPECT(BAD_NUMBER, wakhurmi_open(1, 1, 4097, &other));
+    EXPECT(BAD_NUMBER, wakhurmi_open(1, 257, 1, &other));
+    EXPECT(BAD_NUMBER, wakhurmi_open(1, 1, 65537, &other));
     demand(other == NULL, "nothing is written where nothing is opened");
     open_service(3);
     EXPECT(BAD_NUMBER, wakhurmi_take(service, 3, NULL, 0));
@@ -65,6 +65,20 @@ static void check_numbers(void) {
     EXPECT(BAD_NUMBER, wakhurmi_take(service, 0, falling, 2));
     EXPECT(BAD_NUMBER, wakhurmi_try_take(service, 0, same, 2));
     EXPECT(BAD_NUMBER, wakhurmi_take(service, 0, high, 1));
+    close_ended();
+}
+
+/* As many workers, leases and locks as may be. */
+static void check_limits(void) {
+    static const uint32_t last[1] = {65535}, behind[1] = {65536};
+    EXPECT(OK, wakhurmi_open(256, 256, 65536, &service));
+    EXPECT(OK, wakhurmi_take(service, 255, last, 1));
+    EXPECT(BUSY, wakhurmi_try_take(service, 0, last, 1));
+    EXPECT(BAD_NUMBER, wakhurmi_take(service, 0, behind, 1));
+    EXPECT(BAD_NUMBER, wakhurmi_take(service, 256, NULL, 0));
+    EXPECT(OK, wakhurmi_enter(service, 255));
+    EXPECT(OK, wakhurmi_leave(service, 255));
+    EXPECT(OK, wakhurmi_hand_back(service, 255));
     close_ended();
 }
 
@@ -433,6 +447,7 @@ int main(void) {
     // Where a call hangs, nobody else would end this.
     alarm(LIMIT);
     check_numbers();
+    check_limits();
     check_places();
     check_null_pointers();
     check_worker_in_a_call();

@@ -125,7 +125,7 @@ static void check_misuse(void) {
     EXPECT(MISUSED, wakhurmi_take_history(NULL, &part));
     EXPECT(MISUSED, wakhurmi_part_text(NULL, &place, buffer, sizeof buffer, &written));
     EXPECT(MISUSED, wakhurmi_open_keeping(1, 1, 1, 0, NULL));
-    EXPECT(BAD_NUMBER, wakhurmi_open_keeping(33, 1, 1, 0, &service));
+    EXPECT(BAD_NUMBER, wakhurmi_open_keeping(257, 1, 1, 0, &service));
     wakhurmi_close_part(NULL);
     EXPECT(OK, wakhurmi_open(2, MOST, LOCKS, &service));
     EXPECT(MISUSED, wakhurmi_take_history(service, NULL));

@@ -7,7 +7,7 @@ ghost use Rattle.async_tracker.specs.NextSteps.{kind_of_step, task_of_step};
 
 use lock_transforms::kinds::{Skip, Start};
 use lock_transforms::{Disposition, Kind, Tentative, Transform};
-use resource_lock::{Graph, State, WorkerId};
+use resource_lock::{Graph, LockId, State, WorkerId};
 
 /// Starts or skips a task.
 #[derive(Clone, Copy, Drop)]
@@ -43,10 +43,10 @@ impl Transform for TaskStep {
         }
     }
 
-    fn apply(&self, work: &mut Tentative) -> Disposition {
+    fn apply(&self, work: &mut Tentative, own: &[LockId]) -> Disposition {
         match *self {
-            TaskStep::Start(task) => Start { task }.apply(work),
-            TaskStep::Skip(task) => Skip { task }.apply(work),
+            TaskStep::Start(task) => Start { task }.apply(work, own),
+            TaskStep::Skip(task) => Skip { task }.apply(work, own),
         }
     }
 

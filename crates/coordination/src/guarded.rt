@@ -17,7 +17,7 @@ use crate::turns::Came;
 use history_views::Reach;
 use lock_journal::{Book, Segment};
 use lock_transforms::{Disposition, Transform};
-use resource_lock::WorkerId;
+use resource_lock::{LockId, WorkerId};
 use std::alloc::{AllocError, Global};
 use worker_choices::Awaited;
 
@@ -76,9 +76,10 @@ impl<O: Offers, K: Keeper> Keeper for Guarded<O, K> {
     fn run<T: Transform>(
         &mut self,
         worker: WorkerId,
+        own: &[LockId],
         transform: &T,
     ) -> Result<Disposition, AllocError> {
-        self.keeper.run(worker, transform)
+        self.keeper.run(worker, own, transform)
     }
 
     #[inline]

@@ -12,7 +12,7 @@ use crate::boxed_books::BoxedBook;
 use history_views::{Reach, ShownBook};
 use lock_journal::{Book, Segment};
 use lock_transforms::{Disposition, Transform};
-use resource_lock::WorkerId;
+use resource_lock::{LockId, WorkerId};
 use std::alloc::AllocError;
 use std::marker::Model;
 use std::sync::Wait;
@@ -32,11 +32,12 @@ pub trait Keeper: Drop {
     fn book(&self) -> &Book
         ensures { result.now ≡ book_of self.now };
 
-    /// Runs a transform for a worker (`Book::run`), and shows its entry where it shows the history. It fails for want of memory
+    /// Runs a transform for a worker, whose locks `own` may name (`Book::run`), and shows its entry where it shows the history. It fails for want of memory
     /// alone: graph, state and history are then as before.
     fn run<T: Transform>(
         &mut self,
         worker: WorkerId,
+        own: &[LockId],
         transform: &T,
     ) -> Result<Disposition, AllocError>
         requires { worker.0 < (book_of self.old).graph.workers }
@@ -90,9 +91,10 @@ impl Keeper for BoxedBook {
     fn run<T: Transform>(
         &mut self,
         worker: WorkerId,
+        own: &[LockId],
         transform: &T,
     ) -> Result<Disposition, AllocError> {
-        self.inner.run(worker, transform)
+        self.inner.run(worker, own, transform)
     }
 
     #[inline]
@@ -124,9 +126,10 @@ impl<R: Wait + Drop> Keeper for ShownBook<R> {
     fn run<T: Transform>(
         &mut self,
         worker: WorkerId,
+        own: &[LockId],
         transform: &T,
     ) -> Result<Disposition, AllocError> {
-        self.run(worker, transform)
+        self.run(worker, own, transform)
     }
 
     #[inline]

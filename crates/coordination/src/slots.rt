@@ -246,7 +246,7 @@ pub(crate) fn run_on<K: Keeper, T: Transform>(
     ensures run { HasRun (T.kind_of transform.now) (T.makes transform.now) (T.fails_on transform.now)
         (T.retries_on transform.now) worker (K.book_of keeper.old) (K.book_of keeper.new) notes.new.part sleepers.old sleepers.new result }
 {
-    let ran = keeper.run(worker, transform);
+    let ran = keeper.run(worker, &notes.part.locks, transform);
     let book = keeper.book();
     notes.part.follow(worker, book, &ran);
     let wakes = sleepers.end_transform(book, worker, transform.kind(), &ran);

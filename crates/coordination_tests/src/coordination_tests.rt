@@ -51,8 +51,8 @@ impl Transform for Await {
         self.start.most_changes(graph, state, worker)
     }
 
-    fn apply(&self, work: &mut Tentative) -> Disposition {
-        match self.start.apply(work) {
+    fn apply(&self, work: &mut Tentative, own: &[LockId]) -> Disposition {
+        match self.start.apply(work, own) {
             Disposition::Finished => Disposition::Finished,
             Disposition::Failed | Disposition::Retry => Disposition::Retry,
         }
@@ -88,7 +88,7 @@ impl Transform for TryStart {
         self.wait.most_changes(graph, state, worker)
     }
 
-    fn apply(&self, work: &mut Tentative) -> Disposition {
+    fn apply(&self, work: &mut Tentative, own: &[LockId]) -> Disposition {
         let in_range = (self.wait.start.task as usize) < work.graph().tasks().len();
         if in_range && self.lock.0 < work.graph().locks() {
             if let Some(owner) = work.state().owner(self.lock) {
@@ -97,7 +97,7 @@ impl Transform for TryStart {
                 }
             }
         }
-        self.wait.apply(work)
+        self.wait.apply(work, own)
     }
 
     fn waits_for_news(&self) {}
@@ -193,7 +193,7 @@ impl Transform for FailAtOnce {
         0
     }
 
-    fn apply(&self, _work: &mut Tentative) -> Disposition {
+    fn apply(&self, _work: &mut Tentative, _own: &[LockId]) -> Disposition {
         Disposition::Failed
     }
 

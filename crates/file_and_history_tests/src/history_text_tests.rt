@@ -37,7 +37,7 @@ fn finishes<T: Transform>(book: &mut Book, worker: u32, transform: &T) -> bool
 {
     worker < book.graph().workers()
         && matches!(
-            book.run(WorkerId(worker), transform),
+            book.run(WorkerId(worker), &[], transform),
             Ok(Disposition::Finished)
         )
 }

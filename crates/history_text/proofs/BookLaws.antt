@@ -14,6 +14,7 @@ use Rattle.resource_lock.proofs.lemmas.Units.{few_actions_in_all}
 use Rattle.lock_transforms.specs.Entry.{Entry, effect, changed}
 use Rattle.lock_transforms.specs.Allowed.{IsKindOf, Finishes, Allowed, lawful_from, Lawful}
 use Rattle.lock_journal.specs.Bounds.{IsFitOutcome, IsFitKind}
+use Rattle.plan_reader.specs.declared.limits.TheConstants.{MAX_LEASES, MAX_WORKERS}
 use Rattle.history_text.specs.Fitting.{MarkFits, ChangeFits, ChangesFit, OutcomeFits, KindFits, EffectFits, EntryFits, EntriesFit, HeadFits}
 use Rattle.history_text.specs.Plain.{LockId, WorkerId, MarkId, TaskOf, ActionOf, UnitOf, Mark, Waiting, Queued, Running, Passed, Failed, Skipped, Change, Lock, Unlock, Take, Give, Move, Park, Unpark, Enter, Leave, Outcome, Number, Digest, NotThere, TooLong, Fault, NoMemory, NotRun, Closed, Kind, Start, Skip, Submit, ParkFor, Resume, Claim, Close, Block, Unblock, End, Acquire, HandBack}
 
@@ -102,5 +103,6 @@ entries_fit g s (e ∷ es) fits belongs lawful fit = (
 pub history_fits : (g : GraphView) (es : List Entry) → Fits g → Lawful g es → All (λ e. IsFitKind e.kind) es → EntriesFit es
 history_fits g es fits lawful fit = entries_fit g (opening_of g) es fits (belongs_opening g) lawful (recursion_from_All (λ e. IsFitKind e.kind) es fit)
 
-pub head_fits : (g : GraphView) → Fits g → HeadFits g.workers g.max_leases (Some g.locks)
-head_fits g fits = record { some_worker = fits.some_worker; few_workers = omega (arith, fits.few_workers); some_lease = fits.some_lease; few_leases = omega (arith, fits.few_leases); few_locks = omega (arith, fits.few_locks) }
+-- a graph may have more workers and leases than a head names
+pub head_fits : (g : GraphView) → Fits g → g.workers ≤ MAX_WORKERS → g.max_leases ≤ MAX_LEASES → HeadFits g.workers g.max_leases (Some g.locks)
+head_fits g fits few_workers few_leases = record { some_worker = fits.some_worker; few_workers = few_workers; some_lease = fits.some_lease; few_leases = few_leases; few_locks = omega (arith, fits.few_locks) }

@@ -11,7 +11,7 @@ use crate::stages::Stage;
 use crate::views::View;
 use lock_journal::Book;
 use lock_transforms::{Disposition, Transform};
-use resource_lock::WorkerId;
+use resource_lock::{LockId, WorkerId};
 use std::alloc::{AllocError, Global};
 use std::marker::Model;
 use std::sync::Wait;
@@ -109,6 +109,7 @@ impl<R: Wait + Drop> ShownBook<R> {
     pub fn run<T: Transform>(
         &mut self,
         worker: WorkerId,
+        own: &[LockId],
         transform: &T,
     ) -> Result<Disposition, AllocError>
         requires { worker.0 < self.old.book.graph.workers }
@@ -126,7 +127,7 @@ impl<R: Wait + Drop> ShownBook<R> {
     {
         // Of the state, that the history before the transform is lawful.
         let _ = self.book.state();
-        let ran = self.book.run(worker, transform)?;
+        let ran = self.book.run(worker, own, transform)?;
         match ran {
             Disposition::Finished | Disposition::Failed => {
                 if !show_last(&mut self.book, &mut self.stage) {

@@ -57,6 +57,7 @@ fn take<R: Wait + Drop>(
     let shortage = Shortage::Fails;
     shown.run(
         worker,
+        &[],
         &Acquire {
             locks: &locks,
             shortage,
@@ -74,7 +75,7 @@ fn hand_back<R: Wait + Drop>(
     if worker.0 >= shown.book().graph().workers() {
         return Ok(Disposition::Retry);
     }
-    shown.run(worker, &HandBack)
+    shown.run(worker, &[], &HandBack)
 }
 
 /// The view learns how far the history of the book has come.

@@ -6,6 +6,7 @@ use Rattle.std.proofs.lemmas.List.Elements.{All-nil, All-cons}
 use Rattle.resource_lock.specs.declared.graphs.Retention.{Retention}
 use Rattle.resource_lock.specs.declared.graphs.Retention.TheVariants.{Retain, Release, ReleaseAndReacquire}
 use Rattle.resource_lock.specs.declared.ids.WorkerId.{WorkerId}
+use Rattle.resource_lock.specs.declared.limits.TheConstants.{MAX_ACTIONS_PER_TASK, MAX_AFTER, MAX_UNITS}
 use Rattle.resource_lock.specs.declared.marks.Mark.TheVariants.{Passed, Failed, Skipped}
 use Rattle.resource_lock.specs.Change.{can_all, NamesOnly}
 use Rattle.resource_lock.specs.Fits.{Fits}
@@ -33,8 +34,8 @@ one_task_fits retention fetch items some few = record {
   all_within = tt;
   few_tasks = omega arith;
   few_units = bounded fetch;
-  few_actions = one (λ t. t.actions ≤ 8) _ (omega arith);
-  few_after = one (λ t. length t.after ≤ 64) _ (omega arith);
+  few_actions = one (λ t. t.actions ≤ MAX_ACTIONS_PER_TASK) _ (omega arith);
+  few_after = one (λ t. length t.after ≤ MAX_AFTER) _ (omega arith);
   locks_within = one (λ t. t.lock.0 < 1) _ (omega arith);
   after_within = one (λ t. All (λ p. p < 1) t.after) _ (All-nil (λ p. p < 1));
   actions_follow = (refl, refl);
@@ -43,7 +44,7 @@ one_task_fits retention fetch items some few = record {
   some_item = one (λ a. 0 < a.items) _ some;
 }
   where
-    bounded : (b : Bool) → (one_task retention b items).units ≤ 8192
+    bounded : (b : Bool) → (one_task retention b items).units ≤ MAX_UNITS
     bounded true = omega arith
     bounded false = omega arith
 
@@ -140,8 +141,8 @@ two_tasks_fit = record {
   all_within = tt;
   few_tasks = omega arith;
   few_units = omega arith;
-  few_actions = two (λ t. t.actions ≤ 8) _ _ (omega arith) (omega arith);
-  few_after = two (λ t. length t.after ≤ 64) _ _ (omega arith) (omega arith);
+  few_actions = two (λ t. t.actions ≤ MAX_ACTIONS_PER_TASK) _ _ (omega arith) (omega arith);
+  few_after = two (λ t. length t.after ≤ MAX_AFTER) _ _ (omega arith) (omega arith);
   locks_within = two (λ t. t.lock.0 < 1) _ _ (omega arith) (omega arith);
   after_within = two (λ t. All (λ p. p < 2) t.after) _ _ (All-nil (λ p. p < 2)) (one (λ p. p < 2) 0 (omega arith));
   actions_follow = (refl, (refl, refl));
@@ -180,8 +181,8 @@ one_task_of_all_fits = record {
   all_within = omega arith;
   few_tasks = omega arith;
   few_units = omega arith;
-  few_actions = one (λ t. t.actions ≤ 8) _ (omega arith);
-  few_after = one (λ t. length t.after ≤ 64) _ (omega arith);
+  few_actions = one (λ t. t.actions ≤ MAX_ACTIONS_PER_TASK) _ (omega arith);
+  few_after = one (λ t. length t.after ≤ MAX_AFTER) _ (omega arith);
   locks_within = one (λ t. t.lock.0 < 2) _ (omega arith);
   after_within = one (λ t. All (λ p. p < 1) t.after) _ (All-nil (λ p. p < 1));
   actions_follow = (refl, refl);

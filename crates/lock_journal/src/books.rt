@@ -25,7 +25,7 @@ use item_actions::Outcome;
 use lock_transforms::kinds::room_for_any;
 use lock_transforms::{Disposition, Tentative, Transform};
 use ready_work::ReadyWork;
-use resource_lock::{Change, Graph, Mark, MarkId, State, WorkerId};
+use resource_lock::{Change, Graph, LockId, Mark, MarkId, State, WorkerId};
 use std::alloc::{AllocError, Global};
 use std::marker::Model;
 
@@ -229,12 +229,16 @@ impl Book {
 
     /// Runs a transform for a worker. It happens whole, or leaves the state as it was.
     ///
+    /// `own` are the locks that the worker owns, by rising number, as its pass shows them. It may be empty: what the run comes to doesn't depend
+    /// on it. But without them a transform that gives back all locks looks at each of the graph.
+    ///
     /// Where it finishes or fails, the history has one more entry. Memory is taken first: the call
     /// fails for want of it, and only where there isn't room for one entry and for the most changes
     /// that the transform makes. Then it wasn't run, and the state and the history are as before.
     pub fn run<T: Transform>(
         &mut self,
         worker: WorkerId,
+        own: &[LockId],
         transform: &T,
     ) -> Result<Disposition, AllocError>
         requires { worker.0 < self.old.graph.workers }
@@ -256,7 +260,7 @@ impl Book {
         let _ = self.len();
         let most = transform.most_changes(self.graph(), self.state(), worker);
         self.reserve(1, most)?;
-        let disposition = self.tentative.attempt(worker, transform);
+        let disposition = self.tentative.attempt(worker, own, transform);
         match disposition {
             Disposition::Finished => {
                 self.history

@@ -156,6 +156,31 @@ room_freed {a} {b} parks n within front room =
     ∙ length-append (freed parks (owned_below a.state a.worker (n + 1))) (freed parks rest) in
     omega (arith, front.room, front.few)
 
+-- ---- locks that are named, given back one after another
+
+named_next : (parks : Bool) (ls : List LockId) (i : ℕ) (d : LockId) → i < length ls → freed parks (take (i + 1) ls) ≡ freed parks (take i ls) ++ freed parks (get_or ls i d ∷ [])
+named_next parks ls i d within = ap (freed parks) (take_more ls i d within) ∙ freed-append parks (take i ls) (get_or ls i d ∷ [])
+
+named_split : (parks : Bool) (ls : List LockId) (i : ℕ) → freed parks ls ≡ freed parks (take i ls) ++ freed parks (drop i ls)
+named_split parks ls i = ap (freed parks) (sym (take-append-drop i ls)) ∙ freed-append parks (take i ls) (drop i ls)
+
+pub next_named : {a b c : TentativeView} {all : Bool} (parks : Bool) (ls : List LockId) (i : ℕ) (d : LockId) → i < length ls → Makes a b (freed parks (take i ls)) true
+    → Makes b c (freed parks (get_or ls i d ∷ [])) all → Makes a c (freed parks (take (i + 1) ls)) all
+next_named {a} {b} {c} {all} parks ls i d within front next = subst (λ (cs : List Change). Makes a c cs all) (sym (named_next parks ls i d within)) (makes_then front next)
+
+pub stopped_named : {a b : TentativeView} (parks : Bool) (ls : List LockId) (i : ℕ) → Makes a b (freed parks (take i ls)) false → Makes a b (freed parks ls) false
+stopped_named {a} {b} parks ls i front = subst (λ (cs : List Change). Makes a b cs false) (sym (named_split parks ls i)) (makes_stopped (freed parks (drop i ls)) front)
+
+-- there is room for one more of them
+pub room_named : {a b : TentativeView} (parks : Bool) (ls : List LockId) (i : ℕ) (d : LockId) → i < length ls → Makes a b (freed parks (take i ls)) true → length (freed parks ls) ≤ a.room
+    → length (freed parks (get_or ls i d ∷ [])) ≤ b.room
+room_named {a} {b} parks ls i d within front room =
+    let first : length (freed parks (take (i + 1) ls)) ≡ length (freed parks (take i ls)) + length (freed parks (get_or ls i d ∷ [])) =
+    ap length (named_next parks ls i d within) ∙ length-append (freed parks (take i ls)) (freed parks (get_or ls i d ∷ [])) in
+    let all : length (freed parks ls) ≡ length (freed parks (take (i + 1) ls)) + length (freed parks (drop (i + 1) ls)) =
+    ap length (named_split parks ls (i + 1)) ∙ length-append (freed parks (take (i + 1) ls)) (freed parks (drop (i + 1) ls)) in
+    omega (arith, front.room, front.few)
+
 -- giving back the lease, where there is one
 abbrev pub lease_given : StateView → WorkerId → List Change
 lease_given s w = cond (holding_of s w).lease (Give ∷ []) []

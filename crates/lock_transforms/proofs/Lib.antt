@@ -5,6 +5,7 @@ pub mod Skipped
 pub mod NoMore
 pub mod Taken
 pub mod Freed
+pub mod Named
 pub mod TakenUp
 pub mod SetDown
 pub mod Most

@@ -180,8 +180,14 @@ impl Tentative {
         self.made.try_reserve(changes)
     }
 
-    /// Applies a transform for a worker, and takes its changes back unless it finished.
-    pub fn attempt<T: Transform>(&mut self, worker: WorkerId, transform: &T) -> Disposition
+    /// Applies a transform for a worker, and takes its changes back unless it finished. `own` may name the worker's locks
+    /// (`Transform::apply`).
+    pub fn attempt<T: Transform>(
+        &mut self,
+        worker: WorkerId,
+        own: &[LockId],
+        transform: &T,
+    ) -> Disposition
         requires worker_in_range { worker.0 < self.old.graph.workers }
         requires fresh { self.old.made ≡ [] }
         requires room { T.most transform.now self.old.graph worker self.old.state ≤ self.old.room }
@@ -203,7 +209,7 @@ impl Tentative {
             → T.retries_on transform.now self.old.graph worker self.old.state }
     {
         self.worker = worker;
-        let disposition = transform.apply(self);
+        let disposition = transform.apply(self, own);
         match disposition {
             Disposition::Finished => {}
             Disposition::Failed | Disposition::Retry => self.undo(),

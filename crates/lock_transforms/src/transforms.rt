@@ -13,7 +13,7 @@ ghost use Rattle.lock_transforms.specs.GoingOn.{WaitsForNews};
 
 use crate::entries::Kind;
 use crate::tentatives::Tentative;
-use resource_lock::{Graph, State, WorkerId};
+use resource_lock::{Graph, LockId, State, WorkerId};
 
 /// How a transform ended.
 #[derive(Clone, Copy)]
@@ -55,7 +55,10 @@ pub trait Transform {
         ensures { result ≡ most self.now graph.now worker state.now };
 
     /// Makes its changes. Those of a transform that doesn't finish are taken back by its caller.
-    fn apply(&self, work: &mut Tentative) -> Disposition
+    ///
+    /// `own` are the locks that the worker owns, by rising number, where the caller has them at hand. What they name is tested: with other locks,
+    /// or none, it makes the same changes, and may look at each lock of the graph for that.
+    fn apply(&self, work: &mut Tentative, own: &[LockId]) -> Disposition
         requires fresh { work.old.made ≡ [] }
         requires room { most self.now work.old.graph work.old.worker work.old.state ≤ work.old.room }
         ensures worked { Worked work.old work.new }

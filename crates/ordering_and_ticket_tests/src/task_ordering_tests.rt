@@ -233,7 +233,7 @@ fn finishes<T: Transform>(book: &mut Book, transform: &T) -> Result<bool, AllocE
     if book.graph().workers() == 0 {
         return Ok(false);
     }
-    Ok(book.run(WorkerId(0), transform)? == Disposition::Finished)
+    Ok(book.run(WorkerId(0), &[], transform)? == Disposition::Finished)
 }
 
 /// A task without actions, whose project has the only lock.

@@ -1,7 +1,6 @@
 -- Ranges one behind the other.
 use Rattle.std.proofs.Common.{◌≡◌, ℕ, ◌+◌, ◌-◌, ◌<◌, ◌≤◌, List, [], ◌∷◌, length, map, get_or, sym, ◌∙◌, ap, arith, zero, suc, Some, inl, inr}
-use Rattle.std.specs.List.{sum_by, slice_get}
-use Rattle.std.proofs.lemmas.List.Sums.{sum_by-cons}
+use Rattle.std.specs.List.{slice_get}
 use Rattle.std.proofs.lemmas.Option.{slice_get_within, get_or_from_slice_get}
 use Rattle.std.specs.List.Sorted.{IsNonDecreasingBy}
 use Rattle.std.proofs.lemmas.Bool.{cases_eq}
@@ -15,11 +14,6 @@ follow_of_map f first count n (x ∷ xs) stop h = (h.0, follow_of_map f first co
 pub follow_from_map : {X Y : Type 0} (f : X → Y) (first count : Y → ℕ) (n : ℕ) (xs : List X) (stop : ℕ) → Follow first count n (map f xs) stop → Follow (λ x. first (f x)) (λ x. count (f x)) n xs stop
 follow_from_map f first count n [] stop h = h
 follow_from_map f first count n (x ∷ xs) stop h = (h.0, follow_from_map f first count (n + count (f x)) xs stop h.1)
-
--- the ranges end where their lengths come to
-pub stop_is : {X : Type 0} (first count : X → ℕ) (n : ℕ) (xs : List X) (stop : ℕ) → Follow first count n xs stop → stop ≡ n + sum_by count xs
-stop_is first count n [] stop h = omega (arith, h)
-stop_is first count n (x ∷ xs) stop h = omega (arith, stop_is first count (n + count x) xs stop h.1, sum_by-cons count x xs)
 
 -- the last range ends at the stop
 pub last_range_at : {X : Type 0} (first count : X → ℕ) (n : ℕ) (xs : List X) (stop i : ℕ) (d : X) → Follow first count n xs stop → i + 1 ≡ length xs → first (get_or xs i d) + count (get_or xs i d) ≡ stop

@@ -16,11 +16,10 @@ use crate::limits::{
 impl Graph {
     /// Whether a graph can be made of these, in time linear in them and without memory.
     ///
-    /// It can where there are 1 to 32 workers, leases from 1 to 32, at most 4,096 locks, 2,048 tasks,
-    /// 8 actions a task, 64 tasks in one `after` and 8,192 units; where each lock and each task in an
-    /// `after` is there, and the all-projects lock `all`, if one is given; where the tasks' actions are ranges that follow one another over all actions,
-    /// and each action's `task` is the one whose range has it; and where the actions' units are ranges
-    /// that follow one another from 0, each with at least one item.
+    /// It can where there are 1 to `MAX_WORKERS` workers, 1 to `MAX_LEASES` leases, and no more than the other limits say of locks, tasks,
+    /// actions of one task, tasks in one `after`, and units; where each lock and each task in an `after` is there, and the all-projects lock
+    /// `all`, if one is given; where the tasks' actions are ranges that follow one another over all actions, and each action's `task` is the
+    /// one whose range has it; and where the actions' units are ranges that follow one another from 0, each with at least one item.
     pub fn fits(
         locks: u32,
         all: Option<LockId>,

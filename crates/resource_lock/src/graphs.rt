@@ -149,7 +149,7 @@ impl Graph {
         }
     }
 
-    /// How many locks there are, at most 4,096.
+    /// How many locks there are, at most `MAX_LOCKS`.
     pub fn locks(&self) -> u32
         ensures { result ≡ self.now.locks }
     {
@@ -163,28 +163,28 @@ impl Graph {
         self.all
     }
 
-    /// How many workers there are, from 1 to 32.
+    /// How many workers there are, from 1 to `MAX_WORKERS`.
     pub fn workers(&self) -> u32
         ensures { result ≡ self.now.workers }
     {
         self.workers
     }
 
-    /// How many leases may be out at once, from 1 to 32.
+    /// How many leases may be out at once, from 1 to `MAX_LEASES`.
     pub fn max_leases(&self) -> u32
         ensures { result ≡ self.now.max_leases }
     {
         self.max_leases
     }
 
-    /// How many units there are, at most 8,192.
+    /// How many units there are, at most `MAX_UNITS`.
     pub fn units(&self) -> u32
         ensures { result ≡ self.now.units }
     {
         self.units
     }
 
-    /// The tasks by number, at most 2,048.
+    /// The tasks by number, at most `MAX_TASKS`.
     pub fn tasks(&self) -> &[GraphTask]
         ensures value { map graph_view result.now ≡ self.now.tasks }
         ensures fits { Fits self.now }
@@ -192,7 +192,7 @@ impl Graph {
         &self.tasks
     }
 
-    /// The actions by number, at most 8 a task.
+    /// The actions by number, at most `MAX_ACTIONS_PER_TASK` a task, and no more than units.
     pub fn actions(&self) -> &[GraphAction]
         ensures value { result.now ≡ self.now.actions }
         ensures fits { Fits self.now }

@@ -49,7 +49,7 @@ impl Transform for TakeUses<'_> {
         self.asked.len() as u64 + 1
     }
 
-    fn apply(&self, work: &mut Tentative) -> Disposition {
+    fn apply(&self, work: &mut Tentative, own: &[LockId]) -> Disposition {
         if !has_the_locks(work.graph(), self.table) || !has_nothing(work) {
             return Disposition::Retry;
         }
@@ -64,7 +64,7 @@ impl Transform for TakeUses<'_> {
             locks: &chosen[..self.asked.len()],
             shortage: self.shortage,
         };
-        acquire.apply(work)
+        acquire.apply(work, own)
     }
 
     fn waits_for_news(&self) {

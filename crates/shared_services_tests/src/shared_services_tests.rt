@@ -50,7 +50,7 @@ fn finishes<T: Transform>(book: &mut Book, worker: u32, transform: &T) -> Result
     if worker >= book.graph().workers() {
         return Ok(false);
     }
-    let disposition = book.run(WorkerId(worker), transform)?;
+    let disposition = book.run(WorkerId(worker), &[], transform)?;
     Ok(matches!(disposition, Disposition::Finished))
 }
 

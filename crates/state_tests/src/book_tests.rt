@@ -70,28 +70,29 @@ pub(crate) fn run(
         return Ok(Disposition::Retry);
     }
     match kind {
-        Kind::Start(task) => book.run(worker, &Start { task }),
-        Kind::Skip(task) => book.run(worker, &Skip { task }),
-        Kind::Submit(action) => book.run(worker, &Submit { action }),
-        Kind::Park(action) => book.run(worker, &Park { action }),
-        Kind::Resume(action) => book.run(worker, &Resume { action }),
-        Kind::Claim(unit) => book.run(worker, &Claim { unit }),
-        Kind::Close(closed) => book.run(worker, &Close { closed }),
-        Kind::Block(unit) => book.run(worker, &Block { unit }),
-        Kind::Unblock(closed) => book.run(worker, &Unblock { closed }),
-        Kind::End(task) => book.run(worker, &End { task }),
+        Kind::Start(task) => book.run(worker, &[], &Start { task }),
+        Kind::Skip(task) => book.run(worker, &[], &Skip { task }),
+        Kind::Submit(action) => book.run(worker, &[], &Submit { action }),
+        Kind::Park(action) => book.run(worker, &[], &Park { action }),
+        Kind::Resume(action) => book.run(worker, &[], &Resume { action }),
+        Kind::Claim(unit) => book.run(worker, &[], &Claim { unit }),
+        Kind::Close(closed) => book.run(worker, &[], &Close { closed }),
+        Kind::Block(unit) => book.run(worker, &[], &Block { unit }),
+        Kind::Unblock(closed) => book.run(worker, &[], &Unblock { closed }),
+        Kind::End(task) => book.run(worker, &[], &End { task }),
         Kind::Acquire => {
             let locks = [LockId(0)];
             let shortage = Shortage::Fails;
             book.run(
                 worker,
+                &[],
                 &Acquire {
                     locks: &locks,
                     shortage,
                 },
             )
         }
-        Kind::HandBack => book.run(worker, &HandBack),
+        Kind::HandBack => book.run(worker, &[], &HandBack),
     }
 }
 

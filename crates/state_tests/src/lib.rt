@@ -13,7 +13,11 @@ pub mod graphs;
 #[cfg(test)]
 mod indexed;
 #[cfg(test)]
+mod limit_tests;
+#[cfg(test)]
 mod lock_calls;
+#[cfg(test)]
+mod many_workers_tests;
 #[cfg(test)]
 mod numbers;
 #[cfg(test)]

@@ -9,8 +9,8 @@ use crate::graphs::tasks_of;
 use crate::lock_calls::{give_back, try_for};
 use crate::rows::{Limits, TaskRow};
 use resource_lock::{
-    Change, Graph, GraphAction, LockId, Mark, MarkId, Retention, State, WorkerId,
-    retentions_have_words_of_their_own,
+    Change, Graph, GraphAction, LockId, MAX_LEASES, MAX_LOCKS, MAX_WORKERS, Mark, MarkId,
+    Retention, State, WorkerId, retentions_have_words_of_their_own,
 };
 use std::alloc::{AllocError, Global};
 use std::process::Abort;
@@ -133,7 +133,7 @@ static UNFIT_LIMITS: [Limits; 7] = [
         ..LIMITS
     },
     Limits {
-        workers: 33,
+        workers: MAX_WORKERS + 1,
         ..LIMITS
     },
     Limits {
@@ -141,12 +141,12 @@ static UNFIT_LIMITS: [Limits; 7] = [
         ..LIMITS
     },
     Limits {
-        max_leases: 33,
+        max_leases: MAX_LEASES + 1,
         ..LIMITS
     },
     Limits { locks: 1, ..LIMITS },
     Limits {
-        locks: 4097,
+        locks: MAX_LOCKS + 1,
         ..LIMITS
     },
     Limits {

@@ -16,7 +16,7 @@ const LIMITS: Limits = Limits {
     max_leases: 1,
 };
 
-/// As many actions as a task has at most.
+/// How many actions a large task has.
 const ACTIONS: u32 = 8;
 
 /// The items of each of them.
@@ -49,7 +49,11 @@ static WHOLE_RUN: [Kind; 7] = [
 ];
 
 // So many actions of the first task, each of which has so many items.
-fn actions_of(alloc: Global, count: u32, items: u32) -> Result<Vec<GraphAction>, AllocError> {
+pub(crate) fn actions_of(
+    alloc: Global,
+    count: u32,
+    items: u32,
+) -> Result<Vec<GraphAction>, AllocError> {
     let mut actions = Vec::new(alloc);
     let mut first_unit = 0u32;
     for _ in 0..count {

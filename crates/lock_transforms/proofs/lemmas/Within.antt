@@ -1,14 +1,14 @@
 -- The ranges of a graph that fits lie within it.
-use Rattle.std.proofs.Common.{◌≡◌, ℕ, zero, suc, ◌+◌, ◌*◌, ◌^◌, ◌<◌, ◌≤◌, List, [], ◌∷◌, length, get_or, map, sym, ◌∙◌, ap, subst, inl, inr, arith, suc-mul}
-use Rattle.std.specs.List.{All, AllByRecursion, range_with_len}
+use Rattle.std.proofs.Common.{◌≡◌, ℕ, zero, suc, ◌+◌, ◌^◌, ◌<◌, ◌≤◌, List, [], ◌∷◌, length, get_or, map, sym, ◌∙◌, ap, subst, inl, inr, arith}
+use Rattle.std.specs.List.{All, range_with_len}
 use Rattle.std.proofs.lemmas.Bool.{cases_lt}
 use Rattle.std.proofs.lemmas.List.{get_or_default, get_or_past, get_or-map, length-map}
-use Rattle.std.proofs.lemmas.List.Elements.{recursion_from_All}
 use Rattle.resource_lock.specs.declared.graphs.GraphTask.{GraphTask}
 use Rattle.resource_lock.specs.declared.graphs.GraphAction.{GraphAction}
 use Rattle.resource_lock.specs.GraphView.{GraphView, GraphTaskView, graph_view, no_task, no_action, task_of, action_of}
 use Rattle.resource_lock.specs.Ranges.{IsIn, IsActionOf, units_in}
 use Rattle.resource_lock.specs.Fits.{Follow, Fits}
+use Rattle.resource_lock.proofs.lemmas.Units.{few_actions_in_all}
 
 stop_follow : {X : Type 0} (first count : X → ℕ) (n : ℕ) (xs : List X) (stop : ℕ) → Follow first count n xs stop → n ≤ stop
 stop_follow first count n [] stop f = omega arith
@@ -29,14 +29,6 @@ meets_follow first count n (x ∷ xs) stop (suc i) d f within =
     let later : suc (i + 1) ≡ suc i + 1 = omega arith in
     subst (λ j. first (get_or xs i d) + count (get_or xs i d) ≡ first (get_or (x ∷ xs) j d)) later (meets_follow first count (n + count x) xs stop i d f.1 (omega arith))
 
--- ranges of at most so many each
-few_follow : {X : Type 0} (first count : X → ℕ) (n most : ℕ) (xs : List X) (stop : ℕ) → AllByRecursion (λ x. count x ≤ most) xs → Follow first count n xs stop → stop ≤ n + length xs * most
-few_follow first count n most [] stop few f = omega arith
-few_follow first count n most (x ∷ xs) stop few f =
-    let rest : stop ≤ n + count x + length xs * most = few_follow first count (n + count x) most xs stop few.1 f.1 in
-    let product : suc (length xs) * most ≡ length xs * most + most = suc-mul (length xs) most in
-    omega (arith, few.0)
-
 pub actions_within : {g : GraphView} → Fits g → (t : ℕ) → t < length g.tasks → (task_of g t).first_action + (task_of g t).actions ≤ length g.actions
 actions_within {g} fits t within = within_follow (λ t. t.first_action) (λ t. t.actions) 0 g.tasks (length g.actions) t no_task fits.actions_follow within
 
@@ -45,11 +37,6 @@ units_within {g} fits a within = within_follow (λ a. a.first_unit) units_in 0 g
 
 pub units_meet : {g : GraphView} → Fits g → (a : ℕ) → a + 1 < length g.actions → (action_of g a).first_unit + units_in (action_of g a) ≡ (action_of g (a + 1)).first_unit
 units_meet {g} fits a within = meets_follow (λ a. a.first_unit) units_in 0 g.actions g.units a no_action fits.units_follow within
-
-pub few_actions : {g : GraphView} → Fits g → length g.actions ≤ 16384
-few_actions {g} fits =
-    let most : length g.actions ≤ 0 + length g.tasks * 8 = few_follow (λ t. t.first_action) (λ t. t.actions) 0 8 g.tasks (length g.actions) (recursion_from_All (λ t. t.actions ≤ 8) g.tasks fits.few_actions) fits.actions_follow in
-    omega (arith, fits.few_tasks)
 
 -- a task with an action is one of the graph's
 pub task_within : (g : GraphView) (t a : ℕ) → IsActionOf g t a → t < length g.tasks
@@ -65,7 +52,6 @@ pub record IsTaskOf (g : GraphView) (task : GraphTaskView) : Type 0 where
   pub lock : task.lock.0 < g.locks
   pub after : All (λ p. p < length g.tasks) task.after
   pub actions : task.first_action + task.actions ≤ length g.actions
-  pub few : task.actions ≤ 8
   pub fits : task.first_action + task.actions < 2 ^ 32
 
 pub task_fits : {g : GraphView} → Fits g → (t : ℕ) → t < length g.tasks → IsTaskOf g (task_of g t)
@@ -73,8 +59,7 @@ task_fits {g} fits t within = record {
   lock = fits.locks_within t no_task within;
   after = fits.after_within t no_task within;
   actions = actions_within fits t within;
-  few = fits.few_actions t no_task within;
-  fits = omega (arith, actions_within fits t within, few_actions fits);
+  fits = omega (arith, actions_within fits t within, few_actions_in_all g fits);
 }
 
 -- so of one that was read

@@ -55,7 +55,7 @@ impl Transform for Acquire<'_> {
         self.locks.len() as u64 + 1
     }
 
-    fn apply(&self, work: &mut Tentative) -> Disposition {
+    fn apply(&self, work: &mut Tentative, _own: &[LockId]) -> Disposition {
         if !may_acquire(work.graph(), work.state(), work.worker(), self.locks) {
             return Disposition::Retry;
         }

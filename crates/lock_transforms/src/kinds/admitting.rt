@@ -62,7 +62,7 @@ fn make_fixed<K: FixedKind>(work: &mut Tentative, kind: &K, changes: &[Change]) 
     // Of the graph and the state, that the room for any entry is enough.
     let _ = work.graph();
     let _ = work.state();
-    match run_fixed(kind, work) {
+    match run_fixed(kind, work, &[]) {
         Progress::Made => are_same(work.made(), changes),
         Progress::NotEnabled | Progress::OutOfRange => false,
     }

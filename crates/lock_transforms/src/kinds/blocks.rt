@@ -23,10 +23,11 @@ use crate::kinds::most::owned_count;
 use crate::kinds::ranges::action_of;
 use crate::tentatives::Tentative;
 use crate::transforms::{Disposition, Transform};
-use resource_lock::{Change, Graph, Mark, MarkId, State, WorkerId};
+use resource_lock::{Change, Graph, LockId, Mark, MarkId, State, WorkerId};
 
 /// Enters a blocking section: the worker gives back its lease and all its locks, which it parks by
-/// rising number, and is blocked then. Where it is for a fetch, the fetch's mark becomes Running.
+/// rising number, and is blocked then. Where it is for a fetch, the fetch's mark becomes Running. It looks at other locks as
+/// `HandBack` does.
 ///
 /// It never fails. Without a fetch it asks to be run again where the worker has no lease or runs a
 /// unit. With one it does where the unit isn't a fetch, where the worker doesn't work on its task,
@@ -57,8 +58,8 @@ impl Transform for Block {
         3 + 2 * owned_count(graph, state, worker)
     }
 
-    fn apply(&self, work: &mut Tentative) -> Disposition {
-        finish_or_retry(self, work)
+    fn apply(&self, work: &mut Tentative, own: &[LockId]) -> Disposition {
+        finish_or_retry(self, work, own)
     }
 
     fn waits_for_news(&self) {}
@@ -81,16 +82,16 @@ impl FixedKind for Block {
         }
     }
 
-    fn make(&self, work: &mut Tentative) -> bool {
+    fn make(&self, work: &mut Tentative, own: &[LockId]) -> bool {
         match self.unit {
-            Some(unit) => begin_fetch(work, unit),
-            None => set_down(work),
+            Some(unit) => begin_fetch(work, unit, own),
+            None => set_down(work, own),
         }
     }
 }
 
 // Moves a fetch's mark from Waiting to Running, and sets down the lease and the locks. The mark comes first here, and last in Unblock.
-fn begin_fetch(work: &mut Tentative, unit: u32) -> bool
+fn begin_fetch(work: &mut Tentative, unit: u32, own: &[LockId]) -> bool
     requires belongs { BelongsTo work.old.graph work.old.state }
     requires in_range { unit < work.old.graph.units }
     requires room { 3 + 2 * length (owned work.old.state work.old.worker) ≤ work.old.room }
@@ -104,11 +105,11 @@ fn begin_fetch(work: &mut Tentative, unit: u32) -> bool
     ) {
         return false;
     }
-    set_down(work)
+    set_down(work, own)
 }
 
 // Gives the lease back, gives back and parks each lock by rising number, and enters.
-fn set_down(work: &mut Tentative) -> bool
+fn set_down(work: &mut Tentative, own: &[LockId]) -> bool
     requires belongs { BelongsTo work.old.graph work.old.state }
     requires room { 2 + 2 * length (owned work.old.state work.old.worker) ≤ work.old.room }
     ensures { Makes work.old work.new (set_down work.old.state work.old.worker) result }
@@ -116,7 +117,7 @@ fn set_down(work: &mut Tentative) -> bool
     if !try_change(work, Change::Give) {
         return false;
     }
-    if !free_locks(work, true) {
+    if !free_locks(work, own, true) {
         return false;
     }
     try_change(work, Change::Enter)

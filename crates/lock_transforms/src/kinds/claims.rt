@@ -13,7 +13,7 @@ use crate::kinds::fixed::{FixedKind, finish_or_retry};
 use crate::kinds::making::try_change;
 use crate::tentatives::Tentative;
 use crate::transforms::{Disposition, Transform};
-use resource_lock::{Change, Graph, Mark, MarkId, State, WorkerId};
+use resource_lock::{Change, Graph, LockId, Mark, MarkId, State, WorkerId};
 
 /// Begins to run a queued item: the worker takes a lease, and the item's mark becomes Running.
 ///
@@ -46,14 +46,14 @@ impl Transform for Claim {
         2
     }
 
-    fn apply(&self, work: &mut Tentative) -> Disposition {
+    fn apply(&self, work: &mut Tentative, own: &[LockId]) -> Disposition {
         if !self.is_in_range(work.graph()) {
             return Disposition::Retry;
         }
         if work.state().mark(MarkId::Unit(self.unit)) != Mark::Queued {
             return Disposition::Failed;
         }
-        finish_or_retry(self, work)
+        finish_or_retry(self, work, own)
     }
 
     fn waits_for_news(&self) {}
@@ -75,7 +75,7 @@ impl FixedKind for Claim {
             && (state.is_parked(worker) || state.is_idle(worker))
     }
 
-    fn make(&self, work: &mut Tentative) -> bool {
+    fn make(&self, work: &mut Tentative, _own: &[LockId]) -> bool {
         let running = Mark::Running(work.worker());
         let moved = Change::Move(MarkId::Unit(self.unit), Mark::Queued, running);
         try_change(work, Change::Take) && try_change(work, moved)

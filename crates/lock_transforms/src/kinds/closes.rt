@@ -12,7 +12,7 @@ use crate::kinds::marks::mark_from;
 use crate::tentatives::Tentative;
 use crate::transforms::{Disposition, Transform};
 use item_actions::Outcome;
-use resource_lock::{Change, Graph, Mark, MarkId, State, WorkerId};
+use resource_lock::{Change, Graph, LockId, Mark, MarkId, State, WorkerId};
 
 /// Ends an item that the worker runs: its mark becomes Passed or Failed by its outcome, and the
 /// worker gives its lease back.
@@ -44,8 +44,8 @@ impl Transform for Close {
         2
     }
 
-    fn apply(&self, work: &mut Tentative) -> Disposition {
-        finish_or_retry(self, work)
+    fn apply(&self, work: &mut Tentative, own: &[LockId]) -> Disposition {
+        finish_or_retry(self, work, own)
     }
 
     fn waits_for_news(&self) {}
@@ -63,7 +63,7 @@ impl FixedKind for Close {
             && state.mark(MarkId::Unit(self.closed.unit)) == Mark::Running(worker)
     }
 
-    fn make(&self, work: &mut Tentative) -> bool {
+    fn make(&self, work: &mut Tentative, _own: &[LockId]) -> bool {
         let unit = MarkId::Unit(self.closed.unit);
         let running = Mark::Running(work.worker());
         let moved = Change::Move(unit, running, mark_from(self.closed.outcome));

@@ -23,7 +23,7 @@ use crate::kinds::ranges::{NumberRange, actions_of, earlier_actions, lock_of, un
 use crate::kinds::skipping::skip_waiting;
 use crate::tentatives::Tentative;
 use crate::transforms::{Disposition, Transform};
-use resource_lock::{Change, Graph, Mark, MarkId, State, WorkerId};
+use resource_lock::{Change, Graph, LockId, Mark, MarkId, State, WorkerId};
 
 /// Ends a task that the worker runs: the actions that never ran are skipped with their units, and
 /// the task's mark becomes Passed, or Failed where one of its units hasn't passed. A worker with a
@@ -60,8 +60,8 @@ impl Transform for End {
         3 + changes_below(graph, self.task)
     }
 
-    fn apply(&self, work: &mut Tentative) -> Disposition {
-        finish_or_retry(self, work)
+    fn apply(&self, work: &mut Tentative, own: &[LockId]) -> Disposition {
+        finish_or_retry(self, work, own)
     }
 
     fn waits_for_news(&self) {}
@@ -83,7 +83,7 @@ impl FixedKind for End {
             && all_through(graph, state, actions)
     }
 
-    fn make(&self, work: &mut Tentative) -> bool {
+    fn make(&self, work: &mut Tentative, _own: &[LockId]) -> bool {
         // Both are of the state before the entry.
         let leased = work.state().has_lease(work.worker());
         let mark = end_mark(work.graph(), work.state(), self.task);

@@ -13,7 +13,7 @@ ghost use Rattle.lock_transforms.specs.declared.entries.Kind.TheVariants as kind
 
 use crate::tentatives::Tentative;
 use crate::transforms::Disposition;
-use resource_lock::{Graph, State, WorkerId};
+use resource_lock::{Graph, LockId, State, WorkerId};
 
 /// A kind of entry whose changes the graph, the state before and the worker fix.
 pub(crate) trait FixedKind {
@@ -32,8 +32,9 @@ pub(crate) trait FixedKind {
         requires worker_in_range { worker.0 < graph.now.workers }
         ensures { result ≡ condition graph.now state.now worker (kind_of self.now) };
 
-    /// Makes its changes, up to the first that can't be made, and answers whether all were.
-    fn make(&self, work: &mut Tentative) -> bool
+    /// Makes its changes, up to the first that can't be made, and answers whether all were. `own` may name the worker's locks
+    /// (`Transform::apply`).
+    fn make(&self, work: &mut Tentative, own: &[LockId]) -> bool
         requires in_range { IsKindOf work.old.graph (kind_of self.now) }
         requires sound { IsSoundTentative work.old }
         requires belongs { BelongsTo work.old.graph work.old.state }
@@ -55,7 +56,7 @@ pub(crate) enum Progress {
 }
 
 /// Makes the changes of an entry where its condition holds, up to the first that can't be made.
-pub(crate) fn run_fixed<K: FixedKind>(kind: &K, work: &mut Tentative) -> Progress
+pub(crate) fn run_fixed<K: FixedKind>(kind: &K, work: &mut Tentative, own: &[LockId]) -> Progress
     requires fresh { work.old.made ≡ [] }
     requires room { most_of work.old.graph work.old.worker work.old.state (K.kind_of kind.now) ≤ work.old.room }
     ensures worked { Worked work.old work.new }
@@ -78,7 +79,7 @@ pub(crate) fn run_fixed<K: FixedKind>(kind: &K, work: &mut Tentative) -> Progres
     if !kind.condition_holds(work.graph(), work.state(), work.worker()) {
         return Progress::NotEnabled;
     }
-    if !kind.make(work) {
+    if !kind.make(work, own) {
         return Progress::NotEnabled;
     }
     Progress::Made
@@ -87,7 +88,11 @@ pub(crate) fn run_fixed<K: FixedKind>(kind: &K, work: &mut Tentative) -> Progres
 /// Applies a kind that never fails: where its changes can't all be made, it asks to be run again.
 // It can't be a default of `Transform`, and no trait of these kinds can stand above `Transform`: a method that leads back to its block
 // isn't proved yet, and a macro that writes blocks is refused. So each of these kinds says its kind in both blocks.
-pub(crate) fn finish_or_retry<K: FixedKind>(kind: &K, work: &mut Tentative) -> Disposition
+pub(crate) fn finish_or_retry<K: FixedKind>(
+    kind: &K,
+    work: &mut Tentative,
+    own: &[LockId],
+) -> Disposition
     requires fresh { work.old.made ≡ [] }
     requires room { most_of work.old.graph work.old.worker work.old.state (K.kind_of kind.now) ≤ work.old.room }
     ensures worked { Worked work.old work.new }
@@ -102,7 +107,7 @@ pub(crate) fn finish_or_retry<K: FixedKind>(kind: &K, work: &mut Tentative) -> D
     ensures sound { result ≡ Disposition.Retry → IsKindOf work.old.graph (K.kind_of kind.now) → IsSoundTentative work.old }
     ensures disabled { result ≡ Disposition.Retry → IsDisabled (K.kind_of kind.now) work.old.graph work.old.worker work.old.state }
 {
-    match run_fixed(kind, work) {
+    match run_fixed(kind, work, own) {
         Progress::Made => Disposition::Finished,
         Progress::NotEnabled | Progress::OutOfRange => Disposition::Retry,
     }

@@ -11,9 +11,10 @@ use crate::kinds::freeing::free_locks;
 use crate::kinds::most::owned_count;
 use crate::tentatives::Tentative;
 use crate::transforms::{Disposition, Transform};
-use resource_lock::{Graph, State, WorkerId};
+use resource_lock::{Graph, LockId, State, WorkerId};
 
-/// Gives back all locks that the worker owns, by rising number, and then its lease, where it has one.
+/// Gives back all locks that the worker owns, by rising number, and then its lease, where it has one. Where its run names these locks, it looks
+/// at no other, and else at each of the graph.
 ///
 /// It never fails. It asks to be run again where the worker has nothing to give back, where it is
 /// blocked, and where it runs anything.
@@ -39,8 +40,8 @@ impl Transform for HandBack {
         1 + owned_count(graph, state, worker)
     }
 
-    fn apply(&self, work: &mut Tentative) -> Disposition {
-        finish_or_retry(self, work)
+    fn apply(&self, work: &mut Tentative, own: &[LockId]) -> Disposition {
+        finish_or_retry(self, work, own)
     }
 
     fn waits_for_news(&self) {}
@@ -59,8 +60,8 @@ impl FixedKind for HandBack {
             && (state.owns_any(worker) || state.has_lease(worker))
     }
 
-    fn make(&self, work: &mut Tentative) -> bool {
-        if !free_locks(work, false) {
+    fn make(&self, work: &mut Tentative, own: &[LockId]) -> bool {
+        if !free_locks(work, own, false) {
             return false;
         }
         work.give();

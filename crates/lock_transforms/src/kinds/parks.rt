@@ -48,8 +48,8 @@ impl Transform for Park {
         4
     }
 
-    fn apply(&self, work: &mut Tentative) -> Disposition {
-        finish_or_retry(self, work)
+    fn apply(&self, work: &mut Tentative, own: &[LockId]) -> Disposition {
+        finish_or_retry(self, work, own)
     }
 
     fn waits_for_news(&self) {}
@@ -67,7 +67,7 @@ impl FixedKind for Park {
             && state.mark(MarkId::Action(self.action)) == Mark::Queued
     }
 
-    fn make(&self, work: &mut Tentative) -> bool {
+    fn make(&self, work: &mut Tentative, _own: &[LockId]) -> bool {
         let action = action_of(work.graph(), self.action);
         let lock = lock_of(work.graph(), action.task);
         let running = Mark::Running(work.worker());

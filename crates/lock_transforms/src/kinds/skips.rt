@@ -13,7 +13,7 @@ use crate::kinds::ranges::{actions_of, after_of};
 use crate::kinds::skipping::skip_actions;
 use crate::tentatives::Tentative;
 use crate::transforms::{Disposition, Transform};
-use resource_lock::{Change, Graph, Mark, MarkId, State, WorkerId};
+use resource_lock::{Change, Graph, LockId, Mark, MarkId, State, WorkerId};
 
 /// Skips a task that is Waiting and comes after one that failed or was skipped: its mark and those
 /// of its actions and units become Skipped.
@@ -45,8 +45,8 @@ impl Transform for Skip {
         1 + changes_below(graph, self.task)
     }
 
-    fn apply(&self, work: &mut Tentative) -> Disposition {
-        match run_fixed(self, work) {
+    fn apply(&self, work: &mut Tentative, own: &[LockId]) -> Disposition {
+        match run_fixed(self, work, own) {
             Progress::Made => Disposition::Finished,
             Progress::NotEnabled => Disposition::Failed,
             Progress::OutOfRange => Disposition::Retry,
@@ -69,7 +69,7 @@ impl FixedKind for Skip {
             && state.is_idle(worker)
     }
 
-    fn make(&self, work: &mut Tentative) -> bool {
+    fn make(&self, work: &mut Tentative, _own: &[LockId]) -> bool {
         let actions = actions_of(work.graph(), self.task);
         let skipped = Change::Move(MarkId::Task(self.task), Mark::Waiting, Mark::Skipped);
         if !try_change(work, skipped) {

@@ -11,7 +11,7 @@ use crate::kinds::making::try_change;
 use crate::kinds::ranges::{after_of, lock_of};
 use crate::tentatives::Tentative;
 use crate::transforms::{Disposition, Transform};
-use resource_lock::{Change, Graph, Mark, MarkId, State, WorkerId};
+use resource_lock::{Change, Graph, LockId, Mark, MarkId, State, WorkerId};
 
 /// Starts a task that is Waiting and comes after passed tasks only: the worker takes the task's lock
 /// and a lease, and the task's mark becomes Running.
@@ -43,8 +43,8 @@ impl Transform for Start {
         3
     }
 
-    fn apply(&self, work: &mut Tentative) -> Disposition {
-        match run_fixed(self, work) {
+    fn apply(&self, work: &mut Tentative, own: &[LockId]) -> Disposition {
+        match run_fixed(self, work, own) {
             Progress::Made => Disposition::Finished,
             Progress::NotEnabled => Disposition::Failed,
             Progress::OutOfRange => Disposition::Retry,
@@ -67,7 +67,7 @@ impl FixedKind for Start {
             && state.is_idle(worker)
     }
 
-    fn make(&self, work: &mut Tentative) -> bool {
+    fn make(&self, work: &mut Tentative, _own: &[LockId]) -> bool {
         let lock = lock_of(work.graph(), self.task);
         let running = Mark::Running(work.worker());
         let moved = Change::Move(MarkId::Task(self.task), Mark::Waiting, running);

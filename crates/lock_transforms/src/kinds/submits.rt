@@ -14,7 +14,7 @@ use crate::kinds::most::item_count;
 use crate::kinds::ranges::{action_of, items_of};
 use crate::tentatives::Tentative;
 use crate::transforms::{Disposition, Transform};
-use resource_lock::{Change, Graph, Mark, MarkId, State, WorkerId};
+use resource_lock::{Change, Graph, LockId, Mark, MarkId, State, WorkerId};
 
 /// Queues the items of an action whose task the worker works on, after all that comes before it in
 /// the task has passed.
@@ -47,8 +47,8 @@ impl Transform for Submit {
         1 + item_count(graph, self.action)
     }
 
-    fn apply(&self, work: &mut Tentative) -> Disposition {
-        finish_or_retry(self, work)
+    fn apply(&self, work: &mut Tentative, own: &[LockId]) -> Disposition {
+        finish_or_retry(self, work, own)
     }
 
     fn waits_for_news(&self) {}
@@ -68,7 +68,7 @@ impl FixedKind for Submit {
             && fetch_closed(graph, state, self.action)
     }
 
-    fn make(&self, work: &mut Tentative) -> bool {
+    fn make(&self, work: &mut Tentative, _own: &[LockId]) -> bool {
         let items = items_of(work.graph(), self.action);
         let queued = Change::Move(MarkId::Action(self.action), Mark::Waiting, Mark::Queued);
         if !try_change(work, queued) {

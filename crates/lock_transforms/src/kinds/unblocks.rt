@@ -20,7 +20,7 @@ use crate::kinds::taking::take_all;
 use crate::tentatives::Tentative;
 use crate::transforms::{Disposition, Transform};
 use item_actions::Outcome;
-use resource_lock::{Change, Graph, Mark, MarkId, State, WorkerId};
+use resource_lock::{Change, Graph, LockId, Mark, MarkId, State, WorkerId};
 
 /// Leaves a blocking section: the worker takes its parked locks again, from the last parked to the
 /// first, and then a lease. Where the section was for a fetch, the fetch's mark becomes Passed or
@@ -54,8 +54,8 @@ impl Transform for Unblock {
         3 + 2 * parked_count(graph, state, worker)
     }
 
-    fn apply(&self, work: &mut Tentative) -> Disposition {
-        finish_or_retry(self, work)
+    fn apply(&self, work: &mut Tentative, own: &[LockId]) -> Disposition {
+        finish_or_retry(self, work, own)
     }
 
     fn waits_for_news(&self) {}
@@ -83,7 +83,7 @@ impl FixedKind for Unblock {
         }
     }
 
-    fn make(&self, work: &mut Tentative) -> bool {
+    fn make(&self, work: &mut Tentative, _own: &[LockId]) -> bool {
         match self.closed {
             Some(closed) => end_fetch(work, closed),
             None => take_up(work),

@@ -1,16 +1,17 @@
 -- The action that a unit belongs to.
 use Rattle.std.proofs.Common.{◌≡◌, ℕ, ◌+◌, ◌-◌, ◌<◌, ◌≤◌, List, [], ◌∷◌, length, true, false, leb, ltb, zero, suc, sym, ◌∙◌, ap, arith, inl, inr}
+use Rattle.std.specs.List.{AllByRecursion}
 use Rattle.std.specs.List.Sorted.{IsPartitionPoint}
 use Rattle.std.proofs.lemmas.Bool.{cases_Bool, cases_eq, cases_lt, cases_order, leb-true, leb-false, lt-ltb, ltb-true, and_from, and_parts, both_ways, false_from_ne_true}
 use Rattle.std.proofs.lemmas.List.{get_or_past}
-use Rattle.std.proofs.lemmas.List.Sums.{sum_by-le}
 use Rattle.std.proofs.lemmas.List.Folds.{list_any_at, list_any_none}
-use Rattle.std.proofs.lemmas.List.Elements.{All-from_get_or}
+use Rattle.std.proofs.lemmas.List.Elements.{All-from_get_or, recursion_from_All}
 use Rattle.resource_lock.specs.GraphView.{GraphView, action_of, no_action}
 use Rattle.resource_lock.specs.Ranges.{fetches, first_item, units_in, IsUnitOf, has_item, is_item}
 use Rattle.resource_lock.specs.Fits.{Fits, Follow}
 use Rattle.resource_lock.specs.declared.graphs.GraphAction.{GraphAction}
-use Rattle.resource_lock.proofs.Follows.{first_range, next_range, last_range_at, ends_before, stop_is}
+use Rattle.resource_lock.specs.declared.limits.TheConstants.{MAX_UNITS}
+use Rattle.resource_lock.proofs.Follows.{first_range, next_range, last_range_at, ends_before}
 
 -- the number behind an action's last unit
 abbrev pub end_of : GraphAction → ℕ
@@ -81,6 +82,13 @@ is_item_from g a u fits unit = elim (cases_Bool (leb (first_item (action_of g a)
       both_ways (leb (first_item (action_of g k)) u) (ap (λ x. leb (first_item (action_of g x)) u) same ∙ before) parts.0))))
 ]
 
--- a graph has at most 8 actions a task
-pub few_actions_in_all : (g : GraphView) → Fits g → length g.actions ≤ 16384
-few_actions_in_all g fits = omega (arith, stop_is (λ t. t.first_action) (λ t. t.actions) 0 g.tasks (length g.actions) fits.actions_follow, sum_by-le (λ t. t.actions) 8 g.tasks fits.few_actions, fits.few_tasks)
+-- actions that have an item each are no more than their units
+no_more_than_units : (n : ℕ) (actions : List GraphAction) (stop : ℕ) → AllByRecursion (λ a. 0 < a.items) actions → Follow (λ a. a.first_unit) units_in n actions stop → n + length actions ≤ stop
+no_more_than_units n [] stop some follow = omega (arith, follow)
+no_more_than_units n (a ∷ actions) stop some follow =
+    let rest : n + units_in a + length actions ≤ stop = no_more_than_units (n + units_in a) actions stop some.1 follow.1 in
+    omega (arith, some.0)
+
+-- a graph has no more actions than units
+pub few_actions_in_all : (g : GraphView) → Fits g → length g.actions ≤ MAX_UNITS
+few_actions_in_all g fits = omega (arith, no_more_than_units 0 g.actions g.units (recursion_from_All (λ a. 0 < a.items) g.actions fits.some_item) fits.units_follow, fits.few_units)

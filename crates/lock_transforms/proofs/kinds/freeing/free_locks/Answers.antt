@@ -1,21 +1,17 @@
-use Rattle.std.proofs.Common.{◌+◌, ap, arith}
-use Rattle.resource_lock.specs.GraphView.{GraphView}
-use Rattle.resource_lock.specs.declared.changes.Change.TheVariants.{Unlock}
-use Rattle.lock_transforms.proofs.Freed.{lock_at, next_freed, stopped_freed, all_freed, room_freed}
-use Rattle.lock_transforms.proofs.Makings.{still_named}
+use Rattle.std.proofs.Common.{List, length, refl, sym, ap, subst, arith}
+use Rattle.std.specs.List.{All}
+use Rattle.resource_lock.specs.StateView.{IsLockOf}
+use Rattle.resource_lock.specs.declared.ids.LockId.{LockId}
+use Rattle.lock_transforms.specs.Freeing.{freed}
+use Rattle.lock_transforms.specs.Making.{Makes}
+use Rattle.lock_transforms.proofs.Named.{owned_within}
 use Rattle.lock_transforms.proofs.kinds.freeing.free_locks.Goals as goal
 
-pub free_lock-requires-clause-in_range : goal.free_lock-requires-clause-in_range
-free_lock-requires-clause-in_range c = still_named (Unlock (lock_at c.loop-lock.lock)) c.loop-lock.invariant (omega (arith, ap (λ (g : GraphView). g.locks) c.graph.ensures.value))
+pub free_named-requires-clause-in_range : goal.free_named-requires-clause-in_range
+free_named-requires-clause-in_range c = subst (λ (ls : List LockId). All (IsLockOf c.args.work.now.state) ls) (sym (c.if-are_owned.ensures refl)) (owned_within c.args.work.now.state c.args.work.now.worker)
 
-pub free_lock-requires-clause-room : goal.free_lock-requires-clause-room
-free_lock-requires-clause-room c = room_freed c.args.parks c.loop-lock.lock (omega (arith, ap (λ (g : GraphView). g.locks) c.graph.ensures.value)) c.loop-lock.invariant c.requires.room
+pub free_named-requires-clause-room : goal.free_named-requires-clause-room
+free_named-requires-clause-room c = omega (arith, ap (λ (ls : List LockId). length (freed c.args.parks ls)) (c.if-are_owned.ensures refl), c.requires.room)
 
-pub returns-then-not-free_lock : goal.returns-then-not-free_lock
-returns-then-not-free_lock c = stopped_freed c.args.parks (c.loop-lock.lock + 1) (next_freed c.args.parks c.loop-lock.lock (omega (arith, ap (λ (g : GraphView). g.locks) c.graph.ensures.value)) c.loop-lock.invariant c.if-not-free_lock.ensures)
-
-pub loop-lock-preserved : goal.loop-lock-preserved
-loop-lock-preserved c = next_freed c.args.parks c.loop-lock.lock (omega (arith, ap (λ (g : GraphView). g.locks) c.graph.ensures.value)) c.loop-lock.invariant c.if-not-free_lock.ensures
-
-pub returns : goal.returns
-returns c = all_freed c.args.parks c.loop-lock.lock (omega (arith, ap (λ (g : GraphView). g.locks) c.graph.ensures.value)) c.loop-lock.invariant
+pub returns-then-are_owned : goal.returns-then-are_owned
+returns-then-are_owned c = subst (λ (ls : List LockId). Makes c.args.work.now c.free_named.new.work (freed c.args.parks ls) c.free_named.result) (c.if-are_owned.ensures refl) c.free_named.ensures
