@@ -1,8 +1,8 @@
 -- The part of a worker after changes of its own.
-use Rattle.std.proofs.Common.{◌≡◌, ℕ, ◌+◌, ◌<◌, ◌≤◌, Bool, true, false, cond, List, [], ◌∷◌, length, get_or, take, drop, Option, refl, sym, ap, ◌∙◌, subst, arith}
+use Rattle.std.proofs.Common.{◌≡◌, ℕ, ◌+◌, ◌<◌, ◌≤◌, Bool, true, false, cond, List, [], ◌∷◌, ◌++◌, length, Option, refl, sym, ap, ◌∙◌, subst, arith}
 use Rattle.std.specs.Prelude.{vec_capacity}
 use Rattle.std.proofs.lemmas.Bool.{and_parts}
-use Rattle.std.proofs.lemmas.List.{length_push, take_more, drop_more}
+use Rattle.std.proofs.lemmas.List.{length_push}
 use Rattle.resource_lock.specs.Change.{can, can_all, holding_after, make, make_all}
 use Rattle.resource_lock.specs.Good.{Good}
 use Rattle.resource_lock.specs.StateView.{Holding, StateView, holding_of, is_owner, runs_by}
@@ -110,14 +110,7 @@ room_for s w part Enter cs l = tt
 room_for s w part Leave cs l = tt
 
 -- along a list of changes
-pub leads_at : (s : StateView) (w : WorkerId) (part : WorkerPart) (cs : List Change) (i : ℕ) (d : Change) → i < length cs → LeadsOn (make_all s w (take i cs)) w part (drop i cs)
-    → LeadsOn (make_all s w (take i cs)) w part (get_or cs i d ∷ drop (i + 1) cs)
-leads_at s w part cs i d within l = subst (LeadsOn (make_all s w (take i cs)) w part) (drop_more cs i d within) l
-
-pub leads_along : (s : StateView) (w : WorkerId) (part new : WorkerPart) (cs : List Change) (i : ℕ) (d : Change) → i < length cs → LeadsOn (make_all s w (take i cs)) w part (drop i cs) → IsAfter w (get_or cs i d) part new
-    → LeadsOn (make_all s w (take (i + 1) cs)) w new (drop (i + 1) cs)
-leads_along s w part new cs i d within l a =
-    let front : List Change = take i cs in
-    let c : Change = get_or cs i d in
-    subst (λ (t : StateView). LeadsOn t w new (drop (i + 1) cs)) (sym (ap (λ (ds : List Change). make_all s w ds) (take_more cs i d within) ∙ make_all-append s w front (c ∷ [])))
-    (leads_next (make_all s w front) w part c (drop (i + 1) cs) (leads_at s w part cs i d within l) new a)
+pub leads_along : (s : StateView) (w : WorkerId) (part new : WorkerPart) (front : List Change) (c : Change) (cs : List Change) → LeadsOn (make_all s w front) w part (c ∷ cs) → IsAfter w c part new
+    → LeadsOn (make_all s w (front ++ c ∷ [])) w new cs
+leads_along s w part new front c cs l a =
+    subst (λ (t : StateView). LeadsOn t w new cs) (sym (make_all-append s w front (c ∷ []))) (leads_next (make_all s w front) w part c cs l new a)

@@ -3,13 +3,14 @@ ghost use Rattle.std.specs.Prelude.{◌≡◌, ◌<◌, [], IfOk, length, true, 
 ghost use Rattle.resource_lock.specs.Change.{make_all};
 ghost use Rattle.resource_lock.specs.StateView.{StateView, runs_by};
 ghost use Rattle.lock_journal.specs.BookView.{BookView};
+ghost use Rattle.lock_journal.specs.Changes.{changes_left};
 ghost use Rattle.lock_journal.specs.OwnChanges.{mark_before, with_if, without_if};
 ghost use Rattle.coordination.specs.SortedLists.{IsRising};
 ghost use Rattle.coordination.specs.Parts.{Follows, HasListRoom, HasRoomFor, IsAfter, IsPartOf, IsFreshPart, LeadsOn, StandsInOrder};
 
 use crate::sorted_lists::{add, remove};
 use history_views::Reach;
-use lock_journal::Book;
+use lock_journal::{Book, Changes};
 use lock_transforms::Disposition;
 use resource_lock::{Change, LockId, Mark, MarkId, WorkerId};
 use std::alloc::{AllocError, Global};
@@ -79,13 +80,14 @@ impl WorkerPart {
     }
 
     // Notes changes of the worker in order.
-    fn note_all(&mut self, worker: WorkerId, changes: &[Change])
-        requires { (s : StateView) × LeadsOn s worker self.old changes.now }
-        ensures leads { (s : StateView) → LeadsOn s worker self.old changes.now → LeadsOn (make_all s worker changes.now) worker self.new [] }
+    fn note_all(&mut self, worker: WorkerId, changes: Changes<'_>)
+        requires { (s : StateView) × LeadsOn s worker self.old (changes_left changes) }
+        ensures leads { (s : StateView) → LeadsOn s worker self.old (changes_left changes.entry)
+            → LeadsOn (make_all s worker (changes_left changes.entry)) worker self.new [] }
         ensures last { self.new.last ≡ self.old.last }
     {
         for change in changes {
-            self.note(worker, *change);
+            self.note(worker, change);
         }
     }
 

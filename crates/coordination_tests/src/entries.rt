@@ -26,7 +26,7 @@ fn has_entry(book: &Book, row: &EntryRow<'_>) -> bool {
     }
     let shown = book.entry(row.place);
     let as_changed = match row.changes {
-        Some(changes) => !shown.failed && shown.changes == changes,
+        Some(changes) => !shown.failed && shown.changes.eq(changes.iter().copied()),
         None => shown.failed,
     };
     as_changed && shown.kind == row.kind

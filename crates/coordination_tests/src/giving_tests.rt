@@ -5,7 +5,7 @@ use crate::services::{book_of, open};
 use coordination::{Coordination, Opened, Pass};
 use lock_journal::{Book, Segment, Shown};
 use lock_transforms::kinds::{Acquire, HandBack, Shortage};
-use resource_lock::LockId;
+use resource_lock::{Change, LockId};
 use state_tests::rows::Limits;
 use std::alloc::{AllocError, Global};
 use std::process::Abort;
@@ -129,19 +129,20 @@ fn take_all<R: Threads + Wait + Abort + Sync>(
 }
 
 // Admits an entry behind the others.
-fn goes_on_with(book: &mut Book, entry: &Shown<'_>) -> Result<bool, AllocError> {
-    let changes = if entry.failed {
-        None
-    } else {
-        Some(entry.changes)
-    };
-    book.admit(entry.worker, &entry.kind, changes)
+fn goes_on_with(alloc: Global, book: &mut Book, entry: &Shown<'_>) -> Result<bool, AllocError> {
+    if entry.failed {
+        return book.admit(entry.worker, &entry.kind, None);
+    }
+    let changes: Vec<Change> = entry.changes.collect(alloc)?;
+    let admitted = book.admit(entry.worker, &entry.kind, Some(changes.as_slice()));
+    drop(changes);
+    admitted
 }
 
 // Admits the entries of a part behind the others.
-fn goes_on_with_part(book: &mut Book, part: &Segment) -> Result<bool, AllocError> {
+fn goes_on_with_part(alloc: Global, book: &mut Book, part: &Segment) -> Result<bool, AllocError> {
     for place in 0..part.len() {
-        if !goes_on_with(book, &part.entry(place))? {
+        if !goes_on_with(alloc, book, &part.entry(place))? {
             return Ok(false);
         }
     }
@@ -149,10 +150,14 @@ fn goes_on_with_part(book: &mut Book, part: &Segment) -> Result<bool, AllocError
 }
 
 // Admits the entries of the parts in order, and answers whether they are one history from the first entry on.
-fn are_one_history(book: &mut Book, parts: &[Segment]) -> Result<bool, AllocError> {
+fn are_one_history(
+    alloc: Global,
+    book: &mut Book,
+    parts: &[Segment],
+) -> Result<bool, AllocError> {
     for _ in 0..parts.len() {
         for part in parts {
-            if part.before() == book.len() && !goes_on_with_part(book, part)? {
+            if part.before() == book.len() && !goes_on_with_part(alloc, book, part)? {
                 return Ok(false);
             }
         }
@@ -163,7 +168,7 @@ fn are_one_history(book: &mut Book, parts: &[Segment]) -> Result<bool, AllocErro
 // Whether the parts are one history of all turns, at whose end no lease is out.
 fn are_the_history(rt: &impl Abort, alloc: Global, parts: &[Segment]) -> Result<bool, AllocError> {
     let mut book = book_of(rt, alloc, &LIMITS, &[], &[])?;
-    let are_one = are_one_history(&mut book, parts);
+    let are_one = are_one_history(alloc, &mut book, parts);
     let is_whole = book.len() == 8 * u64::from(TURNS) * 2 && book.state().leases_out() == 0;
     drop(book);
     Ok(are_one? && is_whole)

@@ -6,7 +6,7 @@ use resource_lock::Change;
 use run_watch::Watch;
 
 // How many leases are out after a change.
-fn leases_after(leases: u32, change: &Change) -> u32 {
+fn leases_after(leases: u32, change: Change) -> u32 {
     match change {
         Change::Take => leases.saturating_add(1),
         Change::Give => leases.saturating_sub(1),

@@ -1,5 +1,5 @@
 -- What the fields of a `Reached` stand for, and what holds of them.
-use Rattle.std.specs.Prelude.{ℕ, ◌≡◌, [], None}
+use Rattle.std.specs.Prelude.{ℕ, ◌+◌, None, length}
 use Rattle.lock_transforms.specs.TentativeView.{TentativeView}
 use Rattle.lock_transforms.specs.MostChanges.{IsRoomFor}
 use Rattle.history_check.specs.AdmitterView.{AdmitterView}
@@ -8,7 +8,6 @@ use Rattle.history_check.specs.AdmitterView.{AdmitterView}
 abbrev pub reached_view : TentativeView → ℕ → AdmitterView
 reached_view t entries = record { graph = t.graph; state = t.state; entries = entries; kept = None }
 
--- No change is under way, and there is room for the changes of any entry.
+-- No change is under way, and there is room for the changes of any entry once those that are noted are forgotten.
 pub record IsBetweenEntries (t : TentativeView) : Type 0 where
-  pub fresh : t.made ≡ []
-  pub room : IsRoomFor t.graph t.room
+  pub room : IsRoomFor t.graph (t.room + length t.made)

@@ -42,7 +42,6 @@ impl Reached {
         if !self.tentative.admit(worker, kind, changes, true) {
             return false;
         }
-        self.tentative.settle();
         self.entries += 1;
         true
     }

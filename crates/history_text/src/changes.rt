@@ -1,9 +1,11 @@
 ghost use Rattle.std.specs.Prelude.{◌++◌, codes, decimal, if◌then◌else◌, Some, None};
 ghost use Rattle.std.specs.List.{flat_map};
 ghost use Rattle.file_access.specs.PageView.{Adds};
+ghost use Rattle.lock_journal.specs.Changes.{changes_left};
 ghost use Rattle.history_text.specs.Text.{mark_text, id_text, change_text, further_text, changes_text, effect_text};
 
 use file_access::{Page, Sink};
+use lock_journal::Changes;
 use resource_lock::{Change, Mark, MarkId};
 
 /// Writes a word and a number.
@@ -54,10 +56,10 @@ fn write_move<K: Sink>(id: MarkId, from: Mark, to: Mark, page: &mut Page, sink: 
 
 // Inlined, as what it calls is: a call would cost as much as the few bytes that are written.
 #[inline(always)]
-fn write_change<K: Sink>(change: &Change, page: &mut Page, sink: &mut K)
-    ensures { Adds (K.seen sink.old) page.old (K.seen sink.new) page.new (change_text change.now) }
+fn write_change<K: Sink>(change: Change, page: &mut Page, sink: &mut K)
+    ensures { Adds (K.seen sink.old) page.old (K.seen sink.new) page.new (change_text change) }
 {
-    match *change {
+    match change {
         Change::Lock(lock) => write_numbered(b"lock ", lock.0, page, sink),
         Change::Unlock(lock) => write_numbered(b"unlock ", lock.0, page, sink),
         Change::Take => page.text(sink, b"take"),
@@ -71,8 +73,8 @@ fn write_change<K: Sink>(change: &Change, page: &mut Page, sink: &mut K)
 }
 
 // Writes the changes behind the first, each behind a comma.
-fn write_further<K: Sink>(changes: &[Change], page: &mut Page, sink: &mut K)
-    ensures { Adds (K.seen sink.old) page.old (K.seen sink.new) page.new (flat_map further_text changes.now) }
+fn write_further<K: Sink>(changes: Changes<'_>, page: &mut Page, sink: &mut K)
+    ensures { Adds (K.seen sink.old) page.old (K.seen sink.new) page.new (flat_map further_text (changes_left changes.entry)) }
 {
     for change in changes {
         page.text(sink, b", ");
@@ -81,21 +83,21 @@ fn write_further<K: Sink>(changes: &[Change], page: &mut Page, sink: &mut K)
 }
 
 // Writes the changes of an entry, or that there are none.
-fn write_changes<K: Sink>(changes: &[Change], page: &mut Page, sink: &mut K)
-    ensures { Adds (K.seen sink.old) page.old (K.seen sink.new) page.new (changes_text changes.now) }
+fn write_changes<K: Sink>(mut changes: Changes<'_>, page: &mut Page, sink: &mut K)
+    ensures { Adds (K.seen sink.old) page.old (K.seen sink.new) page.new (changes_text (changes_left changes.entry)) }
 {
-    match changes {
-        [] => page.text(sink, b"nothing"),
-        [first, further @ ..] => {
+    match changes.next() {
+        None => page.text(sink, b"nothing"),
+        Some(first) => {
             write_change(first, page, sink);
-            write_further(further, page, sink);
+            write_further(changes, page, sink);
         }
     }
 }
 
 /// Writes the changes that an entry made, or that it failed.
-pub fn write_effect<K: Sink>(failed: bool, changes: &[Change], page: &mut Page, sink: &mut K)
-    ensures { Adds (K.seen sink.old) page.old (K.seen sink.new) page.new (effect_text (if failed then None else Some changes.now)) }
+pub fn write_effect<K: Sink>(failed: bool, changes: Changes<'_>, page: &mut Page, sink: &mut K)
+    ensures { Adds (K.seen sink.old) page.old (K.seen sink.new) page.new (effect_text (if failed then None else Some (changes_left changes.entry))) }
 {
     if failed {
         page.text(sink, b"failed");

@@ -1,5 +1,8 @@
 pub mod lemmas
 pub mod Outcomes
+pub mod StoredChanges
+pub mod NextChanges
+pub mod LastNoted
 pub mod Stored
 pub mod Pushed
 pub mod Adding

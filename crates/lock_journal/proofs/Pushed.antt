@@ -1,5 +1,5 @@
 -- What is stored of a history with one entry more, beside what is stored of it without that entry.
-use Rattle.std.specs.Prelude.{◌==◌}
+use Rattle.std.specs.Prelude.{◌==◌, map}
 use Rattle.std.proofs.Common.{◌≡◌, ℕ, ◌≤◌, ◌<◌, ◌-◌, Bool, true, false, length, take, drop, List, [], ◌∷◌, ◌++◌, cond, Some, None, refl, sym, ◌∙◌, ap, subst, arith}
 use Rattle.std.specs.List.{slice_range}
 use Rattle.std.proofs.lemmas.List.{drop_at, take_all, take-append-le, drop-append-le, length-drop, length-append, get_or_append_left}
@@ -10,7 +10,9 @@ use Rattle.lock_transforms.specs.Entry.{entry}
 use Rattle.lock_transforms.specs.declared.entries.Closed.{Closed}
 use Rattle.lock_transforms.specs.declared.entries.Kind.TheVariants.{Close, Unblock}
 use Rattle.lock_journal.specs.Closings.{closing_of, where_finished, closings, last_or}
+use Rattle.lock_journal.specs.StoredChange.{change_of_worker}
 use Rattle.lock_journal.specs.StoredEntry.{AreStored, IsLastNumber, IsNumberOf, KeepEarlier, closing_at, closings_before, closings_until, end_before, entries_from, entry_from, kind_from, place_after, place_by, place_in}
+use Rattle.lock_journal.specs.declared.stored_changes.StoredChange.{StoredChange}
 use Rattle.lock_journal.specs.declared.stored_entries.StoredEntry.{StoredEntry}
 use Rattle.lock_journal.specs.declared.stored_entries.StoredKind.{StoredKind}
 use Rattle.lock_journal.specs.declared.stored_entries.StoredKind.TheVariants as stored
@@ -76,14 +78,14 @@ kind_from-append ds more stored.Acquire n h = refl
 kind_from-append ds more stored.HandBack n h = refl
 
 -- a range of a list that has more behind it
-slice_range-append : (cs new : List Change) (a b : ℕ) → a ≤ b → b ≤ length cs → slice_range (cs ++ new) a b ≡ slice_range cs a b
+slice_range-append : (cs new : List StoredChange) (a b : ℕ) → a ≤ b → b ≤ length cs → slice_range (cs ++ new) a b ≡ slice_range cs a b
 slice_range-append cs new a b ordered bounded =
     let start : a ≤ length cs = omega arith in
     let long : b - a ≤ length (drop a cs) = omega (arith, length-drop a cs) in
     ap (take (b - a)) (drop-append-le a cs new start) ∙ take-append-le (b - a) (drop a cs) new long
 
 -- the range from where the new ones begin
-pub slice_range-new : (cs new : List Change) (a : ℕ) → a ≡ length cs → slice_range (cs ++ new) a (length (cs ++ new)) ≡ new
+pub slice_range-new : (cs new : List StoredChange) (a : ℕ) → a ≡ length cs → slice_range (cs ++ new) a (length (cs ++ new)) ≡ new
 slice_range-new cs new a start =
     let long : length new ≤ length (cs ++ new) - a = omega (arith, length-append cs new) in
     ap (take (length (cs ++ new) - a)) (drop_at cs new a (sym start)) ∙ take_all (length (cs ++ new) - a) new long
@@ -104,7 +106,7 @@ pub kinds_back : (ds es : List Closed) (ks : List StoredEntry) → SameKinds ds 
 kinds_back ds es [] h = tt
 kinds_back ds es (k ∷ ks) h = (sym h.0, kinds_back ds es ks h.1)
 
-module _ (cs new : List Change) (ds es : List Closed) (k : StoredEntry) (start : k.start ≡ length cs) where
+module _ (cs new : List StoredChange) (ds es : List Closed) (k : StoredEntry) (start : k.start ≡ length cs) where
   -- the entries before it are the same, and it stands behind them
   pub entries-push : (m : ℕ) (ks : List StoredEntry) → AreStored (length cs) m ks → SameKinds ds es ks
       → entries_from (cs ++ new) es (ks ++ k ∷ []) ≡ entries_from cs ds ks ++ entry_from (cs ++ new) es (length (cs ++ new)) k ∷ []
@@ -112,8 +114,8 @@ module _ (cs new : List Change) (ds es : List Closed) (k : StoredEntry) (start :
   entries-push m (j ∷ ks) h same =
       let end : end_before (ks ++ k ∷ []) (length (cs ++ new)) ≡ end_before ks (length cs) = end_before-push k (length (cs ++ new)) ks ∙ ap (end_before ks) start in
       ap (λ e. entry_from (cs ++ new) es e j ∷ entries_from (cs ++ new) es (ks ++ k ∷ [])) end
-      ∙ ap (λ x. entry j.worker x (cond j.failed None (Some (slice_range (cs ++ new) j.start (end_before ks (length cs))))) ∷ entries_from (cs ++ new) es (ks ++ k ∷ [])) same.0
-      ∙ ap (λ x. entry j.worker (kind_from ds j.kind j.number) (cond j.failed None (Some x)) ∷ entries_from (cs ++ new) es (ks ++ k ∷ []))
+      ∙ ap (λ x. entry j.worker x (cond j.failed None (Some (map (change_of_worker j.worker) (slice_range (cs ++ new) j.start (end_before ks (length cs)))))) ∷ entries_from (cs ++ new) es (ks ++ k ∷ [])) same.0
+      ∙ ap (λ x. entry j.worker (kind_from ds j.kind j.number) (cond j.failed None (Some (map (change_of_worker j.worker) x))) ∷ entries_from (cs ++ new) es (ks ++ k ∷ []))
       (slice_range-append cs new j.start (end_before ks (length cs)) h.0 (end_within (length cs) m ks h.2))
       ∙ ap (λ es'. entry_from cs ds (end_before ks (length cs)) j ∷ es') (entries-push m ks h.2 same.1)
 
@@ -180,10 +182,11 @@ outcome_by ds k true xs u p = refl
 outcome_by ds k false xs u p = outcome_by_kind ds k.kind k.number u p
 
 -- it is that of the unit's last closing entry
-pub outcome_at_place : (cs : List Change) (ds : List Closed) (ks : List StoredEntry) (u p : ℕ) → (closing_at ds (place_in ds ks u p)).outcome ≡ last_or (closing_at ds p).outcome (closings (entries_from cs ds ks) u)
+pub outcome_at_place : (cs : List StoredChange) (ds : List Closed) (ks : List StoredEntry) (u p : ℕ) → (closing_at ds (place_in ds ks u p)).outcome ≡ last_or (closing_at ds p).outcome (closings (entries_from cs ds ks) u)
 outcome_at_place cs ds [] u p = refl
 outcome_at_place cs ds (k ∷ ks) u p =
-    let os : List Outcome = where_finished (cond k.failed None (Some (slice_range cs k.start (end_before ks (length cs))))) (closing_of u (kind_from ds k.kind k.number)) in
+    let made : List Change = map (change_of_worker k.worker) (slice_range cs k.start (end_before ks (length cs))) in
+    let os : List Outcome = where_finished (cond k.failed None (Some made)) (closing_of u (kind_from ds k.kind k.number)) in
     outcome_at_place cs ds ks u (place_by ds k k.number u p)
-    ∙ ap (λ o. last_or o (closings (entries_from cs ds ks) u)) (outcome_by ds k k.failed (slice_range cs k.start (end_before ks (length cs))) u p)
+    ∙ ap (λ o. last_or o (closings (entries_from cs ds ks) u)) (outcome_by ds k k.failed made u p)
     ∙ sym (last_or-append (closing_at ds p).outcome os (closings (entries_from cs ds ks) u))

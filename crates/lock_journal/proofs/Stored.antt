@@ -1,6 +1,6 @@
 -- What is stored of a history, and of one with one more entry.
 use Rattle.std.proofs.Common.{◌≡◌, ℕ, suc, zero, ◌≤◌, ◌<◌, ◌+◌, ◌-◌, Bool, true, false, length, drop, List, [], ◌∷◌, cond, Some, None, refl, sym, ◌∙◌, ap, subst, arith}
-use Rattle.std.specs.Prelude.{slice_get}
+use Rattle.std.specs.Prelude.{map, slice_get}
 use Rattle.std.specs.List.{slice_range, slice_index_or}
 use Rattle.std.proofs.lemmas.Option.{slice_get_read, slice_get_within}
 use Rattle.std.proofs.lemmas.List.{drop_all, take_all, length-drop}
@@ -10,22 +10,24 @@ use Rattle.lock_journal.specs.Segment.{segment_view}
 use Rattle.lock_journal.specs.SegmentView.{SegmentView}
 use Rattle.lock_journal.specs.LastChanges.{last_changes, made_by, made_where_finished}
 use Rattle.lock_transforms.specs.declared.entries.Closed.{Closed}
+use Rattle.lock_journal.specs.StoredChange.{change_of_worker}
+use Rattle.lock_journal.specs.declared.stored_changes.StoredChange.{StoredChange}
 use Rattle.lock_journal.specs.declared.stored_entries.StoredEntry.{StoredEntry}
 use Rattle.lock_journal.specs.declared.stored_entries.StoredKind.{StoredKind}
 use Rattle.lock_journal.specs.declared.stored_entries.StoredKind.TheVariants as stored
 use Rattle.lock_journal.specs.declared.segments.Segment.TheInside.{Inside}
 
-pub length_of_entries : (cs : List Change) (ds : List Closed) (ks : List StoredEntry) → length (entries_from cs ds ks) ≡ length ks
+pub length_of_entries : (cs : List StoredChange) (ds : List Closed) (ks : List StoredEntry) → length (entries_from cs ds ks) ≡ length ks
 length_of_entries cs ds [] = refl
 length_of_entries cs ds (k ∷ ks) = ap suc (length_of_entries cs ds ks)
 
-entry_at-suc : (cs : List Change) (ds : List Closed) (ks : List StoredEntry) (i : ℕ) (k : StoredEntry) → slice_get ks i ≡ Some k → slice_get (entries_from cs ds ks) i ≡ Some (entry_from cs ds (end_before (drop (suc i) ks) (length cs)) k)
+entry_at-suc : (cs : List StoredChange) (ds : List Closed) (ks : List StoredEntry) (i : ℕ) (k : StoredEntry) → slice_get ks i ≡ Some k → slice_get (entries_from cs ds ks) i ≡ Some (entry_from cs ds (end_before (drop (suc i) ks) (length cs)) k)
 entry_at-suc cs ds [] i k at = absurd (cc)
 entry_at-suc cs ds (j ∷ ks) zero k at = let same : j ≡ k = cc in ap (λ x. Some (entry_from cs ds (end_before ks (length cs)) x)) same
 entry_at-suc cs ds (j ∷ ks) (suc i) k at = entry_at-suc cs ds ks i k at
 
 -- the entry at a place
-pub entry_at : (cs : List Change) (ds : List Closed) (ks : List StoredEntry) (i : ℕ) (k : StoredEntry) → slice_get ks i ≡ Some k → slice_get (entries_from cs ds ks) i ≡ Some (entry_from cs ds (end_before (drop (i + 1) ks) (length cs)) k)
+pub entry_at : (cs : List StoredChange) (ds : List Closed) (ks : List StoredEntry) (i : ℕ) (k : StoredEntry) → slice_get ks i ≡ Some k → slice_get (entries_from cs ds ks) i ≡ Some (entry_from cs ds (end_before (drop (i + 1) ks) (length cs)) k)
 entry_at cs ds ks i k at =
     let next : suc i ≡ i + 1 = omega arith in
     entry_at-suc cs ds ks i k at ∙ ap (λ n. Some (entry_from cs ds (end_before (drop n ks) (length cs)) k)) next
@@ -123,10 +125,10 @@ made_or_none : (failed : Bool) (xs : List Change) → made_where_finished (cond 
 made_or_none true xs = refl
 made_or_none false xs = refl
 
-pub last_made : (cs : List Change) (ds : List Closed) (ks : List StoredEntry) (k : StoredEntry) → slice_get ks (length ks - 1) ≡ Some k
-    → last_changes (entries_from cs ds ks) ≡ cond k.failed [] (slice_range cs k.start (length cs))
+pub last_made : (cs : List StoredChange) (ds : List Closed) (ks : List StoredEntry) (k : StoredEntry) → slice_get ks (length ks - 1) ≡ Some k
+    → last_changes (entries_from cs ds ks) ≡ cond k.failed [] (map (change_of_worker k.worker) (slice_range cs k.start (length cs)))
 last_made cs ds ks k at =
     ap (λ n. made_by (slice_get (entries_from cs ds ks) (n - 1))) (length_of_entries cs ds ks)
     ∙ ap made_by (entry_at cs ds ks (length ks - 1) k at)
     ∙ ap (λ end. made_by (Some (entry_from cs ds end k))) (end_last ks (length cs) k at)
-    ∙ made_or_none k.failed (slice_range cs k.start (length cs))
+    ∙ made_or_none k.failed (map (change_of_worker k.worker) (slice_range cs k.start (length cs)))

@@ -1,5 +1,5 @@
 -- A book, as contracts see it.
-use Rattle.std.specs.Prelude.{ℕ, ◌≡◌, ◌≤◌, List, min}
+use Rattle.std.specs.Prelude.{ℕ, ◌≡◌, ◌≤◌, ◌+◌, List, length, min}
 use Rattle.resource_lock.specs.StateView.{StateView}
 use Rattle.resource_lock.specs.GraphView.{GraphView}
 use Rattle.lock_transforms.specs.Entry.{Entry}
@@ -15,7 +15,7 @@ pub record BookView : Type 0 where
   pub spare_entries : ℕ
   pub spare_changes : ℕ
 
--- the book of a state under change and a history, between two entries
+-- the book of a state under change and a history, between two entries: there is room where changes are still noted
 abbrev pub begun : TentativeView → HistoryView → BookView
 begun t h = record {
   graph = t.graph;
@@ -23,7 +23,7 @@ begun t h = record {
   history = h.entries;
   given = h.given;
   spare_entries = h.spare_entries;
-  spare_changes = min h.spare_changes t.room;
+  spare_changes = min h.spare_changes (t.room + length t.made);
 }
 
 -- graph, state and history are as before, no more was given away, and the spares aren't smaller

@@ -1,6 +1,8 @@
 pub mod Closings
 pub mod LastChanges
 pub mod Bounds
+pub mod StoredChange
+pub mod Changes
 pub mod Shown
 pub mod StoredEntry
 pub mod SegmentView

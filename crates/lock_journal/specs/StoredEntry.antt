@@ -1,7 +1,6 @@
 -- What a stored entry stands for.
-use Rattle.std.specs.Prelude.{ℕ, ◌≡◌, ◌+◌, ◌≤◌, ◌<◌, ◌^◌, List, [], ◌∷◌, length, None, Some, slice_index_or}
-use Rattle.std.specs.Prelude.{slice_range, if◌then◌else◌}
-use Rattle.resource_lock.specs.declared.changes.Change.{Change}
+use Rattle.std.specs.Prelude.{ℕ, ◌≡◌, ◌+◌, ◌≤◌, ◌<◌, List, [], ◌∷◌, length, None, Some, slice_index_or}
+use Rattle.std.specs.Prelude.{map, slice_range, if◌then◌else◌}
 use Rattle.item_actions.specs.declared.outcomes.Outcome.{Outcome}
 use Rattle.item_actions.specs.declared.outcomes.Outcome.TheVariants as outcomes
 use Rattle.lock_transforms.specs.Entry.{Entry, entry}
@@ -9,6 +8,8 @@ use Rattle.lock_transforms.specs.declared.entries.Closed.{Closed}
 use Rattle.lock_transforms.specs.declared.entries.Kind.{Kind}
 use Rattle.lock_transforms.specs.declared.entries.Kind.TheVariants.{Start, Skip, Submit, Park, Resume, Claim, Close, Block, Unblock, End, Acquire, HandBack}
 use Rattle.lock_journal.specs.Closings.{closing_of}
+use Rattle.lock_journal.specs.StoredChange.{change_of_worker}
+use Rattle.lock_journal.specs.declared.stored_changes.StoredChange.{StoredChange}
 use Rattle.lock_journal.specs.declared.stored_entries.StoredEntry.{StoredEntry}
 use Rattle.lock_journal.specs.declared.stored_entries.StoredKind.{StoredKind}
 use Rattle.lock_journal.specs.declared.stored_entries.StoredKind.TheVariants as stored
@@ -45,17 +46,17 @@ closings_until stored.Close n closings = n
 closings_until stored.UnblockAfterFetch n closings = n
 closings_until _ n closings = closings
 
--- the number is the place of the last of so many closings, or has 32 bits
+-- the number is the place of the last of so many closings, where it is a place
 abbrev pub IsLastNumber : ℕ → StoredKind → ℕ → Type 0
 IsLastNumber closings stored.Close n = n + 1 ≡ closings
 IsLastNumber closings stored.UnblockAfterFetch n = n + 1 ≡ closings
-IsLastNumber closings _ n = n < 2 ^ 32
+IsLastNumber closings _ n = Unit {0}
 
--- the number is the place of one of so many closings, or has 32 bits
+-- the number is the place of one of so many closings, where it is a place
 abbrev pub IsNumberOf : ℕ → StoredKind → ℕ → Type 0
 IsNumberOf closings stored.Close n = n < closings
 IsNumberOf closings stored.UnblockAfterFetch n = n < closings
-IsNumberOf closings _ n = n < 2 ^ 32
+IsNumberOf closings _ n = Unit {0}
 
 -- where the changes end that come before those of these entries, of so many in all
 abbrev pub end_before : List StoredEntry → ℕ → ℕ
@@ -68,11 +69,12 @@ closings_before [] closings = closings
 closings_before (k ∷ ks) closings = closings_until k.kind k.number (closings_before ks closings)
 
 -- the entry, whose changes end there among those of all entries
-abbrev pub entry_from : List Change → List Closed → ℕ → StoredEntry → Entry
-entry_from changes closings end k = entry k.worker (kind_from closings k.kind k.number) (if k.failed then None else Some (slice_range changes k.start end))
+abbrev pub entry_from : List StoredChange → List Closed → ℕ → StoredEntry → Entry
+entry_from changes closings end k = entry k.worker (kind_from closings k.kind k.number)
+    (if k.failed then None else Some (map (change_of_worker k.worker) (slice_range changes k.start end)))
 
 -- the entries in order: the changes of each end where those of the next begin
-abbrev pub entries_from : List Change → List Closed → List StoredEntry → List Entry
+abbrev pub entries_from : List StoredChange → List Closed → List StoredEntry → List Entry
 entries_from changes closings [] = []
 entries_from changes closings (k ∷ ks) = entry_from changes closings (end_before ks (length changes)) k ∷ entries_from changes closings ks
 

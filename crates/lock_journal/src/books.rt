@@ -1,6 +1,7 @@
 //! The book: a state, and the history of the transforms that made it.
 ghost use Rattle.std.specs.Prelude.{◌≡◌, ◌↔◌, ◌<◌, ◌≤◌, ◌+◌, ◌⊎◌, true, [], List, length, IsTrue, Some, OnOk, OnErr};
 ghost use Rattle.std.specs.Prelude.{IfNone, IfOk, IfSome, All, slice_get};
+ghost use Rattle.resource_lock.specs.declared.changes.Change.{Change};
 ghost use Rattle.resource_lock.specs.Fits.{Fits};
 ghost use Rattle.resource_lock.specs.Good.{Good};
 ghost use Rattle.resource_lock.specs.Marks.{has_ended};
@@ -10,6 +11,7 @@ ghost use Rattle.ready_work.specs.Choices.{CanSkip, CanStart, IsOpenUnit};
 ghost use Rattle.ready_work.specs.Lowest.{IsFrom, IsLowest, IsNone};
 ghost use Rattle.lock_journal.specs.BookView.{begun};
 ghost use Rattle.lock_transforms.specs.Entry.{replay};
+ghost use Rattle.lock_journal.specs.Changes.{changes_left};
 ghost use Rattle.lock_journal.specs.Shown.{entry_shown};
 ghost use Rattle.lock_journal.specs.Closings.{outcome_of};
 ghost use Rattle.lock_journal.specs.LastChanges.{last_changes};
@@ -20,12 +22,13 @@ ghost use Rattle.lock_journal.specs.declared.segments.TheConstants.{MOST_BEFORE}
 ghost use Rattle.lock_transforms.specs.MostChanges.{IsRoomFor};
 
 use crate::histories::History;
+use crate::shown_changes::Changes;
 use crate::shown_entries::Shown;
 use item_actions::Outcome;
 use lock_transforms::kinds::room_for_any;
 use lock_transforms::{Disposition, Tentative, Transform};
 use ready_work::ReadyWork;
-use resource_lock::{Change, Graph, LockId, Mark, MarkId, State, WorkerId};
+use resource_lock::{Graph, LockId, Mark, MarkId, State, WorkerId};
 use std::alloc::{AllocError, Global};
 use std::marker::Model;
 
@@ -59,7 +62,8 @@ impl Model for Book {
 impl Book {
     ghost use Rattle.lock_journal.specs.BookView.{SameBook};
 
-    /// A book of the graph without entries, with room for at least so many entries and changes.
+    /// A book of the graph without entries, with room for at least so many entries and changes. It fails for want of memory, and where
+    /// one of the two numbers is 2^32 or more.
     pub fn opening(
         alloc: Global,
         graph: Graph,
@@ -138,17 +142,22 @@ impl Book {
         requires kept { self.now.given ≤ place }
         requires within { place < length self.now.history }
         ensures shown { slice_get self.now.history place ≡ Some (entry_shown result) }
-        ensures no_changes { IsTrue result.failed → result.changes.now ≡ [] }
+        ensures no_changes { IsTrue result.failed → changes_left result.changes ≡ [] }
     {
         self.history.entry(place)
     }
 
     /// The changes of the history's last entry, in order. Where it failed there are none. It wasn't given away.
-    pub fn last_changes(&self) -> &[Change]
+    pub fn last_changes(&self) -> Changes<'_>
         requires { self.now.given < length self.now.history }
-        ensures { result.now ≡ last_changes self.now.history }
+        ensures { changes_left result ≡ last_changes self.now.history }
     {
-        self.history.last_changes()
+        let made = self.tentative.made();
+        if made.is_empty() {
+            self.history.last_changes()
+        } else {
+            Changes::given(made)
+        }
     }
 
     /// A unit's outcome: that of its closing entry, or Skipped where it was skipped. None where it
@@ -211,18 +220,19 @@ impl Book {
     pub fn spare_changes(&self) -> u64
         ensures { result ≡ self.now.spare_changes }
     {
-        self.history.spare_changes().min(self.tentative.room())
+        self.history.spare_changes().min(self.tentative.capacity())
     }
 
-    /// Makes room for at least so many more entries and changes. It fails for want of memory, and
-    /// only where there isn't room for them yet. The graph, the state and the history stay, also
-    /// then.
+    /// Makes room for at least so many more entries and changes. It fails for want of memory, or where the entries that the book keeps
+    /// would have 2^32 changes then, or as many closings; and only where there isn't room for them yet. The graph, the state and the
+    /// history stay, also then. A book that gives its entries away (`give`) has room again.
     pub fn reserve(&mut self, entries: u64, changes: u64) -> Result<(), AllocError>
         ensures same { SameBook self.old self.new }
         ensures entries { OnOk result (entries ≤ self.new.spare_entries) }
         ensures changes { OnOk result (changes ≤ self.new.spare_changes) }
         ensures full { OnErr result ((self.old.spare_entries < entries) ⊎ (self.old.spare_changes < changes)) }
     {
+        self.tentative.settle();
         self.history.reserve(entries as usize, changes as usize)?;
         self.tentative.reserve(changes as usize)
     }
@@ -232,7 +242,7 @@ impl Book {
     /// `own` are the locks that the worker owns, by rising number, as its pass shows them. It may be empty: what the run comes to doesn't depend
     /// on it. But without them a transform that gives back all locks looks at each of the graph.
     ///
-    /// Where it finishes or fails, the history has one more entry. Memory is taken first: the call
+    /// Where it finishes or fails, the history has one more entry. Room is made first (`reserve`): the call
     /// fails for want of it, and only where there isn't room for one entry and for the most changes
     /// that the transform makes. Then it wasn't run, and the state and the history are as before.
     pub fn run<T: Transform>(
@@ -270,7 +280,6 @@ impl Book {
                     self.tentative.state(),
                     self.tentative.made(),
                 );
-                self.tentative.settle();
             }
             Disposition::Failed => self.history.push_failed(worker, &transform.kind()),
             Disposition::Retry => {}

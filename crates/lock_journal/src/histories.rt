@@ -1,16 +1,20 @@
 //! The history of a book.
 ghost use Rattle.std.specs.Prelude.{◌≡◌, ◌<◌, ◌≤◌, ◌+◌, ◌-◌, ◌⊎◌, ◌∷◌, ◌++◌, [], length, take, IsTrue};
 ghost use Rattle.std.specs.Prelude.{Some, None, OnOk, OnErr, IfOk, IfSome, slice_get};
+ghost use Rattle.std.specs.List.{AllByRecursion};
 ghost use Rattle.lock_journal.specs.Bounds.{IsFitKind};
 ghost use Rattle.lock_transforms.specs.Entry.{entry};
+ghost use Rattle.lock_journal.specs.Changes.{changes_left};
 ghost use Rattle.lock_journal.specs.Shown.{entry_shown};
 ghost use Rattle.lock_journal.specs.Closings.{outcome_in, ClosesWithin};
 ghost use Rattle.lock_journal.specs.HistoryView.{GivesAway, SameHistory};
 ghost use Rattle.lock_journal.specs.LastChanges.{last_changes};
+ghost use Rattle.lock_journal.specs.StoredChange.{IsOwnChange};
 ghost use Rattle.lock_journal.specs.declared.segments.TheConstants.{MOST_BEFORE};
 
 use crate::pasts::Past;
 use crate::segments::Segment;
+use crate::shown_changes::Changes;
 use crate::shown_entries::Shown;
 use item_actions::Outcome;
 use lock_transforms::Kind;
@@ -103,15 +107,15 @@ impl History {
         requires kept { self.now.given ≤ place }
         requires within { place < length self.now.entries }
         ensures shown { slice_get self.now.entries place ≡ Some (entry_shown result) }
-        ensures no_changes { IsTrue result.failed → result.changes.now ≡ [] }
+        ensures no_changes { IsTrue result.failed → changes_left result.changes ≡ [] }
     {
         self.kept.entry(place - self.kept.before())
     }
 
     /// The changes of the last entry, which wasn't given away. Where it failed there are none.
-    pub(crate) fn last_changes(&self) -> &[Change]
+    pub(crate) fn last_changes(&self) -> Changes<'_>
         requires { self.now.given < length self.now.entries }
-        ensures { result.now ≡ last_changes self.now.entries }
+        ensures { changes_left result ≡ last_changes self.now.entries }
     {
         self.kept.last_changes()
     }
@@ -125,11 +129,12 @@ impl History {
         self.kept.outcome(unit)
     }
 
-    /// Adds a finished entry.
+    /// Adds a finished entry, whose changes are the worker's own.
     #[inline(always)]
     pub(crate) fn push_finished(&mut self, worker: WorkerId, kind: &Kind, changes: &[Change])
         requires some_entry { 0 < self.old.spare_entries }
         requires some_changes { length changes.now ≤ self.old.spare_changes }
+        requires own { AllByRecursion (IsOwnChange worker) changes.now }
         requires closes { ClosesWithin self.old.units kind.now }
         ensures entries { self.new.entries ≡ self.old.entries ++ entry worker kind.now (Some changes.now) ∷ [] }
         ensures given { self.new.given ≡ self.old.given }

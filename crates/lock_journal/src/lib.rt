@@ -6,7 +6,9 @@ mod histories;
 mod history_laws;
 mod pasts;
 mod segments;
+mod shown_changes;
 mod shown_entries;
+mod stored_changes;
 mod stored_entries;
 
 pub use books::Book;
@@ -20,4 +22,5 @@ pub use history_laws::{
     worked_histories_are_lawful,
 };
 pub use segments::Segment;
+pub use shown_changes::Changes;
 pub use shown_entries::Shown;

@@ -1,18 +1,25 @@
 //! Entries one after another: those that a book keeps, and those that it gave away.
 ghost use Rattle.std.specs.Prelude.{◌≡◌, ◌<◌, ◌≤◌, ◌+◌, ◌-◌, ◌⊎◌, ◌∷◌, ◌++◌, [], ℕ, length, take, IsTrue};
 ghost use Rattle.std.specs.Prelude.{Some, None, OnOk, OnErr, IfOk, IfSome, All, slice_get, slice_index_or};
+ghost use Rattle.std.specs.List.{AllByRecursion};
 ghost use Rattle.lock_journal.specs.Bounds.{IsFitKind, IsFitOutcome};
 ghost use Rattle.lock_transforms.specs.Entry.{entry};
+ghost use Rattle.lock_journal.specs.Changes.{changes_left};
 ghost use Rattle.lock_journal.specs.Shown.{entry_shown};
 ghost use Rattle.lock_journal.specs.Closings.{closing_of, outcome_in, ClosesWithin};
 ghost use Rattle.lock_journal.specs.StoredEntry.{IsNumberOf, closing_at, kind_from, place_after, place_by};
 ghost use Rattle.lock_journal.specs.SegmentView.{IsBegunBehind, IsCleared, SameSegment};
 ghost use Rattle.lock_journal.specs.LastChanges.{last_changes};
+ghost use Rattle.lock_journal.specs.StoredChange.{IsOwnChange};
 ghost use Rattle.lock_journal.specs.declared.segments.TheConstants.{MOST_BEFORE, NOWHERE};
+ghost use Rattle.lock_journal.specs.declared.stored_entries.TheConstants.{MOST_PLACES};
 
+use crate::shown_changes::Changes;
 use crate::shown_entries::Shown;
+use crate::stored_changes::{StoredChange, store_changes};
 use crate::stored_entries::{
-    StoredEntry, changes_of, closings_until, end_before, kind_of, store_kind,
+    MOST_PLACES, StoredEntry, changes_of, closings_until, end_before, kind_of, place_behind,
+    store_kind,
 };
 use item_actions::Outcome;
 use lock_transforms::{Closed, Kind};
@@ -20,8 +27,8 @@ use resource_lock::{Change, WorkerId};
 use std::alloc::{AllocError, Global};
 use std::marker::Model;
 
-/// Where a unit's closing stands that has none.
-const NOWHERE: usize = usize::MAX;
+/// Where a unit's closing stands that has none: behind all places.
+const NOWHERE: u32 = u32::MAX;
 
 /// The most entries that can come before a segment: so many that their number and that of its own stay below 2^64.
 pub(crate) const MOST_BEFORE: u64 = 1 << 62;
@@ -34,9 +41,9 @@ pub(crate) const MOST_BEFORE: u64 = 1 << 62;
 #[derive(Drop)]
 pub struct Segment {
     stored: Vec<StoredEntry>,
-    changes: Vec<Change>,
+    changes: Vec<StoredChange>,
     closings: Vec<Closed>,
-    closed_at: Vec<usize>,
+    closed_at: Vec<u32>,
     before: u64,
 }
 
@@ -54,7 +61,7 @@ impl Model for Segment {
 
 impl Segment {
     /// A segment without entries, for a graph of so many units, with room for at least so many entries and changes. It fails for want of
-    /// memory alone.
+    /// memory, and where one of the two numbers is 2^32 or more: a segment has at most 2^32 - 1 changes, and as many closings.
     pub fn opening(
         alloc: Global,
         units: u32,
@@ -67,6 +74,9 @@ impl Segment {
         ensures entries { IfOk result (λ segment. entries ≤ segment.spare_entries) }
         ensures changes { IfOk result (λ segment. changes ≤ segment.spare_changes) }
     {
+        if entries > MOST_PLACES || changes > MOST_PLACES {
+            return Err(AllocError);
+        }
         Ok(Segment {
             stored: Vec::with_capacity(alloc, entries as usize)?,
             changes: Vec::with_capacity(alloc, changes as usize)?,
@@ -111,25 +121,32 @@ impl Segment {
     pub fn spare_entries(&self) -> u64
         ensures { result ≡ self.now.spare_entries }
     {
-        let entries = self.stored.capacity() - self.stored.len();
-        let closings = self.closings.capacity() - self.closings.len();
-        entries.min(closings) as u64
+        let entries = (self.stored.capacity() - self.stored.len()) as u64;
+        let closings = (self.closings.capacity() - self.closings.len()) as u64;
+        entries.min(closings.min(free_places(self.closings.len())))
     }
 
     /// How many more changes there is room for.
     pub fn spare_changes(&self) -> u64
         ensures { result ≡ self.now.spare_changes }
     {
-        (self.changes.capacity() - self.changes.len()) as u64
+        let changes = (self.changes.capacity() - self.changes.len()) as u64;
+        changes.min(free_places(self.changes.len()))
     }
 
-    /// Makes room for so many more entries and changes.
+    /// Makes room for so many more entries and changes. It fails for want of memory, and where the segment would have 2^32 changes or
+    /// closings then, or more.
     pub(crate) fn reserve(&mut self, entries: usize, changes: usize) -> Result<(), AllocError>
         ensures same { SameSegment self.old self.new }
         ensures entries { OnOk result (entries ≤ self.new.spare_entries) }
         ensures changes { OnOk result (changes ≤ self.new.spare_changes) }
         ensures full { OnErr result ((self.old.spare_entries < entries) ⊎ (self.old.spare_changes < changes)) }
     {
+        if entries as u64 > free_places(self.closings.len())
+            || changes as u64 > free_places(self.changes.len())
+        {
+            return Err(AllocError);
+        }
         self.stored.try_reserve(entries)?;
         self.closings.try_reserve(entries)?;
         self.changes.try_reserve(changes)
@@ -140,7 +157,7 @@ impl Segment {
     pub fn entry(&self, place: u64) -> Shown<'_>
         requires { place < length self.now.entries }
         ensures shown { slice_get self.now.entries place ≡ Some (entry_shown result) }
-        ensures no_changes { IsTrue result.failed → result.changes.now ≡ [] }
+        ensures no_changes { IsTrue result.failed → changes_left result.changes ≡ [] }
     {
         let place = place as usize;
         let stored = self.stored[place];
@@ -154,12 +171,12 @@ impl Segment {
     }
 
     /// The changes of the last entry. Where it failed, or there is no entry, there are none.
-    pub(crate) fn last_changes(&self) -> &[Change]
-        ensures { result.now ≡ last_changes self.now.entries }
+    pub(crate) fn last_changes(&self) -> Changes<'_>
+        ensures { changes_left result ≡ last_changes self.now.entries }
     {
         match self.stored.last() {
             Some(last) => changes_of(*last, self.changes.len(), &self.changes),
-            None => &[],
+            None => Changes::none(),
         }
     }
 
@@ -168,14 +185,15 @@ impl Segment {
         requires { unit < self.now.units }
         ensures { result ≡ outcome_in self.now.entries unit }
     {
-        outcome_at(&self.closings, self.closed_at[unit as usize])
+        outcome_at(&self.closings, self.closed_at[unit as usize] as usize)
     }
 
-    /// Adds a finished entry.
+    /// Adds a finished entry, whose changes are the worker's own.
     #[inline(always)]
     pub(crate) fn push_finished(&mut self, worker: WorkerId, kind: &Kind, changes: &[Change])
         requires some_entry { 0 < self.old.spare_entries }
         requires some_changes { length changes.now ≤ self.old.spare_changes }
+        requires own { AllByRecursion (IsOwnChange worker) changes.now }
         requires closes { ClosesWithin self.old.units kind.now }
         ensures entries { self.new.entries ≡ self.old.entries ++ entry worker kind.now (Some changes.now) ∷ [] }
         ensures before { self.new.before ≡ self.old.before }
@@ -185,9 +203,8 @@ impl Segment {
         ensures fit { IsFitKind kind.now }
     {
         note_bounds(kind);
-        let start = self.changes.len();
-        // There is room, so this takes no memory.
-        let _ = self.changes.extend_from_slice(changes);
+        let start = place_behind(self.changes.len());
+        store_changes(changes, &mut self.changes);
         let (stored_kind, number) = store_kind(kind, &mut self.closings);
         let earlier = set_place(&mut self.closed_at, kind, number);
         self.stored.push_reserved(StoredEntry {
@@ -213,7 +230,7 @@ impl Segment {
         note_bounds(kind);
         let (kind, number) = store_kind(kind, &mut self.closings);
         self.stored.push_reserved(StoredEntry {
-            start: self.changes.len(),
+            start: place_behind(self.changes.len()),
             number,
             earlier: NOWHERE,
             worker,
@@ -237,7 +254,7 @@ impl Segment {
             put_back(&mut self.closed_at, last, &self.closings);
             self.closings
                 .truncate(closings_until(last, self.closings.len()));
-            self.changes.truncate(last.start);
+            self.changes.truncate(last.start as usize);
         }
     }
 
@@ -261,6 +278,13 @@ impl Segment {
     }
 }
 
+// How many places of 32 bits are free behind so many.
+fn free_places(len: usize) -> u64
+    ensures { result ≡ MOST_PLACES - len }
+{
+    MOST_PLACES.saturating_sub(len as u64)
+}
+
 // The outcome of the closing at a place, or Skipped where there is none.
 fn outcome_at(closings: &[Closed], place: usize) -> Outcome
     ensures { result ≡ (closing_at closings.now place).outcome }
@@ -273,7 +297,7 @@ fn outcome_at(closings: &[Closed], place: usize) -> Outcome
 
 // Sets the place of the closing of the unit that a finished entry of the kind closes, if it closes one,
 // and answers where it stood.
-fn set_place(all: &mut [usize], kind: &Kind, place: usize) -> usize
+fn set_place(all: &mut [u32], kind: &Kind, place: u32) -> u32
     requires { ClosesWithin (length all.old) kind.now }
     ensures len { length all.new ≡ length all.old }
     ensures places { (u : ℕ) → slice_index_or all.new u NOWHERE ≡ place_after (closing_of u kind.now) place (slice_index_or all.old u NOWHERE) }
@@ -290,7 +314,7 @@ fn set_place(all: &mut [usize], kind: &Kind, place: usize) -> usize
 }
 
 // Sets where the closing stood before of the unit that a stored entry closed, if it closed one.
-fn put_back(all: &mut [usize], stored: StoredEntry, closings: &[Closed])
+fn put_back(all: &mut [u32], stored: StoredEntry, closings: &[Closed])
     requires number { IsNumberOf (length closings.now) stored.kind stored.number }
     requires closes { ClosesWithin (length all.old) (kind_from closings.now stored.kind stored.number) }
     ensures len { length all.new ≡ length all.old }

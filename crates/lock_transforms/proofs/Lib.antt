@@ -10,4 +10,5 @@ pub mod TakenUp
 pub mod SetDown
 pub mod Most
 mod Admitting
+pub mod FewAllowed
 mod SameChanges

@@ -55,6 +55,14 @@ pub record LeadsTo (before : StateView) (t : TentativeView) : Type 0 where
   pub possible : can_all before t.worker t.made ≡ true
   pub state : t.state ≡ make_all before t.worker t.made
 
+-- a change noted that was made before
+abbrev pub recalled : TentativeView → Change → TentativeView
+recalled t c = record t { made = t.made ++ c ∷ []; room = t.room - 1 }
+
+-- changes noted, in order, that were made before
+abbrev pub all_recalled : TentativeView → List Change → TentativeView
+all_recalled t cs = record t { made = t.made ++ cs; room = t.room - length cs }
+
 -- all but the state stays
 abbrev pub with_state : TentativeView → StateView → TentativeView
 with_state t s = record t { state = s }

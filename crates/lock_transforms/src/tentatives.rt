@@ -10,8 +10,8 @@ ghost use Rattle.resource_lock.specs.StateView.{StateView, IsLockOf, holding_of,
 ghost use Rattle.resource_lock.specs.Trying.{can_own, can_lease};
 ghost use Rattle.lock_transforms.specs.Allowed.{Allowed, IsKindOf};
 ghost use Rattle.lock_transforms.specs.MostChanges.{IsRoomFor};
-ghost use Rattle.lock_transforms.specs.TentativeView.{SameTentative, noted, settled, taken_back, with_lease, with_lock, with_state, without_lease};
-ghost use Rattle.lock_transforms.specs.TentativeView.{without_lock};
+ghost use Rattle.lock_transforms.specs.TentativeView.{SameTentative, noted, recalled, settled, taken_back, with_lease, with_lock, with_state};
+ghost use Rattle.lock_transforms.specs.TentativeView.{without_lease, without_lock};
 ghost use Rattle.lock_transforms.specs.Entry.{entry};
 
 use crate::entries::Kind;
@@ -82,6 +82,13 @@ impl Tentative {
         ensures { result ≡ self.now.room }
     {
         (self.made.capacity() - self.made.len()) as u64
+    }
+
+    /// How many changes there is room for, together with those noted.
+    pub fn capacity(&self) -> u64
+        ensures { result ≡ self.now.room + length self.now.made }
+    {
+        self.made.capacity() as u64
     }
 
     /// Makes a change, and notes it.
@@ -180,8 +187,8 @@ impl Tentative {
         self.made.try_reserve(changes)
     }
 
-    /// Applies a transform for a worker, and takes its changes back unless it finished. `own` may name the worker's locks
-    /// (`Transform::apply`).
+    /// Applies a transform for a worker, and takes its changes back unless it finished. The changes noted before are forgotten first.
+    /// `own` may name the worker's locks (`Transform::apply`).
     pub fn attempt<T: Transform>(
         &mut self,
         worker: WorkerId,
@@ -189,10 +196,9 @@ impl Tentative {
         transform: &T,
     ) -> Disposition
         requires worker_in_range { worker.0 < self.old.graph.workers }
-        requires fresh { self.old.made ≡ [] }
-        requires room { T.most transform.now self.old.graph worker self.old.state ≤ self.old.room }
+        requires room { T.most transform.now self.old.graph worker self.old.state ≤ self.old.room + length self.old.made }
         ensures graph { self.new.graph ≡ self.old.graph }
-        ensures room { self.new.room + length self.new.made ≡ self.old.room }
+        ensures room { self.new.room + length self.new.made ≡ self.old.room + length self.old.made }
         ensures few { length self.new.made ≤ T.most transform.now self.old.graph worker self.old.state }
         ensures made { result ≡ Disposition.Finished
             → self.new.state ≡ make_all self.old.state worker self.new.made }
@@ -209,6 +215,7 @@ impl Tentative {
             → T.retries_on transform.now self.old.graph worker self.old.state }
     {
         self.worker = worker;
+        self.made.clear();
         let disposition = transform.apply(self, own);
         match disposition {
             Disposition::Finished => {}
@@ -218,13 +225,12 @@ impl Tentative {
     }
 
     /// Makes the changes of an entry, where it is allowed with them, and answers whether it is. They
-    /// are taken back where it isn't, and unless `keep` says that they stay.
+    /// are taken back where it isn't, and unless `keep` says that they stay. The changes noted before are forgotten first.
     pub fn admit(&mut self, worker: WorkerId, kind: Kind, changes: &[Change], keep: bool) -> bool
         requires worker_in_range { worker.0 < self.old.graph.workers }
-        requires fresh { self.old.made ≡ [] }
-        requires room { IsRoomFor self.old.graph self.old.room }
+        requires room { IsRoomFor self.old.graph (self.old.room + length self.old.made) }
         ensures graph { self.new.graph ≡ self.old.graph }
-        ensures room { self.new.room + length self.new.made ≡ self.old.room }
+        ensures room { self.new.room + length self.new.made ≡ self.old.room + length self.old.made }
         ensures allowed { result ≡ true → Allowed self.old.graph self.old.state (entry worker kind (Some changes.now)) }
         ensures refused { result ≡ false → ¬ Allowed self.old.graph self.old.state (entry worker kind (Some changes.now)) }
         ensures made { result ≡ true → keep ≡ true → self.new.made ≡ changes.now }
@@ -233,6 +239,7 @@ impl Tentative {
         ensures undone { result ≡ false ⊎ keep ≡ false → self.new.state ≡ self.old.state }
     {
         self.worker = worker;
+        self.made.clear();
         let allowed = make_given(self, kind, changes);
         if !allowed || !keep {
             self.undo();
@@ -247,13 +254,21 @@ impl Tentative {
         self.made.clear();
     }
 
-    /// Takes back changes that a worker made earlier and that led to this state, where no others were
-    /// made since. It takes no memory.
-    pub fn take_back(&mut self, worker: WorkerId, changes: &[Change])
-        requires { (before : StateView) × CameFrom before self.old.state worker changes.now }
-        ensures { (before : StateView) → CameFrom before self.old.state worker changes.now → self.new ≡ with_state self.old before }
+    /// Notes a change that was made earlier, behind those noted so far. It isn't made again.
+    pub fn recall(&mut self, change: Change)
+        requires { 0 < self.old.room }
+        ensures { self.new ≡ recalled self.old change }
     {
-        self.state.take_back(worker, changes);
+        self.made.push_reserved(change);
+    }
+
+    /// Takes back the changes noted, which a worker made earlier and that led to this state, where no others were made since. They
+    /// stay noted. It takes no memory.
+    pub fn take_back(&mut self, worker: WorkerId)
+        requires { (before : StateView) × CameFrom before self.old.state worker self.old.made }
+        ensures { (before : StateView) → CameFrom before self.old.state worker self.old.made → self.new ≡ with_state self.old before }
+    {
+        self.state.take_back(worker, &self.made);
     }
 
     // Takes back the changes made, from the last to the first.

@@ -4,7 +4,7 @@ ghost use Rattle.lock_journal.specs.Shown.{entry_shown};
 ghost use Rattle.history_text.specs.HistoryView.{entry_read};
 
 use history_text::{History, HistoryEntry};
-use lock_journal::Shown;
+use lock_journal::{Changes, Shown};
 use task_ordering::Entries;
 
 /// The entries of a history that was read, which needn't be lawful.
@@ -39,13 +39,13 @@ fn shown(entry: &HistoryEntry) -> Shown<'_>
             worker: entry.worker,
             kind: entry.kind,
             failed: false,
-            changes: changes.as_slice(),
+            changes: Changes::given(changes),
         },
         None => Shown {
             worker: entry.worker,
             kind: entry.kind,
             failed: true,
-            changes: &[],
+            changes: Changes::none(),
         },
     }
 }

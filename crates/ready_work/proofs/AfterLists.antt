@@ -1,6 +1,6 @@
 -- The dependents of each task, from the lists of the tasks that each comes after.
 use Rattle.std.proofs.Common.{◌≡◌, ℕ, zero, suc, ◌<◌, ◌≤◌, List, [], ◌∷◌, length, get_or, map, refl, sym, ◌∙◌, ap, subst, arith, ◌⊎◌, inl, inr}
-use Rattle.std.specs.Prelude.{Contains, Vec}
+use Rattle.std.specs.Prelude.{◌^◌, Contains, Vec}
 use Rattle.std.specs.List.{All}
 use Rattle.std.specs.declared.alloc.Global.{Global}
 use Rattle.std.proofs.lemmas.Bool.{cases_lt}
@@ -43,9 +43,9 @@ has_after g k i lt = at (cases_lt k (length g.tasks))
     at (inl low) = low
     at (inr past) = absurd (omega (arith, lt, ap (λ (t : GraphTaskView). length t.after) (get_or_past g.tasks k no_task past)))
 
-dependents_from : (g : GraphView) (all : List (Vec ℕ Global)) → ListsDependents (afters_in g.tasks) (length g.tasks) (lists_of all) → AreDependents g all
+dependents_from : (g : GraphView) (all : Dependencies) → ListsDependents (afters_in g.tasks) (length g.tasks) all → AreDependents g all
 dependents_from g all lists = record {
-  size = sym (length-map all (λ row. row.items)) ∙ lists.size ∙ size_of g;
+  size = lists.size ∙ size_of g;
   each = λ t k. (
     λ c. subst (λ us. Contains us t) (after_in g.tasks k) (lists.sound t k c).1,
     λ c. lists.complete t k (has_after g k c.0 c.1) (subst (λ us. Contains us t) (sym (after_in g.tasks k)) c),
@@ -53,13 +53,17 @@ dependents_from g all lists = record {
   as_often = λ t k. lists.as_often t k ∙ ap (λ (d : Dependencies). times (after d k) t) (take_all (length g.tasks) (afters_in g.tasks) (omega (arith, size_of g))) ∙ ap (λ us. times us t) (after_in g.tasks k);
 }
 
-pub are_dependents : (g : GraphView) (rows : List (Vec ℕ Global)) (all : List (Vec ℕ Global)) → lists_of rows ≡ afters_in g.tasks → ListsDependents (lists_of rows) (length rows) (lists_of all) → AreDependents g all
+pub are_dependents : (g : GraphView) (rows : List (Vec ℕ Global)) (all : Dependencies) → lists_of rows ≡ afters_in g.tasks → ListsDependents (lists_of rows) (length rows) all → AreDependents g all
 are_dependents g rows all same lists =
     let size : length rows ≡ length g.tasks = sym (length-map rows (λ row. row.items)) ∙ ap length same ∙ size_of g in
-    dependents_from g all (subst (λ n. ListsDependents (afters_in g.tasks) n (lists_of all)) size (subst (λ d. ListsDependents d (length rows) (lists_of all)) same lists))
+    dependents_from g all (subst (λ n. ListsDependents (afters_in g.tasks) n all) size (subst (λ d. ListsDependents d (length rows) all) same lists))
 
 -- the dependents of a task are in range
-pub all_within : (g : GraphView) (all : List (Vec ℕ Global)) (t : ℕ) → AreDependents g all → All (λ k. k < length g.tasks) (after (lists_of all) t)
+pub all_within : (g : GraphView) (all : Dependencies) (t : ℕ) → AreDependents g all → All (λ k. k < length g.tasks) (after all t)
 all_within g all t are = λ k d lt.
-    let named = (are.each t (get_or (after (lists_of all) t) k d)).0 (k, lt, get_or_default (after (lists_of all) t) k _ d lt) in
-    has_after g (get_or (after (lists_of all) t) k d) named.0 named.1
+    let named = (are.each t (get_or (after all t) k d)).0 (k, lt, get_or_default (after all t) k _ d lt) in
+    has_after g (get_or (after all t) k d) named.0 named.1
+
+-- and have 32 bits
+pub each_small : (g : GraphView) (all : Dependencies) (t k : ℕ) → Fits g → AreDependents g all → Contains (after all t) k → k < 2 ^ 32
+each_small g all t k fits are has = let named = (are.each t k).0 has in omega (arith, has_after g k named.0 named.1, fits.few_tasks)

@@ -1,5 +1,5 @@
 -- Counts of those that tasks come after.
-use Rattle.std.proofs.Common.{◌≡◌, ◌≢◌, ℕ, zero, ◌+◌, ◌<◌, ◌≤◌, Bool, true, false, not, ◌&&◌, ◌||◌, eqb, List, [], ◌∷◌, length, get_or, set, take, refl, sym, ◌∙◌, ap, subst, arith, ◌⊎◌, inl, inr, Vec, Global}
+use Rattle.std.proofs.Common.{◌≡◌, ◌≢◌, ℕ, zero, ◌+◌, ◌<◌, ◌≤◌, Bool, true, false, not, ◌&&◌, ◌||◌, eqb, List, [], ◌∷◌, length, get_or, set, take, refl, sym, ◌∙◌, ap, subst, arith, ◌⊎◌, inl, inr}
 use Rattle.std.specs.Prelude.{Contains}
 use Rattle.std.specs.List.{All, count_by, list_all, list_any}
 use Rattle.std.proofs.lemmas.Bool.{and_from, and_parts, cases_eq, cases_lt, eq-eqb, ne_eqb, or_cases, or_left, or_right, true≢false}
@@ -11,7 +11,7 @@ use Rattle.resource_lock.specs.Fits.{Fits}
 use Rattle.resource_lock.specs.GraphView.{GraphView, GraphTaskView, no_task, task_of}
 use Rattle.resource_lock.specs.declared.limits.TheConstants.{MAX_AFTER}
 use Rattle.ready_work.specs.DependentLists.{times}
-use Rattle.ready_work.specs.Rank.{after, lists_of}
+use Rattle.ready_work.specs.Rank.{Dependencies, after}
 use Rattle.ready_work.specs.Dependents.{AreDependents}
 use Rattle.ready_work.specs.DependencyCounts.{count_of, is_counted, weight, CanPut, IsOfSize, AreCountsOf, PutsCount}
 use Rattle.ready_work.specs.declared.dependency_counts.DependencyCounts.{DependencyCounts}
@@ -179,15 +179,15 @@ few_after g fits k = at (cases_lt k (length g.tasks))
     at (inl lt) = fits.few_after k no_task lt
     at (inr past) = omega (arith, ap (λ (t : GraphTaskView). length t.after) (get_or_past g.tasks k no_task past))
 
-pub can_put : (g : GraphView) (all : List (Vec ℕ Global)) (t : ℕ) (dependency_counts : DependencyCounts) → Fits g → AreDependents g all → IsOfSize (length g.tasks) dependency_counts → AreCountsOf g dependency_counts → t < length g.tasks → CanPut (after (lists_of all) t) t dependency_counts
+pub can_put : (g : GraphView) (all : Dependencies) (t : ℕ) (dependency_counts : DependencyCounts) → Fits g → AreDependents g all → IsOfSize (length g.tasks) dependency_counts → AreCountsOf g dependency_counts → t < length g.tasks → CanPut (after all t) t dependency_counts
 can_put g all t dependency_counts fits are size is lt = record {
   within = omega (arith, size.counted, lt);
-  in_range = subst (λ n. All (λ k. k < n) (after (lists_of all) t)) (sym size.counts) (all_within g all t are);
+  in_range = subst (λ n. All (λ k. k < n) (after all t)) (sym size.counts) (all_within g all t are);
   falls = λ counted k. omega (arith, are.as_often t k, is.each k, times_counted (is_counted dependency_counts) t counted (task_of g k).after);
   rises = λ counted k. omega (arith, are.as_often t k, is.each k, times_uncounted (is_counted dependency_counts) t counted (task_of g k).after, few_after g fits k);
 }
 
-pub counts_put : (g : GraphView) (all : List (Vec ℕ Global)) (t : ℕ) (counted : Bool) (old new : DependencyCounts) → AreDependents g all → PutsCount (after (lists_of all) t) t counted old new → AreCountsOf g old → AreCountsOf g new
+pub counts_put : (g : GraphView) (all : Dependencies) (t : ℕ) (counted : Bool) (old new : DependencyCounts) → AreDependents g all → PutsCount (after all t) t counted old new → AreCountsOf g old → AreCountsOf g new
 counts_put g all t counted old new are puts is = record { each = λ k. each k (is_counted old t) counted refl refl }
   where
     as_before : is_counted new t ≡ is_counted old t → (k : ℕ) → (k ≡ t) ⊎ (k ≡ t → ⊥) → is_counted new k ≡ is_counted old k
@@ -198,7 +198,7 @@ counts_put g all t counted old new are puts is = record { each = λ k. each k (i
     same k at_task counts = counts ∙ is.each k ∙ sym (count_all (is_counted new) (is_counted old) (λ j. as_before at_task j (cases_eq j t)) (task_of g k).after)
 
     each : (k : ℕ) (was now : Bool) → is_counted old t ≡ was → counted ≡ now → count_of new k ≡ count_by (is_counted new) (task_of g k).after
-    each k true true o c = same k (puts.put ∙ c ∙ sym o) (omega (arith, puts.counts k, ap (λ b. weight b (times (after (lists_of all) t) k)) o, ap (λ b. weight b (times (after (lists_of all) t) k)) c))
-    each k false false o c = same k (puts.put ∙ c ∙ sym o) (omega (arith, puts.counts k, ap (λ b. weight b (times (after (lists_of all) t) k)) o, ap (λ b. weight b (times (after (lists_of all) t) k)) c))
-    each k false true o c = omega (arith, puts.counts k, ap (λ b. weight b (times (after (lists_of all) t) k)) o, ap (λ b. weight b (times (after (lists_of all) t) k)) c, is.each k, are.as_often t k, count_more (is_counted old) (is_counted new) t puts.others o (puts.put ∙ c) (task_of g k).after)
-    each k true false o c = omega (arith, puts.counts k, ap (λ b. weight b (times (after (lists_of all) t) k)) o, ap (λ b. weight b (times (after (lists_of all) t) k)) c, is.each k, are.as_often t k, count_more (is_counted new) (is_counted old) t (λ j ne. sym (puts.others j ne)) (puts.put ∙ c) o (task_of g k).after)
+    each k true true o c = same k (puts.put ∙ c ∙ sym o) (omega (arith, puts.counts k, ap (λ b. weight b (times (after all t) k)) o, ap (λ b. weight b (times (after all t) k)) c))
+    each k false false o c = same k (puts.put ∙ c ∙ sym o) (omega (arith, puts.counts k, ap (λ b. weight b (times (after all t) k)) o, ap (λ b. weight b (times (after all t) k)) c))
+    each k false true o c = omega (arith, puts.counts k, ap (λ b. weight b (times (after all t) k)) o, ap (λ b. weight b (times (after all t) k)) c, is.each k, are.as_often t k, count_more (is_counted old) (is_counted new) t puts.others o (puts.put ∙ c) (task_of g k).after)
+    each k true false o c = omega (arith, puts.counts k, ap (λ b. weight b (times (after all t) k)) o, ap (λ b. weight b (times (after all t) k)) c, is.each k, are.as_often t k, count_more (is_counted new) (is_counted old) t (λ j ne. sym (puts.others j ne)) (puts.put ∙ c) o (task_of g k).after)

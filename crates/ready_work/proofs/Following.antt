@@ -1,5 +1,5 @@
 -- What holds of units, tasks and locks that changes don't touch, and the index as it follows changes.
-use Rattle.std.proofs.Common.{◌≡◌, ℕ, zero, suc, ◌+◌, ◌<◌, ◌≤◌, not, List, [], ◌∷◌, length, get_or, set, drop, None, Some, Vec, Global, refl, sym, ap, ◌∙◌, subst, arith, ◌⊎◌, inl, inr}
+use Rattle.std.proofs.Common.{◌≡◌, ℕ, zero, suc, ◌+◌, ◌<◌, ◌≤◌, not, List, [], ◌∷◌, length, get_or, set, drop, None, Some, refl, sym, ap, ◌∙◌, subst, arith, ◌⊎◌, inl, inr}
 use Rattle.std.specs.Prelude.{◌↔◌}
 use Rattle.std.specs.List.{AllByRecursion}
 use Rattle.std.proofs.lemmas.Bool.{cases_eq}
@@ -16,7 +16,7 @@ use Rattle.resource_lock.specs.declared.ids.WorkerId.{WorkerId}
 use Rattle.resource_lock.specs.declared.marks.Mark.TheVariants.{Waiting}
 use Rattle.resource_lock.specs.declared.marks.MarkId.TheVariants.{Task as TaskOf, Action as ActionOf, Unit as UnitOf}
 use Rattle.resource_lock.proofs.lemmas.Runs.{all_named_along, same_shape-make_all}
-use Rattle.ready_work.specs.Rank.{after, lists_of}
+use Rattle.ready_work.specs.Rank.{Dependencies, after}
 use Rattle.ready_work.specs.Choices.{CanSkip, IsFree, IsStartable, IsOpenUnit, IsUnended}
 use Rattle.ready_work.specs.Dependents.{AreDependents}
 use Rattle.ready_work.specs.ReadyWork.{Follows, IsIndexBut, IsIndexOf, Lead, Notes, TouchLock, TouchTask, TouchUnit, TouchesLock, TouchesTask, TouchesUnit}
@@ -249,7 +249,7 @@ next_looked : (g : GraphView) (s : StateView) (c : Change) (cs : List Change) (o
 next_looked g s c cs old new notes is = record {
   made = record {
     fits = is.made.fits;
-    dependents = subst (λ all. AreDependents g all.items) (sym notes.dependents) is.made.dependents;
+    dependents = subst (λ all. AreDependents g all) (sym notes.dependents) is.made.dependents;
     units = let a = is.made.units in let b = notes.open_units.room in omega arith;
     tasks = notes.tasks.room (length g.tasks) is.made.tasks;
     dependency_counts = notes.tasks.dependency_counts is.made.dependency_counts;
@@ -275,7 +275,7 @@ pub index_next : (g : GraphView) (s : StateView) (changes : List Change) (i : �
 index_next g s changes i d old new lt notes is = next_looked g s (get_or changes i d) (drop (i + 1) changes) old new notes (subst (λ (cs : List Change). IsIndexBut g s (TouchUnit cs) (TouchTask cs) (TouchLock cs) old) (drop_more changes i d lt) is)
 
 -- a task's mark moved: it was noted by the dependents of the graph
-pub noted_task : (g : GraphView) (s : StateView) (all : List (Vec ℕ Global)) (task : ℕ) (old new : TaskSets) → AreDependents g all → NotesTask s (after (lists_of all) task) task old new → MovesTasks g s (λ k. k ≡ task) old new
+pub noted_task : (g : GraphView) (s : StateView) (all : Dependencies) (task : ℕ) (old new : TaskSets) → AreDependents g all → NotesTask s (after all task) task old new → MovesTasks g s (λ k. k ≡ task) old new
 noted_task g s all task old new are notes = record {
   skippable = notes.skippable;
   startable = notes.startable;

@@ -1,6 +1,7 @@
 pub mod Words
 pub mod Sets
 pub mod Members
+pub mod NumberRanges
 pub mod AfterLists
 pub mod Places
 pub mod Counting

@@ -1,11 +1,11 @@
 -- The counts and the sets as they are made.
-use Rattle.std.proofs.Common.{◌≡◌, ℕ, ◌+◌, ◌<◌, ◌≤◌, not, List, length, refl, sym, ◌∙◌, ap, subst, arith, ◌⊎◌, inl, inr, Vec, Global}
+use Rattle.std.proofs.Common.{◌≡◌, ℕ, ◌+◌, ◌<◌, ◌≤◌, not, length, refl, sym, ◌∙◌, ap, subst, arith, ◌⊎◌, inl, inr}
 use Rattle.std.proofs.lemmas.Bool.{cases_eq}
 use Rattle.resource_lock.specs.GraphView.{GraphView}
 use Rattle.resource_lock.specs.Marks.{has_fallen, has_passed}
 use Rattle.resource_lock.specs.StateView.{StateView, mark_of}
 use Rattle.resource_lock.specs.declared.marks.MarkId.TheVariants.{Task as TaskOf}
-use Rattle.ready_work.specs.Rank.{after, lists_of}
+use Rattle.ready_work.specs.Rank.{Dependencies, after}
 use Rattle.ready_work.specs.Dependents.{AreDependents}
 use Rattle.ready_work.specs.Sets.{NoNumber}
 use Rattle.ready_work.specs.DependencyCounts.{is_counted, AreCountsOf, PutsCount}
@@ -25,7 +25,7 @@ counts_none g s sets room dependency_counts = record {
   counted = λ t lt. absurd (omega (arith, lt));
 }
 
-pub counts_next : (g : GraphView) (s : StateView) (all : List (Vec ℕ Global)) (task : ℕ) (base now : TaskSets) (unpassed fallen : DependencyCounts) → AreDependents g all → PutsCount (after (lists_of all) task) task (has_fallen (mark_of s (TaskOf task))) now.fallen fallen → PutsCount (after (lists_of all) task) task (not (has_passed (mark_of s (TaskOf task)))) now.unpassed unpassed → CountsAll g s task base now → CountsAll g s (task + 1) base (record now { unpassed = unpassed; fallen = fallen })
+pub counts_next : (g : GraphView) (s : StateView) (all : Dependencies) (task : ℕ) (base now : TaskSets) (unpassed fallen : DependencyCounts) → AreDependents g all → PutsCount (after all task) task (has_fallen (mark_of s (TaskOf task))) now.fallen fallen → PutsCount (after all task) task (not (has_passed (mark_of s (TaskOf task)))) now.unpassed unpassed → CountsAll g s task base now → CountsAll g s (task + 1) base (record now { unpassed = unpassed; fallen = fallen })
 counts_next g s all task base now unpassed fallen are pf pu is = record {
   same = ap (λ (sets : TaskSets). record sets { unpassed = unpassed; fallen = fallen }) is.same;
   unpassed = record { counted = pu.size ∙ is.unpassed.counted; counts = pu.counts_size ∙ is.unpassed.counts };

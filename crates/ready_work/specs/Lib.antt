@@ -12,6 +12,7 @@ pub mod StartableTasksView
 pub mod StartableTasks
 pub mod DependencyCounts
 pub mod TaskSets
+pub mod NumberLists
 pub mod Dependents
 pub mod ReadyWork
 pub mod Rank

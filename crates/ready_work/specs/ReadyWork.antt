@@ -20,7 +20,7 @@ use Rattle.ready_work.specs.declared.ready_works.ReadyWork.{ReadyWork}
 -- the graph fits, the dependents, the counts and the tasks' locks are its own, and there is room for its units, tasks and locks
 pub record IsMadeFor (g : GraphView) (ready : ReadyWork) : Type 0 where
   pub fits : Fits g
-  pub dependents : AreDependents g ready.dependents.items
+  pub dependents : AreDependents g ready.dependents
   pub units : g.units ≤ room_of ready.open_units
   pub tasks : HasTaskRoom (length g.tasks) ready.tasks
   pub dependency_counts : HasDependencyCounts g ready.tasks

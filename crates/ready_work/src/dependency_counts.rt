@@ -35,7 +35,7 @@ impl DependencyCounts {
     }
 
     /// Says whether a task is counted, and tells whether that is new.
-    pub(crate) fn put(&mut self, dependents: &[usize], task: usize, is_member: bool) -> bool
+    pub(crate) fn put(&mut self, dependents: &[u32], task: usize, is_member: bool) -> bool
         requires { CanPut dependents.now task self.old }
         ensures put { PutsCount dependents.now task is_member self.old self.new }
         ensures known { result ≡ false → is_counted self.old task ≡ is_member }
@@ -54,25 +54,25 @@ impl DependencyCounts {
 }
 
 // Counts once more for each place of a task in the list.
-fn raise(counts: &mut Vec<u32>, tasks: &[usize])
+fn raise(counts: &mut Vec<u32>, tasks: &[u32])
     requires in_range { All (λ k. k < length counts.old.items) tasks.now }
     requires few { (k : ℕ) → slice_index_or counts.old.items k 0 + times tasks.now k ≤ MAX_AFTER }
     ensures size { length counts.new.items ≡ length counts.old.items }
     ensures each { (k : ℕ) → slice_index_or counts.new.items k 0 ≡ slice_index_or counts.old.items k 0 + times tasks.now k }
 {
     for task in tasks {
-        counts[*task] += 1;
+        counts[*task as usize] += 1;
     }
 }
 
 // Counts once less for each place of a task in the list.
-fn lower(counts: &mut Vec<u32>, tasks: &[usize])
+fn lower(counts: &mut Vec<u32>, tasks: &[u32])
     requires in_range { All (λ k. k < length counts.old.items) tasks.now }
     requires enough { (k : ℕ) → times tasks.now k ≤ slice_index_or counts.old.items k 0 }
     ensures size { length counts.new.items ≡ length counts.old.items }
     ensures each { (k : ℕ) → slice_index_or counts.new.items k 0 + times tasks.now k ≡ slice_index_or counts.old.items k 0 }
 {
     for task in tasks {
-        counts[*task] -= 1;
+        counts[*task as usize] -= 1;
     }
 }

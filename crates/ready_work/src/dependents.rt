@@ -5,6 +5,7 @@ ghost use Rattle.ready_work.specs.Rank.{lists_of};
 ghost use Rattle.ready_work.specs.Dependents.{AreDependents};
 
 use crate::dependents_of;
+use crate::number_lists::NumberLists;
 use resource_lock::Graph;
 use std::alloc::{AllocError, Global};
 
@@ -21,9 +22,10 @@ fn dependencies_of(alloc: Global, graph: &Graph) -> Result<Vec<Vec<u32>>, AllocE
 }
 
 /// The dependents of each task.
-pub(crate) fn all_dependents(alloc: Global, graph: &Graph) -> Result<Vec<Vec<usize>>, AllocError>
-    ensures { IfOk result (λ all. AreDependents graph.now all.items) }
+pub(crate) fn all_dependents(alloc: Global, graph: &Graph) -> Result<NumberLists, AllocError>
+    ensures { IfOk result (AreDependents graph.now) }
 {
     let rows = dependencies_of(alloc, graph)?;
-    dependents_of(alloc, &rows)
+    let dependents = dependents_of(alloc, &rows)?;
+    NumberLists::of(alloc, &dependents)
 }

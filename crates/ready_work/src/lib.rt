@@ -9,6 +9,7 @@ mod dependency_counts;
 mod dependent_lists;
 mod dependents;
 mod lock_orders;
+mod number_lists;
 mod number_sets;
 mod rank_laws;
 mod rank_search;

@@ -15,7 +15,7 @@ ghost use Rattle.ready_work.specs.TaskSets.{LooksAt, MovesTasks};
 
 use crate::choices::{closed_lock, is_free, is_open};
 use crate::dependents::all_dependents;
-use crate::dependents_at;
+use crate::number_lists::NumberLists;
 use crate::number_sets::NumberSet;
 use crate::task_sets::TaskSets;
 use resource_lock::{Change, Graph, LockId, MarkId, State};
@@ -29,7 +29,7 @@ pub struct ReadyWork {
     /// The units that haven't ended.
     open_units: NumberSet,
     /// For each task, the tasks that come after it.
-    dependents: Vec<Vec<usize>>,
+    dependents: NumberLists,
 }
 
 impl ReadyWork {
@@ -143,7 +143,7 @@ impl ReadyWork {
         ensures free { SameNumbers self.old.tasks.startable.free self.new.tasks.startable.free }
         ensures same { self.new ≡ record self.old { tasks = self.new.tasks } }
     {
-        let dependents = dependents_at(&self.dependents, task as usize);
+        let dependents = self.dependents.at(task as usize);
         self.tasks.note(state, task, dependents);
     }
 }

@@ -11,7 +11,7 @@ ghost use Rattle.ready_work.specs.TaskSets.{HasDependencyCounts, HasTaskRoom, Is
 
 use crate::choices::{can_skip, is_startable};
 use crate::dependency_counts::DependencyCounts;
-use crate::dependents_at;
+use crate::number_lists::NumberLists;
 use crate::number_sets::NumberSet;
 use crate::startable_tasks::StartableTasks;
 use resource_lock::{Graph, MarkId, State};
@@ -37,7 +37,7 @@ impl TaskSets {
         alloc: Global,
         graph: &Graph,
         state: &State,
-        dependents: &[Vec<usize>],
+        dependents: &NumberLists,
     ) -> Result<TaskSets, AllocError>
         requires belongs { BelongsTo graph.now state.now }
         requires dependents { AreDependents graph.now dependents.now }
@@ -78,7 +78,7 @@ impl TaskSets {
     }
 
     // Counts each task by its mark.
-    fn count_all(&mut self, graph: &Graph, state: &State, dependents: &[Vec<usize>])
+    fn count_all(&mut self, graph: &Graph, state: &State, dependents: &NumberLists)
         requires fits { Fits graph.now }
         requires belongs { BelongsTo graph.now state.now }
         requires dependents { AreDependents graph.now dependents.now }
@@ -88,7 +88,7 @@ impl TaskSets {
     {
         for task in 0..dependents.len() {
             let mark = state.mark(MarkId::Task(task as u32));
-            let row = dependents_at(dependents, task);
+            let row = dependents.at(task);
             self.fallen.put(row, task, mark.has_fallen());
             self.unpassed.put(row, task, !mark.has_passed());
         }
@@ -115,7 +115,7 @@ impl TaskSets {
     }
 
     /// Counts a task by its mark, looks at it, and at those of its dependents for which that matters.
-    pub(crate) fn note(&mut self, state: &State, task: u32, dependents: &[usize])
+    pub(crate) fn note(&mut self, state: &State, task: u32, dependents: &[u32])
         requires few { length state.now.tasks ≤ MAX_TASKS }
         requires within { task < length state.now.tasks }
         requires in_range { All (λ k. k < length state.now.tasks) dependents.now }
@@ -141,7 +141,7 @@ impl TaskSets {
     }
 
     // Looks at tasks: at each, or at those alone of which all that they come after have passed.
-    fn look_at_all(&mut self, state: &State, tasks: &[usize], is_each: bool)
+    fn look_at_all(&mut self, state: &State, tasks: &[u32], is_each: bool)
         requires few { length state.now.tasks ≤ MAX_TASKS }
         requires within { All (λ k. k < length state.now.tasks) tasks.now }
         requires room { HasTaskRoom (length state.now.tasks) self.old }
@@ -149,7 +149,7 @@ impl TaskSets {
         ensures free { SameNumbers self.old.startable.free self.new.startable.free }
     {
         for task in tasks {
-            self.look_where_due(state, *task as u32, is_each);
+            self.look_where_due(state, *task, is_each);
         }
     }
 

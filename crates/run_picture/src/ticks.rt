@@ -9,6 +9,7 @@ ghost use Rattle.run_picture.specs.Ticks.{more_marks, marks_of};
 use crate::shapes::{Area, begin_rect, write_number, write_short};
 use file_access::{Page, Sink};
 use history_text::{HistoryEntry, write_effect, write_kind};
+use lock_journal::Changes;
 use lock_transforms::Kind;
 use picture_layout::Layout;
 use resource_lock::Change;
@@ -18,8 +19,8 @@ fn write_done<K: Sink>(changes: &Option<Vec<Change>>, page: &mut Page, sink: &mu
     ensures { Adds (K.seen sink.old) page.old (K.seen sink.new) page.new (effect_text (option_map (λ cs. cs.items) changes.now)) }
 {
     match changes {
-        None => write_effect(true, &[], page, sink),
-        Some(changes) => write_effect(false, changes, page, sink),
+        None => write_effect(true, Changes::none(), page, sink),
+        Some(changes) => write_effect(false, Changes::given(changes), page, sink),
     }
 }
 

@@ -58,7 +58,7 @@ fn has_entry(book: &Book, place: u64, row: &EntryRow) -> bool {
     let (worker, changes) = row;
     let shown = book.entry(place);
     let same = match changes {
-        Some(changes) => !shown.failed && shown.changes == *changes,
+        Some(changes) => !shown.failed && shown.changes.eq(changes.iter().copied()),
         None => shown.failed,
     };
     shown.worker.0 == *worker && same

@@ -1,7 +1,7 @@
 //! A history of jobs, followed entry by entry beside the maxima of eight services.
 ghost use Rattle.std.specs.Prelude.{◌≡◌, ◌<◌, true};
 
-use lock_journal::Book;
+use lock_journal::{Book, Changes};
 use resource_lock::Change;
 use shared_services::{Job, JobDone, JobsEnd};
 use std::alloc::{AllocError, Global};
@@ -102,7 +102,7 @@ fn keeps_all_maxima(book: &Book, max_leases: u32) -> bool {
     for place in book.given()..book.len() {
         let shown = book.entry(place);
         for change in shown.changes {
-            if !replay.follow(shown.worker.0, change) {
+            if !replay.follow(shown.worker.0, &change) {
                 return false;
             }
         }
@@ -122,13 +122,14 @@ fn is_use_of(change: &Change, service: u32) -> bool {
 }
 
 /// Whether the changes are one lock of each of the services, and a lease.
-fn takes(changes: &[Change], uses: &[u32]) -> bool {
-    for (change, service) in changes.iter().zip(uses) {
-        if !is_use_of(change, *service) {
-            return false;
+fn takes(mut changes: Changes<'_>, uses: &[u32]) -> bool {
+    for service in uses {
+        match changes.next() {
+            Some(change) if is_use_of(&change, *service) => {}
+            _ => return false,
         }
     }
-    changes.len() == uses.len() + 1 && matches!(changes.last(), Some(Change::Take))
+    changes.eq([Change::Take])
 }
 
 /// Whether the job's entry is its worker's, and takes its uses. The entry has a number then.

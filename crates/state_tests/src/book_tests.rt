@@ -223,7 +223,7 @@ pub(crate) fn are_alike(one: &Shown<'_>, other: &Shown<'_>) -> bool {
     one.worker == other.worker
         && one.kind == other.kind
         && one.failed == other.failed
-        && one.changes == other.changes
+        && one.changes.eq(other.changes)
 }
 
 // Whether both keep all entries, and have the same.

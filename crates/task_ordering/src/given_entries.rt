@@ -1,11 +1,10 @@
 //! Entries of a history, wherever they are kept.
-ghost use Rattle.std.specs.Prelude.{◌≡◌, ◌<◌, List, None, Some, length, option_map, slice_get};
-ghost use Rattle.std.specs.Prelude.{if◌then◌else◌};
+ghost use Rattle.std.specs.Prelude.{◌≡◌, ◌<◌, List, Some, length, slice_get};
 ghost use Rattle.lock_journal.specs.Shown.{entry_shown};
 ghost use Rattle.lock_transforms.specs.Entry.{Entry};
 ghost use Rattle.task_ordering.specs.Entries.{entry_given};
 
-use lock_journal::{Book, Shown};
+use lock_journal::{Book, Changes, Shown};
 use lock_transforms::Kind;
 use resource_lock::{Change, WorkerId};
 
@@ -80,24 +79,13 @@ fn shown(given: &GivenEntry) -> Shown<'_>
             worker: given.worker,
             kind: given.kind,
             failed: false,
-            changes: changes.as_slice(),
+            changes: Changes::given(changes),
         },
         None => Shown {
             worker: given.worker,
             kind: given.kind,
             failed: true,
-            changes: &[],
+            changes: Changes::none(),
         },
-    }
-}
-
-/// The changes of an entry, or none where it failed.
-pub(crate) fn changes_of<'a>(shown: Shown<'a>) -> Option<&'a [Change]>
-    ensures { option_map (λ c. c.now) result ≡ (if shown.entry.failed then None else Some shown.entry.changes.now) }
-{
-    if shown.failed {
-        None
-    } else {
-        Some(shown.changes)
     }
 }

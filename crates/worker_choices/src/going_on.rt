@@ -1,10 +1,11 @@
 //! Which entries can let another worker go on.
 ghost use Rattle.std.specs.Prelude.{◌≡◌, ◌<◌, length};
 ghost use Rattle.std.specs.List.{list_any};
+ghost use Rattle.lock_journal.specs.Changes.{changes_left};
 ghost use Rattle.lock_transforms.specs.GoingOn.{lets_go_on};
 ghost use Rattle.worker_choices.specs.GoingOn.{last_lets_go_on};
 
-use lock_journal::Book;
+use lock_journal::{Book, Changes};
 use resource_lock::{Change, Mark};
 
 /// Whether a change can let another worker go on: it gives a lock or a lease back, or it leaves a
@@ -28,10 +29,10 @@ pub fn lets_go_on(change: Change) -> bool
 }
 
 // Whether one of the changes can let another worker go on.
-fn any_lets_go_on(changes: &[Change]) -> bool
-    ensures { result ≡ list_any lets_go_on changes.now }
+fn any_lets_go_on(mut changes: Changes<'_>) -> bool
+    ensures { result ≡ list_any lets_go_on (changes_left changes.entry) }
 {
-    changes.iter().any(|change| lets_go_on(*change))
+    changes.any(|change| lets_go_on(change))
 }
 
 /// Whether the last entry of the book can let another worker go on. It wasn't given away.

@@ -1,6 +1,6 @@
 -- A history with one more entry, what it leads to, and the book that has it.
 use Rattle.std.specs.Prelude.{IfSome}
-use Rattle.std.proofs.Common.{◌≡◌, ◌<◌, Option, None, Some, List, [], ◌∷◌, ◌++◌, refl, sym, ◌∙◌, ap, subst}
+use Rattle.std.proofs.Common.{◌≡◌, ◌<◌, ◌+◌, length, Option, None, Some, List, [], ◌∷◌, ◌++◌, refl, sym, ◌∙◌, ap, subst}
 use Rattle.std.specs.List.{All}
 use Rattle.std.proofs.lemmas.List.Elements.{All-push}
 use Rattle.resource_lock.proofs.lemmas.Runs.{belongs_along, kept_all, same_shape-make_all, worker_from}
@@ -17,7 +17,7 @@ use Rattle.lock_transforms.specs.Entry.{Entry, changed, effect, replay_from, rep
 use Rattle.lock_transforms.specs.Allowed.{Allowed, Finishes, lawful_from, Lawful}
 use Rattle.lock_transforms.specs.declared.entries.Kind.{Kind}
 use Rattle.lock_journal.specs.Bounds.{IsFitKind}
-use Rattle.lock_journal.specs.Book.{IsSound}
+use Rattle.lock_journal.specs.Book.{AreLastOrNone, IsSound}
 use Rattle.lock_journal.specs.declared.books.Book.TheInside.{Inside}
 use Rattle.lock_transforms.specs.MostChanges.{IsRoomFor}
 
@@ -52,8 +52,8 @@ entries_good g (e ∷ h) s lawful old = entries_good g h (effect s e) lawful.1 (
 
 -- b is a with one more entry, which was allowed, with its effect, and with the index of that
 pub record Extends (a b : Inside) (e : Entry) : Type 0 where
-  pub fresh : b.tentative.made ≡ []
-  pub room : IsRoomFor b.tentative.graph b.tentative.room
+  pub noted : AreLastOrNone b.tentative.made b.history.entries
+  pub room : IsRoomFor b.tentative.graph (b.tentative.room + length b.tentative.made)
   pub graph : b.tentative.graph ≡ a.tentative.graph
   pub units : b.history.units ≡ a.history.units
   pub entries : b.history.entries ≡ a.history.entries ++ e ∷ []
@@ -67,7 +67,7 @@ sound_extended a b e sound more =
     let allowed : Allowed a.tentative.graph (replay a.tentative.graph a.history.entries) e = subst (λ (s : StateView). Allowed a.tentative.graph s e) sound.replays more.allowed in
     let lawful : Lawful a.tentative.graph (a.history.entries ++ e ∷ []) = lawful_from-push a.tentative.graph (opening_of a.tentative.graph) a.history.entries e sound.lawful allowed in
     record {
-      fresh = more.fresh;
+      noted = more.noted;
       room = more.room;
       units = more.units ∙ sound.units ∙ ap (λ (g : GraphView). g.units) (sym more.graph);
       fit = subst (All (λ e. IsFitKind e.kind)) (sym more.entries) (All-push (λ e. IsFitKind e.kind) a.history.entries e sound.fit more.fit);

@@ -48,6 +48,7 @@ impl Book {
         ensures full { OnErr result (self.old.spare_entries < 1) }
     {
         self.reserve(1, 0)?;
+        self.tentative.settle();
         self.history.push_failed(worker, &kind);
         Ok(true)
     }
@@ -94,7 +95,6 @@ impl Book {
         self.history.push_finished(worker, &kind, changes);
         self.ready
             .follow(self.tentative.graph(), self.tentative.state(), changes);
-        self.tentative.settle();
         true
     }
 

@@ -1,7 +1,11 @@
 ghost use Rattle.std.specs.Prelude.{◌≡◌, ◌<◌, ◌≤◌, ◌-◌, length, take};
+ghost use Rattle.lock_journal.specs.Changes.{changes_left};
 ghost use Rattle.lock_transforms.specs.Entry.{prefix_state};
+ghost use Rattle.lock_transforms.specs.TentativeView.{all_recalled};
 
 use crate::books::Book;
+use crate::shown_changes::Changes;
+use lock_transforms::Tentative;
 
 impl Book {
     /// Takes the last entry back, which wasn't given away. The history is then the one without it, and the state the one that
@@ -16,9 +20,28 @@ impl Book {
         ensures spare_entries { self.old.spare_entries ≤ self.new.spare_entries }
         ensures spare_changes { self.old.spare_changes ≤ self.new.spare_changes }
     {
+        self.tentative.settle();
+        // Of the graph, that it fits: so there is room for the changes of each of its entries.
+        let _ = self.tentative.graph();
         let last = self.history.entry(self.history.len() - 1);
-        self.tentative.take_back(last.worker, last.changes);
-        self.ready.follow(self.tentative.graph(), self.tentative.state(), last.changes);
+        recall(&mut self.tentative, last.changes);
+        self.tentative.take_back(last.worker);
+        self.ready.follow(
+            self.tentative.graph(),
+            self.tentative.state(),
+            self.tentative.made(),
+        );
+        self.tentative.settle();
         self.history.pop();
+    }
+}
+
+// Notes changes that were made before, in order.
+fn recall(work: &mut Tentative, changes: Changes<'_>)
+    requires { length (changes_left changes) ≤ work.old.room }
+    ensures { work.new ≡ all_recalled work.old (changes_left changes.entry) }
+{
+    for change in changes {
+        work.recall(change);
     }
 }

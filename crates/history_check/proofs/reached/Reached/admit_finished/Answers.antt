@@ -1,6 +1,5 @@
-use Rattle.std.proofs.Common.{◌+◌, Some, refl, ap, subst, ◌∙◌, inl}
+use Rattle.std.proofs.Common.{◌+◌, Some, refl, subst, inl}
 use Rattle.lock_transforms.specs.Entry.{Entry, entry}
-use Rattle.lock_transforms.specs.TentativeView.{TentativeView}
 use Rattle.history_check.specs.AdmitterView.{AdmitterView, Admits, Refuses}
 use Rattle.history_check.specs.Reached.{reached_view}
 use Rattle.history_check.proofs.Keeping.{reached_same}
@@ -17,10 +16,10 @@ returns-then-not-admit-clause-refused c = λ _.
 pub returns-clause-admitted : goal.returns-clause-admitted
 returns-clause-admitted c = λ _.
     let e : Entry = entry c.args.worker c.args.kind (Some c.args.changes.now) in
-    subst (λ (v : AdmitterView). Admits v (reached_view c.settle.new.self (c.self.inside.entries + 1)) e) c.self.view_is (record {
-      graph = ap (λ (t : TentativeView). t.graph) c.settle.ensures ∙ c.if-not-admit.ensures.graph;
+    subst (λ (v : AdmitterView). Admits v (reached_view c.admit.new.self (c.self.inside.entries + 1)) e) c.self.view_is (record {
+      graph = c.if-not-admit.ensures.graph;
       allowed = c.if-not-admit.ensures.allowed refl;
-      state = ap (λ (t : TentativeView). t.state) c.settle.ensures ∙ c.if-not-admit.ensures.state refl refl;
+      state = c.if-not-admit.ensures.state refl refl;
       entries = refl;
       kept = refl;
     })

@@ -1,29 +1,41 @@
-use Rattle.std.proofs.Common.{◌≡◌, List, [], ◌∷◌, ◌++◌, Some, refl, sym, ◌∙◌, ap, subst, arith}
+use Rattle.std.proofs.Common.{◌≡◌, List, [], ◌∷◌, ◌++◌, Some, inl, inr, refl, sym, ◌∙◌, ap, subst, arith}
 use Rattle.resource_lock.specs.GraphView.{GraphView}
 use Rattle.resource_lock.specs.StateView.{StateView}
 use Rattle.ready_work.specs.ReadyWork.{IsIndexOf}
 use Rattle.lock_transforms.specs.Allowed.{Allowed}
 use Rattle.lock_journal.specs.BookView.{BookView}
+use Rattle.lock_journal.specs.LastChanges.{last_changes}
+use Rattle.lock_journal.proofs.Given.{sound_forgotten}
+use Rattle.lock_journal.proofs.LastNoted.{last_pushed}
 use Rattle.lock_transforms.specs.Entry.{Entry, entry, effect}
-use Rattle.lock_transforms.specs.TentativeView.{TentativeView}
 use Rattle.lock_transforms.proofs.lemmas.Rooms.{more_room}
+use Rattle.lock_journal.proofs.StoredChanges.{own_changes}
 use Rattle.lock_journal.proofs.lemmas.Replays.{Extends, sound_extended}
 use Rattle.lock_journal.proofs.books.Book.add_where_allowed.Goals as goal
 
+pub push_finished-requires-clause-own : goal.push_finished-requires-clause-own
+push_finished-requires-clause-own c = own_changes c.self.inside.tentative.state c.args.worker c.args.changes.now (c.if-not-admit.ensures.allowed refl).finished.possible
+
 -- the entry that was admitted
-extended : (c : goal.After-settle) → Extends c.self.inside (record { tentative = c.settle.new.self; history = c.push_finished.new.self; ready = c.follow.new.self }) (entry c.args.worker c.args.kind (Some c.args.changes.now))
+extended : (c : goal.After-follow) → Extends c.self.inside (record { tentative = c.admit.new.self; history = c.push_finished.new.self; ready = c.follow.new.self }) (entry c.args.worker c.args.kind (Some c.args.changes.now))
 extended c = record {
-  fresh = ap (λ (t : TentativeView). t.made) c.settle.ensures;
-  room = more_room c.self.invariant.room (ap (λ (t : TentativeView). t.graph) c.settle.ensures ∙ c.if-not-admit.ensures.graph) (omega (arith, ap (λ (t : TentativeView). t.room) c.settle.ensures, c.if-not-admit.ensures.room));
-  graph = ap (λ (t : TentativeView). t.graph) c.settle.ensures ∙ c.if-not-admit.ensures.graph;
+  noted = inr (c.if-not-admit.ensures.made refl refl ∙ sym (ap last_changes c.push_finished.ensures.entries ∙ last_pushed c.self.inside.history.entries c.args.worker c.args.kind c.args.changes.now));
+  room = more_room c.self.invariant.room c.if-not-admit.ensures.graph (omega (arith, c.if-not-admit.ensures.room));
+  graph = c.if-not-admit.ensures.graph;
   units = c.push_finished.ensures.units;
   entries = c.push_finished.ensures.entries;
-  state = ap (λ (t : TentativeView). t.state) c.settle.ensures ∙ c.if-not-admit.ensures.state refl refl;
+  state = c.if-not-admit.ensures.state refl refl;
   allowed = c.if-not-admit.ensures.allowed refl;
   fit = c.push_finished.ensures.fit;
-  index = subst (λ (o : GraphView). IsIndexOf o c.settle.new.self.state c.follow.new.self) (c.graph.ensures.value ∙ sym (ap (λ (t : TentativeView). t.graph) c.settle.ensures))
-      (subst (λ (s : StateView). IsIndexOf c.graph.result.now s c.follow.new.self) (c.state.ensures.value ∙ sym (ap (λ (t : TentativeView). t.state) c.settle.ensures)) c.follow.ensures);
+  index = subst (λ (o : GraphView). IsIndexOf o c.admit.new.self.state c.follow.new.self) c.graph.ensures.value
+      (subst (λ (s : StateView). IsIndexOf c.graph.result.now s c.follow.new.self) c.state.ensures.value c.follow.ensures);
 }
+
+-- an entry that was refused leaves no changes
+pub invariant_of-self : goal.invariant_of-self
+invariant_of-self c =
+    sound_forgotten c.self.inside c.admit.new.self c.self.inside.history c.self.invariant c.if-not-admit.ensures.graph (c.if-not-admit.ensures.undone (inl refl)) (c.if-not-admit.ensures.fresh (inl refl))
+    (omega (arith, c.if-not-admit.ensures.room)) refl refl
 
 pub invariant_of-self-2 : goal.invariant_of-self-2
 invariant_of-self-2 c = sound_extended c.self.inside _ _ c.self.invariant (extended c)

@@ -1,48 +1,71 @@
-use Rattle.std.proofs.Common.{◌≡◌, ◌≢◌, length, List, [], ◌∷◌, ◌++◌, Some, None, ◌∙◌, sym, ap, subst, arith}
+use Rattle.std.proofs.Common.{◌≡◌, ◌≢◌, List, [], ◌∷◌, ◌++◌, Some, None, inl, inr, refl, ◌∙◌, sym, ap, subst, arith}
 use Rattle.resource_lock.specs.GraphView.{GraphView}
 use Rattle.resource_lock.specs.StateView.{StateView}
 use Rattle.resource_lock.specs.declared.changes.Change.{Change}
+use Rattle.std.specs.List.{AllByRecursion}
 use Rattle.ready_work.specs.ReadyWork.{IsIndexOf}
 use Rattle.lock_transforms.specs.declared.entries.Kind.{Kind}
 use Rattle.lock_transforms.specs.declared.transforms.Disposition.TheVariants.{Finished}
 use Rattle.lock_transforms.specs.Entry.{Entry, entry, effect}
 use Rattle.lock_transforms.specs.Allowed.{Allowed}
 use Rattle.lock_journal.specs.Bounds.{IsFitKind}
-use Rattle.lock_transforms.specs.TentativeView.{TentativeView}
 use Rattle.lock_journal.specs.BookView.{BookView}
+use Rattle.lock_journal.specs.LastChanges.{last_changes}
+use Rattle.lock_journal.proofs.Given.{sound_forgotten}
+use Rattle.lock_journal.proofs.LastNoted.{last_pushed}
 use Rattle.lock_transforms.proofs.lemmas.Rooms.{more_room}
+use Rattle.lock_journal.specs.StoredChange.{IsOwnChange}
+use Rattle.lock_journal.proofs.StoredChanges.{own_changes}
 use Rattle.lock_journal.proofs.lemmas.Replays.{Extends, sound_extended}
 use Rattle.lock_journal.proofs.books.Book.run.Given.{Over}
 use Rattle.lock_journal.proofs.books.Book.run.Goals as goal
 
+pub push_finished-requires-clause-own : goal.push_finished-requires-clause-own
+push_finished-requires-clause-own g c =
+    subst (AllByRecursion (IsOwnChange c.args.worker)) (sym c.made.ensures)
+    (own_changes c.self.inside.tentative.state c.args.worker c.attempt-disposition.new.self.made (c.attempt-disposition.ensures.allowed c.in-Finished.is).finished.possible)
+
 -- the entry of a transform that finished
-extended : (g : Over) (c : goal.After-settle g) → Extends c.self.inside (record { tentative = c.settle.new.self; history = c.push_finished.new.self; ready = c.follow.new.self }) (entry c.args.worker (g.T.Transform.kind_of c.args.transform.now) (Some c.attempt-disposition.new.self.made))
+extended : (g : Over) (c : goal.After-follow g) → Extends c.self.inside (record { tentative = c.attempt-disposition.new.self; history = c.push_finished.new.self; ready = c.follow.new.self })
+    (entry c.args.worker (g.T.Transform.kind_of c.args.transform.now) (Some c.attempt-disposition.new.self.made))
 extended g c =
+    let w = c.args.worker in
+    let kind : Kind = g.T.Transform.kind_of c.args.transform.now in
+    let made : List Change = c.attempt-disposition.new.self.made in
+    let entries : c.push_finished.new.self.entries ≡ c.self.inside.history.entries ++ entry w kind (Some made) ∷ [] =
+    c.push_finished.ensures.entries
+    ∙ ap (λ (k : Kind). c.self.inside.history.entries ++ entry w k (Some c.made.result.now) ∷ []) c.kind.ensures
+    ∙ ap (λ (cs : List Change). c.self.inside.history.entries ++ entry w kind (Some cs) ∷ []) c.made.ensures in
     record {
-      fresh = ap (λ (t : TentativeView). t.made) c.settle.ensures;
-      room = more_room c.self.invariant.room (ap (λ (t : TentativeView). t.graph) c.settle.ensures ∙ c.attempt-disposition.ensures.graph) (omega (arith, ap (λ (t : TentativeView). t.room) c.settle.ensures, c.attempt-disposition.ensures.room));
-      graph = ap (λ (t : TentativeView). t.graph) c.settle.ensures ∙ c.attempt-disposition.ensures.graph;
+      noted = inr (sym (ap last_changes entries ∙ last_pushed c.self.inside.history.entries w kind made));
+      room = more_room c.self.invariant.room c.attempt-disposition.ensures.graph (omega (arith, c.attempt-disposition.ensures.room));
+      graph = c.attempt-disposition.ensures.graph;
       units = c.push_finished.ensures.units;
-      entries = c.push_finished.ensures.entries
-          ∙ ap (λ (k : Kind). c.self.inside.history.entries ++ entry c.args.worker k (Some c.made.result.now) ∷ []) c.kind.ensures
-          ∙ ap (λ (cs : List Change). c.self.inside.history.entries ++ entry c.args.worker (g.T.Transform.kind_of c.args.transform.now) (Some cs) ∷ []) c.made.ensures;
-      state = ap (λ (t : TentativeView). t.state) c.settle.ensures ∙ c.attempt-disposition.ensures.made c.in-Finished.is;
+      entries = entries;
+      state = c.attempt-disposition.ensures.made c.in-Finished.is;
       allowed = c.attempt-disposition.ensures.allowed c.in-Finished.is;
       fit = subst IsFitKind c.kind.ensures c.push_finished.ensures.fit;
-      index = subst (λ (o : GraphView). IsIndexOf o c.settle.new.self.state c.follow.new.self) (c.graph-in-Finished.ensures.value ∙ sym (ap (λ (t : TentativeView). t.graph) c.settle.ensures))
-          (subst (λ (s : StateView). IsIndexOf c.graph-in-Finished.result.now s c.follow.new.self) (c.state-in-Finished.ensures.value ∙ sym (ap (λ (t : TentativeView). t.state) c.settle.ensures)) c.follow.ensures);
+      index = subst (λ (o : GraphView). IsIndexOf o c.attempt-disposition.new.self.state c.follow.new.self) c.graph-in-Finished.ensures.value
+          (subst (λ (s : StateView). IsIndexOf c.graph-in-Finished.result.now s c.follow.new.self) c.state-in-Finished.ensures.value c.follow.ensures);
     }
 
 pub invariant_of-self : goal.invariant_of-self
 invariant_of-self g c = sound_extended c.self.inside _ _ c.self.invariant (extended g c)
+
+-- a transform that is to be run again leaves no changes
+pub invariant_of-self-in-Retry : goal.invariant_of-self-in-Retry
+invariant_of-self-in-Retry g c =
+    let unfinished : c.attempt-disposition.result ≢ Finished = λ e. let f = c.in-Retry.is in cc in
+    sound_forgotten c.self.inside c.attempt-disposition.new.self c.self.inside.history c.self.invariant c.attempt-disposition.ensures.graph (c.attempt-disposition.ensures.undone unfinished)
+    (c.attempt-disposition.ensures.fresh unfinished) (omega (arith, c.attempt-disposition.ensures.room)) refl refl
 
 pub invariant_of-self-in-Failed : goal.invariant_of-self-in-Failed
 invariant_of-self-in-Failed g c =
     let unfinished : c.attempt-disposition.result ≢ Finished = λ e. let f = c.in-Failed.is in cc in
     let graph : c.self.inside.tentative.graph ≡ c.args.self.now.graph = ap (λ (l : BookView). l.graph) c.self.view_is ∙ c.in_ok-reserve.ensures.same.graph in
     let more : Extends c.self.inside (record { tentative = c.attempt-disposition.new.self; history = c.push_failed.new.self; ready = c.self.inside.ready }) (entry c.args.worker (g.T.Transform.kind_of c.args.transform.now) None) = record {
-      fresh = c.attempt-disposition.ensures.fresh unfinished;
-      room = more_room c.self.invariant.room c.attempt-disposition.ensures.graph (omega (arith, ap length (c.attempt-disposition.ensures.fresh unfinished), c.attempt-disposition.ensures.room));
+      noted = inl (c.attempt-disposition.ensures.fresh unfinished);
+      room = more_room c.self.invariant.room c.attempt-disposition.ensures.graph (omega (arith, c.attempt-disposition.ensures.room));
       graph = c.attempt-disposition.ensures.graph;
       units = c.push_failed.ensures.units;
       entries = c.push_failed.ensures.entries

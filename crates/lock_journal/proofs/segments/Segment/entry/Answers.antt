@@ -1,13 +1,16 @@
 use Rattle.std.proofs.Common.{◌≡◌, ℕ, ◌<◌, ◌+◌, length, drop, List, [], Some, None, cond, sym, ◌∙◌, ap, subst, arith}
-use Rattle.std.specs.Prelude.{slice_get}
+use Rattle.std.specs.Prelude.{map, slice_get}
 use Rattle.std.specs.List.{slice_range, slice_index_or}
 use Rattle.resource_lock.specs.declared.changes.Change.{Change}
 use Rattle.lock_transforms.specs.Entry.{entry}
+use Rattle.lock_journal.specs.Changes.{changes_left}
+use Rattle.lock_journal.specs.StoredChange.{change_of_worker}
 use Rattle.lock_journal.specs.StoredEntry.{IsNumberOf, end_before, kind_from}
 use Rattle.lock_journal.specs.Segment.{segment_view, IsSoundSegment}
 use Rattle.lock_journal.specs.SegmentView.{SegmentView}
 use Rattle.lock_transforms.specs.declared.entries.Closed.{Closed}
 use Rattle.lock_transforms.specs.declared.entries.Kind.{Kind}
+use Rattle.lock_journal.specs.declared.stored_changes.StoredChange.{StoredChange}
 use Rattle.lock_journal.specs.declared.stored_entries.StoredEntry.{StoredEntry}
 use Rattle.lock_journal.specs.declared.segments.Segment.TheInside.{Inside}
 use Rattle.lock_journal.proofs.Stored.{StandsAt, end_read, entry_at, read_at, shown_as, stands_at}
@@ -38,7 +41,7 @@ changes_of-requires-clause-bounded c =
     let end = end_read c.self.inside.stored.items c.deref.result.now (c.args.place + 1) c.len.result c.end_before-end.result c.deref.ensures.value c.end_before-end.ensures in
     let long : c.len.result ≡ length c.self.inside.changes.items = c.len.ensures ∙ c.self.inside.changes.ok.0 in
     let there = ap (end_before (drop (c.args.place + 1) c.self.inside.stored.items)) long in
-    let all = ap (λ (cs : List Change). length cs) c.deref-3.ensures.value in
+    let all = ap (λ (cs : List StoredChange). length cs) c.deref-3.ensures.value in
     omega (arith, st.bounded, end, there, all)
 
 pub returns-clause-shown : goal.returns-clause-shown
@@ -51,11 +54,12 @@ returns-clause-shown c =
     end_read h.stored.items c.deref.result.now (i + 1) c.len.result c.end_before-end.result c.deref.ensures.value c.end_before-end.ensures
     ∙ ap (end_before (drop (i + 1) h.stored.items)) long in
     let kind : c.kind_of.result ≡ kind_from h.closings.items k.kind k.number = c.kind_of.ensures ∙ ap (λ ds. kind_from ds k.kind k.number) c.deref-2.ensures.value in
-    let changes : c.changes_of.result.now ≡ cond k.failed [] (slice_range h.changes.items k.start (end_before (drop (i + 1) h.stored.items) (length h.changes.items))) =
+    let made : List Change = map (change_of_worker k.worker) (slice_range h.changes.items k.start (end_before (drop (i + 1) h.stored.items) (length h.changes.items))) in
+    let changes : changes_left c.changes_of.result ≡ cond k.failed [] made =
     c.changes_of.ensures
-    ∙ ap (λ cs. cond k.failed [] (slice_range cs k.start c.end_before-end.result)) c.deref-3.ensures.value
-    ∙ ap (λ e. cond k.failed [] (slice_range h.changes.items k.start e)) end in
+    ∙ ap (λ cs. cond k.failed [] (map (change_of_worker k.worker) (slice_range cs k.start c.end_before-end.result))) c.deref-3.ensures.value
+    ∙ ap (λ e. cond k.failed [] (map (change_of_worker k.worker) (slice_range h.changes.items k.start e))) end in
     ap (λ (v : SegmentView). slice_get v.entries i) (sym c.self.view_is)
     ∙ entry_at h.changes.items h.closings.items h.stored.items i k (read_at h c.args.self.now i k c.self.view_is c.requires c.index-stored.ensures)
-    ∙ ap (λ (x : Kind). Some (entry k.worker x (cond k.failed None (Some (slice_range h.changes.items k.start (end_before (drop (i + 1) h.stored.items) (length h.changes.items))))))) (sym kind)
-    ∙ ap (λ cs. Some (entry k.worker c.kind_of.result cs)) (shown_as k.failed _ c.changes_of.result.now changes)
+    ∙ ap (λ (x : Kind). Some (entry k.worker x (cond k.failed None (Some made)))) (sym kind)
+    ∙ ap (λ cs. Some (entry k.worker c.kind_of.result cs)) (shown_as k.failed made (changes_left c.changes_of.result) changes)

@@ -1,9 +1,10 @@
 use Rattle.std.proofs.Common.{◌≡◌, ◌-◌, length, List, [], Some, cond, sym, ◌∙◌, ap, arith}
-use Rattle.std.specs.Prelude.{slice_get}
+use Rattle.std.specs.Prelude.{map, slice_get}
 use Rattle.std.specs.List.{slice_range}
 use Rattle.std.specs.Option.{option_copied}
-use Rattle.resource_lock.specs.declared.changes.Change.{Change}
 use Rattle.lock_journal.specs.SegmentView.{SegmentView}
+use Rattle.lock_journal.specs.StoredChange.{change_of_worker}
+use Rattle.lock_journal.specs.declared.stored_changes.StoredChange.{StoredChange}
 use Rattle.lock_journal.specs.LastChanges.{last_changes}
 use Rattle.lock_journal.specs.declared.stored_entries.StoredEntry.{StoredEntry}
 use Rattle.lock_journal.proofs.Stored.{last_made, last_starts}
@@ -23,7 +24,7 @@ returns-in-Some c =
     ap (λ (ks : List StoredEntry). slice_get ks (length ks - 1)) (sym c.deref.ensures.value) ∙ sym c.last.ensures.value ∙ ap option_copied c.in-Some.is in
     let long : c.len.result ≡ length c.self.inside.changes.items = c.len.ensures ∙ c.self.inside.changes.ok.0 in
     c.changes_of.ensures
-    ∙ ap (λ (cs : List Change). cond k.failed [] (slice_range cs k.start c.len.result)) c.deref-in-Some.ensures.value
-    ∙ ap (λ n. cond k.failed [] (slice_range c.self.inside.changes.items k.start n)) long
+    ∙ ap (λ (cs : List StoredChange). cond k.failed [] (map (change_of_worker k.worker) (slice_range cs k.start c.len.result))) c.deref-in-Some.ensures.value
+    ∙ ap (λ n. cond k.failed [] (map (change_of_worker k.worker) (slice_range c.self.inside.changes.items k.start n))) long
     ∙ sym (last_made c.self.inside.changes.items c.self.inside.closings.items c.self.inside.stored.items k at)
     ∙ ap (λ (v : SegmentView). last_changes v.entries) c.self.view_is

@@ -18,7 +18,7 @@ returns c =
     let place : c.index.result.now ≡ place_in h.closings.items h.stored.items c.args.unit NOWHERE =
     c.index.ensures ∙ get_or_default h.closed_at.items c.args.unit c.index.result.now NOWHERE within ∙ c.self.invariant.closed c.args.unit in
     let none : closing_at h.closings.items NOWHERE ≡ record { unit = 0; outcome = outcomes.Skipped } =
-    get_or_past h.closings.items NOWHERE (record { unit = 0; outcome = outcomes.Skipped }) (omega (arith, h.closings.ok.0, h.closings.ok.1, h.closings.small)) in
+    get_or_past h.closings.items NOWHERE (record { unit = 0; outcome = outcomes.Skipped }) (omega (arith, h.closings.ok.0, c.self.invariant.few_closings)) in
     c.outcome_at.ensures
     ∙ ap (λ (ds : List Closed). (closing_at ds c.index.result.now).outcome) c.deref.ensures.value
     ∙ ap (λ p. (closing_at h.closings.items p).outcome) place

@@ -1,4 +1,4 @@
-use Rattle.std.proofs.Common.{[], ◌∷◌, ◌++◌, None, true, refl, sym, ◌∙◌, ap}
+use Rattle.std.proofs.Common.{[], ◌∷◌, ◌++◌, None, true, refl, sym, ◌∙◌, ap, arith}
 use Rattle.std.proofs.lemmas.List.{append-nil}
 use Rattle.lock_journal.specs.Closings.{closed_of}
 use Rattle.lock_transforms.specs.Entry.{entry}
@@ -9,18 +9,24 @@ use Rattle.lock_journal.specs.declared.segments.Segment.TheInside.{Inside}
 use Rattle.lock_journal.proofs.Adding.{Adds, entries_added, sound_added}
 use Rattle.lock_journal.proofs.segments.Segment.push_failed.Goals as goal
 
+pub place_behind-requires : goal.place_behind-requires
+place_behind-requires c = omega (arith, c.len.ensures, c.self.invariant.few_changes)
+
 abbrev after : goal.After-push_reserved → Inside
 after c = record { stored = c.push_reserved.new.self; changes = c.self.inside.changes; closings = c.store_kind-kind.new.closings; closed_at = c.self.inside.closed_at; before = c.self.inside.before }
 
 abbrev stored : goal.After-push_reserved → StoredEntry
-stored c = record { start = c.len.result; number = c.store_kind-kind.result.1; earlier = NOWHERE; worker = c.args.worker; kind = c.store_kind-kind.result.0; failed = true }
+stored c = record { start = c.place_behind.result; number = c.store_kind-kind.result.1; earlier = NOWHERE; worker = c.args.worker; kind = c.store_kind-kind.result.0; failed = true }
 
 adds : (c : goal.After-push_reserved) → Adds c.self.inside (after c) (stored c) c.args.kind.now [] (closed_of c.args.kind.now)
 adds c = record {
   stored = c.push_reserved.ensures.items;
   changes = sym (append-nil c.self.inside.changes.items);
+  own = tt;
+  few_changes = c.self.invariant.few_changes;
+  few_closings = omega (arith, c.requires, ap (λ (p : SegmentView). p.spare_entries) c.self.view_is, c.store_kind-kind.ensures.len);
   closings = c.store_kind-kind.ensures.items;
-  start = c.len.ensures ∙ c.self.inside.changes.ok.0;
+  start = c.place_behind.ensures ∙ c.len.ensures ∙ c.self.inside.changes.ok.0;
   number = c.store_kind-kind.ensures.number;
   until = c.store_kind-kind.ensures.until;
   kind_is = c.store_kind-kind.ensures.kind;

@@ -1,5 +1,5 @@
-use Rattle.std.proofs.Common.{◌≡◌, ℕ, List, sym, refl, ◌≤◌, ◌+◌, ◌-◌, length, [], ◌∷◌, ◌++◌, Some, ◌∙◌, ap, arith, cond, true, false, is_ok}
-use Rattle.std.specs.Vec.{vec_len, vec_capacity, with_items}
+use Rattle.std.proofs.Common.{◌≡◌, ℕ, List, sym, refl, [], ◌∷◌, ◌++◌, Some, ◌∙◌, ap, false, arith}
+use Rattle.std.specs.Vec.{with_items}
 use Rattle.std.specs.Prelude.{slice_index_or}
 use Rattle.std.proofs.lemmas.List.{with_items_is}
 use Rattle.lock_journal.specs.Closings.{closed_of, closing_of}
@@ -13,11 +13,17 @@ use Rattle.lock_journal.specs.declared.segments.Segment.TheInside.{Inside}
 use Rattle.lock_journal.proofs.Adding.{Adds, entries_added, place_at, sound_added}
 use Rattle.lock_journal.proofs.segments.Segment.push_finished.Goals as goal
 
+pub place_behind-start-requires : goal.place_behind-start-requires
+place_behind-start-requires c = omega (arith, c.len.ensures, c.self.invariant.few_changes)
+
+pub store_changes-requires : goal.store_changes-requires
+store_changes-requires c = omega (arith, c.requires.some_changes, ap (λ (p : SegmentView). p.spare_changes) c.self.view_is)
+
 abbrev after : goal.After-push_reserved → Inside
-after c = record { stored = c.push_reserved.new.self; changes = c.extend_from_slice.new.self; closings = c.store_kind-stored_kind.new.closings; closed_at = with_items c.self.inside.closed_at c.set_place-earlier.new.all; before = c.self.inside.before }
+after c = record { stored = c.push_reserved.new.self; changes = c.store_changes.new.stored; closings = c.store_kind-stored_kind.new.closings; closed_at = with_items c.self.inside.closed_at c.set_place-earlier.new.all; before = c.self.inside.before }
 
 abbrev stored : goal.After-push_reserved → StoredEntry
-stored c = record { start = c.len-start.result; number = c.store_kind-stored_kind.result.1; earlier = c.set_place-earlier.result; worker = c.args.worker; kind = c.store_kind-stored_kind.result.0; failed = false }
+stored c = record { start = c.place_behind-start.result; number = c.store_kind-stored_kind.result.1; earlier = c.set_place-earlier.result; worker = c.args.worker; kind = c.store_kind-stored_kind.result.0; failed = false }
 
 -- the places after it
 placed : (c : goal.After-push_reserved) (u : ℕ) → place_at (after c) u ≡ slice_index_or c.set_place-earlier.new.all u NOWHERE
@@ -30,15 +36,14 @@ adds : (c : goal.After-push_reserved) → Adds c.self.inside (after c) (stored c
 adds c =
     let kind : Kind = c.args.kind.now in
     let number : ℕ = c.store_kind-stored_kind.result.1 in
-    let spare : length c.args.changes.now ≤ c.args.self.now.spare_changes = c.requires.some_changes in
-    let view : vec_capacity c.self.inside.changes - vec_len c.self.inside.changes ≡ c.args.self.now.spare_changes = ap (λ (p : SegmentView). p.spare_changes) c.self.view_is in
-    let fits : vec_len c.self.inside.changes + length c.args.changes.now ≤ vec_capacity c.self.inside.changes = omega arith in
-    let ok : is_ok c.extend_from_slice.result ≡ true = c.extend_from_slice.ensures.succeeds fits in
     record {
       stored = c.push_reserved.ensures.items;
-      changes = c.extend_from_slice.ensures.items ∙ ap (λ b. cond b (c.self.inside.changes.items ++ c.args.changes.now) c.self.inside.changes.items) ok;
+      changes = c.store_changes.ensures.items;
+      own = c.requires.own;
+      few_changes = omega (arith, c.requires.some_changes, ap (λ (p : SegmentView). p.spare_changes) c.self.view_is, c.store_changes.ensures.len);
+      few_closings = omega (arith, c.requires.some_entry, ap (λ (p : SegmentView). p.spare_entries) c.self.view_is, c.store_kind-stored_kind.ensures.len);
       closings = c.store_kind-stored_kind.ensures.items;
-      start = c.len-start.ensures ∙ c.self.inside.changes.ok.0;
+      start = c.place_behind-start.ensures ∙ c.len.ensures ∙ c.self.inside.changes.ok.0;
       number = c.store_kind-stored_kind.ensures.number;
       until = c.store_kind-stored_kind.ensures.until;
       kind_is = c.store_kind-stored_kind.ensures.kind;

@@ -1,14 +1,8 @@
-use Rattle.std.proofs.Common.{◌+◌, ◌∷◌, [], get_or, length, take, arith}
+use Rattle.std.proofs.Common.{◌+◌, ◌∷◌, [], get_or, length, take}
 use Rattle.ready_work.specs.TaskSets.{IsSeen}
 use Rattle.ready_work.proofs.TaskLooks.{looks_at_then, room_after, seen_next}
 use Rattle.ready_work.proofs.Looking.{same_then}
 use Rattle.ready_work.proofs.task_sets.TaskSets.look_at_all.Goals as goal
-
-pub overflow_cast-task : goal.overflow_cast-task
-overflow_cast-task c =
-    let few = c.requires.few in
-    let within = c.requires.within c.loop-task.task-index 0 c.loop-task-test.true in
-    omega arith
 
 pub look_where_due-requires-clause-room : goal.look_where_due-requires-clause-room
 look_where_due-requires-clause-room c = room_after (length c.args.state.now.tasks) c.args.state.now (IsSeen c.args.is_each c.args.self.now.unpassed (take c.loop-task.task-index c.args.tasks.now)) c.args.self.now c.loop-task.self c.loop-task.invariant.0 c.requires.room
