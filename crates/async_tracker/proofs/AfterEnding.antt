@@ -9,6 +9,7 @@ use Rattle.worker_choices.specs.declared.choices.Choice.{Choice}
 use Rattle.coordination.specs.Calls.{HasFinished}
 use Rattle.coordination.specs.Decisions.{HadStep}
 use Rattle.coordination.specs.Holds.{HoldsNothing}
+use Rattle.coordination.specs.Offered.{Telling}
 use Rattle.coordination.specs.RunThenDecide.{HasDecidedBehind, HasFollowed}
 use Rattle.coordination.specs.Shown.{Shows, ShowsTheSame}
 use Rattle.coordination.specs.declared.decisions.Decided.{Decided}
@@ -35,7 +36,7 @@ still_shows shows same = record {
   blocked = same.blocked ∙ shows.blocked;
 }
 
-module _ (tells : Bool → Type 0) (t : ℕ) (old : Sight) where
+module _ (tells : Telling) (t : ℕ) (old : Sight) where
   -- what a task's end with what is next behind it left
   abbrev pub EndsAnd : Sight → Followed Choice → Type 0
   EndsAnd new f = HasFollowed (IsNextIn tells) (IsIdleIn tells) step_of_choice kind_of_step Makes FailsOn RetriesOn (kinds.End t) (IsFixedList (kinds.End t)) (λ g w s. ⊥) old new f

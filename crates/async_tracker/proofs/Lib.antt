@@ -6,3 +6,5 @@ pub mod NextSteps
 pub mod QueuedItems
 pub mod AfterEnding
 pub mod AfterClosing
+pub mod NextWork
+pub mod TaskMoves

@@ -14,6 +14,7 @@ use Rattle.worker_choices.specs.declared.choices.Choice.TheVariants as choices
 use Rattle.coordination.specs.Attempts.{Cause, Making}
 use Rattle.coordination.specs.Calls.{AskedInVain, HasFailed, HasFinished}
 use Rattle.coordination.specs.Decisions.{HasDecided}
+use Rattle.coordination.specs.Offered.{Telling}
 use Rattle.coordination.specs.RunThenDecide.{decided_of}
 use Rattle.coordination.specs.Holds.{HoldsNothing}
 use Rattle.coordination.specs.Shown.{ShowsTheSame}
@@ -51,7 +52,7 @@ starts_within g w s queued t next = next.2.is.start.within
 not_again : (n t m : ℕ) → m ≡ t → t < n → n ≤ m → ⊥
 not_again n t m is within least = omega (arith, is, within, least)
 
-module _ (tells : Bool → Type 0) (t : ℕ) (old new : Sight) (step : TaskStep) where
+module _ (tells : Telling) (t : ℕ) (old new : Sight) (step : TaskStep) where
   skipped : steps.Skip t ≡ step → (f : HasFinished (kind_of_step step) (Makes step) old new) → IsNextIn tells old.worker f.before (choices.Skip t) → (k : HasSkippedNext tells t old new) × (k.finished.before ≡ f.before)
   skipped is f next =
       let p : (k : HasFinished (kinds.Skip t) (IsFixedList (kinds.Skip t)) old new) × IsNextIn tells old.worker k.before (choices.Skip t) × (k.before ≡ f.before) =
@@ -96,7 +97,7 @@ same_step : (a b : TaskStep) → Some a ≡ Some b → a ≡ b
 same_step a b is = cc
 
 -- what was decided, and of which book
-pub taken_at : (tells : Bool → Type 0) (old new : Sight) (d : Decided Choice) (h : HasDecided (IsNextIn tells) step_of_choice kind_of_step Makes FailsOn RetriesOn old new d) → HoldsNothing old
+pub taken_at : (tells : Telling) (old new : Sight) (d : Decided Choice) (h : HasDecided (IsNextIn tells) step_of_choice kind_of_step Makes FailsOn RetriesOn old new d) → HoldsNothing old
     → (k : HasTakenNext tells old new (choice_of d)) × (taken_of tells old new (choice_of d) k ≡ decided_of (IsNextIn tells) step_of_choice kind_of_step Makes FailsOn RetriesOn old new d h)
 taken_at tells old new (decided.Answered choices.Pop) h rests = (h.0, refl)
 taken_at tells old new (decided.Answered (choices.Skip t)) h rests = let none = h.1 in absurd (cc)
@@ -119,10 +120,10 @@ taken_at tells old new (decided.Waiting (choices.Start t)) h rests =
     (starts_within h.before.graph old.worker h.before.state h.answer.0 t h.answer.2) h.unchanged.cause)
 taken_at tells old new (decided.Waiting choices.Finish) h rests = let none = h.is in absurd (cc)
 
-pub taken : (tells : Bool → Type 0) (old new : Sight) (d : Decided Choice) → HasDecided (IsNextIn tells) step_of_choice kind_of_step Makes FailsOn RetriesOn old new d → HoldsNothing old → HasTakenNext tells old new (choice_of d)
+pub taken : (tells : Telling) (old new : Sight) (d : Decided Choice) → HasDecided (IsNextIn tells) step_of_choice kind_of_step Makes FailsOn RetriesOn old new d → HoldsNothing old → HasTakenNext tells old new (choice_of d)
 taken tells old new d h rests = (taken_at tells old new d h rests).0
 
-pub taken_shows : (tells : Bool → Type 0) (old new : Sight) (choice : Choice) → HasTakenNext tells old new choice → HoldsNothing old → ShowsNext old new choice
+pub taken_shows : (tells : Telling) (old new : Sight) (choice : Choice) → HasTakenNext tells old new choice → HoldsNothing old → ShowsNext old new choice
 taken_shows tells old new choices.Pop k rests = answered_shows k
 taken_shows tells old new (choices.Skip t) (inl k) rests = skipped_shows k.finished
 taken_shows tells old new (choices.Skip t) (inr k) rests = failed_shows k.failed

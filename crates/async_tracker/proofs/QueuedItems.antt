@@ -23,7 +23,7 @@ use Rattle.lock_transforms.specs.declared.entries.Kind.TheVariants.{Submit, Park
 use Rattle.lock_transforms.specs.declared.kinds.parks.Park.{Park as ParkOf}
 use Rattle.lock_journal.specs.Own.{is_action, is_unit}
 use Rattle.coordination.specs.Calls.{HasFinished, HasLooked}
-use Rattle.coordination.specs.Offered.{AsTold, WaitsAsTold}
+use Rattle.coordination.specs.Offered.{AsTold, Telling, WaitsAsTold}
 use Rattle.coordination.specs.RunThenDecide.{HasFollowed}
 use Rattle.coordination.specs.Shown.{ShowsTheSame, claimed_shown, lease_shown}
 use Rattle.coordination.specs.declared.decisions.Decided.TheVariants as decided
@@ -82,7 +82,7 @@ pub owns_still : {old new : Sight} (a : ℕ) → ShowsTheSame old new → OwnsTo
 owns_still {old} {new} a same own =
     subst (λ (g : GraphView). OwnsToPark (action_of g a).retention (lock_with g a) new) (sym same.graph) (owns_by (action_of old.seen.graph a).retention (lock_with old.seen.graph a) same own)
 
-module _ (tells : Bool → Type 0) (a : ℕ) (old new : Sight) where
+module _ (tells : Telling) (a : ℕ) (old new : Sight) where
   -- what the two entries that are made in one hold leave, with their answer
   abbrev pub Leaves : Followed (Unit {0}) → Type 0
   Leaves = HasFollowed (AsTold tells (λ queued w book x. Unit {0})) (WaitsAsTold tells (λ queued w book. ⊥)) (λ x. Some (record { action = a })) (λ (p : ParkOf). Park p.action) (λ p. IsFixedList (Park p.action)) (λ p g w s. ⊥) (λ p. IsDisabled (Park p.action))

@@ -1,5 +1,5 @@
 -- What a worker did first, and what came after it in the same hold of the state lock, or later where that had to be waited for.
-use Rattle.std.specs.Prelude.{◌≡◌, ◌⊎◌, ℕ, Bool, Option}
+use Rattle.std.specs.Prelude.{◌≡◌, ◌⊎◌, ℕ, Option}
 use Rattle.resource_lock.specs.declared.ids.WorkerId.{WorkerId}
 use Rattle.lock_journal.specs.BookView.{BookView}
 use Rattle.lock_transforms.specs.Allowed.{IsFixedList}
@@ -9,6 +9,7 @@ use Rattle.worker_choices.specs.declared.choices.Choice.{Choice}
 use Rattle.coordination.specs.Attempts.{Cause, Making}
 use Rattle.coordination.specs.Calls.{HasFinished}
 use Rattle.coordination.specs.Decisions.{HasDecided}
+use Rattle.coordination.specs.Offered.{Telling}
 use Rattle.coordination.specs.RunThenDecide.{decided_of}
 use Rattle.coordination.specs.declared.decisions.Decided.{Decided}
 use Rattle.coordination.specs.declared.rule.Sight.{Sight}
@@ -27,7 +28,7 @@ pub record HasEndedThen (t : ℕ) (old : Sight) (after : Sight → Type 0) : Typ
   pub then : after between
 
 -- What was next was done at once, unless nothing was next.
-pub record HasTakenAfter (tells : Bool → Type 0) (old new : Sight) (choice : Choice) : Type 0 where
+pub record HasTakenAfter (tells : Telling) (old new : Sight) (choice : Choice) : Type 0 where
   pub taken : HasTakenNext tells old new choice
   pub shows : ShowsNext old new choice
   pub at_once : IsAtOnceUnless (IsIdleIn tells) old (taken_of tells old new choice taken)

@@ -3,6 +3,10 @@ pub mod Shows
 pub mod Tasks
 pub mod Waits
 pub mod NextSteps
+pub mod ParkedSteps
+pub mod WorkSteps
+pub mod NextWork
+pub mod TaskMoves
 pub mod Queueing
 pub mod Following
 pub mod Closings

@@ -11,7 +11,7 @@ use Rattle.worker_choices.specs.NextSteps.{HasNothingToDo}
 use Rattle.worker_choices.specs.declared.choices.Choice.{Choice}
 use Rattle.worker_choices.specs.declared.choices.Choice.TheVariants as choices
 use Rattle.coordination.specs.Calls.{HasFailed, HasFinished, IsAnswered}
-use Rattle.coordination.specs.Offered.{AsTold, WaitsAsTold}
+use Rattle.coordination.specs.Offered.{AsTold, Telling, WaitsAsTold}
 use Rattle.coordination.specs.declared.decisions.Decided.{Decided}
 use Rattle.coordination.specs.declared.decisions.Decided.TheVariants as decided
 use Rattle.coordination.specs.declared.rule.Sight.{Sight}
@@ -44,36 +44,36 @@ abbrev pub IsIdleIf : Bool → WorkerId → BookView → Type 0
 IsIdleIf queued w book = HasNothingToDo book.graph w book.state queued
 
 -- both, where the offers told whether a ticket is queued
-abbrev pub IsNextIn : (Bool → Type 0) → WorkerId → BookView → Choice → Type 0
+abbrev pub IsNextIn : Telling → WorkerId → BookView → Choice → Type 0
 IsNextIn tells w book choice = AsTold tells IsNextIf w book choice
 
-abbrev pub IsIdleIn : (Bool → Type 0) → WorkerId → BookView → Type 0
+abbrev pub IsIdleIn : Telling → WorkerId → BookView → Type 0
 IsIdleIn tells w book = WaitsAsTold tells IsIdleIf w book
 
 -- The task was started, in a book in which that was next.
-pub record HasStartedNext (tells : Bool → Type 0) (t : ℕ) (old new : Sight) : Type 0 where
+pub record HasStartedNext (tells : Telling) (t : ℕ) (old new : Sight) : Type 0 where
   pub finished : HasFinished (kinds.Start t) (IsFixedList (kinds.Start t)) old new
   pub next : IsNextIn tells old.worker finished.before (choices.Start t)
 
 -- The task was skipped, in a book in which that was next.
-pub record HasSkippedNext (tells : Bool → Type 0) (t : ℕ) (old new : Sight) : Type 0 where
+pub record HasSkippedNext (tells : Telling) (t : ℕ) (old new : Sight) : Type 0 where
   pub finished : HasFinished (kinds.Skip t) (IsFixedList (kinds.Skip t)) old new
   pub next : IsNextIn tells old.worker finished.before (choices.Skip t)
 
 -- To skip the task was next, but a mark of its actions or units couldn't be skipped.
-pub record CouldNotSkip (tells : Bool → Type 0) (t : ℕ) (old new : Sight) : Type 0 where
+pub record CouldNotSkip (tells : Telling) (t : ℕ) (old new : Sight) : Type 0 where
   pub failed : HasFailed (kinds.Skip t) (CannotSkip t) old new
   pub next : IsNextIn tells old.worker failed.before (choices.Skip t)
 
 -- What a worker did, by what was next, where the offers told whether a ticket was queued.
-abbrev pub HasTakenNext : (Bool → Type 0) → Sight → Sight → Choice → Type 0
+abbrev pub HasTakenNext : Telling → Sight → Sight → Choice → Type 0
 HasTakenNext tells old new choices.Pop = IsAnswered (IsNextIn tells) choices.Pop old new
 HasTakenNext tells old new (choices.Skip t) = HasSkippedNext tells t old new ⊎ CouldNotSkip tells t old new
 HasTakenNext tells old new (choices.Start t) = HasStartedNext tells t old new
 HasTakenNext tells old new choices.Finish = IsAnswered (IsNextIn tells) choices.Finish old new
 
 -- the book in which that was next
-abbrev pub taken_of : (tells : Bool → Type 0) (old new : Sight) (choice : Choice) → HasTakenNext tells old new choice → BookView
+abbrev pub taken_of : (tells : Telling) (old new : Sight) (choice : Choice) → HasTakenNext tells old new choice → BookView
 taken_of tells old new choices.Pop h = h.book
 taken_of tells old new (choices.Skip t) (inl h) = h.finished.before
 taken_of tells old new (choices.Skip t) (inr h) = h.failed.before

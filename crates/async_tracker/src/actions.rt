@@ -13,7 +13,7 @@ ghost use Rattle.async_tracker.specs.Shows.{HasReleased, IsFree, IsIdleOrParked,
 ghost use Rattle.async_tracker.specs.Waits.{ActionIsNotQueued, CannotQueue};
 
 use crate::parked::Parked;
-use coordination::{Coordination, Halt, Keeper, Offers, Pass};
+use coordination::{Coordination, Halt, Offers, Pass, Runner};
 use lock_transforms::kinds::{Park, Submit};
 use std::sync::Wait;
 
@@ -21,7 +21,7 @@ use std::sync::Wait;
 ///
 /// It waits only where the action or one of its items doesn't wait any more, or where what comes
 /// before them in the task isn't over. The pass shows what it showed, whatever the call answers.
-pub fn submit<R: Wait, O: Offers, K: Keeper>(
+pub fn submit<R: Wait, O: Offers, K: Runner>(
     rt: &R,
     service: &Coordination<O, K>,
     pass: &mut Pass,
@@ -45,7 +45,7 @@ pub fn submit<R: Wait, O: Offers, K: Keeper>(
 /// resumes, and can claim items meanwhile.
 ///
 /// It waits only where the action isn't Queued. After an error the pass shows what it showed.
-pub fn park<R: Wait, O: Offers, K: Keeper>(
+pub fn park<R: Wait, O: Offers, K: Runner>(
     rt: &R,
     service: &Coordination<O, K>,
     pass: &mut Pass,

@@ -11,7 +11,7 @@ ghost use Rattle.async_tracker.specs.Closings.{HasClosedThen, halt_of};
 ghost use Rattle.async_tracker.specs.Following.{HasDecidedAfter};
 ghost use Rattle.async_tracker.specs.Shows.{IsItemHere};
 
-use coordination::{Coordination, Decided, Decision, Followed, Halt, Keeper, Offers, Pass};
+use coordination::{Coordination, Decided, Decision, Followed, Halt, Offers, Pass, Runner};
 use lock_transforms::Closed;
 use lock_transforms::kinds::Close;
 use std::sync::Wait;
@@ -41,7 +41,7 @@ impl CloseHalt {
 ///
 /// Where there is none yet the decision waits in a hold of its own, and other workers may have made entries in between. The closing
 /// itself never waits. An error says whether the item is closed.
-pub fn close_then<R: Wait, O: Offers, K: Keeper, Q: Decision>(
+pub fn close_then<R: Wait, O: Offers, K: Runner, Q: Decision>(
     rt: &R,
     service: &Coordination<O, K>,
     pass: &mut Pass,

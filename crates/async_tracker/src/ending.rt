@@ -12,7 +12,7 @@ ghost use Rattle.async_tracker.specs.NextSteps.{IsIdleIn, IsNextIn, step_of_choi
 ghost use Rattle.async_tracker.specs.Tasks.{CannotEnd, MayEnd, ShowsEnded};
 
 use crate::next_steps::{WhatIsNext, choice_of, take_next};
-use coordination::{Coordination, Followed, Halt, Keeper, Offers, Pass};
+use coordination::{Coordination, Followed, Halt, Offers, Pass, Runner};
 use lock_transforms::kinds::End;
 use std::sync::Wait;
 use worker_choices::Choice;
@@ -22,7 +22,7 @@ use worker_choices::Choice;
 ///
 /// Where nothing is next yet, that waits in a hold of its own, and other workers may have made entries in between. After an error the
 /// task has ended, or the pass shows what it showed.
-pub fn end_and_take_next<R: Wait, O: Offers, K: Keeper>(
+pub fn end_and_take_next<R: Wait, O: Offers, K: Runner>(
     rt: &R,
     service: &Coordination<O, K>,
     pass: &mut Pass,

@@ -10,7 +10,7 @@ ghost use Rattle.coordination.specs.Shown.{ShowsTheSame, claimed_shown, lease_sh
 ghost use Rattle.async_tracker.specs.Shows.{IsFree, IsIdleOrParked, IsItemHere, ShowsClaimed, ShowsClosed};
 ghost use Rattle.async_tracker.specs.Waits.{IsNotQueued, NeedsLease};
 
-use coordination::{Coordination, Halt, Keeper, Offers, Pass};
+use coordination::{Coordination, Halt, Offers, Pass, Runner};
 use item_actions::Outcome;
 use lock_transforms::Closed;
 use lock_transforms::kinds::{Claim, Close};
@@ -22,7 +22,7 @@ use std::sync::Wait;
 /// False, with a failed entry, says that the unit wasn't Queued: another worker was first, or it
 /// isn't queued yet. Where it is Queued the call waits until a lease is free. After false and after
 /// an error the pass shows what it showed.
-pub fn claim<R: Wait, O: Offers, K: Keeper>(
+pub fn claim<R: Wait, O: Offers, K: Runner>(
     rt: &R,
     service: &Coordination<O, K>,
     pass: &mut Pass,
@@ -48,7 +48,7 @@ pub fn claim<R: Wait, O: Offers, K: Keeper>(
 ///
 /// It waits for the state lock alone, and fails for want of memory alone. The pass then shows what
 /// it showed.
-pub fn close<R: Wait, O: Offers, K: Keeper>(
+pub fn close<R: Wait, O: Offers, K: Runner>(
     rt: &R,
     service: &Coordination<O, K>,
     pass: &mut Pass,

@@ -10,7 +10,7 @@ ghost use Rattle.coordination.specs.Shown.{ShowsTheSame};
 ghost use Rattle.async_tracker.specs.NextSteps.{HasTakenNext, IsIdleIf, IsIdleIn, IsNextIf, IsNextIn, ShowsNext, choice_of, step_of_choice};
 
 use crate::task_steps::TaskStep;
-use coordination::{Coordination, Decided, Decision, Halt, Keeper, Offers, Pass, Question};
+use coordination::{Coordination, Decided, Decision, Halt, Offers, Pass, Question, Runner};
 use lock_journal::Book;
 use resource_lock::WorkerId;
 use std::sync::Wait;
@@ -57,7 +57,7 @@ impl Decision for WhatIsNext {
 ///
 /// A start never fails. A skip fails, with a failed entry, only where one of the task's marks can't be skipped. Where there is
 /// nothing to do yet, the call waits. After the start of a task the pass shows it, its lock and a lease, and else what it showed.
-pub fn take_next<R: Wait, O: Offers, K: Keeper>(
+pub fn take_next<R: Wait, O: Offers, K: Runner>(
     rt: &R,
     service: &Coordination<O, K>,
     pass: &mut Pass,

@@ -14,7 +14,7 @@ ghost use Rattle.async_tracker.specs.Waits.{CannotQueue};
 
 use crate::parked::Parked;
 use coordination::{
-    Coordination, Decided, Decision, Followed, Halt, Keeper, Offers, Pass, Question,
+    Coordination, Decided, Decision, Followed, Halt, Offers, Pass, Question, Runner,
 };
 use lock_journal::Book;
 use lock_transforms::kinds::{Park, Submit};
@@ -24,8 +24,9 @@ use worker_choices::Awaited;
 
 /// Decides to begin to wait for the items of an action, whatever the book.
 #[derive(Clone, Copy)]
-struct ThenPark {
-    action: u32,
+pub struct ThenPark {
+    /// The action.
+    pub action: u32,
 }
 
 impl Question for ThenPark {
@@ -63,7 +64,7 @@ impl Decision for ThenPark {
 ///
 /// The call waits only where `submit` does. After an error the pass shows what it showed; after `NoMemory` the items are queued or
 /// aren't, and after `Stopped` they aren't.
-pub fn submit_and_park<R: Wait, O: Offers, K: Keeper>(
+pub fn submit_and_park<R: Wait, O: Offers, K: Runner>(
     rt: &R,
     service: &Coordination<O, K>,
     pass: &mut Pass,

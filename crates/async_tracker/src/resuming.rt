@@ -15,7 +15,7 @@ ghost use Rattle.worker_choices.specs.NextSteps.{first_open};
 
 use crate::open_items::FirstOpen;
 use crate::parked::Parked;
-use coordination::{Coordination, Halt, Keeper, Offers, Pass};
+use coordination::{Coordination, Halt, Offers, Pass, Runner};
 use lock_transforms::kinds::Resume;
 use resource_lock::WorkerId;
 use std::sync::Wait;
@@ -37,7 +37,7 @@ pub enum Held {
 /// It answers `StillWaiting` exactly where an item hasn't ended. Else it waits while the worker is kept
 /// from the lock or no lease is free. After an error the pass shows what it showed, and the parked
 /// value comes back as it was.
-pub fn resume<R: Wait, O: Offers, K: Keeper>(
+pub fn resume<R: Wait, O: Offers, K: Runner>(
     rt: &R,
     service: &Coordination<O, K>,
     pass: &mut Pass,
@@ -69,7 +69,7 @@ pub fn resume<R: Wait, O: Offers, K: Keeper>(
 }
 
 // The first item of an action that hasn't ended.
-fn ask_first_open<R: Wait, O: Offers, K: Keeper>(
+fn ask_first_open<R: Wait, O: Offers, K: Runner>(
     rt: &R,
     service: &Coordination<O, K>,
     pass: &mut Pass,
@@ -87,7 +87,7 @@ fn ask_first_open<R: Wait, O: Offers, K: Keeper>(
 }
 
 // Makes the entry, once the pass has seen that all items have ended: so it is in every later state.
-fn go_on<R: Wait, O: Offers, K: Keeper>(
+fn go_on<R: Wait, O: Offers, K: Runner>(
     rt: &R,
     service: &Coordination<O, K>,
     pass: &mut Pass,

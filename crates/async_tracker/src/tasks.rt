@@ -8,7 +8,7 @@ ghost use Rattle.coordination.specs.Holds.{HoldsNothing};
 ghost use Rattle.coordination.specs.Shown.{ShowsTheSame};
 ghost use Rattle.async_tracker.specs.Tasks.{CannotEnd, CannotSkip, CannotStart, MayEnd, ShowsEnded, ShowsStarted};
 
-use coordination::{Coordination, Halt, Keeper, Offers, Pass};
+use coordination::{Coordination, Halt, Offers, Pass, Runner};
 use lock_transforms::kinds::{End, Skip, Start};
 use std::alloc::AllocError;
 use std::sync::Wait;
@@ -19,7 +19,7 @@ use std::sync::Wait;
 /// comes after hasn't passed, somebody owns a lock that conflicts with its own, or no lease is free. The call waits for the state
 /// lock alone, and fails for want of memory alone. After false and after an error the pass shows
 /// what it showed.
-pub fn start_task<R: Wait, O: Offers, K: Keeper>(
+pub fn start_task<R: Wait, O: Offers, K: Runner>(
     rt: &R,
     service: &Coordination<O, K>,
     pass: &mut Pass,
@@ -48,7 +48,7 @@ pub fn start_task<R: Wait, O: Offers, K: Keeper>(
 /// comes after failed or was skipped, or one of its marks isn't Waiting. The call waits for the state
 /// lock alone, and fails for want of memory alone. The pass shows what it showed, whatever the call
 /// answers.
-pub fn skip_task<R: Wait, O: Offers, K: Keeper>(
+pub fn skip_task<R: Wait, O: Offers, K: Runner>(
     rt: &R,
     service: &Coordination<O, K>,
     pass: &mut Pass,
@@ -75,7 +75,7 @@ pub fn skip_task<R: Wait, O: Offers, K: Keeper>(
 ///
 /// It waits only where an action of the task neither has passed nor never ran, or where one of the
 /// changes can't be made, as for a worker that has a lease and not the task's lock. After an error the pass shows what it showed.
-pub fn end_task<R: Wait, O: Offers, K: Keeper>(
+pub fn end_task<R: Wait, O: Offers, K: Runner>(
     rt: &R,
     service: &Coordination<O, K>,
     pass: &mut Pass,

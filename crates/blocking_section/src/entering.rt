@@ -7,7 +7,7 @@ ghost use Rattle.coordination.specs.Shown.{ShowsTheSame, lease_shown, locks_show
 ghost use Rattle.blocking_section.specs.Sections.{CouldEnter, HasSetDown, IsGivenBackBy, IsNotReady, MayEnter, OwnsNothingMeanwhile};
 
 use crate::blocked::Blocked;
-use coordination::{Coordination, Halt, Keeper, Offers, Pass};
+use coordination::{Coordination, Halt, Offers, Pass, Runner};
 use lock_transforms::kinds::Block;
 use std::snapshot::Snapshot;
 use std::sync::Wait;
@@ -20,7 +20,7 @@ use std::sync::Wait;
 /// action of the task hasn't passed. So it never waits without a unit, nor where the fetch was ready
 /// in the book that the pass has seen last, since nobody else moves what stands under the worker's
 /// task. After an error the pass shows what it showed.
-pub fn enter<R: Wait, O: Offers, K: Keeper>(
+pub fn enter<R: Wait, O: Offers, K: Runner>(
     rt: &R,
     service: &Coordination<O, K>,
     pass: &mut Pass,

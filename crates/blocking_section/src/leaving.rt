@@ -9,7 +9,7 @@ ghost use Rattle.blocking_section.specs.BlockedView.{BlockedView};
 ghost use Rattle.blocking_section.specs.Sections.{CanNotTakeUp, FitsUnit, HasTakenUp, IsGivenBackBy, closed_with};
 
 use crate::blocked::Blocked;
-use coordination::{Coordination, Halt, Keeper, Offers, Pass};
+use coordination::{Coordination, Halt, Offers, Pass, Runner};
 use item_actions::Outcome;
 use lock_transforms::Closed;
 use lock_transforms::kinds::Unblock;
@@ -31,7 +31,7 @@ pub enum StillBlocked {
 ///
 /// It waits while the worker is kept from one of the locks or no lease is free. After an error the pass
 /// shows what it showed, and what was given back comes back as it was.
-pub fn leave<R: Wait, O: Offers, K: Keeper>(
+pub fn leave<R: Wait, O: Offers, K: Runner>(
     rt: &R,
     service: &Coordination<O, K>,
     pass: &mut Pass,

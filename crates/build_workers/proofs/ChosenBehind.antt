@@ -14,13 +14,13 @@ use Rattle.async_tracker.proofs.lemmas.Next.{DecidesNext, next_taken}
 use Rattle.async_tracker.proofs.lemmas.Turns.{free_still, parked_still, resumed_from, shows_then}
 use Rattle.build_workers.specs.Choices.{HasBegun}
 use Rattle.build_workers.specs.Helping.{HasRunBefore}
-use Rattle.build_workers.specs.Parked.{ShowsChoice, choice_of}
+use Rattle.async_tracker.specs.ParkedSteps.{ShowsChoice, choice_of}
 use Rattle.build_workers.specs.Site.{SiteView}
 use Rattle.build_workers.specs.Steps.{Steps}
 use Rattle.build_workers.specs.Tickets.{TicketsTell}
 use Rattle.build_workers.specs.WorkerView.{WorkerView}
-use Rattle.build_workers.specs.declared.parked.ParkedAnswer.{ParkedAnswer}
-use Rattle.build_workers.specs.declared.parked.ParkedAnswer.TheVariants as parked
+use Rattle.async_tracker.specs.declared.parked_steps.ParkedAnswer.{ParkedAnswer}
+use Rattle.async_tracker.specs.declared.parked_steps.ParkedAnswer.TheVariants as parked
 use Rattle.build_workers.proofs.Choosing.{begun, taken_closes}
 use Rattle.build_workers.proofs.ParkedChoices.{Chosen, chosen}
 use Rattle.build_workers.proofs.Points.{same_rests}

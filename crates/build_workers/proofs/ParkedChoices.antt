@@ -23,10 +23,10 @@ use Rattle.async_tracker.proofs.lemmas.Resumed.{resumed_shows, resumes_at_once}
 use Rattle.async_tracker.proofs.lemmas.Turns.{resumed_from}
 use Rattle.worker_choices.specs.NextSteps.{CanGoOn}
 use Rattle.build_workers.specs.Kept.{HasClosed}
-use Rattle.build_workers.specs.Parked.{IsNextParked, ShowsChoice, choice_of, step_of_choice}
+use Rattle.async_tracker.specs.ParkedSteps.{IsNextParked, ShowsChoice, choice_of, step_of_choice}
 use Rattle.build_workers.specs.Tickets.{TicketsTell}
-use Rattle.build_workers.specs.declared.parked.ParkedAnswer.{ParkedAnswer}
-use Rattle.build_workers.specs.declared.parked.ParkedAnswer.TheVariants as parked
+use Rattle.async_tracker.specs.declared.parked_steps.ParkedAnswer.{ParkedAnswer}
+use Rattle.async_tracker.specs.declared.parked_steps.ParkedAnswer.TheVariants as parked
 use Rattle.build_workers.proofs.Keeping.{answered_closes, finished_closes, in_vain_closes, looked_closes}
 use Rattle.build_workers.proofs.lemmas.Results.{if_ok}
 

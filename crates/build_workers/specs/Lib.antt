@@ -1,6 +1,5 @@
 pub mod Units
 pub mod Choices
-pub mod Parked
 pub mod Site
 pub mod Kept
 pub mod Failing

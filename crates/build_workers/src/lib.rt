@@ -1,7 +1,6 @@
 //! What one worker of a run does: it runs tasks and items over a service, a desk and a pool of daemons that others use too.
 #![tactic(auto)]
 
-mod failed_units;
 mod fetching;
 mod hands;
 mod idle;

@@ -1,101 +1,19 @@
 //! A parked worker: it runs items until those that it waits for have ended, and resumes.
-ghost use Rattle.std.specs.Prelude.{◌≡◌, ◌<◌, ◌||◌, IfOk, OnOk, Some, is_ok, length, true};
+ghost use Rattle.std.specs.Prelude.{◌≡◌, ◌<◌, IfOk, OnOk, is_ok, length, true};
 ghost use Rattle.resource_lock.specs.GraphView.{action_of};
 ghost use Rattle.resource_lock.specs.Ranges.{lock_with};
 ghost use Rattle.async_tracker.specs.Shows.{IsFree, IsParkedBy, ShowsResumed};
-ghost use Rattle.worker_choices.specs.NextSteps.{HasToWait};
-ghost use Rattle.worker_choices.specs.declared.awaited.Awaited.TheVariants as awaited;
-ghost use Rattle.build_workers.specs.Parked.{IsNextParked, ShowsChoice, choice_of, step_of_choice};
+ghost use Rattle.async_tracker.specs.ParkedSteps.{ShowsChoice};
 ghost use Rattle.build_workers.specs.Points.{CanHelp};
 ghost use Rattle.build_workers.specs.Steps.{Steps};
 ghost use Rattle.build_workers.specs.WorkerView.{IsOf};
 
-use crate::failed_units::has_failed;
 use crate::items::help_if_found;
 use crate::run_types::RunTypes;
 use crate::site::Site;
 use crate::worker::Worker;
-use async_tracker::Parked;
-use coordination::{Decided, Decision, Halt, Question};
-use lock_journal::Book;
-use lock_transforms::kinds::Resume;
-use resource_lock::WorkerId;
-use worker_choices::{Awaited, next_of_parked};
-
-/// What a parked worker does next.
-#[derive(Clone, Copy)]
-pub(crate) enum ParkedAnswer {
-    /// It resumes: the items that it waits for have ended, and what it takes again is free. It says
-    /// whether a unit of the action has failed.
-    Resume(bool),
-    /// It pops a ticket, or takes a unit of its own.
-    Pop,
-}
-
-/// Asks what a worker does next that is parked in this action, and resumes where that is next. It waits where there is nothing to do
-/// yet.
-#[derive(Clone, Copy)]
-pub(crate) struct WhatIsNextParked {
-    pub action: u32,
-    /// Whether the worker has units of its own.
-    pub own: bool,
-}
-
-impl Question for WhatIsNextParked {
-    type Answer = ParkedAnswer;
-
-    ghost answers = { λ q queued w book choice. q.action < length book.graph.actions
-        → IsNextParked book.graph w book.state (queued || q.own) q.action choice };
-
-    ghost waits_on = { λ q queued w book. q.action < length book.graph.actions → HasToWait book.graph w book.state (queued || q.own) q.action };
-
-    ghost awaits = { λ q. Some (awaited.Items q.action q.own) };
-
-    fn awaited(&self) -> Option<Awaited> {
-        Some(Awaited::Items {
-            action: self.action,
-            own: self.own,
-        })
-    }
-
-    fn ask(&self, worker: WorkerId, book: &Book, queued: bool) -> Option<ParkedAnswer> {
-        if self.action as usize >= book.graph().actions().len() {
-            return None;
-        }
-        match next_of_parked(book, worker, queued || self.own, self.action)? {
-            worker_choices::ParkedChoice::Resume => {
-                Some(ParkedAnswer::Resume(has_failed(book, self.action)))
-            }
-            worker_choices::ParkedChoice::Pop => Some(ParkedAnswer::Pop),
-        }
-    }
-}
-
-impl Decision for WhatIsNextParked {
-    type Step = Resume;
-
-    ghost step_of = { λ q. step_of_choice q.action };
-
-    fn step(&self, choice: &ParkedAnswer) -> Option<Resume> {
-        match choice {
-            ParkedAnswer::Resume(_) => Some(Resume {
-                action: self.action,
-            }),
-            ParkedAnswer::Pop => None,
-        }
-    }
-}
-
-// What was decided.
-fn choice_of(decided: Decided<ParkedAnswer>) -> ParkedAnswer
-    ensures { result ≡ choice_of decided }
-{
-    match decided {
-        Decided::Answered(choice) | Decided::Entered(choice, _) | Decided::Waiting(choice) => {
-            choice
-        }
-    }
-}
+use async_tracker::{Parked, ParkedAnswer, WhatIsNextParked, parked_choice_of};
+use coordination::Halt;
 
 // Chooses what a parked worker does next. Where it resumes, it has done so in the hold of the state lock in which that was chosen.
 fn choose<T: RunTypes>(
@@ -114,7 +32,7 @@ fn choose<T: RunTypes>(
     let action = parked.action();
     let next = WhatIsNextParked { action, own };
     let decided = site.service.decide(site.rt, &mut worker.pass, &next)?;
-    Ok(choice_of(decided))
+    Ok(parked_choice_of(decided))
 }
 
 // Runs an item, if there is one, and chooses what a parked worker does next. Where it resumes, it has done so.
@@ -136,7 +54,7 @@ fn help_and_choose<T: RunTypes>(
         own: worker.has_own_units(),
     };
     let decided = help_if_found(site, worker, unit, &next)?;
-    Ok(choice_of(decided))
+    Ok(parked_choice_of(decided))
 }
 
 // Runs items, one at least if there is one, until those of the action have ended, and resumes.

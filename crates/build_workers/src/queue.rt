@@ -4,7 +4,7 @@ ghost use Rattle.std.specs.Arc.{arc_value};
 ghost use Rattle.work_tickets.specs.Calls.{HasPopped, HasPushed, WasEmpty, WasFull};
 
 use crate::hands::Hand;
-use coordination::Offers;
+use coordination::{Offers, Queued};
 use std::alloc::{AllocError, Global};
 use std::sync::{Arc, Wait};
 use work_tickets::{TicketSeat, Tickets, TicketsOpened};
@@ -57,10 +57,10 @@ impl QueuePlace {
 }
 
 impl Offers for QueuePlace {
-    ghost tells = { λ place queued. queued ≡ false → WasEmpty place.seat.sight };
+    ghost tells = { λ place _ queued. queued ≡ false → WasEmpty place.seat.sight };
 
-    fn are_there(&mut self) -> bool {
-        !self.tickets.is_empty(&mut self.seat)
+    fn queued(&mut self) -> Queued {
+        Queued::Beside(!self.tickets.is_empty(&mut self.seat))
     }
 }
 

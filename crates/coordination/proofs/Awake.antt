@@ -23,7 +23,10 @@ use Rattle.coordination.specs.declared.turns.Came.{Came}
 use Rattle.coordination.specs.declared.turns.Came.TheVariants as came
 use Rattle.coordination.specs.Attempts.{Cause, HasAsked, HasHeld, Making}
 use Rattle.coordination.specs.Decisions.{DecideGives, EndsDecision, HadStep, HasDecidedHeld, noted_deciding, stance_entered}
-use Rattle.coordination.specs.SleepAndWake.{EndsHold, IsAwake, begun, has_entered, looks_if, noted_after, noted_asking, stance_after, stance_asking, stance_waiting, stances_after, woken_if}
+use Rattle.coordination.specs.SleepAndWake.{EndsHold, IsAwake, begun, has_entered, looks_behind_answers, looks_if, noted_after, noted_asking, stance_after, stance_asking, stance_waiting, stances_after, woken_if}
+use Rattle.coordination.specs.Offered.{AnswersWith, Telling, WaitsWith}
+use Rattle.coordination.specs.declared.outside_work.Queued.{Queued}
+use Rattle.coordination.specs.declared.sleepers.Then.{Then}
 use Rattle.coordination.specs.Turns.{Leaves}
 use Rattle.coordination.proofs.Sleeping.{none_sleeps}
 
@@ -31,18 +34,18 @@ looks_awake : (b : Bool) (a : Awaited) → looks_if b ≢ Sleeps a
 looks_awake true a is = cc
 looks_awake false a is = cc
 
-after_awake : {E : Type 0} (promised : Bool) (kind : Kind) (r : Result Disposition E) (a : Awaited) → stance_after promised kind r ≢ Sleeps a
-after_awake promised kind (Ok Finished) a is = looks_awake _ a is
-after_awake promised kind (Ok Failed) a is = looks_awake promised a is
-after_awake promised kind (Ok Retry) a is = cc
-after_awake promised kind (Err e) a is = cc
+after_awake : {E : Type 0} (behind : Then) (kind : Kind) (r : Result Disposition E) (a : Awaited) → stance_after behind kind r ≢ Sleeps a
+after_awake behind kind (Ok Finished) a is = looks_awake _ a is
+after_awake behind kind (Ok Failed) a is = looks_awake _ a is
+after_awake behind kind (Ok Retry) a is = cc
+after_awake behind kind (Err e) a is = cc
 
-entered_awake : (promised : Bool) (kind : Kind) (b : Bool) (a : Awaited) → stance_entered promised kind b ≢ Sleeps a
-entered_awake promised kind true a is = looks_awake _ a is
-entered_awake promised kind false a is = looks_awake promised a is
+entered_awake : (behind : Then) (kind : Kind) (b : Bool) (a : Awaited) → stance_entered behind kind b ≢ Sleeps a
+entered_awake behind kind true a is = looks_awake _ a is
+entered_awake behind kind false a is = looks_awake _ a is
 
 -- what the stance of a worker is that was noted
-stance_at : (xs : List Stance) (i : ℕ) (stance : Stance) (a : Awaited) → slice_get (set xs i stance) i ≡ Some (Sleeps a) → i < length xs → stance ≡ Sleeps a
+pub stance_at : (xs : List Stance) (i : ℕ) (stance : Stance) (a : Awaited) → slice_get (set xs i stance) i ≡ Some (Sleeps a) → i < length xs → stance ≡ Sleeps a
 stance_at xs i stance a at low = sym (get_or-set_same xs i stance Away low) ∙ get_or_from_slice_get (set xs i stance) i (Sleeps a) Away at
 
 within : (xs : List Stance) (i : ℕ) (stance : Stance) (a : Awaited) → slice_get (set xs i stance) i ≡ Some (Sleeps a) → i < length xs
@@ -68,11 +71,12 @@ held_awake : (book : BookView) (w : WorkerId) (stance : Stance) (entered : Bool)
 held_awake book w stance entered old left new wakes e awake same a at = awake_in wakes.workers old.stances w stance a (awake a) (subst (λ (xs : List Stance). slice_get xs w.0 ≡ Some (Sleeps a)) (same ∙ e.stances) at)
 
 -- what is noted beside leaves the stances as they are
-noted_same : {E : Type 0} (r : Result Disposition E) (s : Sleepers) → (noted_after r s).stances ≡ s.stances
-noted_same (Ok Finished) s = refl
-noted_same (Ok Failed) s = refl
-noted_same (Ok Retry) s = refl
-noted_same (Err e) s = refl
+noted_same : {E : Type 0} (b : Bool) (r : Result Disposition E) (s : Sleepers) → (noted_after b r s).stances ≡ s.stances
+noted_same b (Ok Finished) s = refl
+noted_same b (Ok Failed) s = refl
+noted_same true (Ok Retry) s = refl
+noted_same false (Ok Retry) s = refl
+noted_same b (Err e) s = refl
 
 asked_same : {A : Type 0} (apart : Bool) (r : Option A) (s : Sleepers) → (noted_asking apart r s).stances ≡ s.stances
 asked_same false None s = refl
@@ -86,34 +90,34 @@ decided_same apart came.NoMemory s = refl
 decided_same apart (came.Done c) s = refl
 
 -- at the end of the hold of a transform, and of a question that was answered
-pub run_awake : {E : Type 0} (kind : Kind) (makes : Making) (fails retries : Cause) (tells : Bool → Type 0) (w : WorkerId) (promised : Bool) (old new : BookView) (part : WorkerPart) (before after : Sleepers) (r : Result Disposition E × Wakes)
-    → HasHeld kind makes fails retries tells w promised old new part before after r → IsAwake w after
-run_awake kind makes fails retries tells w promised old new part before after r h =
-    held_awake new w (stance_after promised kind r.0) (has_entered r.0) (begun h.queued promised before) h.left after r.1 h.run.ends (λ a. after_awake promised kind r.0 a) (ap (λ (s : Sleepers). s.stances) h.noted ∙ noted_same r.0 h.left)
+pub run_awake : {E : Type 0} (kind : Kind) (makes : Making) (fails retries : Cause) (tells : Telling) (w : WorkerId) (behind : Then) (b : Bool) (old new : BookView) (part : WorkerPart) (before after : Sleepers) (r : Result Disposition E × Wakes)
+    → HasHeld kind makes fails retries tells w behind b old new part before after r → IsAwake w after
+run_awake kind makes fails retries tells w behind b old new part before after r h =
+    held_awake new w (stance_after behind kind r.0) (has_entered r.0) (begun h.queued behind before) h.left after r.1 h.run.ends (λ a. after_awake behind kind r.0 a) (ap (λ (s : Sleepers). s.stances) h.noted ∙ noted_same b r.0 h.left)
 
-pub asked_awake : {A : Type 0} (answers : Bool → WorkerId → BookView → A → Type 0) (waits : Bool → WorkerId → BookView → Type 0) (awaits : Option Awaited) (tells : Bool → Type 0) (w : WorkerId) (promised woken apart : Bool) (book : BookView) (before after : Sleepers) (r : Option A × Wakes)
-    → HasAsked answers waits awaits tells w promised woken apart book before after r → (a : A) → r.0 ≡ Some a → IsAwake w after
-asked_awake {A} answers waits awaits tells w promised woken apart book before after r h a is =
-    held_awake book w (stance_asking promised awaits r.0) false (begun h.queued promised (woken_if woken w before)) h.left after r.1 h.ends
-    (λ b. subst (λ (o : Option A). stance_asking promised awaits o ≢ Sleeps b) (sym is) (looks_awake promised b)) (ap (λ (s : Sleepers). s.stances) h.noted ∙ asked_same apart r.0 h.left)
+pub asked_awake : {A : Type 0} (answers : Bool → WorkerId → BookView → A → Type 0) (waits : Bool → WorkerId → BookView → Type 0) (awaits : Option Awaited) (tells : Telling) (w : WorkerId) (behind : Then) (woken apart : Bool) (book : BookView) (before after : Sleepers) (r : Option A × Wakes)
+    → HasAsked answers waits awaits tells w behind woken apart book before after r → (a : A) → r.0 ≡ Some a → IsAwake w after
+asked_awake {A} answers waits awaits tells w behind woken apart book before after r h a is =
+    held_awake book w (stance_asking behind awaits r.0) false (begun h.queued behind (woken_if woken w before)) h.left after r.1 h.ends
+    (λ b. subst (λ (o : Option A). stance_asking behind awaits o ≢ Sleeps b) (sym is) (looks_awake (looks_behind_answers behind) b)) (ap (λ (s : Sleepers). s.stances) h.noted ∙ asked_same apart r.0 h.left)
 
 -- at the end of the hold of a decision that isn't to be made again, or waits for nothing
 module _ {A X : Type 0} (answers : Bool → WorkerId → BookView → A → Type 0) (waits : Bool → WorkerId → BookView → Type 0) (awaits : Option Awaited) (step_of : A → Option X) (kind_of : X → Kind) (makes : X → Making) (fails retries : X → Cause) (w : WorkerId) where
-  decision_awake : (queued : Bool) (old new : BookView) (c : Came (Decided A)) → Leaves (DecideGives (answers queued) step_of kind_of makes fails retries) (waits queued) (HadStep (answers queued) step_of) w old new c → (s left after : Sleepers) (wakes : Wakes)
+  decision_awake : (queued : Queued) (old new : BookView) (c : Came (Decided A)) → Leaves (DecideGives (AnswersWith queued answers) step_of kind_of makes fails retries) (WaitsWith queued waits) (HadStep (AnswersWith queued answers) step_of) w old new c → (s left after : Sleepers) (wakes : Wakes)
       → EndsDecision new w awaits step_of kind_of s left wakes c → (c ≡ came.Again → awaits ≡ None) → after.stances ≡ left.stances → IsAwake w after
-  decision_awake queued old new (came.Done (decided.Answered a)) l s left after wakes e none same = held_awake new w (looks_if s.promised) false s left after wakes e (looks_awake s.promised) same
+  decision_awake queued old new (came.Done (decided.Answered a)) l s left after wakes e none same = held_awake new w (looks_if (looks_behind_answers s.behind)) false s left after wakes e (looks_awake (looks_behind_answers s.behind)) same
   decision_awake queued old new (came.Done (decided.Entered a true)) l s left after wakes e none same =
-      held_awake new w (stance_entered s.promised (kind_of l.step) true) true s left after wakes
-      (subst (λ (o : Option X). IfSome o (λ x. EndsHold new w (stance_entered s.promised (kind_of x) true) true s left wakes)) l.is e) (entered_awake s.promised (kind_of l.step) true) same
+      held_awake new w (stance_entered s.behind (kind_of l.step) true) true s left after wakes
+      (subst (λ (o : Option X). IfSome o (λ x. EndsHold new w (stance_entered s.behind (kind_of x) true) true s left wakes)) l.is e) (entered_awake s.behind (kind_of l.step) true) same
   decision_awake queued old new (came.Done (decided.Entered a false)) l s left after wakes e none same =
-      held_awake new w (stance_entered s.promised (kind_of l.step) false) true s left after wakes
-      (subst (λ (o : Option X). IfSome o (λ x. EndsHold new w (stance_entered s.promised (kind_of x) false) true s left wakes)) l.is e) (entered_awake s.promised (kind_of l.step) false) same
+      held_awake new w (stance_entered s.behind (kind_of l.step) false) true s left after wakes
+      (subst (λ (o : Option X). IfSome o (λ x. EndsHold new w (stance_entered s.behind (kind_of x) false) true s left wakes)) l.is e) (entered_awake s.behind (kind_of l.step) false) same
   decision_awake queued old new (came.Done (decided.Waiting a)) l s left after wakes e none same = held_awake new w Away false s left after wakes e (looks_awake false) same
   decision_awake queued old new came.NoMemory l s left after wakes e none same = held_awake new w Away false s left after wakes e (looks_awake false) same
   decision_awake queued old new came.Again l s left after wakes e none same =
       held_awake new w Away false s left after wakes (subst (λ (o : Option Awaited). EndsHold new w (stance_waiting o) false s left wakes) (none refl) e) (looks_awake false) same
 
-  pub decided_awake : (tells : Bool → Type 0) (promised woken apart : Bool) (old new : BookView) (part : WorkerPart) (before after : Sleepers) (r : Came (Decided A) × Wakes)
-      → HasDecidedHeld answers waits awaits step_of kind_of makes fails retries tells w promised woken apart old new part before after r → (r.0 ≡ came.Again → awaits ≡ None) → IsAwake w after
-  decided_awake tells promised woken apart old new part before after r h none =
-      decision_awake h.queued old new r.0 h.decided.leaves (begun h.queued promised (woken_if woken w before)) h.left after r.1 h.ends none (ap (λ (s : Sleepers). s.stances) h.noted ∙ decided_same apart r.0 h.left)
+  pub decided_awake : (tells : Telling) (behind : Then) (woken apart : Bool) (old new : BookView) (part : WorkerPart) (before after : Sleepers) (r : Came (Decided A) × Wakes)
+      → HasDecidedHeld answers waits awaits step_of kind_of makes fails retries tells w behind woken apart old new part before after r → (r.0 ≡ came.Again → awaits ≡ None) → IsAwake w after
+  decided_awake tells behind woken apart old new part before after r h none =
+      decision_awake h.queued old new r.0 h.decided.leaves (begun h.queued behind (woken_if woken w before)) h.left after r.1 h.ends none (ap (λ (s : Sleepers). s.stances) h.noted ∙ decided_same apart r.0 h.left)

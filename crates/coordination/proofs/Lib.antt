@@ -21,3 +21,4 @@ pub mod FirstSights
 pub mod Sleeping
 pub mod Awake
 pub mod Woken
+pub mod Quiet

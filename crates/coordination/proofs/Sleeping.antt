@@ -14,7 +14,7 @@ use Rattle.worker_choices.specs.declared.woken.Woken.TheVariants as woken
 use Rattle.coordination.specs.SleepAndWake.{AreQuiet, IsWokenBy, stances_after}
 
 -- a place where a worker sleeps counts
-none_there : (xs : List Stance) (i : ℕ) (a : Awaited) → asleep xs ≡ 0 → slice_get xs i ≡ Some (Sleeps a) → ⊥
+pub none_there : (xs : List Stance) (i : ℕ) (a : Awaited) → asleep xs ≡ 0 → slice_get xs i ≡ Some (Sleeps a) → ⊥
 none_there xs i a none at =
     omega (arith, none, count_by-set sleeps xs i Away Away (slice_get_within xs i (Sleeps a) at), ap (λ s. one_if (sleeps s)) (get_or_from_slice_get xs i (Sleeps a) Away at))
 

@@ -19,7 +19,8 @@ use Rattle.coordination.specs.declared.turns.Came.{Came}
 use Rattle.coordination.specs.declared.turns.Came.TheVariants as came
 use Rattle.coordination.specs.Attempts.{Answers, Cause, HasRun, Making, Ran}
 use Rattle.coordination.specs.Decisions.{DecideGives, HadStep, HasStepped, carried_out}
-use Rattle.coordination.specs.Offered.{AsTold, WaitsAsTold}
+use Rattle.coordination.specs.Offered.{AnswersWith, AsTold, Telling, TellsQueued, WaitsAsTold, WaitsWith, is_queued_in}
+use Rattle.coordination.specs.declared.outside_work.Queued.{Queued}
 use Rattle.coordination.specs.RunThenDecide.{FollowGives, followed_of}
 use Rattle.coordination.specs.Parts.{HasListRoom, IsPartHere, IsPartOf}
 use Rattle.coordination.specs.Rule.{AddsOwn}
@@ -75,27 +76,27 @@ module _ {A : Type 0} (answers : WorkerId → BookView → A → Type 0) (waits 
   unanswered_left is = asked_left came.Again (subst (Answers answers waits w old) is h, same_book old old refl)
 
 -- what was answered of a book, as the offers told
-pub answers_as_told : {A : Type 0} (tells : Bool → Type 0) (answers : Bool → WorkerId → BookView → A → Type 0) (waits : Bool → WorkerId → BookView → Type 0) (queued : Bool) → tells queued → (w : WorkerId) (book : BookView) (r : Option A)
-    → Answers (answers queued) (waits queued) w book r → Answers (AsTold tells answers) (WaitsAsTold tells waits) w book r
-answers_as_told tells answers waits queued told w book (Some a) h = (queued, told, h)
-answers_as_told tells answers waits queued told w book None h = (queued, told, h)
+pub answers_as_told : {A : Type 0} (tells : Telling) (answers : Bool → WorkerId → BookView → A → Type 0) (waits : Bool → WorkerId → BookView → Type 0) (queued : Queued) → TellsQueued tells queued → (w : WorkerId) (book : BookView) (r : Option A)
+    → Answers (AnswersWith queued answers) (WaitsWith queued waits) w book r → Answers (AsTold tells answers) (WaitsAsTold tells waits) w book r
+answers_as_told tells answers waits queued told w book (Some a) h = (is_queued_in queued book, told book, h)
+answers_as_told tells answers waits queued told w book None h = (is_queued_in queued book, told book, h)
 
 -- what a decision left, as the offers told
-module _ {A X : Type 0} (tells : Bool → Type 0) (answers : Bool → WorkerId → BookView → A → Type 0) (waits : Bool → WorkerId → BookView → Type 0) (step_of : A → Option X) (kind_of : X → Kind) (makes : X → Making) (fails retries : X → Cause)
-    (queued : Bool) (told : tells queued) (w : WorkerId) where
-  steps_as_told : (book : BookView) (a : A) {leaves : X → Type 0} → HasStepped (answers queued) step_of w book a leaves → HasStepped (AsTold tells answers) step_of w book a leaves
-  steps_as_told book a s = record { answer = (queued, told, s.answer); step = s.step; is = s.is; left = s.left }
+module _ {A X : Type 0} (tells : Telling) (answers : Bool → WorkerId → BookView → A → Type 0) (waits : Bool → WorkerId → BookView → Type 0) (step_of : A → Option X) (kind_of : X → Kind) (makes : X → Making) (fails retries : X → Cause)
+    (queued : Queued) (told : TellsQueued tells queued) (w : WorkerId) where
+  steps_as_told : (book : BookView) (a : A) {leaves : X → Type 0} → HasStepped (AnswersWith queued answers) step_of w book a leaves → HasStepped (AsTold tells answers) step_of w book a leaves
+  steps_as_told book a s = record { answer = (is_queued_in queued book, told book, s.answer); step = s.step; is = s.is; left = s.left }
 
-  leaves_as_told : (old new : BookView) (c : Came (Decided A)) → Leaves (DecideGives (answers queued) step_of kind_of makes fails retries) (waits queued) (HadStep (answers queued) step_of) w old new c
+  leaves_as_told : (old new : BookView) (c : Came (Decided A)) → Leaves (DecideGives (AnswersWith queued answers) step_of kind_of makes fails retries) (WaitsWith queued waits) (HadStep (AnswersWith queued answers) step_of) w old new c
       → Leaves (DecideGives (AsTold tells answers) step_of kind_of makes fails retries) (WaitsAsTold tells waits) (HadStep (AsTold tells answers) step_of) w old new c
-  leaves_as_told old new (came.Done (decided.Answered a)) h = ((queued, told, h.0), h.1, h.2)
+  leaves_as_told old new (came.Done (decided.Answered a)) h = ((is_queued_in queued old, told old, h.0), h.1, h.2)
   leaves_as_told old new (came.Done (decided.Entered a true)) h = steps_as_told old a h
   leaves_as_told old new (came.Done (decided.Entered a false)) h = steps_as_told old a h
   leaves_as_told old new (came.Done (decided.Waiting a)) h = steps_as_told old a h
   leaves_as_told old new came.NoMemory h = let s = h.0 in ((s.0, s.1, s.2, steps_as_told s.0 s.2 s.3), h.1)
-  leaves_as_told old new came.Again h = ((queued, told, h.0), h.1)
+  leaves_as_told old new came.Again h = ((is_queued_in queued new, told new, h.0), h.1)
 
-  pub left_as_told : (old new : BookView) (part : WorkerPart) (c : Came (Decided A)) → HasLeft (DecideGives (answers queued) step_of kind_of makes fails retries) (waits queued) (HadStep (answers queued) step_of) w old new part c
+  pub left_as_told : (old new : BookView) (part : WorkerPart) (c : Came (Decided A)) → HasLeft (DecideGives (AnswersWith queued answers) step_of kind_of makes fails retries) (WaitsWith queued waits) (HadStep (AnswersWith queued answers) step_of) w old new part c
       → HasLeft (DecideGives (AsTold tells answers) step_of kind_of makes fails retries) (WaitsAsTold tells waits) (HadStep (AsTold tells answers) step_of) w old new part c
   left_as_told old new part c h = record { own = h.own; kept = h.kept; room = h.room; leaves = leaves_as_told old new c h.leaves }
 

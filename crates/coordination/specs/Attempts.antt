@@ -14,9 +14,12 @@ use Rattle.worker_choices.specs.Stances.{asleep}
 use Rattle.worker_choices.specs.declared.awaited.Awaited.{Awaited}
 use Rattle.coordination.specs.declared.parts.WorkerPart.{WorkerPart}
 use Rattle.coordination.specs.declared.rule.Sight.{Sight}
+use Rattle.coordination.specs.declared.outside_work.Queued.{Queued}
 use Rattle.coordination.specs.declared.sleepers.Sleepers.{Sleepers}
+use Rattle.coordination.specs.declared.sleepers.Then.{Then}
 use Rattle.coordination.specs.declared.sleepers.Wakes.{Wakes}
 use Rattle.coordination.specs.Agrees.{Finds, IsSoundBook}
+use Rattle.coordination.specs.Offered.{AnswersWith, Telling, TellsQueued, WaitsWith}
 use Rattle.coordination.specs.Parts.{HasListRoom, IsPartOf}
 use Rattle.coordination.specs.Sights.{seeing}
 use Rattle.coordination.specs.SleepAndWake.{EndsHold, begun, has_entered, noted_after, noted_asking, stance_after, stance_asking, woken_if}
@@ -43,7 +46,7 @@ pub record HasRun {E : Type 0} (kind : Kind) (makes : Making) (fails retries : C
   pub ran : Ran kind makes fails retries w old new result.0
   pub kept : IsPartOf new w part
   pub room : HasListRoom new.graph.locks part
-  pub ends : EndsHold new w (stance_after sleepers.promised kind result.0) (has_entered result.0) sleepers sleepers' result.1
+  pub ends : EndsHold new w (stance_after sleepers.behind kind result.0) (has_entered result.0) sleepers sleepers' result.1
 
 -- The transform found a sound book that agrees with the worker's sight, and left a sound one, which the worker saw.
 pub record Attempted {E : Type 0} (kind : Kind) (makes : Making) (fails retries : Cause) (s s' : Sight) (r : Result Disposition E) : Type 0 where
@@ -67,24 +70,24 @@ pub record Asked {A : Type 0} (answers : WorkerId → BookView → A → Type 0)
   pub answer : Answers answers waits s.worker book r
   pub is : s' ≡ seeing s book
 
--- The transform was run so in a hold of the state lock, which left its worker asleep where it asked to be run again. Where somebody slept, the
--- offers told whether work was queued.
-pub record HasHeld {E : Type 0} (kind : Kind) (makes : Making) (fails retries : Cause) (tells : Bool → Type 0) (w : WorkerId) (promised : Bool)
-    (old new : BookView) (part : WorkerPart) (sleepers sleepers' : Sleepers) (result : Result Disposition E × Wakes) : Type 0 where
-  pub queued : Bool
-  pub told : (asleep sleepers.stances ≡ 0) ⊎ tells queued
+-- The transform was run so in a hold of the state lock, which left its worker asleep where it asked to be run again and the worker sleeps then.
+-- Where somebody slept, the offers told where items waited.
+pub record HasHeld {E : Type 0} (kind : Kind) (makes : Making) (fails retries : Cause) (tells : Telling) (w : WorkerId) (behind : Then)
+    (sleeps : Bool) (old new : BookView) (part : WorkerPart) (sleepers sleepers' : Sleepers) (result : Result Disposition E × Wakes) : Type 0 where
+  pub queued : Queued
+  pub told : (asleep sleepers.stances ≡ 0) ⊎ TellsQueued tells queued
   pub left : Sleepers
-  pub run : HasRun kind makes fails retries w old new part (begun queued promised sleepers) left result
-  pub noted : sleepers' ≡ noted_after result.0 left
+  pub run : HasRun kind makes fails retries w old new part (begun queued behind sleepers) left result
+  pub noted : sleepers' ≡ noted_after sleeps result.0 left
 
--- The question was asked in a hold of the state lock, by a worker that was woken or wasn't, where the offers told whether work was queued. It was
+-- The question was asked in a hold of the state lock, by a worker that was woken or wasn't, where the offers told where items waited. It was
 -- left asleep where there was no answer.
 pub record HasAsked {A : Type 0} (answers : Bool → WorkerId → BookView → A → Type 0) (waits : Bool → WorkerId → BookView → Type 0)
-    (awaits : Option Awaited) (tells : Bool → Type 0) (w : WorkerId) (promised woken apart : Bool) (book : BookView)
+    (awaits : Option Awaited) (tells : Telling) (w : WorkerId) (behind : Then) (woken apart : Bool) (book : BookView)
     (sleepers sleepers' : Sleepers) (result : Option A × Wakes) : Type 0 where
-  pub queued : Bool
-  pub told : tells queued
+  pub queued : Queued
+  pub told : TellsQueued tells queued
   pub left : Sleepers
-  pub answer : Answers (answers queued) (waits queued) w book result.0
-  pub ends : EndsHold book w (stance_asking promised awaits result.0) false (begun queued promised (woken_if woken w sleepers)) left result.1
+  pub answer : Answers (AnswersWith queued answers) (WaitsWith queued waits) w book result.0
+  pub ends : EndsHold book w (stance_asking behind awaits result.0) false (begun queued behind (woken_if woken w sleepers)) left result.1
   pub noted : sleepers' ≡ noted_asking apart result.0 left

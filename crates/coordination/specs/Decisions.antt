@@ -1,5 +1,5 @@
 -- What a decision leaves: a question, and where its answer has a step, the transform that carries it out on the same book.
-use Rattle.std.specs.Prelude.{◌≡◌, ◌&&◌, not, Bool, true, false, Result, Ok, Err, Option, Some, None, IfSome}
+use Rattle.std.specs.Prelude.{◌≡◌, Bool, true, false, Result, Ok, Err, Option, Some, None, IfSome}
 use Rattle.resource_lock.specs.declared.ids.WorkerId.{WorkerId}
 use Rattle.lock_journal.specs.BookView.{BookView}
 use Rattle.lock_journal.specs.Ran.{FailsIn, IsToRetry}
@@ -13,14 +13,17 @@ use Rattle.worker_choices.specs.declared.stances.Stance.TheVariants.{Away}
 use Rattle.coordination.specs.Agrees.{Finds}
 use Rattle.coordination.specs.Attempts.{Cause, Making}
 use Rattle.coordination.specs.Calls.{HasFailed, HasFinished, HasLooked, IsAnswered}
-use Rattle.coordination.specs.SleepAndWake.{EndsHold, begun, goes_to_work, looks_if, noted_asking, stance_waiting, woken_if}
+use Rattle.coordination.specs.Offered.{AnswersWith, Telling, TellsQueued, WaitsWith}
+use Rattle.coordination.specs.SleepAndWake.{EndsHold, begun, comes_again, looks_behind_answers, looks_if, noted_asking, stance_waiting, woken_if}
 use Rattle.coordination.specs.Sights.{seeing}
 use Rattle.coordination.specs.Turns.{Finishes, HasLeft}
 use Rattle.coordination.specs.declared.parts.WorkerPart.{WorkerPart}
 use Rattle.coordination.specs.declared.decisions.Decided.{Decided}
 use Rattle.coordination.specs.declared.decisions.Decided.TheVariants as decided
 use Rattle.coordination.specs.declared.rule.Sight.{Sight}
+use Rattle.coordination.specs.declared.outside_work.Queued.{Queued}
 use Rattle.coordination.specs.declared.sleepers.Sleepers.{Sleepers}
+use Rattle.coordination.specs.declared.sleepers.Then.{Then}
 use Rattle.coordination.specs.declared.sleepers.Wakes.{Wakes}
 use Rattle.coordination.specs.declared.turns.Came.{Came}
 use Rattle.coordination.specs.declared.turns.Came.TheVariants as came
@@ -56,16 +59,16 @@ carried_out a (Ok Retry) = came.Done (decided.Waiting a)
 carried_out a (Err e) = came.NoMemory
 
 -- the stance after an entry of this kind, a failed one where it didn't finish
-abbrev pub stance_entered : Bool → Kind → Bool → Stance
-stance_entered promised kind true = looks_if (promised && not (goes_to_work kind))
-stance_entered promised kind false = looks_if promised
+abbrev pub stance_entered : Then → Kind → Bool → Stance
+stance_entered behind kind true = looks_if (comes_again behind kind)
+stance_entered behind kind false = looks_if (looks_behind_answers behind)
 
 -- How a decision ended its hold: as its question where there is no step, and else as its step.
 abbrev pub EndsDecision : {A X : Type 0} → BookView → WorkerId → Option Awaited → (A → Option X) → (X → Kind)
     → Sleepers → Sleepers → Wakes → Came (Decided A) → Type 0
-EndsDecision book w awaits step_of kind_of old new wakes (came.Done (decided.Answered a)) = EndsHold book w (looks_if old.promised) false old new wakes
+EndsDecision book w awaits step_of kind_of old new wakes (came.Done (decided.Answered a)) = EndsHold book w (looks_if (looks_behind_answers old.behind)) false old new wakes
 EndsDecision book w awaits step_of kind_of old new wakes (came.Done (decided.Entered a b)) =
-    IfSome (step_of a) (λ x. EndsHold book w (stance_entered old.promised (kind_of x) b) true old new wakes)
+    IfSome (step_of a) (λ x. EndsHold book w (stance_entered old.behind (kind_of x) b) true old new wakes)
 EndsDecision book w awaits step_of kind_of old new wakes (came.Done (decided.Waiting a)) = EndsHold book w Away false old new wakes
 EndsDecision book w awaits step_of kind_of old new wakes came.NoMemory = EndsHold book w Away false old new wakes
 EndsDecision book w awaits step_of kind_of old new wakes came.Again = EndsHold book w (stance_waiting awaits) false old new wakes
@@ -81,18 +84,18 @@ noted_deciding {C} apart came.Again s = noted_asking {A = C} apart None s
 noted_deciding apart came.NoMemory s = s
 noted_deciding apart (came.Done c) s = s
 
--- A worker that was woken or wasn't decided so in a hold of the state lock, where the offers told whether work was queued, and its part followed.
+-- A worker that was woken or wasn't decided so in a hold of the state lock, where the offers told where items waited, and its part followed.
 -- It was left asleep where there was no answer.
 pub record HasDecidedHeld {A X : Type 0} (answers : Bool → WorkerId → BookView → A → Type 0) (waits : Bool → WorkerId → BookView → Type 0)
-    (awaits : Option Awaited) (step_of : A → Option X) (kind_of : X → Kind) (makes : X → Making) (fails retries : X → Cause) (tells : Bool → Type 0)
-    (w : WorkerId) (promised woken apart : Bool) (old new : BookView) (part : WorkerPart) (sleepers sleepers' : Sleepers)
+    (awaits : Option Awaited) (step_of : A → Option X) (kind_of : X → Kind) (makes : X → Making) (fails retries : X → Cause) (tells : Telling)
+    (w : WorkerId) (behind : Then) (woken apart : Bool) (old new : BookView) (part : WorkerPart) (sleepers sleepers' : Sleepers)
     (result : Came (Decided A) × Wakes) : Type 0 where
-  pub queued : Bool
-  pub told : tells queued
+  pub queued : Queued
+  pub told : TellsQueued tells queued
   pub left : Sleepers
-  pub decided : HasLeft (DecideGives (answers queued) step_of kind_of makes fails retries) (waits queued) (HadStep (answers queued) step_of)
-      w old new part result.0
-  pub ends : EndsDecision new w awaits step_of kind_of (begun queued promised (woken_if woken w sleepers)) left result.1 result.0
+  pub decided : HasLeft (DecideGives (AnswersWith queued answers) step_of kind_of makes fails retries) (WaitsWith queued waits)
+      (HadStep (AnswersWith queued answers) step_of) w old new part result.0
+  pub ends : EndsDecision new w awaits step_of kind_of (begun queued behind (woken_if woken w sleepers)) left result.1 result.0
   pub noted : sleepers' ≡ noted_deciding apart result.0 left
 
 -- The step of an answer finished, on the book that the answer was given of.

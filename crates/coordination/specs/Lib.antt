@@ -20,4 +20,5 @@ pub mod SleepAndWake
 pub mod Turns
 pub mod Decisions
 pub mod RunThenDecide
+pub mod Planned
 pub mod Closings

@@ -4,22 +4,26 @@ use Rattle.std.specs.Prelude.{length, replicate, set, slice_get}
 use Rattle.resource_lock.specs.declared.ids.WorkerId.{WorkerId}
 use Rattle.lock_journal.specs.BookView.{BookView}
 use Rattle.lock_transforms.specs.declared.entries.Kind.{Kind}
-use Rattle.lock_transforms.specs.declared.entries.Kind.TheVariants.{Block, Claim}
+use Rattle.lock_transforms.specs.declared.entries.Kind.TheVariants.{Block, Claim, End, Park, Skip, Submit}
 use Rattle.lock_transforms.specs.declared.transforms.Disposition.{Disposition}
 use Rattle.lock_transforms.specs.declared.transforms.Disposition.TheVariants.{Finished, Failed, Retry}
 use Rattle.lock_journal.specs.Marks.{IsEnded}
 use Rattle.worker_choices.specs.NextSteps.{StillWait, Waits}
 use Rattle.worker_choices.specs.GoingOn.{last_lets_go_on}
-use Rattle.worker_choices.specs.Stances.{asleep, looking}
+use Rattle.worker_choices.specs.Stances.{asleep, looking, sleeps}
 use Rattle.worker_choices.specs.declared.awaited.Awaited.{Awaited}
 use Rattle.worker_choices.specs.declared.stances.Stance.{Stance}
 use Rattle.worker_choices.specs.declared.stances.Stance.TheVariants.{Away, Looks, Sleeps}
 use Rattle.worker_choices.specs.declared.woken.Woken.{Woken}
 use Rattle.worker_choices.specs.declared.woken.Woken.TheVariants as woken
+use Rattle.coordination.specs.Offered.{Telling, TellsQueued, is_queued_in}
+use Rattle.coordination.specs.declared.outside_work.Queued.{Queued}
 use Rattle.coordination.specs.declared.sleepers.Sleepers.{Sleepers}
+use Rattle.coordination.specs.declared.sleepers.Then.{Then}
+use Rattle.coordination.specs.declared.sleepers.Then.TheVariants.{Leaves, Works, Looks as ThenLooks, Decides}
 use Rattle.coordination.specs.declared.sleepers.Wakes.{Wakes}
 
--- The stance of a worker that has promised to come again, or hasn't.
+-- the stance of a worker that comes again at once, or doesn't
 abbrev pub looks_if : Bool → Stance
 looks_if true = Looks
 looks_if false = Away
@@ -30,12 +34,32 @@ goes_to_work (Claim u) = true
 goes_to_work (Block u) = true
 goes_to_work k = false
 
+-- an entry of this kind brings its worker nothing to do yet
+abbrev pub is_a_step : Kind → Bool
+is_a_step (Skip t) = true
+is_a_step (Submit a) = true
+is_a_step (Park a) = true
+is_a_step (End t) = true
+is_a_step k = false
+
+-- a worker comes again at once behind an entry of this kind that finished
+abbrev pub comes_again : Then → Kind → Bool
+comes_again Leaves kind = false
+comes_again Works kind = is_a_step kind
+comes_again ThenLooks kind = not (goes_to_work kind)
+comes_again Decides kind = true
+
+-- it does behind an answer without an entry, and behind a failed entry
+abbrev pub looks_behind_answers : Then → Bool
+looks_behind_answers ThenLooks = true
+looks_behind_answers _ = false
+
 -- The stance that a transform leaves its worker in. One that asks to be run again waits in it.
-abbrev pub stance_after : {E : Type 0} → Bool → Kind → Result Disposition E → Stance
-stance_after promised kind (Ok Finished) = looks_if (promised && not (goes_to_work kind))
-stance_after promised kind (Ok Failed) = looks_if promised
-stance_after promised kind (Ok Retry) = Away
-stance_after promised kind (Err e) = Away
+abbrev pub stance_after : {E : Type 0} → Then → Kind → Result Disposition E → Stance
+stance_after behind kind (Ok Finished) = looks_if (comes_again behind kind)
+stance_after behind kind (Ok Failed) = looks_if (looks_behind_answers behind)
+stance_after behind kind (Ok Retry) = Away
+stance_after behind kind (Err e) = Away
 
 -- whether a transform left an entry, a failed one too
 abbrev pub has_entered : {E : Type 0} → Result Disposition E → Bool
@@ -50,9 +74,9 @@ stance_waiting (Some awaited) = Sleeps awaited
 stance_waiting None = Away
 
 -- The stance that a question leaves its worker in: it carries the answer out, or waits for one.
-abbrev pub stance_asking : {A : Type 0} → Bool → Option Awaited → Option A → Stance
-stance_asking promised awaits (Some a) = looks_if promised
-stance_asking promised awaits None = stance_waiting awaits
+abbrev pub stance_asking : {A : Type 0} → Then → Option Awaited → Option A → Stance
+stance_asking behind awaits (Some a) = looks_if (looks_behind_answers behind)
+stance_asking behind awaits None = stance_waiting awaits
 
 -- Nobody is woken only where somebody looks or each sleeper still waits, a worker only where nobody looks and what it waits for has
 -- come, and all only where all tasks have ended.
@@ -78,48 +102,49 @@ pub record EndsHold (book : BookView) (w : WorkerId) (stance : Stance) (entered 
   pub queued : new.queued ≡ old.queued
   pub questions : wakes.questions ≡ (entered && old.questions)
   pub transforms : wakes.transforms ≡ (entered && (old.transforms && last_lets_go_on book.history))
-  pub workers : IsWokenBy book old.queued (set old.stances w.0 stance) wakes.workers
+  pub workers : IsWokenBy book (is_queued_in old.queued book) (set old.stances w.0 stance) wakes.workers
   pub stances : new.stances ≡ stances_after wakes.workers (set old.stances w.0 stance)
-  pub quiet : AreQuiet book new.queued new.stances
+  pub quiet : AreQuiet book (is_queued_in new.queued book) new.stances
   -- who isn't woken sleeps on
   pub questions_left : new.questions ≡ (old.questions && not wakes.questions)
   pub transforms_left : new.transforms ≡ (old.transforms && not wakes.transforms)
 
--- A hold of the state lock began, for a worker that has promised to come again or hasn't, where work outside the book was queued or none.
-abbrev pub begun : Bool → Bool → Sleepers → Sleepers
-begun queued promised s = record { transforms = s.transforms; questions = s.questions; stances = s.stances; queued = queued; promised = promised }
+-- A hold of the state lock began, for a worker that does this behind it, where items waited so.
+abbrev pub begun : Queued → Then → Sleepers → Sleepers
+begun queued behind s = record { transforms = s.transforms; questions = s.questions; stances = s.stances; queued = queued; behind = behind }
 
 -- a worker that was woken looks
 abbrev pub woken_if : Bool → WorkerId → Sleepers → Sleepers
-woken_if true w s = record { transforms = s.transforms; questions = s.questions; stances = set s.stances w.0 Looks; queued = s.queued; promised = s.promised }
+woken_if true w s = record { transforms = s.transforms; questions = s.questions; stances = set s.stances w.0 Looks; queued = s.queued; behind = s.behind }
 woken_if false w s = s
 
--- A transform that asks to be run again sleeps.
-abbrev pub noted_after : {E : Type 0} → Result Disposition E → Sleepers → Sleepers
-noted_after (Ok Retry) s = record { transforms = true; questions = s.questions; stances = s.stances; queued = s.queued; promised = s.promised }
-noted_after (Ok Finished) s = s
-noted_after (Ok Failed) s = s
-noted_after (Err e) s = s
+-- A transform that asks to be run again sleeps, where its worker sleeps then.
+abbrev pub noted_after : {E : Type 0} → Bool → Result Disposition E → Sleepers → Sleepers
+noted_after true (Ok Retry) s = record { transforms = true; questions = s.questions; stances = s.stances; queued = s.queued; behind = s.behind }
+noted_after false (Ok Retry) s = s
+noted_after b (Ok Finished) s = s
+noted_after b (Ok Failed) s = s
+noted_after b (Err e) s = s
 
 -- A question without an answer sleeps. Where it doesn't sleep apart, it is one of those that any entry wakes.
 abbrev pub noted_asking : {A : Type 0} → Bool → Option A → Sleepers → Sleepers
-noted_asking false None s = record { transforms = s.transforms; questions = true; stances = s.stances; queued = s.queued; promised = s.promised }
+noted_asking false None s = record { transforms = s.transforms; questions = true; stances = s.stances; queued = s.queued; behind = s.behind }
 noted_asking true None s = s
 noted_asking apart (Some a) s = s
 
 -- The end of a hold woke these of those that slept when it began (`EndsHold`), by an entry too where the hold made one. Who slept on sleeps
--- afterwards, and perhaps the worker. Where a worker slept, the offers told whether work was queued.
-pub record HasWoken (tells : Bool → Type 0) (w : WorkerId) (promised : Bool) (old new : BookView) (sleepers sleepers' : Sleepers)
+-- afterwards, and perhaps the worker. Where a worker slept or falls asleep, the offers told where items waited.
+pub record HasWoken (tells : Telling) (w : WorkerId) (behind : Then) (old new : BookView) (sleepers sleepers' : Sleepers)
     (wakes : Wakes) : Type 0 where
-  pub queued : Bool
-  pub told : (asleep sleepers.stances ≡ 0) ⊎ tells queued
+  pub queued : Queued
   pub woken : Bool
   pub stance : Stance
+  pub told : ((asleep sleepers.stances ≡ 0) × (woken ≡ false) × (sleeps stance ≡ false)) ⊎ TellsQueued tells queued
   pub entered : Bool
   pub made : entered ≡ true → length old.history < length new.history
   pub unmade : entered ≡ false → new.history ≡ old.history
   pub left : Sleepers
-  pub ends : EndsHold new w stance entered (begun queued promised (woken_if woken w sleepers)) left wakes
+  pub ends : EndsHold new w stance entered (begun queued behind (woken_if woken w sleepers)) left wakes
   pub stances : sleepers'.stances ≡ left.stances
   pub transforms : left.transforms ≡ true → sleepers'.transforms ≡ true
   pub questions : left.questions ≡ true → sleepers'.questions ≡ true
@@ -128,12 +153,13 @@ pub record HasWoken (tells : Bool → Type 0) (w : WorkerId) (promised : Bool) (
 abbrev pub wakes_nobody : Wakes
 wakes_nobody = record { transforms = false; questions = false; workers = woken.Nobody }
 
--- A turn had one hold, or two behind each other, and what it woke are those that the ends of these woke.
-abbrev pub EndsTurn : (Bool → Type 0) → WorkerId → Bool → BookView → BookView → Sleepers → Sleepers → Wakes → Wakes → Type 0
-EndsTurn tells w promised old new sleepers sleepers' wakes later =
-    (HasWoken tells w promised old new sleepers sleepers' wakes × (later ≡ wakes_nobody))
-    ⊎ ((between : BookView) × (mid : Sleepers) × HasWoken tells w promised old between sleepers mid wakes
-    × HasWoken tells w promised between new mid sleepers' later)
+-- A turn ended once, or twice, and what it woke are those that these ends woke. Of a turn that decides behind a transform, the first
+-- end counts on its worker where the transform finished.
+abbrev pub EndsTurn : Telling → WorkerId → Then → BookView → BookView → Sleepers → Sleepers → Wakes → Wakes → Type 0
+EndsTurn tells w behind old new sleepers sleepers' wakes later =
+    ((first : Then) × ((first ≡ behind) ⊎ (first ≡ Decides)) × HasWoken tells w first old new sleepers sleepers' wakes × (later ≡ wakes_nobody))
+    ⊎ ((between : BookView) × (mid : Sleepers) × HasWoken tells w Decides old between sleepers mid wakes
+    × HasWoken tells w behind between new mid sleepers' later)
 
 -- the worker isn't noted as one that sleeps
 abbrev pub IsAwake : WorkerId → Sleepers → Type 0

@@ -2,13 +2,14 @@
 ghost use Rattle.std.specs.Prelude.{◌≡◌, ◌<◌, IfNone, IfSome, false, true};
 ghost use Rattle.coordination.specs.Attempts.{Asked, Attempted};
 ghost use Rattle.coordination.specs.Calls.{HasStopped};
+ghost use Rattle.coordination.specs.Offered.{AnswersWith, WaitsWith};
 ghost use Rattle.coordination.specs.SleepAndWake.{EndsHold, has_entered, stance_after, stance_asking};
 ghost use Rattle.coordination.specs.Passes.{IsPass};
 ghost use Rattle.coordination.specs.Sights.{hearing, sight_of};
 ghost use Rattle.coordination.specs.Stops.{KnowsNoStop};
 
 use crate::halts::Halt;
-use crate::keepers::{Keeper, Kept};
+use crate::keepers::{Keeper, Kept, Runner};
 use crate::parts::Notes;
 use crate::passes::{Pass, seat_of};
 use crate::questions::Question;
@@ -20,7 +21,7 @@ use lock_transforms::{Disposition, Transform};
 use resource_lock::WorkerId;
 use std::alloc::AllocError;
 
-impl<K: Keeper> Slot<K> {
+impl<K: Runner> Slot<K> {
     /// Runs the transform once, and tells whom its entry wakes of those that sleep. None says that another pass has the
     /// book at this moment: then nothing has changed, and the call can be made again at once.
     pub fn attempt<T: Transform>(
@@ -35,7 +36,7 @@ impl<K: Keeper> Slot<K> {
         ensures some { IfSome result (λ r. Attempted (T.kind_of transform.now) (T.makes transform.now) (T.fails_on transform.now)
             (T.retries_on transform.now) pass.old.sight pass.new.sight r.0) }
         ensures ends { IfSome result (λ r. EndsHold pass.new.sight.seen pass.new.sight.worker
-            (stance_after sleepers.old.promised (T.kind_of transform.now) r.0) (has_entered r.0) sleepers.old sleepers.new r.1) }
+            (stance_after sleepers.old.behind (T.kind_of transform.now) r.0) (has_entered r.0) sleepers.old sleepers.new r.1) }
     {
         let mut seat = seat_of(&mut pass.badge);
         let ended = self.attempt_at(&mut seat, pass.worker, &mut pass.notes, transform, sleepers);
@@ -63,7 +64,7 @@ impl<K: Keeper> Slot<K> {
         ensures some { IfSome result (λ r. Attempted (T.kind_of transform.now) (T.makes transform.now) (T.fails_on transform.now)
             (T.retries_on transform.now) (sight_of seat.old.me.0) (sight_of seat.new.me.0) r.0) }
         ensures ends { IfSome result (λ r. EndsHold (sight_of seat.new.me.0).seen (sight_of seat.new.me.0).worker
-            (stance_after sleepers.old.promised (T.kind_of transform.now) r.0) (has_entered r.0) sleepers.old sleepers.new r.1) }
+            (stance_after sleepers.old.behind (T.kind_of transform.now) r.0) (has_entered r.0) sleepers.old sleepers.new r.1) }
     {
         if !self.try_take(seat) {
             return None;
@@ -72,7 +73,9 @@ impl<K: Keeper> Slot<K> {
         self.put_back(seat);
         Some((ran, wakes))
     }
+}
 
+impl<K: Keeper> Slot<K> {
     /// Asks the question once, and tells whom that wakes. None says that another pass has the book at this moment.
     pub fn attempt_ask<Q: Question>(
         &self,
@@ -83,10 +86,10 @@ impl<K: Keeper> Slot<K> {
         requires { pass.old.service.table ≡ self.now.table.shared.table_id }
         ensures same { pass.new.service ≡ pass.old.service }
         ensures none { IfNone result ((pass.new.sight ≡ pass.old.sight) × (sleepers.new ≡ sleepers.old)) }
-        ensures some { IfSome result (λ r. Asked (Q.answers question.now sleepers.old.queued) (Q.waits_on question.now sleepers.old.queued)
-            pass.old.sight pass.new.sight r.0) }
+        ensures some { IfSome result (λ r. Asked (AnswersWith sleepers.old.queued (Q.answers question.now))
+            (WaitsWith sleepers.old.queued (Q.waits_on question.now)) pass.old.sight pass.new.sight r.0) }
         ensures ends { IfSome result (λ r. EndsHold pass.new.sight.seen pass.new.sight.worker
-            (stance_asking sleepers.old.promised (Q.awaits question.now) r.0) false sleepers.old sleepers.new r.1) }
+            (stance_asking sleepers.old.behind (Q.awaits question.now) r.0) false sleepers.old sleepers.new r.1) }
     {
         let mut seat = seat_of(&mut pass.badge);
         let asked = self.ask_at(&mut seat, pass.worker, &mut pass.notes, question, sleepers);
@@ -111,10 +114,10 @@ impl<K: Keeper> Slot<K> {
         ensures stop { ((sight_of seat.new.me.0).stopped ≡ (sight_of seat.old.me.0).stopped)
             × ((sight_of seat.new.me.0).stopped_by ≡ (sight_of seat.old.me.0).stopped_by) }
         ensures none { IfNone result ((seat.new.me ≡ seat.old.me) × (sleepers.new ≡ sleepers.old)) }
-        ensures some { IfSome result (λ r. Asked (Q.answers question.now sleepers.old.queued) (Q.waits_on question.now sleepers.old.queued)
-            (sight_of seat.old.me.0) (sight_of seat.new.me.0) r.0) }
+        ensures some { IfSome result (λ r. Asked (AnswersWith sleepers.old.queued (Q.answers question.now))
+            (WaitsWith sleepers.old.queued (Q.waits_on question.now)) (sight_of seat.old.me.0) (sight_of seat.new.me.0) r.0) }
         ensures ends { IfSome result (λ r. EndsHold (sight_of seat.new.me.0).seen (sight_of seat.new.me.0).worker
-            (stance_asking sleepers.old.promised (Q.awaits question.now) r.0) false sleepers.old sleepers.new r.1) }
+            (stance_asking sleepers.old.behind (Q.awaits question.now) r.0) false sleepers.old sleepers.new r.1) }
     {
         if !self.try_take(seat) {
             return None;

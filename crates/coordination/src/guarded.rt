@@ -1,23 +1,25 @@
 //! What the state lock guards beside the book, in the slot of the book.
-ghost use Rattle.std.specs.Prelude.{◌≡◌, ◌<◌, ◌⊎◌, IfOk, None, false};
+ghost use Rattle.std.specs.Prelude.{◌≡◌, ◌<◌, ◌⊎◌, IfOk, None, false, replicate};
 ghost use Rattle.worker_choices.specs.Stances.{asleep};
+ghost use Rattle.worker_choices.specs.declared.stances.Stance.TheVariants as stance;
 ghost use Rattle.history_views.specs.ShownBooks.{IsTold};
 ghost use Rattle.coordination.specs.Attempts.{HasAsked, HasHeld};
 ghost use Rattle.coordination.specs.Decisions.{HasDecidedHeld, awaits_if};
+ghost use Rattle.coordination.specs.Offered.{TellsQueued};
 ghost use Rattle.coordination.specs.Parts.{IsPartHere};
 
 use crate::decisions::{Decided, Decision};
-use crate::keepers::{Giver, Keeper};
-use crate::outside_work::Offers;
+use crate::keepers::{Giver, Keeper, Runner};
+use crate::outside_work::{Offers, Queued};
 use crate::parts::Notes;
 use crate::questions::Question;
-use crate::sleepers::{Sleepers, Wakes};
+use crate::sleepers::{Sleepers, Then, Wakes};
 use crate::slots::{ask_of, decide_on, run_on};
 use crate::turns::Came;
 use history_views::Reach;
 use lock_journal::{Book, Segment};
 use lock_transforms::{Disposition, Transform};
-use resource_lock::{LockId, WorkerId};
+use resource_lock::WorkerId;
 use std::alloc::{AllocError, Global};
 use worker_choices::Awaited;
 
@@ -34,8 +36,8 @@ pub struct Guarded<O: Offers, K: Keeper> {
 pub struct Caller {
     /// The worker.
     pub worker: WorkerId,
-    /// Whether it has promised to come again at once.
-    pub promised: bool,
+    /// What it does behind the hold.
+    pub behind: Then,
     /// Whether it has slept apart, and was woken.
     pub woken: bool,
     /// Whether it sleeps apart from the questions that wait for any entry, where it has to.
@@ -49,7 +51,7 @@ impl Caller {
     #[inline]
     pub fn not_sleeping(self) -> Caller
         ensures worker { result.worker ≡ self.worker }
-        ensures promised { result.promised ≡ self.promised }
+        ensures behind { result.behind ≡ self.behind }
         ensures sleeps { result.sleeps ≡ false }
     {
         Caller {
@@ -70,16 +72,6 @@ impl<O: Offers, K: Keeper> Keeper for Guarded<O, K> {
 
     fn book(&self) -> &Book {
         self.keeper.book()
-    }
-
-    #[inline]
-    fn run<T: Transform>(
-        &mut self,
-        worker: WorkerId,
-        own: &[LockId],
-        transform: &T,
-    ) -> Result<Disposition, AllocError> {
-        self.keeper.run(worker, own, transform)
     }
 
     #[inline]
@@ -104,10 +96,11 @@ impl<O: Offers, K: Giver> Giver for Guarded<O, K> {
     }
 }
 
-impl<O: Offers, K: Keeper> Guarded<O, K> {
+impl<O: Offers, K: Runner> Guarded<O, K> {
     /// The keeper of a book, while nobody sleeps. It fails for want of memory alone.
     pub(crate) fn new(alloc: Global, keeper: K, offers: O) -> Result<Guarded<O, K>, AllocError>
-        ensures { IfOk result (λ guarded. guarded.keeper ≡ keeper) }
+        ensures keeper { IfOk result (λ guarded. guarded.keeper ≡ keeper) }
+        ensures away { IfOk result (λ guarded. guarded.sleepers.stances ≡ replicate (K.book_of keeper).graph.workers stance.Away) }
     {
         let workers = keeper.book().graph().workers();
         let sleepers = Sleepers::nobody(alloc, workers)?;
@@ -119,7 +112,7 @@ impl<O: Offers, K: Keeper> Guarded<O, K> {
     }
 
     /// Runs the transform in a hold of the state lock, has the worker's part follow it, and ends the hold. Where the transform
-    /// asks to be run again, its worker is noted as asleep.
+    /// asks to be run again, a worker that sleeps then is noted as asleep.
     #[inline]
     pub(crate) fn run_held<T: Transform>(
         &mut self,
@@ -132,11 +125,11 @@ impl<O: Offers, K: Keeper> Guarded<O, K> {
         ensures ledger { K.ledger_of self.new.keeper ≡ K.ledger_of self.old.keeper }
         ensures told { IsTold (K.ledger_of self.new.keeper) notes.new.reach (K.book_of self.new.keeper) }
         ensures held { HasHeld (T.kind_of transform.now) (T.makes transform.now) (T.fails_on transform.now)
-            (T.retries_on transform.now) (O.tells self.old.offers) caller.worker caller.promised (K.book_of self.old.keeper)
+            (T.retries_on transform.now) (O.tells self.old.offers) caller.worker caller.behind caller.sleeps (K.book_of self.old.keeper)
             (K.book_of self.new.keeper) notes.new.part self.old.sleepers self.new.sleepers result }
     {
         self.sleepers.queued = self.queued_for_sleepers();
-        self.sleepers.promised = caller.promised;
+        self.sleepers.behind = caller.behind;
         let (ran, wakes) = run_on(
             &mut self.keeper,
             caller.worker,
@@ -144,26 +137,27 @@ impl<O: Offers, K: Keeper> Guarded<O, K> {
             transform,
             &mut self.sleepers,
         );
-        if matches!(ran, Ok(Disposition::Retry)) {
+        if caller.sleeps && matches!(ran, Ok(Disposition::Retry)) {
             self.sleepers.transforms = true;
         }
         (ran, wakes)
     }
 
-    // Whether something is offered, as those have to know that sleep. Where nobody does, the offers aren't looked at.
+    // Where items wait, as those have to know that sleep. Where nobody does, the offers aren't looked at.
     #[inline]
-    fn queued_for_sleepers(&mut self) -> bool
+    fn queued_for_sleepers(&mut self) -> Queued
         ensures keeper { self.new.keeper ≡ self.old.keeper }
         ensures sleepers { self.new.sleepers ≡ self.old.sleepers }
-        ensures told { (asleep self.old.sleepers.stances ≡ 0) ⊎ O.tells self.old.offers result }
+        ensures told { (asleep self.old.sleepers.stances ≡ 0) ⊎ TellsQueued (O.tells self.old.offers) result }
     {
         if self.sleepers.stances.some_sleep() {
-            return self.offers.are_there();
+            return self.offers.queued();
         }
         self.sleepers.queued
     }
 
-    /// Asks the question in a hold of the state lock, and ends the hold. Where it has no answer its worker is noted as asleep.
+    /// Asks the question in a hold of the state lock, and ends the hold. Where it has no answer a worker that sleeps then is noted as
+    /// asleep.
     #[inline]
     pub(crate) fn ask_held<Q: Question>(
         &mut self,
@@ -175,17 +169,19 @@ impl<O: Offers, K: Keeper> Guarded<O, K> {
         requires told { K.ledger_of self.old.keeper ≡ None → reach.old ≡ None }
         ensures same { self.new.keeper ≡ self.old.keeper }
         ensures told { IsTold (K.ledger_of self.new.keeper) reach.new (K.book_of self.new.keeper) }
-        ensures asked { HasAsked (Q.answers question.now) (Q.waits_on question.now) (Q.awaits question.now) (O.tells self.old.offers) caller.worker
-            caller.promised caller.woken caller.apart (K.book_of self.old.keeper) self.old.sleepers self.new.sleepers result }
+        ensures asked { HasAsked (Q.answers question.now) (Q.waits_on question.now) (awaits_if caller.sleeps (Q.awaits question.now))
+            (O.tells self.old.offers) caller.worker caller.behind caller.woken caller.apart (K.book_of self.old.keeper) self.old.sleepers self.new.sleepers result }
     {
-        let queued = self.offers.are_there();
+        let queued = self.offers.queued();
         self.sleepers
-            .begin_asking(caller.worker, caller.woken, caller.promised, queued);
+            .begin_asking(caller.worker, caller.woken, caller.behind, queued);
+        let awaited = awaited_if(caller.sleeps, question);
         let (answer, wakes) = ask_of(
             &self.keeper,
             caller.worker,
             reach,
             question,
+            awaited,
             &mut self.sleepers,
         );
         if answer.is_none() && !caller.apart {
@@ -211,12 +207,12 @@ impl<O: Offers, K: Keeper> Guarded<O, K> {
         ensures told { IsTold (K.ledger_of self.new.keeper) notes.new.reach (K.book_of self.new.keeper) }
         ensures held { HasDecidedHeld (Q.answers decision.now) (Q.waits_on decision.now)
             (awaits_if caller.sleeps (Q.awaits decision.now)) (Q.step_of decision.now)
-            Q.Step.kind_of Q.Step.makes Q.Step.fails_on Q.Step.retries_on (O.tells self.old.offers) caller.worker caller.promised caller.woken
+            Q.Step.kind_of Q.Step.makes Q.Step.fails_on Q.Step.retries_on (O.tells self.old.offers) caller.worker caller.behind caller.woken
             caller.apart (K.book_of self.old.keeper) (K.book_of self.new.keeper) notes.new.part self.old.sleepers self.new.sleepers result }
     {
-        let queued = self.offers.are_there();
+        let queued = self.offers.queued();
         self.sleepers
-            .begin_asking(caller.worker, caller.woken, caller.promised, queued);
+            .begin_asking(caller.worker, caller.woken, caller.behind, queued);
         let awaited = awaited_if(caller.sleeps, decision);
         let (came, wakes) = decide_on(
             &mut self.keeper,

@@ -10,7 +10,7 @@ ghost use Rattle.coordination.specs.Sights.{sight_of};
 ghost use Rattle.coordination.specs.Turns.{HasLeft, HasTurned};
 
 use crate::guarded::{Caller, Guarded};
-use crate::keepers::{Keeper, Kept};
+use crate::keepers::{Kept, Runner};
 use crate::outside_work::Offers;
 use crate::parts::Notes;
 use crate::passes::{Pass, seat_of};
@@ -21,7 +21,7 @@ use crate::turns::{Came, Turn};
 use atomic_table::Seat;
 use std::sync::Wait;
 
-impl<O: Offers, K: Keeper> Slot<Guarded<O, K>> {
+impl<O: Offers, K: Runner> Slot<Guarded<O, K>> {
     /// Has a worker's turn in a hold of the state lock. It tells whom that wakes, and whom what comes behind a transform.
     #[inline]
     pub(crate) fn hold<T: Turn, R: Wait>(
@@ -40,7 +40,7 @@ impl<O: Offers, K: Keeper> Slot<Guarded<O, K>> {
         let mut seat = seat_of(&mut pass.badge);
         let caller = Caller {
             worker: pass.worker,
-            promised: pass.promised,
+            behind: pass.behind,
             woken,
             apart,
             sleeps: true,

@@ -17,7 +17,7 @@ use std::alloc::AllocError;
 use std::marker::Model;
 use std::sync::Wait;
 
-/// What keeps the book of a service, and shows its history to views or doesn't.
+/// What keeps the book of a service in its slot, and shows its history to views or doesn't.
 pub trait Keeper: Drop {
     /// The book.
     ghost book_of: { Self → BookView };
@@ -32,27 +32,6 @@ pub trait Keeper: Drop {
     fn book(&self) -> &Book
         ensures { result.now ≡ book_of self.now };
 
-    /// Runs a transform for a worker, whose locks `own` may name (`Book::run`), and shows its entry where it shows the history. It fails for want of memory
-    /// alone: graph, state and history are then as before.
-    fn run<T: Transform>(
-        &mut self,
-        worker: WorkerId,
-        own: &[LockId],
-        transform: &T,
-    ) -> Result<Disposition, AllocError>
-        requires { worker.0 < (book_of self.old).graph.workers }
-        ensures ledger { ledger_of self.new ≡ ledger_of self.old }
-        ensures graph { (book_of self.new).graph ≡ (book_of self.old).graph }
-        ensures given { (book_of self.new).given ≡ (book_of self.old).given }
-        ensures within { (book_of self.old).given ≤ length (book_of self.old).history }
-        ensures finished { result ≡ Ok Disposition.Finished
-            → (changes : List Change) × FinishesIn (T.makes transform.now) (book_of self.old) (book_of self.new) worker (T.kind_of transform.now) changes }
-        ensures failed { result ≡ Ok Disposition.Failed
-            → FailsIn (T.fails_on transform.now) (book_of self.old) (book_of self.new) worker (T.kind_of transform.now) }
-        ensures retry { result ≡ Ok Disposition.Retry
-            → IsToRetry (T.retries_on transform.now) (book_of self.old) (book_of self.new) worker }
-        ensures no_memory { OnErr result (IsUnchanged (book_of self.old) (book_of self.new)) };
-
     /// Writes down how far the history of the book has come, where it is shown. Where it isn't, nothing was ever written, and
     /// nothing is now.
     fn tell(&self, reach: &mut Option<Reach>)
@@ -63,6 +42,31 @@ pub trait Keeper: Drop {
     fn into_book(self) -> Box<Book>
         ensures value { result.value ≡ book_of self }
         ensures keeps { keeps result.value };
+}
+
+/// What keeps a book that transforms are run on, with no more to be done behind them.
+pub trait Runner: Keeper {
+    /// Runs a transform for a worker, whose locks `own` may name (`Book::run`), and shows its entry where it shows the history. It fails for want of memory
+    /// alone: graph, state and history are then as before.
+    fn run<T: Transform>(
+        &mut self,
+        worker: WorkerId,
+        own: &[LockId],
+        transform: &T,
+    ) -> Result<Disposition, AllocError>
+        requires { worker.0 < (Self.book_of self.old).graph.workers }
+        ensures ledger { Self.ledger_of self.new ≡ Self.ledger_of self.old }
+        ensures graph { (Self.book_of self.new).graph ≡ (Self.book_of self.old).graph }
+        ensures given { (Self.book_of self.new).given ≡ (Self.book_of self.old).given }
+        ensures within { (Self.book_of self.old).given ≤ length (Self.book_of self.old).history }
+        ensures finished { result ≡ Ok Disposition.Finished
+            → (changes : List Change) × FinishesIn (T.makes transform.now) (Self.book_of self.old) (Self.book_of self.new) worker
+            (T.kind_of transform.now) changes }
+        ensures failed { result ≡ Ok Disposition.Failed
+            → FailsIn (T.fails_on transform.now) (Self.book_of self.old) (Self.book_of self.new) worker (T.kind_of transform.now) }
+        ensures retry { result ≡ Ok Disposition.Retry
+            → IsToRetry (T.retries_on transform.now) (Self.book_of self.old) (Self.book_of self.new) worker }
+        ensures no_memory { OnErr result (IsUnchanged (Self.book_of self.old) (Self.book_of self.new)) };
 }
 
 /// What keeps a book whose entries may be given away while the service runs.
@@ -88,6 +92,15 @@ impl Keeper for BoxedBook {
     }
 
     #[inline]
+    fn tell(&self, _: &mut Option<Reach>) {}
+
+    fn into_book(self) -> Box<Book> {
+        self.into_box()
+    }
+}
+
+impl Runner for BoxedBook {
+    #[inline]
     fn run<T: Transform>(
         &mut self,
         worker: WorkerId,
@@ -95,13 +108,6 @@ impl Keeper for BoxedBook {
         transform: &T,
     ) -> Result<Disposition, AllocError> {
         self.inner.run(worker, own, transform)
-    }
-
-    #[inline]
-    fn tell(&self, _: &mut Option<Reach>) {}
-
-    fn into_book(self) -> Box<Book> {
-        self.into_box()
     }
 }
 
@@ -123,6 +129,17 @@ impl<R: Wait + Drop> Keeper for ShownBook<R> {
     }
 
     #[inline]
+    fn tell(&self, reach: &mut Option<Reach>) {
+        self.tell(reach)
+    }
+
+    fn into_book(self) -> Box<Book> {
+        self.into_book()
+    }
+}
+
+impl<R: Wait + Drop> Runner for ShownBook<R> {
+    #[inline]
     fn run<T: Transform>(
         &mut self,
         worker: WorkerId,
@@ -130,15 +147,6 @@ impl<R: Wait + Drop> Keeper for ShownBook<R> {
         transform: &T,
     ) -> Result<Disposition, AllocError> {
         self.run(worker, own, transform)
-    }
-
-    #[inline]
-    fn tell(&self, reach: &mut Option<Reach>) {
-        self.tell(reach)
-    }
-
-    fn into_book(self) -> Box<Book> {
-        self.into_book()
     }
 }
 

@@ -15,6 +15,7 @@ mod openings;
 mod outside_work;
 mod parts;
 mod passes;
+mod planned;
 mod questions;
 mod rule;
 mod seats;
@@ -30,16 +31,18 @@ mod turns;
 pub use boxed_books::BoxedBook;
 pub use decisions::{Decided, Decision, Followed};
 pub use halts::Halt;
-pub use keepers::{Giver, Keeper};
+pub use keepers::{Giver, Keeper, Runner};
 pub use laws::{
     openings_are_at_rest, sound_books_have_good_states, used_passes_have_their_numbers,
     workers_run_few_marks,
 };
-pub use outside_work::Offers;
+pub use outside_work::{Offers, Queued, QueuedUnits};
 pub use passes::Pass;
+pub use planned::Planned;
 pub use questions::Question;
 pub use rule::Sight;
 pub use services::{Coordination, Opened};
 pub use shown_services::{OpenedWithViews, ShownService};
-pub use sleepers::{Sleepers, Wakes};
+pub use sleepers::{Sleepers, Then, Wakes};
 pub use slots::Slot;
+pub use turns::{Ask, Awaits, Came, Decide, Run, RunThenDecide, Turn};

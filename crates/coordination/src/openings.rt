@@ -91,12 +91,30 @@ impl Slot {
         ensures service { IfOk result (λ opened. All (λ p. p.service.table ≡ opened.0.table.shared.table_id) opened.1.items) }
         ensures seen { IfOk result (λ opened. All (λ p. p.sight.seen ≡ book.value) opened.1.items) }
     {
-        let parts = parts_of(alloc, &book)?;
-        let passes = Vec::with_capacity(alloc, parts.len())?;
-        let (slot, seat) = Slot::new(alloc, BoxedBook { inner: book })?;
-        let passes = slot.seated(seat, &None, parts, passes);
-        Ok((slot, passes))
+        open_slot(alloc, BoxedBook { inner: book })
     }
+}
+
+/// A slot with what keeps a book that isn't shown, in which nobody has anything, and a pass for each worker of its graph in order. It
+/// fails for want of memory alone.
+pub(crate) fn open_slot<K: Keeper>(
+    alloc: Global,
+    keeper: K,
+) -> Result<(Slot<K>, Vec<Pass>), AllocError>
+    requires rest { IsAtRest (K.book_of keeper).state }
+    requires whole { (K.book_of keeper).given ≡ 0 }
+    requires hidden { K.ledger_of keeper ≡ None }
+    ensures book { IfOk result (λ opened. opened.0.table.shared.key.kept.value.book ≡ K.book_of keeper) }
+    ensures passes { IfOk result (λ opened. map (λ p. p.sight) opened.1.items ≡ sights_from 0 (K.book_of keeper).graph.workers (K.book_of keeper)) }
+    ensures workers { IfOk result (λ opened. map (λ p. p.sight.worker.0) opened.1.items ≡ workers_from 0 (K.book_of keeper).graph.workers) }
+    ensures service { IfOk result (λ opened. All (λ p. p.service.table ≡ opened.0.table.shared.table_id) opened.1.items) }
+    ensures seen { IfOk result (λ opened. All (λ p. p.sight.seen ≡ K.book_of keeper) opened.1.items) }
+{
+    let parts = parts_of(alloc, keeper.book())?;
+    let passes = Vec::with_capacity(alloc, parts.len())?;
+    let (slot, seat) = Slot::new(alloc, keeper)?;
+    let passes = slot.seated(seat, &None, parts, passes);
+    Ok((slot, passes))
 }
 
 // The parts of all workers of a book in which nobody has anything, in order.

@@ -8,6 +8,7 @@ ghost use Rattle.coordination.specs.Shown.{blocked_shown, claimed_shown, lease_s
 use crate::keepers::{Keeper, Kept};
 use crate::parts::Notes;
 use crate::rule::SeatView;
+use crate::sleepers::Then;
 use atomic_table::{Badge, Seat};
 use history_views::View;
 use resource_lock::{LockId, MarkId, WorkerId};
@@ -21,8 +22,8 @@ pub struct Pass {
     pub(crate) notes: Notes,
     pub(crate) stopped: bool,
     pub(crate) stopped_by: Option<WorkerId>,
-    // Whether the worker has promised to come again at once.
-    pub(crate) promised: bool,
+    // What the worker does behind a hold of the state lock.
+    pub(crate) behind: Then,
     pub(crate) badge: Badge<SeatView>,
 }
 
@@ -51,7 +52,15 @@ impl Pass {
     pub fn promise_to_come_again(&mut self)
         ensures { self.new ≡ self.old }
     {
-        self.promised = true;
+        self.behind = Then::Looks;
+    }
+
+    /// Promises that the worker comes again at once behind a skip, queued items, the beginning of a wait for them and the end of a task:
+    /// it neither works nor waits before. Behind all else it goes back to its caller, and the others don't count on it.
+    pub fn promise_to_come_again_without_work(&mut self)
+        ensures { self.new ≡ self.old }
+    {
+        self.behind = Then::Works;
     }
 
     /// The worker.

@@ -11,6 +11,7 @@ use crate::keepers::{Keeper, Kept};
 use crate::parts::{Notes, WorkerPart};
 use crate::passes::Pass;
 use crate::rule::{OneWorker, OpenedWith, SeatView, Sit, TakeForGood};
+use crate::sleepers::Then;
 use crate::slots::Slot;
 use atomic_table::{Refused, Seat, Table};
 use history_views::Reach;
@@ -87,7 +88,7 @@ impl<K: Keeper> Slot<K> {
                 },
                 stopped: false,
                 stopped_by: None,
-                promised: false,
+                behind: Then::Leaves,
                 badge: own.into_badge(),
             });
         }

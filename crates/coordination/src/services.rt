@@ -15,7 +15,7 @@ use crate::boxed_books::BoxedBook;
 use crate::decisions::{Decided, Decision, Followed};
 use crate::guarded::Guarded;
 use crate::halts::Halt;
-use crate::keepers::Keeper;
+use crate::keepers::{Keeper, Runner};
 use crate::openings::Stock;
 use crate::outside_work::Offers;
 use crate::passes::Pass;
@@ -98,7 +98,7 @@ impl<O: Offers> Coordination<O> {
     }
 }
 
-impl<O: Offers, K: Keeper> Coordination<O, K> {
+impl<O: Offers, K: Runner> Coordination<O, K> {
     /// Gets the state lock and runs the transform.
     ///
     /// True means that it finished, and false that it failed. Where it asks to be run again, the call

@@ -6,7 +6,7 @@ ghost use Rattle.coordination.specs.Offered.{AreTold};
 ghost use Rattle.coordination.specs.Turns.{HasDone};
 
 use crate::halts::Halt;
-use crate::keepers::Keeper;
+use crate::keepers::Runner;
 use crate::outside_work::Offers;
 use crate::passes::Pass;
 use crate::services::Coordination;
@@ -94,7 +94,7 @@ impl Condvars {
     }
 }
 
-impl<O: Offers, K: Keeper> Coordination<O, K> {
+impl<O: Offers, K: Runner> Coordination<O, K> {
     /// Gets the state lock for a turn. Where that is to be had again, the worker sleeps until what it waits for has come, unless
     /// the service was stopped.
     #[inline]

@@ -1,9 +1,12 @@
 //! Who sleeps, and whom the end of a hold of the state lock wakes.
 ghost use Rattle.std.specs.Prelude.{◌≡◌, ◌<◌, IfOk, false, length, replicate, true};
+ghost use Rattle.coordination.specs.declared.outside_work.Queued.TheVariants as queued;
+ghost use Rattle.coordination.specs.declared.sleepers.Then.TheVariants as thens;
 ghost use Rattle.worker_choices.specs.declared.stances.Stance.TheVariants as stance;
 ghost use Rattle.coordination.specs.Decisions.{noted_deciding};
-ghost use Rattle.coordination.specs.SleepAndWake.{EndsHold, begun, goes_to_work, has_entered, looks_if, stance_after, stance_asking, woken_if};
+ghost use Rattle.coordination.specs.SleepAndWake.{EndsHold, begun, comes_again, goes_to_work, has_entered, is_a_step, looks_behind_answers, looks_if, stance_after, stance_asking, woken_if};
 
+use crate::outside_work::Queued;
 use crate::stances::Stances;
 use crate::turns::Came;
 use lock_journal::Book;
@@ -11,6 +14,20 @@ use lock_transforms::{Disposition, Kind};
 use resource_lock::WorkerId;
 use std::alloc::{AllocError, Global};
 use worker_choices::{Awaited, Stance, Woken, last_lets_go_on};
+
+/// What a worker does behind a hold of the state lock.
+#[derive(Clone, Copy, PartialEq, Eq)]
+pub enum Then {
+    /// It has promised nothing, and others don't count on it.
+    Leaves,
+    /// It goes back to its caller with what there is to do. Where its entry brought nothing to do yet, it comes again at once: behind
+    /// a skip, queued items, the beginning of a wait for them, and the end of a task.
+    Works,
+    /// It comes again at once, but behind a claim and the entry of a blocking section.
+    Looks,
+    /// It decides in the same hold where its transform finishes.
+    Decides,
+}
 
 /// Who may be asleep, who looks, and what they all wait for beside the book.
 #[derive(Drop)]
@@ -21,10 +38,10 @@ pub struct Sleepers {
     pub(crate) questions: bool,
     /// What each worker does.
     pub(crate) stances: Stances,
-    /// Whether a ticket was queued when the hold began. Where nobody sleeps, a transform's hold leaves it as it was.
-    pub(crate) queued: bool,
-    /// Whether the worker of the hold has promised to come again at once.
-    pub(crate) promised: bool,
+    /// Where items waited to be claimed when the hold began. Where nobody sleeps, a transform's hold leaves it as it was.
+    pub(crate) queued: Queued,
+    /// What the worker of the hold does behind it.
+    pub(crate) behind: Then,
 }
 
 /// Whom the end of a hold wakes of those that sleep.
@@ -66,33 +83,34 @@ impl Sleepers {
         ensures transforms { IfOk result (λ sleepers. sleepers.transforms ≡ false) }
         ensures questions { IfOk result (λ sleepers. sleepers.questions ≡ false) }
         ensures workers { IfOk result (λ sleepers. sleepers.stances ≡ replicate workers stance.Away) }
-        ensures queued { IfOk result (λ sleepers. sleepers.queued ≡ false) }
+        ensures queued { IfOk result (λ sleepers. sleepers.queued ≡ queued.Beside false) }
+        ensures behind { IfOk result (λ sleepers. sleepers.behind ≡ thens.Leaves) }
     {
         Ok(Sleepers {
             transforms: false,
             questions: false,
             stances: Stances::away(alloc, workers)?,
-            queued: false,
-            promised: false,
+            queued: Queued::Beside(false),
+            behind: Then::Leaves,
         })
     }
 
-    /// Begins the hold of a question, whose worker was woken or wasn't, and has promised to come again or hasn't.
+    /// Begins the hold of a question, whose worker was woken or wasn't, and does this behind it.
     #[inline]
     pub(crate) fn begin_asking(
         &mut self,
         worker: WorkerId,
         woken: bool,
-        promised: bool,
-        queued: bool,
+        behind: Then,
+        queued: Queued,
     )
-        ensures { self.new ≡ begun queued promised (woken_if woken worker self.old) }
+        ensures { self.new ≡ begun queued behind (woken_if woken worker self.old) }
     {
         if woken {
             self.stances.note(worker, Stance::Looks);
         }
         self.queued = queued;
-        self.promised = promised;
+        self.behind = behind;
     }
 
     /// Notes that a decision sleeps, where it is to be made again. Where it doesn't sleep apart, any entry wakes it.
@@ -105,8 +123,8 @@ impl Sleepers {
         }
     }
 
-    /// Ends a hold: its worker takes this stance, and who is woken looks. Where the hold made an entry, that wakes questions
-    /// and transforms too.
+    /// Ends a hold that left this book: its worker takes this stance, and who is woken looks. Where the hold made an entry, that wakes
+    /// questions and transforms too.
     #[inline]
     pub(crate) fn end_hold(
         &mut self,
@@ -140,11 +158,11 @@ impl Sleepers {
         ran: &Result<Disposition, AllocError>,
     ) -> Wakes
         requires { has_entered ran.now ≡ true → book.now.given < length book.now.history }
-        ensures { EndsHold book.now worker (stance_after self.old.promised kind ran.now) (has_entered ran.now) self.old self.new result }
+        ensures { EndsHold book.now worker (stance_after self.old.behind kind ran.now) (has_entered ran.now) self.old self.new result }
     {
         let again = match ran {
-            Ok(Disposition::Finished) => self.promised && !goes_to_work(kind),
-            Ok(Disposition::Failed) => self.promised,
+            Ok(Disposition::Finished) => self.behind.comes_again(kind),
+            Ok(Disposition::Failed) => self.behind.looks_behind_answers(),
             Ok(Disposition::Retry) | Err(_) => false,
         };
         let entered = matches!(ran, Ok(Disposition::Finished | Disposition::Failed));
@@ -160,14 +178,37 @@ impl Sleepers {
         awaited: Option<Awaited>,
         answer: &Option<A>,
     ) -> Wakes
-        ensures { EndsHold book.now worker (stance_asking self.old.promised awaited answer.now) false self.old self.new result }
+        ensures { EndsHold book.now worker (stance_asking self.old.behind awaited answer.now) false self.old self.new result }
     {
         let stance = match (answer.is_some(), awaited) {
-            (true, _) => looks_if(self.promised),
+            (true, _) => looks_if(self.behind.looks_behind_answers()),
             (false, Some(awaited)) => Stance::Sleeps(awaited),
             (false, None) => Stance::Away,
         };
         self.end_hold(book, worker, stance, false)
+    }
+}
+
+impl Then {
+    // Whether the worker comes again at once behind an entry of this kind that finished.
+    #[inline]
+    fn comes_again(self, kind: Kind) -> bool
+        ensures { result ≡ comes_again self kind }
+    {
+        match self {
+            Then::Leaves => false,
+            Then::Works => is_a_step(kind),
+            Then::Looks => !goes_to_work(kind),
+            Then::Decides => true,
+        }
+    }
+
+    // Whether it does behind an answer without an entry, and behind a failed entry.
+    #[inline]
+    fn looks_behind_answers(self) -> bool
+        ensures { result ≡ looks_behind_answers self }
+    {
+        matches!(self, Then::Looks)
     }
 }
 
@@ -185,4 +226,15 @@ fn goes_to_work(kind: Kind) -> bool
     ensures { result ≡ goes_to_work kind }
 {
     matches!(kind, Kind::Claim(_) | Kind::Block(_))
+}
+
+// Whether an entry of this kind brings its worker nothing to do yet.
+#[inline]
+fn is_a_step(kind: Kind) -> bool
+    ensures { result ≡ is_a_step kind }
+{
+    matches!(
+        kind,
+        Kind::Skip(_) | Kind::Submit(_) | Kind::Park(_) | Kind::End(_)
+    )
 }

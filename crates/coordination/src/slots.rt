@@ -5,6 +5,7 @@ ghost use Rattle.coordination.specs.Decisions.{DecideGives, EndsDecision, HadSte
 ghost use Rattle.coordination.specs.SleepAndWake.{EndsHold, stance_asking};
 ghost use Rattle.history_views.specs.ShownBooks.{IsTold};
 ghost use Rattle.coordination.specs.Kept.{kept};
+ghost use Rattle.coordination.specs.Offered.{AnswersWith, WaitsWith};
 ghost use Rattle.coordination.specs.Parts.{IsPartHere};
 ghost use Rattle.coordination.specs.Rule.{AddsOwn, Hears, Taken, carried_book};
 ghost use Rattle.coordination.specs.Sights.{holding, one, seeing, sight_of, stopping};
@@ -13,7 +14,7 @@ ghost use Rattle.coordination.specs.Turns.{HasLeft};
 
 use crate::boxed_books::BoxedBook;
 use crate::decisions::{Decided, Decision};
-use crate::keepers::{Keeper, Kept};
+use crate::keepers::{Keeper, Kept, Runner};
 use crate::parts::Notes;
 use crate::questions::Question;
 use crate::rule::{Hear, OpenedWith, Order, PutBack, SeatView, Stop, Take};
@@ -128,30 +129,6 @@ impl<K: Keeper> Slot<K> {
         }
     }
 
-    /// Runs the transform on the book that the seat holds, has the worker's part follow it, and ends the hold.
-    pub(crate) fn run<T: Transform>(
-        &self,
-        seat: &mut Seat<Kept<K>, SeatView>,
-        worker: WorkerId,
-        notes: &mut Notes,
-        transform: &T,
-        sleepers: &mut Sleepers,
-    ) -> (Result<Disposition, AllocError>, Wakes)
-        requires id { seat.old.table_id ≡ self.now.table.shared.table_id }
-        requires held { seat.old.me.1 ≡ (0, kept (carried_book seat.old.me.1) seat.old.me.0.ledger) ∷ [] }
-        requires part { IsPartHere worker (carried_book seat.old.me.1) notes.old.part }
-        requires told { seat.old.me.0.ledger ≡ None → notes.old.reach ≡ None }
-        ensures same { (seat.new.table_id ≡ seat.old.table_id) × (seat.new.id ≡ seat.old.id) × (seat.new.me.0 ≡ seat.old.me.0) }
-        ensures held { seat.new.me.1 ≡ (0, kept (carried_book seat.new.me.1) seat.old.me.0.ledger) ∷ [] }
-        ensures told { IsTold seat.old.me.0.ledger notes.new.reach (carried_book seat.new.me.1) }
-        ensures run { HasRun (T.kind_of transform.now) (T.makes transform.now) (T.fails_on transform.now)
-            (T.retries_on transform.now) worker (carried_book seat.old.me.1)
-            (carried_book seat.new.me.1) notes.new.part sleepers.old sleepers.new result }
-    {
-        let kept = seat.slot_mut(&self.table.shared, 0);
-        run_on(&mut kept.keeper, worker, notes, transform, sleepers)
-    }
-
     /// Asks the question of the book that the seat holds, and ends the hold.
     pub(crate) fn ask_book<Q: Question>(
         &self,
@@ -167,13 +144,20 @@ impl<K: Keeper> Slot<K> {
         requires told { seat.old.me.0.ledger ≡ None → reach.old ≡ None }
         ensures same { (seat.new.table_id ≡ seat.old.table_id) × (seat.new.id ≡ seat.old.id) × (seat.new.me ≡ seat.old.me) }
         ensures told { IsTold seat.old.me.0.ledger reach.new (carried_book seat.old.me.1) }
-        ensures answer { Answers (Q.answers question.now sleepers.old.queued) (Q.waits_on question.now sleepers.old.queued)
+        ensures answer { Answers (AnswersWith sleepers.old.queued (Q.answers question.now)) (WaitsWith sleepers.old.queued (Q.waits_on question.now))
             worker (carried_book seat.old.me.1) result.0 }
-        ensures ends { EndsHold (carried_book seat.old.me.1) worker (stance_asking sleepers.old.promised (Q.awaits question.now) result.0)
+        ensures ends { EndsHold (carried_book seat.old.me.1) worker (stance_asking sleepers.old.behind (Q.awaits question.now) result.0)
             false sleepers.old sleepers.new result.1 }
     {
         let kept = seat.slot_mut(&self.table.shared, 0);
-        ask_of(&kept.keeper, worker, reach, question, sleepers)
+        ask_of(
+            &kept.keeper,
+            worker,
+            reach,
+            question,
+            question.awaited(),
+            sleepers,
+        )
     }
 
     /// Puts the book back, in which no entries but the worker's own are new. It is for a slot at which nobody sleeps until the book
@@ -230,9 +214,35 @@ impl<K: Keeper> Slot<K> {
     }
 }
 
+impl<K: Runner> Slot<K> {
+    /// Runs the transform on the book that the seat holds, has the worker's part follow it, and ends the hold.
+    pub(crate) fn run<T: Transform>(
+        &self,
+        seat: &mut Seat<Kept<K>, SeatView>,
+        worker: WorkerId,
+        notes: &mut Notes,
+        transform: &T,
+        sleepers: &mut Sleepers,
+    ) -> (Result<Disposition, AllocError>, Wakes)
+        requires id { seat.old.table_id ≡ self.now.table.shared.table_id }
+        requires held { seat.old.me.1 ≡ (0, kept (carried_book seat.old.me.1) seat.old.me.0.ledger) ∷ [] }
+        requires part { IsPartHere worker (carried_book seat.old.me.1) notes.old.part }
+        requires told { seat.old.me.0.ledger ≡ None → notes.old.reach ≡ None }
+        ensures same { (seat.new.table_id ≡ seat.old.table_id) × (seat.new.id ≡ seat.old.id) × (seat.new.me.0 ≡ seat.old.me.0) }
+        ensures held { seat.new.me.1 ≡ (0, kept (carried_book seat.new.me.1) seat.old.me.0.ledger) ∷ [] }
+        ensures told { IsTold seat.old.me.0.ledger notes.new.reach (carried_book seat.new.me.1) }
+        ensures run { HasRun (T.kind_of transform.now) (T.makes transform.now) (T.fails_on transform.now)
+            (T.retries_on transform.now) worker (carried_book seat.old.me.1)
+            (carried_book seat.new.me.1) notes.new.part sleepers.old sleepers.new result }
+    {
+        let kept = seat.slot_mut(&self.table.shared, 0);
+        run_on(&mut kept.keeper, worker, notes, transform, sleepers)
+    }
+}
+
 // Runs the transform on the book, has the worker's part follow it, and ends the hold.
 #[inline]
-pub(crate) fn run_on<K: Keeper, T: Transform>(
+pub(crate) fn run_on<K: Runner, T: Transform>(
     keeper: &mut K,
     worker: WorkerId,
     notes: &mut Notes,
@@ -254,32 +264,34 @@ pub(crate) fn run_on<K: Keeper, T: Transform>(
     (ran, wakes)
 }
 
-// Asks the question of the book, and ends the hold.
+// Asks the question of the book, and ends the hold, where its worker sleeps until this comes if there is no answer.
 #[inline]
 pub(crate) fn ask_of<K: Keeper, Q: Question>(
     keeper: &K,
     worker: WorkerId,
     reach: &mut Option<Reach>,
     question: &Q,
+    awaited: Option<Awaited>,
     sleepers: &mut Sleepers,
 ) -> (Option<Q::Answer>, Wakes)
     requires known { worker.0 < (K.book_of keeper.now).graph.workers }
     requires told { K.ledger_of keeper.now ≡ None → reach.old ≡ None }
     ensures told { IsTold (K.ledger_of keeper.now) reach.new (K.book_of keeper.now) }
-    ensures answer { Answers (Q.answers question.now sleepers.old.queued) (Q.waits_on question.now sleepers.old.queued) worker
-        (K.book_of keeper.now) result.0 }
-    ensures ends { EndsHold (K.book_of keeper.now) worker (stance_asking sleepers.old.promised (Q.awaits question.now) result.0)
+    ensures answer { Answers (AnswersWith sleepers.old.queued (Q.answers question.now)) (WaitsWith sleepers.old.queued (Q.waits_on question.now))
+        worker (K.book_of keeper.now) result.0 }
+    ensures ends { EndsHold (K.book_of keeper.now) worker (stance_asking sleepers.old.behind awaited result.0)
         false sleepers.old sleepers.new result.1 }
 {
-    let answer = question.ask(worker, keeper.book(), sleepers.queued);
-    let wakes = end_asked(keeper, worker, reach, question.awaited(), &answer, sleepers);
+    let book = keeper.book();
+    let answer = question.ask(worker, book, sleepers.queued.has_some(book));
+    let wakes = end_asked(keeper, worker, reach, awaited, &answer, sleepers);
     (answer, wakes)
 }
 
 // Decides on the book: asks, and runs the step of the answer, if it has one. It has the worker's part follow the book, and ends the
 // hold once.
 #[inline]
-pub(crate) fn decide_on<K: Keeper, Q: Decision>(
+pub(crate) fn decide_on<K: Runner, Q: Decision>(
     keeper: &mut K,
     worker: WorkerId,
     notes: &mut Notes,
@@ -293,15 +305,16 @@ where
     requires told { K.ledger_of keeper.old ≡ None → notes.old.reach ≡ None }
     ensures ledger { K.ledger_of keeper.new ≡ K.ledger_of keeper.old }
     ensures told { IsTold (K.ledger_of keeper.new) notes.new.reach (K.book_of keeper.new) }
-    ensures left { HasLeft (DecideGives (Q.answers decision.now sleepers.old.queued) (Q.step_of decision.now) Q.Step.kind_of Q.Step.makes
-        Q.Step.fails_on Q.Step.retries_on) (Q.waits_on decision.now sleepers.old.queued)
-        (HadStep (Q.answers decision.now sleepers.old.queued) (Q.step_of decision.now)) worker (K.book_of keeper.old) (K.book_of keeper.new)
-        notes.new.part result.0 }
+    ensures left { HasLeft (DecideGives (AnswersWith sleepers.old.queued (Q.answers decision.now)) (Q.step_of decision.now) Q.Step.kind_of
+        Q.Step.makes Q.Step.fails_on Q.Step.retries_on) (WaitsWith sleepers.old.queued (Q.waits_on decision.now))
+        (HadStep (AnswersWith sleepers.old.queued (Q.answers decision.now)) (Q.step_of decision.now)) worker (K.book_of keeper.old)
+        (K.book_of keeper.new) notes.new.part result.0 }
     ensures ends { EndsDecision (K.book_of keeper.new) worker awaited (Q.step_of decision.now) Q.Step.kind_of
         sleepers.old sleepers.new result.1 result.0 }
 {
     let book = keeper.book();
-    let Some(answer) = decision.ask(worker, book, sleepers.queued) else {
+    let queued = sleepers.queued.has_some(book);
+    let Some(answer) = decision.ask(worker, book, queued) else {
         let wakes = end_asked(
             keeper,
             worker,
@@ -356,7 +369,7 @@ fn end_asked<K: Keeper, A>(
 ) -> Wakes
     requires told { K.ledger_of keeper.now ≡ None → reach.old ≡ None }
     ensures told { IsTold (K.ledger_of keeper.now) reach.new (K.book_of keeper.now) }
-    ensures ends { EndsHold (K.book_of keeper.now) worker (stance_asking sleepers.old.promised awaited answer.now)
+    ensures ends { EndsHold (K.book_of keeper.now) worker (stance_asking sleepers.old.behind awaited answer.now)
         false sleepers.old sleepers.new result }
 {
     let wakes = sleepers.end_question(keeper.book(), worker, awaited, answer);

@@ -2,8 +2,10 @@
 ghost use Rattle.std.specs.Prelude.{◌≡◌, IfOk, false, length, replicate, set};
 ghost use Rattle.worker_choices.specs.Stances.{asleep, looking};
 ghost use Rattle.worker_choices.specs.declared.stances.Stance.TheVariants as stance;
+ghost use Rattle.coordination.specs.Offered.{is_queued_in};
 ghost use Rattle.coordination.specs.SleepAndWake.{AreQuiet, IsWokenBy, stances_after};
 
+use crate::outside_work::Queued;
 use lock_journal::Book;
 use resource_lock::WorkerId;
 use std::alloc::{AllocError, Global};
@@ -65,12 +67,12 @@ impl Stances {
         self.sleepers > 0
     }
 
-    /// Ends a hold, where a ticket is queued or none: its worker takes this stance, and who is woken looks.
+    /// Ends a hold that left this book, where items wait so: its worker takes this stance, and who is woken looks.
     #[inline]
-    pub fn settle(&mut self, book: &Book, queued: bool, worker: WorkerId, stance: Stance) -> Woken
-        ensures woken { IsWokenBy book.now queued (set self.old worker.0 stance) result }
+    pub fn settle(&mut self, book: &Book, queued: Queued, worker: WorkerId, stance: Stance) -> Woken
+        ensures woken { IsWokenBy book.now (is_queued_in queued book.now) (set self.old worker.0 stance) result }
         ensures stances { self.new ≡ stances_after result (set self.old worker.0 stance) }
-        ensures quiet { AreQuiet book.now queued self.new }
+        ensures quiet { AreQuiet book.now (is_queued_in queued book.now) self.new }
     {
         self.note(worker, stance);
         let woken = self.whom_to_wake(book, queued);
@@ -78,11 +80,11 @@ impl Stances {
         woken
     }
 
-    // Whom of them the end of a hold wakes, where a ticket is queued or none. It looks for one only where some
+    // Whom of them the end of a hold wakes, where items wait so. It looks for one, and where items wait, only where some
     // worker sleeps and nobody looks.
     #[inline]
-    fn whom_to_wake(&self, book: &Book, queued: bool) -> Woken
-        ensures { IsWokenBy book.now queued self.now result }
+    fn whom_to_wake(&self, book: &Book, queued: Queued) -> Woken
+        ensures { IsWokenBy book.now (is_queued_in queued book.now) self.now result }
     {
         if self.sleepers == 0 {
             return Woken::Nobody;
@@ -99,11 +101,11 @@ impl Stances {
 
     // The same where nobody looks.
     #[inline(never)]
-    fn look_for_one(&self, book: &Book, queued: bool) -> Woken
+    fn look_for_one(&self, book: &Book, queued: Queued) -> Woken
         requires { looking self.now ≡ 0 }
-        ensures { IsWokenBy book.now queued self.now result }
+        ensures { IsWokenBy book.now (is_queued_in queued book.now) self.now result }
     {
-        whom_to_wake(book, queued, &self.stances)
+        whom_to_wake(book, queued.has_some(book), &self.stances)
     }
 
     /// Notes that who is woken looks, and that where all are, none is counted on.

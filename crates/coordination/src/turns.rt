@@ -1,26 +1,27 @@
 //! Turns: what a worker does with the book in one hold of the state lock.
-ghost use Rattle.std.specs.Prelude.{◌≡◌, ◌≢◌, Bool, None};
+ghost use Rattle.std.specs.Prelude.{◌≡◌, ◌≢◌, None};
 ghost use Rattle.resource_lock.specs.declared.ids.WorkerId.{WorkerId};
 ghost use Rattle.lock_journal.specs.BookView.{BookView};
 ghost use Rattle.history_views.specs.ShownBooks.{IsTold};
 ghost use Rattle.coordination.specs.Parts.{IsPartHere};
 ghost use Rattle.coordination.specs.Decisions.{DecideGives, HadStep};
-ghost use Rattle.coordination.specs.Offered.{AreTold, AsTold, WaitsAsTold};
+ghost use Rattle.coordination.specs.Offered.{AreTold, AsTold, Telling, WaitsAsTold};
 ghost use Rattle.coordination.specs.RunThenDecide.{FollowGives, followed_of};
 ghost use Rattle.coordination.specs.SleepAndWake.{EndsTurn, IsAwake};
 ghost use Rattle.coordination.specs.Turns.{AskGives, HasLeft, RunGives, came_of};
 
 use crate::decisions::{Decided, Decision, Followed};
 use crate::guarded::{Caller, Guarded};
-use crate::keepers::Keeper;
+use crate::keepers::Runner;
 use crate::outside_work::Offers;
 use crate::parts::Notes;
 use crate::questions::Question;
-use crate::sleepers::Wakes;
+use crate::sleepers::{Then, Wakes};
 use lock_transforms::{Disposition, Transform};
 use std::alloc::AllocError;
 
 /// What came of a turn.
+#[derive(Drop)]
 pub enum Came<A> {
     /// It came to this.
     Done(A),
@@ -48,20 +49,20 @@ pub trait Turn {
     type Outcome;
 
     /// What an outcome says of the book that the worker found, and of the one that it leaves, by what offers tell.
-    ghost gives: { Self → (Bool → Type 0) → WorkerId → BookView → BookView → Self.Outcome → Type 0 };
+    ghost gives: { Self → Telling → WorkerId → BookView → BookView → Self.Outcome → Type 0 };
 
     /// Where it may have to be had again.
-    ghost waits_on: { Self → (Bool → Type 0) → WorkerId → BookView → Type 0 };
+    ghost waits_on: { Self → Telling → WorkerId → BookView → Type 0 };
 
     /// Where it may want memory.
-    ghost runs: { Self → (Bool → Type 0) → WorkerId → BookView → Type 0 };
+    ghost runs: { Self → Telling → WorkerId → BookView → Type 0 };
 
     /// Where its worker sleeps until it is to be had again.
     fn awaits(&self) -> Awaits;
 
     /// Has the turn in a hold of the state lock, has the worker's part follow the book, and ends the hold. It tells whom that wakes, and
-    /// whom the end of what comes behind a transform.
-    fn act<O: Offers, K: Keeper>(
+    /// whom the end of what comes behind a transform. Where the turn is to be had again, a worker that sleeps then is noted as asleep.
+    fn act<O: Offers, K: Runner>(
         &self,
         guarded: &mut Guarded<O, K>,
         caller: Caller,
@@ -73,7 +74,7 @@ pub trait Turn {
         ensures told { IsTold (K.ledger_of guarded.new.keeper) notes.new.reach (K.book_of guarded.new.keeper) }
         ensures left { HasLeft (gives self.now (AreTold O.tells)) (waits_on self.now (AreTold O.tells)) (runs self.now (AreTold O.tells))
             caller.worker (K.book_of guarded.old.keeper) (K.book_of guarded.new.keeper) notes.new.part result.0 }
-        ensures ends { EndsTurn (AreTold O.tells) caller.worker caller.promised (K.book_of guarded.old.keeper) (K.book_of guarded.new.keeper)
+        ensures ends { EndsTurn (AreTold O.tells) caller.worker caller.behind (K.book_of guarded.old.keeper) (K.book_of guarded.new.keeper)
             guarded.old.sleepers guarded.new.sleepers result.1 result.2 }
         // Whose turn isn't to be had again isn't noted as asleep.
         ensures awake { result.0 ≢ Came.Again → IsAwake caller.worker guarded.new.sleepers };
@@ -99,7 +100,7 @@ impl<T: Transform> Turn for Run<'_, T> {
     }
 
     #[inline]
-    fn act<O: Offers, K: Keeper>(
+    fn act<O: Offers, K: Runner>(
         &self,
         guarded: &mut Guarded<O, K>,
         caller: Caller,
@@ -130,7 +131,7 @@ impl<Q: Question> Turn for Ask<'_, Q> {
     }
 
     #[inline]
-    fn act<O: Offers, K: Keeper>(
+    fn act<O: Offers, K: Runner>(
         &self,
         guarded: &mut Guarded<O, K>,
         caller: Caller,
@@ -168,7 +169,7 @@ where
     }
 
     #[inline]
-    fn act<O: Offers, K: Keeper>(
+    fn act<O: Offers, K: Runner>(
         &self,
         guarded: &mut Guarded<O, K>,
         caller: Caller,
@@ -205,13 +206,17 @@ where
     }
 
     #[inline]
-    fn act<O: Offers, K: Keeper>(
+    fn act<O: Offers, K: Runner>(
         &self,
         guarded: &mut Guarded<O, K>,
         caller: Caller,
         notes: &mut Notes,
     ) -> (Came<Followed<Q::Answer>>, Wakes, Wakes) {
-        let (ran, wakes) = guarded.run_held(caller, notes, self.transform);
+        let first = Caller {
+            behind: Then::Decides,
+            ..caller
+        };
+        let (ran, wakes) = guarded.run_held(first, notes, self.transform);
         match came_of(ran) {
             Came::Done(true) => {
                 let (came, later) = guarded.decide_held(

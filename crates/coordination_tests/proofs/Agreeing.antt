@@ -1,18 +1,18 @@
 -- A pass that asked agrees with what it saw before.
-use Rattle.std.proofs.Common.{◌≡◌, ◌≢◌, Bool, false, Result, Ok, Err, refl, sym, subst}
+use Rattle.std.proofs.Common.{◌≡◌, ◌≢◌, false, Result, Ok, Err, refl, sym, subst}
 use Rattle.std.specs.Prelude.{IfOk}
 use Rattle.resource_lock.specs.declared.ids.WorkerId.{WorkerId}
 use Rattle.lock_journal.specs.BookView.{BookView}
 use Rattle.coordination.specs.Agrees.{Agrees}
 use Rattle.coordination.specs.Calls.{AskedInVain, IsAnswered}
-use Rattle.coordination.specs.Offered.{AreTold}
+use Rattle.coordination.specs.Offered.{AreTold, Telling}
 use Rattle.coordination.specs.declared.halts.Halt.{Halt}
 use Rattle.coordination.specs.declared.halts.Halt.TheVariants.{NoMemory, Stopped}
 use Rattle.coordination.specs.declared.rule.Sight.{Sight}
 
 -- what a service tells that has no offers
-abbrev pub NothingTold : Bool → Type 0
-NothingTold = AreTold {O = Unit {0}} (λ offers queued. queued ≡ false)
+abbrev pub NothingTold : Telling
+NothingTold = AreTold {O = Unit {0}} (λ offers book queued. queued ≡ false)
 
 -- a question leaves a book that agrees with what was seen, whatever it comes to
 pub ask_agrees : {A : Type 0} (answers : WorkerId → BookView → A → Type 0) (waits : WorkerId → BookView → Type 0) (old new : Sight) (r : Result A Halt)

@@ -16,6 +16,10 @@ mod giving_tests;
 #[cfg(test)]
 mod lease_service_tests;
 #[cfg(test)]
+mod planned_rows;
+#[cfg(test)]
+mod planned_tests;
+#[cfg(test)]
 mod services;
 #[cfg(test)]
 mod skipping_tests;

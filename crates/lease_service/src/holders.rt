@@ -9,7 +9,7 @@ ghost use Rattle.coordination.specs.Shown.{ShowsTheSame, blocked_shown, claimed_
 ghost use Rattle.lease_service.specs.Shows.{MayTake, ShowsGivenBack, ShowsTaken};
 ghost use Rattle.lease_service.specs.declared.holders.Tried.TheVariants.{Got, Busy};
 
-use coordination::{Coordination, Halt, Keeper, Offers, Pass};
+use coordination::{Coordination, Halt, Runner, Offers, Pass};
 use lock_transforms::kinds::{Acquire, HandBack, Shortage};
 use resource_lock::LockId;
 use std::alloc::AllocError;
@@ -27,7 +27,7 @@ pub enum Tried {
 /// Takes a lease, where the worker has none, and waits until it can.
 ///
 /// Otherwise as `take_locks` with no locks.
-pub fn run_as_worker<R: Wait, O: Offers, K: Keeper>(
+pub fn run_as_worker<R: Wait, O: Offers, K: Runner>(
     rt: &R,
     service: &Coordination<O, K>,
     pass: &mut Pass,
@@ -51,7 +51,7 @@ pub fn run_as_worker<R: Wait, O: Offers, K: Keeper>(
 /// `Stopped` comes only where it had to wait: where the worker was kept from one of the locks, since
 /// another owned one that conflicts with it, or it had no lease and as many as may be were out. After it, and after `NoMemory`, the worker has
 /// what it had.
-pub fn take_locks<R: Wait, O: Offers, K: Keeper>(
+pub fn take_locks<R: Wait, O: Offers, K: Runner>(
     rt: &R,
     service: &Coordination<O, K>,
     pass: &mut Pass,
@@ -83,7 +83,7 @@ pub fn take_locks<R: Wait, O: Offers, K: Keeper>(
 /// are out. After `Busy` the worker has what it had.
 ///
 /// It waits for the state lock alone, and fails for want of memory alone.
-pub fn try_take_locks<R: Wait, O: Offers, K: Keeper>(
+pub fn try_take_locks<R: Wait, O: Offers, K: Runner>(
     rt: &R,
     service: &Coordination<O, K>,
     pass: &mut Pass,
@@ -114,7 +114,7 @@ pub fn try_take_locks<R: Wait, O: Offers, K: Keeper>(
 ///
 /// It waits for the state lock alone, and fails for want of memory alone. The worker then has what
 /// it had.
-pub fn hand_back<R: Wait, O: Offers, K: Keeper>(
+pub fn hand_back<R: Wait, O: Offers, K: Runner>(
     rt: &R,
     service: &Coordination<O, K>,
     pass: &mut Pass,

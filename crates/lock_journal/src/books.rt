@@ -7,7 +7,7 @@ ghost use Rattle.resource_lock.specs.Good.{Good};
 ghost use Rattle.resource_lock.specs.Marks.{has_ended};
 ghost use Rattle.resource_lock.specs.Opening.{opening_of};
 ghost use Rattle.resource_lock.specs.Shape.{BelongsTo};
-ghost use Rattle.ready_work.specs.Choices.{CanSkip, CanStart, IsOpenUnit};
+ghost use Rattle.ready_work.specs.Choices.{CanSkip, CanStart, IsOpenUnit, IsQueued, has_queued};
 ghost use Rattle.ready_work.specs.Lowest.{IsFrom, IsLowest, IsNone};
 ghost use Rattle.lock_journal.specs.BookView.{begun};
 ghost use Rattle.lock_transforms.specs.Entry.{replay};
@@ -180,6 +180,33 @@ impl Book {
         ensures none { IfNone result (IsNone (IsFrom from (IsOpenUnit self.now.graph self.now.state))) }
     {
         self.ready.first_open_unit(from)
+    }
+
+    /// Has the index tell the lowest queued unit in a few steps from now on (`lowest_queued`). It fails for want of memory alone, and
+    /// the book is as before then too.
+    pub fn keep_queued(&mut self, alloc: Global) -> Result<(), AllocError>
+        ensures { self.new ≡ self.old }
+    {
+        self.ready
+            .keep_queued(alloc, self.tentative.graph(), self.tentative.state())
+    }
+
+    /// The lowest unit that is queued. It takes a few steps behind `keep_queued`, and else one for each unit of the graph.
+    pub fn lowest_queued(&self) -> Option<u32>
+        ensures some { IfSome result (IsLowest (IsQueued self.now.graph self.now.state)) }
+        ensures none { IfNone result (IsNone (IsQueued self.now.graph self.now.state)) }
+    {
+        self.ready
+            .first_queued(self.tentative.graph(), self.tentative.state())
+    }
+
+    /// Whether a unit is queued. It takes as many steps as `lowest_queued`.
+    pub fn has_queued(&self) -> bool
+        ensures { result ≡ has_queued self.now.state }
+    {
+        // Of the state, that it has a mark for each unit of the graph.
+        let _ = self.state();
+        self.lowest_queued().is_some()
     }
 
     /// The lowest task that can be skipped: it waits, and one that it comes after failed or was

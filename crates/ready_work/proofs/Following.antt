@@ -1,9 +1,10 @@
 -- What holds of units, tasks and locks that changes don't touch, and the index as it follows changes.
-use Rattle.std.proofs.Common.{◌≡◌, ℕ, zero, suc, ◌+◌, ◌<◌, ◌≤◌, not, List, [], ◌∷◌, length, get_or, set, drop, None, Some, refl, sym, ap, ◌∙◌, subst, arith, ◌⊎◌, inl, inr}
+use Rattle.std.proofs.Common.{◌≡◌, ℕ, zero, suc, ◌+◌, ◌<◌, ◌≤◌, not, List, [], ◌∷◌, length, get_or, set, drop, None, Some, Vec, Global, refl, sym, ap, ◌∙◌, subst, arith, ◌⊎◌, inl, inr}
 use Rattle.std.specs.Prelude.{◌↔◌}
 use Rattle.std.specs.List.{AllByRecursion}
 use Rattle.std.proofs.lemmas.Bool.{cases_eq}
 use Rattle.std.proofs.lemmas.List.{drop_all, drop_more, get_or-set_other}
+use Rattle.std.proofs.lemmas.Option.{IfSome_then}
 use Rattle.resource_lock.specs.Change.{NamesOnly, make, make_all}
 use Rattle.resource_lock.specs.GraphView.{GraphView}
 use Rattle.resource_lock.specs.Marks.{has_ended, has_fallen, has_passed}
@@ -13,21 +14,22 @@ use Rattle.resource_lock.specs.declared.changes.Change.{Change}
 use Rattle.resource_lock.specs.declared.changes.Change.TheVariants.{Lock, Unlock, Take, Give, Move, Park, Unpark, Enter, Leave}
 use Rattle.resource_lock.specs.declared.ids.LockId.{LockId}
 use Rattle.resource_lock.specs.declared.ids.WorkerId.{WorkerId}
+use Rattle.resource_lock.specs.declared.marks.Mark.{Mark}
 use Rattle.resource_lock.specs.declared.marks.Mark.TheVariants.{Waiting}
 use Rattle.resource_lock.specs.declared.marks.MarkId.TheVariants.{Task as TaskOf, Action as ActionOf, Unit as UnitOf}
 use Rattle.resource_lock.proofs.lemmas.Runs.{all_named_along, same_shape-make_all}
 use Rattle.ready_work.specs.Rank.{Dependencies, after}
-use Rattle.ready_work.specs.Choices.{CanSkip, IsFree, IsStartable, IsOpenUnit, IsUnended}
+use Rattle.ready_work.specs.Choices.{CanSkip, IsFree, IsQueued, IsStartable, IsOpenUnit, IsUnended}
 use Rattle.ready_work.specs.Dependents.{AreDependents}
 use Rattle.ready_work.specs.ReadyWork.{Follows, IsIndexBut, IsIndexOf, Lead, Notes, TouchLock, TouchTask, TouchUnit, TouchesLock, TouchesTask, TouchesUnit}
-use Rattle.ready_work.specs.Sets.{Looks, NoNumber}
+use Rattle.ready_work.specs.Sets.{Looks, LooksWhereKept, NoNumber}
 use Rattle.ready_work.specs.TaskSets.{CanSkipByCount, IsCountedAt, IsStartableByCount, IsUnendedIn, LooksAt, MovesTasks, NotesTask}
 use Rattle.ready_work.specs.declared.ready_works.ReadyWork.{ReadyWork}
 use Rattle.ready_work.specs.declared.dependency_counts.DependencyCounts.{DependencyCounts}
 use Rattle.ready_work.specs.declared.task_sets.TaskSets.{TaskSets}
 use Rattle.ready_work.proofs.ByCount.{skip_by_count, startable_by_count, task_sets_by_count, unended_in}
 use Rattle.ready_work.proofs.Counting.{counts_put}
-use Rattle.ready_work.proofs.Looking.{looks_fewer, looks_nowhere, set_looked, set_moved, set_moves}
+use Rattle.ready_work.proofs.Looking.{kept_looked, kept_looks_nowhere, kept_room, looks_fewer, looks_nowhere, set_looked, set_moved, set_moves}
 use Rattle.ready_work.proofs.TaskLooks.{looks_at_fewer, looks_at_nowhere, looks_move}
 
 -- ---- units
@@ -123,6 +125,9 @@ locks_same s w (c ∷ cs) k = at (lock_same s w c k) (locks_same (make s w c) w 
 same_open : (g : GraphView) (r s : StateView) (u : ℕ) → mark_of s (UnitOf u) ≡ mark_of r (UnitOf u) → IsOpenUnit g r u ↔ IsOpenUnit g s u
 same_open g r s u same = (λ o. record { within = o.within; unended = ap has_ended same ∙ o.unended }, λ o. record { within = o.within; unended = ap has_ended (sym same) ∙ o.unended })
 
+same_queued : (g : GraphView) (r s : StateView) (u : ℕ) → mark_of s (UnitOf u) ≡ mark_of r (UnitOf u) → IsQueued g r u ↔ IsQueued g s u
+same_queued g r s u same = (λ q. record { within = q.within; queued = same ∙ q.queued }, λ q. record { within = q.within; queued = sym same ∙ q.queued })
+
 -- a task by its counts, which are the same in both states
 same_skip : (r s : StateView) (fallen : DependencyCounts) (t : ℕ) → length s.tasks ≡ length r.tasks → mark_of s (TaskOf t) ≡ mark_of r (TaskOf t) → CanSkipByCount r fallen t → CanSkipByCount s fallen t
 same_skip r s fallen t size same p = let lt = p.within in record { within = omega (arith, lt, size); waits = same ∙ p.waits; some = p.some }
@@ -177,6 +182,7 @@ pub index_open : (g : GraphView) (before : StateView) (w : WorkerId) (changes : 
 index_open g before w changes s ready f = record {
   made = f.index.made;
   open_units = set_moved (IsOpenUnit g before) (IsOpenUnit g s) (TouchUnit changes) ready.open_units (λ u. or_same (same_open g before s u) (spare.units u)) f.index.open_units;
+  queued = IfSome_then ready.queued f.index.queued (λ set. set_moved (IsQueued g before) (IsQueued g s) (TouchUnit changes) set (λ u. or_same (same_queued g before s u) (spare.units u)));
   tasks = record {
     skippable = set_moved (CanSkip g before) (CanSkipByCount s ready.tasks.fallen) (TouchTask changes) ready.tasks.skippable (λ t. or_same (skip t) (spare.tasks t)) f.index.tasks.skippable;
     startable = set_moved (IsStartable g before) (IsStartableByCount s ready.tasks.unpassed) (TouchTask changes) ready.tasks.startable.tasks (λ t. or_same (startable t) (spare.tasks t)) f.index.tasks.startable;
@@ -211,6 +217,7 @@ pub index_closed : (g : GraphView) (s : StateView) (ready : ReadyWork) → Belon
 index_closed g s ready belongs is = record {
   made = is.made;
   open_units = is.open_units;
+  queued = is.queued;
   tasks = task_sets_by_count g s ready.tasks is.made.fits belongs.tasks is.made.dependency_counts is.counted is.tasks;
   counted = is.counted;
   free = is.free;
@@ -224,6 +231,7 @@ looked_at_lock : (g : GraphView) (s : StateView) (c : Change) (lock : LockId) (o
 looked_at_lock g s c lock old new no_unit no_task own same free tasks = record {
   dependents = ap (λ (r : ReadyWork). r.dependents) same;
   open_units = subst (Looks (IsOpenUnit g s) (TouchesUnit c) old.open_units) (sym (ap (λ (r : ReadyWork). r.open_units) same)) (looks_nowhere (IsOpenUnit g s) (TouchesUnit c) old.open_units no_unit);
+  queued = subst (LooksWhereKept (IsQueued g s) (TouchesUnit c) old.queued) (sym (ap (λ (r : ReadyWork). r.queued) same)) (kept_looks_nowhere (IsQueued g s) (TouchesUnit c) old.queued no_unit);
   tasks = looks_move g s (TouchesTask c) old.tasks new.tasks no_task (looks_at_fewer s NoNumber (TouchesTask c) old.tasks new.tasks no_task tasks);
   free = looks_fewer (IsFree g s) (λ l. l ≡ lock.0) (TouchesLock c) old.tasks.startable.free new.tasks.startable.free own free;
 }
@@ -251,12 +259,14 @@ next_looked g s c cs old new notes is = record {
     fits = is.made.fits;
     dependents = subst (λ all. AreDependents g all) (sym notes.dependents) is.made.dependents;
     units = let a = is.made.units in let b = notes.open_units.room in omega arith;
+    queued_units = kept_room (IsQueued g s) (TouchesUnit c) g.units old.queued new.queued notes.queued is.made.queued_units;
     tasks = notes.tasks.room (length g.tasks) is.made.tasks;
     dependency_counts = notes.tasks.dependency_counts is.made.dependency_counts;
     locks = let a = is.made.locks in let b = notes.free.room in omega arith;
     task_locks = notes.tasks.locks ∙ is.made.task_locks;
   };
   open_units = set_looked (IsOpenUnit g s) (TouchUnit (c ∷ cs)) (TouchesUnit c) (TouchUnit cs) old.open_units new.open_units (λ u touched. touched) notes.open_units is.open_units;
+  queued = kept_looked (IsQueued g s) (TouchUnit (c ∷ cs)) (TouchesUnit c) (TouchUnit cs) old.queued new.queued (λ u touched. touched) notes.queued is.queued;
   tasks = record {
     skippable = set_moves (CanSkipByCount s old.tasks.fallen) (CanSkipByCount s new.tasks.fallen) (TouchTask (c ∷ cs)) (TouchesTask c) (TouchTask cs) old.tasks.skippable new.tasks.skippable (λ t touched. touched) notes.tasks.skippable is.tasks.skippable;
     startable = set_moves (IsStartableByCount s old.tasks.unpassed) (IsStartableByCount s new.tasks.unpassed) (TouchTask (c ∷ cs)) (TouchesTask c) (TouchTask cs) old.tasks.startable.tasks new.tasks.startable.tasks (λ t touched. touched) notes.tasks.startable is.tasks.startable;
@@ -303,3 +313,14 @@ noted_task g s all task old new are notes = record {
 -- no task's mark moved
 pub no_task_noted : (g : GraphView) (s : StateView) (Seen : ℕ → Type 0) (sets : TaskSets) → ((k : ℕ) → Seen k → ⊥) → MovesTasks g s Seen sets sets
 no_task_noted g s Seen sets none = looks_move g s Seen sets sets none (looks_at_nowhere s Seen sets none)
+
+-- a unit was looked at, and nothing else
+pub noted_unit : (g : GraphView) (s : StateView) (u : ℕ) (from to : Mark) (old new : ReadyWork) → new ≡ record old { open_units = new.open_units; queued = new.queued } → Looks (IsOpenUnit g s) (λ k. k ≡ u) old.open_units new.open_units → LooksWhereKept (IsQueued g s) (λ k. k ≡ u) old.queued new.queued → Notes g s (Move (UnitOf u) from to) old new
+noted_unit g s u from to old new same open' queued = record {
+  dependents = ap (λ (r : ReadyWork). r.dependents) same;
+  open_units = open';
+  queued = queued;
+  tasks = subst (MovesTasks g s (TouchesTask (Move (UnitOf u) from to)) old.tasks) (sym (ap (λ (r : ReadyWork). r.tasks) same)) (no_task_noted g s (TouchesTask (Move (UnitOf u) from to)) old.tasks (λ k t. t));
+  free = subst (λ (sets : TaskSets). Looks (IsFree g s) (TouchesLock (Move (UnitOf u) from to)) old.tasks.startable.free sets.startable.free) (sym (ap (λ (r : ReadyWork). r.tasks) same))
+      (looks_nowhere (IsFree g s) (TouchesLock (Move (UnitOf u) from to)) old.tasks.startable.free (λ k t. t));
+}

@@ -10,6 +10,7 @@ pub mod TaskLooks
 pub mod ByCount
 pub mod Opening
 pub mod Following
+pub mod QueuedUnits
 pub mod Unowned
 pub mod Heads
 pub mod lemmas

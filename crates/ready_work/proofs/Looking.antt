@@ -1,9 +1,9 @@
 -- Sets of numbers of which something holds, as numbers are looked at.
 use Rattle.std.proofs.Common.{◌≡◌, ◌≢◌, ℕ, ◌+◌, ◌<◌, ◌≤◌, Bool, true, false, refl, sym, ap, ◌∙◌, subst, arith, ◌⊎◌, inl, inr}
-use Rattle.std.specs.Prelude.{◌↔◌}
+use Rattle.std.specs.Prelude.{◌↔◌, IfSome, Option, None, Some}
 use Rattle.std.proofs.lemmas.Bool.{cases_eq, true≢false}
 use Rattle.ready_work.specs.NumberSetView.{NumberSetView, has, room_of}
-use Rattle.ready_work.specs.Sets.{IsRightAt, IsSetOf, IsSetBelow, Looks, Moves, NoNumber, SameNumbers}
+use Rattle.ready_work.specs.Sets.{IsRightAt, IsSetOf, IsSetBelow, Looks, LooksWhereKept, Moves, NoNumber, PutsWhereKept, SameNumbers}
 
 -- one number was put where it belongs
 pub looks_put : (P : ℕ → Type 0) (t : ℕ) (b : Bool) (old new : NumberSetView) → room_of new ≡ room_of old → has new t ≡ b → ((k : ℕ) → k ≢ t → has new k ≡ has old k) → ((b ≡ true) ↔ P t) → Looks P (λ k. k ≡ t) old new
@@ -88,6 +88,30 @@ set_moved P Q Open set same is = record { each = λ k. at k (same k) (is.each k)
     at k (inl open') _ = inl open'
     at k (inr eq) (inl none) = absurd none
     at k (inr eq) (inr right) = inr (λ h. eq.0 (right.0 h), λ q. right.1 (eq.1 q))
+
+-- ---- a set that is kept or isn't
+
+pub kept_looks_nowhere : (P Seen : ℕ → Type 0) (set : Option NumberSetView) → ((k : ℕ) → Seen k → ⊥) → LooksWhereKept P Seen set set
+kept_looks_nowhere P Seen None none = tt
+kept_looks_nowhere P Seen (Some set) none = looks_nowhere P Seen set none
+
+pub kept_put : (P : ℕ → Type 0) (t : ℕ) (b : Bool) (old new : Option NumberSetView) → PutsWhereKept t b old new → ((b ≡ true) ↔ P t) → LooksWhereKept P (λ k. k ≡ t) old new
+kept_put P t b None None puts means = tt
+kept_put P t b None (Some new) puts means = absurd puts
+kept_put P t b (Some old) None puts means = absurd puts
+kept_put P t b (Some old) (Some new) puts means = looks_put P t b old new puts.0 puts.1 puts.2 means
+
+pub kept_looked : (P Before Seen After : ℕ → Type 0) (old new : Option NumberSetView) → ((k : ℕ) → Before k → Seen k ⊎ After k) → LooksWhereKept P Seen old new → IfSome old (IsSetOf P Before) → IfSome new (IsSetOf P After)
+kept_looked P Before Seen After None None cover looks is = tt
+kept_looked P Before Seen After None (Some new) cover looks is = absurd looks
+kept_looked P Before Seen After (Some old) None cover looks is = tt
+kept_looked P Before Seen After (Some old) (Some new) cover looks is = set_looked P Before Seen After old new cover looks is
+
+pub kept_room : (P Seen : ℕ → Type 0) (n : ℕ) (old new : Option NumberSetView) → LooksWhereKept P Seen old new → IfSome old (λ set. n ≤ room_of set) → IfSome new (λ set. n ≤ room_of set)
+kept_room P Seen n None None looks enough = tt
+kept_room P Seen n None (Some new) looks enough = absurd looks
+kept_room P Seen n (Some old) None looks enough = tt
+kept_room P Seen n (Some old) (Some new) looks enough = let room = looks.room in omega (arith, enough)
 
 -- ---- what holds of numbers changes too
 

@@ -1,5 +1,5 @@
 -- The index of what can be done next, and how it follows changes.
-use Rattle.std.specs.Prelude.{ℕ, ◌≡◌, ◌≤◌, ◌⊎◌, true, List, [], ◌∷◌, length, map}
+use Rattle.std.specs.Prelude.{ℕ, ◌≡◌, ◌≤◌, ◌⊎◌, true, List, [], ◌∷◌, length, map, IfSome}
 use Rattle.std.specs.List.{AllByRecursion}
 use Rattle.resource_lock.specs.Change.{NamesOnly, can_all, make_all}
 use Rattle.resource_lock.specs.Fits.{Fits}
@@ -10,10 +10,10 @@ use Rattle.resource_lock.specs.declared.changes.Change.{Change}
 use Rattle.resource_lock.specs.declared.changes.Change.TheVariants.{Lock, Move, Unlock}
 use Rattle.resource_lock.specs.declared.ids.WorkerId.{WorkerId}
 use Rattle.resource_lock.specs.declared.marks.MarkId.TheVariants.{Task as TaskOf, Unit as UnitOf}
-use Rattle.ready_work.specs.Choices.{IsFree, IsOpenUnit}
+use Rattle.ready_work.specs.Choices.{IsFree, IsOpenUnit, IsQueued}
 use Rattle.ready_work.specs.Dependents.{AreDependents}
 use Rattle.ready_work.specs.NumberSetView.{room_of}
-use Rattle.ready_work.specs.Sets.{IsSetOf, Looks, NoNumber}
+use Rattle.ready_work.specs.Sets.{IsSetOf, Looks, LooksWhereKept, NoNumber}
 use Rattle.ready_work.specs.TaskSets.{AreCounted, AreSetsByCount, AreTaskSets, HasDependencyCounts, HasTaskRoom, MovesTasks}
 use Rattle.ready_work.specs.declared.ready_works.ReadyWork.{ReadyWork}
 
@@ -22,15 +22,17 @@ pub record IsMadeFor (g : GraphView) (ready : ReadyWork) : Type 0 where
   pub fits : Fits g
   pub dependents : AreDependents g ready.dependents
   pub units : g.units ≤ room_of ready.open_units
+  pub queued_units : IfSome ready.queued (λ set. g.units ≤ room_of set)
   pub tasks : HasTaskRoom (length g.tasks) ready.tasks
   pub dependency_counts : HasDependencyCounts g ready.tasks
   pub locks : g.locks ≤ room_of ready.tasks.startable.free
   pub task_locks : ready.tasks.startable.locks ≡ map (λ t. t.lock.0) g.tasks
 
--- The index is that of the graph and the state.
+-- The index is that of the graph and the state, with the units that are queued or without them.
 pub record IsIndexOf (g : GraphView) (s : StateView) (ready : ReadyWork) : Type 0 where
   pub made : IsMadeFor g ready
   pub open_units : IsSetOf (IsOpenUnit g s) NoNumber ready.open_units
+  pub queued : IfSome ready.queued (IsSetOf (IsQueued g s) NoNumber)
   pub tasks : AreTaskSets g s ready.tasks
   pub counted : AreCounted s NoNumber ready.tasks
   pub free : IsSetOf (IsFree g s) NoNumber ready.tasks.startable.free
@@ -39,6 +41,7 @@ pub record IsIndexOf (g : GraphView) (s : StateView) (ready : ReadyWork) : Type 
 pub record IsIndexBut (g : GraphView) (s : StateView) (OpenUnits OpenTasks OpenLocks : ℕ → Type 0) (ready : ReadyWork) : Type 0 where
   pub made : IsMadeFor g ready
   pub open_units : IsSetOf (IsOpenUnit g s) OpenUnits ready.open_units
+  pub queued : IfSome ready.queued (IsSetOf (IsQueued g s) OpenUnits)
   pub tasks : AreSetsByCount s OpenTasks ready.tasks
   pub counted : AreCounted s OpenTasks ready.tasks
   pub free : IsSetOf (IsFree g s) OpenLocks ready.tasks.startable.free
@@ -76,6 +79,7 @@ TouchLock (c ∷ cs) k = TouchesLock c k ⊎ TouchLock cs k
 pub record Notes (g : GraphView) (s : StateView) (c : Change) (old new : ReadyWork) : Type 0 where
   pub dependents : new.dependents ≡ old.dependents
   pub open_units : Looks (IsOpenUnit g s) (TouchesUnit c) old.open_units new.open_units
+  pub queued : LooksWhereKept (IsQueued g s) (TouchesUnit c) old.queued new.queued
   pub tasks : MovesTasks g s (TouchesTask c) old.tasks new.tasks
   pub free : Looks (IsFree g s) (TouchesLock c) old.tasks.startable.free new.tasks.startable.free
 

@@ -2,7 +2,7 @@
 ghost use Rattle.std.specs.Prelude.{◌≡◌, ◌↔◌, ◌<◌, IsTrue, None, false, length};
 ghost use Rattle.resource_lock.specs.Marks.{has_ended};
 ghost use Rattle.resource_lock.specs.StateView.{mark_of, owner_of};
-ghost use Rattle.resource_lock.specs.declared.marks.Mark.TheVariants.{Waiting};
+ghost use Rattle.resource_lock.specs.declared.marks.Mark.TheVariants.{Queued, Waiting};
 ghost use Rattle.ready_work.specs.Closed.{closed_lock};
 ghost use Rattle.resource_lock.specs.declared.marks.MarkId.TheVariants as ids;
 
@@ -14,6 +14,14 @@ pub(crate) fn is_open(state: &State, unit: u32) -> bool
     ensures { IsTrue result ↔ (has_ended (mark_of state.now (ids.Unit unit)) ≡ false) }
 {
     !state.mark(MarkId::Unit(unit)).has_ended()
+}
+
+/// Whether a unit is queued.
+pub(crate) fn is_queued(state: &State, unit: u32) -> bool
+    requires { unit < length state.now.units }
+    ensures { IsTrue result ↔ (mark_of state.now (ids.Unit unit) ≡ Queued) }
+{
+    state.mark(MarkId::Unit(unit)) == Mark::Queued
 }
 
 /// Whether a task with this mark can be skipped where so many of those that it comes after failed or were skipped.

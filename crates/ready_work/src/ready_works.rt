@@ -6,14 +6,14 @@ ghost use Rattle.resource_lock.specs.Marks.{has_ended};
 ghost use Rattle.resource_lock.specs.Shape.{BelongsTo};
 ghost use Rattle.resource_lock.specs.StateView.{StateView, IsLockOf};
 ghost use Rattle.resource_lock.specs.declared.ids.WorkerId.{WorkerId};
-ghost use Rattle.ready_work.specs.Choices.{CanSkip, CanStart, IsFree, IsOpenUnit};
+ghost use Rattle.ready_work.specs.Choices.{CanSkip, CanStart, IsFree, IsOpenUnit, IsQueued};
 ghost use Rattle.ready_work.specs.Lowest.{IsFrom, IsLowest, IsNone};
 ghost use Rattle.ready_work.specs.NumberSetView.{room_of};
 ghost use Rattle.ready_work.specs.ReadyWork.{Follows, IsIndexOf, IsMadeFor, Notes};
-ghost use Rattle.ready_work.specs.Sets.{IsSetOf, Looks, NoNumber, SameNumbers};
+ghost use Rattle.ready_work.specs.Sets.{IsSetOf, Looks, LooksWhereKept, NoNumber, PutsWhereKept, SameNumbers};
 ghost use Rattle.ready_work.specs.TaskSets.{LooksAt, MovesTasks};
 
-use crate::choices::{closed_lock, is_free, is_open};
+use crate::choices::{closed_lock, is_free, is_open, is_queued};
 use crate::dependents::all_dependents;
 use crate::number_lists::NumberLists;
 use crate::number_sets::NumberSet;
@@ -22,18 +22,20 @@ use resource_lock::{Change, Graph, LockId, MarkId, State};
 use std::alloc::{AllocError, Global};
 
 /// The tasks that can be skipped or started, and the units and tasks that haven't ended, of a graph
-/// and its state. It takes memory only when it is made.
+/// and its state, and the units that are queued where these are asked for. It takes memory only when it is made.
 #[derive(Drop)]
 pub struct ReadyWork {
     tasks: TaskSets,
     /// The units that haven't ended.
     open_units: NumberSet,
+    /// The units that are queued, where they are asked for.
+    queued: Option<NumberSet>,
     /// For each task, the tasks that come after it.
     dependents: NumberLists,
 }
 
 impl ReadyWork {
-    /// The index of a graph and its state.
+    /// The index of a graph and its state, without the units that are queued.
     pub fn of(alloc: Global, graph: &Graph, state: &State) -> Result<ReadyWork, AllocError>
         requires { BelongsTo graph.now state.now }
         ensures { IfOk result (IsIndexOf graph.now state.now) }
@@ -44,8 +46,26 @@ impl ReadyWork {
         Ok(ReadyWork {
             tasks,
             open_units,
+            queued: None,
             dependents,
         })
+    }
+
+    /// From now on the index has the units that are queued too, so that it tells the lowest of them in a few steps. It fails for
+    /// want of memory alone, and is as it was then.
+    pub fn keep_queued(
+        &mut self,
+        alloc: Global,
+        graph: &Graph,
+        state: &State,
+    ) -> Result<(), AllocError>
+        requires belongs { BelongsTo graph.now state.now }
+        requires index { IsIndexOf graph.now state.now self.old }
+        ensures { IsIndexOf graph.now state.now self.new }
+    {
+        let queued = queued_units(alloc, graph, state)?;
+        self.queued = Some(queued);
+        Ok(())
     }
 
     /// Follows changes of a worker, from the state before them to this one after them, or, where they
@@ -66,6 +86,19 @@ impl ReadyWork {
         ensures none { (g : GraphView) (s : StateView) → IsIndexOf g s self.now → IfNone result (IsNone (IsFrom from (IsOpenUnit g s))) }
     {
         self.open_units.next_from(from)
+    }
+
+    /// The lowest unit that is queued. Where the index doesn't have those units, it looks at each unit of the graph.
+    pub fn first_queued(&self, graph: &Graph, state: &State) -> Option<u32>
+        requires belongs { BelongsTo graph.now state.now }
+        requires index { IsIndexOf graph.now state.now self.now }
+        ensures some { IfSome result (IsLowest (IsQueued graph.now state.now)) }
+        ensures none { IfNone result (IsNone (IsQueued graph.now state.now)) }
+    {
+        match &self.queued {
+            Some(queued) => queued.first(),
+            None => look_for_queued(graph, state),
+        }
     }
 
     /// The lowest task that can be skipped.
@@ -110,14 +143,26 @@ impl ReadyWork {
         ensures { Notes graph.now state.now change.now self.old self.new }
     {
         match *change {
-            Change::Move(MarkId::Unit(unit), _, _) => {
-                let is_open = is_open(state, unit);
-                self.open_units.put(unit, is_open);
-            }
+            Change::Move(MarkId::Unit(unit), _, _) => self.note_unit(state, unit),
             Change::Move(MarkId::Task(task), _, _) => self.note_task(graph, state, task),
             Change::Lock(lock) | Change::Unlock(lock) => self.note_lock(state, lock),
             _ => {}
         }
+    }
+
+    // Looks at a unit whose mark has moved.
+    fn note_unit(&mut self, state: &State, unit: u32)
+        requires within { unit < length state.now.units }
+        requires room { unit < room_of self.old.open_units }
+        requires queued_room { IfSome self.old.queued (λ set. unit < room_of set) }
+        ensures open_units { (g : GraphView) → BelongsTo g state.now
+            → Looks (IsOpenUnit g state.now) (λ u. u ≡ unit) self.old.open_units self.new.open_units }
+        ensures queued { (g : GraphView) → BelongsTo g state.now
+            → LooksWhereKept (IsQueued g state.now) (λ u. u ≡ unit) self.old.queued self.new.queued }
+        ensures same { self.new ≡ record self.old { open_units = self.new.open_units; queued = self.new.queued } }
+    {
+        self.open_units.put(unit, is_open(state, unit));
+        put_where_kept(&mut self.queued, unit, is_queued(state, unit));
     }
 
     // Looks at a lock that was taken or given back.
@@ -159,4 +204,41 @@ fn open_units(alloc: Global, graph: &Graph, state: &State) -> Result<NumberSet, 
         unended.put(unit, is_open(state, unit));
     }
     Ok(unended)
+}
+
+// Makes a number a member of a set, or none, where there is the set.
+fn put_where_kept(set: &mut Option<NumberSet>, number: u32, is_member: bool)
+    requires { IfSome set.old (λ kept. number < room_of kept) }
+    ensures { PutsWhereKept number is_member set.old set.new }
+{
+    if let Some(kept) = set {
+        kept.put(number, is_member);
+    }
+}
+
+// The units that are queued.
+fn queued_units(alloc: Global, graph: &Graph, state: &State) -> Result<NumberSet, AllocError>
+    requires { BelongsTo graph.now state.now }
+    ensures set { IfOk result (IsSetOf (IsQueued graph.now state.now) NoNumber) }
+    ensures room { IfOk result (λ set. graph.now.units ≤ room_of set) }
+{
+    let mut queued = NumberSet::new(alloc, graph.units())?;
+    for unit in 0..graph.units() {
+        queued.put(unit, is_queued(state, unit));
+    }
+    Ok(queued)
+}
+
+// The lowest unit that is queued, by the marks of all units.
+fn look_for_queued(graph: &Graph, state: &State) -> Option<u32>
+    requires { BelongsTo graph.now state.now }
+    ensures some { IfSome result (IsLowest (IsQueued graph.now state.now)) }
+    ensures none { IfNone result (IsNone (IsQueued graph.now state.now)) }
+{
+    for unit in 0..graph.units() {
+        if is_queued(state, unit) {
+            return Some(unit);
+        }
+    }
+    None
 }

@@ -1,1 +1,2 @@
 pub mod OpenItems
+pub mod Parked

@@ -12,12 +12,12 @@ use Rattle.ready_work.specs.Choices.{IsOpenUnit}
 use Rattle.ready_work.specs.Lowest.{IsFrom, IsLowest, IsNone}
 
 -- the number is the first of a range of which a test holds
-record IsFirst (p : ℕ → Bool) (first u : ℕ) : Type 0 where
-  from : first ≤ u
-  holds : p u ≡ true
-  before : (k : ℕ) → first ≤ k → k < u → p k ≡ false
+pub record IsFirst (p : ℕ → Bool) (first u : ℕ) : Type 0 where
+  pub from : first ≤ u
+  pub holds : p u ≡ true
+  pub before : (k : ℕ) → first ≤ k → k < u → p k ≡ false
 
-found_in : (p : ℕ → Bool) (first n u : ℕ) → IsFirst p first u → u < first + n → Some u ≡ find p (range_with_len first n)
+pub found_in : (p : ℕ → Bool) (first n u : ℕ) → IsFirst p first u → u < first + n → Some u ≡ find p (range_with_len first n)
 found_in p first zero u is below = let from = is.from in absurd (omega arith)
 found_in p first (suc n) u is below = at (cases_eq u first) (λ past. found_in p (first + 1) n u (record { from = past; holds = is.holds; before = λ k le lt. is.before k (omega arith) lt }) (omega arith))
   where
@@ -27,7 +27,7 @@ found_in p first (suc n) u is below = at (cases_eq u first) (λ past. found_in p
         let from = is.from in
         rw (is.before first (omega arith) (omega arith)) (later (omega arith))
 
-none_in : (p : ℕ → Bool) (first n : ℕ) → ((k : ℕ) → first ≤ k → k < first + n → p k ≡ false) → None ≡ find p (range_with_len first n)
+pub none_in : (p : ℕ → Bool) (first n : ℕ) → ((k : ℕ) → first ≤ k → k < first + n → p k ≡ false) → None ≡ find p (range_with_len first n)
 none_in p first zero none = refl
 none_in p first (suc n) none = rw (none first (omega arith) (omega arith)) (none_in p (first + 1) n (λ k le lt. none k (omega arith) (omega arith)))
 

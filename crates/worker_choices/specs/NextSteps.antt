@@ -3,7 +3,7 @@ use Rattle.std.specs.Prelude.{ℕ, ◌≡◌, ◌<◌, Bool, true, false, not, �
 use Rattle.std.specs.Prelude.{length, slice_get}
 use Rattle.resource_lock.specs.GraphView.{GraphView, action_of}
 use Rattle.resource_lock.specs.Ranges.{items_of, lock_with}
-use Rattle.resource_lock.specs.StateView.{StateView, kept_from, mark_of, owner_of}
+use Rattle.resource_lock.specs.StateView.{StateView, holding_of, kept_from, mark_of, owner_of}
 use Rattle.resource_lock.specs.Trying.{can_lease}
 use Rattle.resource_lock.specs.declared.graphs.Retention.{Retention}
 use Rattle.resource_lock.specs.declared.graphs.Retention.TheVariants.{Retain, Release, ReleaseAndReacquire}
@@ -13,9 +13,10 @@ use Rattle.resource_lock.specs.declared.marks.MarkId.TheVariants.{Unit as UnitOf
 use Rattle.ready_work.specs.Choices.{CanSkip, CanStart}
 use Rattle.ready_work.specs.Lowest.{IsNone}
 use Rattle.lock_transforms.specs.Table.{has_ended}
+use Rattle.lock_transforms.specs.Taking.{can_take_all}
 use Rattle.lock_journal.specs.Marks.{IsEnded}
 use Rattle.worker_choices.specs.declared.awaited.Awaited.{Awaited}
-use Rattle.worker_choices.specs.declared.awaited.Awaited.TheVariants.{Work, Items}
+use Rattle.worker_choices.specs.declared.awaited.Awaited.TheVariants.{Work, Items, TakeUp}
 use Rattle.worker_choices.specs.declared.stances.Stance.{Stance}
 use Rattle.worker_choices.specs.declared.stances.Stance.TheVariants.{Sleeps}
 
@@ -55,10 +56,15 @@ pub record HasToWait (g : GraphView) (w : WorkerId) (s : StateView) (queued : Bo
   pub waits : CanGoOn g w s a → ⊥
   pub pop : can_pop w s queued ≡ false
 
+-- the worker can have all locks that it has parked, and a lease
+abbrev pub can_take_up : WorkerId → StateView → Bool
+can_take_up w s = can_take_all s w (holding_of s w).parked
+
 -- What a worker waits for isn't there, where a ticket is queued or none. Units of its own are tickets to it.
 abbrev pub Waits : GraphView → WorkerId → StateView → Bool → Awaited → Type 0
 Waits g w s queued Work = HasNothingToDo g w s queued
 Waits g w s queued (Items a own) = a < length g.actions → HasToWait g w s (queued || own) a
+Waits g w s queued TakeUp = can_take_up w s ≡ false
 
 -- each worker below a number that sleeps until what it waits for comes still waits for it
 abbrev pub StillWait : GraphView → StateView → Bool → List Stance → ℕ → Type 0

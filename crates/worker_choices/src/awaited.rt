@@ -15,4 +15,6 @@ pub enum Awaited {
         /// Whether the worker has units of its own, which it takes as it takes a ticket.
         own: bool,
     },
+    /// All locks that the worker has parked, and a lease.
+    TakeUp,
 }

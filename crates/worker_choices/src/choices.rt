@@ -4,7 +4,7 @@ ghost use Rattle.worker_choices.specs.Choices.{IsNext, IsNextParked};
 ghost use Rattle.worker_choices.specs.NextSteps.{HasNothingToDo, HasToWait, Waits};
 
 use crate::awaited::Awaited;
-use crate::next_steps::{all_ended, can_go_on, can_pop, task_to_start};
+use crate::next_steps::{all_ended, can_go_on, can_pop, can_take_up, task_to_start};
 use lock_journal::Book;
 use resource_lock::WorkerId;
 
@@ -81,5 +81,6 @@ pub fn has_come(book: &Book, worker: WorkerId, queued: bool, awaited: Awaited) -
             (action as usize) < book.graph().actions().len()
                 && next_of_parked(book, worker, queued || own, action).is_some()
         }
+        Awaited::TakeUp => can_take_up(book, worker),
     }
 }

@@ -1,17 +1,19 @@
 //! What a worker can do next, by the index of the book.
-ghost use Rattle.std.specs.Prelude.{◌≡◌, ◌<◌, ◌↔◌, ◌&&◌, not, IfNone, IfSome, IsTrue, None, All, is_none, length};
+ghost use Rattle.std.specs.Prelude.{◌≡◌, ◌<◌, ◌↔◌, ◌&&◌, not, true, IfNone, IfSome, IsTrue, None, All, is_none, length};
+ghost use Rattle.std.specs.List.{list_all};
 ghost use Rattle.resource_lock.specs.GraphView.{action_of, task_of};
 ghost use Rattle.resource_lock.specs.Ranges.{lock_with};
-ghost use Rattle.resource_lock.specs.StateView.{kept_from, owner_of};
-ghost use Rattle.resource_lock.specs.Trying.{can_lease};
+ghost use Rattle.resource_lock.specs.StateView.{IsLockOf, holding_of, kept_from, owner_of, stands_in};
+ghost use Rattle.resource_lock.specs.declared.ids.LockId.{LockId};
+ghost use Rattle.resource_lock.specs.Trying.{can_lease, can_own};
 ghost use Rattle.ready_work.specs.Lowest.{IsLowest, IsNone};
 ghost use Rattle.lock_journal.specs.Marks.{IsEnded};
-ghost use Rattle.worker_choices.specs.NextSteps.{CanBegin, CanGoOn, can_pop, can_take_again, first_open};
+ghost use Rattle.worker_choices.specs.NextSteps.{CanBegin, CanGoOn, can_pop, can_take_again, can_take_up, first_open};
 
 use crate::open_items::first_open;
 use lock_journal::Book;
 use lock_transforms::kinds::action_of;
-use resource_lock::{Retention, WorkerId};
+use resource_lock::{Retention, State, WorkerId};
 
 /// Whether the worker has a lease or could take one.
 pub fn lease_is_free(book: &Book, worker: WorkerId) -> bool
@@ -58,6 +60,26 @@ pub fn can_go_on(book: &Book, worker: WorkerId, action: u32) -> bool
     ensures { IsTrue result ↔ CanGoOn book.now.graph worker book.now.state action }
 {
     is_over(book, action) && can_take_again(book, worker, action)
+}
+
+/// Whether the worker can take up what it has parked: it is kept from none of those locks, and a lease is free for it.
+pub fn can_take_up(book: &Book, worker: WorkerId) -> bool
+    requires { worker.0 < book.now.graph.workers }
+    ensures { result ≡ can_take_up worker book.now.state }
+{
+    all_can_be_owned(book.state(), worker) && lease_is_free(book, worker)
+}
+
+// Whether the worker is kept from none of the locks that it has parked.
+fn all_can_be_owned(state: &State, worker: WorkerId) -> bool
+    requires worker { worker.0 < length state.now.holdings }
+    requires locks { (l : LockId) → stands_in l (holding_of state.now worker).parked ≡ true → IsLockOf state.now l }
+    ensures { result ≡ list_all (can_own state.now worker) (holding_of state.now worker).parked }
+{
+    state
+        .parked(worker)
+        .iter()
+        .all(|lock| !state.kept_from(worker, *lock))
 }
 
 // Whether all items of an action have ended.

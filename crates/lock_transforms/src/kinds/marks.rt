@@ -39,7 +39,7 @@ pub(crate) fn units_passed(graph: &Graph, state: &State, action: u32) -> bool
 }
 
 /// Whether each earlier action of the same task has passed, and each of its units.
-pub(crate) fn earlier_passed(graph: &Graph, state: &State, action: u32) -> bool
+pub fn earlier_passed(graph: &Graph, state: &State, action: u32) -> bool
     requires belongs { BelongsTo graph.now state.now }
     requires in_range { action < length graph.now.actions }
     ensures { result ≡ earlier_passed graph.now state.now action }

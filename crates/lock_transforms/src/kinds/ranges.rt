@@ -9,8 +9,10 @@ use resource_lock::{Graph, GraphAction, LockId};
 
 /// Numbers in a row: so many from the first on.
 #[derive(Clone, Copy)]
-pub(crate) struct NumberRange {
+pub struct NumberRange {
+    /// The first.
     pub first: u32,
+    /// How many there are.
     pub count: u32,
     ghost fits: { first + count < 2 ^ 32 },
 }
@@ -34,7 +36,7 @@ pub(crate) fn after_of(graph: &Graph, task: u32) -> &[u32]
 }
 
 /// The actions of a task.
-pub(crate) fn actions_of(graph: &Graph, task: u32) -> NumberRange
+pub fn actions_of(graph: &Graph, task: u32) -> NumberRange
     requires { task < length graph.now.tasks }
     ensures first { result.first ≡ (task_of graph.now task).first_action }
     ensures count { result.count ≡ (task_of graph.now task).actions }

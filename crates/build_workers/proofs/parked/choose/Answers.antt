@@ -1,7 +1,7 @@
 use Rattle.std.proofs.Common.{◌<◌, IfOk, length, subst, sym, true}
 use Rattle.resource_lock.specs.GraphView.{GraphView}
 use Rattle.async_tracker.specs.Shows.{IsFree, IsParkedBy}
-use Rattle.build_workers.specs.Parked.{ShowsChoice}
+use Rattle.async_tracker.specs.ParkedSteps.{ShowsChoice}
 use Rattle.build_workers.proofs.lemmas.Results.{if_ok}
 use Rattle.build_workers.proofs.ParkedChoices.{Chosen, chosen, closes_choosing}
 use Rattle.build_workers.proofs.Stepping.{is_of, of_fields, step_from, step_moved, to_fields, with_pass}
@@ -44,4 +44,4 @@ returns-clause-shows g c =
     let decided = subst (λ a. IfOk c.decide.result (Chosen a own old new)) c.action-action.ensures c.decide.ensures.decided in
     let within = subst (λ (k : GraphView). p.action < length k.actions) (sym of.at.graph) c.requires.in_range in
     let done = chosen p own old new d (if_ok (Chosen p.action own old new) c.decide.result d c.in_ok-decided.was decided) within (to_fields (λ s. IsParkedBy s p) c.worker.view_is c.requires.parked) (to_fields IsFree c.worker.view_is c.requires.free) in
-    of_fields (λ s. ShowsChoice p.action s new c.choice_of.result) c.worker.view_is (subst (ShowsChoice p.action old new) (sym c.choice_of.ensures) done.1)
+    of_fields (λ s. ShowsChoice p.action s new c.parked_choice_of.result) c.worker.view_is (subst (ShowsChoice p.action old new) (sym c.parked_choice_of.ensures) done.1)

@@ -2,7 +2,7 @@ use Rattle.std.proofs.Common.{IfOk, subst, sym}
 use Rattle.coordination.specs.Shown.{ShowsTheSame}
 use Rattle.async_tracker.specs.Shows.{IsParkedBy}
 use Rattle.build_workers.specs.Helping.{HasRunBefore}
-use Rattle.build_workers.specs.Parked.{ShowsChoice}
+use Rattle.async_tracker.specs.ParkedSteps.{ShowsChoice}
 use Rattle.build_workers.specs.Points.{CanHelp}
 use Rattle.build_workers.specs.WorkerView.{IsOf, WorkerView}
 use Rattle.build_workers.proofs.ChosenBehind.{chosen_behind}
@@ -38,8 +38,8 @@ returns-clause-shows g c =
     let same = sym c.next_unit-unit.ensures in
     let p = c.args.parked.now in
     let own = c.has_own_units.result in
-    subst (λ (w : WorkerView). ShowsChoice p.action w.pass.sight left.new.worker.pass.sight c.choice_of.result) c.next_unit-unit.ensures
-    (subst (ShowsChoice p.action old.pass.sight left.new.worker.pass.sight) (sym c.choice_of.ensures)
+    subst (λ (w : WorkerView). ShowsChoice p.action w.pass.sight left.new.worker.pass.sight c.parked_choice_of.result) c.next_unit-unit.ensures
+    (subst (ShowsChoice p.action old.pass.sight left.new.worker.pass.sight) (sym c.parked_choice_of.ensures)
     (chosen_behind p own c.in_ok-decided.decided
     (if_ok (λ d. HasRunBefore c.args.site.now old left.new.worker ShowsTheSame (λ s. Chosen p.action own s left.new.worker.pass.sight d))
     left.result c.in_ok-decided.decided c.in_ok-decided.was

@@ -38,6 +38,6 @@ returns-clause-run g c =
       ran = ran_of (T.kind_of t) (T.makes t) (T.fails_on t) (T.retries_on t) c.args.worker (B c.args.keeper.now) (B c.run-ran.new.self) c.run-ran.result e.finished e.failed e.retry (λ x is. search rules);
       kept = subst (λ (b : BookView). IsPartOf b c.args.worker c.follow.new.self) c.book-book.ensures c.follow.ensures.part;
       room = subst (λ (b : BookView). HasListRoom b.graph.locks c.follow.new.self) c.book-book.ensures c.follow.ensures.room;
-      ends = subst (λ (p : Kind × BookView). EndsHold p.1 c.args.worker (stance_after c.args.sleepers.now.promised p.0 c.run-ran.result) (has_entered c.run-ran.result) c.args.sleepers.now
+      ends = subst (λ (p : Kind × BookView). EndsHold p.1 c.args.worker (stance_after c.args.sleepers.now.behind p.0 c.run-ran.result) (has_entered c.run-ran.result) c.args.sleepers.now
           c.end_transform-wakes.new.self c.end_transform-wakes.result) (λ i. (c.kind.ensures i, c.book-book.ensures i)) c.end_transform-wakes.ensures;
     }

@@ -1,5 +1,6 @@
 use Rattle.std.proofs.Common.{ap, inl, refl}
 use Rattle.coordination.proofs.Awake.{asked_awake}
+use Rattle.coordination.specs.Decisions.{awaits_if}
 use Rattle.coordination.specs.Offered.{AreTold, AsTold, WaitsAsTold}
 use Rattle.coordination.proofs.TurnKinds.{answered_left, answers_as_told, unanswered_left}
 use Rattle.coordination.proofs.Woken.{asked_woken}
@@ -13,7 +14,7 @@ returns-in-Some-clause-left g c =
     let h = c.ask_held-answer in
     let a = h.ensures.asked in
     answered_left (AsTold (AreTold g.O.Offers.tells) (Q.answers q)) (WaitsAsTold (AreTold g.O.Offers.tells) (Q.waits_on q)) c.args.caller.worker (B c.args.guarded.now.keeper) (B h.new.self.keeper) c.args.notes.now.part (ap B h.ensures.same) c.requires.part h.result.0
-    (answers_as_told (AreTold g.O.Offers.tells) (Q.answers q) (Q.waits_on q) a.queued (c.args.guarded.now.offers, a.told) c.args.caller.worker (B c.args.guarded.now.keeper) h.result.0 a.answer) c.in-Some.answer c.in-Some.is
+    (answers_as_told (AreTold g.O.Offers.tells) (Q.answers q) (Q.waits_on q) a.queued (λ book. (c.args.guarded.now.offers, a.told book)) c.args.caller.worker (B c.args.guarded.now.keeper) h.result.0 a.answer) c.in-Some.answer c.in-Some.is
 
 pub returns-in-None-clause-left : goal.returns-in-None-clause-left
 returns-in-None-clause-left g c =
@@ -23,7 +24,7 @@ returns-in-None-clause-left g c =
     let h = c.ask_held-answer in
     let a = h.ensures.asked in
     unanswered_left (AsTold (AreTold g.O.Offers.tells) (Q.answers q)) (WaitsAsTold (AreTold g.O.Offers.tells) (Q.waits_on q)) c.args.caller.worker (B c.args.guarded.now.keeper) (B h.new.self.keeper) c.args.notes.now.part (ap B h.ensures.same) c.requires.part h.result.0
-    (answers_as_told (AreTold g.O.Offers.tells) (Q.answers q) (Q.waits_on q) a.queued (c.args.guarded.now.offers, a.told) c.args.caller.worker (B c.args.guarded.now.keeper) h.result.0 a.answer) c.in-None.is
+    (answers_as_told (AreTold g.O.Offers.tells) (Q.answers q) (Q.waits_on q) a.queued (λ book. (c.args.guarded.now.offers, a.told book)) c.args.caller.worker (B c.args.guarded.now.keeper) h.result.0 a.answer) c.in-None.is
 
 pub returns-in-Some-clause-awake : goal.returns-in-Some-clause-awake
 returns-in-Some-clause-awake g c = λ ne.
@@ -31,7 +32,7 @@ returns-in-Some-clause-awake g c = λ ne.
     let q = c.args.self.now.question.now in
     let B = g.K.Keeper.book_of in
     let h = c.ask_held-answer in
-    asked_awake (Q.answers q) (Q.waits_on q) (Q.awaits q) (g.O.Offers.tells c.args.guarded.now.offers) c.args.caller.worker c.args.caller.promised c.args.caller.woken c.args.caller.apart (B c.args.guarded.now.keeper) c.args.guarded.now.sleepers h.new.self.sleepers h.result h.ensures.asked
+    asked_awake (Q.answers q) (Q.waits_on q) (awaits_if c.args.caller.sleeps (Q.awaits q)) (g.O.Offers.tells c.args.guarded.now.offers) c.args.caller.worker c.args.caller.behind c.args.caller.woken c.args.caller.apart (B c.args.guarded.now.keeper) c.args.guarded.now.sleepers h.new.self.sleepers h.result h.ensures.asked
     c.in-Some.answer c.in-Some.is
 
 pub returns-in-None-clause-awake : goal.returns-in-None-clause-awake
@@ -43,7 +44,7 @@ returns-in-Some-clause-ends g c =
     let q = c.args.self.now.question.now in
     let B = g.K.Keeper.book_of in
     let h = c.ask_held-answer in
-    inl (asked_woken g.O.Offers.tells c.args.guarded.now.offers c.args.caller.worker c.args.caller.promised (Q.answers q) (Q.waits_on q) (Q.awaits q) c.args.caller.woken c.args.caller.apart (B c.args.guarded.now.keeper) (B h.new.self.keeper) c.args.guarded.now.sleepers h.new.self.sleepers h.result (ap B h.ensures.same) h.ensures.asked, refl)
+    inl (c.args.caller.behind, inl refl, asked_woken g.O.Offers.tells c.args.guarded.now.offers c.args.caller.worker c.args.caller.behind (Q.answers q) (Q.waits_on q) (awaits_if c.args.caller.sleeps (Q.awaits q)) c.args.caller.woken c.args.caller.apart (B c.args.guarded.now.keeper) (B h.new.self.keeper) c.args.guarded.now.sleepers h.new.self.sleepers h.result (ap B h.ensures.same) h.ensures.asked, refl)
 
 pub returns-in-None-clause-ends : goal.returns-in-None-clause-ends
 returns-in-None-clause-ends g c =
@@ -51,4 +52,4 @@ returns-in-None-clause-ends g c =
     let q = c.args.self.now.question.now in
     let B = g.K.Keeper.book_of in
     let h = c.ask_held-answer in
-    inl (asked_woken g.O.Offers.tells c.args.guarded.now.offers c.args.caller.worker c.args.caller.promised (Q.answers q) (Q.waits_on q) (Q.awaits q) c.args.caller.woken c.args.caller.apart (B c.args.guarded.now.keeper) (B h.new.self.keeper) c.args.guarded.now.sleepers h.new.self.sleepers h.result (ap B h.ensures.same) h.ensures.asked, refl)
+    inl (c.args.caller.behind, inl refl, asked_woken g.O.Offers.tells c.args.guarded.now.offers c.args.caller.worker c.args.caller.behind (Q.answers q) (Q.waits_on q) (awaits_if c.args.caller.sleeps (Q.awaits q)) c.args.caller.woken c.args.caller.apart (B c.args.guarded.now.keeper) (B h.new.self.keeper) c.args.guarded.now.sleepers h.new.self.sleepers h.result (ap B h.ensures.same) h.ensures.asked, refl)

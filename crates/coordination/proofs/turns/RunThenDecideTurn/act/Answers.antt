@@ -8,6 +8,8 @@ use Rattle.coordination.specs.Turns.{HasLeft}
 use Rattle.coordination.specs.declared.turns.Came.TheVariants as came
 use Rattle.coordination.specs.Decisions.{awaits_if}
 use Rattle.coordination.specs.SleepAndWake.{HasWoken, IsAwake}
+use Rattle.coordination.specs.declared.sleepers.Then.{Then}
+use Rattle.coordination.specs.declared.sleepers.Then.TheVariants.{Decides}
 use Rattle.coordination.proofs.Awake.{decided_awake, run_awake}
 use Rattle.coordination.proofs.TurnKinds.{Anything, Retries, again_left, failed_left, followed_left, left_as_told, memory_left, part_again}
 use Rattle.coordination.proofs.Woken.{decided_woken, run_woken}
@@ -35,7 +37,7 @@ returns-in-Done-true-clause-left g c =
     let d = c.decide_held-came in
     let h = d.ensures.held in
     let tells = AreTold g.O.Offers.tells in
-    let told = left_as_told tells (Q.Question.answers q) (Q.Question.waits_on q) (Q.Decision.step_of q) X.kind_of X.makes X.fails_on X.retries_on h.queued (run.new.self.offers, h.told) c.not_sleeping.result.worker
+    let told = left_as_told tells (Q.Question.answers q) (Q.Question.waits_on q) (Q.Decision.step_of q) X.kind_of X.makes X.fails_on X.retries_on h.queued (λ book. (run.new.self.offers, h.told book)) c.not_sleeping.result.worker
     (B run.new.self.keeper) (B d.new.self.keeper) d.new.notes.part d.result.0 h.decided in
     let decided = subst (λ (w : WorkerId). HasLeft (DecideGives (AsTold tells (Q.Question.answers q)) (Q.Decision.step_of q) X.kind_of X.makes X.fails_on X.retries_on) (WaitsAsTold tells (Q.Question.waits_on q)) (HadStep (AsTold tells (Q.Question.answers q)) (Q.Decision.step_of q)) w
     (B run.new.self.keeper) (B d.new.self.keeper) d.new.notes.part d.result.0) c.not_sleeping.ensures.worker told in
@@ -89,7 +91,7 @@ returns-in-Done-true-clause-awake g c = λ ne.
     let d = c.decide_held-came in
     subst (λ (w : WorkerId). IsAwake w d.new.self.sleepers) c.not_sleeping.ensures.worker
     (decided_awake (Q.Question.answers q) (Q.Question.waits_on q) (awaits_if c.not_sleeping.result.sleeps (Q.Question.awaits q)) (Q.Decision.step_of q) X.kind_of X.makes X.fails_on X.retries_on c.not_sleeping.result.worker (g.O.Offers.tells c.run_held-ran.new.self.offers)
-    c.not_sleeping.result.promised c.not_sleeping.result.woken c.not_sleeping.result.apart (B c.run_held-ran.new.self.keeper) (B d.new.self.keeper) d.new.notes.part c.run_held-ran.new.self.sleepers d.new.self.sleepers d.result d.ensures.held
+    c.not_sleeping.result.behind c.not_sleeping.result.woken c.not_sleeping.result.apart (B c.run_held-ran.new.self.keeper) (B d.new.self.keeper) d.new.notes.part c.run_held-ran.new.self.sleepers d.new.self.sleepers d.result d.ensures.held
     (λ is. ap (λ (b : Bool). awaits_if b (Q.Question.awaits q)) c.not_sleeping.ensures.sleeps))
 
 pub returns-in-Done-false-clause-awake : goal.returns-in-Done-false-clause-awake
@@ -98,7 +100,7 @@ returns-in-Done-false-clause-awake g c = λ ne.
     let t = c.args.self.now.transform.now in
     let B = g.K.Keeper.book_of in
     let run = c.run_held-ran in
-    run_awake (T.kind_of t) (T.makes t) (T.fails_on t) (T.retries_on t) (g.O.Offers.tells c.args.guarded.now.offers) c.args.caller.worker c.args.caller.promised (B c.args.guarded.now.keeper) (B run.new.self.keeper) run.new.notes.part c.args.guarded.now.sleepers run.new.self.sleepers run.result run.ensures.held
+    run_awake (T.kind_of t) (T.makes t) (T.fails_on t) (T.retries_on t) (g.O.Offers.tells c.args.guarded.now.offers) c.args.caller.worker Decides c.args.caller.sleeps (B c.args.guarded.now.keeper) (B run.new.self.keeper) run.new.notes.part c.args.guarded.now.sleepers run.new.self.sleepers run.result run.ensures.held
 
 pub returns-in-NoMemory-clause-awake : goal.returns-in-NoMemory-clause-awake
 returns-in-NoMemory-clause-awake g c = λ ne.
@@ -106,7 +108,7 @@ returns-in-NoMemory-clause-awake g c = λ ne.
     let t = c.args.self.now.transform.now in
     let B = g.K.Keeper.book_of in
     let run = c.run_held-ran in
-    run_awake (T.kind_of t) (T.makes t) (T.fails_on t) (T.retries_on t) (g.O.Offers.tells c.args.guarded.now.offers) c.args.caller.worker c.args.caller.promised (B c.args.guarded.now.keeper) (B run.new.self.keeper) run.new.notes.part c.args.guarded.now.sleepers run.new.self.sleepers run.result run.ensures.held
+    run_awake (T.kind_of t) (T.makes t) (T.fails_on t) (T.retries_on t) (g.O.Offers.tells c.args.guarded.now.offers) c.args.caller.worker Decides c.args.caller.sleeps (B c.args.guarded.now.keeper) (B run.new.self.keeper) run.new.notes.part c.args.guarded.now.sleepers run.new.self.sleepers run.result run.ensures.held
 
 pub returns-in-Again-clause-awake : goal.returns-in-Again-clause-awake
 returns-in-Again-clause-awake g c = λ ne.
@@ -114,7 +116,7 @@ returns-in-Again-clause-awake g c = λ ne.
     let t = c.args.self.now.transform.now in
     let B = g.K.Keeper.book_of in
     let run = c.run_held-ran in
-    run_awake (T.kind_of t) (T.makes t) (T.fails_on t) (T.retries_on t) (g.O.Offers.tells c.args.guarded.now.offers) c.args.caller.worker c.args.caller.promised (B c.args.guarded.now.keeper) (B run.new.self.keeper) run.new.notes.part c.args.guarded.now.sleepers run.new.self.sleepers run.result run.ensures.held
+    run_awake (T.kind_of t) (T.makes t) (T.fails_on t) (T.retries_on t) (g.O.Offers.tells c.args.guarded.now.offers) c.args.caller.worker Decides c.args.caller.sleeps (B c.args.guarded.now.keeper) (B run.new.self.keeper) run.new.notes.part c.args.guarded.now.sleepers run.new.self.sleepers run.result run.ensures.held
 
 pub returns-in-Done-true-clause-ends : goal.returns-in-Done-true-clause-ends
 returns-in-Done-true-clause-ends g c =
@@ -127,13 +129,13 @@ returns-in-Done-true-clause-ends g c =
     let run = c.run_held-ran in
     let d = c.decide_held-came in
     let k = c.not_sleeping.result in
-    let later = decided_woken g.O.Offers.tells run.new.self.offers k.worker k.promised (Q.Question.answers q) (Q.Question.waits_on q) (awaits_if k.sleeps (Q.Question.awaits q)) (Q.Decision.step_of q) X.kind_of X.makes X.fails_on X.retries_on
+    let later = decided_woken g.O.Offers.tells run.new.self.offers k.worker k.behind (Q.Question.answers q) (Q.Question.waits_on q) (awaits_if k.sleeps (Q.Question.awaits q)) (Q.Decision.step_of q) X.kind_of X.makes X.fails_on X.retries_on
     k.woken k.apart (B run.new.self.keeper) (B d.new.self.keeper) d.new.notes.part run.new.self.sleepers d.new.self.sleepers d.result d.ensures.held in
     inr (
       B run.new.self.keeper,
       run.new.self.sleepers,
-      run_woken g.O.Offers.tells c.args.guarded.now.offers c.args.caller.worker c.args.caller.promised (T.kind_of t) (T.makes t) (T.fails_on t) (T.retries_on t) (B c.args.guarded.now.keeper) (B run.new.self.keeper) run.new.notes.part c.args.guarded.now.sleepers run.new.self.sleepers run.result run.ensures.held,
-      subst (λ (p : WorkerId × Bool). HasWoken (AreTold g.O.Offers.tells) p.0 p.1 (B run.new.self.keeper) (B d.new.self.keeper) run.new.self.sleepers d.new.self.sleepers d.result.1) (λ i. (c.not_sleeping.ensures.worker i, c.not_sleeping.ensures.promised i)) later,
+      run_woken g.O.Offers.tells c.args.guarded.now.offers c.args.caller.worker Decides (T.kind_of t) (T.makes t) (T.fails_on t) (T.retries_on t) c.args.caller.sleeps (B c.args.guarded.now.keeper) (B run.new.self.keeper) run.new.notes.part c.args.guarded.now.sleepers run.new.self.sleepers run.result run.ensures.held,
+      subst (λ (p : WorkerId × Then). HasWoken (AreTold g.O.Offers.tells) p.0 p.1 (B run.new.self.keeper) (B d.new.self.keeper) run.new.self.sleepers d.new.self.sleepers d.result.1) (λ i. (c.not_sleeping.ensures.worker i, c.not_sleeping.ensures.behind i)) later,
     )
 
 pub returns-in-Done-false-clause-ends : goal.returns-in-Done-false-clause-ends
@@ -142,7 +144,7 @@ returns-in-Done-false-clause-ends g c =
     let t = c.args.self.now.transform.now in
     let B = g.K.Keeper.book_of in
     let run = c.run_held-ran in
-    inl (run_woken g.O.Offers.tells c.args.guarded.now.offers c.args.caller.worker c.args.caller.promised (T.kind_of t) (T.makes t) (T.fails_on t) (T.retries_on t) (B c.args.guarded.now.keeper) (B run.new.self.keeper) run.new.notes.part c.args.guarded.now.sleepers run.new.self.sleepers run.result run.ensures.held, refl)
+    inl (Decides, inr refl, run_woken g.O.Offers.tells c.args.guarded.now.offers c.args.caller.worker Decides (T.kind_of t) (T.makes t) (T.fails_on t) (T.retries_on t) c.args.caller.sleeps (B c.args.guarded.now.keeper) (B run.new.self.keeper) run.new.notes.part c.args.guarded.now.sleepers run.new.self.sleepers run.result run.ensures.held, refl)
 
 pub returns-in-NoMemory-clause-ends : goal.returns-in-NoMemory-clause-ends
 returns-in-NoMemory-clause-ends g c =
@@ -150,7 +152,7 @@ returns-in-NoMemory-clause-ends g c =
     let t = c.args.self.now.transform.now in
     let B = g.K.Keeper.book_of in
     let run = c.run_held-ran in
-    inl (run_woken g.O.Offers.tells c.args.guarded.now.offers c.args.caller.worker c.args.caller.promised (T.kind_of t) (T.makes t) (T.fails_on t) (T.retries_on t) (B c.args.guarded.now.keeper) (B run.new.self.keeper) run.new.notes.part c.args.guarded.now.sleepers run.new.self.sleepers run.result run.ensures.held, refl)
+    inl (Decides, inr refl, run_woken g.O.Offers.tells c.args.guarded.now.offers c.args.caller.worker Decides (T.kind_of t) (T.makes t) (T.fails_on t) (T.retries_on t) c.args.caller.sleeps (B c.args.guarded.now.keeper) (B run.new.self.keeper) run.new.notes.part c.args.guarded.now.sleepers run.new.self.sleepers run.result run.ensures.held, refl)
 
 pub returns-in-Again-clause-ends : goal.returns-in-Again-clause-ends
 returns-in-Again-clause-ends g c =
@@ -158,4 +160,4 @@ returns-in-Again-clause-ends g c =
     let t = c.args.self.now.transform.now in
     let B = g.K.Keeper.book_of in
     let run = c.run_held-ran in
-    inl (run_woken g.O.Offers.tells c.args.guarded.now.offers c.args.caller.worker c.args.caller.promised (T.kind_of t) (T.makes t) (T.fails_on t) (T.retries_on t) (B c.args.guarded.now.keeper) (B run.new.self.keeper) run.new.notes.part c.args.guarded.now.sleepers run.new.self.sleepers run.result run.ensures.held, refl)
+    inl (Decides, inr refl, run_woken g.O.Offers.tells c.args.guarded.now.offers c.args.caller.worker Decides (T.kind_of t) (T.makes t) (T.fails_on t) (T.retries_on t) c.args.caller.sleeps (B c.args.guarded.now.keeper) (B run.new.self.keeper) run.new.notes.part c.args.guarded.now.sleepers run.new.self.sleepers run.result run.ensures.held, refl)

@@ -18,7 +18,7 @@ returns-clause-awake g c = λ ne.
     let t = c.args.self.now.transform.now in
     let B = g.K.Keeper.book_of in
     let run = c.run_held-ran in
-    run_awake (T.kind_of t) (T.makes t) (T.fails_on t) (T.retries_on t) (g.O.Offers.tells c.args.guarded.now.offers) c.args.caller.worker c.args.caller.promised (B c.args.guarded.now.keeper) (B run.new.self.keeper) run.new.notes.part c.args.guarded.now.sleepers run.new.self.sleepers run.result run.ensures.held
+    run_awake (T.kind_of t) (T.makes t) (T.fails_on t) (T.retries_on t) (g.O.Offers.tells c.args.guarded.now.offers) c.args.caller.worker c.args.caller.behind c.args.caller.sleeps (B c.args.guarded.now.keeper) (B run.new.self.keeper) run.new.notes.part c.args.guarded.now.sleepers run.new.self.sleepers run.result run.ensures.held
 
 pub returns-clause-ends : goal.returns-clause-ends
 returns-clause-ends g c =
@@ -26,4 +26,4 @@ returns-clause-ends g c =
     let t = c.args.self.now.transform.now in
     let B = g.K.Keeper.book_of in
     let run = c.run_held-ran in
-    inl (run_woken g.O.Offers.tells c.args.guarded.now.offers c.args.caller.worker c.args.caller.promised (T.kind_of t) (T.makes t) (T.fails_on t) (T.retries_on t) (B c.args.guarded.now.keeper) (B run.new.self.keeper) run.new.notes.part c.args.guarded.now.sleepers run.new.self.sleepers run.result run.ensures.held, refl)
+    inl (c.args.caller.behind, inl refl, run_woken g.O.Offers.tells c.args.guarded.now.offers c.args.caller.worker c.args.caller.behind (T.kind_of t) (T.makes t) (T.fails_on t) (T.retries_on t) c.args.caller.sleeps (B c.args.guarded.now.keeper) (B run.new.self.keeper) run.new.notes.part c.args.guarded.now.sleepers run.new.self.sleepers run.result run.ensures.held, refl)

@@ -15,8 +15,8 @@ use Rattle.coordination.specs.declared.decisions.Decided.{Decided}
 use Rattle.coordination.specs.declared.decisions.Decided.TheVariants as decided
 use Rattle.coordination.specs.declared.rule.Sight.{Sight}
 use Rattle.async_tracker.specs.Shows.{ShowsResumed}
-use Rattle.build_workers.specs.declared.parked.ParkedAnswer.{ParkedAnswer}
-use Rattle.build_workers.specs.declared.parked.ParkedAnswer.TheVariants.{Resume, Pop}
+use Rattle.async_tracker.specs.declared.parked_steps.ParkedAnswer.{ParkedAnswer}
+use Rattle.async_tracker.specs.declared.parked_steps.ParkedAnswer.TheVariants.{Resume, Pop}
 
 -- a unit of the action has failed
 abbrev pub has_failed : GraphView → StateView → ℕ → Bool

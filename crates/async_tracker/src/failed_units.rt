@@ -1,13 +1,13 @@
 //! What the state of a book has ready for its workers.
 ghost use Rattle.std.specs.Prelude.{◌≡◌, ◌<◌, length};
-ghost use Rattle.build_workers.specs.Parked.{has_failed};
+ghost use Rattle.async_tracker.specs.ParkedSteps.{has_failed};
 
 use lock_journal::Book;
 use lock_transforms::kinds::action_of;
 use resource_lock::{Mark, MarkId};
 
 /// Whether a unit of an action has failed.
-pub(crate) fn has_failed(book: &Book, action: u32) -> bool
+pub fn has_failed(book: &Book, action: u32) -> bool
     requires { action < length book.now.graph.actions }
     ensures { result ≡ has_failed book.now.graph book.now.state action }
 {

@@ -1,0 +1,41 @@
+-- The steps of workers whose items wait in the book.
+use Rattle.std.specs.Prelude.{◌≡◌, ◌≢◌, ◌<◌, ◌≤◌, false, Some, length}
+use Rattle.resource_lock.specs.GraphView.{GraphView}
+use Rattle.resource_lock.specs.StateView.{StateView, mark_of}
+use Rattle.resource_lock.specs.declared.ids.WorkerId.{WorkerId}
+use Rattle.resource_lock.specs.declared.marks.Mark.TheVariants.{Queued}
+use Rattle.resource_lock.specs.declared.marks.MarkId.TheVariants.{Unit as UnitOf}
+use Rattle.lock_transforms.specs.Allowed.{IsDisabled, IsUnmet}
+use Rattle.lock_transforms.specs.Table.{is_enabled}
+use Rattle.lock_transforms.specs.declared.entries.Kind.{Kind}
+use Rattle.lock_transforms.specs.declared.entries.Kind.TheVariants as kinds
+use Rattle.async_tracker.specs.declared.work_steps.WorkStep.{WorkStep}
+use Rattle.async_tracker.specs.declared.work_steps.WorkStep.TheVariants.{Start, Skip, Claim, Resume, Fetch, Submit, Park, End}
+
+abbrev pub kind_of_work : WorkStep → Kind
+kind_of_work (Start t) = kinds.Start t
+kind_of_work (Skip t) = kinds.Skip t
+kind_of_work (Claim u) = kinds.Claim u
+kind_of_work (Resume a) = kinds.Resume a
+kind_of_work (Fetch u) = kinds.Block (Some u)
+kind_of_work (Submit a) = kinds.Submit a
+kind_of_work (Park a) = kinds.Park a
+kind_of_work (End t) = kinds.End t
+
+-- where a step fails, as its transform does
+abbrev pub FailsAt : WorkStep → GraphView → WorkerId → StateView → Type 0
+FailsAt (Start t) g w s = is_enabled g s w (kinds.Start t) ≡ false
+FailsAt (Skip t) g w s = is_enabled g s w (kinds.Skip t) ≡ false
+FailsAt (Claim u) g w s = mark_of s (UnitOf u) ≢ Queued
+FailsAt _ g w s = ⊥
+
+-- where it asks to be run again
+abbrev pub RetriesAt : WorkStep → GraphView → WorkerId → StateView → Type 0
+RetriesAt (Start t) g w s = length g.tasks ≤ t
+RetriesAt (Skip t) g w s = length g.tasks ≤ t
+RetriesAt (Claim u) g w s = u < g.units → (mark_of s (UnitOf u) ≡ Queued) × (is_enabled g s w (kinds.Claim u) ≡ false)
+RetriesAt (Resume a) g w s = IsDisabled (kinds.Resume a) g w s
+RetriesAt (Fetch u) g w s = IsUnmet (kinds.Block (Some u)) g w s
+RetriesAt (Submit a) g w s = IsDisabled (kinds.Submit a) g w s
+RetriesAt (Park a) g w s = IsDisabled (kinds.Park a) g w s
+RetriesAt (End t) g w s = IsDisabled (kinds.End t) g w s
