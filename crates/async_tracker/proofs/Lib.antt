@@ -6,5 +6,8 @@ pub mod NextSteps
 pub mod QueuedItems
 pub mod AfterEnding
 pub mod AfterClosing
-pub mod NextWork
+pub mod QueuedClaims
 pub mod TaskMoves
+pub mod TaskActions
+pub mod TaskEnds
+pub mod AtOnce

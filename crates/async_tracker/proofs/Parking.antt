@@ -41,7 +41,7 @@ use Rattle.lock_journal.proofs.lemmas.Owned.{owned_there, stands_in_owned}
 use Rattle.lock_journal.proofs.lemmas.Claims.{action_claimed, any_with, has_member, task_runs}
 
 -- the worker works on the task in every state that it finds
-works_found : (old : Sight) (book : BookView) (t : ℕ) → Finds old.worker old.seen book → WorksOn old t → works_on book.state old.worker t ≡ true
+pub works_found : (old : Sight) (book : BookView) (t : ℕ) → Finds old.worker old.seen book → WorksOn old t → works_on book.state old.worker t ≡ true
 works_found old book t found works =
     let w : WorkerId = old.worker in
     let same = found.agrees.state in

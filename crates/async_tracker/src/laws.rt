@@ -1,10 +1,21 @@
-ghost use Rattle.std.specs.Prelude.{◌≡◌, ℕ, false};
+ghost use Rattle.std.specs.List.{list_any};
+ghost use Rattle.std.specs.Prelude.{◌≡◌, Some, false, true, ℕ};
+ghost use Rattle.resource_lock.specs.Fits.{Fits};
+ghost use Rattle.resource_lock.specs.GraphView.{action_of};
+ghost use Rattle.resource_lock.specs.Ranges.{lock_with};
 ghost use Rattle.resource_lock.specs.declared.graphs.Retention.{Retention};
 ghost use Rattle.resource_lock.specs.declared.ids.LockId.{LockId};
-ghost use Rattle.coordination.specs.Shown.{ShowsTheSame, lease_shown};
+ghost use Rattle.lock_journal.specs.BookView.{BookView};
+ghost use Rattle.lock_journal.specs.Own.{is_unit};
+ghost use Rattle.lock_transforms.specs.Table.{condition, is_enabled};
+ghost use Rattle.lock_transforms.specs.declared.entries.Kind.TheVariants as kinds;
+ghost use Rattle.coordination.specs.Agrees.{Finds};
+ghost use Rattle.coordination.specs.Shown.{ShowsTheSame, claimed_shown, lease_shown};
 ghost use Rattle.coordination.specs.declared.rule.Sight.{Sight};
 ghost use Rattle.async_tracker.specs.ParkedView.{ParkedView};
-ghost use Rattle.async_tracker.specs.Shows.{HasReleased, IsFree, IsIdleOrParked, IsParkedBy, ShowsClaimed, ShowsClosed};
+ghost use Rattle.async_tracker.specs.Shows.{HasReleased, IsFree, IsIdleOrParked, IsParkedBy, OwnsToPark, ShowsClaimed, ShowsClosed, WorksOn};
+ghost use Rattle.async_tracker.specs.TaskMoves.{IsNextInTask};
+ghost use Rattle.async_tracker.specs.declared.task_moves.TaskMove.TheVariants as moves;
 
 /// After an item was claimed and closed the pass shows what it showed before. So a worker that waits
 /// for an action can claim the next item, or resume.
@@ -14,4 +25,21 @@ pub fn closing_undoes_claiming()
     ensures parked { (a c : Sight) (p : ParkedView) → ShowsTheSame a c → IsParkedBy a p → IsParkedBy c p }
     ensures waits { (a c : Sight) → ShowsTheSame a c → IsIdleOrParked a → IsIdleOrParked c }
     ensures released { (r : Retention) (l : LockId) (a c : Sight) → ShowsTheSame a c → HasReleased r l a → HasReleased r l c }
+{}
+
+/// What `next_of_task` says that a worker with a lease does next in its task it can do at once, in the book that it was said of: it is
+/// neither disabled nor waits. To queue items the worker runs no unit, and to wait for them it owns the lock that it parks. Of the task's
+/// end, where it runs no unit either, this says that its condition holds: each action has passed, or never ran behind a unit that failed.
+pub fn next_moves_are_possible()
+    ensures fetch { (old : Sight) (book : BookView) (t u : ℕ) → Fits book.graph → Finds old.worker old.seen book → WorksOn old t
+        → IsNextInTask book.graph old.worker book.state t (moves.Fetch u) → is_enabled book.graph book.state old.worker (kinds.Block (Some u)) ≡ true }
+    ensures submit { (old : Sight) (book : BookView) (t a : ℕ) → Fits book.graph → Finds old.worker old.seen book → WorksOn old t
+        → list_any is_unit (claimed_shown old) ≡ false → IsNextInTask book.graph old.worker book.state t (moves.Submit a)
+        → is_enabled book.graph book.state old.worker (kinds.Submit a) ≡ true }
+    ensures park { (old : Sight) (book : BookView) (t a : ℕ) → Fits book.graph → Finds old.worker old.seen book → WorksOn old t
+        → OwnsToPark (action_of old.seen.graph a).retention (lock_with old.seen.graph a) old
+        → IsNextInTask book.graph old.worker book.state t (moves.Park a) → is_enabled book.graph book.state old.worker (kinds.Park a) ≡ true }
+    ensures end { (old : Sight) (book : BookView) (t : ℕ) → Fits book.graph → Finds old.worker old.seen book → WorksOn old t
+        → list_any is_unit (claimed_shown old) ≡ false → IsNextInTask book.graph old.worker book.state t moves.End
+        → condition book.graph book.state old.worker (kinds.End t) ≡ true }
 {}

@@ -25,7 +25,7 @@ pub use closing::{CloseHalt, close_then};
 pub use ending::end_and_take_next;
 pub use failed_units::has_failed;
 pub use items::{claim, close};
-pub use laws::closing_undoes_claiming;
+pub use laws::{closing_undoes_claiming, next_moves_are_possible};
 pub use next_steps::{WhatIsNext, choice_of, take_next};
 pub use next_work::{NextWork, ParkedWork, TakeNextWork, TakeParkedWork};
 pub use open_items::ready;

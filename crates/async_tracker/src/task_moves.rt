@@ -1,5 +1,5 @@
 //! What a worker does next that runs a task and isn't parked in it.
-ghost use Rattle.std.specs.Prelude.{◌≡◌, ◌<◌, None, length};
+ghost use Rattle.std.specs.Prelude.{◌≡◌, ◌<◌, IfSome, None, length};
 ghost use Rattle.async_tracker.specs.TaskMoves.{IsNextInTask, can_come, comes_with, first_to_come, step_of_move};
 
 use crate::work_steps::WorkStep;
@@ -63,7 +63,8 @@ fn come_with(book: &Book, action: u32) -> TaskMove
 // The first action of a task that can come next.
 fn first_to_come(book: &Book, task: u32) -> Option<u32>
     requires { task < length book.now.graph.tasks }
-    ensures { result ≡ first_to_come book.now.graph book.now.state task }
+    ensures first { result ≡ first_to_come book.now.graph book.now.state task }
+    ensures in_range { IfSome result (λ a. a < length book.now.graph.actions) }
 {
     let actions = actions_of(book.graph(), task);
     for action in actions.first..actions.first + actions.count {

@@ -5,7 +5,7 @@ ghost use Rattle.async_tracker.specs.WorkSteps.{FailsAt, RetriesAt, kind_of_work
 
 use lock_transforms::kinds::{Block, Claim, End, Park, Resume, Skip, Start, Submit};
 use lock_transforms::{Disposition, Kind, Tentative, Transform};
-use resource_lock::{Graph, State, WorkerId};
+use resource_lock::{Graph, LockId, State, WorkerId};
 
 /// The step of what a worker does next.
 #[derive(Clone, Copy, Drop)]
@@ -65,16 +65,16 @@ impl Transform for WorkStep {
         }
     }
 
-    fn apply(&self, work: &mut Tentative) -> Disposition {
+    fn apply(&self, work: &mut Tentative, own: &[LockId]) -> Disposition {
         match *self {
-            WorkStep::Start(task) => Start { task }.apply(work),
-            WorkStep::Skip(task) => Skip { task }.apply(work),
-            WorkStep::Claim(unit) => Claim { unit }.apply(work),
-            WorkStep::Resume(action) => Resume { action }.apply(work),
-            WorkStep::Fetch(unit) => Block { unit: Some(unit) }.apply(work),
-            WorkStep::Submit(action) => Submit { action }.apply(work),
-            WorkStep::Park(action) => Park { action }.apply(work),
-            WorkStep::End(task) => End { task }.apply(work),
+            WorkStep::Start(task) => Start { task }.apply(work, own),
+            WorkStep::Skip(task) => Skip { task }.apply(work, own),
+            WorkStep::Claim(unit) => Claim { unit }.apply(work, own),
+            WorkStep::Resume(action) => Resume { action }.apply(work, own),
+            WorkStep::Fetch(unit) => Block { unit: Some(unit) }.apply(work, own),
+            WorkStep::Submit(action) => Submit { action }.apply(work, own),
+            WorkStep::Park(action) => Park { action }.apply(work, own),
+            WorkStep::End(task) => End { task }.apply(work, own),
         }
     }
 

@@ -1,6 +1,6 @@
 -- What a worker shows once it has left a blocking section, and what it may wait for before.
 use Rattle.std.proofs.Common.{◌≡◌, ◌<◌, ℕ, zero, suc, true, false, length, List, [], ◌∷◌, ◌++◌, get_or, Option, None, Some, refl, sym, ap, ◌∙◌, arith}
-use Rattle.std.proofs.lemmas.Bool.{eq-eqb, false≢true, false_from_ne_true}
+use Rattle.std.proofs.lemmas.Bool.{eq-eqb, false≢true, false_from_ne_true, true_from_ne_false}
 use Rattle.resource_lock.specs.Change.{holding_after}
 use Rattle.resource_lock.specs.GraphView.{GraphView}
 use Rattle.resource_lock.specs.StateView.{Holding, StateView, holding_of, mark_of, stands_in, IsWorkerOf}
@@ -16,10 +16,11 @@ use Rattle.resource_lock.proofs.lemmas.Runs.{worker_from}
 use Rattle.item_actions.specs.declared.outcomes.Outcome.{Outcome}
 use Rattle.lock_transforms.specs.Allowed.{IsDisabled, IsFixedList}
 use Rattle.lock_journal.specs.BookView.{BookView}
-use Rattle.lock_transforms.specs.Table.{list_of, mark_from}
+use Rattle.lock_transforms.specs.Table.{is_enabled, list_of, mark_from}
 use Rattle.lock_transforms.specs.Taking.{can_take_all, rises}
 use Rattle.lock_transforms.specs.declared.entries.Kind.TheVariants.{Unblock}
 use Rattle.lock_journal.specs.OwnChanges.{after_all, claimed_after, locks_after, mark_before, with_if, without_if}
+use Rattle.worker_choices.specs.NextSteps.{can_take_up}
 use Rattle.coordination.specs.Agrees.{Finds}
 use Rattle.coordination.specs.Calls.{HasFinished}
 use Rattle.coordination.specs.Shown.{claimed_shown, locks_shown, parked_shown}
@@ -114,3 +115,9 @@ can_not_take_up b outcome old book found own fits disabled = at b.unit outcome f
         false≢true (sym (off (there, fit)) ∙ leaves_for book.graph book.state old.worker (record { unit = u; outcome = o }) worker (good_sound book found.sound) blocked runs free))
     at None (Some o) fit has off = absurd fit
     at (Some u) None fit has off = absurd fit
+
+-- Where all that was given back can be had the way out is open at once, on the book of which that was said: the step of `TakeUp` can finish.
+pub takes_up_at_once : (b : BlockedView) (outcome : Option Outcome) (old : Sight) (book : BookView) → Finds old.worker old.seen book → IsGivenBackBy old b → FitsUnit b.unit outcome
+    → can_take_up old.worker book.state ≡ true → is_enabled book.graph book.state old.worker (Unblock (closed_with b.unit outcome)) ≡ true
+takes_up_at_once b outcome old book found own fits free =
+    true_from_ne_false (is_enabled book.graph book.state old.worker (Unblock (closed_with b.unit outcome))) (λ off. false≢true (sym (can_not_take_up b outcome old book found own fits (λ kind. off)) ∙ free))

@@ -113,10 +113,10 @@ module _ (tells : Telling) (w : WorkerId) (behind : Then) where
 
   ran_woken : {E : Type 0} (kind : Kind) (makes : Making) (fails retries : Cause) (old new : BookView) (s s' : Sleepers) (r : Result Disposition E) (wakes : Wakes) (queued : Queued) → (asleep s.stances ≡ 0) ⊎ TellsQueued tells queued → (left : Sleepers)
       → Ran kind makes fails retries w old new r → EndsHold new w (stance_after behind kind r) (has_entered r) (begun queued behind s) left wakes → SleepOn left s' → HasWoken tells w behind old new s s' wakes
-  ran_woken kind makes fails retries old new s s' (Ok Finished) wakes queued told left ran ends on = entered_woken old new s s' wakes queued false (stance_after behind kind (Ok Finished)) (told_after s queued kind (Ok Finished) told) left (longer old new _ ran.1.history) ends on
-  ran_woken kind makes fails retries old new s s' (Ok Failed) wakes queued told left ran ends on = entered_woken old new s s' wakes queued false (stance_after behind kind (Ok Failed)) (told_after s queued kind (Ok Failed) told) left (longer old new _ ran.history) ends on
-  ran_woken kind makes fails retries old new s s' (Ok Retry) wakes queued told left ran ends on = quiet_woken old new s s' wakes queued false Away (told_after s queued kind (Ok Retry) told) left ran.history ends on
-  ran_woken kind makes fails retries old new s s' (Err e) wakes queued told left ran ends on = quiet_woken old new s s' wakes queued false Away (told_after s queued kind (Err e) told) left ran.history ends on
+  ran_woken {E} kind makes fails retries old new s s' (Ok Finished) wakes queued told left ran ends on = entered_woken old new s s' wakes queued false (stance_after {E = E} behind kind (Ok Finished)) (told_after {E = E} s queued kind (Ok Finished) told) left (longer old new _ ran.1.history) ends on
+  ran_woken {E} kind makes fails retries old new s s' (Ok Failed) wakes queued told left ran ends on = entered_woken old new s s' wakes queued false (stance_after {E = E} behind kind (Ok Failed)) (told_after {E = E} s queued kind (Ok Failed) told) left (longer old new _ ran.history) ends on
+  ran_woken {E} kind makes fails retries old new s s' (Ok Retry) wakes queued told left ran ends on = quiet_woken old new s s' wakes queued false Away (told_after {E = E} s queued kind (Ok Retry) told) left ran.history ends on
+  ran_woken {E} kind makes fails retries old new s s' (Err e) wakes queued told left ran ends on = quiet_woken old new s s' wakes queued false Away (told_after {E = E} s queued kind (Err e) told) left ran.history ends on
 
 -- what is told of these offers is told of some
 some_told : {O : Type 0} (tells : O → Telling) (offers : O) (s : Sleepers) (queued : Queued) → (asleep s.stances ≡ 0) ⊎ TellsQueued (tells offers) queued → (asleep s.stances ≡ 0) ⊎ TellsQueued (AreTold tells) queued

@@ -66,7 +66,8 @@ stance_entered behind kind false = looks_if (looks_behind_answers behind)
 -- How a decision ended its hold: as its question where there is no step, and else as its step.
 abbrev pub EndsDecision : {A X : Type 0} → BookView → WorkerId → Option Awaited → (A → Option X) → (X → Kind)
     → Sleepers → Sleepers → Wakes → Came (Decided A) → Type 0
-EndsDecision book w awaits step_of kind_of old new wakes (came.Done (decided.Answered a)) = EndsHold book w (looks_if (looks_behind_answers old.behind)) false old new wakes
+EndsDecision book w awaits step_of kind_of old new wakes (came.Done (decided.Answered a)) =
+    EndsHold book w (looks_if (looks_behind_answers old.behind)) false old new wakes
 EndsDecision book w awaits step_of kind_of old new wakes (came.Done (decided.Entered a b)) =
     IfSome (step_of a) (λ x. EndsHold book w (stance_entered old.behind (kind_of x) b) true old new wakes)
 EndsDecision book w awaits step_of kind_of old new wakes (came.Done (decided.Waiting a)) = EndsHold book w Away false old new wakes

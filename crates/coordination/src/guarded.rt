@@ -170,7 +170,8 @@ impl<O: Offers, K: Runner> Guarded<O, K> {
         ensures same { self.new.keeper ≡ self.old.keeper }
         ensures told { IsTold (K.ledger_of self.new.keeper) reach.new (K.book_of self.new.keeper) }
         ensures asked { HasAsked (Q.answers question.now) (Q.waits_on question.now) (awaits_if caller.sleeps (Q.awaits question.now))
-            (O.tells self.old.offers) caller.worker caller.behind caller.woken caller.apart (K.book_of self.old.keeper) self.old.sleepers self.new.sleepers result }
+            (O.tells self.old.offers) caller.worker caller.behind caller.woken caller.apart
+            (K.book_of self.old.keeper) self.old.sleepers self.new.sleepers result }
     {
         let queued = self.offers.queued();
         self.sleepers

@@ -4,7 +4,8 @@ ghost use Rattle.coordination.specs.declared.outside_work.Queued.TheVariants as 
 ghost use Rattle.coordination.specs.declared.sleepers.Then.TheVariants as thens;
 ghost use Rattle.worker_choices.specs.declared.stances.Stance.TheVariants as stance;
 ghost use Rattle.coordination.specs.Decisions.{noted_deciding};
-ghost use Rattle.coordination.specs.SleepAndWake.{EndsHold, begun, comes_again, goes_to_work, has_entered, is_a_step, looks_behind_answers, looks_if, stance_after, stance_asking, woken_if};
+ghost use Rattle.coordination.specs.SleepAndWake.{EndsHold, begun, comes_again, goes_to_work, has_entered, is_a_step, looks_behind_answers};
+ghost use Rattle.coordination.specs.SleepAndWake.{looks_if, stance_after, stance_asking, woken_if};
 
 use crate::outside_work::Queued;
 use crate::stances::Stances;

@@ -150,11 +150,7 @@ fn goes_on_with_part(alloc: Global, book: &mut Book, part: &Segment) -> Result<b
 }
 
 // Admits the entries of the parts in order, and answers whether they are one history from the first entry on.
-fn are_one_history(
-    alloc: Global,
-    book: &mut Book,
-    parts: &[Segment],
-) -> Result<bool, AllocError> {
+fn are_one_history(alloc: Global, book: &mut Book, parts: &[Segment]) -> Result<bool, AllocError> {
     for _ in 0..parts.len() {
         for part in parts {
             if part.before() == book.len() && !goes_on_with_part(alloc, book, part)? {

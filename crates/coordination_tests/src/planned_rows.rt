@@ -1,9 +1,13 @@
 //! A plan, and the histories that its rules owe.
+ghost use Rattle.std.specs.Prelude.{None};
+
+use coordination::Question;
 use item_actions::Outcome;
 use lock_journal::Book;
 use lock_transforms::{Closed, Kind};
-use resource_lock::{GraphAction, Retention};
+use resource_lock::{GraphAction, Retention, WorkerId};
 use state_tests::rows::{Limits, TaskRow};
+use worker_choices::Awaited;
 
 /// Two locks, two workers and two leases.
 pub const LIMITS: Limits = Limits {
@@ -114,18 +118,66 @@ fn kind_of(row: Row) -> Kind {
     }
 }
 
-/// Whether the history of a book is made of these entries, in order, and none failed.
-pub fn has_rows(book: &Book, rows: &[Row]) -> bool {
-    if book.len() != rows.len() as u64 {
+// Whether the history has this entry at this place, which isn't a failed one.
+fn has_row(book: &Book, place: u64, row: Row) -> bool {
+    if place < book.given() || place >= book.len() {
         return false;
     }
-    for place in 0..rows.len() {
-        let shown = book.entry(place as u64);
-        if shown.failed || shown.kind != kind_of(rows[place]) {
+    let shown = book.entry(place);
+    !shown.failed && shown.kind == kind_of(row)
+}
+
+// Whether the history is made of these entries, in order.
+fn has_rows(book: &Book, rows: &[Row]) -> bool {
+    for (place, row) in rows.iter().enumerate() {
+        if !has_row(book, place as u64, *row) {
             return false;
         }
     }
-    true
+    book.len() == rows.len() as u64
+}
+
+// How many entries of the history close a unit.
+fn closings(book: &Book) -> u64 {
+    let mut count = 0;
+    for place in book.given()..book.len() {
+        if let Kind::Close(_) | Kind::Unblock(Some(_)) = book.entry(place).kind {
+            count += 1;
+        }
+    }
+    count
+}
+
+/// What is to be found in a book.
+#[derive(Clone, Copy)]
+pub enum Found<'a> {
+    /// These entries, in order, and no others. None failed.
+    Rows(&'a [Row]),
+    /// All tasks have ended, so many units were closed, and none is queued.
+    AllEnded { closed: u64 },
+}
+
+impl Question for Found<'_> {
+    type Answer = bool;
+
+    ghost answers = { λ _ _ _ _ _. Unit {0} };
+
+    ghost waits_on = { λ _ _ _ _. ⊥ };
+
+    ghost awaits = { λ _. None };
+
+    fn awaited(&self) -> Option<Awaited> {
+        None
+    }
+
+    fn ask(&self, _worker: WorkerId, book: &Book, _queued: bool) -> Option<bool> {
+        Some(match *self {
+            Found::Rows(rows) => has_rows(book, rows),
+            Found::AllEnded { closed } => {
+                book.all_tasks_ended() && closings(book) == closed && !book.has_queued()
+            }
+        })
+    }
 }
 
 /// What the first worker owes alone, where each unit passes.

@@ -1,5 +1,5 @@
 -- The history of a book has a text: its numbers are the graph's, and its marks name the entries' workers.
-use Rattle.std.proofs.Common.{◌≡◌, ◌≢◌, ℕ, ◌<◌, ◌≤◌, ◌^◌, List, [], ◌∷◌, length, Option, Some, None, IfSome, All, Bool, true, false, refl, ap, ◌∙◌, arith}
+use Rattle.std.proofs.Common.{◌≡◌, ◌≢◌, ℕ, ◌≤◌, List, [], ◌∷◌, Option, Some, None, IfSome, All, true, refl, ap, arith}
 use Rattle.std.specs.List.{AllByRecursion}
 use Rattle.std.proofs.lemmas.Bool.{and_parts, eqb-true}
 use Rattle.std.proofs.lemmas.List.Elements.{recursion_from_All}
@@ -12,11 +12,11 @@ use Rattle.resource_lock.specs.Change.{NamesOnly, names_only, can, can_all, make
 use Rattle.resource_lock.proofs.lemmas.Runs.{same_shape-make, same_shape-make_all, belongs_along, belongs_opening, all_named_along}
 use Rattle.resource_lock.proofs.lemmas.Units.{few_actions_in_all}
 use Rattle.lock_transforms.specs.Entry.{Entry, effect, changed}
-use Rattle.lock_transforms.specs.Allowed.{IsKindOf, Finishes, Allowed, lawful_from, Lawful}
+use Rattle.lock_transforms.specs.Allowed.{IsKindOf, Finishes, lawful_from, Lawful}
 use Rattle.lock_journal.specs.Bounds.{IsFitOutcome, IsFitKind}
 use Rattle.plan_reader.specs.declared.limits.TheConstants.{MAX_LEASES, MAX_WORKERS}
-use Rattle.history_text.specs.Fitting.{MarkFits, ChangeFits, ChangesFit, OutcomeFits, KindFits, EffectFits, EntryFits, EntriesFit, HeadFits}
-use Rattle.history_text.specs.Plain.{LockId, WorkerId, MarkId, TaskOf, ActionOf, UnitOf, Mark, Waiting, Queued, Running, Passed, Failed, Skipped, Change, Lock, Unlock, Take, Give, Move, Park, Unpark, Enter, Leave, Outcome, Number, Digest, NotThere, TooLong, Fault, NoMemory, NotRun, Closed, Kind, Start, Skip, Submit, ParkFor, Resume, Claim, Close, Block, Unblock, End, Acquire, HandBack}
+use Rattle.history_text.specs.Fitting.{MarkFits, ChangeFits, ChangesFit, OutcomeFits, KindFits, EffectFits, EntriesFit, HeadFits}
+use Rattle.history_text.specs.Plain.{WorkerId, MarkId, TaskOf, ActionOf, UnitOf, Mark, Waiting, Queued, Running, Passed, Failed, Skipped, Change, Lock, Unlock, Take, Give, Move, Park, Unpark, Enter, Leave, Outcome, Number, Digest, NotThere, TooLong, Fault, NoMemory, NotRun, Kind, Start, Skip, Submit, ParkFor, Resume, Claim, Close, Block, Unblock, End, Acquire, HandBack}
 
 abbrev worker : ℕ → WorkerId
 worker n = record { 0 = n }

@@ -9,7 +9,7 @@ ghost use Rattle.coordination.specs.Shown.{ShowsTheSame, blocked_shown, claimed_
 ghost use Rattle.lease_service.specs.Shows.{MayTake, ShowsGivenBack, ShowsTaken};
 ghost use Rattle.lease_service.specs.declared.holders.Tried.TheVariants.{Got, Busy};
 
-use coordination::{Coordination, Halt, Runner, Offers, Pass};
+use coordination::{Coordination, Halt, Offers, Pass, Runner};
 use lock_transforms::kinds::{Acquire, HandBack, Shortage};
 use resource_lock::LockId;
 use std::alloc::AllocError;

@@ -253,7 +253,22 @@ impl Book {
     /// Makes room for at least so many more entries and changes. It fails for want of memory, or where the entries that the book keeps
     /// would have 2^32 changes then, or as many closings; and only where there isn't room for them yet. The graph, the state and the
     /// history stay, also then. A book that gives its entries away (`give`) has room again.
+    #[inline]
     pub fn reserve(&mut self, entries: u64, changes: u64) -> Result<(), AllocError>
+        ensures same { SameBook self.old self.new }
+        ensures entries { OnOk result (entries ≤ self.new.spare_entries) }
+        ensures changes { OnOk result (changes ≤ self.new.spare_changes) }
+        ensures full { OnErr result ((self.old.spare_entries < entries) ⊎ (self.old.spare_changes < changes)) }
+    {
+        if entries <= self.spare_entries() && changes <= self.spare_changes() {
+            return Ok(());
+        }
+        self.grow(entries, changes)
+    }
+
+    // The same, also where there is room for them. The changes noted are forgotten.
+    #[inline(never)]
+    fn grow(&mut self, entries: u64, changes: u64) -> Result<(), AllocError>
         ensures same { SameBook self.old self.new }
         ensures entries { OnOk result (entries ≤ self.new.spare_entries) }
         ensures changes { OnOk result (changes ≤ self.new.spare_changes) }

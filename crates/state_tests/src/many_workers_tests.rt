@@ -5,7 +5,7 @@ ghost use Rattle.lock_transforms.specs.Taking.{rises};
 use crate::fitting::fitting_graph;
 use crate::numbers::Numbers;
 use crate::rows::Limits;
-use lock_journal::Book;
+use lock_journal::{Book, Changes};
 use lock_transforms::Disposition;
 use lock_transforms::kinds::{Acquire, Block, HandBack, Shortage, Unblock};
 use resource_lock::{Change, LockId, WorkerId};
@@ -238,9 +238,9 @@ impl Reckoning {
     }
 
     // Follows changes of a worker in order.
-    fn follow_all(&mut self, worker: u32, changes: &[Change]) -> bool {
+    fn follow_all(&mut self, worker: u32, changes: Changes<'_>) -> bool {
         for change in changes {
-            if !self.follow(worker, change) {
+            if !self.follow(worker, &change) {
                 return false;
             }
         }

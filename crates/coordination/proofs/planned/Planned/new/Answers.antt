@@ -6,8 +6,8 @@ use Rattle.coordination.proofs.Sleeping.{none_sleeps}
 use Rattle.coordination.proofs.planned.Planned.new.Goals as goal
 
 -- all are away, so nobody sleeps
-pub invariant_of-returns : goal.invariant_of-returns
-invariant_of-returns c =
+pub invariant_of-result : goal.invariant_of-result
+invariant_of-result c =
     let guarded = c.in_ok-guarded.guarded in
     subst (λ (xs : List Stance). AreQuiet guarded.keeper (has_queued guarded.keeper.state) xs) (sym c.in_ok-guarded.ensures.away)
-    (inr (λ w a low at. absurd (none_sleeps guarded.keeper.graph.workers w a at)))
+    (inr (λ w a low at. absurd (none_sleeps _ w a at)))

@@ -8,7 +8,7 @@ use Rattle.lock_journal.proofs.books.Book.keep_queued.Goals as goal
 pub invariant_of-self : goal.invariant_of-self
 invariant_of-self c =
     let i = c.self.invariant in record {
-      fresh = i.fresh;
+      noted = i.noted;
       room = i.room;
       units = i.units;
       fit = i.fit;

@@ -1,5 +1,6 @@
 -- where some are noted, they are those of the last entry
-use Rattle.std.proofs.Common.{◌≡◌, List, [], sym, ◌∙◌, ap, subst}
+use Rattle.std.proofs.Common.{◌≡◌, ◌==◌, List, [], length, sym, ◌∙◌, ap, subst}
+use Rattle.std.proofs.lemmas.Bool.{true≢false}
 use Rattle.resource_lock.specs.declared.changes.Change.{Change}
 use Rattle.lock_journal.specs.Book.{AreLastOrNone}
 use Rattle.lock_journal.specs.BookView.{BookView}
@@ -10,5 +11,5 @@ use Rattle.lock_journal.proofs.books.Book.last_changes.Goals as goal
 pub returns-else-is_empty : goal.returns-else-is_empty
 returns-else-is_empty c =
     let noted = subst (λ (cs : List Change). AreLastOrNone cs c.self.inside.history.entries) (sym c.made-made.ensures) c.self.invariant.noted in
-    let some : c.made-made.result.now ≡ [] → ⊥ = λ e. let r = c.is_empty.ensures in let f = c.if-is_empty.false in cc in
+    let some : c.made-made.result.now ≡ [] → ⊥ = λ e. true≢false (sym (ap (λ (cs : List Change). length cs == 0) e) ∙ sym c.is_empty.ensures ∙ c.if-is_empty.false) in
     c.given.ensures ∙ last_noted c.made-made.result.now c.self.inside.history.entries noted some ∙ ap (λ (b : BookView). last_changes b.history) c.self.view_is

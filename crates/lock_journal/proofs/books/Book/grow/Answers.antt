@@ -2,7 +2,7 @@
 use Rattle.std.proofs.Common.{◌∙◌, ap, arith}
 use Rattle.lock_transforms.specs.TentativeView.{TentativeView}
 use Rattle.lock_journal.proofs.Given.{sound_forgotten}
-use Rattle.lock_journal.proofs.books.Book.reserve.Goals as goal
+use Rattle.lock_journal.proofs.books.Book.grow.Goals as goal
 
 pub invariant_of-self : goal.invariant_of-self
 invariant_of-self c =
