@@ -24,7 +24,7 @@ builds. Not part of the gate.
     bench/c_interface.py [PROGRAM]
 
 Measured: a take and a hand-back of a lease take 145 to 203 ns of a processor alone, 3.7 to 4.2 times the plain mutex (goal 4), and 232 to
-320 ns with four threads, 0.7 to 1.7 times (goal 2.5); 916 instructions, and 60 bytes of history an entry. Where four threads work 5 or 20
+320 ns with four threads, 0.7 to 1.7 times (goal 2.5); 916 instructions, and 28 bytes of history an entry. Where four threads work 5 or 20
 microseconds between calls the mean of a call is at most 1.0 microseconds, and 999 in 1,000 take at most 80.
 """
 
@@ -124,7 +124,8 @@ def check(made: pathlib.Path, rounds: int, cancelled: int, tool: list[str], what
     print(f"{what}: {cancelled // 10} threads that took the history were cancelled: {judged(history)}", flush=True)
     history = call([*tool, str(made / "c_cancel"), str(cancelled)], env=SETTINGS)
     print(f"{what}: {cancelled} threads were cancelled: {judged(history)}", flush=True)
-    for words in (["apart", "256", str(rounds // 250)], ["meeting", "256", "60", str(rounds // 1_000)]):
+    meetings = [["meeting", "256", leases, str(rounds // 1_000)] for leases in ("60", "4")]
+    for words in (["apart", "256", str(rounds // 250)], *meetings):
         history = call([*tool, str(made / "c_many"), *words], env=SETTINGS)
         print(f"{what}: 256 threads, {' '.join(words)}: {replayed_of(history)}", flush=True)
     history = call([*tool, str(made / "c_rounds"), "check", "4", str(rounds)], env=SETTINGS)

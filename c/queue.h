@@ -19,33 +19,40 @@
 #define MAX_WORKERS 256
 #define MAX_LOCKS 65536
 /* A call is queued once it has slept so many nanoseconds, and so often something was let go that it didn't get. Where locks are had for
- * microseconds, to hand one over to a thread that sleeps takes longer than the work: so few are. */
+ * microseconds, to hand one over to a thread that sleeps takes longer than the work: so few are. Where many sleep, those that are woken and look in
+ * vain cost more than that: there a call is queued as soon as it was overtaken so often. */
 #define PATIENCE 10000000
 #define OVERTAKES 4
+#define MANY_SLEEPERS 32
 /* In nanoseconds. */
 #define KEPT_BACK 100000000
+
+/* Locks by marks, of which each lock has one: lists without a mark in common have no lock in common. */
+typedef uint64_t lock_marks;
+
+static inline lock_marks marks_of(const uint32_t *locks, size_t count) {
+    lock_marks marks = 0;
+    for (size_t at = 0; at < count; at++) marks |= (lock_marks)1 << (locks[at] % 64);
+    return marks;
+}
 
 /* A call that sleeps. */
 typedef struct {
     uint64_t number; /* The lower came earlier. */
     const uint32_t *locks; /* Those that it takes, which strictly rise. */
     size_t count;
+    lock_marks marks;
     bool found_none; /* At its last look all leases were out. */
 } arrival;
 
 typedef struct {
-    uint32_t worker;
-    bool keeps_back; /* A call was kept back for it. */
-    arrival call;
-} queue_place;
-
-typedef struct {
     uint32_t length;
-    queue_place *places; /* The first ones are taken, in no order. There is one for each worker. */
+    const arrival **calls; /* Those that are queued, in the order in which they came. There is room for one of each worker. */
 } queue;
 
 /* Whether two lists that strictly rise have a lock in common. */
 static inline bool share_a_lock(const arrival *one, const arrival *other) {
+    if ((one->marks & other->marks) == 0) return false;
     for (size_t i = 0, k = 0; i < one->count && k < other->count;) {
         if (one->locks[i] == other->locks[k]) return true;
         if (one->locks[i] < other->locks[k]) {
@@ -58,39 +65,24 @@ static inline bool share_a_lock(const arrival *one, const arrival *other) {
 }
 
 /* Whether a call has to let one go first that came earlier. */
-static inline bool has_to_let_go_first(queue *all, const arrival *call) {
-    bool found = false;
-    for (uint32_t at = 0; at < all->length; at++) {
-        queue_place *held = &all->places[at];
-        if (held->call.number >= call->number) continue;
-        if (!held->call.found_none && !share_a_lock(&held->call, call)) continue;
-        held->keeps_back = found = true;
+static inline bool has_to_let_go_first(const queue *all, const arrival *call) {
+    for (uint32_t at = 0; at < all->length && all->calls[at]->number < call->number; at++) {
+        if (all->calls[at]->found_none || share_a_lock(all->calls[at], call)) return true;
     }
-    return found;
+    return false;
 }
 
-/* The place of a worker's call, or the first that is free. */
-static inline queue_place *place_of(queue *all, uint32_t worker) {
+/* Queues a call, which isn't. */
+static inline void queue_up(queue *all, const arrival *call) {
+    uint32_t at = all->length++;
+    for (; at > 0 && all->calls[at - 1]->number > call->number; at--) all->calls[at] = all->calls[at - 1];
+    all->calls[at] = call;
+}
+
+/* A call leaves the queue, in which it is. */
+static inline void depart(queue *all, const arrival *call) {
     uint32_t at = 0;
-    while (at < all->length && all->places[at].worker != worker) at++;
-    return &all->places[at];
-}
-
-/* Queues a worker's call, which looked in vain, or notes what it found. True says that calls may go on that were kept back for it. */
-static inline bool queue_up(queue *all, uint32_t worker, const arrival *call) {
-    queue_place *held = place_of(all, worker);
-    bool is_new = held == &all->places[all->length];
-    bool frees = !is_new && held->keeps_back && held->call.found_none && !call->found_none;
-    *held = (queue_place){worker, !is_new && held->keeps_back && !frees, *call};
-    if (is_new) all->length++;
-    return frees;
-}
-
-/* A worker's call leaves the queue, in which it is. True says that calls may go on that were kept back for it. */
-static inline bool depart(queue *all, uint32_t worker) {
-    queue_place *held = place_of(all, worker);
-    bool frees = held->keeps_back;
-    *held = all->places[--all->length];
-    return frees;
+    while (all->calls[at] != call) at++;
+    for (all->length--; at < all->length; at++) all->calls[at] = all->calls[at + 1];
 }
 #endif

@@ -19,21 +19,38 @@ typedef struct {
     size_t room;
 } lock_list;
 
+/* A worker's call that sleeps (sleeps.h). What others read or change of it they do under the mutex, and so does its own thread. */
+typedef struct {
+    bool has_news;     /* It was woken, and hasn't looked since. */
+    bool is_kept_back; /* It waits for one that is queued. Else it looked in vain, or looks. */
+    bool awaits_lease; /* A lease may be all that it waits for. */
+    lock_marks marks;  /* Of the locks that it takes. */
+    uint64_t inside[MAX_WORKERS / 64]; /* Workers whose calls may have given back a lease that it didn't see, by bits. */
+    uint32_t place; /* Among those that sleep. */
+    bool may_be_kept_back, may_lack_lease, is_queued;
+    unsigned first_news;
+    int64_t patient_until, kept_until;
+    arrival call;
+    lock_list parked; /* The locks that a leave takes, once it has slept. */
+    pthread_cond_t woken;
+} sleeper;
+
 struct wakhurmi_service {
     pthread_mutex_t mutex;
-    pthread_cond_t freed;
     atomic_int sleepers; /* See below. */
-    atomic_uint news;
+    atomic_uint news; /* How often something was let go while calls slept. */
     atomic_bool stopped;
     uint32_t count, max_leases, locks;
     unsigned forks;
     atomic_uint usual; /* `forks`, with those of the notes below that hold. */
     atomic_ullong arrivals;
-    queue queue; /* Under the mutex. */
+    queue queue; /* Under the mutex, as the next two. */
+    uint32_t asleep_count;
+    sleeper **asleep; /* The calls that sleep, or are about to. */
     slot book;
     kept_entries kept;
-    /* By worker: the locks that its leave takes, once it has slept; its use and its handle, while a call has those of all workers. */
-    lock_list *parked;
+    /* By worker: its call that sleeps; its use and its handle, while a call has those of all workers. */
+    sleeper *sleeping;
     use *uses;
     handle *handles;
     slot workers[]; /* As many as `count`. */

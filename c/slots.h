@@ -72,6 +72,7 @@ typedef struct {
     _Alignas(64) _Atomic(use) use;
     handle held;
     int64_t until_counted; /* How many entries the worker makes until they are counted (history.c). */
+    uint64_t marks; /* Of the locks that the worker has, or has parked (queue.h). */
 } slot;
 
 /* With WAKHURMI_ONE_AT_A_TIME each call of the proved library is made under a mutex, and each use is changed by an exchange, so that tools

@@ -1,22 +1,22 @@
 /* The part that waits, which no proof covers. Every change of a service is a call of the proved library; such a call never waits.
  *
- * A call that has to wait for what others have sleeps, and no wake-up of it is lost. It counts itself among the sleepers, reads the number
- * of the news, and then looks again; only if it still has to wait does it sleep, and only while the number is the same. Who made
+ * A call that has to wait for what others have sleeps, and no wake-up of it is lost. It counts itself among the sleepers, notes under the mutex
+ * that all is news for it, and then looks again; only if it still has to wait does it sleep, and only while there are no news for it. Who made
  * an entry that can let others go on, as the proved part says of each entry, looks afterwards whether there are sleepers, and if so
- * changes the number and wakes all. The count, the number, and the word by which the proved part takes its book are sequentially
- * consistent. So either the entry came before the sleeper's second look, which then saw it; or the count came before the entry, and
- * whoever made it sees a sleeper and changes the number after the sleeper has read it. The number changes under the mutex, under which
- * the sleeper compares it, and waiting lets the mutex go. That other entries let nobody go on is proved (`waits_for_news`).
+ * goes through them under the mutex, and wakes those that may wait for what the entry gave back (sleeps.h). The count and the word by which the
+ * proved part takes its book are sequentially consistent. So either the entry came before the sleeper's second look, which then saw it; or the
+ * count and the note came before the entry, and whoever made it sees the sleeper. That other entries let nobody go on is proved
+ * (`waits_for_news`).
  *
- * A stop needs no handle. It notes that it was asked for, and then changes the number and wakes all. A call that has to wait reads the note
- * after the number and before its second look. So either it sees the note, tells the proved part by its own handle, and the look answers
- * STOPPED where it would answer BUSY; or the number changes after it was read.
+ * A stop needs no handle. It notes that it was asked for, and then wakes all. A call that has to wait reads the note behind the mutex and before
+ * its second look. So either it sees the note, tells the proved part by its own handle, and the look answers STOPPED where it would answer BUSY; or
+ * the stop's news come after it noted that all is news.
  *
  * A sleep with a deadline ends at the deadline too. Then the call looks once more, and answers TIMED_OUT where it would sleep again.
  *
- * A call that is kept back (queue.h) reads the number of the news before it asks the queue, and sleeps while the number is the same. Whoever
- * leaves the queue changes the number afterwards, where a call was kept back for it. So no such wake-up is lost either. A first look is
- * kept back where the service's `usual` says that somebody is queued. It may be read too early: then one more is overtaken.
+ * A call that is kept back (queue.h) asks the queue where it notes that all is news, under the mutex, and is woken by who leaves the queue, where it
+ * isn't kept back any more. So no such wake-up is lost either. A first look is kept back where the service's `usual` says that somebody is
+ * queued. It may be read too early: then one more is overtaken.
  *
  * Who asks without a worker, for the leases or the history, borrows a handle that is in no call. Workers that do little between their calls
  * leave hardly a moment in which there is one and nobody is inside. So who has looked in vain for some microseconds notes that, and looks on. A
@@ -28,7 +28,7 @@
  * through callers in other languages, which may not be ready for it. */
 #define _GNU_SOURCE
 #include "service.h"
-#include "looks.h"
+#include "sleeps.h"
 #include <stdlib.h>
 #include <string.h>
 
@@ -54,153 +54,29 @@ static inline bool is_as_usual(wakhurmi_service *service) {
     return service != NULL && is_of_this_process(atomic_load_explicit(&service->usual, memory_order_relaxed));
 }
 
-static bool is_noted(wakhurmi_service *service, unsigned note) { return (atomic_load(&service->usual) & note) != 0; }
-
-static void note_whether(wakhurmi_service *service, unsigned note, bool holds) {
-    if (is_noted(service, note) == holds) return;
-    if (holds) {
-        atomic_fetch_or(&service->usual, note);
-    } else {
-        atomic_fetch_and(&service->usual, ~note);
-    }
-}
-
-SELDOM void wake(wakhurmi_service *service) {
-    pthread_mutex_lock(&service->mutex);
-    atomic_fetch_add(&service->news, 1);
-    pthread_cond_broadcast(&service->freed);
-    pthread_mutex_unlock(&service->mutex);
-}
-
-/* Sleeps while there are no news, and until a moment at most. */
-static void sleep_until_news(wakhurmi_service *service, unsigned known, moment until) {
-    const struct timespec time = {.tv_sec = until / SECOND, .tv_nsec = until % SECOND};
-    int state, ended = 0;
-    pthread_setcancelstate(PTHREAD_CANCEL_DISABLE, &state);
-    pthread_mutex_lock(&service->mutex);
-    while (atomic_load(&service->news) == known && ended == 0) {
-        ended = until == NEVER ? pthread_cond_wait(&service->freed, &service->mutex)
-                               : pthread_cond_timedwait(&service->freed, &service->mutex, &time);
-    }
-    pthread_mutex_unlock(&service->mutex);
-    pthread_setcancelstate(state, NULL);
-}
-
-/* A call that sleeps, or is about to. */
-typedef struct {
-    uint32_t worker;
-    bool may_be_kept_back, is_queued;
-    unsigned first_news;
-    moment patient_until, kept_until;
-    arrival call;
-} sleeper;
-
-/* Notes whether anybody is queued, and wakes all where calls may go on. The mutex is locked. */
-static void tell_of_queue(wakhurmi_service *service, bool frees) {
-    note_whether(service, SOMEBODY_QUEUED, service->queue.length > 0);
-    if (!frees) return;
-    atomic_fetch_add(&service->news, 1);
-    pthread_cond_broadcast(&service->freed);
-}
-
-/* Whether a call is kept back for one that came earlier. */
-static bool is_kept_back(wakhurmi_service *service, sleeper *own) {
-    if (!own->may_be_kept_back || !is_noted(service, SOMEBODY_QUEUED) || now() >= own->kept_until) return false;
-    pthread_mutex_lock(&service->mutex);
-    bool found = has_to_let_go_first(&service->queue, &own->call);
-    pthread_mutex_unlock(&service->mutex);
-    if (found && own->kept_until == NEVER) own->kept_until = now() + KEPT_BACK;
-    return found;
-}
-
-/* Queues a call that looked in vain, where it has been overtaken for a while. */
-static void queue_up_if_overtaken(wakhurmi_service *service, slot *held, sleeper *own) {
-    if (atomic_load(&service->news) - own->first_news < OVERTAKES || now() < own->patient_until) return;
-    uint32_t leases = 0;
-    go_in();
-    own->call.found_none = wakhurmi_c_leases_out(&held->held, &leases) == WAKHURMI_OK && leases == service->max_leases;
-    go_out();
-    own->is_queued = true;
-    pthread_mutex_lock(&service->mutex);
-    tell_of_queue(service, queue_up(&service->queue, own->worker, &own->call));
-    pthread_mutex_unlock(&service->mutex);
-}
-
-static void leave_queue(wakhurmi_service *service, uint32_t worker) {
-    pthread_mutex_lock(&service->mutex);
-    tell_of_queue(service, depart(&service->queue, worker));
-    pthread_mutex_unlock(&service->mutex);
-}
-
 /* Sleeps until the deed can be done, or can't for another reason than that others have what it takes, or the deadline has passed. No look
  * is made under the mutex, so whoever wakes never waits for one. */
 static told sleep_until_done(wakhurmi_service *service, slot *held, request asked, sleeper *own) {
     for (;;) {
-        unsigned known = atomic_load(&service->news);
-        bool is_stopped = atomic_load(&service->stopped), is_late = now() >= asked.deadline;
-        moment until = asked.deadline;
-        if (is_stopped) tell_stop(held);
-        if (!is_stopped && !is_late && is_kept_back(service, own)) {
-            if (own->kept_until < until) until = own->kept_until;
-        } else {
+        bool is_late = now() >= asked.deadline, looks = begin_look(service, own, is_late);
+        if (atomic_load(&service->stopped)) tell_stop(held);
+        if (looks) {
             told said = look(held, asked);
             if (said.answer != WAKHURMI_BUSY) return said;
             if (is_late) return (told){WAKHURMI_TIMED_OUT, said.wakes};
-            queue_up_if_overtaken(service, held, own);
+            end_vain_look(service, held, own);
         }
+        moment until = !looks && own->kept_until < asked.deadline ? own->kept_until : asked.deadline;
         let_go(held, ASLEEP);
-        sleep_until_news(service, known, until);
+        sleep_until_news(service, own, until);
         claim(held, ASLEEP, IN_CALL);
     }
 }
 
-#define FIRST_ROOM 8
-
-static bool make_more_room(lock_list *list) {
-    size_t room = list->room == 0 ? FIRST_ROOM : 2 * list->room;
-    uint32_t *locks = realloc(list->locks, room * sizeof *locks);
-    if (locks == NULL) return false;
-    *list = (lock_list){locks, room};
-    return true;
-}
-
-/* Notes the locks that a worker has parked, and answers how many are noted: all, or as many as there is memory for. The call is queued for these
- * alone then. */
-static size_t note_parked(handle *own, lock_list *parked) {
-    size_t count = 0;
-    uint32_t lock;
-    while (wakhurmi_c_parked(own, count, &lock) == WAKHURMI_OK) {
-        if (count == parked->room && !make_more_room(parked)) break;
-        parked->locks[count++] = lock;
-    }
-    return count;
-}
-
-/* A call that is about to sleep. The locks that a leave takes strictly rise, as an enter parks them so. */
-static arrival arrive(wakhurmi_service *service, uint32_t worker, request asked) {
-    arrival call = {.number = atomic_fetch_add(&service->arrivals, 1), .locks = asked.locks, .count = asked.count};
-    if (asked.what != LEAVE) return call;
-    lock_list *parked = &service->parked[worker];
-    go_in();
-    call.count = note_parked(&service->workers[worker].held, parked);
-    go_out();
-    call.locks = parked->locks;
-    return call;
-}
-
 static told sleep_for(wakhurmi_service *service, uint32_t worker, request asked, use before) {
-    atomic_fetch_add(&service->sleepers, SLEEPER);
-    sleeper own = {
-        .worker = worker,
-        .may_be_kept_back = before != HOLDING,
-        .first_news = atomic_load(&service->news),
-        .patient_until = now() + PATIENCE,
-        .kept_until = NEVER,
-        .call = arrive(service, worker, asked),
-    };
-    told said = sleep_until_done(service, &service->workers[worker], asked, &own);
-    atomic_fetch_sub(&service->sleepers, SLEEPER);
-    if (own.is_queued) leave_queue(service, worker);
+    sleeper *own = begin_sleep(service, worker, asked, before);
+    told said = sleep_until_done(service, &service->workers[worker], asked, own);
+    end_sleep(service, own, said.answer == WAKHURMI_OK);
     return said;
 }
 
@@ -211,13 +87,29 @@ static int entries_to_note(deed what, use before, uint32_t answer) {
     return gives_back(what) ? 2 : before == HOLDING ? 1 : 0;
 }
 
+/* Notes the locks that a worker has taken, beside those that it had. */
+static void note_marks(slot *held, request asked, use before) {
+    if (asked.what != TAKE && asked.what != TRY_TAKE) return;
+    held->marks = (before == HOLDING ? held->marks : 0) | marks_of(asked.locks, asked.count);
+}
+
+/* Wakes those that may go on by what a worker's call has done. */
+static void wake(wakhurmi_service *service, uint32_t worker, deed what) {
+    if (gives_back(what)) {
+        wake_by(service, worker);
+    } else {
+        wake_all(service);
+    }
+}
+
 /* What comes after a first look, where that didn't do the deed or there are sleepers to wake. */
 SELDOM wakhurmi_answer complete(wakhurmi_service *service, uint32_t worker, request asked, use before, uint32_t answer, bool wakes) {
     told said = {answer, wakes};
     slot *held = service->workers + worker;
     if (said.answer == AGAIN) said = look_again(held, asked);
     if (said.answer == WAKHURMI_BUSY) said = sleep_for(service, worker, asked, before);
-    if (said.wakes && has_sleepers(service)) wake(service);
+    if (said.answer == WAKHURMI_OK) note_marks(held, asked, before);
+    if (said.wakes && has_sleepers(service)) wake(service, worker, asked.what);
     note_entries(service, held, entries_to_note(asked.what, before, said.answer));
     let_go(held, said.answer == WAKHURMI_OK ? after_done(asked.what) : before);
     return said.answer == REFUSED ? WAKHURMI_BUSY : (wakhurmi_answer)said.answer;
@@ -276,6 +168,7 @@ IN_EACH_CALL wakhurmi_answer perform(wakhurmi_service *service, uint32_t worker,
     if (!is_all_done(service, held, what, said)) {
         return complete(service, worker, (request){what, locks, count, deadline}, before_most(what), said.answer, said.wakes);
     }
+    if (before_most(what) == EMPTY) held->marks = marks_of(locks, count);
     let_go(held, after_done(what));
     return WAKHURMI_OK;
 }
@@ -319,7 +212,7 @@ wakhurmi_answer wakhurmi_leave_until(wakhurmi_service *service, uint32_t worker,
 wakhurmi_answer wakhurmi_stop(wakhurmi_service *service) {
     if (!is_ours(service) || has_ended(service)) return WAKHURMI_MISUSED;
     atomic_store(&service->stopped, true);
-    wake(service);
+    wake_all(service);
     return WAKHURMI_OK;
 }
 
@@ -384,20 +277,30 @@ static bool has_condition(pthread_cond_t *condition) {
     return made;
 }
 
+/* The first workers' conditions are destroyed, and the mutex. */
+static void destroy_waiting_tools(wakhurmi_service *service, uint32_t workers) {
+    while (workers-- > 0) pthread_cond_destroy(&service->sleeping[workers].woken);
+    pthread_mutex_destroy(&service->mutex);
+}
+
 static bool has_waiting_tools(wakhurmi_service *service) {
     if (!has_forks_counted() || pthread_mutex_init(&service->mutex, NULL) != 0) return false;
-    if (has_condition(&service->freed)) return true;
-    pthread_mutex_destroy(&service->mutex);
-    return false;
+    for (uint32_t worker = 0; worker < service->count; worker++) {
+        if (has_condition(&service->sleeping[worker].woken)) continue;
+        destroy_waiting_tools(service, worker);
+        return false;
+    }
+    return true;
 }
 
 /* Gives back the memory of a service, which has no handles. */
 static void deallocate(wakhurmi_service *service) {
-    for (uint32_t worker = 0; service->parked != NULL && worker < service->count; worker++) free(service->parked[worker].locks);
-    free(service->parked);
+    for (uint32_t worker = 0; service->sleeping != NULL && worker < service->count; worker++) free(service->sleeping[worker].parked.locks);
+    free(service->sleeping);
+    free(service->asleep);
     free(service->uses);
     free(service->handles);
-    free(service->queue.places);
+    free(service->queue.calls);
     free(service);
 }
 
@@ -408,11 +311,13 @@ static wakhurmi_service *allocate(uint32_t workers) {
     if (service == NULL) return NULL;
     memset(service, 0, size);
     service->count = workers;
-    service->parked = calloc(workers, sizeof *service->parked);
+    service->sleeping = calloc(workers, sizeof *service->sleeping);
+    service->asleep = calloc(workers, sizeof *service->asleep);
     service->uses = calloc(workers, sizeof *service->uses);
     service->handles = calloc(workers, sizeof *service->handles);
-    service->queue.places = calloc(workers, sizeof *service->queue.places);
-    if (service->parked != NULL && service->uses != NULL && service->handles != NULL && service->queue.places != NULL) return service;
+    service->queue.calls = calloc(workers, sizeof *service->queue.calls);
+    bool has_lists = service->sleeping != NULL && service->asleep != NULL && service->queue.calls != NULL;
+    if (has_lists && service->uses != NULL && service->handles != NULL) return service;
     deallocate(service);
     return NULL;
 }
@@ -483,7 +388,6 @@ void wakhurmi_close(wakhurmi_service *service) {
     for (uint32_t worker = 0; worker < service->count; worker++) {
         if (service->workers[worker].held.full) wakhurmi_c_close(&service->workers[worker].held);
     }
-    pthread_cond_destroy(&service->freed);
-    pthread_mutex_destroy(&service->mutex);
+    destroy_waiting_tools(service, service->count);
     deallocate(service);
 }

@@ -30,20 +30,23 @@
  * point, so the thread goes on until its call has answered, and waits no less. What its worker has then any thread may hand back, or a cleanup
  * handler.
  *
- * What calls cost. wakhurmi_open: by workers and locks. A call that takes or gives back K locks: by K, and more than in proportion above
- * some hundreds; 4,096 at once take milliseconds. One that is refused for its numbers reads them up to the first that is wrong.
- * wakhurmi_leases_out and wakhurmi_finish: by workers. wakhurmi_stop: constant, and all that wait wake. wakhurmi_history and
- * wakhurmi_part_text: by the bytes written. wakhurmi_take_history: by the entries of an old part, outside the service; inside it is constant.
- * wakhurmi_close and wakhurmi_close_part: by the entries that are there.
+ * What calls cost. wakhurmi_open: by workers and locks. A call that takes or gives back K locks: by K, and more than in proportion above some
+ * hundreds; 4,096 at once take milliseconds. One that is refused for its numbers reads them up to the first that is wrong. Where others wait one that
+ * gives something back goes through them, and wakes those that wait for a lease or for one of its locks; another lock may be taken for one of its own
+ * where there are more than 64. wakhurmi_leases_out and wakhurmi_finish: by workers. wakhurmi_stop: by those that wait, which all wake.
+ * wakhurmi_history and wakhurmi_part_text: by the bytes written. wakhurmi_take_history: by the entries of an old part, outside the service; inside it
+ * is constant. wakhurmi_close and wakhurmi_close_part: by the entries that are there.
  *
- * How much memory a history takes. An entry takes some 60 bytes, and is kept until it is taken, or until wakhurmi_close. A service that lives
- * long has its history taken now and then, or is opened by wakhurmi_open_keeping: then it keeps the last entries alone, or hardly any.
+ * How much memory a history takes. An entry takes some 28 bytes, and 8 for each lock, and is kept until it is taken, or until wakhurmi_close. A
+ * service that lives long has its history taken now and then, or is opened by wakhurmi_open_keeping: then it keeps the last entries alone, or hardly
+ * any.
  *
- * In which order calls get what they wait for. Whoever looks first gets what is free. But a call that has waited for 10 milliseconds, while 4
- * entries or more let something go, is queued. From then on a later call waits for it, though it could be done at once, where both take one
- * lock, or where the queued one found all leases out. Those aren't kept back so: wakhurmi_try_take; a call of a worker that has a lease, as
- * the queued one may wait for just what that worker has; and any call that was kept back for 100 milliseconds, since a worker with a lock may
- * wait elsewhere for the one that is kept back. wakhurmi_leave is queued and kept back for its lease and its locks, as a take of these.
+ * In which order calls get what they wait for. Whoever looks first gets what is free. But a call that has waited for 10 milliseconds, while 4 entries
+ * or more let something go, is queued; where 32 calls wait it is so without the 10 milliseconds. From then on a later call waits for it, though it
+ * could be done at once, where both take one lock, or where the queued one found all leases out. Those aren't kept back so: wakhurmi_try_take; a call
+ * of a worker that has a lease, as the queued one may wait for just what that worker has; and any call that was kept back for 100 milliseconds, since
+ * a worker with a lock may wait elsewhere for the one that is kept back. wakhurmi_leave is queued and kept back for its lease and its locks, as a
+ * take of these.
  *
  * Calls of several threads may meet inside the service. Then all but one pause, and after some 20 microseconds each naps, for 50 or more at a
  * time, until it finds nobody inside. No comment below calls that waiting, no deadline ends it, and nothing bounds how often a call naps.
