@@ -37,12 +37,13 @@ sys.path.insert(0, str(TOP / "launch"))
 import schedule  # noqa: E402
 
 INTERVAL = 10.0
+COSTS = TOP / "launch/minutes.txt"
 DONE = re.compile(r"^== (\w+): status \d+, jobs (\d+), seconds ([\d.]+), of processors ([\d.]+)$", re.M)
 TO_GO = re.compile(r"about (\d+) minutes? to go")
 
 HEAD = """\
-# What the proof of each crate takes with one job: minutes, and the most memory in gigabytes. bench/first_command.py --write wrote
-# this on a machine of {processors} processors. A crate that isn't here is estimated by its lines.
+# What the proof of each crate takes with one job: minutes, and the most memory in gigabytes. And how much of the minutes more jobs
+# divide. bench/first_command.py --write wrote this on a machine of {processors} processors. A crate that isn't here is estimated by its lines.
 """
 
 
@@ -131,12 +132,13 @@ def processors(given: argparse.Namespace) -> int:
 def print_crates(log: str, memory: Memory) -> Dict[str, schedule.Cost]:
     """What each crate took, and what it would with one job."""
     costs: Dict[str, schedule.Cost] = {}
+    known = schedule.read_costs(COSTS)
     print("\n| Crate | Jobs | Minutes | Of processors | Gigabytes |\n|---|---|---|---|---|")
     for name, jobs, seconds, of_processors in DONE.findall(log):
         gigabytes = memory.of_crates.get(name, 0.0)
         print(f"| {name} | {jobs} | {float(seconds) / 60:.1f} | {float(of_processors) / 60:.1f} | {gigabytes:.1f} |")
-        of_one = float(of_processors) / 60 / schedule.Cost(1, 1).processor(int(jobs))
-        costs[name] = schedule.Cost(of_one, max(gigabytes - schedule.GIGABYTES_A_JOB * (int(jobs) - 1), 1.0))
+        divided = known[name].divided if name in known else schedule.DIVIDED
+        costs[name] = schedule.Cost.measured(int(jobs), float(seconds) / 60, float(of_processors) / 60, gigabytes, divided)
     return costs
 
 
@@ -153,10 +155,9 @@ def print_told(said: List[Tuple[float, str]], whole: float) -> None:
 
 
 def write_costs(costs: Dict[str, schedule.Cost], at_once: int) -> None:
-    file = TOP / "launch/minutes.txt"
-    whole = {**schedule.read_costs(file), **costs}
-    rows = [f"{name} {cost.minutes:.2f} {cost.gigabytes:.1f}\n" for name, cost in sorted(whole.items())]
-    file.write_text(HEAD.format(processors=at_once) + "".join(rows))
+    whole = {**schedule.read_costs(COSTS), **costs}
+    rows = [f"{name} {cost.minutes:.2f} {cost.gigabytes:.1f} {cost.divided:.2f}\n" for name, cost in sorted(whole.items())]
+    COSTS.write_text(HEAD.format(processors=at_once) + "".join(rows))
 
 
 def end(process: subprocess.Popen) -> None:

@@ -16,6 +16,12 @@ GIGABYTES = 2.5
 # What each job more takes of memory, at most, in gigabytes.
 GIGABYTES_A_JOB = 1.5
 
+# How much of a crate's minutes more jobs divide, where the table doesn't say: as measured of large crates that stand on few.
+DIVIDED = 0.42
+
+# What each job more takes of a processor beside its part of what is divided, as a share of that.
+A_JOB = 0.5
+
 # The choices of jobs. A check with more is hardly faster.
 JOBS = (1, 2, 3, 4)
 
@@ -28,18 +34,27 @@ PRICE = 0.1
 
 @dataclasses.dataclass(frozen=True)
 class Cost:
-    """What the proof of a crate takes with one job: minutes, and the most memory in gigabytes."""
+    """What the proof of a crate takes with one job: minutes, and the most memory in gigabytes. And how much more jobs divide."""
 
     minutes: float
     gigabytes: float
+    divided: float = DIVIDED
+
+    @staticmethod
+    def measured(jobs: int, clock: float, processor: float, memory: float, known: float = DIVIDED) -> "Cost":
+        """The cost of a crate that took so much with so many jobs. Of one job nothing is seen of what more divide: that is as known before."""
+        busy, behind = processor / clock, 1 - 1 / jobs
+        divided = (busy - 1) / (A_JOB * (jobs - 1) + busy * behind) if jobs > 1 else known
+        divided = min(max(divided, 0.0), 1.0)
+        return Cost(clock / (1 - divided * behind), max(memory - GIGABYTES_A_JOB * (jobs - 1), 1.0), divided)
 
     def clock(self, jobs: int) -> float:
-        """The minutes that pass with so many jobs, as measured of large crates."""
-        return self.minutes * (0.58 + 0.42 / jobs)
+        """The minutes that pass with so many jobs."""
+        return self.minutes * (1 - self.divided + self.divided / jobs)
 
     def processor(self, jobs: int) -> float:
         """The minutes of a processor with so many jobs."""
-        return self.minutes * (1 + 0.2 * (jobs - 1))
+        return self.minutes * (1 + A_JOB * self.divided * (jobs - 1))
 
     def busy(self, jobs: int) -> float:
         """How many processors so many jobs keep busy, on the whole."""
@@ -74,9 +89,9 @@ def needed(uses: Dict[str, List[str]], target: str) -> List[str]:
 
 
 def read_costs(file: pathlib.Path) -> Dict[str, Cost]:
-    """The table: on each line a crate, its minutes and its gigabytes."""
-    rows = re.findall(r"^(\w+) ([0-9.]+) ([0-9.]+)$", file.read_text() if file.exists() else "", re.M)
-    return {name: Cost(float(minutes), float(gigabytes)) for name, minutes, gigabytes in rows}
+    """The table: on each line a crate, its minutes, its gigabytes and, where it was measured, how much of the minutes more jobs divide."""
+    rows = re.findall(r"^(\w+) ([0-9.]+) ([0-9.]+)(?: ([0-9.]+))?$", file.read_text() if file.exists() else "", re.M)
+    return {name: Cost(float(minutes), float(gigabytes), float(divided or DIVIDED)) for name, minutes, gigabytes, divided in rows}
 
 
 def cost_by_lines(folder: pathlib.Path) -> Cost:
