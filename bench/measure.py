@@ -105,15 +105,15 @@ class Workshop:
         return str(shutil.copy(built, self.folder / "-".join([name, *flags])))
 
 
-def report_on(name: str, crates: list[str], report: collections.abc.Callable[[str], None]) -> None:
-    """Reports on the program of this name: that of the script's first word, or one built over copies of these crates."""
+def report_on(name: str, crates: list[str], report: collections.abc.Callable[[str], None], *libraries: str) -> None:
+    """Reports on the program of this name: that of the script's first word, or one built over copies of these crates, and libraries of the kit."""
     if len(sys.argv) > 1:
         report(str(pathlib.Path(sys.argv[1]).resolve()))
         return
     skip_without("rt")
     with tempfile.TemporaryDirectory() as folder:
         workshop = Workshop(pathlib.Path(folder), crates)
-        workshop.add(name, *crates)
+        workshop.add(name, *crates, *libraries)
         report(workshop.build(name))
 
 

@@ -15,7 +15,6 @@ Measured: 3,215 instructions a job on one desk; a run takes 1.6 ms of a processo
 times. No goal was set.
 """
 
-import pathlib
 import statistics
 import subprocess
 import sys
@@ -58,14 +57,7 @@ def report(program: str) -> None:
 
 def main() -> None:
     measure.skip_without("valgrind", "time")
-    if len(sys.argv) > 1:
-        report(sys.argv[1])
-        return
-    measure.skip_without("rt")
-    with tempfile.TemporaryDirectory() as folder:
-        workshop = measure.Workshop(pathlib.Path(folder), BELOW)
-        workshop.add(PROGRAM, *BELOW, "anyhow")
-        report(workshop.build(PROGRAM))
+    measure.report_on(PROGRAM, BELOW, report, "anyhow")
 
 
 if __name__ == "__main__":

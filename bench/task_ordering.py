@@ -15,10 +15,8 @@ Measured: instructions a number in `after` 68.8, `must_after` 62.8, `finalized_b
 reversed chain 1,161 a task and 0.15 ms (goal 1 ms).
 """
 
-import pathlib
 import subprocess
 import sys
-import tempfile
 
 import measure
 
@@ -63,14 +61,8 @@ def report(program: str) -> None:
 
 
 def main() -> None:
-    measure.skip_without("valgrind", "rt")
-    if len(sys.argv) > 1:
-        report(sys.argv[1])
-        return
-    with tempfile.TemporaryDirectory() as folder:
-        workshop = measure.Workshop(pathlib.Path(folder), BELOW)
-        workshop.add(PROGRAM, "task_ordering", "anyhow")
-        report(workshop.build(PROGRAM))
+    measure.skip_without("valgrind")
+    measure.report_on(PROGRAM, BELOW, report, "anyhow")
 
 
 if __name__ == "__main__":

@@ -14,9 +14,6 @@ Measured: a question takes 197 instructions where the action is searched for, 9 
 set.
 """
 
-import pathlib
-import sys
-import tempfile
 
 import measure
 
@@ -38,14 +35,8 @@ def report(program: str) -> None:
 
 
 def main() -> None:
-    measure.skip_without("valgrind", "rt")
-    if len(sys.argv) > 1:
-        report(sys.argv[1])
-        return
-    with tempfile.TemporaryDirectory() as folder:
-        workshop = measure.Workshop(pathlib.Path(folder), ["resource_lock"])
-        workshop.add(PROGRAM, "resource_lock", "anyhow")
-        report(workshop.build(PROGRAM))
+    measure.skip_without("valgrind")
+    measure.report_on(PROGRAM, ["resource_lock"], report, "anyhow")
 
 
 if __name__ == "__main__":
