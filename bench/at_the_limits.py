@@ -82,14 +82,7 @@ def report(program: str) -> None:
 
 def main() -> None:
     measure.skip_without("valgrind")
-    if len(sys.argv) > 1:
-        report(sys.argv[1])
-        return
-    measure.skip_without("rt")
-    with tempfile.TemporaryDirectory() as folder:
-        workshop = measure.Workshop(pathlib.Path(folder), BELOW)
-        workshop.add(PROGRAM, *BELOW, "anyhow")
-        report(workshop.build(PROGRAM))
+    measure.report_on(PROGRAM, BELOW, report, "anyhow")
 
 
 if __name__ == "__main__":

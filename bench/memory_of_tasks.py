@@ -15,10 +15,8 @@ PROGRAM is a built program of bench/programs/memory_of_tasks.
 Measured, of a program that wasn't proved: 2,048 tasks 2.2 MB, 100,000 tasks 43.9 MB, 1,000,000 tasks 424 MB.
 """
 
-import pathlib
 import subprocess
 import sys
-import tempfile
 
 import measure
 
@@ -63,14 +61,7 @@ def report(program: str) -> None:
 
 def main() -> None:
     measure.skip_without("time")
-    if len(sys.argv) > 1:
-        report(sys.argv[1])
-        return
-    measure.skip_without("rt")
-    with tempfile.TemporaryDirectory() as folder:
-        workshop = measure.Workshop(pathlib.Path(folder), BELOW)
-        workshop.add(PROGRAM, *BELOW, "anyhow")
-        report(workshop.build(PROGRAM))
+    measure.report_on(PROGRAM, BELOW, report, "anyhow")
 
 
 if __name__ == "__main__":

@@ -6,7 +6,7 @@ ghost use Rattle.coordination.specs.Sights.{workers_from};
 use anyhow::{Result, bail};
 use coordination::{Coordination, Opened, openings_are_at_rest};
 use lock_journal::Book;
-use resource_lock::Graph;
+use resource_lock::{Graph, GraphTasks};
 use std::alloc::Global;
 
 // A book without entries, for so many workers with a lease each, and no lock.
@@ -14,10 +14,11 @@ fn book_of(alloc: Global, workers: u32) -> Result<Box<Book>>
     ensures state { IfOk result (λ book. book.value.state ≡ opening_of book.value.graph) }
     ensures whole { IfOk result (λ book. book.value.given ≡ 0) }
 {
-    if !Graph::fits(0, None, workers, workers, &[], &[]) {
+    let tasks = GraphTasks::none(alloc);
+    if !Graph::fits(0, None, workers, workers, &tasks, &[]) {
         bail!("there are too many workers");
     }
-    let graph = Graph::new(0, None, workers, workers, Vec::new(alloc), Vec::new(alloc));
+    let graph = Graph::new(0, None, workers, workers, tasks, Vec::new(alloc));
     Ok(Box::new(alloc, Book::opening(alloc, graph, 0, 0)?)?)
 }
 

@@ -2,10 +2,11 @@
 use Rattle.std.proofs.Common.{◌≡◌, ℕ, zero, suc, ◌<◌, List, length, get_or, map, refl, sym, ap, ◌∙◌, subst, arith}
 use Rattle.std.specs.List.{All}
 use Rattle.std.proofs.lemmas.List.{get_or-map, length-map}
+use Rattle.std.proofs.lemmas.List.Elements.{All-weaker}
 use Rattle.resource_lock.specs.AtRest.{IsAtRest}
 use Rattle.lock_journal.specs.BookView.{BookView}
 use Rattle.coordination.specs.Holds.{HoldsNothing}
-use Rattle.coordination.specs.Passes.{PassView}
+use Rattle.coordination.specs.Passes.{PassView, ServiceId}
 use Rattle.coordination.specs.Sights.{sights_from}
 use Rattle.coordination.specs.declared.rule.Sight.{Sight}
 use Rattle.coordination.proofs.lemmas.Nothing.{owns_nothing, runs_nothing}
@@ -33,3 +34,7 @@ holds_nothing s book rest is =
 
 pub all_rest : (ps : List PassView) (book : BookView) → IsAtRest book.state → All (λ (p : PassView). p.sight.seen ≡ book) ps → All (λ (p : PassView). HoldsNothing p.sight) ps
 all_rest ps book rest saw = λ k d lt. holds_nothing (get_or ps k d).sight book rest (saw k d lt)
+
+-- passes of one service are of one table
+pub of_one_table : (s : ServiceId) (ps : List PassView) → All (λ (p : PassView). p.service ≡ s) ps → All (λ (p : PassView). p.service.table ≡ s.table) ps
+of_one_table s ps are = All-weaker (λ (p : PassView). p.service ≡ s) (λ (p : PassView). p.service.table ≡ s.table) (λ p is. ap (λ (t : ServiceId). t.table) is) ps are

@@ -14,7 +14,7 @@ use Rattle.coordination.specs.Sights.{one, seeing, sight_of}
 use Rattle.coordination.specs.declared.parts.Notes.{Notes}
 use Rattle.coordination.specs.declared.rule.Sight.{Sight}
 use Rattle.coordination.specs.declared.rule.SeatView.{SeatView}
-use Rattle.coordination.proofs.PassSteps.{closes_pass, part_on, room_on}
+use Rattle.coordination.proofs.PassSteps.{closes_pass, part_on}
 use Rattle.coordination.proofs.TakenBooks.{sound-same, taken_book, taken_sight}
 use Rattle.coordination.proofs.lemmas.Growing.{agrees_same, agrees_then}
 
@@ -56,7 +56,7 @@ module _ (m m' m'' : M) (t : Taken m m') (same : m''.0 ≡ m'.0) (given : Bool) 
     pub given_pass : (worker : WorkerId) (notes : Notes) (reach : Option ReachView) → IsPass worker notes m → IsTold m'.0.ledger reach (carried_book m''.1) → IsPass worker (record { part = notes.part; reach = reach }) n
     given_pass worker notes reach p told =
         closes_pass worker (record { part = notes.part; reach = reach }) n m''.0.ledger (seeing (sight_of m''.0) (carried_book m''.1)) (seeing (sight_of m.0) (carried_book m''.1)) back sight_is p.worker_is
-        (part_on _ _ (carried_book m''.1) notes.part agrees p.part_is) (room_on _ _ (carried_book m''.1) notes.part agrees p.room)
+        (part_on _ _ (carried_book m''.1) notes.part agrees p.part_is) p.room
         (subst (λ (v : SeatView). IsTold v.ledger reach (carried_book m''.1)) (sym same) told)
 
     pub has_taken : given ≡ true → CanGive (carried_book m'.1) s → HasTakenHistory (sight_of m.0) (sight_of n.0) s s'

@@ -1,13 +1,13 @@
 -- A pass closes again after its steps.
-use Rattle.std.proofs.Common.{◌≡◌, Option, Some, None, List, refl, sym, ap, ◌∙◌, subst, [], ◌∷◌}
-use Rattle.resource_lock.specs.GraphView.{GraphView}
+use Rattle.std.proofs.Common.{◌≡◌, ◌≤◌, ℕ, arith, Option, Some, None, List, refl, sym, ap, ◌∙◌, subst, [], ◌∷◌}
+use Rattle.std.specs.Prelude.{vec_capacity}
 use Rattle.resource_lock.specs.declared.ids.WorkerId.{WorkerId}
 use Rattle.lock_journal.specs.BookView.{BookView}
 use Rattle.coordination.specs.declared.parts.Notes.{Notes}
 use Rattle.coordination.specs.declared.parts.WorkerPart.{WorkerPart}
 use Rattle.coordination.specs.declared.rule.Sight.{Sight}
 use Rattle.coordination.specs.Agrees.{Agrees}
-use Rattle.coordination.specs.Parts.{HasListRoom, IsPartOf}
+use Rattle.coordination.specs.Parts.{HasLockRoom, HasMarkRoom, IsPartOf, IsSamePart}
 use Rattle.history_views.specs.ShownBooks.{IsTold}
 use Rattle.coordination.specs.Passes.{IsPass, me_in, view_in}
 use Rattle.coordination.specs.declared.rule.SeatView.{SeatView}
@@ -23,17 +23,28 @@ part_on w seen book part a p = record {
   last = p.last ∙ sym a.last;
 }
 
-pub room_on : (w : WorkerId) (seen book : BookView) (part : WorkerPart) → Agrees w seen book → HasListRoom seen.graph.locks part → HasListRoom book.graph.locks part
-room_on w seen book part a room = subst (λ (g : GraphView). HasListRoom g.locks part) (sym a.graph) room
+-- a part whose lists have other room says the same
+pub part_same : (w : WorkerId) (book : BookView) (old new : WorkerPart) → IsSamePart old new → IsPartOf book w old → IsPartOf book w new
+part_same w book old new same p = record {
+  has = record { holding = same.holding ∙ p.has.holding; locks = same.locks ∙ p.has.locks; claimed = ap (λ v. v.items) same.claimed ∙ p.has.claimed };
+  last = same.last ∙ p.last;
+}
+
+pub marks_same : (old new : WorkerPart) → IsSamePart old new → HasMarkRoom old → HasMarkRoom new
+marks_same old new same room = record { mark_room = subst (λ v. 3 ≤ vec_capacity v) (sym same.claimed) room.mark_room }
+
+-- room for fewer
+pub room_for_fewer : (locks less more : ℕ) (part : WorkerPart) → less ≤ more → HasLockRoom locks more part → HasLockRoom locks less part
+room_for_fewer locks less more part le room = record { lock_room = omega (arith, le, room.lock_room); park_room = omega (arith, le, room.park_room) }
 
 -- a seat that is alone again is a pass
 pub closes_pass : (worker : WorkerId) (notes : Notes) (me : M) (l : Option Ledger) (k s : Sight) → me ≡ (one l k, []) → sight_of me.0 ≡ s → worker ≡ s.worker → IsPartOf s.seen s.worker notes.part
-    → HasListRoom s.seen.graph.locks notes.part → IsTold l notes.reach s.seen → IsPass worker notes me
+    → HasMarkRoom notes.part → IsTold l notes.reach s.seen → IsPass worker notes me
 closes_pass worker notes me l k s lone is w p room told = record {
   lone = lone ∙ (λ i. (one (sym (ap (λ (m : M). m.0.ledger) lone) i) (sym (ap (λ (m : M). sight_of m.0) lone) i), []));
   worker_is = w ∙ sym (ap (λ (x : Sight). x.worker) is);
   part_is = subst (λ (x : Sight). IsPartOf x.seen x.worker notes.part) (sym is) p;
-  room = subst (λ (x : Sight). HasListRoom x.seen.graph.locks notes.part) (sym is) room;
+  room = room;
   told = subst (λ (p : Option Ledger × Sight). IsTold p.0 notes.reach p.1.seen) (λ i. (sym (ap (λ (m : M). m.0.ledger) lone) i, sym is i)) told;
 }
 

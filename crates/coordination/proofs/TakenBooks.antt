@@ -21,9 +21,9 @@ use Rattle.coordination.specs.SleepAndWake.{has_entered}
 use Rattle.coordination.specs.Sights.{one, seeing, sight_of}
 use Rattle.coordination.specs.Turns.{HasLeft, HasTurned, Leaves, sight_at}
 use Rattle.coordination.specs.declared.turns.Came.{Came}
-use Rattle.coordination.specs.Parts.{Follows, Grew, HasListRoom, IsPartOf}
+use Rattle.coordination.specs.Parts.{Follows, Grew, HasMarkRoom, HasRoomIfFinished, IsPartOf}
 use Rattle.coordination.specs.declared.parts.WorkerPart.{WorkerPart}
-use Rattle.coordination.proofs.PassSteps.{part_on, room_on}
+use Rattle.coordination.proofs.PassSteps.{part_on}
 
 -- the four clauses of the call together
 pub ran_of : {E : Type 0} (kind : Kind) (makes : Making) (fails retries : Cause) (w : WorkerId) (old new : BookView) (r : Result Disposition E)
@@ -86,11 +86,6 @@ pub part_in : (m m' : M) (t : Taken m m') (worker : WorkerId) (part : WorkerPart
 part_in m m' t worker part is p =
     subst (λ (x : WorkerId × BookView). IsPartOf x.1 x.0 part) (λ i. (sym is i, sym (taken_book m m' t) i)) (part_on (sight_of m.0).worker (sight_of m.0).seen t.book part t.found.agrees p)
 
-pub room_in : (m m' : M) (t : Taken m m') (part : WorkerPart) → HasListRoom (sight_of m.0).seen.graph.locks part
-    → HasListRoom (carried_book m'.1).graph.locks part
-room_in m m' t part room =
-    subst (λ (b : BookView). HasListRoom b.graph.locks part) (sym (taken_book m m' t)) (room_on (sight_of m.0).worker (sight_of m.0).seen t.book part t.found.agrees room)
-
 -- what a transform left of a book is what a part can follow
 grew : {E : Type 0} (kind : Kind) (makes : Making) (fails retries : Cause) (w : WorkerId) (old new : BookView) (r : Result Disposition E) → Ran kind makes fails retries w old new r → Grew w old new r
 grew kind makes fails retries w old new (Ok Finished) ran = (kind, ran.0, record { made = tt; allowed = ran.1.allowed; history = ran.1.history; state = ran.1.state })
@@ -99,8 +94,8 @@ grew kind makes fails retries w old new (Ok Retry) ran = (ran.history, ran.state
 grew kind makes fails retries w old new (Err e) ran = (ran.history, ran.state)
 
 pub follows : {E : Type 0} (kind : Kind) (makes : Making) (fails retries : Cause) (w : WorkerId) (old new : BookView) (r : Result Disposition E) (part : WorkerPart) → IsSoundBook old → new.graph ≡ old.graph → Ran kind makes fails retries w old new r
-    → new.given ≡ old.given → old.given ≤ length old.history → IsPartOf old w part → HasListRoom old.graph.locks part → Follows w old new r part
-follows kind makes fails retries w old new r part sound graph ran given within p room = record { sound = sound; graph = graph; grew = grew kind makes fails retries w old new r ran; given = given; within = within; kept = p; room = room }
+    → new.given ≡ old.given → old.given ≤ length old.history → IsPartOf old w part → HasMarkRoom part → HasRoomIfFinished old new r part → Follows w old new r part
+follows kind makes fails retries w old new r part sound graph ran given within p room lists = record { sound = sound; graph = graph; grew = grew kind makes fails retries w old new r ran; given = given; within = within; kept = p; room = room; lists = lists }
 
 -- an entry that was made wasn't given away
 pub entry_kept : {E : Type 0} (kind : Kind) (makes : Making) (fails retries : Cause) (w : WorkerId) (old new : BookView) (r : Result Disposition E) → Ran kind makes fails retries w old new r → new.given ≡ old.given → old.given ≤ length old.history

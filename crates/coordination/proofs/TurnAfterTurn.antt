@@ -5,7 +5,7 @@ use Rattle.resource_lock.specs.declared.ids.WorkerId.{WorkerId}
 use Rattle.lock_journal.specs.BookView.{BookView}
 use Rattle.history_views.specs.ShownBooks.{IsUnchanged}
 use Rattle.coordination.specs.declared.halts.Halt.{Halt}
-use Rattle.coordination.specs.declared.halts.Halt.TheVariants.{NoMemory, Stopped}
+use Rattle.coordination.specs.declared.halts.Halt.TheVariants.{Stopped}
 use Rattle.coordination.specs.declared.rule.Sight.{Sight}
 use Rattle.coordination.specs.declared.turns.Came.{Came}
 use Rattle.coordination.specs.declared.turns.Came.TheVariants as came

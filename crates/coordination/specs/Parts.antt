@@ -1,5 +1,5 @@
 -- What a pass keeps of a book for its worker, and how it follows the worker's entries.
-use Rattle.std.specs.Prelude.{◌≡◌, ◌+◌, ◌<◌, ◌≤◌, ℕ, suc, true, false, List, [], ◌∷◌, ◌++◌, length, vec_capacity}
+use Rattle.std.specs.Prelude.{◌≡◌, ◌+◌, ◌-◌, ◌<◌, ◌≤◌, ℕ, suc, min, true, false, List, [], ◌∷◌, ◌++◌, length, vec_capacity}
 use Rattle.std.specs.Prelude.{vec_len, Result, Ok, Err, None}
 use Rattle.std.specs.List.{AllByRecursion}
 use Rattle.resource_lock.specs.Change.{can_all, holding_after, make_all, NamesOnly}
@@ -10,6 +10,7 @@ use Rattle.resource_lock.specs.declared.changes.Change.TheVariants.{Lock, Move, 
 use Rattle.resource_lock.specs.declared.ids.WorkerId.{WorkerId}
 use Rattle.lock_transforms.specs.Entry.{entry}
 use Rattle.lock_journal.specs.BookView.{BookView}
+use Rattle.lock_journal.specs.LastChanges.{last_changes}
 use Rattle.lock_journal.specs.Ran.{FinishesIn}
 use Rattle.lock_transforms.specs.Table.{owned}
 use Rattle.lock_transforms.specs.declared.entries.Kind.{Kind}
@@ -36,33 +37,43 @@ pub record IsPartOf (book : BookView) (w : WorkerId) (part : WorkerPart) : Type 
   pub has : Has book.state w part
   pub last : part.last ≡ last_of w book.history
 
--- its lists have room for so many locks, and for the three marks that a worker runs at most
-pub record HasListRoom (locks : ℕ) (part : WorkerPart) : Type 0 where
-  pub lock_room : locks ≤ vec_capacity part.locks
+-- its list of marks has room for the three that a worker runs at most
+pub record HasMarkRoom (part : WorkerPart) : Type 0 where
   pub mark_room : 3 ≤ vec_capacity part.claimed
-  pub park_room : locks ≤ vec_capacity part.parked
 
--- The part is that of a worker of a sound book, and has room for all that the worker may have.
+-- the same part, but for the room in its lists of locks
+pub record IsSamePart (old new : WorkerPart) : Type 0 where
+  pub last : new.last ≡ old.last
+  pub holding : holding_in new ≡ holding_in old
+  pub locks : new.locks.items ≡ old.locks.items
+  pub claimed : new.claimed ≡ old.claimed
+
+-- its lists of locks have room for so many more, or for all where there are fewer
+pub record HasLockRoom (locks more : ℕ) (part : WorkerPart) : Type 0 where
+  pub lock_room : vec_len part.locks + min more (locks - vec_len part.locks) ≤ vec_capacity part.locks
+  pub park_room : vec_len part.parked + min more (locks - vec_len part.parked) ≤ vec_capacity part.parked
+
+-- The part is that of a worker of a sound book.
 pub record IsPartHere (w : WorkerId) (book : BookView) (part : WorkerPart) : Type 0 where
   pub known : w.0 < book.graph.workers
   pub sound : IsSoundBook book
   pub kept : IsPartOf book w part
-  pub room : HasListRoom book.graph.locks part
+  pub room : HasMarkRoom part
 
--- the part of a worker that has nothing, with room for all
-pub record IsFreshPart (locks last : ℕ) (part : WorkerPart) : Type 0 where
+-- the part of a worker that has nothing
+pub record IsFreshPart (last : ℕ) (part : WorkerPart) : Type 0 where
   pub lease : part.lease ≡ false
   pub blocked : part.blocked ≡ false
   pub owned : part.locks.items ≡ []
   pub claimed : part.claimed.items ≡ []
   pub parked : part.parked.items ≡ []
   pub number : part.last ≡ last
-  pub has_room : HasListRoom locks part
+  pub has_room : HasMarkRoom part
 
--- these are the parts of the workers from w on, each with room for all that its worker may have
+-- these are the parts of the workers from w on
 abbrev pub ArePartsFrom : ℕ → BookView → List WorkerPart → Type 0
 ArePartsFrom w book [] = Unit {0}
-ArePartsFrom w book (part ∷ parts) = IsPartOf book (record { 0 = w }) part × HasListRoom book.graph.locks part
+ArePartsFrom w book (part ∷ parts) = IsPartOf book (record { 0 = w }) part × HasMarkRoom part
     × ArePartsFrom (suc w) book parts
 
 -- its lists have room for a change of the worker
@@ -87,7 +98,7 @@ pub record IsAfter (w : WorkerId) (c : Change) (old new : WorkerPart) : Type 0 w
   pub mark_room : vec_capacity new.claimed ≡ vec_capacity old.claimed
   pub park_room : vec_capacity new.parked ≡ vec_capacity old.parked
 
--- The part is that of the worker in a good state, in which it can make these changes in turn, and has room for all. No state on the
+-- The part is that of the worker in a good state, in which it can make these changes in turn, and has room for as many. No state on the
 -- way has more of its marks than it has room for.
 pub record LeadsOn (s : StateView) (w : WorkerId) (part : WorkerPart) (changes : List Change) : Type 0 where
   pub good : Good s
@@ -96,7 +107,8 @@ pub record LeadsOn (s : StateView) (w : WorkerId) (part : WorkerPart) (changes :
   pub possible : can_all s w changes ≡ true
   pub has : Has s w part
   pub few : (front behind : List Change) → changes ≡ front ++ behind → length (claimed (make_all s w front) w) ≤ 3
-  pub room : HasListRoom (length s.owners) part
+  pub room : HasMarkRoom part
+  pub lists : HasLockRoom (length s.owners) (length changes) part
 
 -- a book after a transform of the worker
 abbrev pub Grew : {E : Type 0} → WorkerId → BookView → BookView → Result Disposition E → Type 0
@@ -105,7 +117,11 @@ Grew w old new (Ok Failed) = (kind : Kind) × (new.history ≡ old.history ++ en
 Grew w old new (Ok Retry) = (new.history ≡ old.history) × (new.state ≡ old.state)
 Grew w old new (Err e) = (new.history ≡ old.history) × (new.state ≡ old.state)
 
--- The part is that of a sound book, on which a transform of the worker was run.
+-- where a transform finished, the part has room for as many changes as that made
+abbrev pub HasRoomIfFinished : {E : Type 0} → BookView → BookView → Result Disposition E → WorkerPart → Type 0
+HasRoomIfFinished old new ran part = ran ≡ Ok Finished → HasLockRoom old.graph.locks (length (last_changes new.history)) part
+
+-- The part is that of a sound book, on which a transform of the worker was run, and has room for the changes that it made.
 pub record Follows {E : Type 0} (w : WorkerId) (old new : BookView) (ran : Result Disposition E) (part : WorkerPart) : Type 0 where
   pub sound : IsSoundBook old
   pub graph : new.graph ≡ old.graph
@@ -113,4 +129,5 @@ pub record Follows {E : Type 0} (w : WorkerId) (old new : BookView) (ran : Resul
   pub given : new.given ≡ old.given
   pub within : old.given ≤ length old.history
   pub kept : IsPartOf old w part
-  pub room : HasListRoom old.graph.locks part
+  pub room : HasMarkRoom part
+  pub lists : HasRoomIfFinished old new ran part

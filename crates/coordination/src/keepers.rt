@@ -3,6 +3,7 @@ ghost use Rattle.std.specs.Prelude.{◌≡◌, ◌<◌, ◌≤◌, List, None, O
 ghost use Rattle.logbook.specs.Pages.{Book as Ledger};
 ghost use Rattle.resource_lock.specs.declared.changes.Change.{Change};
 ghost use Rattle.lock_journal.specs.BookView.{BookView};
+ghost use Rattle.lock_journal.specs.LastChanges.{last_changes};
 ghost use Rattle.lock_journal.specs.Giving.{CanGive, GivesTo};
 ghost use Rattle.lock_journal.specs.Ran.{FailsIn, FinishesIn, IsToRetry};
 ghost use Rattle.history_views.specs.ShownBooks.{IsUnchanged};
@@ -66,6 +67,8 @@ pub trait Runner: Keeper {
             → FailsIn (T.fails_on transform.now) (Self.book_of self.old) (Self.book_of self.new) worker (T.kind_of transform.now) }
         ensures retry { result ≡ Ok Disposition.Retry
             → IsToRetry (T.retries_on transform.now) (Self.book_of self.old) (Self.book_of self.new) worker }
+        ensures few { result ≡ Ok Disposition.Finished
+            → length (last_changes (Self.book_of self.new).history) ≤ T.most transform.now (Self.book_of self.old).graph worker (Self.book_of self.old).state }
         ensures no_memory { OnErr result (IsUnchanged (Self.book_of self.old) (Self.book_of self.new)) };
 }
 

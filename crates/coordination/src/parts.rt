@@ -1,12 +1,12 @@
 //! What a pass keeps of the book for its worker.
-ghost use Rattle.std.specs.Prelude.{◌≡◌, ◌<◌, [], IfOk, length, true, vec_capacity};
+ghost use Rattle.std.specs.Prelude.{◌≡◌, ◌<◌, ◌≤◌, ◌+◌, ◌-◌, [], IfOk, OnOk, length, min, true, vec_capacity, vec_len};
 ghost use Rattle.resource_lock.specs.Change.{make_all};
 ghost use Rattle.resource_lock.specs.StateView.{StateView, runs_by};
 ghost use Rattle.lock_journal.specs.BookView.{BookView};
 ghost use Rattle.lock_journal.specs.Changes.{changes_left};
 ghost use Rattle.lock_journal.specs.OwnChanges.{mark_before, with_if, without_if};
 ghost use Rattle.coordination.specs.SortedLists.{IsRising};
-ghost use Rattle.coordination.specs.Parts.{Follows, HasListRoom, HasRoomFor, IsAfter, IsPartOf, IsFreshPart, LeadsOn, StandsInOrder};
+ghost use Rattle.coordination.specs.Parts.{Follows, HasLockRoom, HasMarkRoom, HasRoomFor, IsAfter, IsFreshPart, IsPartOf, IsSamePart, LeadsOn, StandsInOrder};
 
 use crate::sorted_lists::{add, remove};
 use history_views::Reach;
@@ -45,21 +45,31 @@ pub struct WorkerPart {
 }
 
 impl WorkerPart {
-    /// The part of a worker that has nothing, with room for all that it can ever have where there are so many locks. It fails for want of memory alone.
-    pub fn fresh(alloc: Global, locks: usize, last: u64) -> Result<WorkerPart, AllocError>
-        ensures { IfOk result (IsFreshPart locks last) }
+    /// The part of a worker that has nothing, with room for the marks that it can run. Its lists of locks take no memory yet. It fails
+    /// for want of memory alone.
+    pub fn fresh(alloc: Global, last: u64) -> Result<WorkerPart, AllocError>
+        ensures { IfOk result (IsFreshPart last) }
     {
-        let owned = Vec::with_capacity(alloc, locks)?;
         let claimed = Vec::with_capacity(alloc, MOST_MARKS)?;
-        let parked = Vec::with_capacity(alloc, locks)?;
         Ok(WorkerPart {
             last,
             lease: false,
             blocked: false,
-            locks: owned,
+            locks: Vec::new(alloc),
             claimed,
-            parked,
+            parked: Vec::new(alloc),
         })
+    }
+
+    /// Makes room for so many changes of the worker where there are so many locks. It fails for want of memory alone. The part says what
+    /// it said, also then.
+    #[inline]
+    pub fn reserve(&mut self, locks: u32, changes: u64) -> Result<(), AllocError>
+        ensures same { IsSamePart self.old self.new }
+        ensures room { OnOk result (HasLockRoom locks changes self.new) }
+    {
+        make_room(&mut self.locks, locks, changes)?;
+        make_room(&mut self.parked, locks, changes)
     }
 
     /// Follows the book, on which a transform of the worker was run, with what came of that. It takes no memory.
@@ -67,7 +77,7 @@ impl WorkerPart {
     pub fn follow(&mut self, worker: WorkerId, book: &Book, ran: &Result<Disposition, AllocError>)
         requires { (before : BookView) × Follows worker before book.now ran.now self.old }
         ensures part { IsPartOf book.now worker self.new }
-        ensures room { HasListRoom book.now.graph.locks self.new }
+        ensures room { HasMarkRoom self.new }
     {
         match ran {
             Ok(Disposition::Finished) => {
@@ -111,6 +121,20 @@ impl WorkerPart {
             Change::Leave => self.blocked = false,
         }
     }
+}
+
+// Makes room for so many more of so many locks, or for all that aren't in the list.
+#[inline]
+fn make_room(list: &mut Vec<LockId>, locks: u32, more: u64) -> Result<(), AllocError>
+    ensures items { list.new.items ≡ list.old.items }
+    ensures room { OnOk result (vec_len list.new + min more (locks - vec_len list.new) ≤ vec_capacity list.new) }
+{
+    let left = u64::from(locks).saturating_sub(list.len() as u64);
+    let wanted = more.min(left) as usize;
+    if wanted <= list.capacity() - list.len() {
+        return Ok(());
+    }
+    list.try_reserve(wanted)
 }
 
 // The marks that run by a worker, after it has moved one.

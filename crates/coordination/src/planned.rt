@@ -110,7 +110,7 @@ impl Slot<Planned> {
         ensures seen { IfOk result (λ opened. All (λ p. p.sight.seen ≡ book.value) opened.1.items) }
     {
         let planned = Planned::new(alloc, book)?;
-        open_slot(alloc, planned)
+        open_slot(alloc, planned, &None)
     }
 
     /// Tries a worker's turn. None says that another pass has the book at this moment: then nothing has changed, and the call can be

@@ -16,7 +16,7 @@ use crate::decisions::{Decided, Decision, Followed};
 use crate::guarded::Guarded;
 use crate::halts::Halt;
 use crate::keepers::{Keeper, Runner};
-use crate::openings::Stock;
+use crate::openings::open_service;
 use crate::outside_work::Offers;
 use crate::passes::Pass;
 use crate::questions::Question;
@@ -90,10 +90,8 @@ impl<O: Offers> Coordination<O> {
         ensures seen { IfOk result (λ opened. All (λ p. p.sight.seen ≡ book.value) opened.passes.items) }
         ensures rest { IfOk result (λ opened. All (λ p. HoldsNothing p.sight) opened.passes.items) }
     {
-        let stock = Stock::of(alloc, &book)?;
-        let guarded = Guarded::new(alloc, BoxedBook { inner: book }, offers)?;
-        let (slot, seat) = Slot::new(alloc, guarded)?;
-        let (service, passes) = stock.open(slot, seat, &None);
+        let keeper = BoxedBook { inner: book };
+        let (service, passes) = open_service(alloc, keeper, offers, &None)?;
         Ok(Opened { service, passes })
     }
 }

@@ -6,12 +6,10 @@ ghost use Rattle.history_views.specs.ShownBooks.{SameHistory};
 ghost use Rattle.coordination.specs.Holds.{HoldsNothing};
 ghost use Rattle.coordination.specs.Sights.{sights_from, workers_from};
 
-use crate::guarded::Guarded;
-use crate::openings::Stock;
+use crate::openings::open_service;
 use crate::outside_work::Offers;
 use crate::passes::Pass;
 use crate::services::Coordination;
-use crate::slots::Slot;
 use history_views::{ShownBook, View};
 use lock_journal::Book;
 use std::alloc::{AllocError, Global};
@@ -57,12 +55,9 @@ impl<O: Offers, R: Wait + Drop> Coordination<O, ShownBook<R>> {
         ensures ledger { IfOk result (λ opened. All (λ v. opened.service.service.ledger ≡ Some v.ledger) opened.views.items) }
         ensures shown { IfOk result (λ opened. All (λ v. SameHistory (last_book v.log) book.value) opened.views.items) }
     {
-        let stock = Stock::of(alloc, &book)?;
         let (shown, views) = with_views(alloc, rt, book, views)?;
         let told = shown.reach();
-        let guarded = Guarded::new(alloc, shown, offers)?;
-        let (slot, seat) = Slot::new(alloc, guarded)?;
-        let (service, passes) = stock.open(slot, seat, &told);
+        let (service, passes) = open_service(alloc, shown, offers, &told)?;
         Ok(OpenedWithViews {
             service,
             passes,

@@ -1,12 +1,12 @@
 //! The steps on the table.
-ghost use Rattle.std.specs.Prelude.{◌≡◌, ◌≢◌, ◌<◌, ◌+◌, ◌-◌, ◌^◌, [], ◌∷◌, length, true, false, IfNone, IfSome, None};
-ghost use Rattle.coordination.specs.Attempts.{Answers, HasRun};
+ghost use Rattle.std.specs.Prelude.{◌≡◌, ◌≢◌, ◌<◌, ◌≤◌, ◌+◌, ◌-◌, ◌^◌, [], ◌∷◌, length, true, false, IfNone, IfSome, None};
+ghost use Rattle.coordination.specs.Attempts.{Answers, HasRun, Ran};
 ghost use Rattle.coordination.specs.Decisions.{DecideGives, EndsDecision, HadStep, carried_out};
 ghost use Rattle.coordination.specs.SleepAndWake.{EndsHold, stance_asking};
 ghost use Rattle.history_views.specs.ShownBooks.{IsTold};
 ghost use Rattle.coordination.specs.Kept.{kept};
 ghost use Rattle.coordination.specs.Offered.{AnswersWith, WaitsWith};
-ghost use Rattle.coordination.specs.Parts.{IsPartHere};
+ghost use Rattle.coordination.specs.Parts.{HasRoomIfFinished, IsPartHere, IsSamePart};
 ghost use Rattle.coordination.specs.Rule.{AddsOwn, Hears, Taken, carried_book};
 ghost use Rattle.coordination.specs.Sights.{holding, one, seeing, sight_of, stopping};
 ghost use Rattle.coordination.specs.Stops.{KnowsNoStop};
@@ -15,7 +15,7 @@ ghost use Rattle.coordination.specs.Turns.{HasLeft};
 use crate::boxed_books::BoxedBook;
 use crate::decisions::{Decided, Decision};
 use crate::keepers::{Keeper, Kept, Runner};
-use crate::parts::Notes;
+use crate::parts::{Notes, WorkerPart};
 use crate::questions::Question;
 use crate::rule::{Hear, OpenedWith, Order, PutBack, SeatView, Stop, Take};
 use crate::sleepers::{Sleepers, Wakes};
@@ -256,12 +256,39 @@ pub(crate) fn run_on<K: Runner, T: Transform>(
     ensures run { HasRun (T.kind_of transform.now) (T.makes transform.now) (T.fails_on transform.now)
         (T.retries_on transform.now) worker (K.book_of keeper.old) (K.book_of keeper.new) notes.new.part sleepers.old sleepers.new result }
 {
-    let ran = keeper.run(worker, &notes.part.locks, transform);
+    let ran = run_with_room(keeper, worker, &mut notes.part, transform);
     let book = keeper.book();
     notes.part.follow(worker, book, &ran);
     let wakes = sleepers.end_transform(book, worker, transform.kind(), &ran);
     keeper.tell(&mut notes.reach);
     (ran, wakes)
+}
+
+// Makes room in the worker's part for what the transform changes, and runs it on the book. Where there is no memory for the room the
+// transform wasn't run.
+#[inline]
+fn run_with_room<K: Runner, T: Transform>(
+    keeper: &mut K,
+    worker: WorkerId,
+    part: &mut WorkerPart,
+    transform: &T,
+) -> Result<Disposition, AllocError>
+    requires { worker.0 < (K.book_of keeper.old).graph.workers }
+    ensures ledger { K.ledger_of keeper.new ≡ K.ledger_of keeper.old }
+    ensures graph { (K.book_of keeper.new).graph ≡ (K.book_of keeper.old).graph }
+    ensures given { (K.book_of keeper.new).given ≡ (K.book_of keeper.old).given }
+    ensures within { (K.book_of keeper.old).given ≤ length (K.book_of keeper.old).history }
+    ensures ran { Ran (T.kind_of transform.now) (T.makes transform.now) (T.fails_on transform.now) (T.retries_on transform.now) worker
+        (K.book_of keeper.old) (K.book_of keeper.new) result }
+    ensures same { IsSamePart part.old part.new }
+    ensures room { HasRoomIfFinished (K.book_of keeper.old) (K.book_of keeper.new) result part.new }
+{
+    // Of the length, that no more entries were given away than there are.
+    let book = keeper.book();
+    let _ = book.len();
+    let most = transform.most_changes(book.graph(), book.state(), worker);
+    part.reserve(book.graph().locks(), most)?;
+    keeper.run(worker, &part.locks, transform)
 }
 
 // Asks the question of the book, and ends the hold, where its worker sleeps until this comes if there is no answer.

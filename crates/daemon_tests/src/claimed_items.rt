@@ -16,7 +16,7 @@ use lease_service::current_lease;
 use lock_journal::Book;
 use lock_transforms::kinds::{Claim, Close, Start, Submit};
 use lock_transforms::{Closed, Transform};
-use resource_lock::{Graph, GraphAction, GraphTask, LockId, MarkId, Retention};
+use resource_lock::{Graph, GraphAction, GraphTask, GraphTasks, LockId, MarkId, Retention};
 use std::alloc::{AllocError, Global};
 use std::process::Abort;
 use std::sync::Wait;
@@ -31,7 +31,6 @@ const ITEMS: u32 = 10;
 fn graph(rt: &impl Abort, alloc: Global) -> Result<Graph, AllocError> {
     let task = GraphTask {
         lock: LockId(0),
-        after: Vec::new(alloc),
         first_action: 0,
         actions: 1,
     };
@@ -42,8 +41,8 @@ fn graph(rt: &impl Abort, alloc: Global) -> Result<Graph, AllocError> {
         first_unit: 0,
         items: ITEMS,
     };
-    let mut tasks = Vec::new(alloc);
-    tasks.push(task)?;
+    let mut tasks = GraphTasks::none(alloc);
+    tasks.push(task, &[])?;
     let actions = [action].to_vec(alloc)?;
     assert!(rt; Graph::fits(1, None, WORKERS, WORKERS, &tasks, &actions));
     Ok(Graph::new(1, None, WORKERS, WORKERS, tasks, actions))

@@ -6,7 +6,7 @@ ghost use Rattle.coordination.specs.Sights.{workers_from};
 use anyhow::{Result, bail};
 use coordination::{Coordination, Opened, openings_are_at_rest};
 use lock_journal::Book;
-use resource_lock::Graph;
+use resource_lock::{Graph, GraphTasks};
 use std::alloc::Global;
 
 // A book without entries, for so many workers with a lock for each, and so many leases. A plan's tasks and actions aren't
@@ -16,17 +16,11 @@ fn book_of(alloc: Global, workers: u32, max_leases: u32) -> Result<Box<Book>>
     ensures state { IfOk result (λ book. book.value.state ≡ opening_of book.value.graph) }
     ensures whole { IfOk result (λ book. book.value.given ≡ 0) }
 {
-    if !Graph::fits(workers, None, workers, max_leases, &[], &[]) {
+    let tasks = GraphTasks::none(alloc);
+    if !Graph::fits(workers, None, workers, max_leases, &tasks, &[]) {
         bail!("there are too many workers or leases");
     }
-    let graph = Graph::new(
-        workers,
-        None,
-        workers,
-        max_leases,
-        Vec::new(alloc),
-        Vec::new(alloc),
-    );
+    let graph = Graph::new(workers, None, workers, max_leases, tasks, Vec::new(alloc));
     Ok(Box::new(alloc, Book::opening(alloc, graph, 0, 0)?)?)
 }
 

@@ -2,6 +2,7 @@
 ghost use Rattle.std.specs.Prelude.{◌≡◌, ◌<◌, ◌≤◌, ◌-◌, IfOk, IfSome, IsNone, IsSome, None, OnErr, List, Ok, Some, length, take, true, false};
 ghost use Rattle.resource_lock.specs.declared.changes.Change.{Change};
 ghost use Rattle.lock_transforms.specs.Entry.{prefix_state};
+ghost use Rattle.lock_journal.specs.LastChanges.{last_changes};
 ghost use Rattle.lock_journal.specs.Ran.{FinishesIn, FailsIn, IsToRetry};
 ghost use Rattle.history_views.specs.Growing.{IsLater, last_book};
 ghost use Rattle.history_views.specs.ShownBooks.{IsOnStage, IsTaken, IsTold, IsUnchanged, SameHistory, ledger_at};
@@ -119,6 +120,8 @@ impl<R: Wait + Drop> ShownBook<R> {
         ensures within { self.old.book.given ≤ length self.old.book.history }
         ensures finished { result ≡ Ok Disposition.Finished
             → (changes : List Change) × FinishesIn (T.makes transform.now) self.old.book self.new.book worker (T.kind_of transform.now) changes }
+        ensures few { result ≡ Ok Disposition.Finished
+            → length (last_changes self.new.book.history) ≤ T.most transform.now self.old.book.graph worker self.old.book.state }
         ensures failed { result ≡ Ok Disposition.Failed
             → FailsIn (T.fails_on transform.now) self.old.book self.new.book worker (T.kind_of transform.now) }
         ensures retry { result ≡ Ok Disposition.Retry

@@ -5,7 +5,7 @@ ghost use Rattle.coordination.specs.Sights.{workers_from};
 
 use coordination::{Coordination, OpenedWithViews, openings_are_at_rest};
 use lock_journal::Book;
-use resource_lock::Graph;
+use resource_lock::{Graph, GraphTasks};
 use std::alloc::{AllocError, Global};
 use std::process::Abort;
 use std::sync::Wait;
@@ -24,7 +24,7 @@ pub fn book_of(rt: &impl Abort, alloc: Global, limits: &Limits) -> Result<Box<Bo
     ensures whole { IfOk result (λ book. book.value.given ≡ 0) }
     ensures workers { IfOk result (λ book. book.value.graph.workers ≡ limits.now.workers) }
 {
-    let tasks = Vec::new(alloc);
+    let tasks = GraphTasks::none(alloc);
     let actions = Vec::new(alloc);
     assert!(rt;
         Graph::fits(

@@ -35,7 +35,7 @@ pub record Adds (a b : Inside) (k : StoredEntry) (kind : Kind) (new : List Chang
   pub until : closings_until k.kind k.number (length b.closings.items) ≡ length a.closings.items
   pub kind_is : kind_from b.closings.items k.kind k.number ≡ kind
   pub few_changes : vec_len b.changes ≤ MOST_PLACES
-  pub few_closings : vec_len b.closings ≤ MOST_PLACES
+  pub few_closings : length b.closings.items ≤ MOST_PLACES
   pub before : b.before ≡ a.before
   pub place : (u : ℕ) → place_at b u ≡ place_by b.closings.items k k.number u (place_at a u)
   pub earlier : (u : ℕ) → place_by b.closings.items k k.earlier u (place_at b u) ≡ place_at a u
@@ -96,7 +96,7 @@ last_place : {X : Type 0} (xs ys : List X) (x : X) → xs ≡ ys ++ x ∷ [] →
 last_place xs ys x is = omega (arith, ap length is, length-append ys (x ∷ []))
 
 -- a list without its last member
-front_is : {X : Type 0} (xs ys : List X) (x : X) → xs ≡ ys ++ x ∷ [] → ys ≡ take (length xs - 1) xs
+pub front_is : {X : Type 0} (xs ys : List X) (x : X) → xs ≡ ys ++ x ∷ [] → ys ≡ take (length xs - 1) xs
 front_is xs ys x is = sym (take-append_seam ys (x ∷ [])) ∙ ap (λ n. take n (ys ++ x ∷ [])) (sym (last_place xs ys x is)) ∙ ap (take (length xs - 1)) (sym is)
 
 pub last_at : {X : Type 0} (xs ys : List X) (x : X) → xs ≡ ys ++ x ∷ [] → slice_get xs (length xs - 1) ≡ Some x
@@ -153,6 +153,6 @@ module _ (a b : Inside) (k : StoredEntry) (sound : IsSoundSegment a) (drops : Dr
         ∙ place_in-same b.closings.items a.closings.items b.stored.items u NOWHERE same;
     earlier = λ u. keep-same a.closings.items b.closings.items b.stored.items u NOWHERE (kinds_back b.closings.items a.closings.items b.stored.items same) (kept u).0;
     few_changes = omega (arith, start_is, popped.start, b.changes.ok.0, a.changes.ok.0, sound.few_changes);
-    few_closings = omega (arith, until_is, until_within (length a.closings.items) k.kind k.number popped.number, b.closings.ok.0, a.closings.ok.0, sound.few_closings);
+    few_closings = omega (arith, until_is, until_within (length a.closings.items) k.kind k.number popped.number, sound.few_closings);
     few = subst (λ n. n ≤ MOST_BEFORE) (sym drops.before) sound.few;
   }

@@ -3,6 +3,7 @@ pub mod Outcomes
 pub mod StoredChanges
 pub mod NextChanges
 pub mod LastNoted
+pub mod Digests
 pub mod Stored
 pub mod Pushed
 pub mod Adding

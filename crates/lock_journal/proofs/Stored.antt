@@ -70,6 +70,22 @@ until_within m stored.End n h = omega arith
 until_within m stored.Acquire n h = omega arith
 until_within m stored.HandBack n h = omega arith
 
+pub until_close : (m : ℕ) (kind : StoredKind) (n : ℕ) → IsLastNumber m kind n → m ≤ closings_until kind n m + 1
+until_close m stored.Start n h = omega arith
+until_close m stored.Skip n h = omega arith
+until_close m stored.Submit n h = omega arith
+until_close m stored.Park n h = omega arith
+until_close m stored.Resume n h = omega arith
+until_close m stored.Claim n h = omega arith
+until_close m stored.Close n h = omega (arith, h)
+until_close m stored.BlockForFetch n h = omega arith
+until_close m stored.Block n h = omega arith
+until_close m stored.UnblockAfterFetch n h = omega (arith, h)
+until_close m stored.Unblock n h = omega arith
+until_close m stored.End n h = omega arith
+until_close m stored.Acquire n h = omega arith
+until_close m stored.HandBack n h = omega arith
+
 -- the closings before those of entries stand among all
 pub before_within : (n m : ℕ) (ks : List StoredEntry) → AreStored n m ks → closings_before ks m ≤ m
 before_within n m [] h = omega arith

@@ -4,6 +4,8 @@ pub mod Bounds
 pub mod StoredChange
 pub mod Changes
 pub mod Shown
+pub mod StoredClosing
+pub mod StoredClosings
 pub mod StoredEntry
 pub mod SegmentView
 pub mod Segment

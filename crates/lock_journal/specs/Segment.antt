@@ -11,7 +11,7 @@ segment_view h = record {
   before = h.before;
   entries = entries_from h.changes.items h.closings.items h.stored.items;
   units = vec_len h.closed_at;
-  spare_entries = min (vec_capacity h.stored - vec_len h.stored) (min (vec_capacity h.closings - vec_len h.closings) (MOST_PLACES - vec_len h.closings));
+  spare_entries = min (vec_capacity h.stored - vec_len h.stored) h.closings.spare;
   spare_changes = min (vec_capacity h.changes - vec_len h.changes) (MOST_PLACES - vec_len h.changes);
 }
 
@@ -22,5 +22,5 @@ pub record IsSoundSegment (h : Inside) : Type 0 where
   pub closed : (u : ℕ) → slice_index_or h.closed_at.items u NOWHERE ≡ place_in h.closings.items h.stored.items u NOWHERE
   pub earlier : (u : ℕ) → KeepEarlier h.closings.items h.stored.items u NOWHERE
   pub few_changes : vec_len h.changes ≤ MOST_PLACES
-  pub few_closings : vec_len h.closings ≤ MOST_PLACES
+  pub few_closings : length h.closings.items ≤ MOST_PLACES
   pub few : h.before ≤ MOST_BEFORE

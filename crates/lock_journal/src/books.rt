@@ -299,6 +299,8 @@ impl Book {
         ensures within { self.old.given ≤ length self.old.history }
         ensures finished { result ≡ Ok Disposition.Finished
             → (changes : List Change) × FinishesIn (T.makes transform.now) self.old self.new worker (T.kind_of transform.now) changes }
+        ensures few { result ≡ Ok Disposition.Finished
+            → length (last_changes self.new.history) ≤ T.most transform.now self.old.graph worker self.old.state }
         ensures failed { result ≡ Ok Disposition.Failed
             → FailsIn (T.fails_on transform.now) self.old self.new worker (T.kind_of transform.now) }
         ensures retry { result ≡ Ok Disposition.Retry

@@ -9,6 +9,7 @@ mod segments;
 mod shown_changes;
 mod shown_entries;
 mod stored_changes;
+mod stored_closings;
 mod stored_entries;
 
 pub use books::Book;

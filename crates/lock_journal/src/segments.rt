@@ -17,12 +17,13 @@ ghost use Rattle.lock_journal.specs.declared.stored_entries.TheConstants.{MOST_P
 use crate::shown_changes::Changes;
 use crate::shown_entries::Shown;
 use crate::stored_changes::{StoredChange, store_changes};
+use crate::stored_closings::StoredClosings;
 use crate::stored_entries::{
-    MOST_PLACES, StoredEntry, changes_of, closings_until, end_before, kind_of, place_behind,
-    store_kind,
+    MOST_PLACES, StoredEntry, changes_of, closings_until, end_before, free_places, kind_of,
+    place_behind, store_kind,
 };
 use item_actions::Outcome;
-use lock_transforms::{Closed, Kind};
+use lock_transforms::Kind;
 use resource_lock::{Change, WorkerId};
 use std::alloc::{AllocError, Global};
 use std::marker::Model;
@@ -36,13 +37,13 @@ pub(crate) const MOST_BEFORE: u64 = 1 << 62;
 /// Entries of a history that stand one after another, with the number of those before them. A service gives its history
 /// away in segments, and takes an empty one for each.
 ///
-/// The changes of all entries stand in a row, and so do the closings that their kinds carry. Of each unit it is kept where its last
-/// closing among them stands.
+/// The changes of all entries stand in a row, and so do the closings that their kinds carry, and the digests of those. Of each unit it is
+/// kept where its last closing among them stands.
 #[derive(Drop)]
 pub struct Segment {
     stored: Vec<StoredEntry>,
     changes: Vec<StoredChange>,
-    closings: Vec<Closed>,
+    closings: StoredClosings,
     closed_at: Vec<u32>,
     before: u64,
 }
@@ -80,7 +81,7 @@ impl Segment {
         Ok(Segment {
             stored: Vec::with_capacity(alloc, entries as usize)?,
             changes: Vec::with_capacity(alloc, changes as usize)?,
-            closings: Vec::with_capacity(alloc, entries as usize)?,
+            closings: StoredClosings::with_room(alloc, entries as usize)?,
             closed_at: vec![in alloc; NOWHERE; units as usize]?,
             before: 0,
         })
@@ -122,8 +123,7 @@ impl Segment {
         ensures { result ≡ self.now.spare_entries }
     {
         let entries = (self.stored.capacity() - self.stored.len()) as u64;
-        let closings = (self.closings.capacity() - self.closings.len()) as u64;
-        entries.min(closings.min(free_places(self.closings.len())))
+        entries.min(self.closings.spare())
     }
 
     /// How many more changes there is room for.
@@ -142,13 +142,11 @@ impl Segment {
         ensures changes { OnOk result (changes ≤ self.new.spare_changes) }
         ensures full { OnErr result ((self.old.spare_entries < entries) ⊎ (self.old.spare_changes < changes)) }
     {
-        if entries as u64 > free_places(self.closings.len())
-            || changes as u64 > free_places(self.changes.len())
-        {
+        if changes as u64 > free_places(self.changes.len()) {
             return Err(AllocError);
         }
         self.stored.try_reserve(entries)?;
-        self.closings.try_reserve(entries)?;
+        self.closings.reserve(entries)?;
         self.changes.try_reserve(changes)
     }
 
@@ -253,7 +251,7 @@ impl Segment {
         if let Some(last) = self.stored.pop() {
             put_back(&mut self.closed_at, last, &self.closings);
             self.closings
-                .truncate(closings_until(last, self.closings.len()));
+                .pop_from(closings_until(last, self.closings.len()));
             self.changes.truncate(last.start as usize);
         }
     }
@@ -278,20 +276,14 @@ impl Segment {
     }
 }
 
-// How many places of 32 bits are free behind so many.
-fn free_places(len: usize) -> u64
-    ensures { result ≡ MOST_PLACES - len }
-{
-    MOST_PLACES.saturating_sub(len as u64)
-}
-
 // The outcome of the closing at a place, or Skipped where there is none.
-fn outcome_at(closings: &[Closed], place: usize) -> Outcome
-    ensures { result ≡ (closing_at closings.now place).outcome }
+fn outcome_at(closings: &StoredClosings, place: usize) -> Outcome
+    ensures { result ≡ (closing_at closings.now.items place).outcome }
 {
-    match closings.get(place) {
-        Some(closed) => closed.outcome,
-        None => Outcome::Skipped,
+    if place < closings.len() {
+        closings.at(place).outcome
+    } else {
+        Outcome::Skipped
     }
 }
 
@@ -314,11 +306,11 @@ fn set_place(all: &mut [u32], kind: &Kind, place: u32) -> u32
 }
 
 // Sets where the closing stood before of the unit that a stored entry closed, if it closed one.
-fn put_back(all: &mut [u32], stored: StoredEntry, closings: &[Closed])
-    requires number { IsNumberOf (length closings.now) stored.kind stored.number }
-    requires closes { ClosesWithin (length all.old) (kind_from closings.now stored.kind stored.number) }
+fn put_back(all: &mut [u32], stored: StoredEntry, closings: &StoredClosings)
+    requires number { IsNumberOf (length closings.now.items) stored.kind stored.number }
+    requires closes { ClosesWithin (length all.old) (kind_from closings.now.items stored.kind stored.number) }
     ensures len { length all.new ≡ length all.old }
-    ensures places { (u : ℕ) → slice_index_or all.new u NOWHERE ≡ place_by closings.now stored stored.earlier u (slice_index_or all.old u NOWHERE) }
+    ensures places { (u : ℕ) → slice_index_or all.new u NOWHERE ≡ place_by closings.now.items stored stored.earlier u (slice_index_or all.old u NOWHERE) }
 {
     if !stored.failed {
         set_place(all, &kind_of(stored, closings), stored.earlier);

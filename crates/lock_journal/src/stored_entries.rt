@@ -1,5 +1,5 @@
 //! What is stored of an entry.
-ghost use Rattle.std.specs.Prelude.{◌≡◌, ◌≤◌, ◌<◌, ◌+◌, ◌∷◌, [], ◌++◌, length, map, slice_range, vec_capacity, vec_len};
+ghost use Rattle.std.specs.Prelude.{◌≡◌, ◌≤◌, ◌<◌, ◌+◌, ◌∷◌, [], ◌++◌, ◌-◌, length, map, slice_range};
 ghost use Rattle.std.specs.Prelude.{if◌then◌else◌};
 ghost use Rattle.lock_journal.specs.Changes.{changes_left};
 ghost use Rattle.lock_journal.specs.Closings.{closed_of};
@@ -9,6 +9,7 @@ ghost use Rattle.lock_journal.specs.declared.stored_entries.TheConstants.{MOST_P
 
 use crate::shown_changes::Changes;
 use crate::stored_changes::StoredChange;
+use crate::stored_closings::StoredClosings;
 use lock_transforms::{Closed, Kind};
 use resource_lock::WorkerId;
 
@@ -28,7 +29,7 @@ pub struct StoredEntry {
 
 const _: () = prove!(size_of::<StoredEntry>() == 20);
 
-/// At most how many changes are stored in a row, and at most how many closings: so that their places have 32 bits.
+/// At most how many changes are stored in a row, how many closings, and how many digests: so that their places have 32 bits.
 pub const MOST_PLACES: u64 = (1 << 32) - 1;
 
 /// What a stored entry is for. The entry's number is that of the task, the action or the unit. Of a
@@ -53,15 +54,15 @@ pub enum StoredKind {
 
 /// What is stored of a kind, with its number. Its closing, if it has one, comes last in the closings.
 #[inline(always)]
-pub fn store_kind(kind: &Kind, closings: &mut Vec<Closed>) -> (StoredKind, u32)
-    requires room { vec_len closings.old < vec_capacity closings.old }
-    requires few { vec_len closings.old < MOST_PLACES }
+pub fn store_kind(kind: &Kind, closings: &mut StoredClosings) -> (StoredKind, u32)
+    requires room { 0 < closings.old.spare }
+    requires few { length closings.old.items ≤ MOST_PLACES }
     ensures kind { kind_from closings.new.items result.0 result.1 ≡ kind.now }
     ensures number { IsLastNumber (length closings.new.items) result.0 result.1 }
     ensures until { closings_until result.0 result.1 (length closings.new.items) ≡ length closings.old.items }
     ensures items { closings.new.items ≡ closings.old.items ++ closed_of kind.now }
-    ensures len { vec_len closings.new ≤ vec_len closings.old + 1 }
-    ensures capacity { vec_capacity closings.new ≡ vec_capacity closings.old }
+    ensures few { length closings.new.items ≤ MOST_PLACES }
+    ensures spare { closings.old.spare ≤ closings.new.spare + 1 }
 {
     match *kind {
         Kind::Start(task) => (StoredKind::Start, task),
@@ -85,14 +86,14 @@ pub fn store_kind(kind: &Kind, closings: &mut Vec<Closed>) -> (StoredKind, u32)
 }
 
 // Puts a closing last, and answers its place.
-fn store_closing(closed: Closed, closings: &mut Vec<Closed>) -> u32
-    requires room { vec_len closings.old < vec_capacity closings.old }
-    requires few { vec_len closings.old < MOST_PLACES }
+fn store_closing(closed: Closed, closings: &mut StoredClosings) -> u32
+    requires { 0 < closings.old.spare }
     ensures place { result ≡ length closings.old.items }
     ensures last { result + 1 ≡ length closings.new.items }
     ensures closing { closing_at closings.new.items result ≡ closed }
     ensures items { closings.new.items ≡ closings.old.items ++ closed ∷ [] }
-    ensures capacity { vec_capacity closings.new ≡ vec_capacity closings.old }
+    ensures few { length closings.new.items ≤ MOST_PLACES }
+    ensures spare { closings.old.spare ≤ closings.new.spare + 1 }
 {
     let place = place_behind(closings.len());
     closings.push_reserved(closed);
@@ -107,10 +108,17 @@ pub fn place_behind(count: usize) -> u32
     count as u32
 }
 
+/// How many places of 32 bits are free behind so many.
+pub fn free_places(count: usize) -> u64
+    ensures { result ≡ MOST_PLACES - count }
+{
+    MOST_PLACES.saturating_sub(count as u64)
+}
+
 /// The kind of a stored entry, where these are the closings of all entries.
-pub fn kind_of(stored: StoredEntry, closings: &[Closed]) -> Kind
-    requires { IsNumberOf (length closings.now) stored.kind stored.number }
-    ensures { result ≡ kind_from closings.now stored.kind stored.number }
+pub fn kind_of(stored: StoredEntry, closings: &StoredClosings) -> Kind
+    requires { IsNumberOf (length closings.now.items) stored.kind stored.number }
+    ensures { result ≡ kind_from closings.now.items stored.kind stored.number }
 {
     match stored.kind {
         StoredKind::Start => Kind::Start(stored.number),
@@ -119,10 +127,12 @@ pub fn kind_of(stored: StoredEntry, closings: &[Closed]) -> Kind
         StoredKind::Park => Kind::Park(stored.number),
         StoredKind::Resume => Kind::Resume(stored.number),
         StoredKind::Claim => Kind::Claim(stored.number),
-        StoredKind::Close => Kind::Close(closings[stored.number as usize]),
+        StoredKind::Close => Kind::Close(closings.at(stored.number as usize)),
         StoredKind::BlockForFetch => Kind::Block(Some(stored.number)),
         StoredKind::Block => Kind::Block(None),
-        StoredKind::UnblockAfterFetch => Kind::Unblock(Some(closings[stored.number as usize])),
+        StoredKind::UnblockAfterFetch => {
+            Kind::Unblock(Some(closings.at(stored.number as usize)))
+        }
         StoredKind::Unblock => Kind::Unblock(None),
         StoredKind::End => Kind::End(stored.number),
         StoredKind::Acquire => Kind::Acquire,

@@ -1,6 +1,5 @@
 -- Locks and a lease taken one after another.
 use Rattle.std.proofs.Common.{◌≡◌, ℕ, ◌<◌, ◌≤◌, ◌+◌, ◌-◌, length, take, drop, get_or, List, [], ◌∷◌, ◌++◌, map, Bool, true, false, not, cond, ◌&&◌, ◌||◌, ◌⊎◌, leb, ltb, refl, sym, ◌∙◌, ap, subst, arith, Option, None, Some, inl, inr}
-use Rattle.std.specs.Option.{is_none}
 use Rattle.std.specs.List.{All, AllByRecursion, list_all, filter, slice_index_or, count_by}
 use Rattle.std.proofs.lemmas.Bool.{and_parts, and_from, both_ways, not_from_false, eq-eqb, leb-true, le-leb, lt-ltb, ltb-true, false_from_ne_true, false≢true, cases_Bool}
 use Rattle.std.proofs.lemmas.List.{append_assoc, append-nil, length-append, length-take, take_all, take_more, take-append-drop, get_or-set_same, get_or-set_other}

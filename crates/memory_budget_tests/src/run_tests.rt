@@ -20,7 +20,7 @@ use memory_budget::{
     BudgetLedger, BudgetLock, BudgetPool, Budgeted, BudgetedRun, CountedBudget, MAX_BUDGET_MB,
     SharedBudget, run_in_budget, stop_daemon,
 };
-use resource_lock::Graph;
+use resource_lock::{Graph, GraphTasks};
 use std::alloc::{AllocError, Global};
 use std::marker::Brand;
 use std::process::Abort;
@@ -77,7 +77,7 @@ fn book<R: Abort>(rt: &R, alloc: Global) -> Result<Box<Book>, AllocError>
     ensures state { IfOk result (λ book. book.value.state ≡ opening_of book.value.graph) }
     ensures whole { IfOk result (λ book. book.value.given ≡ 0) }
 {
-    let tasks = Vec::new(alloc);
+    let tasks = GraphTasks::none(alloc);
     let actions = Vec::new(alloc);
     assert!(rt; Graph::fits(0, None, 1, 1, &tasks, &actions));
     let graph = Graph::new(0, None, 1, 1, tasks, actions);

@@ -4,7 +4,7 @@ ghost use Rattle.std.specs.Prelude.{◌<◌};
 use lock_journal::Book;
 use lock_transforms::kinds::{End, Start};
 use lock_transforms::{Disposition, Kind, Transform};
-use resource_lock::{Graph, GraphTask, LockId, WorkerId};
+use resource_lock::{Graph, GraphTask, GraphTasks, LockId, WorkerId};
 use std::alloc::{AllocError, Global};
 use std::process::Abort;
 use std::test::Fail;
@@ -237,20 +237,17 @@ fn finishes<T: Transform>(book: &mut Book, transform: &T) -> Result<bool, AllocE
 }
 
 /// A task without actions, whose project has the only lock.
-fn task_alone(alloc: Global) -> GraphTask {
-    GraphTask {
-        lock: LockId(0),
-        after: Vec::new(alloc),
-        first_action: 0,
-        actions: 0,
-    }
-}
+const TASK_ALONE: GraphTask = GraphTask {
+    lock: LockId(0),
+    first_action: 0,
+    actions: 0,
+};
 
 /// The graph of two tasks, for one worker.
 pub(crate) fn graph_of_two(rt: &impl Abort, alloc: Global) -> Result<Graph, AllocError> {
-    let mut tasks = Vec::new(alloc);
-    tasks.push(task_alone(alloc))?;
-    tasks.push(task_alone(alloc))?;
+    let mut tasks = GraphTasks::none(alloc);
+    tasks.push(TASK_ALONE, &[])?;
+    tasks.push(TASK_ALONE, &[])?;
     assert!(rt; Graph::fits(1, None, 1, 1, &tasks, &[]));
     Ok(Graph::new(1, None, 1, 1, tasks, Vec::new(alloc)))
 }

@@ -1,7 +1,8 @@
 pub mod Words
 pub mod Sets
 pub mod Members
-pub mod NumberRanges
+pub mod Links
+pub mod GainedFronts
 pub mod AfterLists
 pub mod Places
 pub mod Counting

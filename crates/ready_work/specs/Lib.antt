@@ -12,7 +12,7 @@ pub mod StartableTasksView
 pub mod StartableTasks
 pub mod DependencyCounts
 pub mod TaskSets
-pub mod NumberLists
+pub mod LinkedLists
 pub mod Dependents
 pub mod ReadyWork
 pub mod Rank

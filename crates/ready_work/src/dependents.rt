@@ -1,31 +1,39 @@
 //! For each task its dependents: the tasks that come after it.
-ghost use Rattle.std.specs.Prelude.{◌≡◌, IfOk, map};
-ghost use Rattle.resource_lock.specs.Fits.{Fits};
-ghost use Rattle.ready_work.specs.Rank.{lists_of};
+ghost use Rattle.std.specs.Prelude.{◌≡◌, ◌<◌, All, IfOk, OnOk, length, map};
+ghost use Rattle.ready_work.specs.DependentLists.{AddsDependent, ListsDependents};
 ghost use Rattle.ready_work.specs.Dependents.{AreDependents};
 
-use crate::dependents_of;
-use crate::number_lists::NumberLists;
-use resource_lock::Graph;
+use crate::linked_lists::LinkedLists;
+use resource_lock::{Graph, NumberLists};
 use std::alloc::{AllocError, Global};
 
-// For each task, the tasks that it comes after.
-fn dependencies_of(alloc: Global, graph: &Graph) -> Result<Vec<Vec<u32>>, AllocError>
-    ensures fits { Fits graph.now }
-    ensures rows { IfOk result (λ rows. lists_of rows.items ≡ map (λ t. t.after) graph.now.tasks) }
+// Notes a task among the dependents of each of its names.
+fn note_dependent(dependents: &mut LinkedLists, names: &[u32], task: u32) -> Result<(), AllocError>
+    requires { All (λ n. n < length dependents.old) names.now }
+    ensures { OnOk result (AddsDependent dependents.old dependents.new names.now task) }
 {
-    let mut rows = Vec::with_capacity(alloc, graph.tasks().len())?;
-    for task in graph.tasks() {
-        rows.push(task.after.clone()?)?;
+    for name in names {
+        dependents.push(*name as usize, task)?;
     }
-    Ok(rows)
+    Ok(())
 }
 
-/// The dependents of each task.
+// The dependents of each task, as lists that have grown side by side: a task has no vector of its own.
+fn linked_dependents(alloc: Global, graph: &Graph) -> Result<LinkedLists, AllocError>
+    ensures { IfOk result (ListsDependents (map (λ t. t.after) graph.now.tasks) (length graph.now.tasks)) }
+{
+    let tasks = graph.tasks();
+    let mut dependents = LinkedLists::empty(alloc, tasks.len())?;
+    for task in 0..tasks.len() {
+        note_dependent(&mut dependents, tasks.after(task), task as u32)?;
+    }
+    Ok(dependents)
+}
+
+/// The dependents of each task, in time linear in the tasks and their names.
 pub(crate) fn all_dependents(alloc: Global, graph: &Graph) -> Result<NumberLists, AllocError>
     ensures { IfOk result (AreDependents graph.now) }
 {
-    let rows = dependencies_of(alloc, graph)?;
-    let dependents = dependents_of(alloc, &rows)?;
-    NumberLists::of(alloc, &dependents)
+    let dependents = linked_dependents(alloc, graph)?;
+    dependents.lists(alloc)
 }

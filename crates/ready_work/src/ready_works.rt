@@ -15,10 +15,9 @@ ghost use Rattle.ready_work.specs.TaskSets.{LooksAt, MovesTasks};
 
 use crate::choices::{closed_lock, is_free, is_open, is_queued};
 use crate::dependents::all_dependents;
-use crate::number_lists::NumberLists;
 use crate::number_sets::NumberSet;
 use crate::task_sets::TaskSets;
-use resource_lock::{Change, Graph, LockId, MarkId, State};
+use resource_lock::{Change, Graph, LockId, MarkId, NumberLists, State};
 use std::alloc::{AllocError, Global};
 
 /// The tasks that can be skipped or started, and the units and tasks that haven't ended, of a graph

@@ -11,10 +11,9 @@ ghost use Rattle.ready_work.specs.TaskSets.{HasDependencyCounts, HasTaskRoom, Is
 
 use crate::choices::{can_skip, is_startable};
 use crate::dependency_counts::DependencyCounts;
-use crate::number_lists::NumberLists;
 use crate::number_sets::NumberSet;
 use crate::startable_tasks::StartableTasks;
-use resource_lock::{Graph, MarkId, State};
+use resource_lock::{Graph, MarkId, NumberLists, State};
 use std::alloc::{AllocError, Global};
 
 /// The tasks that can be started, those that can be skipped, and those that haven't ended. For

@@ -1,5 +1,7 @@
 pub mod lemmas
 pub mod Follows
+pub mod NumberRanges
+pub mod TaskRows
 pub mod Noting
 pub mod FitParts
 pub mod TakenBack

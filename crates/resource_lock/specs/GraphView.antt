@@ -2,10 +2,10 @@
 use Rattle.std.specs.Prelude.{ℕ, List, [], Option, false, slice_index_or}
 use Rattle.resource_lock.specs.declared.ids.LockId.{LockId}
 use Rattle.resource_lock.specs.declared.graphs.Retention.TheVariants.{Retain}
-use Rattle.resource_lock.specs.declared.graphs.GraphTask.{GraphTask}
+use Rattle.resource_lock.specs.declared.graph_tasks.GraphTask.{GraphTask}
 use Rattle.resource_lock.specs.declared.graphs.GraphAction.{GraphAction}
 
--- a task, without where its list lies in memory
+-- a task, with those that it comes after
 pub record GraphTaskView : Type 0 where
   pub lock : LockId
   pub after : List ℕ
@@ -21,11 +21,11 @@ pub record GraphView : Type 0 where
   pub tasks : List GraphTaskView
   pub actions : List GraphAction
 
-abbrev pub graph_view : GraphTask → GraphTaskView
-graph_view t = record { lock = t.lock; after = t.after.items; first_action = t.first_action; actions = t.actions }
-
 abbrev pub no_task : GraphTaskView
 no_task = record { lock = record { 0 = 0 }; after = []; first_action = 0; actions = 0 }
+
+abbrev pub no_row : GraphTask
+no_row = record { lock = record { 0 = 0 }; first_action = 0; actions = 0 }
 
 abbrev pub no_action : GraphAction
 no_action = record { task = 0; retention = Retain; fetch = false; first_unit = 0; items = 0 }

@@ -6,7 +6,9 @@ pub mod Marks
 pub mod Good
 pub mod State
 pub mod Trying
+pub mod NumberLists
 pub mod GraphView
+pub mod GraphTasks
 pub mod Ranges
 pub mod Fits
 pub mod UnitActions

@@ -1,6 +1,6 @@
 -- A graph, with the action of each unit where these were noted.
-use Rattle.std.specs.Prelude.{ℕ, ◌≡◌, ◌+◌, ◌<◌, ◌≤◌, List, length, map, slice_index_or, IfSome}
-use Rattle.resource_lock.specs.GraphView.{GraphView, graph_view, action_of}
+use Rattle.std.specs.Prelude.{ℕ, ◌≡◌, ◌+◌, ◌<◌, ◌≤◌, List, length, slice_index_or, IfSome}
+use Rattle.resource_lock.specs.GraphView.{GraphView, action_of}
 use Rattle.resource_lock.specs.Fits.{Fits}
 use Rattle.resource_lock.specs.Ranges.{units_in, IsUnitOf}
 use Rattle.resource_lock.specs.declared.graphs.Graph.TheInside.{Inside}
@@ -24,7 +24,7 @@ graph_value g = record {
   workers = g.workers;
   max_leases = g.max_leases;
   units = g.units;
-  tasks = map graph_view g.tasks.items;
+  tasks = g.tasks;
   actions = g.actions.items;
 }
 

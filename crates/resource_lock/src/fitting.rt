@@ -1,13 +1,14 @@
 //! Which numbers, tasks and actions a graph can be made of.
-ghost use Rattle.std.specs.Prelude.{◌≡◌, ◌≤◌, ◌<◌, ◌↔◌, ℕ, IsTrue, length, map, sum_by, All, IfSome, slice_index_or};
-ghost use Rattle.resource_lock.specs.GraphView.{graph_view, no_action};
+ghost use Rattle.std.specs.Prelude.{◌≡◌, ◌≤◌, ◌<◌, ◌↔◌, ℕ, IsTrue, length, sum_by, All, IfSome, slice_index_or};
+ghost use Rattle.resource_lock.specs.GraphView.{no_action, no_task};
 ghost use Rattle.resource_lock.specs.Ranges.{IsIn, units_in};
 ghost use Rattle.resource_lock.specs.Parts.{IsFitTask, IsFitAction};
 ghost use Rattle.resource_lock.specs.Fits.{Fits, Follow};
 ghost use Rattle.resource_lock.specs.Made.{made_of};
 ghost use Rattle.resource_lock.specs.declared.limits.TheConstants.{MAX_LEASES, MAX_LOCKS, MAX_TASKS, MAX_UNITS, MAX_WORKERS};
 
-use crate::graphs::{Graph, GraphAction, GraphTask};
+use crate::graph_tasks::{GraphTask, GraphTasks};
+use crate::graphs::{Graph, GraphAction};
 use crate::ids::LockId;
 use crate::limits::{
     MAX_ACTIONS_PER_TASK, MAX_AFTER, MAX_LEASES, MAX_LOCKS, MAX_TASKS, MAX_UNITS, MAX_WORKERS,
@@ -25,14 +26,14 @@ impl Graph {
         all: Option<LockId>,
         workers: u32,
         max_leases: u32,
-        tasks: &[GraphTask],
+        tasks: &GraphTasks,
         actions: &[GraphAction],
     ) -> bool
         ensures { IsTrue result ↔ Fits (made_of locks all workers max_leases tasks.now actions.now) }
     {
         numbers_fit(locks, all, workers, max_leases, tasks.len())
             && tasks_fit(locks, tasks)
-            && ranges_fit(tasks, actions)
+            && ranges_fit(tasks.rows(), actions)
     }
 }
 
@@ -59,26 +60,41 @@ fn lock_fits(locks: u32, all: Option<LockId>) -> bool
 }
 
 // Whether each task's lock and the tasks that it comes after are in range, and within the limits.
-fn tasks_fit(locks: u32, tasks: &[GraphTask]) -> bool
-    ensures { IsTrue result ↔ All (λ t. IsFitTask locks (length tasks.now) (graph_view t)) tasks.now }
+fn tasks_fit(locks: u32, tasks: &GraphTasks) -> bool
+    ensures { IsTrue result ↔ ((t : ℕ) → t < length tasks.now → IsFitTask locks (length tasks.now) (slice_index_or tasks.now t no_task)) }
 {
-    tasks.iter().all(|task| task_fits(locks, tasks.len(), task))
+    for task in 0..tasks.len() {
+        if !task_fits(locks, tasks, task) {
+            return false;
+        }
+    }
+    true
 }
 
-// Whether a task fits beside so many locks and tasks.
-fn task_fits(locks: u32, tasks: usize, task: &GraphTask) -> bool
-    ensures { IsTrue result ↔ IsFitTask locks tasks (graph_view task.now) }
+// Whether a task fits beside so many locks and the other tasks.
+fn task_fits(locks: u32, tasks: &GraphTasks, task: usize) -> bool
+    requires { task < length tasks.now }
+    ensures { IsTrue result ↔ IsFitTask locks (length tasks.now) (slice_index_or tasks.now task no_task) }
 {
-    task.actions <= MAX_ACTIONS_PER_TASK
-        && task.after.len() <= MAX_AFTER
-        && task.lock.0 < locks
-        && task.after.iter().all(|&before| (before as usize) < tasks)
+    let row = tasks.at(task);
+    let after = tasks.after(task);
+    row.actions <= MAX_ACTIONS_PER_TASK
+        && after.len() <= MAX_AFTER
+        && row.lock.0 < locks
+        && are_below(after, tasks.len())
+}
+
+// Whether each of these numbers is one of the first so many.
+fn are_below(numbers: &[u32], count: usize) -> bool
+    ensures { IsTrue result ↔ All (λ n. n < count) numbers.now }
+{
+    numbers.iter().all(|&number| (number as usize) < count)
 }
 
 // Whether the tasks' actions and the actions' units are ranges, and within the limits.
 fn ranges_fit(tasks: &[GraphTask], actions: &[GraphAction]) -> bool
     ensures { IsTrue result ↔ ((Follow (λ t. t.first_action) (λ t. t.actions) 0 tasks.now (length actions.now))
-        × ((a : ℕ) → a < length actions.now → IsFitAction (map graph_view tasks.now) a (slice_index_or actions.now a no_action))
+        × ((a : ℕ) → a < length actions.now → IsFitAction tasks.now a (slice_index_or actions.now a no_action))
         × (Follow (λ a. a.first_unit) units_in 0 actions.now (sum_by units_in actions.now))
         × (sum_by units_in actions.now ≤ MAX_UNITS)) }
 {
@@ -104,7 +120,7 @@ fn actions_follow(tasks: &[GraphTask], stop: usize) -> bool
 
 // Whether each action has an item, and is in the range of its task.
 fn actions_fit(tasks: &[GraphTask], actions: &[GraphAction]) -> bool
-    ensures { IsTrue result ↔ ((a : ℕ) → a < length actions.now → IsFitAction (map graph_view tasks.now) a (slice_index_or actions.now a no_action)) }
+    ensures { IsTrue result ↔ ((a : ℕ) → a < length actions.now → IsFitAction tasks.now a (slice_index_or actions.now a no_action)) }
 {
     for (number, action) in actions.iter().enumerate() {
         if !action_fits(tasks, number as u64, action) {
@@ -116,7 +132,7 @@ fn actions_fit(tasks: &[GraphTask], actions: &[GraphAction]) -> bool
 
 // Whether the action of this number fits: it has items, and is one of its task's.
 fn action_fits(tasks: &[GraphTask], number: u64, action: &GraphAction) -> bool
-    ensures { IsTrue result ↔ IsFitAction (map graph_view tasks.now) number action.now }
+    ensures { IsTrue result ↔ IsFitAction tasks.now number action.now }
 {
     let task = tasks.get(action.task as usize);
     action.items > 0 && task.is_some_and(|task| has_action(task, number))

@@ -1,12 +1,12 @@
 //! Graphs: what a state belongs to.
-ghost use Rattle.std.specs.Prelude.{◌≡◌, map};
-ghost use Rattle.resource_lock.specs.GraphView.{graph_view};
+ghost use Rattle.std.specs.Prelude.{◌≡◌};
 ghost use Rattle.resource_lock.specs.Fits.{Fits};
 ghost use Rattle.resource_lock.specs.Made.{made_of};
 
 mod unit_ranges;
 
 use crate::fitting::unit_count;
+use crate::graph_tasks::GraphTasks;
 use crate::ids::LockId;
 use std::marker::Model;
 
@@ -56,15 +56,6 @@ impl Retention {
     }
 }
 
-/// A task: its project lock, the tasks that it comes after, and its range of actions.
-#[derive(Drop)]
-pub struct GraphTask {
-    pub lock: LockId,
-    pub after: Vec<u32>,
-    pub first_action: u32,
-    pub actions: u32,
-}
-
 /// An action: its task, the retention of the lock, and its range of units. Where it has a fetch,
 /// that is the first of them; the others are its items.
 #[derive(Clone, Copy)]
@@ -105,7 +96,7 @@ pub struct Graph {
     workers: u32,
     max_leases: u32,
     units: u32,
-    tasks: Vec<GraphTask>,
+    tasks: GraphTasks,
     actions: Vec<GraphAction>,
     // The action of each unit, where these were noted: a graph is made without memory. The table stands here, where the invariant ties
     // it to the actions, so no condition of a kind takes one more argument.
@@ -130,11 +121,11 @@ impl Graph {
         all: Option<LockId>,
         workers: u32,
         max_leases: u32,
-        tasks: Vec<GraphTask>,
+        tasks: GraphTasks,
         actions: Vec<GraphAction>,
     ) -> Graph
-        requires { Fits (made_of locks all workers max_leases tasks.items actions.items) }
-        ensures { result ≡ made_of locks all workers max_leases tasks.items actions.items }
+        requires { Fits (made_of locks all workers max_leases tasks actions.items) }
+        ensures { result ≡ made_of locks all workers max_leases tasks actions.items }
     {
         let units = unit_count(&actions) as u32;
         Graph {
@@ -185,8 +176,8 @@ impl Graph {
     }
 
     /// The tasks by number, at most `MAX_TASKS`.
-    pub fn tasks(&self) -> &[GraphTask]
-        ensures value { map graph_view result.now ≡ self.now.tasks }
+    pub fn tasks(&self) -> &GraphTasks
+        ensures value { result.now ≡ self.now.tasks }
         ensures fits { Fits self.now }
     {
         &self.tasks

@@ -8,7 +8,7 @@ ghost use Rattle.shared_services.specs.Takings.{HasTheLocks};
 use anyhow::{Result, bail};
 use coordination::{Coordination, Opened, openings_are_at_rest};
 use lock_journal::Book;
-use resource_lock::Graph;
+use resource_lock::{Graph, GraphTasks};
 use shared_services::ServiceTable;
 use std::alloc::Global;
 
@@ -28,17 +28,11 @@ fn book_of(alloc: Global, table: &ServiceTable, workers: u32) -> Result<Box<Book
     ensures whole { IfOk result (λ book. book.value.given ≡ 0) }
 {
     let locks = table.locks();
-    if !Graph::fits(locks, None, workers, workers, &[], &[]) {
+    let tasks = GraphTasks::none(alloc);
+    if !Graph::fits(locks, None, workers, workers, &tasks, &[]) {
         bail!("there are too many workers");
     }
-    let graph = Graph::new(
-        locks,
-        None,
-        workers,
-        workers,
-        Vec::new(alloc),
-        Vec::new(alloc),
-    );
+    let graph = Graph::new(locks, None, workers, workers, tasks, Vec::new(alloc));
     Ok(Box::new(alloc, Book::opening(alloc, graph, 0, 0)?)?)
 }
 

@@ -1,5 +1,5 @@
 -- The passes that a run's workers give back.
-use Rattle.std.proofs.Common.{◌≡◌, ◌<◌, ℕ, List, length, get_or, map, Option, sym, ap, ◌∙◌, arith}
+use Rattle.std.proofs.Common.{◌≡◌, ◌<◌, ℕ, List, length, get_or, map, Option, sym, ◌∙◌, arith}
 use Rattle.std.specs.List.{All}
 use Rattle.item_actions.specs.Files.{Folder}
 use Rattle.coordination.specs.Passes.{CoordinationView, PassView}

@@ -1,5 +1,5 @@
 -- A graph without tasks fits.
-use Rattle.std.proofs.Common.{◌≡◌, ◌<◌, ◌≤◌, ℕ, [], None, length, refl, arith}
+use Rattle.std.proofs.Common.{◌≤◌, ℕ, [], None, refl, arith}
 use Rattle.resource_lock.specs.Fits.{Fits}
 use Rattle.resource_lock.specs.Made.{made_of}
 use Rattle.resource_lock.specs.declared.limits.TheConstants.{MAX_LEASES, MAX_LOCKS, MAX_WORKERS}

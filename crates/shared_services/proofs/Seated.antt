@@ -8,7 +8,6 @@ use Rattle.item_actions.specs.Files.{Folder}
 use Rattle.coordination.specs.Passes.{PassView}
 use Rattle.coordination.proofs.lemmas.Numbered.{element}
 use Rattle.shared_services.specs.Team.{HasComeBack, HasWorked, HaveRun}
-use Rattle.shared_services.specs.Worked.{HasRun}
 use Rattle.shared_services.specs.declared.jobs.Job.{Job}
 use Rattle.shared_services.specs.declared.jobs.JobDone.{JobDone}
 

@@ -1,6 +1,6 @@
 -- A whole run, from what each of its workers did and the book that they left.
-use Rattle.std.proofs.Common.{◌≡◌, ◌<◌, ◌≤◌, ◌+◌, ◌-◌, ◌*◌, ◌/◌, ◌^◌, ◌⊎◌, inl, inr, ℕ, zero, suc, List, [], ◌∷◌, ◌++◌, length, get_or, map, drop, take, None, Option, refl, sym, ap, ◌∙◌, subst, arith}
-use Rattle.std.specs.List.{All, AllByRecursion, flat_map}
+use Rattle.std.proofs.Common.{◌≡◌, ◌<◌, ◌≤◌, ◌+◌, ◌-◌, ◌*◌, ◌/◌, ◌^◌, ◌⊎◌, inl, inr, ℕ, suc, List, [], ◌∷◌, ◌++◌, length, get_or, map, drop, take, None, Option, refl, sym, ap, ◌∙◌, subst, arith}
+use Rattle.std.specs.List.{All, AllByRecursion}
 use Rattle.std.specs.Prelude.{sum_by}
 use Rattle.std.proofs.Math.Nat.{zero-div, zero-mul}
 use Rattle.std.proofs.lemmas.Bool.{cases_lt}
@@ -10,13 +10,11 @@ use Rattle.item_actions.specs.Files.{Folder}
 use Rattle.resource_lock.specs.AtRest.{IsAtRest}
 use Rattle.resource_lock.specs.GraphView.{GraphView}
 use Rattle.resource_lock.specs.Made.{made_of}
-use Rattle.resource_lock.specs.StateView.{StateView}
 use Rattle.resource_lock.specs.declared.ids.WorkerId.{WorkerId}
 use Rattle.resource_lock.proofs.lemmas.Undo.{owner_from}
 use Rattle.lock_transforms.specs.Allowed.{Lawful}
-use Rattle.lock_transforms.specs.Entry.{Entry, prefix_state, replay}
+use Rattle.lock_transforms.specs.Entry.{Entry, prefix_state}
 use Rattle.lock_journal.specs.BookView.{BookView}
-use Rattle.lock_journal.specs.Own.{NamesWorkers}
 use Rattle.lock_journal.proofs.lemmas.Growing.{lawful-front}
 use Rattle.lock_journal.proofs.lemmas.Named.{named}
 use Rattle.coordination.specs.Agrees.{Agrees, IsSoundBook}

@@ -1,5 +1,5 @@
 -- What a pass shows before and after its uses are taken.
-use Rattle.std.specs.Prelude.{ℕ, ◌≡◌, true, List, []}
+use Rattle.std.specs.Prelude.{ℕ, true, List, []}
 use Rattle.lock_transforms.specs.declared.entries.Kind.TheVariants as kinds
 use Rattle.coordination.specs.Calls.{HasFinished}
 use Rattle.coordination.specs.Holds.{HoldsNothing}

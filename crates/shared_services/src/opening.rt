@@ -13,7 +13,7 @@ use crate::jobs::Job;
 use crate::workers::Worker;
 use coordination::{Coordination, Opened, Pass, openings_are_at_rest};
 use lock_journal::Book;
-use resource_lock::Graph;
+use resource_lock::{Graph, GraphTasks};
 use std::alloc::{AllocError, Global};
 
 // A graph with the locks of the services, and without tasks.
@@ -30,7 +30,7 @@ fn graph_of(alloc: Global, table: &ServiceTable, workers: u32, max_leases: u32) 
         None,
         workers,
         max_leases,
-        Vec::new(alloc),
+        GraphTasks::none(alloc),
         Vec::new(alloc),
     )
 }

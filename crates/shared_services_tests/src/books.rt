@@ -4,7 +4,7 @@ ghost use Rattle.resource_lock.specs.Opening.{opening_of};
 ghost use Rattle.shared_services.specs.Takings.{HasTheLocks};
 
 use lock_journal::Book;
-use resource_lock::{Change, Graph};
+use resource_lock::{Change, Graph, GraphTasks};
 use shared_services::ServiceTable;
 use std::alloc::{AllocError, Global};
 use std::process::Abort;
@@ -36,15 +36,9 @@ pub fn book_of(
     ensures history { IfOk result (λ book. book.value.history ≡ []) }
 {
     let locks = table.locks();
-    assert!(rt; Graph::fits(locks, None, workers, workers, &[], &[]));
-    let graph = Graph::new(
-        locks,
-        None,
-        workers,
-        workers,
-        Vec::new(alloc),
-        Vec::new(alloc),
-    );
+    let tasks = GraphTasks::none(alloc);
+    assert!(rt; Graph::fits(locks, None, workers, workers, &tasks, &[]));
+    let graph = Graph::new(locks, None, workers, workers, tasks, Vec::new(alloc));
     Ok(Box::new(alloc, Book::opening(alloc, graph, 0, 0)?)?)
 }
 

@@ -112,7 +112,7 @@ fn lock_is_free(book: &Book, worker: WorkerId, task: u32) -> bool
     ensures { result ≡ (is_none (owner_of book.now.state (task_of book.now.graph task).lock)
         && not (kept_from book.now.state worker (task_of book.now.graph task).lock)) }
 {
-    let lock = book.graph().tasks()[task as usize].lock;
+    let lock = book.graph().tasks().at(task as usize).lock;
     let state = book.state();
     state.owner(lock).is_none() && !state.kept_from(worker, lock)
 }

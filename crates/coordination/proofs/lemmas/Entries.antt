@@ -4,12 +4,12 @@ use Rattle.std.specs.Prelude.{slice_get}
 use Rattle.std.proofs.Math.Seq.{get_or-append_seam}
 use Rattle.std.proofs.lemmas.Option.{slice_get-get_or}
 use Rattle.resource_lock.specs.Change.{make_all}
+use Rattle.resource_lock.specs.declared.changes.Change.{Change}
 use Rattle.resource_lock.specs.Good.{Good}
-use Rattle.resource_lock.specs.GraphView.{GraphView}
 use Rattle.resource_lock.specs.Shape.{BelongsTo}
 use Rattle.resource_lock.specs.StateView.{StateView}
 use Rattle.resource_lock.specs.declared.ids.WorkerId.{WorkerId}
-use Rattle.resource_lock.proofs.lemmas.Runs.{belongs_along, same_shape-make_all, worker_from}
+use Rattle.resource_lock.proofs.lemmas.Runs.{worker_from}
 use Rattle.lock_transforms.specs.Entry.{Entry, entry}
 use Rattle.lock_journal.specs.BookView.{BookView}
 use Rattle.lock_journal.specs.LastChanges.{last_changes, made_by}
@@ -18,7 +18,7 @@ use Rattle.lock_transforms.specs.declared.transforms.Disposition.TheVariants.{Fi
 use Rattle.lock_journal.proofs.lemmas.Named.{belongs, good}
 use Rattle.coordination.specs.Agrees.{IsSoundBook}
 use Rattle.coordination.specs.WorkerEntries.{last_of}
-use Rattle.coordination.specs.Parts.{Follows, Has, HasListRoom, IsPartOf, LeadsOn}
+use Rattle.coordination.specs.Parts.{Follows, Has, IsPartOf, LeadsOn}
 use Rattle.coordination.specs.declared.parts.WorkerPart.{WorkerPart}
 use Rattle.coordination.proofs.lemmas.FewMarks.{Keeps, keeps}
 use Rattle.coordination.proofs.lemmas.Growing.{last_of-own}
@@ -33,21 +33,6 @@ belongs_sound book sound = subst (BelongsTo book.graph) (sym sound.replays) (bel
 
 pub good_sound : (book : BookView) → IsSoundBook book → Good book.state
 good_sound book sound = subst Good (sym sound.replays) (good book.graph book.history sound.lawful)
-
--- the room of the graph is that of its states
-room_in : (g : GraphView) (s : StateView) (part : WorkerPart) → BelongsTo g s → HasListRoom g.locks part → HasListRoom (length s.owners) part
-room_in g s part b room = record {
-  lock_room = omega (arith, b.locks, room.lock_room);
-  mark_room = room.mark_room;
-  park_room = omega (arith, b.locks, room.park_room);
-}
-
-room_out : (g : GraphView) (s : StateView) (part : WorkerPart) → BelongsTo g s → HasListRoom (length s.owners) part → HasListRoom g.locks part
-room_out g s part b room = record {
-  lock_room = omega (arith, b.locks, room.lock_room);
-  mark_room = room.mark_room;
-  park_room = omega (arith, b.locks, room.park_room);
-}
 
 last_of_more : (h : List Entry) (e : Entry) → slice_get (h ++ e ∷ []) (length (h ++ e ∷ []) - 1) ≡ Some e
 last_of_more h e =
@@ -78,7 +63,11 @@ module _ {E : Type 0} (w : WorkerId) (old new : BookView) (part : WorkerPart) (f
         has = record { holding = f.kept.has.holding; locks = f.kept.has.locks; claimed = f.kept.has.claimed };
         few = few_on_the_way old.graph old.state w f.grew.0 f.grew.1 b (worker_from old.graph old.state w b finishes.worker) finishes.kind finishes.finished
             (subst (λ s. Keeps s w) (sym f.sound.replays) (keeps old.graph old.history w f.sound.lawful));
-        room = let r = room_in old.graph old.state part b f.room in record { lock_room = r.lock_room; mark_room = r.mark_room; park_room = r.park_room };
+        room = record { mark_room = f.room.mark_room };
+        lists =
+            let made = ap (λ (cs : List Change). length cs) changes_made in
+            let room = f.lists refl in
+            record { lock_room = omega (arith, b.locks, made, room.lock_room); park_room = omega (arith, b.locks, made, room.park_room) };
       }
 
   module _ (after : WorkerPart) (n : ℕ) (leads : LeadsOn (make_all old.state w f.grew.1) w after []) where
@@ -89,11 +78,6 @@ module _ {E : Type 0} (w : WorkerId) (old new : BookView) (part : WorkerPart) (f
           has = subst (λ (s : StateView). Has s w after) (sym f.grew.2.state) leads.has;
           last = last ∙ (long ∙ (ap (λ (h : List Entry). length h) history ∙ sym (ap (λ (h : List Entry). last_of w h) history ∙ last_of-own w old.history e refl)));
         }
-
-    pub room_after : HasListRoom new.graph.locks after
-    room_after =
-        subst (λ (g : GraphView). HasListRoom g.locks after) (sym f.graph)
-        (room_out old.graph (make_all old.state w f.grew.1) after (belongs_along old.graph old.state (make_all old.state w f.grew.1) (same_shape-make_all old.state w f.grew.1) (belongs_sound old f.sound)) leads.room)
 
 -- a failed transform leaves all but the number of the last entry
 pub part_failed : {E : Type 0} (w : WorkerId) (old new : BookView) (part : WorkerPart) (n : ℕ) → Follows {E = E} w old new (Ok Failed) part → n ≡ length new.history → IsPartOf new w (record part { last = n })

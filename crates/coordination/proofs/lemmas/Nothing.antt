@@ -14,7 +14,7 @@ use Rattle.lock_journal.specs.Own.{action_at, claimed, marks_in, places_from, ta
 use Rattle.lock_journal.proofs.lemmas.Others.{running_of}
 use Rattle.resource_lock.specs.AtRest.{IsAtRest}
 use Rattle.coordination.specs.WorkerEntries.{last_of}
-use Rattle.coordination.specs.Parts.{ArePartsFrom, HasListRoom, IsFreshPart, IsPartOf}
+use Rattle.coordination.specs.Parts.{ArePartsFrom, HasMarkRoom, IsFreshPart, IsPartOf}
 use Rattle.coordination.specs.declared.parts.WorkerPart.{WorkerPart}
 
 -- no place where none passes, and the other way round
@@ -95,8 +95,8 @@ runs_nothing s w rest =
     λ i. marks_in (tasks i) (actions i) (units i)
 
 -- a fresh part is that of any worker of a state at rest
-pub fresh_part : (book : BookView) (locks : ℕ) (w : WorkerId) (last : ℕ) (part : WorkerPart) → IsAtRest book.state → IsFreshPart locks last part → last ≡ last_of w book.history → IsPartOf book w part
-fresh_part book locks w last part rest r is = record {
+pub fresh_part : (book : BookView) (w : WorkerId) (last : ℕ) (part : WorkerPart) → IsAtRest book.state → IsFreshPart last part → last ≡ last_of w book.history → IsPartOf book w part
+fresh_part book w last part rest r is = record {
   has = record {
     holding = (λ i. record { lease = r.lease i; parked = r.parked i; blocked = r.blocked i }) ∙ sym (rest.holdings w);
     locks = r.owned ∙ sym (owns_nothing book.state w rest);
@@ -106,7 +106,7 @@ fresh_part book locks w last part rest r is = record {
 }
 
 -- one part more behind those of the workers from w on
-pub parts_push : (w : ℕ) (book : BookView) (parts : List WorkerPart) (part : WorkerPart) → IsPartOf book (record { 0 = w + length parts }) part → HasListRoom book.graph.locks part → ArePartsFrom w book parts
+pub parts_push : (w : ℕ) (book : BookView) (parts : List WorkerPart) (part : WorkerPart) → IsPartOf book (record { 0 = w + length parts }) part → HasMarkRoom part → ArePartsFrom w book parts
     → ArePartsFrom w book (parts ++ part ∷ [])
 parts_push w book [] part is room before = (subst (λ (n : ℕ). IsPartOf book (record { 0 = n }) part) (omega arith) is, room, tt)
 parts_push w book (p ∷ ps) part is room before = (before.0, before.1, parts_push (suc w) book ps part (subst (λ (n : ℕ). IsPartOf book (record { 0 = n }) part) (omega arith) is) room before.2)

@@ -119,7 +119,7 @@ length_with before x (y ∷ ys) = at (before y x) (length_with before x ys)
     at true rest = omega arith
     at false rest = refl
 
-length_without : {X : Type 0} (before : X → X → Bool) (x : X) (xs : List X) → length (without_member before x xs) ≤ length xs
+pub length_without : {X : Type 0} (before : X → X → Bool) (x : X) (xs : List X) → length (without_member before x xs) ≤ length xs
 length_without before x [] = omega arith
 length_without before x (y ∷ ys) = at (before y x) (before x y) (length_without before x ys)
   where

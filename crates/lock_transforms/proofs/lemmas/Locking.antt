@@ -1,5 +1,5 @@
 -- Where a lock that the worker doesn't own can be taken.
-use Rattle.std.proofs.Common.{◌≡◌, Bool, true, false, not, ◌&&◌, ◌||◌, eqb, Option, None, Some, refl, ◌∙◌, ap}
+use Rattle.std.proofs.Common.{◌≡◌, true, false, not, ◌&&◌, ◌||◌, eqb, Option, None, Some, refl, ◌∙◌, ap}
 use Rattle.std.specs.List.{list_any}
 use Rattle.std.specs.Option.{is_none}
 use Rattle.std.proofs.lemmas.Bool.{and_from, and_right, both_ways, not-false, not_from_false, or_parts}

@@ -1,11 +1,10 @@
 -- The ranges of a graph that fits lie within it.
-use Rattle.std.proofs.Common.{◌≡◌, ℕ, zero, suc, ◌+◌, ◌^◌, ◌<◌, ◌≤◌, List, [], ◌∷◌, length, get_or, map, sym, ◌∙◌, ap, subst, inl, inr, arith}
+use Rattle.std.proofs.Common.{◌≡◌, ℕ, zero, suc, ◌+◌, ◌^◌, ◌<◌, ◌≤◌, List, [], ◌∷◌, length, get_or, sym, ◌∙◌, ap, subst, inl, inr, arith}
 use Rattle.std.specs.List.{All, range_with_len}
 use Rattle.std.proofs.lemmas.Bool.{cases_lt}
-use Rattle.std.proofs.lemmas.List.{get_or_default, get_or_past, get_or-map, length-map}
-use Rattle.resource_lock.specs.declared.graphs.GraphTask.{GraphTask}
+use Rattle.std.proofs.lemmas.List.{get_or_default, get_or_past}
 use Rattle.resource_lock.specs.declared.graphs.GraphAction.{GraphAction}
-use Rattle.resource_lock.specs.GraphView.{GraphView, GraphTaskView, graph_view, no_task, no_action, task_of, action_of}
+use Rattle.resource_lock.specs.GraphView.{GraphView, GraphTaskView, no_task, no_action, task_of, action_of}
 use Rattle.resource_lock.specs.Ranges.{IsIn, IsActionOf, units_in}
 use Rattle.resource_lock.specs.Fits.{Follow, Fits}
 use Rattle.resource_lock.proofs.lemmas.Units.{few_actions_in_all}
@@ -63,10 +62,8 @@ task_fits {g} fits t within = record {
 }
 
 -- so of one that was read
-pub task_read : {g : GraphView} {task : GraphTask} (tasks : List GraphTask) (i : ℕ) → Fits g → map graph_view tasks ≡ g.tasks → i < length g.tasks → task ≡ get_or tasks i task → IsTaskOf g (graph_view task)
-task_read {g} {task} tasks i fits is within read =
-    let inside : i < length tasks = omega (arith, ap length is, length-map tasks graph_view) in
-    subst (IsTaskOf g) (ap (λ ts. get_or ts i no_task) (sym is) ∙ get_or-map graph_view tasks i task no_task inside ∙ ap graph_view (sym read)) (task_fits fits i within)
+pub task_read : {g : GraphView} (tasks : List GraphTaskView) (i : ℕ) → Fits g → tasks ≡ g.tasks → i < length g.tasks → IsTaskOf g (get_or tasks i no_task)
+task_read {g} tasks i fits is within = subst (λ ts. IsTaskOf g (get_or ts i no_task)) (sym is) (task_fits fits i within)
 
 -- What holds of an action of the graph, by its number.
 pub record IsActionAt (g : GraphView) (i : ℕ) (action : GraphAction) : Type 0 where

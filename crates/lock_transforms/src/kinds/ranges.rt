@@ -23,7 +23,7 @@ pub(crate) fn lock_of(graph: &Graph, task: u32) -> LockId
     ensures value { result ≡ (task_of graph.now task).lock }
     ensures in_range { result.0 < graph.now.locks }
 {
-    graph.tasks()[task as usize].lock
+    graph.tasks().at(task as usize).lock
 }
 
 /// The tasks that a task comes after.
@@ -32,7 +32,7 @@ pub(crate) fn after_of(graph: &Graph, task: u32) -> &[u32]
     ensures value { result.now ≡ (task_of graph.now task).after }
     ensures in_range { All (λ k. k < length graph.now.tasks) result.now }
 {
-    &graph.tasks()[task as usize].after
+    graph.tasks().after(task as usize)
 }
 
 /// The actions of a task.
@@ -43,7 +43,7 @@ pub fn actions_of(graph: &Graph, task: u32) -> NumberRange
     ensures in_range { result.first + result.count ≤ length graph.now.actions }
     ensures fits { Fits graph.now }
 {
-    let task = &graph.tasks()[task as usize];
+    let task = graph.tasks().at(task as usize);
     NumberRange {
         first: task.first_action,
         count: task.actions,

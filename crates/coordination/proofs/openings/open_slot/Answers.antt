@@ -1,7 +1,6 @@
-use Rattle.std.proofs.Common.{◌≡◌, ◌∙◌, List, None, Option, ap, map, subst, sym}
-use Rattle.logbook.specs.Pages.{Book as Ledger}
+use Rattle.std.proofs.Common.{◌≡◌, List, ap, map, subst, sym}
 use Rattle.history_views.specs.ShownBooks.{IsTold}
-use Rattle.coordination.specs.Kept.{KeptView, kept}
+use Rattle.coordination.specs.Kept.{KeptView}
 use Rattle.lock_journal.specs.BookView.{BookView}
 use Rattle.coordination.specs.Passes.{PassView}
 use Rattle.coordination.specs.Sights.{sights_from}
@@ -14,7 +13,7 @@ first : (ps : List PassView) (opened book : BookView) → opened ≡ book → ma
 first ps opened book same passes = subst (λ (b : BookView). map (λ p. p.sight) ps ≡ sights_from 0 b.graph.workers b) same passes
 
 pub seated-passes-requires-clause-told : goal.seated-passes-requires-clause-told
-seated-passes-requires-clause-told g c = subst (λ (x : KeptView). IsTold x.ledger None x.book) (sym (c.in_ok-slot.ensures.kept ∙ ap (λ (l : Option Ledger). kept (g.K.Keeper.book_of c.args.keeper) l) c.requires.hidden)) tt
+seated-passes-requires-clause-told g c = subst (λ (x : KeptView). IsTold x.ledger c.args.told.now x.book) (sym c.in_ok-slot.ensures.kept) c.requires.told
 
 pub returns-clause-workers : goal.returns-clause-workers
 returns-clause-workers g c =

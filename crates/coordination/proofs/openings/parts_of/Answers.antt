@@ -1,6 +1,5 @@
 use Rattle.std.proofs.Common.{◌≡◌, ◌+◌, ◌∷◌, [], ℕ, List, sym, ap, ◌∙◌, subst, arith, length, length-append}
-use Rattle.resource_lock.specs.GraphView.{GraphView}
-use Rattle.coordination.specs.Parts.{ArePartsFrom, HasListRoom, IsPartOf}
+use Rattle.coordination.specs.Parts.{ArePartsFrom, IsPartOf}
 use Rattle.coordination.specs.declared.parts.WorkerPart.{WorkerPart}
 use Rattle.coordination.proofs.lemmas.Nothing.{fresh_part, parts_push}
 use Rattle.coordination.proofs.openings.parts_of.Goals as goal
@@ -14,10 +13,8 @@ loop-worker-preserved c =
     let items = c.in_ok-push.ensures.items in
     let long : length c.push.new.self.items ≡ length parts + 1 = ap (λ (l : List WorkerPart). length l) items ∙ length-append parts (part ∷ []) in
     let fresh = c.in_ok-fresh.ensures in
-    let mine = fresh_part book _ (record { 0 = c.loop-worker.worker }) _ part c.requires.rest fresh c.last_number-last.ensures in
-    let here : IsPartOf book (record { 0 = 0 + length parts }) part = subst (λ (n : ℕ). IsPartOf book (record { 0 = n }) part) (omega (arith, count)) mine in
-    let locks : c.locks-locks.result ≡ book.graph.locks = c.locks-locks.ensures ∙ ap (λ (g : GraphView). g.locks) c.graph.ensures.value in
-    let room : HasListRoom book.graph.locks part = subst (λ (n : ℕ). HasListRoom n part) locks fresh.has_room in (
+    let mine = fresh_part book (record { 0 = c.loop-worker.worker }) _ part c.requires.rest fresh c.last_number-last.ensures in
+    let here : IsPartOf book (record { 0 = 0 + length parts }) part = subst (λ (n : ℕ). IsPartOf book (record { 0 = n }) part) (omega (arith, count)) mine in (
       omega (arith, long, count),
-      subst (ArePartsFrom 0 book) (sym items) (parts_push 0 book parts part here room c.loop-worker.invariant.1),
+      subst (ArePartsFrom 0 book) (sym items) (parts_push 0 book parts part here fresh.has_room c.loop-worker.invariant.1),
     )

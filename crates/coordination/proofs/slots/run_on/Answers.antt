@@ -1,43 +1,44 @@
-use Rattle.std.proofs.Common.{◌<◌, length, rules, subst, sym}
+use Rattle.std.proofs.Common.{◌<◌, length, subst, sym}
 use Rattle.lock_journal.specs.BookView.{BookView}
-use Rattle.coordination.specs.Parts.{Follows, HasListRoom, IsPartOf}
+use Rattle.coordination.specs.Parts.{Follows, IsPartOf}
 use Rattle.lock_transforms.specs.declared.entries.Kind.{Kind}
 use Rattle.coordination.specs.SleepAndWake.{EndsHold, has_entered, stance_after}
-use Rattle.coordination.proofs.TakenBooks.{entry_kept, follows, ran_of}
+use Rattle.coordination.proofs.PassSteps.{marks_same, part_same}
+use Rattle.coordination.proofs.TakenBooks.{entry_kept, follows}
 use Rattle.coordination.proofs.slots.run_on.Goals as goal
 
 pub follow-requires : goal.follow-requires
 follow-requires g c =
     let T = g.T.Transform in
     let t = c.args.transform.now in
-    let e = c.run-ran.ensures in
+    let e = c.run_with_room-ran.ensures in
     let B = g.K.Keeper.book_of in
-    let r = c.requires.part in (
-      B c.args.keeper.now,
-      subst (λ (b : BookView). Follows c.args.worker (B c.args.keeper.now) b c.run-ran.result c.args.notes.now.part) (sym c.book-book.ensures) (follows (T.kind_of t) (T.makes t) (T.fails_on t) (T.retries_on t) c.args.worker (B c.args.keeper.now) (B c.run-ran.new.self) c.run-ran.result c.args.notes.now.part r.sound e.graph
-          (ran_of (T.kind_of t) (T.makes t) (T.fails_on t) (T.retries_on t) c.args.worker (B c.args.keeper.now) (B c.run-ran.new.self) c.run-ran.result e.finished e.failed e.retry (λ x is. search rules)) e.given e.within r.kept r.room),
+    let r = c.requires.part in
+    let old = B c.args.keeper.now in
+    let part = c.run_with_room-ran.new.part in (
+      old,
+      subst (λ (b : BookView). Follows c.args.worker old b c.run_with_room-ran.result part) (sym c.book-book.ensures)
+          (follows (T.kind_of t) (T.makes t) (T.fails_on t) (T.retries_on t) c.args.worker old (B c.run_with_room-ran.new.keeper) c.run_with_room-ran.result part r.sound e.graph e.ran e.given e.within
+          (part_same c.args.worker old c.args.notes.now.part part e.same r.kept) (marks_same c.args.notes.now.part part e.same r.room) e.room),
     )
 
 pub end_transform-wakes-requires : goal.end_transform-wakes-requires
 end_transform-wakes-requires g c = λ entered.
     let T = g.T.Transform in
     let t = c.args.transform.now in
-    let e = c.run-ran.ensures in
+    let e = c.run_with_room-ran.ensures in
     let B = g.K.Keeper.book_of in
     subst (λ (b : BookView). b.given < length b.history) (sym c.book-book.ensures)
-    (entry_kept (T.kind_of t) (T.makes t) (T.fails_on t) (T.retries_on t) c.args.worker (B c.args.keeper.now) (B c.run-ran.new.self) c.run-ran.result
-    (ran_of (T.kind_of t) (T.makes t) (T.fails_on t) (T.retries_on t) c.args.worker (B c.args.keeper.now) (B c.run-ran.new.self) c.run-ran.result e.finished e.failed e.retry (λ x is. search rules)) e.given e.within entered)
+    (entry_kept (T.kind_of t) (T.makes t) (T.fails_on t) (T.retries_on t) c.args.worker (B c.args.keeper.now) (B c.run_with_room-ran.new.keeper) c.run_with_room-ran.result e.ran e.given e.within entered)
 
 pub returns-clause-run : goal.returns-clause-run
 returns-clause-run g c =
-    let T = g.T.Transform in
-    let t = c.args.transform.now in
-    let e = c.run-ran.ensures in
-    let B = g.K.Keeper.book_of in record {
+    let e = c.run_with_room-ran.ensures in
+    record {
       graph = e.graph;
-      ran = ran_of (T.kind_of t) (T.makes t) (T.fails_on t) (T.retries_on t) c.args.worker (B c.args.keeper.now) (B c.run-ran.new.self) c.run-ran.result e.finished e.failed e.retry (λ x is. search rules);
+      ran = e.ran;
       kept = subst (λ (b : BookView). IsPartOf b c.args.worker c.follow.new.self) c.book-book.ensures c.follow.ensures.part;
-      room = subst (λ (b : BookView). HasListRoom b.graph.locks c.follow.new.self) c.book-book.ensures c.follow.ensures.room;
-      ends = subst (λ (p : Kind × BookView). EndsHold p.1 c.args.worker (stance_after c.args.sleepers.now.behind p.0 c.run-ran.result) (has_entered c.run-ran.result) c.args.sleepers.now
+      room = c.follow.ensures.room;
+      ends = subst (λ (p : Kind × BookView). EndsHold p.1 c.args.worker (stance_after c.args.sleepers.now.behind p.0 c.run_with_room-ran.result) (has_entered c.run_with_room-ran.result) c.args.sleepers.now
           c.end_transform-wakes.new.self c.end_transform-wakes.result) (λ i. (c.kind.ensures i, c.book-book.ensures i)) c.end_transform-wakes.ensures;
     }

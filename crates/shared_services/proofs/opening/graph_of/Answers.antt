@@ -1,15 +1,15 @@
-use Rattle.std.proofs.Common.{◌≡◌, List, [], None, sym, subst, arith}
+use Rattle.std.proofs.Common.{List, [], None, sym, subst, arith}
 use Rattle.resource_lock.specs.Fits.{Fits}
+use Rattle.resource_lock.specs.GraphView.{GraphTaskView}
 use Rattle.resource_lock.specs.Made.{made_of}
 use Rattle.resource_lock.specs.declared.graphs.GraphAction.{GraphAction}
-use Rattle.resource_lock.specs.declared.graphs.GraphTask.{GraphTask}
 use Rattle.shared_services.proofs.lemmas.Places.{few_locks}
 use Rattle.shared_services.proofs.NoTasks.{no_tasks_fit}
 use Rattle.shared_services.proofs.opening.graph_of.Goals as goal
 
-pub new-requires-3 : goal.new-requires-3
-new-requires-3 c =
+pub new-requires-2 : goal.new-requires-2
+new-requires-2 c =
     let few = few_locks c.args.table.now c.locks-locks.ensures.fit in
     let fits = no_tasks_fit c.locks-locks.result c.args.workers c.args.max_leases (omega (arith, few, c.locks-locks.ensures.count)) c.requires.some_worker (omega (arith, c.requires.few_workers)) c.requires.some_lease (omega (arith, c.requires.few_leases)) in
-    subst (λ (tasks : List GraphTask). Fits (made_of c.locks-locks.result None c.args.workers c.args.max_leases tasks c.new-2.result.items)) (sym c.new.ensures.items)
-    (subst (λ (actions : List GraphAction). Fits (made_of c.locks-locks.result None c.args.workers c.args.max_leases [] actions)) (sym c.new-2.ensures.items) fits)
+    subst (λ (tasks : List GraphTaskView). Fits (made_of c.locks-locks.result None c.args.workers c.args.max_leases tasks c.new.result.items)) (sym c.none.ensures)
+    (subst (λ (actions : List GraphAction). Fits (made_of c.locks-locks.result None c.args.workers c.args.max_leases [] actions)) (sym c.new.ensures.items) fits)

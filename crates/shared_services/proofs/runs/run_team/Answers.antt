@@ -1,12 +1,10 @@
-use Rattle.std.proofs.Common.{◌≡◌, List, Vec, [], drop, length, map, true, sym, ap, ◌∙◌, subst, arith}
+use Rattle.std.proofs.Common.{◌≡◌, List, Vec, drop, length, map, true, sym, ap, ◌∙◌, subst, arith}
 use Rattle.std.specs.List.{All, flat_map}
 use Rattle.std.proofs.lemmas.List.{take_at}
 use Rattle.std.specs.declared.alloc.Global.{Global}
 use Rattle.coordination.specs.Passes.{PassView}
 use Rattle.shared_services.specs.Shares.{jobs_of}
-use Rattle.shared_services.specs.Team.{HaveRun}
 use Rattle.shared_services.specs.Worked.{CanRun}
-use Rattle.shared_services.specs.declared.jobs.JobDone.{JobDone}
 use Rattle.shared_services.specs.declared.workers.Worker.{Worker}
 use Rattle.coordination.proofs.lemmas.Numbered.{of_each}
 use Rattle.shared_services.proofs.Seated.{all_back, all_ran, as_many, if_both}

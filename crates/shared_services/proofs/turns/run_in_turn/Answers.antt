@@ -1,6 +1,5 @@
-use Rattle.std.proofs.Common.{◌∙◌, List, ap, sym, subst, take, ◌+◌}
+use Rattle.std.proofs.Common.{◌∙◌, List, sym, subst, take, ◌+◌}
 use Rattle.file_access.proofs.lemmas.Counting.{fault_rises}
-use Rattle.resource_lock.specs.GraphView.{GraphView}
 use Rattle.shared_services.specs.Services.{AreServices}
 use Rattle.shared_services.specs.Takings.{HasTheLocks}
 use Rattle.shared_services.specs.Worked.{HasRun}

@@ -4,7 +4,7 @@ use Rattle.resource_lock.specs.declared.changes.Change.{Change}
 use Rattle.lock_transforms.specs.declared.transforms.Disposition.TheVariants.{Finished, Failed}
 use Rattle.coordination.specs.Parts.{Follows, LeadsOn}
 use Rattle.coordination.specs.declared.parts.WorkerPart.{WorkerPart}
-use Rattle.coordination.proofs.lemmas.Entries.{changes_made, follows_at, last_kept, leads_from, part_after, part_failed, room_after}
+use Rattle.coordination.proofs.lemmas.Entries.{changes_made, follows_at, last_kept, leads_from, part_after, part_failed}
 use Rattle.coordination.proofs.parts.WorkerPart.follow.Goals as goal
 
 pub last_changes-requires : goal.last_changes-requires
@@ -48,9 +48,7 @@ returns-in-Ok-Finished-clause-room c =
     let f : Follows w old new (Ok Finished) part = follows_at w old new c.args.ran.now (Ok Finished) part (search rules) c.requires.1 in
     let n = c.len-self.result in
     let is = c.last_changes.ensures ∙ changes_made w old new part f in
-    let leads = subst (λ (cs : List Change). LeadsOn (make_all old.state w cs) w c.note_all.new.self []) is
-    (c.note_all.ensures.leads old.state (subst (LeadsOn old.state w (record part { last = n })) (sym is) (leads_from w old new part f n))) in
-    room_after w old new part f c.note_all.new.self n leads
+    (c.note_all.ensures.leads old.state (subst (LeadsOn old.state w (record part { last = n })) (sym is) (leads_from w old new part f n))).room
 
 pub returns-in-Ok-Failed-clause-part : goal.returns-in-Ok-Failed-clause-part
 returns-in-Ok-Failed-clause-part c =

@@ -7,7 +7,7 @@ use Rattle.coordination.specs.Sights.{sight_of, seeing}
 use Rattle.coordination.specs.Rule.{carried_book}
 use Rattle.coordination.specs.Planned.{HasEndedTry, TellsOwn}
 use Rattle.coordination.specs.Parts.{IsPartOf}
-use Rattle.coordination.proofs.TakenBooks.{known_in, part_in, room_in, sound_in, turn_after, turn_owns, turned}
+use Rattle.coordination.proofs.TakenBooks.{known_in, part_in, sound_in, turn_after, turn_owns, turned}
 use Rattle.coordination.proofs.PassSteps.{closes_pass, untold_in}
 use Rattle.coordination.proofs.planned.Slot+Planned.attempt_turn_at.Goals as goal
 
@@ -25,7 +25,7 @@ act_planned-ended-requires-clause-part g c =
       known = known_in c.args.seat.now.me c.try_take.new.seat.me taken c.args.caller.worker p.worker_is;
       sound = sound_in c.args.seat.now.me c.try_take.new.seat.me taken;
       kept = part_in c.args.seat.now.me c.try_take.new.seat.me taken c.args.caller.worker c.args.notes.now.part p.worker_is p.part_is;
-      room = room_in c.args.seat.now.me c.try_take.new.seat.me taken c.args.notes.now.part p.room;
+      room = p.room;
     }
 
 pub act_planned-ended-requires-clause-told : goal.act_planned-ended-requires-clause-told

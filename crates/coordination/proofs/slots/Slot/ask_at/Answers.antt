@@ -6,7 +6,7 @@ use Rattle.coordination.specs.Offered.{AnswersWith, WaitsWith}
 use Rattle.coordination.specs.Sights.{sight_of, seeing}
 use Rattle.coordination.specs.Rule.{M, carried_book}
 use Rattle.coordination.proofs.TakenBooks.{keeps, after_ask, taken_book}
-use Rattle.coordination.proofs.PassSteps.{closes_pass, part_on, room_on, untold_in}
+use Rattle.coordination.proofs.PassSteps.{closes_pass, part_on, untold_in}
 use Rattle.coordination.proofs.slots.Slot.ask_at.Goals as goal
 
 pub put_back-requires-clause-own : goal.put_back-requires-clause-own
@@ -32,5 +32,5 @@ returns-clause-pass g c =
     let is : sight_of c.put_back.new.seat.me.0 ≡ seeing (sight_of me.0) t.book =
     after_ask (AnswersWith queued (Q.answers q)) (WaitsWith queued (Q.waits_on q)) c.ask_book-answer.result.0 me c.try_take.new.seat.me asked t e.same.2 c.args.worker c.requires.pass.worker_is c.put_back.new.seat.me c.put_back.ensures.view in
     closes_pass c.args.worker (record { part = c.args.notes.now.part; reach = c.ask_book-answer.new.reach }) c.put_back.new.seat.me asked.0.ledger (seeing (sight_of asked.0) (carried_book asked.1)) (seeing (sight_of me.0) t.book) c.put_back.ensures.view is
-    c.requires.pass.worker_is (part_on _ _ t.book c.args.notes.now.part t.found.agrees c.requires.pass.part_is) (room_on _ _ t.book c.args.notes.now.part t.found.agrees c.requires.pass.room)
+    c.requires.pass.worker_is (part_on _ _ t.book c.args.notes.now.part t.found.agrees c.requires.pass.part_is) c.requires.pass.room
     (subst (λ (p : SeatView × BookView). IsTold p.0.ledger c.ask_book-answer.new.reach p.1) (λ i. (sym (ap (λ (m : M). m.0) e.same.2) i, taken_book me c.try_take.new.seat.me t i)) e.told)

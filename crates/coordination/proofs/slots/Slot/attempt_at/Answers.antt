@@ -5,7 +5,7 @@ use Rattle.history_views.specs.ShownBooks.{IsTold}
 use Rattle.coordination.specs.Sights.{sight_of, seeing}
 use Rattle.coordination.specs.Rule.{carried_book}
 use Rattle.coordination.specs.Parts.{IsPartOf}
-use Rattle.coordination.proofs.TakenBooks.{after, attempted, known_in, owns, part_in, room_in, sound_in}
+use Rattle.coordination.proofs.TakenBooks.{after, attempted, known_in, owns, part_in, sound_in}
 use Rattle.coordination.proofs.PassSteps.{closes_pass, untold_in}
 use Rattle.coordination.proofs.slots.Slot.attempt_at.Goals as goal
 
@@ -23,7 +23,7 @@ run-ran-requires-clause-part g c =
       known = known_in c.args.seat.now.me c.try_take.new.seat.me taken c.args.worker p.worker_is;
       sound = sound_in c.args.seat.now.me c.try_take.new.seat.me taken;
       kept = part_in c.args.seat.now.me c.try_take.new.seat.me taken c.args.worker c.args.notes.now.part p.worker_is p.part_is;
-      room = room_in c.args.seat.now.me c.try_take.new.seat.me taken c.args.notes.now.part p.room;
+      room = p.room;
     }
 
 pub run-ran-requires-clause-told : goal.run-ran-requires-clause-told

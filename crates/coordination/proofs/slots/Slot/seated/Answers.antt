@@ -7,7 +7,7 @@ use Rattle.lock_journal.specs.BookView.{BookView}
 use Rattle.coordination.specs.declared.rule.Sight.{Sight}
 use Rattle.coordination.specs.declared.rule.SeatView.{SeatView}
 use Rattle.std.specs.Vec.Iter.{into_iter_items}
-use Rattle.coordination.specs.Parts.{ArePartsFrom, HasListRoom, IsPartOf}
+use Rattle.coordination.specs.Parts.{ArePartsFrom, IsPartOf}
 use Rattle.coordination.specs.declared.parts.WorkerPart.{WorkerPart}
 use Rattle.history_views.specs.Growing.{ReachView}
 use Rattle.history_views.specs.ShownBooks.{IsTold}
@@ -83,7 +83,7 @@ invariant_of-push_reserved g c =
             lone = is ∙ (λ i. (one (sym knows i) (sym s i), []));
             worker_is = ap (λ (k : ℕ). record { 0 = k }) at ∙ sym (ap (λ (k : Sight). k.worker) s);
             part_is = subst (λ (k : Sight). IsPartOf k.seen k.worker c.in-Some.part) (sym s) mine.0;
-            room = subst (λ (k : Sight). HasListRoom k.seen.graph.locks c.in-Some.part) (sym s) mine.1;
+            room = mine.1;
             told = subst (λ (p : Option Ledger × Option ReachView × BookView). IsTold p.0 p.1 p.2) (λ i. (sym knows i, sym c.again.ensures i, (sym s i).seen)) c.requires.told;
           }) badge,
       sym (ap (λ (k : Sight). k.stopped) shown),

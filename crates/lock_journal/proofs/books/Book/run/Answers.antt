@@ -1,4 +1,4 @@
-use Rattle.std.proofs.Common.{◌≡◌, ◌≢◌, List, [], ◌∷◌, ◌++◌, Some, None, inl, inr, refl, ◌∙◌, sym, ap, subst, arith}
+use Rattle.std.proofs.Common.{◌≡◌, ◌≢◌, ℕ, length, List, [], ◌∷◌, ◌++◌, Some, None, inl, inr, refl, ◌∙◌, sym, ap, subst, arith}
 use Rattle.resource_lock.specs.GraphView.{GraphView}
 use Rattle.resource_lock.specs.StateView.{StateView}
 use Rattle.resource_lock.specs.declared.changes.Change.{Change}
@@ -93,6 +93,22 @@ returns-in-Finished-clause-finished g c = λ _.
         history = more.entries ∙ ap (λ (h : List Entry). h ++ entry c.args.worker (g.T.Transform.kind_of c.args.transform.now) (Some c.attempt-disposition.new.self.made) ∷ []) history;
         state = more.state ∙ ap (λ (s : StateView). effect s (entry c.args.worker (g.T.Transform.kind_of c.args.transform.now) (Some c.attempt-disposition.new.self.made))) state;
       },
+    )
+
+pub returns-in-Finished-clause-few : goal.returns-in-Finished-clause-few
+returns-in-Finished-clause-few g c = λ _.
+    let more = extended g c in
+    let made : List Change = c.attempt-disposition.new.self.made in
+    let kind : Kind = g.T.Transform.kind_of c.args.transform.now in
+    let most : GraphView → StateView → ℕ = λ o s. g.T.Transform.most c.args.transform.now o c.args.worker s in
+    let graph : c.self.inside.tentative.graph ≡ c.args.self.now.graph = ap (λ (l : BookView). l.graph) c.self.view_is ∙ c.in_ok-reserve.ensures.same.graph in
+    let state : c.self.inside.tentative.state ≡ c.args.self.now.state = ap (λ (l : BookView). l.state) c.self.view_is ∙ c.in_ok-reserve.ensures.same.state in
+    omega (
+      arith,
+      ap (λ (cs : List Change). length cs) (ap last_changes more.entries ∙ last_pushed c.self.inside.history.entries c.args.worker kind made),
+      c.attempt-disposition.ensures.few,
+      ap (λ (o : GraphView). most o c.self.inside.tentative.state) graph,
+      ap (λ (s : StateView). most c.args.self.now.graph s) state,
     )
 
 pub returns-in_err-reserve-clause-within : goal.returns-in_err-reserve-clause-within

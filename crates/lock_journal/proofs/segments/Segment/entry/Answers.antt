@@ -1,14 +1,13 @@
-use Rattle.std.proofs.Common.{◌≡◌, ℕ, ◌<◌, ◌+◌, length, drop, List, [], Some, None, cond, sym, ◌∙◌, ap, subst, arith}
+use Rattle.std.proofs.Common.{◌≡◌, ℕ, ◌<◌, ◌+◌, length, drop, List, [], Some, None, cond, sym, ◌∙◌, ap, arith}
 use Rattle.std.specs.Prelude.{map, slice_get}
 use Rattle.std.specs.List.{slice_range, slice_index_or}
 use Rattle.resource_lock.specs.declared.changes.Change.{Change}
 use Rattle.lock_transforms.specs.Entry.{entry}
 use Rattle.lock_journal.specs.Changes.{changes_left}
 use Rattle.lock_journal.specs.StoredChange.{change_of_worker}
-use Rattle.lock_journal.specs.StoredEntry.{IsNumberOf, end_before, kind_from}
+use Rattle.lock_journal.specs.StoredEntry.{end_before, kind_from}
 use Rattle.lock_journal.specs.Segment.{segment_view, IsSoundSegment}
 use Rattle.lock_journal.specs.SegmentView.{SegmentView}
-use Rattle.lock_transforms.specs.declared.entries.Closed.{Closed}
 use Rattle.lock_transforms.specs.declared.entries.Kind.{Kind}
 use Rattle.lock_journal.specs.declared.stored_changes.StoredChange.{StoredChange}
 use Rattle.lock_journal.specs.declared.stored_entries.StoredEntry.{StoredEntry}
@@ -24,7 +23,6 @@ stands h v i k sound view within is = stands_at (length h.changes.items) (length
 pub kind_of-requires : goal.kind_of-requires
 kind_of-requires c =
     let k : StoredEntry = c.index-stored.result.now in
-    subst (λ (ds : List Closed). IsNumberOf (length ds) k.kind k.number) (sym c.deref-2.ensures.value)
     (stands c.self.inside c.args.self.now c.args.place k c.self.invariant c.self.view_is c.requires c.index-stored.ensures).number
 
 pub changes_of-requires-clause-ordered : goal.changes_of-requires-clause-ordered
@@ -41,7 +39,7 @@ changes_of-requires-clause-bounded c =
     let end = end_read c.self.inside.stored.items c.deref.result.now (c.args.place + 1) c.len.result c.end_before-end.result c.deref.ensures.value c.end_before-end.ensures in
     let long : c.len.result ≡ length c.self.inside.changes.items = c.len.ensures ∙ c.self.inside.changes.ok.0 in
     let there = ap (end_before (drop (c.args.place + 1) c.self.inside.stored.items)) long in
-    let all = ap (λ (cs : List StoredChange). length cs) c.deref-3.ensures.value in
+    let all = ap (λ (cs : List StoredChange). length cs) c.deref-2.ensures.value in
     omega (arith, st.bounded, end, there, all)
 
 pub returns-clause-shown : goal.returns-clause-shown
@@ -53,11 +51,11 @@ returns-clause-shown c =
     let end : c.end_before-end.result ≡ end_before (drop (i + 1) h.stored.items) (length h.changes.items) =
     end_read h.stored.items c.deref.result.now (i + 1) c.len.result c.end_before-end.result c.deref.ensures.value c.end_before-end.ensures
     ∙ ap (end_before (drop (i + 1) h.stored.items)) long in
-    let kind : c.kind_of.result ≡ kind_from h.closings.items k.kind k.number = c.kind_of.ensures ∙ ap (λ ds. kind_from ds k.kind k.number) c.deref-2.ensures.value in
+    let kind : c.kind_of.result ≡ kind_from h.closings.items k.kind k.number = c.kind_of.ensures in
     let made : List Change = map (change_of_worker k.worker) (slice_range h.changes.items k.start (end_before (drop (i + 1) h.stored.items) (length h.changes.items))) in
     let changes : changes_left c.changes_of.result ≡ cond k.failed [] made =
     c.changes_of.ensures
-    ∙ ap (λ cs. cond k.failed [] (map (change_of_worker k.worker) (slice_range cs k.start c.end_before-end.result))) c.deref-3.ensures.value
+    ∙ ap (λ cs. cond k.failed [] (map (change_of_worker k.worker) (slice_range cs k.start c.end_before-end.result))) c.deref-2.ensures.value
     ∙ ap (λ e. cond k.failed [] (map (change_of_worker k.worker) (slice_range h.changes.items k.start e))) end in
     ap (λ (v : SegmentView). slice_get v.entries i) (sym c.self.view_is)
     ∙ entry_at h.changes.items h.closings.items h.stored.items i k (read_at h c.args.self.now i k c.self.view_is c.requires c.index-stored.ensures)

@@ -1,4 +1,4 @@
-use Rattle.std.proofs.Common.{◌≡◌, ◌<◌, length, List, ◌∙◌, ap, arith}
+use Rattle.std.proofs.Common.{◌≡◌, ◌<◌, length, ◌∙◌, ap, arith}
 use Rattle.std.proofs.lemmas.List.{get_or_default, get_or_past}
 use Rattle.item_actions.specs.declared.outcomes.Outcome.TheVariants as outcomes
 use Rattle.lock_transforms.specs.declared.entries.Closed.{Closed}
@@ -18,9 +18,8 @@ returns c =
     let place : c.index.result.now ≡ place_in h.closings.items h.stored.items c.args.unit NOWHERE =
     c.index.ensures ∙ get_or_default h.closed_at.items c.args.unit c.index.result.now NOWHERE within ∙ c.self.invariant.closed c.args.unit in
     let none : closing_at h.closings.items NOWHERE ≡ record { unit = 0; outcome = outcomes.Skipped } =
-    get_or_past h.closings.items NOWHERE (record { unit = 0; outcome = outcomes.Skipped }) (omega (arith, h.closings.ok.0, c.self.invariant.few_closings)) in
+    get_or_past h.closings.items NOWHERE (record { unit = 0; outcome = outcomes.Skipped }) (omega (arith, c.self.invariant.few_closings)) in
     c.outcome_at.ensures
-    ∙ ap (λ (ds : List Closed). (closing_at ds c.index.result.now).outcome) c.deref.ensures.value
     ∙ ap (λ p. (closing_at h.closings.items p).outcome) place
     ∙ outcome_at_place h.changes.items h.closings.items h.stored.items c.args.unit NOWHERE
     ∙ ap (λ (d : Closed). last_or d.outcome (closings (segment_view h).entries c.args.unit)) none

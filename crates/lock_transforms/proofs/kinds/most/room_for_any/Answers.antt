@@ -1,13 +1,11 @@
 use Rattle.std.proofs.Common.{◌≡◌, ◌<◌, length, ap, inl, inr, arith}
 use Rattle.std.proofs.lemmas.Bool.{cases_lt}
-use Rattle.std.proofs.lemmas.List.{length-map}
-use Rattle.resource_lock.specs.GraphView.{graph_view}
 use Rattle.lock_transforms.specs.MostChanges.{changes_below}
 use Rattle.lock_transforms.proofs.kinds.most.room_for_any.Goals as goal
 
 pub loop-task-preserved : goal.loop-task-preserved
 loop-task-preserved c =
-    let within : c.loop-task.task < length c.args.graph.now.tasks = omega (arith, c.loop-task-test.true, ap length c.tasks-task-end.ensures.value, length-map c.tasks-task-end.result.now graph_view) in
+    let within : c.loop-task.task < length c.args.graph.now.tasks = omega (arith, c.loop-task-test.true, c.len-task-end.ensures, ap length c.tasks.ensures.value) in
     record {
       few = omega (arith, c.loop-task.invariant.few, c.max-room-in-loop-task.ensures);
       locks = omega (arith, c.loop-task.invariant.locks, c.max-room-in-loop-task.ensures);

@@ -1,11 +1,11 @@
-use Rattle.std.proofs.Common.{◌≡◌, false, true, Option, None, Some, refl, sym, ap, ◌∙◌}
+use Rattle.std.proofs.Common.{◌≡◌, false, Option, None, Some, refl, sym, ap, ◌∙◌}
 use Rattle.std.specs.Option.{is_some}
 use Rattle.std.proofs.lemmas.Bool.{true≢false}
 use Rattle.std.proofs.lemmas.Option.{IfSome_then}
-use Rattle.resource_lock.specs.StateView.{all_owner, is_owned}
+use Rattle.resource_lock.specs.StateView.{all_owner}
 use Rattle.resource_lock.specs.declared.ids.WorkerId.{WorkerId}
 use Rattle.ready_work.proofs.Sets.{none_then}
-use Rattle.ready_work.proofs.Unowned.{lowest_but, lowest_to_start, none_but, none_to_start, none_while_owned}
+use Rattle.ready_work.proofs.Unowned.{lowest_but, lowest_to_start, none_but, none_to_start}
 use Rattle.ready_work.proofs.ready_works.ReadyWork.first_to_start.Goals as goal
 
 nobody : (o : Option WorkerId) → is_some o ≡ false → o ≡ None

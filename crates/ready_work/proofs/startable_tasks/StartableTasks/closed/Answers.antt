@@ -1,6 +1,6 @@
 use Rattle.std.proofs.Common.{◌≡◌, length, ap, ◌∙◌, arith}
 use Rattle.std.proofs.lemmas.List.{length-map}
-use Rattle.resource_lock.specs.GraphView.{GraphTaskView, graph_view}
+use Rattle.resource_lock.specs.GraphView.{GraphTaskView}
 use Rattle.ready_work.specs.LockOrderView.{place_of}
 use Rattle.ready_work.specs.NumberSetView.{has}
 use Rattle.ready_work.proofs.Heads.{no_heads}
@@ -11,7 +11,6 @@ pub invariant_of-result : goal.invariant_of-result
 invariant_of-result c =
     let size : length c.in_ok-order.order.locks ≡ length c.args.graph.now.tasks = ap length c.in_ok-order.ensures.locks ∙ length-map c.args.graph.now.tasks (λ (t : GraphTaskView). t.lock.0) in
     let read = ap length c.tasks.ensures.value in
-    let mapped = length-map c.tasks.result.now graph_view in
     let few = c.tasks.ensures.fits.few_tasks in
     let places = c.in_ok-places.ensures.room in
     let free = c.in_ok-free.ensures.room in

@@ -1,6 +1,4 @@
 use Rattle.std.proofs.Common.{◌≡◌, ℕ, length, ap, arith, sym, subst}
-use Rattle.std.proofs.lemmas.List.{length-map}
-use Rattle.resource_lock.specs.GraphView.{graph_view}
 use Rattle.ready_work.specs.Sets.{NoNumber}
 use Rattle.ready_work.specs.TaskSets.{HasTaskRoom}
 use Rattle.ready_work.proofs.TaskLooks.{all_tasks_below, closed_kept, no_task_below, one_task_below, room_after, sets_kept}
@@ -19,7 +17,6 @@ loop-task-preserved c = (
 pub returns-clause-sets : goal.returns-clause-sets
 returns-clause-sets c =
     let size = ap length c.tasks.ensures.value in
-    let mapped = length-map c.tasks.result.now graph_view in
     let few = c.tasks.ensures.fits.few_tasks in
     let past = c.loop-task-test.false in
     let same = c.requires.belongs.tasks in

@@ -3,7 +3,6 @@ use Rattle.std.proofs.lemmas.Bool.{both_ways}
 use Rattle.resource_lock.specs.GraphView.{GraphView, task_of}
 use Rattle.resource_lock.specs.declared.changes.Change.{Change}
 use Rattle.resource_lock.specs.declared.changes.Change.TheVariants.{Lock, Take, Move}
-use Rattle.resource_lock.specs.declared.ids.LockId.{LockId}
 use Rattle.resource_lock.specs.declared.marks.Mark.TheVariants.{Waiting, Running}
 use Rattle.resource_lock.specs.declared.marks.MarkId.TheVariants.{Task as TaskOf}
 use Rattle.lock_transforms.specs.Making.{Makes}
