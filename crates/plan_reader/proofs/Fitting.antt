@@ -6,9 +6,8 @@ use Rattle.std.proofs.lemmas.List.{length-map, get_or_append_left, get_or-append
 use Rattle.std.proofs.lemmas.List.Elements.{All-nil, All-cons, All-append}
 use Rattle.std.proofs.lemmas.List.Sums.{sum_by-cons, sum_by-append}
 use Rattle.resource_lock.specs.declared.ids.LockId.{LockId}
-use Rattle.resource_lock.specs.declared.graphs.GraphTask.{GraphTask}
 use Rattle.resource_lock.specs.declared.graphs.GraphAction.{GraphAction}
-use Rattle.resource_lock.specs.GraphView.{GraphTaskView, graph_view, no_task, no_action}
+use Rattle.resource_lock.specs.GraphView.{GraphTaskView, no_task, no_action}
 use Rattle.resource_lock.specs.Made.{made_of}
 use Rattle.resource_lock.specs.Ranges.{fetches, units_in, IsIn}
 use Rattle.resource_lock.specs.Fits.{Follow, Fits}
@@ -192,11 +191,11 @@ all_units_made task first (t ∷ ts) =
     ∙ sym (length-append (task_units t) (flat_map task_units ts))
 
 -- the parts make the graph
-pub same_graph : (p : PlanView) (workers max_leases locks : ℕ) (all : LockId) (parallel : Bool) (tasks : List GraphTask) (actions : List GraphAction)
-    → all ≡ all_projects_lock p parallel → locks ≡ all.0 + 1 → map graph_view tasks ≡ tasks_from (task_lock all parallel) 0 p.tasks → actions ≡ all_actions_from 0 0 p.tasks
+pub same_graph : (p : PlanView) (workers max_leases locks : ℕ) (all : LockId) (parallel : Bool) (tasks : List GraphTaskView) (actions : List GraphAction)
+    → all ≡ all_projects_lock p parallel → locks ≡ all.0 + 1 → tasks ≡ tasks_from (task_lock all parallel) 0 p.tasks → actions ≡ all_actions_from 0 0 p.tasks
     → made_of locks (Some all) workers max_leases tasks actions ≡ graph_of p workers max_leases parallel
 same_graph p workers max_leases locks all parallel tasks actions lock a b c =
     let units : sum_by units_in actions ≡ length (plan_units p) = ap (sum_by units_in) c ∙ all_units_made 0 0 p.tasks in
     let count : locks ≡ (all_projects_lock p parallel).0 + 1 = a ∙ ap (λ (l : LockId). l.0 + 1) lock in
-    let each : map graph_view tasks ≡ tasks_from (task_lock (all_projects_lock p parallel) parallel) 0 p.tasks = b ∙ ap (λ (l : LockId). tasks_from (task_lock l parallel) 0 p.tasks) lock in
+    let each : tasks ≡ tasks_from (task_lock (all_projects_lock p parallel) parallel) 0 p.tasks = b ∙ ap (λ (l : LockId). tasks_from (task_lock l parallel) 0 p.tasks) lock in
     λ i. record { locks = count i; all = Some (lock i); workers = workers; max_leases = max_leases; units = units i; tasks = each i; actions = c i }

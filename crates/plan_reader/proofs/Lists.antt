@@ -4,9 +4,9 @@ use Rattle.std.specs.List.{sum_by}
 use Rattle.std.proofs.lemmas.List.{length-map}
 use Rattle.std.proofs.lemmas.List.Sums.{sum_by-cons}
 use Rattle.plan_table.proofs.lemmas.Lists.{map_of_map}
-use Rattle.toml.specs.declared.value.Value.{Value}
+use Rattle.plan_document.specs.declared.values.Value.{Value}
 use Rattle.toml.specs.Data.{Data}
-use Rattle.toml.specs.View.{view}
+use Rattle.plan_document.specs.View.{view}
 
 pub length_of_seen : {X Y : Type 0} (f : X → Y) (xs : List X) (ys : List Y) → map f xs ≡ ys → length xs ≡ length ys
 length_of_seen f xs ys e = sym (length-map xs f) ∙ ap length e

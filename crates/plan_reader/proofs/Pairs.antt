@@ -9,8 +9,8 @@ use Rattle.std.specs.List.Sorted.{IsStrictlySortedBy}
 use Rattle.std.specs.Prelude.{string_cmp}
 use Rattle.std.specs.Cmp.Lexicographic.{slice_cmp}
 use Rattle.std.proofs.lemmas.Cmp.{nat_list_cmp_total}
-use Rattle.toml.proofs.Views.{Entry}
-use Rattle.toml.specs.View.{view}
+use Rattle.plan_document.proofs.Views.{Entry}
+use Rattle.plan_document.specs.View.{view}
 use Rattle.daemon_requirements.specs.declared.fields.Pair.{Pair}
 use Rattle.daemon_requirements.specs.RequirementsView.{HasDistinctNames}
 use Rattle.plan_table.specs.Values.{text_of}

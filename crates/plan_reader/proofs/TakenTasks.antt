@@ -3,9 +3,9 @@ use Rattle.std.proofs.Common.{◌≡◌, ◌⊎◌, ℕ, List, [], ◌∷◌, dr
 use Rattle.std.specs.List.{zip}
 use Rattle.std.specs.Vec.Iter.{into_iter_items, into_iter_len}
 use Rattle.std.specs.declared.vec.IntoIter.{IntoIter}
-use Rattle.toml.specs.declared.value.Value.{Value}
+use Rattle.plan_document.specs.declared.values.Value.{Value}
 use Rattle.toml.specs.Data.{Data}
-use Rattle.toml.specs.View.{view}
+use Rattle.plan_document.specs.View.{view}
 use Rattle.daemon_requirements.specs.RequirementsView.{RequirementsView}
 use Rattle.ready_work.specs.Rank.{lists_of}
 use Rattle.plan_table.specs.Forms.{Text}

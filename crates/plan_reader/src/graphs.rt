@@ -1,7 +1,6 @@
 //! The graph of a plan.
 ghost use Rattle.std.specs.Prelude.{◌≡◌, ◌+◌, ◌<◌, ◌≤◌, ◌++◌, map, length, IfOk, All};
 ghost use Rattle.std.specs.List.{flat_map};
-ghost use Rattle.resource_lock.specs.GraphView.{graph_view};
 ghost use Rattle.resource_lock.specs.ProjectLocks.{project_lock_count};
 ghost use Rattle.resource_lock.specs.declared.limits.TheConstants.{MAX_LOCKS};
 ghost use Rattle.plan_reader.specs.declared.limits.TheConstants.{MAX_ACTIONS_PER_TASK, MAX_LEASES, MAX_TASKS, MAX_UNITS, MAX_WORKERS};
@@ -10,7 +9,9 @@ ghost use Rattle.plan_reader.specs.Units.{task_units};
 ghost use Rattle.plan_reader.specs.Graph.{all_projects_lock, task_lock, tasks_from, actions_from, units_in_all, all_actions_from, graph_of};
 
 use crate::plans::{Plan, PlanAction, PlanTask};
-use resource_lock::{Graph, GraphAction, GraphTask, LockId, project_lock, project_lock_count};
+use resource_lock::{
+    Graph, GraphAction, GraphTask, GraphTasks, LockId, project_lock, project_lock_count,
+};
 use std::alloc::{AllocError, Global};
 
 impl Plan {
@@ -63,21 +64,21 @@ fn graph_tasks(
     tasks: &[PlanTask],
     parallel: bool,
     all: LockId,
-) -> Result<Vec<GraphTask>, AllocError>
+) -> Result<GraphTasks, AllocError>
     requires few_tasks { length tasks.now ≤ MAX_TASKS }
     requires few_actions { All (λ t. length t.actions ≤ MAX_ACTIONS_PER_TASK) (map plan_task_view tasks.now) }
-    ensures { IfOk result (λ made. map graph_view made.items ≡ tasks_from (task_lock all parallel) 0 (map plan_task_view tasks.now)) }
+    ensures { IfOk result (λ made. made ≡ tasks_from (task_lock all parallel) 0 (map plan_task_view tasks.now)) }
 {
-    let mut made = Vec::with_capacity(alloc, tasks.len())?;
+    let mut made = GraphTasks::none(alloc);
     let mut first_action = 0;
     for task in tasks {
         let actions = task.actions.len() as u32;
-        made.push(GraphTask {
+        let row = GraphTask {
             lock: task_lock(task, parallel, all),
-            after: task.after.clone()?,
             first_action,
             actions,
-        })?;
+        };
+        made.push(row, &task.after)?;
         first_action += actions;
     }
     Ok(made)

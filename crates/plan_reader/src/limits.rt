@@ -2,7 +2,7 @@
 ghost use Rattle.std.specs.Prelude.{string_bytes, ◌≡◌, nat_lt, [], map, length};
 ghost use Rattle.std.specs.Option.{option_map_or};
 ghost use Rattle.std.specs.List.{sum_by};
-ghost use Rattle.toml.specs.View.{view};
+ghost use Rattle.plan_document.specs.View.{view};
 ghost use Rattle.plan_table.specs.Forms.{Text};
 ghost use Rattle.plan_table.specs.Values.{text_of};
 ghost use Rattle.plan_table.specs.Keys.{projects_of, tasks_of, requirements_of, actions_of, items_of, after_of, args_of};
@@ -11,11 +11,11 @@ ghost use Rattle.plan_reader.specs.Rooms.{IsLeft};
 ghost use Rattle.plan_reader.specs.Rows.{unit_count, task_unit_count, plan_unit_count, excess_of_plan, excess_of_task, has_few_lists, excess_of_requirements};
 ghost use Rattle.plan_reader.specs.Rows.{excess};
 
+use plan_document::{Table, Value};
 use plan_table::{
     Part, Which, actions_of, after_of, args_of, fetch_of, items_of, projects_of, properties_of,
     requirements_of, tasks_of, variables_of,
 };
-use toml::{Table, Value};
 
 /// The most workers that a plan's graph is made for.
 pub const MAX_WORKERS: u32 = 32;
@@ -132,7 +132,7 @@ fn excess_of_task(task: &Value) -> Option<Which>
 
 // How many pairs a table has, or 0 where there is none.
 fn pair_count(pairs: Option<&Table>) -> usize
-    ensures { result ≡ length {A = Text × Text} (option_map_or (λ m. map (λ e. (string_bytes e.0, text_of (view e.1))) m.now.entries) pairs.entry []) }
+    ensures { result ≡ length {A = Text × Text} (option_map_or (λ m. map (λ e. (string_bytes e.0, text_of (view e.1))) m.now.items) pairs.entry []) }
 {
     match pairs {
         Some(pairs) => pairs.len(),

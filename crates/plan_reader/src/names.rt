@@ -2,7 +2,7 @@
 ghost use Rattle.std.specs.Prelude.{◌≡◌, ◌==◌, ◌<◌, ◌≤◌, ℕ, slice_index, true, map, None, Some, IfOk, IfErr, MatchResult, option_map};
 ghost use Rattle.std.specs.Prelude.{length, position};
 ghost use Rattle.std.specs.Str.{bytes_eq};
-ghost use Rattle.toml.specs.View.{view};
+ghost use Rattle.plan_document.specs.View.{view};
 ghost use Rattle.plan_table.specs.Document.{is_numbered};
 ghost use Rattle.plan_table.specs.Keys.{name_of, tasks_of, after_of};
 ghost use Rattle.plan_table.specs.Search.{places};
@@ -15,11 +15,11 @@ ghost use Rattle.plan_reader.specs.Reading.{RefusesBy};
 ghost use Rattle.ready_work.specs.Rank.{lists_of};
 
 use crate::name_table::NameTable;
+use plan_document::Value;
 use plan_table::{
     Part, Place, PlanFail, PlanRefusal, after_of, name_of, places, tasks_of, text_of,
 };
 use std::alloc::{AllocError, Global};
-use toml::Value;
 
 /// The names of a plan's parts. Each has the number at which its part stands.
 #[derive(Drop)]

@@ -1,7 +1,7 @@
 //! The projects and tasks of a plan, made of a document's tables. Their texts are moved out of the tables.
 ghost use Rattle.std.specs.Prelude.{◌≡◌, map, None, IfOk};
 ghost use Rattle.std.specs.List.{zip};
-ghost use Rattle.toml.specs.View.{view};
+ghost use Rattle.plan_document.specs.View.{view};
 ghost use Rattle.plan_table.specs.Keys.{actions_of, do_of, items_of, name_of, needle_of};
 ghost use Rattle.plan_reader.specs.PlanView.{process_of as shown_process, work_view, plan_action_view, plan_task_view};
 ghost use Rattle.plan_reader.specs.NameNumbers.{first_repeat};
@@ -14,13 +14,13 @@ use crate::plans::{PlanAction, PlanTask};
 use crate::profiles::default_requirements;
 use daemon_requirements::{Isolation, Requirements, Work};
 use item_actions::{ActionKind, ItemAction, Needle, Text};
+use plan_document::Value;
 use plan_table::{
     all_projects_of, do_of, isolation_of, name_of, needle_of, project_of, requirements_name_of,
     take_actions, take_fetch, take_file, take_items, take_name, wait_of,
 };
 use resource_lock::Retention;
 use std::alloc::{AllocError, Global};
-use toml::Value;
 
 // What counts a needle. A document whose needle is out of form is refused before.
 fn needle_action(needle: &str) -> ItemAction

@@ -1,7 +1,7 @@
 //! The requirements of a plan.
 ghost use Rattle.std.specs.Prelude.{string_bytes, codes, ◌≡◌, true, map, IfOk};
 ghost use Rattle.std.specs.List.{list_all};
-ghost use Rattle.toml.specs.View.{view};
+ghost use Rattle.plan_document.specs.View.{view};
 ghost use Rattle.daemon_requirements.specs.RequirementsView.{requirements_view, HasDistinctNames};
 ghost use Rattle.plan_table.specs.Keys.{requirements_of, heap_of, keep_alive_of, name_of};
 ghost use Rattle.plan_table.specs.Taking.{KeepsOthers};
@@ -12,12 +12,12 @@ ghost use Rattle.plan_reader.specs.Planned.{pair_of, heap_number, mode_named, re
 
 use daemon_requirements::{Pair, RequirementFields, Requirements};
 use item_actions::{KeepAlive, Text};
+use plan_document::{Table, Value, rises};
 use plan_table::{
     assertions_of, debug_of, heap_of, into_text, keep_alive_of, name_of, requirements_of,
     take_args, take_encoding, take_executable, take_properties, take_requirements, take_variables,
 };
 use std::alloc::{AllocError, Global};
-use toml::{Table, Value};
 
 // The text of each value, in their order.
 fn texts_of(alloc: Global, values: Vec<Value>) -> Result<Vec<Text>, AllocError>
@@ -30,11 +30,15 @@ fn texts_of(alloc: Global, values: Vec<Value>) -> Result<Vec<Text>, AllocError>
     Ok(texts)
 }
 
-// The pairs of a table, in their order. No name stands twice among them.
+// The pairs of a table, in their order. No name stands twice among them, nor in any table that is read: of one in which one did,
+// no pairs are made.
 fn pairs_of(alloc: Global, table: Table) -> Result<Vec<Pair>, AllocError>
-    ensures pairs { IfOk result (λ pairs. pairs.items ≡ map (λ e. pair_of (string_bytes e.0, text_of (view e.1))) table.entries) }
+    ensures pairs { IfOk result (λ pairs. pairs.items ≡ map (λ e. pair_of (string_bytes e.0, text_of (view e.1))) table.items) }
     ensures distinct { IfOk result (λ pairs. HasDistinctNames pairs.items) }
 {
+    if !rises(&table) {
+        return Err(AllocError);
+    }
     let mut pairs = Vec::with_capacity(alloc, table.len())?;
     for (name, value) in table {
         let name = Text::from(name);
@@ -94,7 +98,7 @@ fn requirements_from(alloc: Global, requirements: Value) -> Result<Requirements,
 pub(crate) fn default_requirements(alloc: Global) -> Result<Requirements, AllocError>
     ensures { IfOk result (λ p. p ≡ default_requirements) }
 {
-    let empty = Value::Table(Table::new(alloc));
+    let empty = Value::Table(Vec::new(alloc));
     requirements_from(alloc, empty)
 }
 

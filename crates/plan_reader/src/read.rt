@@ -1,6 +1,6 @@
 //! Reading a plan.
 ghost use Rattle.std.specs.Prelude.{◌≡◌, ◌≤◌, true, None, map, length, IfOk, IfErr};
-ghost use Rattle.toml.specs.View.{view};
+ghost use Rattle.plan_document.specs.View.{view};
 ghost use Rattle.ready_work.specs.Rank.{lists_of, InRange, IsFirstCycle};
 ghost use Rattle.plan_table.specs.Document.{is_numbered};
 ghost use Rattle.plan_table.specs.declared.document.TheConstants.{MAX_PARTS};
@@ -17,12 +17,12 @@ use crate::plans::Plan;
 use crate::profiles::{all_requirements, requirements_names};
 use crate::rows::Row;
 use crate::search::row_refusal;
+use plan_document::Value;
 use plan_table::{
     Part, Place, PlanFail, PlanRefusal, read_document, table_refusal, take_projects, take_tasks,
 };
 use ready_work::first_cycle;
 use std::alloc::Global;
-use toml::Value;
 
 // Refuses a document of which the row holds somewhere, at its first place.
 fn check(row: Row, names: &Names, document: &Value) -> Result<(), PlanFail>

@@ -1,7 +1,7 @@
 //! The tests of a plan that look at more than one key.
 ghost use Rattle.std.specs.Prelude.{◌≡◌, not, map, false, nat_lt, is_some, length};
 ghost use Rattle.std.specs.List.{list_any, sum_by};
-ghost use Rattle.toml.specs.View.{view};
+ghost use Rattle.plan_document.specs.View.{view};
 ghost use Rattle.plan_table.specs.Keys.{actions_of, items_of};
 ghost use Rattle.plan_table.specs.Values.{text_of};
 ghost use Rattle.plan_reader.specs.NameNumbers.{has_name};
@@ -12,11 +12,11 @@ ghost use Rattle.plan_reader.specs.Rows.{holds};
 use crate::limits::excess;
 use crate::name_table::NameTable;
 use crate::names::Names;
+use plan_document::Value;
 use plan_table::{
     Part, actions_of, after_of, heap_of, isolation_of, items_of, project_of, requirements_name_of,
     text_of, wait_of,
 };
-use toml::Value;
 
 /// A row of the tests, in their order. Cycle stands behind NoSuchTask.
 #[derive(Clone, Copy)]

@@ -1,6 +1,6 @@
 //! The refusal of a row at the first place at which its test holds.
 ghost use Rattle.std.specs.Prelude.{◌≡◌, true};
-ghost use Rattle.toml.specs.View.{view};
+ghost use Rattle.plan_document.specs.View.{view};
 ghost use Rattle.plan_table.specs.Document.{is_numbered};
 ghost use Rattle.plan_reader.specs.Names.{name_lists, names_in};
 ghost use Rattle.plan_reader.specs.Rows.{holds};
@@ -9,8 +9,8 @@ ghost use Rattle.plan_reader.specs.Search.{table_at, refusal_of, row_refusal};
 use crate::limits::excess;
 use crate::names::Names;
 use crate::rows::{Row, holds};
+use plan_document::Value;
 use plan_table::{Part, Place, PlaceTest, PlanRefusal, Which, first_place, places};
-use toml::Value;
 
 /// The test of a row, where these are the names.
 #[derive(Clone, Copy)]

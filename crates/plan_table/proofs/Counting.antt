@@ -1,5 +1,5 @@
 -- The keys that have to be there, counted among those that are there and among the rules.
-use Rattle.std.proofs.Common.{◌≡◌, ℕ, suc, ◌+◌, ◌<◌, ◌≤◌, Bool, true, false, cond, not, ◌&&◌, ◌||◌, is_some, List, [], ◌∷◌, length, map, Option, Some, None, refl, ap, sym, ◌∙◌, arith, Global, String, string_bytes, Ordering, Less, Equal, Greater, nat_cmp, is_eq}
+use Rattle.std.proofs.Common.{◌≡◌, ℕ, ◌+◌, ◌<◌, ◌≤◌, Bool, true, false, cond, not, ◌&&◌, ◌||◌, is_some, List, [], ◌∷◌, length, map, Option, Some, refl, ap, sym, ◌∙◌, arith, Global, String, string_bytes, Ordering, Less, Equal, Greater, nat_cmp, is_eq}
 use Rattle.std.specs.Prelude.{count_by}
 use Rattle.std.specs.List.{AllByRecursion, IsDistinct, list_any, list_all}
 use Rattle.std.specs.Option.{option_map_or}
@@ -12,8 +12,8 @@ use Rattle.std.proofs.lemmas.List.Sums.{sum_by-cons, count_by-le-length}
 use Rattle.std.proofs.lemmas.Map.Text.{is_eq-slice_cmp}
 use Rattle.std.proofs.lemmas.Slice.Eq.{bytes_eq-Decides}
 use Rattle.toml.specs.Data.{Data, get_member}
-use Rattle.toml.specs.View.{view, members_view}
-use Rattle.toml.proofs.Views.{Entry}
+use Rattle.plan_document.specs.View.{view, members_view}
+use Rattle.plan_document.proofs.Views.{Entry}
 use Rattle.plan_table.specs.Forms.{Text}
 use Rattle.plan_table.specs.Look.{is_required, rule_for}
 use Rattle.plan_table.specs.Rules.{Rule}

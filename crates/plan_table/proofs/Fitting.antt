@@ -1,25 +1,26 @@
 -- Each value of a table may stand under its key exactly where no key is unknown and no value misfits by the rules.
-use Rattle.std.proofs.Common.{◌≡◌, Bool, true, false, not, ◌&&◌, ◌||◌, List, [], ◌∷◌, map, All, Option, Some, None, is_some, codes, if◌then◌else◌, option_map, cond, refl, ap, sym, ◌∙◌}
-use Rattle.std.proofs.Common.{ℕ, ◌<◌, ◌≤◌, length, arith, BTreeMap, String, Global, string_bytes, Ordering, Less, Equal, Greater, nat_cmp, is_eq}
+use Rattle.std.proofs.Common.{◌≡◌, Bool, true, false, not, ◌&&◌, ◌||◌, List, [], ◌∷◌, map, All, Option, Some, None, is_some, codes, if◌then◌else◌, cond, refl, ap, sym, ◌∙◌}
+use Rattle.std.proofs.Common.{ℕ, ◌<◌, ◌≤◌, length, zero, suc, get_or, arith, Vec, Global, string_bytes, Ordering, Less, Equal, Greater, nat_cmp, is_eq}
 use Rattle.std.specs.Prelude.{count_by}
-use Rattle.std.specs.BTreeMap as tree
 use Rattle.std.specs.List.{list_any, list_all}
 use Rattle.std.specs.Option.{option_map_or}
-use Rattle.std.specs.Ordering.{match_ordering}
+use Rattle.std.specs.List.Sorted.{IsStrictlySortedBy}
+use Rattle.std.specs.Ordering.{match_ordering, ordering_reverse}
 use Rattle.std.specs.Cmp.Lexicographic.{slice_cmp}
 use Rattle.std.specs.Str.{bytes_eq}
 use Rattle.std.specs.String.{string_cmp}
 use Rattle.std.proofs.lemmas.Bool.{true≢false, and_parts, or_parts, or_from, not-true, not-false}
 use Rattle.std.proofs.lemmas.Option.{none-some, same_Some}
-use Rattle.std.proofs.lemmas.Map.Keys.{IsDistinct-from_sorted}
-use Rattle.std.proofs.lemmas.List.{length-map}
+use Rattle.std.proofs.lemmas.Cmp.{nat_list_cmp_total}
+use Rattle.std.proofs.lemmas.Map.Keys.{IsDistinct-from_sorted, Less-from_sorted, sorted_tail}
+use Rattle.std.proofs.lemmas.List.{get_or-map, length-map}
 use Rattle.std.proofs.lemmas.List.Elements.{All-head, All-tail}
 use Rattle.std.proofs.lemmas.Map.Text.{is_eq-slice_cmp}
 use Rattle.std.proofs.lemmas.Slice.Eq.{bytes_eq-Decides}
 use Rattle.toml.specs.Data.{Data, table, get, get_member}
-use Rattle.toml.specs.View.{view, members_view}
-use Rattle.toml.specs.declared.value.Value.{Value, Table}
-use Rattle.toml.proofs.Views.{Entry, view-Table, view-lookup}
+use Rattle.plan_document.specs.View.{view, members_view}
+use Rattle.plan_document.specs.declared.values.Value.{Table}
+use Rattle.plan_document.proofs.Views.{Entry, view-Table}
 use Rattle.plan_table.specs.declared.rules.TableKind.{TableKind}
 use Rattle.plan_table.specs.declared.rules.TableKind.TheVariants.{Document, Project, Task, Action, Item, Requirements}
 use Rattle.plan_table.specs.declared.rules.KeyRule.{KeyRule}
@@ -215,56 +216,73 @@ as_rules ks kind o es same is = is ∙ ap (λ rs. required_keys rs es) same
 pub as_many : (ks : List KeyRule) (kind : TableKind) → map rule_of ks ≡ rules kind → count_by (λ r. r.is_required) ks ≡ count_by (λ r. r.required) (rules kind)
 as_many ks kind same = count_of_map (λ r. r.required) rule_of ks ∙ ap (count_by (λ r. r.required)) same
 
--- the entries of a map, each at its own key
-pub record Kept (m : BTreeMap (String Global) Value) : Type 0 where
-  pub found : All (λ e. tree.get string_cmp m e.0 ≡ Some e.1) m.entries
-  pub ordered : tree.IsOrdered string_cmp m
+-- where keys rise, each entry is the one that is found at its key
+found_entries : (es : List Entry) → IsStrictlySortedBy string_cmp (map (λ e. e.0) es) → AreFound es (table (members_view es))
+found_entries [] sorted k d within = absurd (omega (arith, within))
+found_entries (e ∷ es) sorted zero d within = ap (λ o. match_ordering o (get_member key (members_view es)) (Some (view e.1)) (get_member key (members_view es))) itself
+  where
+    key : Text
+    key = string_bytes e.0
 
-found_entries : (m : BTreeMap (String Global) Value) → Kept m → AreFound m.entries (table (members_view m.entries))
-found_entries m kept k e within = sym (view-lookup _ m.entries) ∙ ap (option_map view) (kept.found k e within)
+    equal_from : (o : Ordering) → is_eq o ≡ true → o ≡ Equal
+    equal_from Less is = absurd (true≢false (sym is))
+    equal_from Equal is = refl
+    equal_from Greater is = absurd (true≢false (sym is))
 
-module _ (kind : TableKind) (m : BTreeMap (String Global) Value) (kept : Kept m) where
+    -- it is neither below nor above itself
+    itself : slice_cmp nat_cmp key key ≡ Equal
+    itself = equal_from (slice_cmp nat_cmp key key) (is_eq-slice_cmp key key ∙ (bytes_eq-Decides key key).1 refl)
+found_entries (e ∷ es) sorted (suc k) d within =
+    let x = get_or es k d in
+    let rest = get_member (string_bytes x.0) (members_view es) in
+    let long : suc k < length (map (λ y. y.0) (e ∷ es)) = rw (length-map (e ∷ es) (λ y. y.0)) within in
+    let less : string_cmp e.0 x.0 ≡ Less =
+    ap (string_cmp e.0) (sym (get_or-map (λ y. y.0) (e ∷ es) (suc k) d e.0 within)) ∙ Less-from_sorted string_cmp (map (λ y. y.0) (e ∷ es)) 0 (suc k) e.0 sorted (omega arith) long in
+    let above : slice_cmp nat_cmp (string_bytes x.0) (string_bytes e.0) ≡ Greater = nat_list_cmp_total.antisymm (string_bytes x.0) (string_bytes e.0) ∙ ap ordering_reverse less in
+    ap (λ o. match_ordering o rest (Some (view e.1)) rest) above ∙ found_entries es (sorted_tail string_cmp e.0 (map (λ y. y.0) es) sorted) k d (omega (arith, within))
+
+module _ (kind : TableKind) (m : Vec Entry Global) (rising : IsStrictlySortedBy string_cmp (map (λ e. e.0) m.items)) where
   abbrev d : Data
-  d = table (members_view m.entries)
+  d = table (members_view m.items)
 
   abbrev rs : List Rule
   rs = rules kind
 
-  tested : any_holds kind d ≡ (not (all_pass (is_allowed rs) m.entries) || (list_any (is_lacking d) rs || (lacks_more kind d || has_idle_key kind d)))
+  tested : any_holds kind d ≡ (not (all_pass (is_allowed rs) m.items) || (list_any (is_lacking d) rs || (lacks_more kind d || has_idle_key kind d)))
   tested =
-      reordered (other_keys rs m.entries) (has_idle_key kind d) (list_any (is_mistyped d) rs) (list_any (is_lacking d) rs) (lacks_more kind d) (list_any (is_misformed d) rs)
-      ∙ ap (λ b. not (not (other_keys rs m.entries || b)) || (list_any (is_lacking d) rs || (lacks_more kind d || has_idle_key kind d))) (sym (any_misfits d rs))
-      ∙ ap (λ b. not b || (list_any (is_lacking d) rs || (lacks_more kind d || has_idle_key kind d))) (sym (fitting kind m.entries (found_entries m kept)))
+      reordered (other_keys rs m.items) (has_idle_key kind d) (list_any (is_mistyped d) rs) (list_any (is_lacking d) rs) (lacks_more kind d) (list_any (is_misformed d) rs)
+      ∙ ap (λ b. not (not (other_keys rs m.items || b)) || (list_any (is_lacking d) rs || (lacks_more kind d || has_idle_key kind d))) (sym (any_misfits d rs))
+      ∙ ap (λ b. not b || (list_any (is_lacking d) rs || (lacks_more kind d || has_idle_key kind d))) (sym (fitting kind m.items (found_entries m.items rising)))
 
   -- a key may not be there
-  pub seen_wrong : None ≡ required_keys rs (map seen_entry m.entries) → any_holds kind (view (Table m)) ≡ true
-  seen_wrong none = rw (view-Table m) (tested ∙ ap (λ b. not b || (list_any (is_lacking d) rs || (lacks_more kind d || has_idle_key kind d))) (by (all_pass (is_allowed rs) m.entries) none))
+  pub seen_wrong : None ≡ required_keys rs (map seen_entry m.items) → any_holds kind (view (Table m)) ≡ true
+  seen_wrong none = rw (view-Table m) (tested ∙ ap (λ b. not b || (list_any (is_lacking d) rs || (lacks_more kind d || has_idle_key kind d))) (by (all_pass (is_allowed rs) m.items) none))
     where
-      by : (b : Bool) → None ≡ (if b then Some (count_by (is_required rs) (map seen_entry m.entries)) else None) → b ≡ false
-      by true e = absurd (none-some (count_by (is_required rs) (map seen_entry m.entries)) e)
+      by : (b : Bool) → None ≡ (if b then Some (count_by (is_required rs) (map seen_entry m.items)) else None) → b ≡ false
+      by true e = absurd (none-some (count_by (is_required rs) (map seen_entry m.items)) e)
       by false e = refl
 
-  module _ (n : ℕ) (some : Some n ≡ required_keys rs (map seen_entry m.entries)) where
-    counted : (all_pass (is_allowed rs) m.entries ≡ true) × (n ≡ count_by (is_required rs) (map seen_entry m.entries))
-    counted = by (all_pass (is_allowed rs) m.entries) some
+  module _ (n : ℕ) (some : Some n ≡ required_keys rs (map seen_entry m.items)) where
+    counted : (all_pass (is_allowed rs) m.items ≡ true) × (n ≡ count_by (is_required rs) (map seen_entry m.items))
+    counted = by (all_pass (is_allowed rs) m.items) some
       where
-        by : (b : Bool) → Some n ≡ (if b then Some (count_by (is_required rs) (map seen_entry m.entries)) else None) → (b ≡ true) × (n ≡ count_by (is_required rs) (map seen_entry m.entries))
+        by : (b : Bool) → Some n ≡ (if b then Some (count_by (is_required rs) (map seen_entry m.items)) else None) → (b ≡ true) × (n ≡ count_by (is_required rs) (map seen_entry m.items))
         by true e = (refl, same_Some n _ e)
         by false e = absurd (none-some n (sym e))
 
-    among : n ≡ count_by (λ r. r.required && has_key m.entries r) rs
-    among = counted.1 ∙ required_among rs m.entries (own_keys kind) (IsDistinct-from_sorted string_cmp (map (λ e. e.0) m.entries) kept.ordered)
+    among : n ≡ count_by (λ r. r.required && has_key m.items r) rs
+    among = counted.1 ∙ required_among rs m.items (own_keys kind) (IsDistinct-from_sorted string_cmp (map (λ e. e.0) m.items) rising)
 
     seen : any_holds kind (view (Table m)) ≡ (list_any (is_lacking d) rs || (lacks_more kind d || has_idle_key kind d))
     seen = rw (view-Table m) (tested ∙ ap (λ b. not b || (list_any (is_lacking d) rs || (lacks_more kind d || has_idle_key kind d))) counted.0)
 
     -- fewer are there than have to be
     pub seen_fewer : n < count_by (λ r. r.required) rs → any_holds kind (view (Table m)) ≡ true
-    seen_fewer lt = seen ∙ ap (λ b. b || (lacks_more kind d || has_idle_key kind d)) (lacks m.entries rs ∙ one_fails (has_key m.entries) rs (omega (arith, among, lt)))
+    seen_fewer lt = seen ∙ ap (λ b. b || (lacks_more kind d || has_idle_key kind d)) (lacks m.items rs ∙ one_fails (has_key m.items) rs (omega (arith, among, lt)))
 
     pub seen_all : count_by (λ r. r.required) rs ≤ n → any_holds kind (view (Table m)) ≡ (lacks_more kind (view (Table m)) || has_idle_key kind (view (Table m)))
-    seen_all le = rw (view-Table m) (rw (view-Table m) at seen ∙ ap (λ b. b || (lacks_more kind d || has_idle_key kind d)) (lacks m.entries rs ∙ none_fails (has_key m.entries) rs (omega (arith, among, le))))
+    seen_all le = rw (view-Table m) (rw (view-Table m) at seen ∙ ap (λ b. b || (lacks_more kind d || has_idle_key kind d)) (lacks m.items rs ∙ none_fails (has_key m.items) rs (omega (arith, among, le))))
 
     -- no other key is there
-    pub none_idle : length m.entries ≤ n → has_idle_key kind (view (Table m)) ≡ false
-    none_idle le = rw (view-Table m) (idle_where kind m.entries (all_counted (is_required rs) (map seen_entry m.entries) (omega (arith, counted.1, le, length-map m.entries seen_entry))))
+    pub none_idle : length m.items ≤ n → has_idle_key kind (view (Table m)) ≡ false
+    none_idle le = rw (view-Table m) (idle_where kind m.items (all_counted (is_required rs) (map seen_entry m.items) (omega (arith, counted.1, le, length-map m.items seen_entry))))

@@ -6,8 +6,8 @@ use Rattle.std.specs.List.{find, list_all}
 use Rattle.std.specs.Option.{option_map_or}
 use Rattle.std.specs.Str.{bytes_eq}
 use Rattle.std.proofs.lemmas.List.Sums.{sum_by-cons}
-use Rattle.toml.specs.View.{view}
-use Rattle.toml.proofs.Views.{Entry}
+use Rattle.plan_document.specs.View.{view}
+use Rattle.plan_document.proofs.Views.{Entry}
 use Rattle.plan_table.specs.declared.rules.KeyRule.{KeyRule}
 use Rattle.plan_table.specs.Forms.{Text}
 use Rattle.plan_table.specs.Look.{is_allowed, is_required, required_keys, rule_for}
@@ -62,3 +62,11 @@ module _ (ks : List KeyRule) (all left more : List Entry) (e : Entry) (n : ℕ) 
             ap (λ es. count_by (is_required rs) (map seen_entry es)) step
             ∙ sum_by-cons (λ x. cond (is_required rs x) 1 0) (seen_entry e) (map seen_entry more)
             ∙ ap (λ x. cond (option_map_or (λ y. y.required) x false) 1 0 + count_by (is_required rs) (map seen_entry more)) (sym ruled ∙ ap (option_map rule_of) some)
+
+-- nothing is left to be looked at
+pub all_looked : (rs : List Rule) (all left : List Entry) (n : ℕ) → Looks rs all n left → left ≡ [] → Some n ≡ required_keys rs (map seen_entry all)
+all_looked rs all left n looks none =
+    let allowed : list_all (is_allowed rs) (map seen_entry all) ≡ true = looks.0 ∙ ap (λ es. list_all (is_allowed rs) (map seen_entry es)) none in
+    let nothing : count_by (is_required rs) (map seen_entry left) ≡ 0 = ap (λ es. count_by (is_required rs) (map seen_entry es)) none in
+    let many : n ≡ count_by (is_required rs) (map seen_entry all) = omega (arith, looks.1, nothing) in
+    ap Some many ∙ sym (ap (λ b. if b then Some (count_by (is_required rs) (map seen_entry all)) else None) allowed)

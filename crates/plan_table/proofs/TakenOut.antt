@@ -1,35 +1,28 @@
--- What a table's map finds before and after another value is put under a key.
-use Rattle.std.proofs.Common.{◌≡◌, List, ℕ, Some, Option, option_map, ap, sym, ◌∙◌, Global, String, BTreeMap, string_bytes, nat_cmp}
-use Rattle.std.specs.Cmp.Lexicographic.{slice_cmp}
-use Rattle.std.specs.String.{string_cmp}
-use Rattle.std.specs.BTreeMap.{UpdatesBy, get_by}
-use Rattle.std.proofs.lemmas.Map.Text.{btree_map_updates_text}
-use Rattle.std.proofs.lemmas.Option.{none-some, same_Some}
-use Rattle.toml.specs.declared.value.Value.{Value, Table}
-use Rattle.toml.specs.Data.{Data, string, integer, float, boolean, datetime, array, table, Members, as_table, get}
-use Rattle.toml.specs.View.{view, table_view}
-use Rattle.toml.proofs.Views.{view-Table, view-lookup}
+-- What a table's row gives under each key, before and after another value is put under one.
+use Rattle.std.proofs.Common.{◌≡◌, ℕ, false, List, get_or, set, position, Some, None, ap, sym, ◌∙◌, Vec, Global, string_bytes}
+use Rattle.std.specs.Str.{bytes_eq}
+use Rattle.std.proofs.lemmas.Cmp.{nat_list_eq_equiv}
+use Rattle.std.proofs.lemmas.List.Quantifiers.{position-Some}
+use Rattle.toml.specs.Data.{get}
+use Rattle.plan_document.specs.declared.values.Value.{Value, Table}
+use Rattle.plan_document.specs.View.{view}
+use Rattle.plan_document.proofs.Found.{is_under, member_at, member_stays, no_member}
+use Rattle.plan_document.proofs.Views.{Entry, view-Table}
 use Rattle.plan_table.specs.Taking.{KeepsOthers}
+use Rattle.plan_table.proofs.Counting.{same_text}
 
-same_table : (d : Data) (ms : Members) → Some ms ≡ as_table d → table ms ≡ d
-same_table (table ns) ms e = ap table (same_Some ms ns e)
-same_table (string s) ms e = absurd (none-some ms (sym e))
-same_table (integer z) ms e = absurd (none-some ms (sym e))
-same_table (float x) ms e = absurd (none-some ms (sym e))
-same_table (boolean b) ms e = absurd (none-some ms (sym e))
-same_table (datetime dt) ms e = absurd (none-some ms (sym e))
-same_table (array ds) ms e = absurd (none-some ms (sym e))
+-- the value of the entry at the place of the key
+pub found : (key : List ℕ) (m : Vec Entry Global) (i : ℕ) (e : Entry) → position (is_under key) m.items ≡ Some i → e ≡ get_or m.items i e → Some (view e.1) ≡ get key (view (Table m))
+found key m i e at is = rw (view-Table m) (ap (λ x. Some (view x.1)) is ∙ sym (member_at key m.items i e at))
 
--- a value whose table has this map
-pub shown : (d : Data) (m : BTreeMap (String Global) Value) → Some (table_view m) ≡ as_table d → view (Table m) ≡ d
-shown d m e = view-Table m ∙ same_table d (table_view m) e
-
--- the value at the key of a table's map
-pub found : (key : List ℕ) (m : BTreeMap (String Global) Value) → option_map view (get_by (λ k. slice_cmp nat_cmp key (string_bytes k)) m) ≡ get key (view (Table m))
-found key m = rw (view-Table m) (view-lookup key m.entries)
+pub none_found : (key : List ℕ) (m : Vec Entry Global) → position (is_under key) m.items ≡ None → None ≡ get key (view (Table m))
+none_found key m none = rw (view-Table m) (sym (no_member key m.items none))
 
 -- what stands under the other keys
-pub others_stay : (key : List ℕ) (m n : BTreeMap (String Global) Value) (w : Option Value) → UpdatesBy string_cmp (λ k. slice_cmp nat_cmp key (string_bytes k)) m n w → KeepsOthers key (view (Table m)) (view (Table n))
-others_stay key m n w updates other differs =
-    let after = btree_map_updates_text key m n w updates other in
-    sym (found other n) ∙ ap (option_map view) (rw differs at after) ∙ found other m
+pub others_stay : (key : List ℕ) (m n : Vec Entry Global) (i : ℕ) (e : Entry) (w : Value) → position (is_under key) m.items ≡ Some i → e ≡ get_or m.items i e → n.items ≡ set m.items i (e.0, w)
+    → KeepsOthers key (view (Table m)) (view (Table n))
+others_stay key m n i e w at is changed other differs =
+    let (within, under, before) = position-Some (is_under key) m.items i e at in
+    let same : key ≡ string_bytes e.0 = same_text key (string_bytes e.0) (ap (is_under key) is ∙ under) in
+    let apart : is_under other e ≡ false = ap (bytes_eq other) (sym same) ∙ nat_list_eq_equiv.symm other key ∙ differs in
+    rw (view-Table m, view-Table n, changed) (member_stays other m.items i e w within is apart)

@@ -4,8 +4,8 @@ use Rattle.std.specs.Prelude.{Err}
 use Rattle.std.specs.Str.{is_utf8}
 use Rattle.toml.specs.Data.{Data, table}
 use Rattle.toml.specs.Parse.{parse_document}
-use Rattle.toml.specs.View.{view}
-use Rattle.toml.specs.declared.value.Value.{Value}
+use Rattle.plan_document.specs.View.{view}
+use Rattle.plan_document.specs.declared.values.Value.{Value}
 use Rattle.item_actions.specs.Value.{max_file_bytes}
 use Rattle.plan_table.specs.declared.document.TheConstants.{MAX_PARTS}
 use Rattle.plan_table.specs.declared.refusals.PlanRefusal.{PlanRefusal}

@@ -1,32 +1,27 @@
 //! The TOML document of a plan.
 ghost use Rattle.std.specs.Prelude.{◌≡◌, true, map, Some, None, Ok, Err, IfOk, IfErr};
-ghost use Rattle.toml.specs.View.{view};
+ghost use Rattle.plan_document.specs.View.{view};
 ghost use Rattle.plan_table.specs.declared.refusals.PlanRefusal.TheVariants.{NotToml};
 ghost use Rattle.plan_table.specs.Document.{document_of, document_or_not_toml, document_reading, RefusesDocument, ReadsDocument, have_numbers, is_numbered};
 
 use crate::keys::{projects_of, requirements_of, tasks_of};
 use crate::refusals::{PlanFail, PlanRefusal};
 use item_actions::MAX_FILE_BYTES;
+use plan_document::{DocumentFail, Value};
 use std::alloc::Global;
-use toml::Value;
 
 /// The most projects, tasks or requirements of a document, so that a `u32` has the number of each.
 pub const MAX_PARTS: usize = u32::MAX as usize;
 
 // The document that `toml` reads in the bytes, or NotToml. A text of 13 KB can nest 6,400 deep by dotted keys, and reading and
-// releasing it recurse in `toml`: 2.25 MB of stack.
+// releasing it recurse: 2.25 MB of stack.
 fn parse_document(alloc: Global, bytes: &[u8]) -> Result<Value, PlanFail>
     ensures { ReadsDocument result (document_or_not_toml (document_of bytes.now)) }
 {
-    match toml::table_from_slice(alloc, bytes) {
+    match plan_document::read(alloc, bytes) {
         Ok(table) => Ok(Value::Table(table)),
-        Err(error) => {
-            if error.is_memory() {
-                Err(PlanFail::NoMemory)
-            } else {
-                Err(PlanFail::Refused(PlanRefusal::NotToml))
-            }
-        }
+        Err(DocumentFail::NotToml) => Err(PlanFail::Refused(PlanRefusal::NotToml)),
+        Err(DocumentFail::NoMemory) => Err(PlanFail::NoMemory),
     }
 }
 

@@ -1,7 +1,7 @@
 //! What stands under each key of a plan's tables. Where a key isn't there, its default is read.
 ghost use Rattle.std.specs.Prelude.{string_bytes, ◌≡◌, [], map, option_map};
 ghost use Rattle.std.specs.Option.{option_map_or};
-ghost use Rattle.toml.specs.View.{view};
+ghost use Rattle.plan_document.specs.View.{view};
 ghost use Rattle.plan_table.specs.Values.{text_of};
 ghost use Rattle.plan_table.specs.Keys.{projects_of, tasks_of, requirements_of, name_of, project_of, after_of, all_projects_of};
 ghost use Rattle.plan_table.specs.Keys.{actions_of, wait_of, fetch_of, items_of, do_of};
@@ -12,8 +12,8 @@ use crate::values::{
     boolean_or, integer_or, list_at, optional_text_at, table_of, text_at, text_or,
 };
 use item_actions::KeepAlive;
+use plan_document::{Table, Value};
 use resource_lock::Retention;
-use toml::{Table, Value};
 
 /// The projects of a document.
 pub fn projects_of<'a>(document: &'a Value) -> &'a [Value]
@@ -136,14 +136,14 @@ pub fn args_of<'a>(requirements: &'a Value) -> &'a [Value]
 
 /// The properties of requirements, if they have any, by name. Each value is to be read by `text_of`.
 pub fn properties_of<'a>(requirements: &'a Value) -> Option<&'a Table>
-    ensures { option_map_or (λ m. map (λ e. (string_bytes e.0, text_of (view e.1))) m.now.entries) result [] ≡ properties_of (view requirements.entry.now) }
+    ensures { option_map_or (λ m. map (λ e. (string_bytes e.0, text_of (view e.1))) m.now.items) result [] ≡ properties_of (view requirements.entry.now) }
 {
     table_of(requirements.get("properties"))
 }
 
 /// The variables of requirements, if they have any, by name. Each value is to be read by `text_of`.
 pub fn variables_of<'a>(requirements: &'a Value) -> Option<&'a Table>
-    ensures { option_map_or (λ m. map (λ e. (string_bytes e.0, text_of (view e.1))) m.now.entries) result [] ≡ variables_of (view requirements.entry.now) }
+    ensures { option_map_or (λ m. map (λ e. (string_bytes e.0, text_of (view e.1))) m.now.items) result [] ≡ variables_of (view requirements.entry.now) }
 {
     table_of(requirements.get("variables"))
 }

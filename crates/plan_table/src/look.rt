@@ -1,17 +1,15 @@
 //! One look at a table, in place of a search by each of its tests.
-ghost use Rattle.std.specs.Prelude.{◌≡◌, ◌||◌, All, Some, count_by, map, option_copied, string_bytes};
-ghost use Rattle.std.specs.BTreeMap.{IsOrdered, get};
+ghost use Rattle.std.specs.Prelude.{◌≡◌, ◌||◌, count_by, map, option_copied, string_bytes};
 ghost use Rattle.std.specs.List.{find};
 ghost use Rattle.std.specs.Str.{bytes_eq};
-ghost use Rattle.std.specs.String.{string_cmp};
-ghost use Rattle.toml.specs.View.{view};
+ghost use Rattle.plan_document.specs.View.{view};
 ghost use Rattle.plan_table.specs.Look.{any_holds, is_found, required_keys};
 ghost use Rattle.plan_table.specs.Rules.{rule_of};
 ghost use Rattle.plan_table.specs.Tables.{has_idle_key, lacks_more};
 
 use crate::rules::{KeyRule, TableKind, fits, rules_of};
 use crate::tables::{TableTest, has_idle_key, holds, lacks_more};
-use toml::{Table, Value};
+use plan_document::{Value, rises};
 
 /// What is looked for in a table.
 #[derive(Clone, Copy)]
@@ -29,15 +27,13 @@ fn rule_for<'r>(rules: &'r [KeyRule], key: &str) -> Option<&'r KeyRule>
 }
 
 // How many of the table's keys have to be there. None where one of them may not, or not with its value.
-fn required_keys(rules: &[KeyRule], entries: &Table) -> Option<usize>
-    ensures keys { result ≡ required_keys (map rule_of rules.now) (map (λ e. (string_bytes e.0, view e.1)) entries.now.entries) }
-    ensures found { All (λ e. get string_cmp entries.now e.0 ≡ Some e.1) entries.now.entries }
-    ensures ordered { IsOrdered string_cmp entries.now }
+fn required_keys(rules: &[KeyRule], entries: &[(String, Value)]) -> Option<usize>
+    ensures { result ≡ required_keys (map rule_of rules.now) (map (λ e. (string_bytes e.0, view e.1)) entries.now) }
 {
     let mut required = 0;
-    for (key, value) in entries.iter() {
-        let rule = rule_for(rules, key.as_str())?;
-        if !fits(rule.form, value) {
+    for entry in entries {
+        let rule = rule_for(rules, entry.0.as_str())?;
+        if !fits(rule.form, &entry.1) {
             return None;
         }
         required += usize::from(rule.is_required);
@@ -60,22 +56,36 @@ fn clashes(kind: TableKind, table: &Value) -> bool
     lacks_more(kind, table) || has_idle_key(kind, table)
 }
 
+// Whether any of the tests holds, by one after the other.
+fn any_by_tests(kind: TableKind, table: &Value) -> bool
+    ensures { result ≡ any_holds kind (view table.now) }
+{
+    holds(TableTest::UnknownKey, kind, table)
+        || holds(TableTest::WrongType, kind, table)
+        || holds(TableTest::Missing, kind, table)
+        || holds(TableTest::BadName, kind, table)
+}
+
 // Whether any of the tests holds of the table, or of another value that stands where it should. Each entry is looked
-// at once: no key that has to be there lacks where as many of those that are there have to.
+// at once: no key that has to be there lacks where as many of those that are there have to. In a table that is read, keys rise.
 fn any_holds(kind: TableKind, table: &Value) -> bool
     ensures { result ≡ any_holds kind (view table.now) }
 {
     let Value::Table(entries) = table else {
         return true;
     };
+    let rows = entries.as_slice();
+    if !rises(rows) {
+        return any_by_tests(kind, table);
+    }
     let rules = rules_of(kind);
-    let Some(required) = required_keys(rules, entries) else {
+    let Some(required) = required_keys(rules, rows) else {
         return true;
     };
     if required < required_count(rules) {
         return true;
     }
-    if required < entries.len() {
+    if required < rows.len() {
         return clashes(kind, table);
     }
     lacks_more(kind, table)

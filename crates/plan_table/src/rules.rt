@@ -1,15 +1,15 @@
 //! The keys that each table of a plan may have, and what may stand under them.
 ghost use Rattle.std.specs.Prelude.{◌≡◌, ◌&&◌, Some, string_bytes, map};
 ghost use Rattle.std.specs.List.{list_all};
-ghost use Rattle.toml.specs.View.{view};
+ghost use Rattle.plan_document.specs.View.{view};
 ghost use Rattle.plan_table.specs.Values.{is_array_of_texts, is_text, text_of, texts_of, table_pairs};
 ghost use Rattle.plan_table.specs.Rules.{rule_of, rules, isolations, has_type, is_formed, is_setting, has_form, fits};
 
 use crate::forms::{is_encoding, is_executable, is_key, is_name, is_needle, is_value};
 use crate::values::{is_array_of_texts, is_table_of_texts, is_word, members, text_of};
 use item_actions::{ActionKind, KeepAlive, is_file_name};
+use plan_document::Value;
 use resource_lock::Retention;
-use toml::{Table, Value};
 
 /// A sort of table.
 #[derive(Clone, Copy)]
@@ -185,10 +185,10 @@ fn has_formed_texts(form: TextForm, value: &Value) -> bool
 }
 
 // Whether each name of the table has the form of a key, and what it is set to that of a value.
-fn are_settings(table: &Table) -> bool
-    ensures { result ≡ list_all (λ e. is_setting (string_bytes e.0, text_of (view e.1))) table.now.entries }
+fn are_settings(entries: &[(String, Value)]) -> bool
+    ensures { result ≡ list_all (λ e. is_setting (string_bytes e.0, text_of (view e.1))) entries.now }
 {
-    table.iter().all(|(key, value)| is_key(key.as_bytes()) && is_value(text_of(value).as_bytes()))
+    entries.iter().all(|entry| is_key(entry.0.as_bytes()) && is_value(text_of(&entry.1).as_bytes()))
 }
 
 // Whether all settings of a value have their forms. One that is no table has no settings.

@@ -2,15 +2,15 @@
 ghost use Rattle.std.specs.Prelude.{◌≡◌, Bool, true, map};
 ghost use Rattle.std.specs.List.{position};
 ghost use Rattle.toml.specs.Data.{Data};
-ghost use Rattle.toml.specs.View.{view};
+ghost use Rattle.plan_document.specs.View.{view};
 ghost use Rattle.plan_table.specs.declared.refusals.Part.{Part};
 ghost use Rattle.plan_table.specs.Document.{is_numbered};
 ghost use Rattle.plan_table.specs.Search.{places, first_in, first_place};
 
 use crate::keys::{projects_of, requirements_of, tasks_of};
 use crate::refusals::{Part, Place};
+use plan_document::Value;
 use std::slice;
-use toml::Value;
 
 /// A test of the tables of a plan.
 pub trait PlaceTest {

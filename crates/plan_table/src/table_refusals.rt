@@ -1,7 +1,7 @@
 //! The first refusal that the tables of a plan give by themselves.
 ghost use Rattle.std.specs.Prelude.{◌≡◌, true, is_none, option_map};
 ghost use Rattle.std.specs.List.{list_any};
-ghost use Rattle.toml.specs.View.{view};
+ghost use Rattle.plan_document.specs.View.{view};
 ghost use Rattle.plan_table.specs.Document.{is_numbered};
 ghost use Rattle.plan_table.specs.Keys.{actions_of, items_of};
 ghost use Rattle.plan_table.specs.Look.{is_found};
@@ -13,7 +13,7 @@ use crate::refusals::{Part, Place, PlanRefusal};
 use crate::rules::TableKind;
 use crate::search::{PlaceTest, first_place};
 use crate::tables::TableTest;
-use toml::Value;
+use plan_document::Value;
 
 // Whether what is sought stands in one of the items.
 fn is_in_items(sought: Sought, items: &[Value]) -> bool

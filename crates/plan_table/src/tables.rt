@@ -1,9 +1,8 @@
 //! The tests of one table.
 ghost use Rattle.std.specs.Prelude.{◌≡◌, ◌==◌, length, not, map, string_bytes};
-ghost use Rattle.std.specs.BTreeMap.{keys};
 ghost use Rattle.std.specs.List.{list_any};
 ghost use Rattle.std.specs.Str.{bytes_eq};
-ghost use Rattle.toml.specs.View.{view};
+ghost use Rattle.plan_document.specs.View.{view};
 ghost use Rattle.plan_table.specs.Keys.{items_of};
 ghost use Rattle.plan_table.specs.Rules.{rule_of, rules};
 ghost use Rattle.plan_table.specs.Tables.{has_rule, has_other_key, counts, asks_for_process, has_idle_key, unknown_key, fails, wrong_type, lacks_more, missing};
@@ -11,7 +10,7 @@ ghost use Rattle.plan_table.specs.Tables.{bad_name, holds};
 
 use crate::keys::{do_of, isolation_of, items_of};
 use crate::rules::{KeyRule, TableKind, has_form, has_type, rules_of};
-use toml::{Table, Value};
+use plan_document::Value;
 
 /// A test of a table.
 #[derive(Clone, Copy)]
@@ -46,10 +45,12 @@ fn has_rule(rules: &[KeyRule], key: &str) -> bool
 }
 
 // Whether the table has a key without a rule.
-fn has_key_without_rule(table: &Table, rules: &[KeyRule]) -> bool
-    ensures { result ≡ list_any (λ k. not (has_rule (map rule_of rules.now) (string_bytes k))) (keys table.now) }
+fn has_key_without_rule(entries: &[(String, Value)], rules: &[KeyRule]) -> bool
+    ensures { result ≡ list_any (λ e. not (has_rule (map rule_of rules.now) (string_bytes e.0))) entries.now }
 {
-    table.keys().any(|key| !has_rule(rules, key.as_str()))
+    entries
+        .iter()
+        .any(|entry| !has_rule(rules, entry.0.as_str()))
 }
 
 // Whether a table of this kind has a key that its kind hasn't. A value of another type has no keys.

@@ -2,24 +2,27 @@
 //! stays.
 ghost use Rattle.std.specs.Prelude.{◌≡◌, codes, map, string_bytes, option_map, IfOk};
 ghost use Rattle.toml.specs.Data.{get};
-ghost use Rattle.toml.specs.View.{view};
+ghost use Rattle.plan_document.specs.View.{view};
 ghost use Rattle.plan_table.specs.Values.{text_of, text_or, list_at, text_at, pairs_at, optional_text_at};
 ghost use Rattle.plan_table.specs.Keys.{projects_of, tasks_of, requirements_of, name_of, actions_of, fetch_of, items_of, file_of, executable_of, args_of};
 ghost use Rattle.plan_table.specs.Keys.{properties_of, variables_of, encoding_of};
 ghost use Rattle.plan_table.specs.Taking.{KeepsOthers};
 
 use item_actions::Text;
+use plan_document::{Table, Value, place_of};
 use std::alloc::{AllocError, Global};
 use std::mem;
-use toml::{Table, Value};
 
 // Takes what stands under a key of a table, and leaves an empty value there: to remove a key costs more.
 fn take_member(members: &mut Table, key: &str) -> Option<Value>
     ensures value { option_map view result ≡ get key.now (view (Value.Table members.old)) }
     ensures others { KeepsOthers key.now (view (Value.Table members.old)) (view (Value.Table members.new)) }
 {
-    match members.get_mut(key) {
-        Some(value) => Some(mem::replace(value, Value::Boolean(false))),
+    match place_of(members.as_slice(), key) {
+        Some(place) => {
+            let entry = &mut members[place];
+            Some(mem::replace(&mut entry.1, Value::Boolean(false)))
+        }
         None => None,
     }
 }
@@ -29,9 +32,9 @@ fn take(table: &mut Value, key: &str) -> Option<Value>
     ensures value { option_map view result ≡ get key.now (view table.old) }
     ensures others { KeepsOthers key.now (view table.old) (view table.new) }
 {
-    match table.as_table_mut() {
-        Some(members) => take_member(members, key),
-        None => None,
+    match table {
+        Value::Table(members) => take_member(members, key),
+        _ => None,
     }
 }
 
@@ -75,12 +78,12 @@ fn take_text_or(
 // Takes the members of a table, and none of another value.
 #[tactic(auto, using(crate::proofs::lemmas::Lists::pairs_of_table))]
 fn take_members(alloc: Global, table: &mut Value, key: &str) -> Table
-    ensures members { map (λ e. (string_bytes e.0, text_of (view e.1))) result.entries ≡ pairs_at key.now (view table.old) }
+    ensures members { map (λ e. (string_bytes e.0, text_of (view e.1))) result.items ≡ pairs_at key.now (view table.old) }
     ensures others { KeepsOthers key.now (view table.old) (view table.new) }
 {
     match take(table, key) {
         Some(Value::Table(members)) => members,
-        _ => Table::new(alloc),
+        _ => Vec::new(alloc),
     }
 }
 
@@ -181,7 +184,7 @@ pub fn take_args(alloc: Global, requirements: &mut Value) -> Vec<Value>
 
 /// Takes the properties of requirements, by name. Each value is to be read by `into_text`.
 pub fn take_properties(alloc: Global, requirements: &mut Value) -> Table
-    ensures properties { map (λ e. (string_bytes e.0, text_of (view e.1))) result.entries ≡ properties_of (view requirements.old) }
+    ensures properties { map (λ e. (string_bytes e.0, text_of (view e.1))) result.items ≡ properties_of (view requirements.old) }
     ensures others { KeepsOthers (codes "properties") (view requirements.old) (view requirements.new) }
 {
     take_members(alloc, requirements, "properties")
@@ -189,7 +192,7 @@ pub fn take_properties(alloc: Global, requirements: &mut Value) -> Table
 
 /// Takes the variables of requirements, by name. Each value is to be read by `into_text`.
 pub fn take_variables(alloc: Global, requirements: &mut Value) -> Table
-    ensures variables { map (λ e. (string_bytes e.0, text_of (view e.1))) result.entries ≡ variables_of (view requirements.old) }
+    ensures variables { map (λ e. (string_bytes e.0, text_of (view e.1))) result.items ≡ variables_of (view requirements.old) }
     ensures others { KeepsOthers (codes "variables") (view requirements.old) (view requirements.new) }
 {
     take_members(alloc, requirements, "variables")

@@ -1,13 +1,12 @@
 //! What is read of a TOML value.
-ghost use Rattle.std.specs.BTreeMap.{values};
 ghost use Rattle.std.specs.Prelude.{string_bytes, ◌≡◌, [], map, Some, option_map};
 ghost use Rattle.std.specs.List.{list_all};
 ghost use Rattle.std.specs.Option.{option_map_or};
-ghost use Rattle.toml.specs.View.{view};
+ghost use Rattle.plan_document.specs.View.{view};
 ghost use Rattle.plan_table.specs.Values.{elements, text_of, text_or, integer_or, boolean_or, optional_text_at, table_pairs, list_at, text_at, is_text};
 ghost use Rattle.plan_table.specs.Values.{is_array_of_texts, is_table_of_texts, is_word};
 
-use toml::{Table, Value};
+use plan_document::{Table, Value};
 
 /// The text, and the empty text in place of another value.
 pub fn text_of<'a>(value: &'a Value) -> &'a str
@@ -87,7 +86,7 @@ pub(crate) fn boolean_or(value: Option<&Value>, default: bool) -> bool
 /// The table, and none in place of another value.
 #[tactic(auto, using(crate::proofs::lemmas::Lists::pairs_of_table))]
 pub(crate) fn table_of<'a>(value: Option<&'a Value>) -> Option<&'a Table>
-    ensures { option_map_or (λ m. map (λ e. (string_bytes e.0, text_of (view e.1))) m.now.entries) result [] ≡ table_pairs
+    ensures { option_map_or (λ m. map (λ e. (string_bytes e.0, text_of (view e.1))) m.now.items) result [] ≡ table_pairs
         (option_map (λ v. view v.now) value.entry) }
 {
     match value {
@@ -125,10 +124,10 @@ pub(crate) fn is_array_of_texts(value: &Value) -> bool
 }
 
 // Whether each value of the table is a text.
-fn has_text_values(table: &Table) -> bool
-    ensures { result ≡ list_all (λ v. is_text (view v)) (values table.now) }
+fn has_text_values(entries: &[(String, Value)]) -> bool
+    ensures { result ≡ list_all (λ e. is_text (view e.1)) entries.now }
 {
-    table.values().all(Value::is_str)
+    entries.iter().all(|entry| entry.1.is_str())
 }
 
 /// Whether the value is a table of texts.

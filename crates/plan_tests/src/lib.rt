@@ -1,6 +1,10 @@
-//! Tests of `plan_table` and `plan_reader`.
+//! Tests of `plan_document`, `plan_table` and `plan_reader`.
 #![tactic(auto)]
 
+#[cfg(test)]
+mod document_texts;
+#[cfg(test)]
+mod documents;
 #[cfg(test)]
 mod reader;
 #[cfg(test)]

@@ -151,7 +151,7 @@ fn has_locks(
 }
 
 fn has_tasks_of(graph: &Graph, locks: &[u32]) -> bool {
-    for (task, lock) in graph.tasks().iter().zip(locks) {
+    for (task, lock) in graph.tasks().rows().iter().zip(locks) {
         if task.lock.0 != *lock {
             return false;
         }

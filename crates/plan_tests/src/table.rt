@@ -1,7 +1,7 @@
+use plan_document::Value;
 use plan_table::*;
 use std::alloc::{AllocError, Global};
 use std::test::Fail;
-use toml::Value;
 
 /// Requirements with every key.
 static EVERY_KEY: &str = r#"
@@ -19,13 +19,13 @@ keep_alive = "daemon"
 "#;
 
 fn has_properties(requirements: &Value) -> bool {
-    let mut names = match properties_of(requirements) {
-        Some(properties) => properties.keys(),
-        None => return false,
-    };
-    matches!(names.next(), Some(name) if name.as_str() == "a")
-        && matches!(names.next(), Some(name) if name.as_str() == "b")
-        && names.next().is_none()
+    match properties_of(requirements) {
+        Some(properties) => match properties.as_slice() {
+            [first, second] => first.0.as_str() == "a" && second.0.as_str() == "b",
+            _ => false,
+        },
+        None => false,
+    }
 }
 
 fn has_args(requirements: &Value) -> bool {

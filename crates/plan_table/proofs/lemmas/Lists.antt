@@ -1,18 +1,17 @@
 -- A TOML value's members, keys and pairs beside the lists that the code goes over.
-use Rattle.std.proofs.Common.{cond, ◌+◌, ◌≡◌, Bool, true, false, is_some, ◌||◌, ◌&&◌, List, [], ◌∷◌, length, map, Option, Some, None, option_map, refl, ap, sym, ◌∙◌, Global, String, Vec, BTreeMap, string_bytes}
+use Rattle.std.proofs.Common.{cond, ◌+◌, ◌≡◌, Bool, true, false, is_some, ◌||◌, ◌&&◌, List, [], ◌∷◌, length, map, Some, option_map, refl, ap, ◌∙◌, Global, Vec, string_bytes}
 use Rattle.std.specs.List.{find, list_any, list_all, position, position_or_len}
 use Rattle.std.proofs.lemmas.List.{length-map}
-use Rattle.toml.specs.declared.value.Value.{Value, Array, Table}
+use Rattle.plan_document.specs.declared.values.Value.{Value, Array, Table}
 use Rattle.toml.specs.Data.{Data, as_array}
-use Rattle.toml.specs.View.{view, items_view, members_view}
-use Rattle.toml.proofs.Views.{Entry, view-Array, view-Table}
+use Rattle.plan_document.specs.View.{view, items_view, members_view}
+use Rattle.plan_document.proofs.Views.{Entry, view-Array, view-Table}
 use Rattle.plan_table.specs.Values.{list_of, keys_of, pairs_of, values_of, elements, table_pairs, text_of, texts_of, is_text, is_array_of_texts, is_table_of_texts}
 use Rattle.plan_table.specs.Forms.{Text}
 use Rattle.plan_table.specs.Rules.{Rule, is_setting, rule_of}
 use Rattle.plan_table.specs.declared.rules.KeyRule.{KeyRule}
 use Rattle.plan_table.specs.Tables.{has_rule, has_other_key}
 use Rattle.std.proofs.Common.{not}
-use Rattle.std.specs.BTreeMap.{keys, values}
 
 pub any_of_map : {X Y : Type 0} (p : Y → Bool) (h : X → Y) (xs : List X) → list_any p (map h xs) ≡ list_any (λ x. p (h x)) xs
 any_of_map p h [] = refl
@@ -65,8 +64,8 @@ pub texts_of_elements : (vs : List Value) (ds : List Data) → map view vs ≡ d
 texts_of_elements vs ds e = rw (← e) (map_of_map text_of view vs)
 
 -- the pairs of a table
-pub pairs_of_table : (m : BTreeMap (String Global) Value) → table_pairs (Some (view (Table m))) ≡ map (λ e. (string_bytes e.0, text_of (view e.1))) m.entries
-pairs_of_table m = rw (view-Table m) (pairs_of_view m.entries)
+pub pairs_of_table : (m : Vec Entry Global) → table_pairs (Some (view (Table m))) ≡ map (λ e. (string_bytes e.0, text_of (view e.1))) m.items
+pairs_of_table m = rw (view-Table m) (pairs_of_view m.items)
 
 pub length_of_view : (vs : List Value) → length (map view vs) ≡ length vs
 length_of_view vs = length-map vs view
@@ -87,22 +86,20 @@ values_of_view [] = refl
 values_of_view (e ∷ es) = ap (λ ds. view e.1 ∷ ds) (values_of_view es)
 
 -- the values of a table
-pub texts_of_table : (m : BTreeMap (String Global) Value) → is_table_of_texts (view (Table m)) ≡ list_all (λ v. is_text (view v)) (values m)
+pub texts_of_table : (m : Vec Entry Global) → is_table_of_texts (view (Table m)) ≡ list_all (λ e. is_text (view e.1)) m.items
 texts_of_table m =
-    rw (view-Table m, values_of_view m.entries, all_of_map is_text (λ e. view e.1) m.entries)
-    (sym (all_of_map (λ v. is_text (view v)) (λ e. e.1) m.entries))
+    rw (view-Table m, values_of_view m.items) (all_of_map is_text (λ e. view e.1) m.items)
 
 -- the pairs of a table, as settings
-pub settings_of_table : (m : BTreeMap (String Global) Value)
-    → list_all is_setting (table_pairs (Some (view (Table m)))) ≡ list_all (λ e. is_setting (string_bytes e.0, text_of (view e.1))) m.entries
-settings_of_table m = rw (pairs_of_table m) (all_of_map is_setting (λ e. (string_bytes e.0, text_of (view e.1))) m.entries)
+pub settings_of_table : (m : Vec Entry Global)
+    → list_all is_setting (table_pairs (Some (view (Table m)))) ≡ list_all (λ e. is_setting (string_bytes e.0, text_of (view e.1))) m.items
+settings_of_table m = rw (pairs_of_table m) (all_of_map is_setting (λ e. (string_bytes e.0, text_of (view e.1))) m.items)
 
 -- the keys of a table
-pub other_key_of_table : (rs : List Rule) (m : BTreeMap (String Global) Value)
-    → has_other_key rs (view (Table m)) ≡ list_any (λ k. not (has_rule rs (string_bytes k))) (keys m)
+pub other_key_of_table : (rs : List Rule) (m : Vec Entry Global)
+    → has_other_key rs (view (Table m)) ≡ list_any (λ e. not (has_rule rs (string_bytes e.0))) m.items
 other_key_of_table rs m =
-    rw (view-Table m, keys_of_view m.entries, any_of_map (λ k. not (has_rule rs k)) (λ e. string_bytes e.0) m.entries)
-    (sym (any_of_map (λ k. not (has_rule rs (string_bytes k))) (λ e. e.0) m.entries))
+    rw (view-Table m, keys_of_view m.items) (any_of_map (λ k. not (has_rule rs k)) (λ e. string_bytes e.0) m.items)
 
 -- a test of the rules, beside those that the code has
 pub any_of_rules : (p : Rule → Bool) (ks : List KeyRule) (rs : List Rule) → map rule_of ks ≡ rs → list_any p rs ≡ list_any (λ k. p (rule_of k)) ks

@@ -1,4 +1,4 @@
-use Rattle.toml.specs.View.{view}
+use Rattle.plan_document.specs.View.{view}
 use Rattle.std.proofs.Common.{arith}
 use Rattle.plan_reader.specs.Rows.{unit_count}
 use Rattle.plan_reader.proofs.Rooms.{too_many}

@@ -1,4 +1,4 @@
-use Rattle.toml.specs.View.{view}
+use Rattle.plan_document.specs.View.{view}
 use Rattle.plan_reader.specs.Rows.{task_unit_count}
 use Rattle.plan_reader.proofs.Rooms.{too_many}
 use Rattle.plan_reader.proofs.limits.room_after_tasks.Goals as goal

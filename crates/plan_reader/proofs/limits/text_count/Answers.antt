@@ -1,5 +1,5 @@
 use Rattle.std.proofs.Common.{refl}
-use Rattle.toml.specs.View.{view}
+use Rattle.plan_document.specs.View.{view}
 use Rattle.plan_table.specs.Values.{text_of}
 use Rattle.plan_reader.proofs.Lists.{length_of_seen}
 use Rattle.plan_reader.proofs.limits.text_count.Goals as goal

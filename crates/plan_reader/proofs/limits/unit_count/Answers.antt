@@ -1,6 +1,6 @@
 use Rattle.std.proofs.Common.{◌≡◌, ◌+◌, is_some, ap, sym, ◌∙◌, inl, inr}
 use Rattle.std.proofs.lemmas.Bool.{cases_Bool}
-use Rattle.toml.specs.View.{view}
+use Rattle.plan_document.specs.View.{view}
 use Rattle.plan_table.specs.Keys.{fetch_of}
 use Rattle.plan_reader.proofs.Lists.{length_of_seen, is_some_of_seen}
 use Rattle.plan_reader.proofs.limits.unit_count.Goals as goal

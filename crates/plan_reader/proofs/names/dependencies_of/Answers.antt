@@ -1,6 +1,6 @@
 use Rattle.std.proofs.Common.{ap, ◌∙◌}
 use Rattle.std.proofs.lemmas.Result.{IfOk-weaker}
-use Rattle.toml.specs.View.{view}
+use Rattle.plan_document.specs.View.{view}
 use Rattle.plan_table.specs.Keys.{tasks_of}
 use Rattle.plan_reader.specs.Names.{known_rows}
 use Rattle.plan_reader.proofs.names.dependencies_of.Goals as goal

@@ -1,5 +1,5 @@
 use Rattle.std.proofs.Common.{ap}
-use Rattle.toml.specs.View.{view}
+use Rattle.plan_document.specs.View.{view}
 use Rattle.plan_table.specs.Keys.{name_of}
 use Rattle.plan_reader.specs.NameNumbers.{texts}
 use Rattle.plan_reader.proofs.Loops.{seen_more, mapped_all}

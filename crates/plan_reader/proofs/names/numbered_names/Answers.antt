@@ -1,4 +1,4 @@
-use Rattle.toml.specs.View.{view}
+use Rattle.plan_document.specs.View.{view}
 use Rattle.plan_reader.proofs.PlaceNumbers.{repeat_within}
 use Rattle.plan_reader.proofs.names.numbered_names.Goals as goal
 

@@ -1,7 +1,7 @@
 use Rattle.std.proofs.Common.{◌≡◌, Some, None, ap, sym, not, map, subst, ◌∙◌, false, position, bytes_eq, arith}
 use Rattle.std.specs.List.{list_any}
 use Rattle.std.proofs.lemmas.List.{take_all}
-use Rattle.toml.specs.View.{view}
+use Rattle.plan_document.specs.View.{view}
 use Rattle.plan_table.specs.Values.{text_of}
 use Rattle.plan_reader.specs.NameNumbers.{has_name, number_of}
 use Rattle.plan_reader.specs.Names.{once}

@@ -1,6 +1,6 @@
 use Rattle.std.proofs.Common.{◌≡◌, false, not, map, take}
 use Rattle.std.specs.List.{list_any}
-use Rattle.toml.specs.View.{view}
+use Rattle.plan_document.specs.View.{view}
 use Rattle.plan_table.specs.Values.{text_of}
 use Rattle.plan_reader.specs.NameNumbers.{has_name, number_of}
 use Rattle.plan_reader.specs.Names.{once, AreMarked}

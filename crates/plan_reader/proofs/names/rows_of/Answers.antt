@@ -1,7 +1,7 @@
 use Rattle.std.proofs.Common.{◌≡◌, None, option_map, ap, sym, map, subst, ◌∙◌, false}
 use Rattle.std.specs.List.{list_any}
 use Rattle.std.proofs.lemmas.List.{take_all}
-use Rattle.toml.specs.View.{view}
+use Rattle.plan_document.specs.View.{view}
 use Rattle.plan_table.specs.Keys.{after_of}
 use Rattle.plan_reader.specs.Names.{dependency_numbers, lacks_any, known_numbers}
 use Rattle.plan_reader.proofs.Near.{one_of, row_unknown, rows_known, rows_unknown}

@@ -1,6 +1,6 @@
 use Rattle.std.proofs.Common.{◌≡◌, ◌≤◌, ℕ, false, get_or, length, map, take}
 use Rattle.std.specs.List.{list_any}
-use Rattle.toml.specs.View.{view}
+use Rattle.plan_document.specs.View.{view}
 use Rattle.ready_work.specs.Rank.{lists_of}
 use Rattle.plan_table.specs.Keys.{after_of}
 use Rattle.plan_reader.specs.Names.{dependency_numbers, lacks_any}

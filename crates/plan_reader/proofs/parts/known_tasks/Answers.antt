@@ -1,7 +1,7 @@
 use Rattle.std.proofs.Common.{◌++◌, map, ap, sym, ◌∙◌}
 use Rattle.std.proofs.lemmas.List.{append-nil}
 use Rattle.std.specs.Iterator.Adapters.{zip_first, zip_second}
-use Rattle.toml.specs.View.{view}
+use Rattle.plan_document.specs.View.{view}
 use Rattle.plan_reader.specs.PlanView.{plan_task_view}
 use Rattle.plan_reader.specs.Taken.{known_names, task_after}
 use Rattle.plan_reader.proofs.Loops.{seen_taken_more}

@@ -2,7 +2,7 @@ use Rattle.std.proofs.Common.{◌≡◌, ◌++◌, map}
 use Rattle.std.specs.Iterator.Adapters.{zip_first, zip_second}
 use Rattle.std.specs.List.{zip}
 use Rattle.std.specs.Vec.Iter.{into_iter_items}
-use Rattle.toml.specs.View.{view}
+use Rattle.plan_document.specs.View.{view}
 use Rattle.plan_reader.specs.PlanView.{plan_task_view}
 use Rattle.plan_reader.specs.Taken.{known_names, task_after}
 use Rattle.plan_reader.proofs.parts.known_tasks.Given as goal

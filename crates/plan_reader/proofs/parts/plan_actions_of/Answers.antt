@@ -1,4 +1,4 @@
-use Rattle.toml.specs.View.{view}
+use Rattle.plan_document.specs.View.{view}
 use Rattle.plan_reader.specs.PlanView.{plan_action_view}
 use Rattle.plan_reader.specs.Planned.{action_of}
 use Rattle.plan_reader.specs.Taken.{known_names}

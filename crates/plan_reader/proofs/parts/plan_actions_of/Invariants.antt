@@ -1,6 +1,6 @@
 use Rattle.std.proofs.Common.{◌≡◌, ◌++◌, map}
 use Rattle.std.specs.Vec.Iter.{into_iter_items}
-use Rattle.toml.specs.View.{view}
+use Rattle.plan_document.specs.View.{view}
 use Rattle.plan_reader.specs.PlanView.{plan_action_view}
 use Rattle.plan_reader.specs.Planned.{action_of}
 use Rattle.plan_reader.specs.Taken.{known_names}

@@ -1,4 +1,4 @@
-use Rattle.toml.specs.View.{view}
+use Rattle.plan_document.specs.View.{view}
 use Rattle.plan_reader.specs.PlanView.{work_view}
 use Rattle.plan_reader.specs.Planned.{work_of}
 use Rattle.plan_reader.specs.Taken.{known_names}

@@ -1,5 +1,5 @@
 use Rattle.std.proofs.Common.{◌≡◌, ap, codes, map, string_bytes, sym, refl, ◌∙◌}
-use Rattle.toml.specs.View.{view}
+use Rattle.plan_document.specs.View.{view}
 use Rattle.plan_table.specs.Values.{elements, table_pairs, text_of, text_or}
 use Rattle.plan_table.specs.Keys.{executable_of, args_of, properties_of, variables_of, encoding_of}
 use Rattle.plan_table.proofs.lemmas.Lists.{map_of_map}
@@ -16,13 +16,13 @@ returns-clause-fields c =
     in
     let properties : c.in_ok-pairs_of.field-0.items ≡ map pair_of (properties_of d) =
     c.in_ok-pairs_of.ensures.pairs
-    ∙ sym (map_of_map pair_of (λ e. (string_bytes e.0, text_of (view e.1))) c.take_properties.result.entries)
+    ∙ sym (map_of_map pair_of (λ e. (string_bytes e.0, text_of (view e.1))) c.take_properties.result.items)
     ∙ ap (map pair_of) (c.take_properties.ensures.properties
     ∙ ap table_pairs (c.take_args.ensures.others (codes "properties") refl ∙ c.take_executable.ensures.others (codes "properties") refl))
     in
     let variables : c.in_ok-pairs_of-2.field-0.items ≡ map pair_of (variables_of d) =
     c.in_ok-pairs_of-2.ensures.pairs
-    ∙ sym (map_of_map pair_of (λ e. (string_bytes e.0, text_of (view e.1))) c.take_variables.result.entries)
+    ∙ sym (map_of_map pair_of (λ e. (string_bytes e.0, text_of (view e.1))) c.take_variables.result.items)
     ∙ ap (map pair_of) (c.take_variables.ensures.variables
     ∙ ap table_pairs (c.take_properties.ensures.others (codes "variables") refl ∙ c.take_args.ensures.others (codes "variables") refl ∙ c.take_executable.ensures.others (codes "variables") refl))
     in

@@ -1,5 +1,5 @@
 use Rattle.std.proofs.Common.{◌∙◌}
-use Rattle.toml.specs.View.{view}
+use Rattle.plan_document.specs.View.{view}
 use Rattle.plan_table.specs.Keys.{name_of}
 use Rattle.plan_reader.proofs.Loops.{mapped_more, mapped_all}
 use Rattle.plan_reader.proofs.profiles.names_of.Goals as goal

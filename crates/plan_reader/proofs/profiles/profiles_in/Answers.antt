@@ -1,4 +1,4 @@
-use Rattle.toml.specs.View.{view}
+use Rattle.plan_document.specs.View.{view}
 use Rattle.plan_table.specs.Keys.{heap_of}
 use Rattle.plan_reader.specs.Planned.{requirements_from}
 use Rattle.plan_reader.specs.Rows.{is_heap}

@@ -1,4 +1,4 @@
-use Rattle.toml.specs.View.{view}
+use Rattle.plan_document.specs.View.{view}
 use Rattle.plan_table.specs.Values.{text_of}
 use Rattle.plan_reader.proofs.Loops.{taken_more, taken_all, ended}
 use Rattle.plan_reader.proofs.profiles.texts_of.Goals as goal

@@ -1,6 +1,6 @@
 use Rattle.std.proofs.Common.{[], ◌∷◌, None}
 use Rattle.std.proofs.lemmas.Result.{IfOk-weaker, IfErr-weaker}
-use Rattle.toml.specs.View.{view}
+use Rattle.plan_document.specs.View.{view}
 use Rattle.plan_reader.specs.declared.rows.Row.TheVariants.{ReleaseNotLast, ClassLoader, TooMany, BadRequirements}
 use Rattle.plan_reader.specs.Search.{row_refusal, refusal_behind}
 use Rattle.plan_reader.specs.Reading.{RefusesBy}

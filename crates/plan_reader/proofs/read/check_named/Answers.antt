@@ -1,6 +1,6 @@
 use Rattle.std.proofs.Common.{ap, ◌∙◌}
 use Rattle.ready_work.specs.Rank.{lists_of}
-use Rattle.toml.specs.View.{view}
+use Rattle.plan_document.specs.View.{view}
 use Rattle.plan_table.specs.Search.{table_refusal}
 use Rattle.plan_reader.specs.Search.{twice_refusal, refusal_before}
 use Rattle.plan_reader.specs.Reading.{AnswersBy}

@@ -1,7 +1,7 @@
 use Rattle.std.proofs.Common.{◌≡◌, length, ap, sym, subst, ◌∙◌, arith, None}
 use Rattle.std.proofs.lemmas.List.{length-map}
 use Rattle.ready_work.specs.Rank.{InRange, IsFirstCycle}
-use Rattle.toml.specs.View.{view}
+use Rattle.plan_document.specs.View.{view}
 use Rattle.plan_table.specs.declared.refusals.Part.TheVariants.{Task}
 use Rattle.plan_table.specs.Keys.{tasks_of}
 use Rattle.plan_reader.specs.Names.{names_in, dependency_numbers}

@@ -1,5 +1,5 @@
 use Rattle.std.proofs.Common.{ap, option_map}
-use Rattle.toml.specs.View.{view}
+use Rattle.plan_document.specs.View.{view}
 use Rattle.plan_table.specs.declared.refusals.PlanRefusal.TheVariants as refusal
 use Rattle.plan_table.specs.Search.{table_refusal}
 use Rattle.plan_reader.specs.Search.{twice_refusal, refusal_before}

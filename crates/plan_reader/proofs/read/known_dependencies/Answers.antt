@@ -1,6 +1,6 @@
 use Rattle.std.proofs.Common.{option_map, ap, sym, ◌∙◌}
 use Rattle.ready_work.specs.Rank.{lists_of}
-use Rattle.toml.specs.View.{view}
+use Rattle.plan_document.specs.View.{view}
 use Rattle.plan_reader.proofs.Near.{dependencies_known, one_is_refused}
 use Rattle.plan_reader.proofs.read.known_dependencies.Goals as goal
 

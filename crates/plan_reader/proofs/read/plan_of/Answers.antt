@@ -1,5 +1,5 @@
 use Rattle.std.proofs.Common.{ap, codes, subst, sym, refl, ◌∙◌}
-use Rattle.toml.specs.View.{view}
+use Rattle.plan_document.specs.View.{view}
 use Rattle.plan_table.specs.declared.refusals.Part.TheVariants.{Project, Requirements}
 use Rattle.plan_table.specs.Keys.{name_of}
 use Rattle.plan_table.specs.Values.{elements}

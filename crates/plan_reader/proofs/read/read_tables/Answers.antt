@@ -1,4 +1,4 @@
-use Rattle.toml.specs.View.{view}
+use Rattle.plan_document.specs.View.{view}
 use Rattle.plan_reader.specs.Search.{refusal_before}
 use Rattle.plan_reader.specs.Reading.{AnswersBy}
 use Rattle.plan_reader.proofs.Answering.{answered, answers_by, handed_on}

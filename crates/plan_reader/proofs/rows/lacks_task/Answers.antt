@@ -1,6 +1,6 @@
 use Rattle.std.proofs.Common.{ℕ, List, not, sym, ap, ◌∙◌}
 use Rattle.std.specs.List.{list_any}
-use Rattle.toml.specs.View.{view}
+use Rattle.plan_document.specs.View.{view}
 use Rattle.plan_table.specs.Values.{text_of}
 use Rattle.plan_table.proofs.lemmas.Lists.{any_of_map}
 use Rattle.plan_reader.specs.NameNumbers.{has_name}

@@ -1,7 +1,7 @@
 use Rattle.std.proofs.Common.{◌-◌, length, map, take, ap, sym, ◌∙◌}
 use Rattle.std.specs.List.{list_any}
 use Rattle.std.proofs.lemmas.List.{length-map}
-use Rattle.toml.specs.View.{view}
+use Rattle.plan_document.specs.View.{view}
 use Rattle.plan_table.proofs.lemmas.Lists.{any_of_map}
 use Rattle.plan_reader.specs.Rows.{releases}
 use Rattle.plan_reader.proofs.Lists.{take_of_map}

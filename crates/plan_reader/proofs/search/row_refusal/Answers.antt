@@ -1,5 +1,5 @@
 use Rattle.std.proofs.Common.{◌≡◌, Some, None, refl, ap, sym, ◌∙◌}
-use Rattle.toml.specs.View.{view}
+use Rattle.plan_document.specs.View.{view}
 use Rattle.plan_table.specs.Search.{first_place}
 use Rattle.plan_reader.specs.Names.{names_in}
 use Rattle.plan_reader.specs.Rows.{holds}

@@ -1,5 +1,5 @@
 use Rattle.std.proofs.Common.{◌∙◌, sym}
-use Rattle.toml.specs.View.{view}
+use Rattle.plan_document.specs.View.{view}
 use Rattle.plan_table.specs.Tables.{fails}
 use Rattle.plan_table.proofs.lemmas.Lists.{any_of_rules}
 use Rattle.plan_table.proofs.tables.any_fails_of.Goals as goal

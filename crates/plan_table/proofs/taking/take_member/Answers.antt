@@ -1,15 +1,16 @@
-use Rattle.std.proofs.Common.{refl, ap, subst, ◌∙◌, option_map, Some}
-use Rattle.std.specs.Prelude.{IsSome}
-use Rattle.toml.specs.View.{view}
-use Rattle.toml.specs.declared.value.Value.{Value}
-use Rattle.plan_table.proofs.TakenOut.{found, others_stay}
+use Rattle.std.proofs.Common.{refl, ap, sym, ◌∙◌, Some}
+use Rattle.plan_document.specs.View.{view}
+use Rattle.plan_document.specs.declared.values.Value.{Value}
+use Rattle.plan_table.proofs.TakenOut.{found, none_found, others_stay}
 use Rattle.plan_table.proofs.taking.take_member.Goals as goal
 
 pub returns-in-Some-clause-value : goal.returns-in-Some-clause-value
-returns-in-Some-clause-value c = ap (λ (v : Value). Some (view v)) c.replace.ensures.value ∙ ap (option_map view) c.in-Some.ensures.value ∙ found c.args.key.now c.args.members.now
+returns-in-Some-clause-value c =
+    ap (λ (v : Value). Some (view v)) c.replace.ensures.value ∙ found c.args.key.now c.args.members.now c.in-Some.place c.index_mut-entry.result.now (rw c.as_slice.ensures.value at (sym c.in-Some.ensures.place)) c.index_mut-entry.ensures.value
 
 pub returns-in-Some-clause-others : goal.returns-in-Some-clause-others
-returns-in-Some-clause-others c other differs = others_stay c.args.key.now c.args.members.now _ (Some c.replace.new.dest) ((c.get_mut.follows.holds c.replace.new.dest).3 (subst IsSome c.in-Some.ensures.value refl)) other differs
+returns-in-Some-clause-others c =
+    others_stay c.args.key.now c.args.members.now _ c.in-Some.place c.index_mut-entry.result.now c.replace.new.dest (rw c.as_slice.ensures.value at (sym c.in-Some.ensures.place)) c.index_mut-entry.ensures.value refl
 
 pub returns-in-None-clause-value : goal.returns-in-None-clause-value
-returns-in-None-clause-value c = ap (option_map view) c.in-None.ensures.value ∙ found c.args.key.now c.args.members.now
+returns-in-None-clause-value c = none_found c.args.key.now c.args.members.now (rw c.as_slice.ensures.value at (sym c.in-None.ensures.place))
