@@ -6,8 +6,8 @@ Makes its own plans and files in a temporary folder, and prints one line a plan.
 
     bench/runs.py [PROGRAM [ITEMS..]]
 
-Measured: instructions a unit: 51,941 with 1,024 items in as many tasks, 52,018 with 2,048, 36,763 with 4,096 in 2,048 tasks, 29,299 with
-8,192; a transform 886 to 952; peak 19.7 MB. 8 and 64 names in `after`: a unit without the plan's reading 19,034 and 22,629. An entry is
+Measured: instructions a unit: 50,468 with 1,024 items in as many tasks, 50,578 with 2,048, 36,005 with 4,096 in 2,048 tasks, 28,341 with
+8,192; a transform 985 to 1,056; peak 7.8 MB. 8 and 64 names in `after`: a unit without the plan's reading 18,615 and 22,756. An entry is
 printed in 422 to 446. `lines` over 64 files of 4 MiB takes 0.44 a byte.
 """
 
@@ -38,7 +38,7 @@ MOST_GROWTH_BY_NAMES = 2.0
 # calls that open and close the book into the function of the whole call, so they are counted with the plan's reading.
 RUN_OF_THE_WORKERS = "std::thread::fork::chunks_from"
 READING_OF_FILES = "FolderDeskFiles::act_on"
-READING_OF_THE_PLAN = "leases_cli::plans::read"
+READING_OF_THE_PLAN = "command_answers::plans::read"
 
 
 def plan_text(items: int, names: int = 0) -> str:

@@ -27,7 +27,7 @@ use Rattle.item_work.specs.Requests.{SentView}
 use Rattle.lock_transforms.specs.declared.entries.Closed.{Closed}
 use Rattle.build_workers.specs.Desks.{DeskView}
 use Rattle.build_workers.specs.Points.{HasFinishedWork}
-use Rattle.build_runner.specs.Run.{HasResults, depth}
+use Rattle.build_workers.specs.Run.{HasResults, depth}
 use Rattle.build_workers.specs.Sent.{AreSentAndOneMore, AreSentBy, AreSentFor, HasSent}
 use Rattle.build_workers.specs.Site.{SiteView}
 use Rattle.build_workers.specs.Units.{given}

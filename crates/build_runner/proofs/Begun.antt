@@ -7,7 +7,7 @@ use Rattle.plan_reader.specs.PlanView.{PlanView}
 use Rattle.plan_reader.specs.Units.{PlannedUnit}
 use Rattle.build_runner.specs.Prepared.{IsOpenedOn, IsPrepared}
 use Rattle.build_workers.specs.declared.kits.Kit.{Kit}
-use Rattle.build_runner.specs.declared.options.RunOptions.{RunOptions}
+use Rattle.build_workers.specs.declared.options.RunOptions.{RunOptions}
 use Rattle.build_runner.specs.declared.prepared.OpenedRun.{OpenedRun}
 
 -- what was opened is so

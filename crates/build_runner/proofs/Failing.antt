@@ -8,7 +8,8 @@ use Rattle.daemon_manager.specs.Counts.{TallyView}
 use Rattle.lock_journal.specs.ClosedBy.{closed_by}
 use Rattle.coordination.specs.Passes.{PassView}
 use Rattle.build_workers.specs.Failing.{unreal_by, unreal_in}
-use Rattle.build_runner.specs.Failing.{unreal_of, unreal_seen}
+use Rattle.build_workers.specs.RunFailing.{unreal_of}
+use Rattle.build_runner.specs.Failing.{unreal_seen}
 
 -- what is said of a worker's pass, where it came to the end
 pub failed_of : (old new : PassView) (mine mine' : TallyView) → new.sight.worker ≡ old.sight.worker

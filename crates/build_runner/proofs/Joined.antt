@@ -7,12 +7,12 @@ use Rattle.daemon_manager.specs.Counts.{TalliesView}
 use Rattle.coordination.specs.Passes.{PassView}
 use Rattle.coordination.specs.Sights.{workers_from}
 use Rattle.build_runner.specs.Books.{AreBack, Leaves}
-use Rattle.build_runner.specs.Desks.{AreAlike, desks_view, known_by}
+use Rattle.build_workers.specs.RunDesks.{AreAlike, desks_view, known_by}
 use Rattle.build_workers.specs.Desks.{DeskView}
 use Rattle.build_workers.specs.Site.{SiteView}
 use Rattle.build_runner.specs.Worked.{HasComeToTheEnd, TookPart, WasThere}
 use Rattle.build_runner.proofs.AtTheEnd.{come_as, comes_to_the_end, was_there}
-use Rattle.build_runner.proofs.lemmas.KnownFiles.{known_or_none}
+use Rattle.build_workers.proofs.lemmas.KnownFiles.{known_or_none}
 use Rattle.coordination.proofs.lemmas.Numbered.{element, same_numbers}
 use Rattle.build_runner.proofs.Places.{place_within, rise, stay}
 use Rattle.build_runner.proofs.Tallied.{with_the_rest}

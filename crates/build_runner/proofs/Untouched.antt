@@ -3,7 +3,7 @@ use Rattle.std.proofs.Common.{◌≡◌, ◌≤◌, ℕ, List, drop, get_or, len
 use Rattle.daemon_manager.specs.Counts.{TalliesView}
 use Rattle.build_runner.specs.Books.{AreBack, Leaves}
 use Rattle.build_workers.specs.Desks.{DeskView}
-use Rattle.build_runner.proofs.lemmas.FirstDesk.{drop_more}
+use Rattle.build_workers.proofs.lemmas.FirstDesk.{drop_more}
 
 pub are_back : {D : Type 0} (view : D → DeskView) (n : ℕ) (desks : List D) → AreBack view n desks desks
 are_back view n desks = record { places = refl; files = λ i d. refl; counts = λ i d. omega arith; rest = refl }

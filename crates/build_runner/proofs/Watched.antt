@@ -10,8 +10,9 @@ use Rattle.coordination.specs.Passes.{PassView}
 use Rattle.run_watch.specs.Looks.{BoardView}
 use Rattle.run_watch.specs.Watches.{AreWatchesOf}
 use Rattle.run_watch.specs.declared.boards.Watch.{Watch}
-use Rattle.build_runner.specs.Watching.{HasRoomToLook, IsBoardFor, IsSeenBy, IsWatchedRun}
-use Rattle.build_runner.specs.declared.options.RunOptions.{RunOptions}
+use Rattle.build_runner.specs.Watching.{HasRoomToLook, IsBoardFor, IsSeenBy}
+use Rattle.build_workers.specs.RunWatching.{IsWatchedRun}
+use Rattle.build_workers.specs.declared.options.RunOptions.{RunOptions}
 
 -- a fact of the parts, said of what each is made of
 pub of_map : {X Y : Type 0} (f : X → Y) (P : Y → Type 0) (xs : List X) → All P (map f xs) → All (λ x. P (f x)) xs

@@ -1,3 +1,1 @@
-pub mod FirstDesk
-pub mod KnownFiles
 pub mod Within

@@ -9,13 +9,13 @@ use Rattle.coordination.specs.Passes.{PassView}
 use Rattle.plan_reader.specs.PlanView.{PlanView}
 use Rattle.plan_reader.specs.Units.{plan_units}
 use Rattle.run_watch.specs.declared.boards.Watch.{Watch}
-use Rattle.build_runner.specs.Desks.{desks_view, known_by}
+use Rattle.build_workers.specs.RunDesks.{desks_view, known_by}
 use Rattle.build_workers.specs.Desks.{DeskView}
-use Rattle.build_runner.specs.Failing.{unreal_of}
-use Rattle.build_runner.specs.Run.{IsRunOf}
-use Rattle.build_runner.specs.Watching.{IsWatchedRun}
+use Rattle.build_workers.specs.RunFailing.{unreal_of}
+use Rattle.build_workers.specs.Run.{IsRunOf}
+use Rattle.build_workers.specs.RunWatching.{IsWatchedRun}
 use Rattle.build_runner.specs.Worked.{HasComeToTheEnd}
-use Rattle.build_runner.specs.declared.options.RunOptions.{RunOptions}
+use Rattle.build_workers.specs.declared.options.RunOptions.{RunOptions}
 
 -- Each desk is in its place again, knows the same files, and counts no fewer faults; those behind the first n are as they were.
 pub record AreBack {D : Type 0} (view : D → DeskView) (n : ℕ) (old new : List D) : Type 0 where

@@ -9,7 +9,7 @@ use Rattle.plan_reader.specs.Units.{PlannedUnit, plan_units}
 use Rattle.build_workers.specs.Worked.{CanWork}
 use Rattle.build_runner.specs.Watching.{HasRoomToLook, IsWatchedBy}
 use Rattle.build_workers.specs.declared.kits.Kit.{Kit}
-use Rattle.build_runner.specs.declared.options.RunOptions.{RunOptions}
+use Rattle.build_workers.specs.declared.options.RunOptions.{RunOptions}
 
 -- The service is open over a book of the graph, with a pass for each worker in order, and none of them has anything.
 pub record IsOpenedOn (g : GraphView) (c : CoordinationView) (ps : List PassView) : Type 0 where

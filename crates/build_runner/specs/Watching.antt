@@ -1,12 +1,9 @@
--- What a worker looks with, and what is seen of a run.
-use Rattle.std.specs.Prelude.{ℕ, ◌≡◌, [], Bool, Contains, List, None, Option, Some, false, true}
+-- What a worker looks with, and the board that holds what was seen.
+use Rattle.std.specs.Prelude.{ℕ, ◌≡◌, Bool, Contains, List, None, Option, Some, false, true}
 use Rattle.lock_journal.specs.BookView.{BookView}
 use Rattle.history_views.specs.Growing.{IsLater}
 use Rattle.coordination.specs.Passes.{PassView, ServiceId}
 use Rattle.run_watch.specs.Looks.{BoardView}
-use Rattle.run_watch.specs.Watches.{AreWatchesOf}
-use Rattle.run_watch.specs.declared.boards.Watch.{Watch}
-use Rattle.build_runner.specs.declared.options.RunOptions.{RunOptions}
 use Rattle.build_workers.specs.declared.kits.Kit.{Kit}
 use Rattle.build_workers.specs.Looking.{LooksAt}
 use Rattle.build_workers.specs.Site.{SiteView}
@@ -42,7 +39,3 @@ IsBoardFor ps (Some n) None = ⊥
 pub record HasRoomToLook (watch : Bool) (n : ℕ) (room : Option ℕ) : Type 0 where
   pub some : watch ≡ true → room ≡ Some n
   pub none : watch ≡ false → room ≡ None
-
--- what is seen of a run by rising unit, where it is watched, else nothing
-abbrev pub IsWatchedRun : RunOptions → BookView → List Watch → Type 0
-IsWatchedRun options b ws = (options.watch ≡ true → AreWatchesOf b ws) × (options.watch ≡ false → ws ≡ [])

@@ -3,14 +3,11 @@
 #![tactic(auto)]
 
 mod daemons;
-mod options;
 mod prepared;
 mod room;
-mod run_end;
 mod runs;
 mod team;
 mod watching;
 
-pub use options::RunOptions;
-pub use run_end::RunEnd;
+pub use build_workers::{RunEnd, RunOptions};
 pub use runs::run_plan;

@@ -9,9 +9,8 @@ ghost use Rattle.build_runner.specs.Prepared.{IsOpenedOn, IsPrepared};
 ghost use Rattle.build_runner.specs.Watching.{IsWatchedBy};
 ghost use Rattle.plan_reader.specs.Units.{unit_view};
 
-use crate::options::RunOptions;
 use crate::watching::room_for;
-use build_workers::{Hand, Kit, Queue, QueuePlace, RunService};
+use build_workers::{Hand, Kit, Queue, QueuePlace, RunOptions, RunService};
 use coordination::{Coordination, OpenedWithViews, Pass, openings_are_at_rest};
 use history_views::View;
 use lock_journal::Book;

@@ -1,3 +1,5 @@
+pub mod FirstDesk
+pub mod KnownFiles
 pub mod Results
 pub mod SentViews
 pub mod Weaker

@@ -13,3 +13,7 @@ pub mod Worked
 pub mod Hands
 pub mod Tickets
 pub mod Helping
+pub mod RunDesks
+pub mod RunFailing
+pub mod RunWatching
+pub mod Run

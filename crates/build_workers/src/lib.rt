@@ -1,4 +1,5 @@
-//! What one worker of a run does: it runs tasks and items over a service, a desk and a pool of daemons that others use too.
+//! What one worker of a run does: it runs tasks and items over a service, a desk and a pool of daemons that others use too. And
+//! what a whole run is given and leaves, which `build_runner` proves of it: so whatever tells of a run needs only this crate.
 #![tactic(auto)]
 
 mod fetching;
@@ -6,8 +7,10 @@ mod hands;
 mod idle;
 mod items;
 mod kits;
+mod options;
 mod parked;
 mod queue;
+mod run_end;
 mod run_types;
 mod site;
 mod spares;
@@ -17,7 +20,9 @@ mod working;
 
 pub use hands::Hand;
 pub use kits::Kit;
+pub use options::RunOptions;
 pub use queue::{Queue, QueuePlace};
+pub use run_end::RunEnd;
 pub use run_types::{RunTypes, Types};
 pub use site::{RunService, Site};
 pub use worker::Worker;

@@ -66,7 +66,7 @@ impl<'a, 'r, T: RunTypes> Site<'a, 'r, T> {
         ensures first { result.start ≡ (task_of self.now.graph task).first_action }
         ensures end { result.end ≡ (task_of self.now.graph task).first_action + (task_of self.now.graph task).actions }
     {
-        let found = &self.graph.tasks()[task as usize];
+        let found = self.graph.tasks().at(task as usize);
         found.first_action..found.first_action + found.actions
     }
 

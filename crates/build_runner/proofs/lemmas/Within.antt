@@ -7,10 +7,10 @@ use Rattle.plan_reader.specs.PlanView.{PlanView}
 use Rattle.plan_reader.specs.Units.{plan_units}
 use Rattle.lock_journal.specs.ClosedBy.{closed_by}
 use Rattle.build_workers.specs.Desks.{DeskView}
-use Rattle.build_runner.specs.Run.{HasResults, IsRunOf, WasBrokenOff}
+use Rattle.build_workers.specs.Run.{HasResults, IsRunOf, WasBrokenOff}
 use Rattle.build_workers.specs.Sent.{AreSentAndOneMore, AreSentFor}
-use Rattle.build_runner.specs.declared.options.RunOptions.{RunOptions}
-use Rattle.build_runner.proofs.lemmas.KnownFiles.{known_same}
+use Rattle.build_workers.specs.declared.options.RunOptions.{RunOptions}
+use Rattle.build_workers.proofs.lemmas.KnownFiles.{known_same}
 
 -- a desk that asked nothing of a daemon
 pub record AskedNothing (before after : DeskView) : Type 0 where

@@ -2,7 +2,7 @@ use Rattle.std.proofs.Common.{◌≡◌, List, refl, subst, sym}
 use Rattle.daemon_manager.specs.Asking.{AreAskedFor}
 use Rattle.daemon_manager.specs.declared.events.Event.{Event}
 use Rattle.build_workers.specs.Desks.{DeskView, desk_view}
-use Rattle.build_runner.proofs.lemmas.FirstDesk.{of_each}
+use Rattle.build_workers.proofs.lemmas.FirstDesk.{of_each}
 use Rattle.build_runner.proofs.daemons.close_pool.Goals as goal
 
 pub returns-clause-desks : goal.returns-clause-desks

@@ -14,8 +14,8 @@ use Rattle.plan_reader.specs.Graph.{graph_of}
 use Rattle.plan_reader.specs.IsPlan.{dependencies}
 use Rattle.plan_reader.specs.Units.{plan_units}
 use Rattle.lock_journal.specs.Marks.{HasEnded}
-use Rattle.build_runner.specs.Desks.{known_by}
-use Rattle.build_runner.specs.Run.{depth}
+use Rattle.build_workers.specs.RunDesks.{known_by}
+use Rattle.build_workers.specs.Run.{depth}
 use Rattle.build_runner.proofs.AtTheEnd.{all_are_honest, all_ended, all_faults, all_requests, all_rest, all_there, closings_in, has_results}
 use Rattle.build_runner.proofs.Ranks.{afters_count, in_range, no_cycle, ranks_of, task_count}
 use Rattle.build_runner.proofs.runs.close_service.Goals as goal

@@ -8,9 +8,9 @@ use Rattle.build_runner.specs.declared.prepared.OpenedRun.{OpenedRun}
 use Rattle.plan_reader.specs.Units.{PlannedUnit, unit_view}
 use Rattle.run_watch.specs.declared.boards.Watch.{Watch}
 use Rattle.build_runner.specs.Books.{GivesBook, IsClosedBook, Leaves}
-use Rattle.build_runner.specs.Desks.{desks_view, known_by}
+use Rattle.build_workers.specs.RunDesks.{desks_view, known_by}
 use Rattle.build_workers.specs.Desks.{DeskView, desk_view}
-use Rattle.build_runner.specs.Run.{WasBrokenOff}
+use Rattle.build_workers.specs.Run.{WasBrokenOff}
 use Rattle.build_workers.specs.Site.{SiteView}
 use Rattle.build_workers.specs.Units.{AllMayAsk}
 use Rattle.build_runner.specs.Watching.{HasRoomToLook, IsBoardFor, IsWatchedBy}

@@ -4,7 +4,7 @@ use Rattle.std.specs.declared.alloc.Global.{Global}
 use Rattle.lock_journal.specs.BookView.{BookView}
 use Rattle.run_watch.specs.declared.boards.Watch.{Watch}
 use Rattle.build_runner.specs.Books.{GivesBook}
-use Rattle.build_runner.specs.Desks.{desks_view}
+use Rattle.build_workers.specs.RunDesks.{desks_view}
 use Rattle.build_workers.specs.Desks.{DeskView, desk_view}
 use Rattle.build_workers.proofs.lemmas.Results.{at_err, if_ok, of_err}
 use Rattle.build_runner.proofs.Tallied.{same_sum}

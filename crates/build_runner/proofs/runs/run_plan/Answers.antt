@@ -3,12 +3,12 @@ use Rattle.std.specs.Prelude.{sum_by}
 use Rattle.daemon_manager.specs.Counts.{failures, reservations}
 use Rattle.daemon_manager.specs.Events.{IsLegal, NoneIdle}
 use Rattle.build_runner.specs.Books.{GivesEnd}
-use Rattle.build_runner.specs.Desks.{desks_view}
+use Rattle.build_workers.specs.RunDesks.{desks_view}
 use Rattle.build_workers.specs.Desks.{DeskView, desk_view}
-use Rattle.build_runner.specs.Failing.{unreal_of}
-use Rattle.build_runner.specs.Run.{IsRunOf}
-use Rattle.build_runner.specs.Watching.{IsWatchedRun}
-use Rattle.build_runner.specs.declared.run_end.RunEnd.{RunEnd}
+use Rattle.build_workers.specs.RunFailing.{unreal_of}
+use Rattle.build_workers.specs.Run.{IsRunOf}
+use Rattle.build_workers.specs.RunWatching.{IsWatchedRun}
+use Rattle.build_workers.specs.declared.run_end.RunEnd.{RunEnd}
 use Rattle.build_runner.proofs.AtFirst.{from_ok}
 use Rattle.build_runner.proofs.runs.run_plan.Goals as goal
 

@@ -1,13 +1,14 @@
 use Rattle.std.proofs.Common.{◌≡◌, ℕ, Option, Some, ap, drop, min, sym, subst}
 use Rattle.std.proofs.Math.Nat.{min-eq_left}
 use Rattle.command_words.specs.declared.commands.Command.{Command}
-use Rattle.build_runner.specs.Desks.{AreAlike, desks_view}
+use Rattle.build_workers.specs.RunDesks.{AreAlike, desks_view}
 use Rattle.build_workers.specs.Desks.{desk_view}
-use Rattle.leases_cli.specs.Around.{Call, around, desks_used}
-use Rattle.leases_cli.specs.Answered.{Answered, book_of, call_of}
+use Rattle.command_answers.specs.Around.{Call, around, desks_used}
+use Rattle.command_answers.specs.Answered.{Answered, book_of, call_of}
 use Rattle.leases_cli.specs.declared.top.TheConstants.{DESKS}
-use Rattle.leases_cli.proofs.Commands.{bad_words_answered, few_used, no_command, no_memory_answered}
-use Rattle.leases_cli.proofs.Completing.{carried_out, no_command_complete, no_memory_complete}
+use Rattle.command_answers.proofs.lemmas.Commands.{bad_words_answered, no_command, no_memory_answered}
+use Rattle.leases_cli.proofs.Desks.{few_used}
+use Rattle.command_answers.proofs.lemmas.Completing.{carried_out, no_command_complete, no_memory_complete}
 use Rattle.leases_cli.proofs.top.leases.Goals as goal
 
 -- ---- a command was carried out

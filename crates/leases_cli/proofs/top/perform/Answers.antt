@@ -1,10 +1,10 @@
 use Rattle.std.proofs.Common.{sym, subst}
 use Rattle.std.specs.Prelude.{Some}
 use Rattle.command_words.specs.declared.commands.Command.{Command}
-use Rattle.build_runner.specs.Desks.{desks_view}
+use Rattle.build_workers.specs.RunDesks.{desks_view}
 use Rattle.build_workers.specs.Desks.{desk_view}
-use Rattle.leases_cli.specs.Answered.{Answered, call_of}
-use Rattle.leases_cli.specs.Around.{Call, around}
+use Rattle.command_answers.specs.Answered.{Answered, call_of}
+use Rattle.command_answers.specs.Around.{Call, around}
 use Rattle.leases_cli.proofs.top.perform.Goals as goal
 
 pub returns-in-Run-clause-answer : goal.returns-in-Run-clause-answer

@@ -5,18 +5,18 @@ use Rattle.daemon_manager.specs.Counts.{failures, reservations}
 use Rattle.daemon_manager.specs.declared.events.Event.{Event}
 use Rattle.plan_reader.specs.Units.{plan_units}
 use Rattle.run_watch.specs.declared.boards.Watch.{Watch}
-use Rattle.build_runner.specs.Watching.{IsWatchedRun}
-use Rattle.build_runner.specs.Desks.{desks_view}
+use Rattle.build_workers.specs.RunWatching.{IsWatchedRun}
+use Rattle.build_workers.specs.RunDesks.{desks_view}
 use Rattle.build_workers.specs.Desks.{DeskView, desk_view}
 use Rattle.build_workers.specs.Units.{AsksFor}
-use Rattle.build_runner.proofs.lemmas.KnownFiles.{still_alike}
+use Rattle.build_workers.proofs.lemmas.KnownFiles.{still_alike}
 use Rattle.build_runner.proofs.lemmas.Within.{asked_nothing, broken_within, run_within}
-use Rattle.leases_cli.specs.Answered.{book_of, call_of, options_of}
-use Rattle.leases_cli.specs.Around.{Call, around}
-use Rattle.build_runner.proofs.lemmas.FirstDesk.{drop_more}
-use Rattle.leases_cli.proofs.Commands.{some_desk}
-use Rattle.leases_cli.proofs.Reports.{broken_answers, refusal_answers, reported_answers}
-use Rattle.leases_cli.proofs.Reserving.{first_sent}
+use Rattle.command_answers.specs.Answered.{book_of, call_of, options_of}
+use Rattle.command_answers.specs.Around.{Call, around}
+use Rattle.build_workers.proofs.lemmas.FirstDesk.{drop_more}
+use Rattle.command_answers.proofs.lemmas.Commands.{some_desk}
+use Rattle.command_answers.proofs.lemmas.Reports.{broken_answers, refusal_answers, reported_answers}
+use Rattle.command_answers.proofs.lemmas.Reserving.{first_sent}
 use Rattle.leases_cli.proofs.top.run.Goals as goal
 
 pub run_plan-requires-clause-alike : goal.run_plan-requires-clause-alike

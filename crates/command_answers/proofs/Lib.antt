@@ -1,0 +1,5 @@
+pub mod lemmas
+mod Readings
+mod Checks
+mod Agains
+mod PlansOwn

@@ -1,0 +1,4 @@
+pub mod Reports
+pub mod Commands
+pub mod Completing
+pub mod Reserving
