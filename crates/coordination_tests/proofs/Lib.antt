@@ -1,3 +1,1 @@
 pub mod Agreeing
-pub mod Closing
-pub mod Helping

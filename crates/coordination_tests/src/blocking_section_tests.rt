@@ -7,7 +7,7 @@ ghost use Rattle.lease_service.specs.Shows.{MayTake};
 ghost use Rattle.lock_journal.specs.Own.{is_unit};
 
 use crate::entries::{EntriesFrom, EntryRow, are_entries};
-use crate::services::{open, yield_a_while};
+use crate::services::{let_go, open, yield_a_while};
 use blocking_section::{StillBlocked, enter, leave};
 use coordination::{Coordination, Halt, Opened, Pass};
 use lease_service::{hand_back, take_locks};
@@ -203,10 +203,10 @@ fn lends_and_steps_aside<R: Wait>(rt: &R, service: &Coordination, passes: &mut [
 
 #[test]
 fn a_section_gives_back_all_meanwhile(rt: HostRuntime) -> Result<(), AllocError> {
-    let mut opened = open(&rt, rt.alloc(), &LIMITS, &[], &[])?;
+    let mut opened = open(rt.alloc(), &LIMITS, &[], &[])?.expect(&rt, "a graph that fits");
     let Opened { service, passes } = &mut *opened;
     let gives_back = lends_and_steps_aside(&rt, service, passes);
-    drop(opened);
+    let_go(opened);
     assert!(rt; gives_back);
     Ok(())
 }
@@ -290,10 +290,10 @@ fn leaving_waits_for_the_lease_of_another_thread_or_a_stop(
     rt: HostRuntime,
 ) -> Result<(), AllocError> {
     for stops in [false, true] {
-        let mut opened = open(&rt, rt.alloc(), &ONE_LEASE, &[], &[])?;
+        let mut opened = open(rt.alloc(), &ONE_LEASE, &[], &[])?.expect(&rt, "a graph that fits");
         let Opened { service, passes } = &mut *opened;
         play_in_threads(&rt, service, passes, stops);
-        drop(opened);
+        let_go(opened);
     }
     Ok(())
 }

@@ -10,11 +10,9 @@ ghost use Rattle.lock_transforms.specs.Entry.{Entry, entry, replay};
 ghost use Rattle.lock_transforms.specs.declared.entries.Kind.TheVariants as kinds;
 ghost use Rattle.coordination.specs.Sights.{workers_from};
 
-use crate::entries::EntriesFrom;
-use crate::services::{open, yield_a_while};
-use coordination::{
-    Coordination, Decided, Decision, Halt, Opened, Pass, sound_books_have_good_states,
-};
+use crate::entries::{EntriesFrom, FailAtOnce};
+use crate::services::{let_go, open, yield_a_while};
+use coordination::{Coordination, Decided, Halt, Opened, Pass, sound_books_have_good_states};
 use lock_journal::{Book, own_changes_say_all};
 use lock_transforms::kinds::{End, Start};
 use lock_transforms::{Disposition, Kind, Tentative, Transform};
@@ -146,16 +144,11 @@ fn a_free_lock_is_taken_by_a_try(rt: HostRuntime) -> Result<(), AllocError> {
         workers: 2,
         max_leases: 2,
     };
-    let mut opened = open(
-        &rt,
-        rt.alloc(),
-        &limits,
-        &[task(0, None), task(0, None)],
-        &[],
-    )?;
+    let tasks = [task(0, None), task(0, None)];
+    let mut opened = open(rt.alloc(), &limits, &tasks, &[])?.expect(&rt, "a graph that fits");
     let Opened { service, passes } = &mut *opened;
     let takes = takes_by_a_try(&rt, service, &mut passes[0]);
-    drop(opened);
+    let_go(opened);
     assert!(rt; takes);
     Ok(())
 }
@@ -167,47 +160,6 @@ fn task(lock: u32, after: Option<u32>) -> TaskRow {
         after,
         first_action: 0,
         actions: 0,
-    }
-}
-
-/// Fails, with an entry.
-#[derive(Clone, Copy)]
-pub struct FailAtOnce;
-
-impl Transform for FailAtOnce {
-    ghost kind_of = { λ _. kinds.Acquire };
-
-    ghost most = { λ _ _ _ _. 0 };
-
-    ghost makes = { λ _ _ _ _ _. ⊥ };
-
-    ghost fails_on = { λ _ _ _ _. Unit {0} };
-
-    ghost retries_on = { λ _ _ _ _. ⊥ };
-
-    fn kind(&self) -> Kind {
-        Kind::Acquire
-    }
-
-    fn most_changes(&self, _graph: &Graph, _state: &State, _worker: WorkerId) -> u64 {
-        0
-    }
-
-    fn apply(&self, _work: &mut Tentative, _own: &[LockId]) -> Disposition {
-        Disposition::Failed
-    }
-
-    fn waits_for_news(&self) {}
-}
-
-/// Makes a failed entry once there are so many.
-impl Decision for EntriesFrom {
-    type Step = FailAtOnce;
-
-    ghost step_of = { λ _ _. Some (record {}) };
-
-    fn step(&self, _entries: &u64) -> Option<FailAtOnce> {
-        Some(FailAtOnce)
     }
 }
 
@@ -388,7 +340,7 @@ fn open_scene(rt: &impl Abort, alloc: Global, scene: &Scene) -> Result<Box<Opene
         workers: scene.workers,
         max_leases: 8,
     };
-    open(rt, alloc, &limits, &rows, &[])
+    Ok(open(alloc, &limits, &rows, &[])?.expect(rt, "a graph that fits"))
 }
 
 // Plays a scene in threads, and gives the book.

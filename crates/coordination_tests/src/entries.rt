@@ -1,10 +1,11 @@
-//! Questions about the entries of a book.
-ghost use Rattle.std.specs.Prelude.{◌≡◌, ◌<◌, None, length};
+//! Questions about the entries of a book, and a decision by how many there are.
+ghost use Rattle.std.specs.Prelude.{◌≡◌, ◌<◌, None, Some, length};
+ghost use Rattle.lock_transforms.specs.declared.entries.Kind.TheVariants as kinds;
 
-use coordination::{Coordination, Pass, Question};
+use coordination::{Coordination, Decision, Pass, Question};
 use lock_journal::Book;
-use lock_transforms::Kind;
-use resource_lock::{Change, WorkerId};
+use lock_transforms::{Disposition, Kind, Tentative, Transform};
+use resource_lock::{Change, Graph, LockId, State, WorkerId};
 use std::sync::Wait;
 use worker_choices::Awaited;
 
@@ -102,5 +103,46 @@ impl Question for EntriesFrom {
     fn ask(&self, _worker: WorkerId, book: &Book, _queued: bool) -> Option<u64> {
         let entries = book.len();
         (self.least <= entries).then_some(entries)
+    }
+}
+
+/// Fails, with an entry.
+#[derive(Clone, Copy)]
+pub struct FailAtOnce;
+
+impl Transform for FailAtOnce {
+    ghost kind_of = { λ _. kinds.Acquire };
+
+    ghost most = { λ _ _ _ _. 0 };
+
+    ghost makes = { λ _ _ _ _ _. ⊥ };
+
+    ghost fails_on = { λ _ _ _ _. Unit {0} };
+
+    ghost retries_on = { λ _ _ _ _. ⊥ };
+
+    fn kind(&self) -> Kind {
+        Kind::Acquire
+    }
+
+    fn most_changes(&self, _graph: &Graph, _state: &State, _worker: WorkerId) -> u64 {
+        0
+    }
+
+    fn apply(&self, _work: &mut Tentative, _own: &[LockId]) -> Disposition {
+        Disposition::Failed
+    }
+
+    fn waits_for_news(&self) {}
+}
+
+/// Makes a failed entry once there are so many.
+impl Decision for EntriesFrom {
+    type Step = FailAtOnce;
+
+    ghost step_of = { λ _ _. Some (record {}) };
+
+    fn step(&self, _entries: &u64) -> Option<FailAtOnce> {
+        Some(FailAtOnce)
     }
 }

@@ -1,11 +1,12 @@
 //! Services whose history is taken while their workers go on.
 ghost use Rattle.std.specs.Prelude.{◌≡◌, All};
 
-use crate::services::{book_of, open};
+use crate::services::{let_go, open};
 use coordination::{Coordination, Opened, Pass};
 use lock_journal::{Book, Segment, Shown};
 use lock_transforms::kinds::{Acquire, HandBack, Shortage};
 use resource_lock::{Change, LockId};
+use state_tests::books::book_of;
 use state_tests::rows::Limits;
 use std::alloc::{AllocError, Global};
 use std::process::Abort;
@@ -120,11 +121,11 @@ fn take_all<R: Threads + Wait + Abort + Sync>(
     alloc: Global,
     parts: &Mutex<Vec<Segment>>,
 ) -> Result<(), AllocError> {
-    let mut opened = open(rt, alloc, &LIMITS, &[], &[])?;
+    let mut opened = open(alloc, &LIMITS, &[], &[])?.expect(rt, "a graph that fits");
     let Opened { service, passes } = &mut *opened;
     take_turns_in_threads(rt, alloc, service, passes, parts);
     take_rest(rt, alloc, service, passes, parts);
-    drop(opened);
+    let_go(opened);
     Ok(())
 }
 
@@ -163,7 +164,7 @@ fn are_one_history(alloc: Global, book: &mut Book, parts: &[Segment]) -> Result<
 
 // Whether the parts are one history of all turns, at whose end no lease is out.
 fn are_the_history(rt: &impl Abort, alloc: Global, parts: &[Segment]) -> Result<bool, AllocError> {
-    let mut book = book_of(rt, alloc, &LIMITS, &[], &[])?;
+    let mut book = book_of(alloc, &LIMITS, &[], &[])?.expect(rt, "a graph that fits");
     let are_one = are_one_history(alloc, &mut book, parts);
     let is_whole = book.len() == 8 * u64::from(TURNS) * 2 && book.state().leases_out() == 0;
     drop(book);

@@ -6,14 +6,14 @@ ghost use Rattle.coordination.specs.Shown.{blocked_shown, claimed_shown, lease_s
 ghost use Rattle.lease_service.specs.declared.holders.Tried.TheVariants.{Got};
 
 use crate::entries::{EntryRow, are_entries};
-use crate::services::{open, yield_a_while};
+use crate::services::{let_go, open, yield_a_while};
 use coordination::{Coordination, Opened, Pass};
 use item_actions::Text;
 use lease_service::{
     ProjectLocks, Tried, current_lease, hand_back, run_as_worker, take_locks, try_take_locks,
 };
 use lock_transforms::Kind;
-use resource_lock::{Change, Graph, LockId, WorkerId};
+use resource_lock::{Change, Graph, GraphTasks, LockId, WorkerId};
 use state_tests::rows::Limits;
 use std::alloc::{AllocError, Global};
 use std::process::Abort;
@@ -188,10 +188,10 @@ static PLAYS: [(&[Turn], &[EntryRow<'static>]); 2] = [(SHARE, SHARED), (FREE, &[
 #[test]
 fn workers_take_free_locks_and_no_busy_ones(rt: HostRuntime) -> Result<(), AllocError> {
     for (turns, rows) in &PLAYS {
-        let mut opened = open(&rt, rt.alloc(), &LIMITS, &[], &[])?;
+        let mut opened = open(rt.alloc(), &LIMITS, &[], &[])?.expect(&rt, "a graph that fits");
         let Opened { service, passes } = &mut *opened;
         let go = all_go(&rt, service, passes, turns, rows);
-        drop(opened);
+        let_go(opened);
         assert!(rt; go);
     }
     Ok(())
@@ -239,13 +239,19 @@ fn has_lock(
     Ok(lock? == expected && count == 1 + u32::from(parallel))
 }
 
+// Whether a graph of two workers can have so many locks, the last one for all projects.
+fn fits_for_two(alloc: Global, all: LockId) -> bool {
+    let tasks = GraphTasks::none(alloc);
+    Graph::fits(all.0.saturating_add(1), Some(all), 2, 2, &tasks, &[])
+}
+
 // Whether a graph of two workers has the locks of both projects, and one for all projects behind them.
 fn has_lock_for_all(alloc: Global, parallel: bool) -> Result<bool, AllocError> {
     let locks = two_projects(alloc, parallel)?;
     let all = locks.all_lock();
     let count = locks.count();
     drop(locks);
-    Ok(all.0 == count && Graph::fits(all.0.saturating_add(1), Some(all), 2, 2, &[], &[]))
+    Ok(all.0 == count && fits_for_two(alloc, all))
 }
 
 #[test]
@@ -325,10 +331,10 @@ fn a_lock_is_waited_for_until_it_is_handed_back_or_a_stop(
     rt: HostRuntime,
 ) -> Result<(), AllocError> {
     for stops in [false, true] {
-        let mut opened = open(&rt, rt.alloc(), &LIMITS, &[], &[])?;
+        let mut opened = open(rt.alloc(), &LIMITS, &[], &[])?.expect(&rt, "a graph that fits");
         let Opened { service, passes } = &mut *opened;
         wait_in_threads(&rt, service, passes, stops);
-        drop(opened);
+        let_go(opened);
     }
     Ok(())
 }

@@ -1,27 +1,14 @@
-//! Tests of the crates from `coordination` to `async_tracker`: what several workers do.
+//! Tests of the crates from `coordination` to `blocking_section`: what several workers do. Services and questions are public for the tests
+//! of `async_tracker_tests`.
 #![tactic(auto)]
 
 #[cfg(test)]
-mod async_tracker_tests;
-#[cfg(test)]
 mod blocking_section_tests;
 #[cfg(test)]
-mod closing_tests;
-#[cfg(test)]
 mod coordination_tests;
-#[cfg(test)]
-mod entries;
+pub mod entries;
 #[cfg(test)]
 mod giving_tests;
 #[cfg(test)]
 mod lease_service_tests;
-#[cfg(test)]
-mod planned_rows;
-#[cfg(test)]
-mod planned_tests;
-#[cfg(test)]
-mod services;
-#[cfg(test)]
-mod skipping_tests;
-#[cfg(test)]
-mod waiting_tests;
+pub mod services;

@@ -1,37 +1,36 @@
 //! Graphs by rows of numbers.
-ghost use Rattle.std.specs.Prelude.{◌≡◌, IfOk, IfSome, None, Ok, map};
+ghost use Rattle.std.specs.Prelude.{◌≡◌, ◌∷◌, ◌++◌, [], IfOk, IfSome, None, Ok, OnOk, map};
 ghost use Rattle.resource_lock.specs.Fits.{Fits};
-ghost use Rattle.resource_lock.specs.GraphView.{graph_view};
 ghost use Rattle.state_tests.specs.Rows.{graph_of_rows, task_view};
 
 use crate::rows::{Limits, TaskRow};
-use resource_lock::{Graph, GraphAction, GraphTask, LockId};
+use resource_lock::{Graph, GraphAction, GraphTask, GraphTasks, LockId};
 use std::alloc::{AllocError, Global};
 
 /// The tasks of these rows.
-pub fn tasks_of(alloc: Global, rows: &[TaskRow]) -> Result<Vec<GraphTask>, AllocError>
-    ensures { IfOk result (λ tasks. map graph_view tasks.items ≡ map task_view rows.now) }
+pub fn tasks_of(alloc: Global, rows: &[TaskRow]) -> Result<GraphTasks, AllocError>
+    ensures { IfOk result (λ tasks. tasks ≡ map task_view rows.now) }
 {
-    let mut tasks = Vec::new(alloc);
+    let mut tasks = GraphTasks::none(alloc);
     for row in rows {
-        tasks.push(task_of(alloc, row)?)?;
+        push(&mut tasks, row)?;
     }
     Ok(tasks)
 }
 
-fn task_of(alloc: Global, row: &TaskRow) -> Result<GraphTask, AllocError>
-    ensures { IfOk result (λ task. graph_view task ≡ task_view row.now) }
+// Puts the task of a row behind the others.
+fn push(tasks: &mut GraphTasks, row: &TaskRow) -> Result<(), AllocError>
+    ensures { OnOk result (tasks.new ≡ tasks.old ++ task_view row.now ∷ []) }
 {
-    let after = match row.after {
-        Some(task) => [task].to_vec(alloc)?,
-        None => Vec::new(alloc),
-    };
-    Ok(GraphTask {
+    let task = GraphTask {
         lock: LockId(row.lock),
-        after,
         first_action: row.first_action,
         actions: row.actions,
-    })
+    };
+    match row.after {
+        Some(before) => tasks.push(task, &[before]),
+        None => tasks.push(task, &[]),
+    }
 }
 
 /// The graph of these rows, or none where they don't fit.

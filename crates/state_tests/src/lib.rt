@@ -1,10 +1,11 @@
-//! Tests of the crates from `resource_lock` to `lock_journal`, and graphs for those of the crates above.
+//! Tests of the crates from `resource_lock` to `lock_journal`, and graphs and books for those of the crates above.
 #![tactic(auto)]
 
 #[cfg(test)]
 mod all_projects_tests;
 #[cfg(test)]
 mod book_tests;
+pub mod books;
 #[cfg(test)]
 mod fitting;
 #[cfg(test)]

@@ -4,18 +4,24 @@ use lock_journal::Book;
 use lock_transforms::Disposition;
 use lock_transforms::kinds::{Acquire, End, HandBack, Shortage, Start};
 use resource_lock::{
-    Graph, GraphAction, GraphTask, LockId, MAX_ACTIONS_PER_TASK, MAX_AFTER, MAX_LEASES, MAX_LOCKS,
-    MAX_TASKS, MAX_UNITS, MAX_WORKERS, WorkerId,
+    Graph, GraphAction, GraphTask, GraphTasks, LockId, MAX_ACTIONS_PER_TASK, MAX_AFTER, MAX_LEASES,
+    MAX_LOCKS, MAX_TASKS, MAX_UNITS, MAX_WORKERS, WorkerId,
 };
 use std::alloc::{AllocError, Global};
 
 // Whether a graph of so many locks, workers and leases fits, which has no tasks.
-fn fits_without_tasks(locks: u32, all: Option<LockId>, workers: u32, max_leases: u32) -> bool {
-    Graph::fits(locks, all, workers, max_leases, &[], &[])
+fn fits_without_tasks(
+    none: &GraphTasks,
+    locks: u32,
+    all: Option<LockId>,
+    workers: u32,
+    max_leases: u32,
+) -> bool {
+    Graph::fits(locks, all, workers, max_leases, none, &[])
 }
 
 // Whether a graph of these tasks and actions fits, for one worker.
-fn fits_of_tasks(tasks: &[GraphTask], actions: &[GraphAction]) -> bool {
+fn fits_of_tasks(tasks: &GraphTasks, actions: &[GraphAction]) -> bool {
     Graph::fits(1, None, 1, 1, tasks, actions)
 }
 
@@ -28,42 +34,42 @@ fn the_limits_are_those_of_a_large_machine(rt: HostRuntime) {
 
 #[test]
 fn one_worker_or_lease_or_lock_more_is_refused(rt: HostRuntime) {
+    let none = GraphTasks::none(rt.alloc());
     let last = Some(LockId(MAX_LOCKS - 1));
-    assert!(rt; fits_without_tasks(MAX_LOCKS, last, MAX_WORKERS, MAX_LEASES));
-    assert!(rt; !fits_without_tasks(MAX_LOCKS, last, MAX_WORKERS + 1, MAX_LEASES));
-    assert!(rt; !fits_without_tasks(MAX_LOCKS, last, MAX_WORKERS, MAX_LEASES + 1));
-    assert!(rt; fits_without_tasks(MAX_LOCKS, None, 1, 1));
-    assert!(rt; !fits_without_tasks(MAX_LOCKS + 1, None, 1, 1));
+    assert!(rt; fits_without_tasks(&none, MAX_LOCKS, last, MAX_WORKERS, MAX_LEASES));
+    assert!(rt; !fits_without_tasks(&none, MAX_LOCKS, last, MAX_WORKERS + 1, MAX_LEASES));
+    assert!(rt; !fits_without_tasks(&none, MAX_LOCKS, last, MAX_WORKERS, MAX_LEASES + 1));
+    assert!(rt; fits_without_tasks(&none, MAX_LOCKS, None, 1, 1));
+    assert!(rt; !fits_without_tasks(&none, MAX_LOCKS + 1, None, 1, 1));
     // The all-projects lock is one of them.
-    assert!(rt; !fits_without_tasks(MAX_LOCKS, Some(LockId(MAX_LOCKS)), 1, 1));
+    assert!(rt; !fits_without_tasks(&none, MAX_LOCKS, Some(LockId(MAX_LOCKS)), 1, 1));
 }
 
-// A task of so many actions, from the first on, that comes after these.
-fn task(actions: u32, after: Vec<u32>) -> GraphTask {
+// A task of so many actions, from the first on.
+fn task(actions: u32) -> GraphTask {
     GraphTask {
         lock: LockId(0),
-        after,
         first_action: 0,
         actions,
     }
 }
 
 // A task of so many actions.
-fn task_of_actions(alloc: Global, actions: u32) -> Result<Vec<GraphTask>, AllocError> {
-    let mut tasks = Vec::new(alloc);
-    tasks.push(task(actions, Vec::new(alloc)))?;
+fn task_of_actions(alloc: Global, actions: u32) -> Result<GraphTasks, AllocError> {
+    let mut tasks = GraphTasks::none(alloc);
+    tasks.push(task(actions), &[])?;
     Ok(tasks)
 }
 
 // So many tasks without actions, of which the second comes after the first.
-fn many_tasks(alloc: Global, count: u32) -> Result<Vec<GraphTask>, AllocError> {
-    let mut tasks = Vec::with_capacity(alloc, count as usize)?;
+fn many_tasks(alloc: Global, count: u32) -> Result<GraphTasks, AllocError> {
+    let mut tasks = GraphTasks::none(alloc);
     for number in 0..count {
-        let mut after = Vec::new(alloc);
         if number == 1 {
-            after.push(0)?;
+            tasks.push(task(0), &[0])?;
+        } else {
+            tasks.push(task(0), &[])?;
         }
-        tasks.push(task(0, after))?;
     }
     Ok(tasks)
 }
@@ -72,7 +78,7 @@ fn many_tasks(alloc: Global, count: u32) -> Result<Vec<GraphTask>, AllocError> {
 fn one_task_more_is_refused(rt: HostRuntime) -> Result<(), AllocError> {
     let mut tasks = many_tasks(rt.alloc(), MAX_TASKS as u32)?;
     assert!(rt; fits_of_tasks(&tasks, &[]));
-    tasks.push(task(0, Vec::new(rt.alloc())))?;
+    tasks.push(task(0), &[])?;
     assert!(rt; !fits_of_tasks(&tasks, &[]));
     Ok(())
 }
@@ -80,7 +86,8 @@ fn one_task_more_is_refused(rt: HostRuntime) -> Result<(), AllocError> {
 // Whether a task fits that comes so often after the one before it.
 fn fits_with_names(alloc: Global, names: usize) -> Result<bool, AllocError> {
     let mut tasks = task_of_actions(alloc, 0)?;
-    tasks.push(task(0, vec![in alloc; 0; names]?))?;
+    let after = vec![in alloc; 0; names]?;
+    tasks.push(task(0), &after)?;
     Ok(fits_of_tasks(&tasks, &[]))
 }
 
@@ -117,7 +124,7 @@ fn one_unit_more_is_refused(rt: HostRuntime) -> Result<(), AllocError> {
 }
 
 // A book of these tasks, without actions, for one worker.
-fn book_of(alloc: Global, tasks: Vec<GraphTask>) -> Result<Option<Box<Book>>, AllocError> {
+fn book_of(alloc: Global, tasks: GraphTasks) -> Result<Option<Box<Book>>, AllocError> {
     let actions = Vec::new(alloc);
     if !Graph::fits(1, None, 1, 1, &tasks, &actions) {
         return Ok(None);
@@ -193,7 +200,7 @@ fn hand_back_all(book: &mut Book) -> Result<bool, AllocError> {
 
 // A book of as many workers, leases and locks as may be.
 fn full_book(alloc: Global) -> Result<Option<Box<Book>>, AllocError> {
-    let (tasks, actions) = (Vec::new(alloc), Vec::new(alloc));
+    let (tasks, actions) = (GraphTasks::none(alloc), Vec::new(alloc));
     if !Graph::fits(MAX_LOCKS, None, MAX_WORKERS, MAX_LEASES, &tasks, &actions) {
         return Ok(None);
     }

@@ -10,7 +10,9 @@ use crate::graphs::tasks_of;
 use crate::indexed::{Indexed, open_index};
 use crate::rows::{Limits, TaskRow};
 use ready_work::{NumberSet, ReadyWork};
-use resource_lock::{Change, Graph, GraphAction, Mark, MarkId, Retention, State, WorkerId};
+use resource_lock::{
+    Change, Graph, GraphAction, GraphTask, LockId, Mark, MarkId, Retention, State, WorkerId,
+};
 use std::alloc::{AllocError, Global};
 use std::process::Abort;
 
@@ -153,8 +155,13 @@ const ALONE: TaskRow = TaskRow {
 
 // Two tasks, of which the second names the first twice.
 fn a_name_that_stands_twice(rt: &impl Abort, alloc: Global) -> Result<Box<Graph>, AllocError> {
-    let mut tasks = tasks_of(alloc, &[ALONE, ALONE])?;
-    tasks[1].after.extend_from_slice(&[0, 0])?;
+    let mut tasks = tasks_of(alloc, &[ALONE])?;
+    let second = GraphTask {
+        lock: LockId(ALONE.lock),
+        first_action: ALONE.first_action,
+        actions: ALONE.actions,
+    };
+    tasks.push(second, &[0, 0])?;
     assert!(rt; Graph::fits(1, None, 1, 1, &tasks, &[]));
     let graph = Graph::new(1, None, 1, 1, tasks, Vec::new(alloc));
     Ok(Box::new(alloc, graph)?)

@@ -1,0 +1,11 @@
+//! Tests of `async_tracker`: a task with two items, worked, waited for, skipped and closed.
+#![tactic(auto)]
+
+#[cfg(test)]
+mod async_tracker_tests;
+#[cfg(test)]
+mod closing_tests;
+#[cfg(test)]
+mod skipping_tests;
+#[cfg(test)]
+mod waiting_tests;

@@ -1,6 +1,0 @@
--- no more closings than places
-use Rattle.std.proofs.Common.{◌≤◌}
-use Rattle.coordination_tests.proofs.planned_rows.closings.Given as goal
-
-abbrev pub invariant-loop-place : goal.invariant-loop-place
-invariant-loop-place l = l.count ≤ l.place
