@@ -1,0 +1,18 @@
+use Rattle.std.proofs.Common.{sym, ap, ◌∙◌, subst}
+use Rattle.planned_work.specs.Done.{ClosedThen, had_hold_closing}
+use Rattle.planned_work.specs.Trying.{had_hold_behind}
+use Rattle.planned_work.specs.declared.places.Place.TheVariants as places
+use Rattle.planned_work.proofs.Closings.{parked_behind}
+use Rattle.planned_work.proofs.Held.{parked_behind_held, wakes_at}
+use Rattle.planned_work.proofs.workers.PlanWorker.close_then_parked.Goals as goal
+
+pub returns-clause-left : goal.returns-clause-left
+returns-clause-left c =
+    let t = c.try_then-behind in
+    subst (ClosedThen c.args.closed (places.Parked c.args.action) c.args.self.now.pass.sight t.new.pass.sight) (sym c.parked_then.ensures)
+    (parked_behind c.args.closed c.requires.0 c.args.action c.args.self.now.pass.sight t.new.pass.sight t.result.0 c.requires.1 t.ensures.left)
+
+pub returns-clause-wakes : goal.returns-clause-wakes
+returns-clause-wakes c =
+    let t = c.try_then-behind in
+    wakes_at (had_hold_behind t.result.0) (had_hold_closing c.parked_then.result) t.new.pass.sight t.result.1 (parked_behind_held c.args.action t.result.0 ∙ ap had_hold_closing (sym c.parked_then.ensures)) t.ensures.wakes
