@@ -23,9 +23,13 @@ from typing import Dict, List
 
 TOP = pathlib.Path(__file__).resolve().parent.parent
 IN_C, IN_RUST, IN_PYTHON = (TOP / "examples" / f"embedding-in-{language}" for language in ("c", "rust", "python"))
+PLAN_IN_C = TOP / "examples/plan-in-c"
 MODULE = TOP / "python"
 # The program that the gate has built.
 LEASES = TOP / "crates/leases/out/leases"
+
+# By these a program's own functions are called in place of the system's.
+WRAPS = [f"-Wl,--wrap={name}" for name in ("malloc", "realloc", "calloc", "aligned_alloc")]
 
 # It uses the kit's three functions, as the proved library does.
 PROVED = """
@@ -70,6 +74,40 @@ uint32_t wakhurmi_c_part(handle *part, uint64_t line, uint8_t *buffer, size_t si
 }
 uint32_t wakhurmi_c_empty_part(handle *part) { (void)part; return 0; }
 uint32_t wakhurmi_c_close_part(handle *part) { (void)part; return 0; }
+typedef struct { uint32_t answer, wakes, wakes_too; bool wakes_all, wakes_takers; } plan_told;
+static plan_told told_nobody(void) { return (plan_told){0, UINT32_MAX, UINT32_MAX, false, false}; }
+uint32_t wakhurmi_c_make_plan(handle *plan, uint32_t locks) { (void)locks; *plan = (handle){rattle_alloc(8), true}; return 0; }
+uint32_t wakhurmi_c_plan_task(handle *plan, uint32_t lock, uint32_t *task) { (void)plan, (void)lock; *task = 0; return 0; }
+uint32_t wakhurmi_c_plan_after(handle *plan, uint32_t task, const uint32_t *before, size_t count) {
+    (void)plan, (void)task, (void)before, (void)count;
+    return 0;
+}
+uint32_t wakhurmi_c_plan_action(handle *plan, uint32_t task, uint32_t retention, uint32_t items, bool fetch) {
+    (void)plan, (void)task, (void)retention, (void)items, (void)fetch;
+    return 0;
+}
+uint32_t wakhurmi_c_close_plan(handle *plan) { rattle_dealloc(plan->at); return 0; }
+uint32_t wakhurmi_c_open_plan(handle *plan, uint32_t most, handle *workers, size_t count) { (void)plan; return wakhurmi_c_open(most, 0, workers, count); }
+plan_told wakhurmi_c_next(handle *worker, bool sleeps, void *work) { (void)worker, (void)sleeps, (void)work; return told_nobody(); }
+plan_told wakhurmi_c_done(handle *worker, bool sleeps, bool passed, uint64_t number) {
+    (void)worker, (void)sleeps, (void)passed, (void)number;
+    return told_nobody();
+}
+plan_told wakhurmi_c_done_next(handle *worker, bool sleeps, bool passed, uint64_t number, void *work) {
+    (void)work;
+    return wakhurmi_c_done(worker, sleeps, passed, number);
+}
+plan_told wakhurmi_c_plan_enter(handle *worker) { (void)worker; return told_nobody(); }
+plan_told wakhurmi_c_plan_leave(handle *worker, bool sleeps) { (void)worker, (void)sleeps; return told_nobody(); }
+uint32_t wakhurmi_c_plan_stop(handle *worker) { (void)worker; return 0; }
+plan_told wakhurmi_c_plan_leases_out(handle *worker, uint32_t *leases) { (void)worker; *leases = 0; return told_nobody(); }
+uint32_t wakhurmi_c_plan_close(handle *worker) { return wakhurmi_c_close(worker); }
+uint32_t wakhurmi_c_plan_finish(handle *workers, size_t count, handle *book) { return wakhurmi_c_finish(workers, count, book); }
+uint32_t wakhurmi_c_task_outcome(handle *book, uint32_t task, void *outcome) { (void)book, (void)task, (void)outcome; return 6; }
+uint32_t wakhurmi_c_item_outcome(handle *book, uint32_t task, uint32_t action, uint32_t item, void *outcome) {
+    (void)book, (void)task, (void)action, (void)item, (void)outcome;
+    return 6;
+}
 """
 
 KIT = """
@@ -219,9 +257,9 @@ class BuildTests(unittest.TestCase):
             words = [sys.executable, "-m", "pip", "install", "--no-index", "--upgrade", "--target", str(target), *isolation, str(source)]
             installed = run(words, seconds=600, env=env)
             self.assertEqual(installed.returncode, 0, installed.stdout)
-            text = "import wakhurmi\nwith wakhurmi.Service(1, 1) as service: service.take(0)\nprint(wakhurmi._library._name)"
+            text = "import wakhurmi\nwith wakhurmi.Service(1, 1) as service: service.take(0)\nprint(wakhurmi._native._library._name)"
             ran = run([sys.executable, "-c", text], env={**self.env, "PYTHONPATH": str(target), "WAKHURMI": ""})
-            self.assertEqual(ran.stdout, f"{target / 'libwakhurmi.so'}\n")
+            self.assertEqual(ran.stdout, f"{target / 'wakhurmi/libwakhurmi.so'}\n")
         refused = run(words, seconds=600, env={**env, "WAKHURMI": str(self.above / "kit")})
         self.assertNotEqual(refused.returncode, 0)
         self.assertIn("c/build.sh FOLDER makes it", refused.stdout)
@@ -286,8 +324,7 @@ class InterfaceTests(unittest.TestCase):
         self.assert_lawful(self.said_by([program, "cancel", "1000"]))
 
     def test_nothing_is_lost_where_memory_is_refused(self) -> None:
-        wraps = [f"-Wl,--wrap={name}" for name in ("malloc", "realloc", "calloc", "aligned_alloc")]
-        self.assertEqual(self.said_by([self.bench_program("c_refused", *wraps)]), "")
+        self.assertEqual(self.said_by([self.bench_program("c_refused", *WRAPS)]), "")
 
     def test_threads_have_leases_and_locks_as_promised(self) -> None:
         self.assert_lawful(self.said_by([self.bench_program("c_rounds"), "check", "4", "5000"]))
@@ -298,6 +335,50 @@ class InterfaceTests(unittest.TestCase):
         program = self.bench_program("c_many")
         self.assert_replayed(self.said_by([program, "apart", "256", "40"]))
         self.assert_replayed(self.said_by([program, "meeting", "256", "60", "10"]))
+
+    def test_plans_on_threads(self) -> None:
+        program = self.bench_program("c_plan")
+        for words in (["calls"], ["run", "300", "0"], ["run", "100", "32"], ["stop", "200"]):
+            self.assertEqual(self.said_by([program, *words]), "")
+        self.assertRegex(self.said_by([program, "tasks", "256", "5000"]), "a task\n$")
+        self.assertEqual(self.said_by([self.program(PLAN_IN_C / "squares.c")]), "570\n")
+
+    def test_each_entry_of_a_plan_is_the_one_that_the_rules_give(self) -> None:
+        """On 1 to 32 threads. The program that the gate has built is asked of some."""
+        folder, plans = self.folder / "plans", 200
+        folder.mkdir()
+        text = self.said_by([self.bench_program("c_plan"), "history", str(plans), "0"])
+        told = self.said_by([str(PLAN_IN_C / "replay.py"), "--toml", str(folder)], input=text)
+        self.assertRegex(told, rf"^{plans} histories, [0-9]+ entries: lawful\n$")
+        for number in range(0, plans, 5) if LEASES.exists() else ():
+            lines = (folder / f"{number}.txt").read_text()
+            said = self.said_by([str(LEASES), "check", f"{number}.toml"], input=lines, cwd=folder)
+            self.assertEqual(said, f"lawful {lines.count(chr(10)) - 3}\n")
+
+    def test_a_plan_is_as_it_was_where_memory_is_refused(self) -> None:
+        self.assertEqual(self.said_by([self.bench_program("c_plan_refused", *WRAPS)]), "")
+
+    def test_the_build_tool(self) -> None:
+        """JSON, since Python reads TOML from 3.11 on alone."""
+        tool, project = TOP / "examples/build-tool", self.folder / "project"
+        env = {**os.environ, "WAKHURMI": str(self.made), "PYTHONPATH": str(MODULE), "PYTHONDONTWRITEBYTECODE": "1", "CFLAGS": "-O0"}
+        rows = self.said_by([str(tool / "build_file.py"), "--json", "generate", str(project), "6"], env=env)
+        (project / "build.json").write_text(rows)
+        words = [str(tool / "build.py"), str(project / "build.json"), "-j3"]
+        self.assertEqual(self.said_by([*words, f"--history={self.folder / 'built'}"], env=env), "tasks: 7 passed; commands run: 7\n")
+        self.assertIn(b" end 6 | task 6 running passed, ", (self.folder / "built").read_bytes())
+        self.assertRegex(self.said_by([str(project / "out/program")]), r"^[0-9]+\n$")
+        self.assertEqual(self.said_by(words, env=env), "nothing is to be done\n")
+        source = project / "src/part_of_0002.c"
+        text = source.read_text()
+        source.write_text(text + "#error as it has to be\n")
+        failed = run([*words, "--keep-going"], env=env)
+        self.assertEqual(failed.returncode, 1)
+        self.assertRegex(failed.stdout, r"^out/src/part_of_0002\.o failed: status 1\n\$ .*\n(.*\n)*.*as it has to be")
+        self.assertIn("tasks: 5 passed, 1 failed, 1 skipped; commands run: 1\n", failed.stdout)
+        source.write_text(text)
+        self.assertEqual(self.said_by(words, env=env), "tasks: 7 passed; commands run: 2\n")
+        self.assertEqual(list(project.glob(".*")), [])
 
     def test_the_rust_example(self) -> None:
         if shutil.which("cargo") is None:

@@ -12,6 +12,8 @@ The archive is made by c/build.sh, which needs the command rt and proves crates/
 * bench/programs/c_rounds checks four threads over 400,000 rounds, while a fifth asks for the leases: never more at work than may be, one
   owner a lock; the history is replayed and checked;
 * bench/programs/c_many has 256 workers that take locks of their own, or share eight locks and fewer leases; their histories are replayed;
+* bench/programs/c_plan runs plans that are made by numbers on 1 to 32 threads, compares each outcome with a reckoning of its own, and stops some;
+  histories are replayed by examples/plan-in-c/replay.py. bench/programs/c_plan_refused refuses memory to each allocation of a plan;
 * bench/programs/c_turns has threads want the same locks all the time, and bench/programs/c_taking takes histories, and keeps last entries, beside
   threads that work.
   All of these run under memcheck and helgrind too, and built with the compiler's sanitizers, with less to do. Helgrind and the sanitizer of
@@ -40,11 +42,11 @@ import tempfile
 import measure
 
 TOP = measure.TOP
-EXAMPLE = TOP / "examples/embedding-in-c"
+EXAMPLE, PLANS = TOP / "examples/embedding-in-c", TOP / "examples/plan-in-c"
 LEASES = pathlib.Path(sys.argv[1]).resolve() if len(sys.argv) > 1 else TOP / "out/leases"
-NAMES = ("c_rounds", "c_calls", "c_cancel", "c_history", "c_refused", "c_turns", "c_taking", "c_many")
+NAMES = ("c_rounds", "c_calls", "c_cancel", "c_history", "c_refused", "c_turns", "c_taking", "c_many", "c_plan", "c_plan_refused")
 PROGRAMS = [TOP / f"bench/programs/{name}/{name}.c" for name in NAMES] + [EXAMPLE / "eight.c"]
-# c_refused has calls of these from the archive come to functions of its own.
+# Programs that refuse memory have calls of these from the archive come to functions of their own.
 WRAPS = [f"-Wl,--wrap={name}" for name in ("malloc", "realloc", "calloc", "aligned_alloc")]
 ROUNDS, FEWER_ROUNDS, FEW_ROUNDS = 100_000, 10_000, 2_000
 CANCELLED, FEWER_CANCELLED, FEW_CANCELLED = 10_000, 2_000, 400
@@ -93,7 +95,7 @@ def build(folder: pathlib.Path, name: str, *flags: str) -> pathlib.Path:
         f"-I{made}", f"-L{made}", "-lwakhurmi", "-pthread"
     ]
     for source in PROGRAMS:
-        more = WRAPS if source.stem == "c_refused" else []
+        more = WRAPS if source.stem.endswith("_refused") else []
         call(["cc", "-O2", "-g", "-Wall", "-Wextra", "-Werror", *flags, str(source), "-o", str(made / source.stem), *words, *more])
     return made
 
@@ -113,10 +115,20 @@ def judged(history: str) -> str:
     return f"replayed and checked: {checked}"
 
 
+def check_plans(program: pathlib.Path, rounds: int, tool: list[str], what: str) -> None:
+    call([*tool, str(program), "run", str(rounds // 10), "0"], env=SETTINGS)
+    call([*tool, str(program), "stop", str(rounds // 100)], env=SETTINGS)
+    print(f"{what}: {rounds // 10} plans on 1 to 32 threads came to their outcomes, and {rounds // 100} were stopped", flush=True)
+    histories = call([*tool, str(program), "history", str(rounds // 100), "0"], env=SETTINGS)
+    print(f"{what}: {call([str(PLANS / 'replay.py')], input=histories).strip()}", flush=True)
+
+
 def check(made: pathlib.Path, rounds: int, cancelled: int, tool: list[str], what: str) -> None:
     call([*tool, str(made / "c_calls")], env=SETTINGS)
     call([*tool, str(made / "c_history"), "calls"], env=SETTINGS)
     call([*tool, str(made / "c_refused")], env=SETTINGS)
+    call([*tool, str(made / "c_plan"), "calls"], env=SETTINGS)
+    call([*tool, str(made / "c_plan_refused")], env=SETTINGS)
     print(f"{what}: all answers are those known beforehand", flush=True)
     history = call([*tool, str(made / "c_history"), "parts", "8", str(rounds // 4)], env=SETTINGS)
     print(f"{what}: eight threads, {2 * rounds} rounds, the history taken in parts: {judged(history)}", flush=True)
@@ -130,6 +142,7 @@ def check(made: pathlib.Path, rounds: int, cancelled: int, tool: list[str], what
         print(f"{what}: 256 threads, {' '.join(words)}: {replayed_of(history)}", flush=True)
     history = call([*tool, str(made / "c_rounds"), "check", "4", str(rounds)], env=SETTINGS)
     print(f"{what}: four threads, {4 * rounds} rounds: {judged(history)}", flush=True)
+    check_plans(made / "c_plan", rounds, tool, what)
     for tried in TRIED:
         program, *words = tried.format(rounds=rounds).split()
         call([*tool, str(made / program), *words], env=SETTINGS)

@@ -69,7 +69,9 @@ void wakhurmi_count_entries(wakhurmi_service *service, slot *own) {
     let_go(&kept->older, EMPTY);
 }
 
-static uint32_t take_book(handle *worker, void *part) { return wakhurmi_c_take_history(worker, part); }
+static uint32_t take_book(wakhurmi_service *service, uint32_t worker, void *part) {
+    return wakhurmi_c_take_history(&service->workers[worker].held, part);
+}
 
 /* Takes what is put aside, and what is in the book, or neither. */
 static wakhurmi_answer take_all(wakhurmi_service *service, wakhurmi_part *part) {
@@ -103,7 +105,7 @@ static bool claim_part(wakhurmi_part *part) {
 }
 
 wakhurmi_answer wakhurmi_take_history(wakhurmi_service *service, wakhurmi_part **part) {
-    if (!is_ours(service) || has_ended(service) || part == NULL) return WAKHURMI_MISUSED;
+    if (!is_ours(service) || has_ended(service) || service->is_planned || part == NULL) return WAKHURMI_MISUSED;
     bool is_new = *part == NULL;
     wakhurmi_part *taken = is_new ? open_part() : *part;
     if (taken == NULL) return WAKHURMI_NO_MEMORY;

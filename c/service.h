@@ -19,6 +19,8 @@ typedef struct {
     size_t room;
 } lock_list;
 
+typedef struct wakhurmi_seat wakhurmi_seat; /* Where a worker of a plan sleeps (planned.h). */
+
 /* A worker's call that sleeps (sleeps.h). What others read or change of it they do under the mutex, and so does its own thread. */
 typedef struct {
     bool has_news;     /* It was woken, and hasn't looked since. */
@@ -40,6 +42,7 @@ struct wakhurmi_service {
     atomic_int sleepers; /* See below. */
     atomic_uint news; /* How often something was let go while calls slept. */
     atomic_bool stopped;
+    bool is_planned; /* Its handles are those of a plan's workers. */
     uint32_t count, max_leases, locks;
     unsigned forks;
     atomic_uint usual; /* `forks`, with those of the notes below that hold. */
@@ -53,12 +56,15 @@ struct wakhurmi_service {
     sleeper *sleeping;
     use *uses;
     handle *handles;
+    wakhurmi_seat *seats; /* One for each worker of a plan, and else null. */
     slot workers[]; /* As many as `count`. */
 };
 
-/* Notes: a call is queued; somebody asks by the handle of any worker, and asked in vain. */
+/* Notes: a call is queued; somebody asks by the handle of any worker, and asked in vain; and one that is never taken away. */
 #define SOMEBODY_QUEUED (1u << 31)
 #define SOMEBODY_ASKS (1u << 30)
+/* It is a service over a plan: so no call of it is as most are. */
+#define OVER_A_PLAN (1u << 29)
 
 /* `sleepers` says in one comparison what a call that gave something back has to do yet. Each call that sleeps adds SLEEPER, and a service that
  * counts its entries begins with COUNTS_ENTRIES. So it is 0 where there is nothing to do, above 0 where somebody sleeps, and below 0 where
@@ -74,8 +80,20 @@ struct wakhurmi_service {
 extern atomic_uint wakhurmi_forks;
 
 /* Asks by the handle of any worker that is in no call, or asleep, until one has been asked and nobody else was inside. */
-typedef uint32_t question(handle *worker, void *about);
+typedef uint32_t question(wakhurmi_service *service, uint32_t worker, void *about);
 wakhurmi_answer wakhurmi_ask_any(wakhurmi_service *service, question *ask, void *about);
+
+/* Whether each fork is counted from now on. */
+bool wakhurmi_has_forks_counted(void);
+
+/* A service for so many workers, without handles, or null. */
+wakhurmi_service *wakhurmi_allocate(uint32_t workers);
+
+/* Begins a service with the handles of its workers, which lie in `handles`. False says that there was no memory: they lie there yet. */
+bool wakhurmi_begin_service(wakhurmi_service *service, uint32_t max_leases, uint64_t entries);
+
+/* Closes handles that lie in `handles`, and gives back the memory of a service that hasn't begun. It takes a null pointer too. */
+void wakhurmi_give_up(wakhurmi_service *service);
 
 /* Counts the entries that a worker has made since its last were counted. The worker is in a call. */
 void wakhurmi_count_entries(wakhurmi_service *service, slot *own);

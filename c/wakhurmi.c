@@ -27,7 +27,7 @@
  * ends inside a call, with the mutex locked or a slot taken. To clean up in place of that would end a wait earlier, and unwind from here
  * through callers in other languages, which may not be ready for it. */
 #define _GNU_SOURCE
-#include "service.h"
+#include "planned.h"
 #include "sleeps.h"
 #include <stdlib.h>
 #include <string.h>
@@ -40,7 +40,7 @@ pthread_mutex_t wakhurmi_inside = PTHREAD_MUTEX_INITIALIZER;
 static void count_fork(void) { atomic_fetch_add(&wakhurmi_forks, 1); }
 
 /* Two threads that do this at once have each fork counted twice, which tells it as well. */
-static bool has_forks_counted(void) {
+bool wakhurmi_has_forks_counted(void) {
     static atomic_bool counted;
     if (!atomic_load(&counted)) {
         if (pthread_atfork(NULL, NULL, count_fork) != 0) return false;
@@ -133,10 +133,18 @@ static void let_ask(wakhurmi_service *service) {
     note_whether(service, SOMEBODY_ASKS, false);
 }
 
+/* A call of a worker of a plan. */
+static wakhurmi_answer perform_over_plan(wakhurmi_service *service, uint32_t worker, request asked) {
+    if (asked.what == ENTER) return wakhurmi_enter_planned(service, worker);
+    if (asked.what == LEAVE && asked.deadline == NEVER) return wakhurmi_leave_planned(service, worker);
+    return WAKHURMI_MISUSED;
+}
+
 /* A call that isn't as most are: somebody is queued or asks, a handle is lent, the call doesn't fit what its worker has, and the like. */
 SELDOM wakhurmi_answer perform_unusual(wakhurmi_service *service, uint32_t worker, request asked) {
     if (!is_ours(service)) return WAKHURMI_MISUSED;
     if (worker >= service->count) return WAKHURMI_BAD_NUMBER;
+    if (service->is_planned) return perform_over_plan(service, worker, asked);
     slot *held = service->workers + worker;
     let_ask(service);
     use before = claim_whatever(held, IN_CALL);
@@ -213,6 +221,7 @@ wakhurmi_answer wakhurmi_stop(wakhurmi_service *service) {
     if (!is_ours(service) || has_ended(service)) return WAKHURMI_MISUSED;
     atomic_store(&service->stopped, true);
     wake_all(service);
+    if (service->is_planned) wakhurmi_ring_all(service);
     return WAKHURMI_OK;
 }
 
@@ -225,7 +234,7 @@ static uint32_t ask_once(wakhurmi_service *service, question *ask, void *about) 
         if (!is_untouched(before)) continue;
         if (!atomic_compare_exchange_strong(&lent->use, &before, LENT)) continue;
         go_in();
-        uint32_t answer = ask(&lent->held, about);
+        uint32_t answer = ask(service, worker, about);
         go_out();
         let_go(lent, before);
         return answer;
@@ -254,7 +263,10 @@ wakhurmi_answer wakhurmi_ask_any(wakhurmi_service *service, question *ask, void 
     return (wakhurmi_answer)answer;
 }
 
-static uint32_t count_leases(handle *worker, void *leases) { return wakhurmi_c_leases_out(worker, leases); }
+static uint32_t count_leases(wakhurmi_service *service, uint32_t worker, void *leases) {
+    if (service->is_planned) return wakhurmi_count_planned(service, worker, leases);
+    return wakhurmi_c_leases_out(&service->workers[worker].held, leases);
+}
 
 wakhurmi_answer wakhurmi_leases_out(wakhurmi_service *service, uint32_t *leases) {
     if (!is_ours(service) || leases == NULL) return WAKHURMI_MISUSED;
@@ -284,7 +296,7 @@ static void destroy_waiting_tools(wakhurmi_service *service, uint32_t workers) {
 }
 
 static bool has_waiting_tools(wakhurmi_service *service) {
-    if (!has_forks_counted() || pthread_mutex_init(&service->mutex, NULL) != 0) return false;
+    if (!wakhurmi_has_forks_counted() || pthread_mutex_init(&service->mutex, NULL) != 0) return false;
     for (uint32_t worker = 0; worker < service->count; worker++) {
         if (has_condition(&service->sleeping[worker].woken)) continue;
         destroy_waiting_tools(service, worker);
@@ -301,11 +313,11 @@ static void deallocate(wakhurmi_service *service) {
     free(service->uses);
     free(service->handles);
     free(service->queue.calls);
+    wakhurmi_free_seats(service->seats, service->count);
     free(service);
 }
 
-/* A service for so many workers, without handles. */
-static wakhurmi_service *allocate(uint32_t workers) {
+wakhurmi_service *wakhurmi_allocate(uint32_t workers) {
     const size_t size = sizeof(wakhurmi_service) + workers * sizeof(slot);
     wakhurmi_service *service = aligned_alloc(_Alignof(wakhurmi_service), size);
     if (service == NULL) return NULL;
@@ -322,27 +334,43 @@ static wakhurmi_service *allocate(uint32_t workers) {
     return NULL;
 }
 
+static void close_handle(const wakhurmi_service *service, handle *worker) {
+    if (!worker->full) return;
+    if (service->is_planned) {
+        wakhurmi_c_plan_close(worker);
+    } else {
+        wakhurmi_c_close(worker);
+    }
+}
+
+bool wakhurmi_begin_service(wakhurmi_service *service, uint32_t max_leases, uint64_t entries) {
+    if ((service->is_planned && service->seats == NULL) || !has_waiting_tools(service)) return false;
+    service->max_leases = max_leases;
+    service->forks = atomic_load(&wakhurmi_forks);
+    atomic_store(&service->usual, service->is_planned ? service->forks | OVER_A_PLAN : service->forks);
+    let_go(&service->book, GONE);
+    for (uint32_t worker = 0; worker < service->count; worker++) service->workers[worker].held = moved(&service->handles[worker]);
+    wakhurmi_begin_history(service, entries);
+    return true;
+}
+
+void wakhurmi_give_up(wakhurmi_service *service) {
+    for (uint32_t worker = 0; service != NULL && worker < service->count; worker++) close_handle(service, &service->handles[worker]);
+    if (service != NULL) deallocate(service);
+}
+
 wakhurmi_answer wakhurmi_open_keeping(uint32_t workers, uint32_t max_leases, uint32_t locks, uint64_t entries, wakhurmi_service **opened) {
     if (opened == NULL) return WAKHURMI_MISUSED;
     if (workers < 1 || workers > MAX_WORKERS || locks > MAX_LOCKS) return WAKHURMI_BAD_NUMBER;
-    wakhurmi_service *service = allocate(workers);
+    wakhurmi_service *service = wakhurmi_allocate(workers);
     if (service == NULL) return WAKHURMI_NO_MEMORY;
     uint32_t answer = wakhurmi_c_open(max_leases, locks, service->handles, workers);
-    if (answer == WAKHURMI_OK && !has_waiting_tools(service)) {
-        for (uint32_t worker = 0; worker < workers; worker++) wakhurmi_c_close(&service->handles[worker]);
-        answer = WAKHURMI_NO_MEMORY;
-    }
+    if (answer == WAKHURMI_OK && !wakhurmi_begin_service(service, max_leases, entries)) answer = WAKHURMI_NO_MEMORY;
     if (answer != WAKHURMI_OK) {
-        deallocate(service);
+        wakhurmi_give_up(service);
         return (wakhurmi_answer)answer;
     }
-    service->max_leases = max_leases;
     service->locks = locks;
-    service->forks = atomic_load(&wakhurmi_forks);
-    atomic_store(&service->usual, service->forks);
-    let_go(&service->book, GONE);
-    for (uint32_t worker = 0; worker < workers; worker++) service->workers[worker].held = moved(&service->handles[worker]);
-    wakhurmi_begin_history(service, entries);
     *opened = service;
     return WAKHURMI_OK;
 }
@@ -371,7 +399,8 @@ wakhurmi_answer wakhurmi_finish(wakhurmi_service *service) {
     handle *all = service->handles;
     go_in();
     for (uint32_t worker = 0; worker < service->count; worker++) all[worker] = moved(&service->workers[worker].held);
-    uint32_t answer = wakhurmi_c_finish(all, service->count, &service->book.held);
+    uint32_t answer = service->is_planned ? wakhurmi_c_plan_finish(all, service->count, &service->book.held)
+                                          : wakhurmi_c_finish(all, service->count, &service->book.held);
     for (uint32_t worker = 0; worker < service->count; worker++) service->workers[worker].held = moved(&all[worker]);
     go_out();
     bool ended = answer == WAKHURMI_OK;
@@ -386,7 +415,7 @@ void wakhurmi_close(wakhurmi_service *service) {
     wakhurmi_forget_history(service);
     if (service->book.held.full) wakhurmi_c_close_book(&service->book.held);
     for (uint32_t worker = 0; worker < service->count; worker++) {
-        if (service->workers[worker].held.full) wakhurmi_c_close(&service->workers[worker].held);
+        close_handle(service, &service->workers[worker].held);
     }
     destroy_waiting_tools(service, service->count);
     deallocate(service);

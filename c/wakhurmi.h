@@ -55,6 +55,7 @@
  * between their calls, hardly any call naps. */
 #ifndef WAKHURMI_H
 #define WAKHURMI_H
+#include <stdbool.h>
 #include <stddef.h>
 #include <stdint.h>
 #ifdef __cplusplus
@@ -74,7 +75,9 @@ typedef enum {
     WAKHURMI_NO_MEMORY = 5,  /* There wasn't enough memory. */
     WAKHURMI_BAD_NUMBER = 6, /* A number isn't in range, or locks don't strictly rise. */
     WAKHURMI_MISUSED = 7,    /* The worker, or the service, isn't where this call may be made, or a pointer is null. */
-    WAKHURMI_TIMED_OUT = 10  /* Another worker has what the call takes, and the deadline has passed. */
+    WAKHURMI_TIMED_OUT = 10, /* Another worker has what the call takes, and the deadline has passed. */
+    WAKHURMI_CYCLE = 11,     /* A task comes after itself, or after one that does. */
+    WAKHURMI_TOO_MANY = 12   /* There are as many as may be. */
 } wakhurmi_answer;
 
 /* Opens a service for 1 to 256 workers, of whom 1 to 256 may have a lease at once, with at most 65,536 project locks.
@@ -214,6 +217,170 @@ wakhurmi_answer wakhurmi_finish(wakhurmi_service *service);
  * MISUSED     The service hasn't been ended, or another thread reads the history at this moment.
  * NO_MEMORY   For a moment a call takes as much as the buffer has, and at most 16 times as much as the longest of its lines, or 1,024 bytes. */
 wakhurmi_answer wakhurmi_history(wakhurmi_service *service, uint64_t *place, char *buffer, size_t size, size_t *written);
+
+/* ---- Plans: what there is to do, and workers that are told what to do next
+ *
+ * A plan has tasks. Each has a project lock, or all projects, comes after other tasks, and has actions in order. An action has a number of items,
+ * which run on any worker each with a lease, and perhaps a fetch before them, which the task's worker runs without one. A service over a plan says
+ * to each worker what it does next, and has made the entry that this needs:
+ *
+ *   what             the worker has                     then it calls
+ *   WAKHURMI_TASK    the task's lock and a lease        work of its own, and wakhurmi_next
+ *   WAKHURMI_FETCH   neither, and runs the fetch        wakhurmi_done or wakhurmi_done_next
+ *   WAKHURMI_ITEM    a lease, and runs the item         wakhurmi_done or wakhurmi_done_next
+ *   WAKHURMI_ACTION  the lock and a lease again, but    work of its own, and wakhurmi_next
+ *                    behind WAKHURMI_RELEASE neither
+ *   WAKHURMI_ENDED   nothing: all tasks have ended      whatever it likes; wakhurmi_next says ENDED again
+ *
+ * A task is started once all that it comes after have passed, and skipped once one of these has failed or was skipped; that isn't told, but by
+ * wakhurmi_task_outcome. The worker of a task begins each action's fetch, queues its items and runs items itself until these have ended, of its task
+ * or another. What it does with its lock meanwhile its action says. Where a unit fails, the action's others run to their end, and behind the action
+ * the task ends as failed. A task without items passes. Of several items, tasks to skip and tasks to start the lowest of the first sort is next.
+ *
+ * Which call may be made where; others answer WAKHURMI_MISUSED, make no entry and change nothing:
+ *   behind nothing, ENDED, wakhurmi_done of an item, or BUSY, STOPPED or NO_MEMORY of wakhurmi_next    wakhurmi_next, wakhurmi_try_next
+ *   behind TASK, ACTION with a lock, wakhurmi_done of a fetch, wakhurmi_leave                     wakhurmi_next, wakhurmi_try_next, wakhurmi_enter
+ *   behind ACTION of WAKHURMI_RELEASE                                                            wakhurmi_next, wakhurmi_try_next
+ *   behind ITEM or FETCH                                                                         wakhurmi_done, wakhurmi_done_next
+ *   behind wakhurmi_enter                                                                        wakhurmi_leave
+ * There is no section inside an item: its lock may be parked, and a section takes all up again. wakhurmi_stop, wakhurmi_leases_out and
+ * wakhurmi_finish are as without a plan. wakhurmi_take, wakhurmi_take_until, wakhurmi_try_take, wakhurmi_hand_back, wakhurmi_leave_until and
+ * wakhurmi_take_history answer MISUSED on a service over a plan.
+ *
+ * What is proved of a service over a plan (crates/planned_work): each answer is the choice of the rules in the very book in which its entry stands;
+ * BUSY comes only where that book gives no choice; MISUSED exactly where the worker has something else; and where a worker was told ENDED, the history
+ * of the finished service is a lawful run of the plan, in which each unit has one outcome. What isn't: that an entry which the rules give is
+ * allowed wherever they give it (where it weren't, MISUSED would tell so too); what the files in C do between two looks; that the caller works
+ * between the answer and the closing alone and tells the truth; and that a run comes to its end.
+ *
+ * A call with a plan while another thread is in a call with it answers MISUSED. A service doesn't need its plan once it is open. */
+typedef struct wakhurmi_plan wakhurmi_plan;
+
+/* What becomes of the task's lock while the items of an action run. */
+typedef enum {
+    WAKHURMI_RETAIN,               /* It is kept. */
+    WAKHURMI_RELEASE,              /* It is given back for good: no action stands behind this one. */
+    WAKHURMI_RELEASE_AND_REACQUIRE /* It is given back, and taken again. */
+} wakhurmi_retention;
+
+typedef enum {
+    WAKHURMI_ITEM,
+    WAKHURMI_FETCH,
+    WAKHURMI_TASK,
+    WAKHURMI_ACTION,
+    WAKHURMI_ENDED,
+    WAKHURMI_CLOSED /* Of wakhurmi_done_next alone, behind another answer than OK: the unit is closed, and what is next isn't told. */
+} wakhurmi_what;
+
+/* Tasks are numbered as they were made, an action by its place in its task, an item by its place in its action, each from 0. What there isn't is
+ * UINT32_MAX. */
+typedef struct {
+    uint32_t what; /* A wakhurmi_what. */
+    uint32_t task, action, item;
+    bool passed; /* Of WAKHURMI_ACTION: whether all its units have passed. */
+} wakhurmi_work;
+
+typedef enum { WAKHURMI_NOT_ENDED, WAKHURMI_PASSED, WAKHURMI_FAILED, WAKHURMI_SKIPPED } wakhurmi_outcome;
+
+#define WAKHURMI_ALL_PROJECTS UINT32_MAX
+
+/* Makes a plan without tasks, for 0 to 65,535 project locks.
+ *
+ * OK          The plan is written to `plan`.
+ * BAD_NUMBER  There are more locks.
+ * MISUSED     `plan` is null.
+ * NO_MEMORY */
+wakhurmi_answer wakhurmi_make_plan(uint32_t locks, wakhurmi_plan **plan);
+
+/* Adds a task of a project lock, or of WAKHURMI_ALL_PROJECTS, for which the number of the plan's locks may stand too: while that task's worker owns
+ * its lock, no other worker owns one.
+ *
+ * OK          The task's number is written to `task`.
+ * BAD_NUMBER  There is no such lock.
+ * TOO_MANY    There are 1,048,576 tasks.
+ * MISUSED     A pointer is null, or another thread is in a call with the plan.
+ * NO_MEMORY */
+wakhurmi_answer wakhurmi_plan_task(wakhurmi_plan *plan, uint32_t lock, uint32_t *task);
+
+/* Has a task come after others, which are made by then. One that is named twice counts twice.
+ *
+ * OK, NO_MEMORY
+ * BAD_NUMBER  One of the tasks isn't made.
+ * TOO_MANY    The task would have more than 1,048,576 names.
+ * MISUSED     As wakhurmi_plan_task. `before` may be null where `count` is 0. */
+wakhurmi_answer wakhurmi_plan_after(wakhurmi_plan *plan, uint32_t task, const uint32_t *before, size_t count);
+
+/* Adds an action behind those of a task, with so many items, at least one.
+ *
+ * OK, NO_MEMORY
+ * BAD_NUMBER  There is no such task, no item, or no such retention.
+ * TOO_MANY    The task would have more than 1,048,576 actions, or the plan more than 4,194,304 items and fetches.
+ * MISUSED     As wakhurmi_plan_task, or the task's last action has WAKHURMI_RELEASE. */
+wakhurmi_answer wakhurmi_plan_action(wakhurmi_plan *plan, uint32_t task, wakhurmi_retention retention, uint32_t items, bool fetch);
+
+/* Gives a plan's memory back. It takes a null pointer too. */
+void wakhurmi_close_plan(wakhurmi_plan *plan);
+
+/* Opens a service over a plan, for 1 to 256 workers, of whom 1 to 256 may have a lease at once. The plan stays as it is.
+ *
+ * OK          The service is written to `service`. Nobody has anything, and the history is empty.
+ * BAD_NUMBER  One of the two numbers isn't in its range.
+ * CYCLE       A task comes after itself, or after one that does.
+ * MISUSED     `service` or `plan` is null, or another thread is in a call with the plan.
+ * NO_MEMORY */
+wakhurmi_answer wakhurmi_open_plan(wakhurmi_plan *plan, uint32_t workers, uint32_t max_leases, wakhurmi_service **service);
+
+/* Says what the worker does next, and waits while there is nothing to do yet. A service without a plan has ended from the first.
+ *
+ * OK          It is written to `work`.
+ * STOPPED     The service has been stopped: no more work is given.
+ * BAD_NUMBER  There is no such worker.
+ * MISUSED     As said above.
+ * NO_MEMORY   The worker is where its last entry left it, and this call is the one to make. */
+wakhurmi_answer wakhurmi_next(wakhurmi_service *service, uint32_t worker, wakhurmi_work *work);
+
+/* The same without waiting: BUSY says that there is nothing to do yet. */
+wakhurmi_answer wakhurmi_try_next(wakhurmi_service *service, uint32_t worker, wakhurmi_work *work);
+
+/* Closes the item or the fetch that the worker runs: it has passed, with this number, or failed. A fetch waits for the task's lock and a lease.
+ *
+ * OK
+ * STOPPED     Of a fetch: the call would have to wait, and the service has been stopped. It isn't closed.
+ * BAD_NUMBER  There is no such worker.
+ * MISUSED     As said above.
+ * NO_MEMORY   It isn't closed. */
+wakhurmi_answer wakhurmi_done(wakhurmi_service *service, uint32_t worker, bool passed, uint64_t number);
+
+/* Closes it and says what the worker does next: of an item in one step, with no entry of another worker between the two. Where there is nothing to
+ * do yet it waits, as wakhurmi_next.
+ *
+ * OK, BAD_NUMBER, MISUSED   As wakhurmi_next and wakhurmi_done.
+ * STOPPED, NO_MEMORY        Where `what` is set to WAKHURMI_CLOSED, the unit is closed, and wakhurmi_next is the call to make. Else `work` is as it
+ *                           was, and the unit isn't closed. */
+wakhurmi_answer wakhurmi_done_next(wakhurmi_service *service, uint32_t worker, bool passed, uint64_t number, wakhurmi_work *work);
+
+/* Tells what became of a task, or of an item, UINT32_MAX being the action's fetch, and with which number it has passed, 0 where it has none. `number`
+ * may be null. The service has been ended by wakhurmi_finish.
+ *
+ * OK
+ * BAD_NUMBER  There is no such task or item.
+ * MISUSED     A pointer is null, the service hasn't been ended, or another thread reads of it at this moment. */
+wakhurmi_answer wakhurmi_task_outcome(wakhurmi_service *service, uint32_t task, wakhurmi_outcome *outcome);
+wakhurmi_answer wakhurmi_item_outcome(wakhurmi_service *service, uint32_t task, uint32_t action, uint32_t item, wakhurmi_outcome *outcome,
+                                      uint64_t *number);
+
+/* What a run does with a piece of work: whether an item or a fetch has passed, and its number. What it answers to TASK and ACTION isn't looked at. It may
+ * make the calls that fit the work, but for wakhurmi_done and those that say what is next, and wakhurmi_stop. */
+typedef bool (*wakhurmi_do)(void *context, wakhurmi_service *service, uint32_t worker, const wakhurmi_work *work, uint64_t *number);
+
+/* Runs a plan on so many threads, of which this one is the first, and ends the service. A thread that can't be made is left out.
+ *
+ * OK          All tasks have ended. The service, with outcomes and history, is written to `service`; wakhurmi_close gives it back.
+ * STOPPED     wakhurmi_stop was called. The service is written too.
+ * MISUSED     A pointer is null, or the calls that `work` made left a worker where nothing can be next.
+ * BAD_NUMBER, CYCLE, NO_MEMORY   As wakhurmi_open_plan. Want of memory of one worker stops the others. */
+wakhurmi_answer wakhurmi_run(wakhurmi_plan *plan, uint32_t threads, uint32_t max_leases, wakhurmi_do work, void *context,
+                             wakhurmi_service **service);
 
 /* Closes the service, ended or not, and gives all its memory back. It takes a null pointer too. */
 void wakhurmi_close(wakhurmi_service *service);

@@ -9,3 +9,8 @@ pub mod Owned
 pub mod Places
 pub mod Taken
 pub mod Texts
+pub mod OutcomeCalls
+pub mod PlanCalls
+pub mod PlanNumbers
+pub mod PlannedCalls
+pub mod PlannedOpening

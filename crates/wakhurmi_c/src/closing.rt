@@ -16,7 +16,7 @@ use crate::handles::Handle;
 use crate::workers::Worker;
 use coordination::{BoxedBook, Pass, Slot};
 use lock_journal::Book;
-use resource_lock::Graph;
+use resource_lock::{Graph, GraphTasks};
 use std::alloc::{AllocError, Global};
 use std::sync::Arc;
 
@@ -85,7 +85,7 @@ fn gather(alloc: Global, handles: &mut [Handle], mut passes: Vec<Pass>) -> Gathe
 
 /// A book of the least size, for the slot whose own book is taken out. It fails for want of memory alone.
 fn spare_book(alloc: Global) -> Result<Box<Book>, AllocError> {
-    let graph = Graph::new(0, None, 1, 1, Vec::new(alloc), Vec::new(alloc));
+    let graph = Graph::new(0, None, 1, 1, GraphTasks::none(alloc), Vec::new(alloc));
     let book = Book::opening(alloc, graph, 0, 0)?;
     Ok(Box::new(alloc, book)?)
 }

@@ -15,7 +15,7 @@ use crate::handles::Handle;
 use crate::workers::Worker;
 use coordination::{Pass, Sleepers, Slot, openings_are_at_rest};
 use lock_journal::Book;
-use resource_lock::{Graph, MAX_WORKERS};
+use resource_lock::{Graph, GraphTasks, MAX_WORKERS};
 use std::alloc::{AllocError, Global};
 use std::sync::Arc;
 
@@ -40,17 +40,11 @@ fn book_of(alloc: Global, workers: u32, max_leases: u32, locks: u32) -> Result<B
     ensures history { IfOk result (λ book. book.value.history ≡ []) }
 {
     openings_are_at_rest();
-    if !Graph::fits(locks, None, workers, max_leases, &[], &[]) {
+    let tasks = GraphTasks::none(alloc);
+    if !Graph::fits(locks, None, workers, max_leases, &tasks, &[]) {
         return Err(Answer::BadNumber);
     }
-    let graph = Graph::new(
-        locks,
-        None,
-        workers,
-        max_leases,
-        Vec::new(alloc),
-        Vec::new(alloc),
-    );
+    let graph = Graph::new(locks, None, workers, max_leases, tasks, Vec::new(alloc));
     let Ok(book) = Book::opening(alloc, graph, 0, 0) else {
         return Err(Answer::NoMemory);
     };

@@ -1,8 +1,8 @@
 use Rattle.std.proofs.Common.{List, [], None, refl, sym, subst, arith}
 use Rattle.resource_lock.specs.Fits.{Fits}
+use Rattle.resource_lock.specs.GraphView.{GraphTaskView}
 use Rattle.resource_lock.specs.Made.{made_of}
 use Rattle.resource_lock.specs.declared.graphs.GraphAction.{GraphAction}
-use Rattle.resource_lock.specs.declared.graphs.GraphTask.{GraphTask}
 use Rattle.wakhurmi_c.proofs.closing.spare_book.Goals as goal
 
 least_fits : Fits (made_of 0 None 1 1 [] [])
@@ -27,5 +27,5 @@ least_fits = record {
 
 pub new-graph-requires : goal.new-graph-requires
 new-graph-requires c =
-    subst (λ (tasks : List GraphTask). Fits (made_of 0 None 1 1 tasks c.new-2.result.items)) (sym c.new.ensures.items)
-    (subst (λ (actions : List GraphAction). Fits (made_of 0 None 1 1 [] actions)) (sym c.new-2.ensures.items) least_fits)
+    subst (λ (tasks : List GraphTaskView). Fits (made_of 0 None 1 1 tasks c.new.result.items)) (sym c.none.ensures)
+    (subst (λ (actions : List GraphAction). Fits (made_of 0 None 1 1 [] actions)) (sym c.new.ensures.items) least_fits)

@@ -1,0 +1,72 @@
+#!/usr/bin/env python3
+"""Times plans that are run through the C interface.
+
+* an item that does nothing, closed by wakhurmi_done_next, on one thread and on four: medians of some turns, by the clock;
+* 10,000 items of 20 microseconds of a processor, on one thread and on 32: processor time;
+* calls of futex an item, of 4 threads and of 32, as strace counts them;
+* 100,000 tasks of an item each on 256 threads: by the clock, and the peak of memory.
+
+The archive is that of WAKHURMI, a folder that c/build.sh has filled, or made here, which proves crates/wakhurmi_c where that is still to be done. Not
+part of the gate.
+
+    bench/c_plans.py
+
+Goals: at most 1.2 microseconds an item on one thread, and 1.5 times that on four; 32 threads take at most 1.3 times the processor time of one; at most
+0.2 calls of futex an item.
+"""
+
+import os
+import pathlib
+import re
+import statistics
+import subprocess
+import tempfile
+
+import measure
+
+TURNS, ITEMS = 9, 200_000
+LONG_ITEMS, LENGTH = 10_000, 20
+THREADS, TASKS = 256, 100_000
+MOST_ALONE, MOST_ON_FOUR, MOST_PROCESSOR, MOST_FUTEX = 1200.0, 1.5, 1.3, 0.2
+
+
+def verdict(value: float, most: float) -> str:
+    return f"goal {most}: {'met' if value <= most else 'missed'}"
+
+
+def built(room: pathlib.Path) -> str:
+    folder = pathlib.Path(os.environ["WAKHURMI"]).resolve() if os.environ.get("WAKHURMI") else room / "library"
+    if not os.environ.get("WAKHURMI"):
+        measure.skip_without("rt", "cc")
+        subprocess.run([measure.TOP / "c/build.sh", folder], check=True)
+    source, program = measure.PROGRAMS / "c_plan/c_plan.c", room / "c_plan"
+    subprocess.run(["cc", "-O2", source, "-o", program, f"-I{folder}", f"-L{folder}", "-lwakhurmi", "-pthread"], check=True)
+    return str(program)
+
+
+def times(program: str, *words: object) -> tuple[float, float]:
+    """Nanoseconds by the clock and of processor, medians."""
+    said = [subprocess.run([program, *map(str, words)], stdout=subprocess.PIPE, text=True, check=True).stdout for _ in range(TURNS)]
+    clock, processor = zip(*([float(number) for number in re.findall(r"(\d+) ns", text)] for text in said))
+    return statistics.median(clock), statistics.median(processor)
+
+
+def main() -> None:
+    measure.skip_without("cc")
+    with tempfile.TemporaryDirectory() as folder:
+        program = built(pathlib.Path(folder))
+        alone, four = (times(program, "items", threads, ITEMS)[0] for threads in (1, 4))
+        print(f"an item that does nothing: {alone:.0f} ns on one thread, {verdict(alone, MOST_ALONE)}")
+        print(f"on four: {four:.0f} ns, {four / alone:.2f} times as long, {verdict(four / alone, MOST_ON_FOUR)}")
+        one, many = (times(program, "items", threads, LONG_ITEMS, LENGTH)[1] for threads in (1, 32))
+        print(f"items of {LENGTH} microseconds: {one:.0f} ns of processor on one thread, {many:.0f} on 32, {verdict(many / one, MOST_PROCESSOR)}")
+        for threads in (4, 32):
+            counted = measure.count_system_calls([program, "items", str(threads), str(LONG_ITEMS), str(LENGTH)])
+            calls = counted.get("futex", 0) / LONG_ITEMS
+            print(f"{threads} threads: {calls:.3f} calls of futex an item, {verdict(calls, MOST_FUTEX)}")
+        used = measure.usage_of([program, "tasks", str(THREADS), str(TASKS)])
+        print(f"{TASKS} tasks on {THREADS} threads: {used.seconds:.1f} s of processor, peak {used.kilobytes / 1024:.0f} MB, status {used.status}")
+
+
+if __name__ == "__main__":
+    main()
