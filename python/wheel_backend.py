@@ -1,7 +1,7 @@
-"""Packs wakhurmi.py and libwakhurmi.so into a wheel: the build backend of pyproject.toml (PEP 517), over the standard library alone.
+"""Packs the package wakhurmi, and libwakhurmi.so into it, as a wheel: the build backend of pyproject.toml (PEP 517), over the standard library alone.
 
-The library lies beside this file, or where the variable WAKHURMI names a folder that c/build.sh has filled, in its folder `shared`. Where there is
-none, but the system's loader finds one, the wheel has the module alone.
+The library lies in the package's folder, or where the variable WAKHURMI names a folder that c/build.sh has filled, in its folder `shared`. Where there is
+none, but the system's loader finds one, the wheel has the package's own files alone.
 """
 
 import base64
@@ -14,12 +14,11 @@ import sysconfig
 import zipfile
 from typing import Any, Dict, Optional
 
-HERE = pathlib.Path(__file__).resolve().parent
-MODULE, LIBRARY = "wakhurmi.py", "libwakhurmi.so"
+PACKAGE, LIBRARY = pathlib.Path(__file__).resolve().parent / "wakhurmi", "libwakhurmi.so"
 
 
 def find_library() -> Optional[pathlib.Path]:
-    places = [HERE / LIBRARY]
+    places = [PACKAGE / LIBRARY]
     if os.environ.get("WAKHURMI"):
         places.append(pathlib.Path(os.environ["WAKHURMI"], "shared", LIBRARY))
     for place in places:
@@ -41,12 +40,12 @@ def record(name: str, content: bytes) -> str:
 def build_wheel(wheel_directory: str, config_settings: Any = None, metadata_directory: Any = None) -> str:
     """Writes the wheel, and answers its name."""
     library = find_library()
-    files: Dict[str, bytes] = {MODULE: (HERE / MODULE).read_bytes()}
-    version = re.search(r'^__version__ = "(.*)"$', files[MODULE].decode(), re.M)
+    files: Dict[str, bytes] = {f"{PACKAGE.name}/{file.name}": file.read_bytes() for file in sorted(PACKAGE.glob("*.py"))}
+    version = re.search(r'^__version__ = "(.*)"$', files[f"{PACKAGE.name}/__init__.py"].decode(), re.M)
     assert version is not None
     platform = "any"
     if library is not None:
-        files[LIBRARY] = library.read_bytes()
+        files[f"{PACKAGE.name}/{LIBRARY}"] = library.read_bytes()
         platform = re.sub(r"[-.]", "_", sysconfig.get_platform())
     name, tag = f"wakhurmi-{version[1]}", f"py3-none-{platform}"
     about = f"Name: wakhurmi\nVersion: {version[1]}\nSummary: Worker leases and project locks for the threads of a build tool\nRequires-Python: >=3.9\n"

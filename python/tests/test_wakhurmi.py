@@ -21,7 +21,7 @@ PYTHON = pathlib.Path(__file__).resolve().parent.parent
 sys.path.insert(0, str(PYTHON))
 
 import wakhurmi  # noqa: E402
-from wakhurmi import BadNumber, Busy, Misused, NoMemory, Part, Service, Stopped, TimedOut  # noqa: E402
+from wakhurmi import BadNumber, Busy, Misused, NoMemory, Part, Service, Stopped, TimedOut, _errors, _native  # noqa: E402
 
 HEADER = PYTHON.parent / "c/wakhurmi.h"
 REPLAY = PYTHON.parent / "examples/embedding-in-c/replay.py"
@@ -105,7 +105,15 @@ class HeaderTests(unittest.TestCase):
         "uint32_t *": ctypes.POINTER(ctypes.c_uint32),
         "uint64_t *": ctypes.POINTER(ctypes.c_uint64),
         "size_t *": ctypes.POINTER(ctypes.c_size_t),
-        "struct timespec *": ctypes.POINTER(wakhurmi._Time),
+        "struct timespec *": ctypes.POINTER(_native._Time),
+        "wakhurmi_plan *": ctypes.c_void_p,
+        "wakhurmi_plan **": ctypes.POINTER(ctypes.c_void_p),
+        "wakhurmi_retention": ctypes.c_uint,
+        "wakhurmi_work *": ctypes.POINTER(_native._Work),
+        "wakhurmi_outcome *": ctypes.POINTER(ctypes.c_uint),
+        "wakhurmi_do": ctypes.c_void_p,
+        "void *": ctypes.c_void_p,
+        "bool": ctypes.c_bool,
     }
 
     def kind_of(self, parameter: str) -> object:
@@ -118,17 +126,17 @@ class HeaderTests(unittest.TestCase):
         declared: Dict[str, Tuple[object, ...]] = {}
         for answer, name, parameters in re.findall(r"^(wakhurmi_answer|void) (\w+)\((.*?)\);", text, re.M | re.S):
             declared[name] = tuple(self.kind_of(parameter) for parameter in parameters.split(","))
-            function = getattr(wakhurmi._library, name)
+            function = getattr(_native._library, name)
             self.assertEqual(function.restype, None if answer == "void" else ctypes.c_uint, name)
             self.assertEqual(function.argtypes, declared[name], name)
-        self.assertEqual(set(declared), set(wakhurmi._SIGNATURES))
+        self.assertEqual(set(declared), set(_native._SIGNATURES))
 
     def test_each_answer_of_the_header_is_an_error(self) -> None:
         answers = {int(number): name for name, number in re.findall(r"WAKHURMI_(\w+) = (\d+)", HEADER.read_text())}
         self.assertEqual(answers.pop(0), "OK")
-        named = {number: error.__name__.upper() for number, error in wakhurmi._ERRORS.items()}
+        named = {number: error.__name__.upper() for number, error in _errors._ERRORS.items()}
         self.assertEqual({number: name.replace("_", "") for number, name in answers.items()}, named)
-        for error in wakhurmi._ERRORS.values():
+        for error in _errors._ERRORS.values():
             self.assertTrue(issubclass(error, wakhurmi.Error) and error.__name__ in wakhurmi.__all__)
         for error, builtin in ((TimedOut, TimeoutError), (NoMemory, MemoryError), (BadNumber, ValueError), (Misused, RuntimeError)):
             self.assertTrue(issubclass(error, builtin))
@@ -605,8 +613,8 @@ class ThreadTests(Case):
 
 class LoadTests(unittest.TestCase):
     def test_a_library_that_is_not_found_is_told(self) -> None:
-        if (PYTHON / wakhurmi._LIBRARY).exists():
-            self.skipTest("the library lies beside the module")
+        if (PYTHON / "wakhurmi" / _native._LIBRARY).exists():
+            self.skipTest("the library lies in the package's folder")
         words = [sys.executable, "-c", "import wakhurmi"]
         env = {**os.environ, "PYTHONPATH": str(PYTHON), "WAKHURMI": "/no/such/folder"}
         ran = subprocess.run(words, env=env, stdout=subprocess.PIPE, stderr=subprocess.STDOUT, check=False)
