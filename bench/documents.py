@@ -24,7 +24,7 @@ PAGES = [TOP / "README.md", TOP / "CHANGELOG.md", TOP / "CONTRIBUTING.md", *sort
 SUFFIXES = (".rt", ".antt", ".py", ".md", ".sh", ".svg", ".c", ".h")
 
 # Examples whose commands need a build or another machine.
-NEED_A_BUILD = {"embedding", "embedding-in-c", "embedding-in-rust", "shared-connections", "budgeted-daemons", "far-worker"}
+NEED_A_BUILD = {"build-tool", "plan-in-c", "embedding", "embedding-in-c", "embedding-in-rust", "shared-connections", "budgeted-daemons", "far-worker"}
 
 faults: list[str] = []
 
