@@ -65,6 +65,8 @@ SANITIZERS = {
 # Where a thread is cancelled, the sanitizer of addresses takes what it does itself with the thread's stack for a mistake.
 SETTINGS = {**os.environ, "ASAN_OPTIONS": "use_sigaltstack=0"}
 VALGRIND = ["valgrind", "-q", "--error-exitcode=9"]
+# Without a fair schedule one thread may run for minutes while another is to be woken.
+HELGRIND = ["--tool=helgrind", "--fair-sched=yes"]
 # The system's own wait may signal the condition that it waits for, without the mutex. Helgrind takes that for a program's mistake.
 SUPPRESSED = """{
    a signal of the system's own
@@ -182,7 +184,7 @@ def main() -> None:
             check(made, FEW_ROUNDS, FEW_CANCELLED, [*VALGRIND, "--leak-check=full"], "memcheck")
             single = build(folder, "single", "-g", ONE_AT_A_TIME)
             (folder / "suppressed").write_text(SUPPRESSED)
-            check(single, FEW_ROUNDS, FEW_CANCELLED, [*VALGRIND, "--tool=helgrind", f"--suppressions={folder}/suppressed"], "helgrind")
+            check(single, FEW_ROUNDS, FEW_CANCELLED, [*VALGRIND, *HELGRIND, f"--suppressions={folder}/suppressed"], "helgrind")
         else:
             print("memcheck, helgrind: passed over, there is no valgrind")
         time_rounds(made, 1, MOST_ALONE)
