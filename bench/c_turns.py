@@ -12,10 +12,10 @@ The archive is made by c/build.sh, which proves crates/wakhurmi_c where that is 
 
 SECONDS is for each row, 3 where it isn't given.
 
-Measured, 7 seconds a row: by a service no take or leave waits longer than 45 ms, and the fewest rounds of a thread are 0.53 to 0.97 of the
-most; by mutexes 7,001 ms, and 0.00 to 0.98. The ninth thread has 452 rounds, and waits 16 ms at most. A service makes 0.49 to 0.99 of the
-mutexes' rounds. In shorter rows the rounds of 32 threads differ more: 0.34 in 2 seconds. As long as a leave wasn't queued for its locks, one with work
-of 1 ms had 1,228 rounds among 31 threads of which some had 8, and one of these waited 2,083 ms.
+Measured, 3 seconds a row, beside one other process: by a service no take waits longer than 95 ms, and the fewest rounds of a thread are 0.53 to 0.96 of
+the most; by mutexes 752 ms, and 0.17 to 0.96. With blocking sections 0.45 to 0.92, and 203 ms with 32 threads that work 1 ms. The ninth thread has
+102 rounds, and waits 395 ms at most. A service makes 0.36 to 0.99 of the mutexes' rounds. As long as each hand-back woke all that wait, the ninth had 452
+rounds in 7 seconds, and waited 16 ms at most.
 """
 
 import pathlib
