@@ -15,7 +15,7 @@ SECONDS is for each row, 3 where it isn't given.
 Measured, 3 seconds a row, beside one other process: by a service no take waits longer than 95 ms, and the fewest rounds of a thread are 0.53 to 0.96 of
 the most; by mutexes 752 ms, and 0.17 to 0.96. With blocking sections 0.45 to 0.92, and 203 ms with 32 threads that work 1 ms. The ninth thread has
 102 rounds, and waits 395 ms at most. A service makes 0.36 to 0.99 of the mutexes' rounds. As long as each hand-back woke all that wait, the ninth had 452
-rounds in 7 seconds, and waited 16 ms at most.
+rounds in 7 seconds, and waited 16 ms at most, on another machine.
 """
 
 import pathlib
