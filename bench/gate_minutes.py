@@ -3,8 +3,9 @@
 
 Starts `rt ci` with the given words in the current folder, passes its output through, and looks twice a second at the
 processes below it, each of which works for one crate. At the end it prints a table, the longest crate first, and ends
-with the status of `rt ci`. At the signal USR1 it prints the table so far, and at TERM too, before it ends `rt ci`. What an
-earlier run passed is kept on this machine and takes no time: with --anew all is done.
+with the status of `rt ci`. At the signal USR1 it prints the table so far, and at TERM too, before it ends `rt ci`.
+Some kits keep on the machine what `rt ci` passed, and take crates by name: there --anew does all again. The others do all
+in each run, and are given no words.
 Not part of the gate. Works on Linux alone.
 
     bench/gate_minutes.py [--anew] [CRATE..]
@@ -131,9 +132,17 @@ def print_table(crates: dict[str, dict[str, float]], all_seconds: float | None, 
     print(f"With a proof or tests over {MOST_A_CHECK} minutes: {', '.join(long) or 'none'}.")
 
 
+def words_for_gate(given: list[str]) -> list[str]:
+    """The given words, without --anew where the kit's `rt ci` does all in each run."""
+    help_text = subprocess.run(["rt", "help"], capture_output=True, text=True, check=False)
+    if "--anew" in help_text.stdout + help_text.stderr:
+        return given
+    return [word for word in given if word != "--anew"]
+
+
 def main() -> None:
     start = time.monotonic()
-    gate = subprocess.Popen(["rt", "ci", *sys.argv[1:]])
+    gate = subprocess.Popen(["rt", "ci", *words_for_gate(sys.argv[1:])])
     sampler = Sampler()
 
     def print_so_far(*_: object) -> None:
