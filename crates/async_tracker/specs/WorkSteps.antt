@@ -1,5 +1,5 @@
 -- The steps of workers whose items wait in the book.
-use Rattle.std.specs.Prelude.{◌≡◌, ◌≢◌, ◌<◌, ◌≤◌, false, Some, length}
+use Rattle.std.specs.Prelude.{◌≡◌, ◌≢◌, ◌<◌, ◌≤◌, ℕ, false, Some, length}
 use Rattle.resource_lock.specs.GraphView.{GraphView}
 use Rattle.resource_lock.specs.StateView.{StateView, mark_of}
 use Rattle.resource_lock.specs.declared.ids.WorkerId.{WorkerId}
@@ -21,6 +21,11 @@ kind_of_work (Fetch u) = kinds.Block (Some u)
 kind_of_work (Submit a) = kinds.Submit a
 kind_of_work (Park a) = kinds.Park a
 kind_of_work (End t) = kinds.End t
+
+-- at most how many locks more its worker has behind it: that of the task which it starts
+abbrev pub more_locks_of : WorkStep → ℕ
+more_locks_of (Start t) = 1
+more_locks_of _ = 0
 
 -- where a step fails, as its transform does
 abbrev pub FailsAt : WorkStep → GraphView → WorkerId → StateView → Type 0

@@ -43,6 +43,13 @@ impl Decision for WhatIsNext {
 
     ghost step_of = { λ _. step_of_choice };
 
+    ghost more_locks = { λ _. 1 };
+
+    #[inline]
+    fn more_locks(&self) -> usize {
+        1
+    }
+
     fn step(&self, choice: &Choice) -> Option<TaskStep> {
         match *choice {
             Choice::Skip(task) => Some(TaskStep::Skip(task)),

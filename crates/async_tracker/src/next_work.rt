@@ -76,6 +76,13 @@ impl Decision for TakeNextWork {
 
     ghost step_of = { λ _. step_of_next };
 
+    ghost more_locks = { λ _. 1 };
+
+    #[inline]
+    fn more_locks(&self) -> usize {
+        1
+    }
+
     fn step(&self, next: &NextWork) -> Option<WorkStep> {
         match *next {
             NextWork::Claim(unit) => Some(WorkStep::Claim(unit)),
@@ -129,6 +136,13 @@ impl Decision for TakeParkedWork {
     type Step = WorkStep;
 
     ghost step_of = { λ q. step_of_parked q.action };
+
+    ghost more_locks = { λ _. 0 };
+
+    #[inline]
+    fn more_locks(&self) -> usize {
+        0
+    }
 
     fn step(&self, next: &ParkedWork) -> Option<WorkStep> {
         match *next {

@@ -64,6 +64,13 @@ impl Decision for WhatIsNextParked {
 
     ghost step_of = { λ q. step_of_choice q.action };
 
+    ghost more_locks = { λ _. 0 };
+
+    #[inline]
+    fn more_locks(&self) -> usize {
+        0
+    }
+
     fn step(&self, choice: &ParkedAnswer) -> Option<Resume> {
         match choice {
             ParkedAnswer::Resume(_) => Some(Resume {

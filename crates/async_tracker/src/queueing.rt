@@ -52,6 +52,13 @@ impl Decision for ThenPark {
 
     ghost step_of = { λ q _. Some (record { action = q.action }) };
 
+    ghost more_locks = { λ _. 0 };
+
+    #[inline]
+    fn more_locks(&self) -> usize {
+        0
+    }
+
     fn step(&self, _answer: &()) -> Option<Park> {
         Some(Park {
             action: self.action,

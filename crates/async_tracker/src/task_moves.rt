@@ -121,6 +121,13 @@ impl Decision for MoveInTask {
 
     ghost step_of = { λ q. step_of_move q.task };
 
+    ghost more_locks = { λ _. 0 };
+
+    #[inline]
+    fn more_locks(&self) -> usize {
+        0
+    }
+
     fn step(&self, next: &TaskMove) -> Option<WorkStep> {
         match *next {
             TaskMove::Fetch(unit) => Some(WorkStep::Fetch(unit)),

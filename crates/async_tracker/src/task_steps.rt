@@ -23,6 +23,8 @@ impl Transform for TaskStep {
 
     ghost most = { λ step g w s. most_of g w s (kind_of_step step) };
 
+    ghost more_locks = { λ _. 1 };
+
     ghost makes = { λ s. IsFixedList (kind_of_step s) };
 
     ghost fails_on = { λ step g w s. is_enabled g s w (kind_of_step step) ≡ false };
@@ -41,6 +43,11 @@ impl Transform for TaskStep {
             TaskStep::Start(task) => Start { task }.most_changes(graph, state, worker),
             TaskStep::Skip(task) => Skip { task }.most_changes(graph, state, worker),
         }
+    }
+
+    #[inline]
+    fn more_locks(&self) -> usize {
+        1
     }
 
     fn apply(&self, work: &mut Tentative, own: &[LockId]) -> Disposition {

@@ -1,7 +1,7 @@
 //! The steps of workers whose items wait in the book, as one transform.
 ghost use Rattle.lock_transforms.specs.Allowed.{IsFixedList};
 ghost use Rattle.lock_transforms.specs.MostChanges.{most_of};
-ghost use Rattle.async_tracker.specs.WorkSteps.{FailsAt, RetriesAt, kind_of_work};
+ghost use Rattle.async_tracker.specs.WorkSteps.{FailsAt, RetriesAt, kind_of_work, more_locks_of};
 
 use lock_transforms::kinds::{Block, Claim, End, Park, Resume, Skip, Start, Submit};
 use lock_transforms::{Disposition, Kind, Tentative, Transform};
@@ -33,6 +33,8 @@ impl Transform for WorkStep {
 
     ghost most = { λ step g w s. most_of g w s (kind_of_work step) };
 
+    ghost more_locks = { more_locks_of };
+
     ghost makes = { λ step. IsFixedList (kind_of_work step) };
 
     ghost fails_on = { FailsAt };
@@ -62,6 +64,14 @@ impl Transform for WorkStep {
             WorkStep::Submit(action) => Submit { action }.most_changes(graph, state, worker),
             WorkStep::Park(action) => Park { action }.most_changes(graph, state, worker),
             WorkStep::End(task) => End { task }.most_changes(graph, state, worker),
+        }
+    }
+
+    #[inline]
+    fn more_locks(&self) -> usize {
+        match *self {
+            WorkStep::Start(_) => 1,
+            _ => 0,
         }
     }
 

@@ -41,6 +41,13 @@ impl Decision for TakeUp {
 
     ghost step_of = { λ q _. Some (record { closed = q.closed }) };
 
+    ghost more_locks = { λ _. 0 };
+
+    #[inline]
+    fn more_locks(&self) -> usize {
+        0
+    }
+
     fn step(&self, _answer: &()) -> Option<Unblock> {
         Some(Unblock {
             closed: self.closed,

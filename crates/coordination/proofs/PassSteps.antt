@@ -1,13 +1,12 @@
 -- A pass closes again after its steps.
 use Rattle.std.proofs.Common.{◌≡◌, ◌≤◌, ℕ, arith, Option, Some, None, List, refl, sym, ap, ◌∙◌, subst, [], ◌∷◌}
-use Rattle.std.specs.Prelude.{vec_capacity}
 use Rattle.resource_lock.specs.declared.ids.WorkerId.{WorkerId}
 use Rattle.lock_journal.specs.BookView.{BookView}
 use Rattle.coordination.specs.declared.parts.Notes.{Notes}
 use Rattle.coordination.specs.declared.parts.WorkerPart.{WorkerPart}
 use Rattle.coordination.specs.declared.rule.Sight.{Sight}
 use Rattle.coordination.specs.Agrees.{Agrees}
-use Rattle.coordination.specs.Parts.{HasLockRoom, HasMarkRoom, IsPartOf, IsSamePart}
+use Rattle.coordination.specs.Parts.{HasLockRoom, HasRoom, IsPartOf, IsSamePart}
 use Rattle.history_views.specs.ShownBooks.{IsTold}
 use Rattle.coordination.specs.Passes.{IsPass, me_in, view_in}
 use Rattle.coordination.specs.declared.rule.SeatView.{SeatView}
@@ -30,16 +29,23 @@ part_same w book old new same p = record {
   last = same.last ∙ p.last;
 }
 
-pub marks_same : (old new : WorkerPart) → IsSamePart old new → HasMarkRoom old → HasMarkRoom new
-marks_same old new same room = record { mark_room = subst (λ v. 3 ≤ vec_capacity v) (sym same.claimed) room.mark_room }
-
 -- room for fewer
-pub room_for_fewer : (locks less more : ℕ) (part : WorkerPart) → less ≤ more → HasLockRoom locks more part → HasLockRoom locks less part
-room_for_fewer locks less more part le room = record { lock_room = omega (arith, le, room.lock_room); park_room = omega (arith, le, room.park_room) }
+pub room_for_fewer : (less more : ℕ) (part : WorkerPart) → less ≤ more → HasLockRoom more part → HasLockRoom less part
+room_for_fewer less more part le room = record { lock_room = omega (arith, le, room.lock_room); park_room = omega (arith, le, room.park_room) }
+
+-- a pass whose part has other room
+pub other_room : (worker : WorkerId) (notes notes' : Notes) (me : M) → IsPass worker notes me → IsSamePart notes.part notes'.part → HasRoom notes'.part → notes'.reach ≡ notes.reach → IsPass worker notes' me
+other_room worker notes notes' me p same room reach = record {
+  lone = p.lone;
+  worker_is = p.worker_is;
+  part_is = part_same (sight_of me.0).worker (sight_of me.0).seen notes.part notes'.part same p.part_is;
+  room = room;
+  told = subst (λ (r : Option ReachView). IsTold me.0.ledger r (sight_of me.0).seen) (sym reach) p.told;
+}
 
 -- a seat that is alone again is a pass
 pub closes_pass : (worker : WorkerId) (notes : Notes) (me : M) (l : Option Ledger) (k s : Sight) → me ≡ (one l k, []) → sight_of me.0 ≡ s → worker ≡ s.worker → IsPartOf s.seen s.worker notes.part
-    → HasMarkRoom notes.part → IsTold l notes.reach s.seen → IsPass worker notes me
+    → HasRoom notes.part → IsTold l notes.reach s.seen → IsPass worker notes me
 closes_pass worker notes me l k s lone is w p room told = record {
   lone = lone ∙ (λ i. (one (sym (ap (λ (m : M). m.0.ledger) lone) i) (sym (ap (λ (m : M). sight_of m.0) lone) i), []));
   worker_is = w ∙ sym (ap (λ (x : Sight). x.worker) is);

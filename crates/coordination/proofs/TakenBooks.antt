@@ -21,7 +21,7 @@ use Rattle.coordination.specs.SleepAndWake.{has_entered}
 use Rattle.coordination.specs.Sights.{one, seeing, sight_of}
 use Rattle.coordination.specs.Turns.{HasLeft, HasTurned, Leaves, sight_at}
 use Rattle.coordination.specs.declared.turns.Came.{Came}
-use Rattle.coordination.specs.Parts.{Follows, Grew, HasMarkRoom, HasRoomIfFinished, IsPartOf}
+use Rattle.coordination.specs.Parts.{Follows, Grew, HasRoom, HasRoomIfFinished, IsPartOf}
 use Rattle.coordination.specs.declared.parts.WorkerPart.{WorkerPart}
 use Rattle.coordination.proofs.PassSteps.{part_on}
 
@@ -87,14 +87,14 @@ part_in m m' t worker part is p =
     subst (λ (x : WorkerId × BookView). IsPartOf x.1 x.0 part) (λ i. (sym is i, sym (taken_book m m' t) i)) (part_on (sight_of m.0).worker (sight_of m.0).seen t.book part t.found.agrees p)
 
 -- what a transform left of a book is what a part can follow
-grew : {E : Type 0} (kind : Kind) (makes : Making) (fails retries : Cause) (w : WorkerId) (old new : BookView) (r : Result Disposition E) → Ran kind makes fails retries w old new r → Grew w old new r
-grew kind makes fails retries w old new (Ok Finished) ran = (kind, ran.0, record { made = tt; allowed = ran.1.allowed; history = ran.1.history; state = ran.1.state })
-grew kind makes fails retries w old new (Ok Failed) ran = (kind, ran.history, ran.state)
+grew : {E : Type 0} (kind : Kind) (makes : Making) (fails retries : Cause) (w : WorkerId) (old new : BookView) (r : Result Disposition E) → Ran kind makes fails retries w old new r → Grew w kind old new r
+grew kind makes fails retries w old new (Ok Finished) ran = (ran.0, record { made = tt; allowed = ran.1.allowed; history = ran.1.history; state = ran.1.state })
+grew kind makes fails retries w old new (Ok Failed) ran = (ran.history, ran.state)
 grew kind makes fails retries w old new (Ok Retry) ran = (ran.history, ran.state)
 grew kind makes fails retries w old new (Err e) ran = (ran.history, ran.state)
 
 pub follows : {E : Type 0} (kind : Kind) (makes : Making) (fails retries : Cause) (w : WorkerId) (old new : BookView) (r : Result Disposition E) (part : WorkerPart) → IsSoundBook old → new.graph ≡ old.graph → Ran kind makes fails retries w old new r
-    → new.given ≡ old.given → old.given ≤ length old.history → IsPartOf old w part → HasMarkRoom part → HasRoomIfFinished old new r part → Follows w old new r part
+    → new.given ≡ old.given → old.given ≤ length old.history → IsPartOf old w part → HasRoom part → HasRoomIfFinished kind new r part → Follows w kind old new r part
 follows kind makes fails retries w old new r part sound graph ran given within p room lists = record { sound = sound; graph = graph; grew = grew kind makes fails retries w old new r ran; given = given; within = within; kept = p; room = room; lists = lists }
 
 -- an entry that was made wasn't given away

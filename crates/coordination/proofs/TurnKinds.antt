@@ -22,7 +22,7 @@ use Rattle.coordination.specs.Decisions.{DecideGives, HadStep, HasStepped, carri
 use Rattle.coordination.specs.Offered.{AnswersWith, AsTold, Telling, TellsQueued, WaitsAsTold, WaitsWith, is_queued_in}
 use Rattle.coordination.specs.declared.outside_work.Queued.{Queued}
 use Rattle.coordination.specs.RunThenDecide.{FollowGives, followed_of}
-use Rattle.coordination.specs.Parts.{HasMarkRoom, IsPartHere, IsPartOf}
+use Rattle.coordination.specs.Parts.{HasRoom, IsPartHere, IsPartOf}
 use Rattle.coordination.specs.Rule.{AddsOwn}
 use Rattle.coordination.specs.Turns.{AskGives, Finishes, HasLeft, Leaves, RunGives, came_of, sight_at}
 use Rattle.coordination.proofs.TakenBooks.{adds_own, same_own}
@@ -54,7 +54,7 @@ module _ {E : Type 0} (kind : Kind) (makes : Making) (fails retries : Cause) (w 
   run_own r ran = adds_own kind makes fails retries r (sight_at w old) new graph ran
 
   -- the worker's part has followed, so that the book can be changed again
-  pub part_again : (r : Result Disposition E) (part part' : WorkerPart) → IsPartHere w old part → Ran kind makes fails retries w old new r → IsPartOf new w part' → HasMarkRoom part' → IsPartHere w new part'
+  pub part_again : (r : Result Disposition E) (part part' : WorkerPart) → IsPartHere w old part → Ran kind makes fails retries w old new r → IsPartOf new w part' → HasRoom part' → IsPartHere w new part'
   part_again r part part' p ran kept room = record { known = subst (λ (g : GraphView). w.0 < g.workers) (sym graph) p.known; sound = (run_own r ran).sound p.sound; kept = kept; room = room }
 
 -- what the turn of a transform leaves

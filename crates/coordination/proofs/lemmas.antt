@@ -1,6 +1,7 @@
 pub mod Entries
 pub mod FewMarks
 pub mod Growing
+pub mod LocksOnTheWay
 pub mod Nothing
 pub mod Numbered
 pub mod OnTheWay

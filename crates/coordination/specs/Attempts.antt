@@ -20,7 +20,7 @@ use Rattle.coordination.specs.declared.sleepers.Then.{Then}
 use Rattle.coordination.specs.declared.sleepers.Wakes.{Wakes}
 use Rattle.coordination.specs.Agrees.{Finds, IsSoundBook}
 use Rattle.coordination.specs.Offered.{AnswersWith, Telling, TellsQueued, WaitsWith}
-use Rattle.coordination.specs.Parts.{HasMarkRoom, IsPartOf}
+use Rattle.coordination.specs.Parts.{HasRoom, IsPartOf}
 use Rattle.coordination.specs.Sights.{seeing}
 use Rattle.coordination.specs.SleepAndWake.{EndsHold, begun, has_entered, noted_after, noted_asking, stance_after, stance_asking, woken_if}
 
@@ -45,7 +45,7 @@ pub record HasRun {E : Type 0} (kind : Kind) (makes : Making) (fails retries : C
   pub graph : new.graph ≡ old.graph
   pub ran : Ran kind makes fails retries w old new result.0
   pub kept : IsPartOf new w part
-  pub room : HasMarkRoom part
+  pub room : HasRoom part
   pub ends : EndsHold new w (stance_after sleepers.behind kind result.0) (has_entered result.0) sleepers sleepers' result.1
 
 -- The transform found a sound book that agrees with the worker's sight, and left a sound one, which the worker saw.

@@ -1,5 +1,5 @@
 -- What a pass keeps of a book for its worker, and how it follows the worker's entries.
-use Rattle.std.specs.Prelude.{◌≡◌, ◌+◌, ◌-◌, ◌<◌, ◌≤◌, ℕ, suc, min, true, false, List, [], ◌∷◌, ◌++◌, length, vec_capacity}
+use Rattle.std.specs.Prelude.{◌≡◌, ◌+◌, ◌-◌, ◌<◌, ◌≤◌, ℕ, suc, true, false, List, [], ◌∷◌, ◌++◌, length, vec_capacity}
 use Rattle.std.specs.Prelude.{vec_len, Result, Ok, Err, None}
 use Rattle.std.specs.List.{AllByRecursion}
 use Rattle.resource_lock.specs.Change.{can_all, holding_after, make_all, NamesOnly}
@@ -12,6 +12,7 @@ use Rattle.lock_transforms.specs.Entry.{entry}
 use Rattle.lock_journal.specs.BookView.{BookView}
 use Rattle.lock_journal.specs.LastChanges.{last_changes}
 use Rattle.lock_journal.specs.Ran.{FinishesIn}
+use Rattle.lock_transforms.specs.MostChanges.{locks_gained}
 use Rattle.lock_transforms.specs.Table.{owned}
 use Rattle.lock_transforms.specs.declared.entries.Kind.{Kind}
 use Rattle.lock_transforms.specs.declared.transforms.Disposition.{Disposition}
@@ -37,9 +38,20 @@ pub record IsPartOf (book : BookView) (w : WorkerId) (part : WorkerPart) : Type 
   pub has : Has book.state w part
   pub last : part.last ≡ last_of w book.history
 
--- its list of marks has room for the three that a worker runs at most
-pub record HasMarkRoom (part : WorkerPart) : Type 0 where
+-- how many locks it says that the worker owns or has parked
+abbrev pub lock_count : WorkerPart → ℕ
+lock_count part = vec_len part.locks + vec_len part.parked
+
+-- each of its lists of locks has room for all of them and so many more
+pub record HasLockRoom (more : ℕ) (part : WorkerPart) : Type 0 where
+  pub lock_room : lock_count part + more ≤ vec_capacity part.locks
+  pub park_room : lock_count part + more ≤ vec_capacity part.parked
+
+-- Its lists have room: that of the marks for the three that a worker runs at most, and each list of locks for all that it owns or has parked, so that
+-- these can be parked and taken up.
+pub record HasRoom (part : WorkerPart) : Type 0 where
   pub mark_room : 3 ≤ vec_capacity part.claimed
+  pub locks : HasLockRoom 0 part
 
 -- the same part, but for the room in its lists of locks
 pub record IsSamePart (old new : WorkerPart) : Type 0 where
@@ -48,17 +60,12 @@ pub record IsSamePart (old new : WorkerPart) : Type 0 where
   pub locks : new.locks.items ≡ old.locks.items
   pub claimed : new.claimed ≡ old.claimed
 
--- its lists of locks have room for so many more, or for all where there are fewer
-pub record HasLockRoom (locks more : ℕ) (part : WorkerPart) : Type 0 where
-  pub lock_room : vec_len part.locks + min more (locks - vec_len part.locks) ≤ vec_capacity part.locks
-  pub park_room : vec_len part.parked + min more (locks - vec_len part.parked) ≤ vec_capacity part.parked
-
 -- The part is that of a worker of a sound book.
 pub record IsPartHere (w : WorkerId) (book : BookView) (part : WorkerPart) : Type 0 where
   pub known : w.0 < book.graph.workers
   pub sound : IsSoundBook book
   pub kept : IsPartOf book w part
-  pub room : HasMarkRoom part
+  pub room : HasRoom part
 
 -- the part of a worker that has nothing
 pub record IsFreshPart (last : ℕ) (part : WorkerPart) : Type 0 where
@@ -68,12 +75,12 @@ pub record IsFreshPart (last : ℕ) (part : WorkerPart) : Type 0 where
   pub claimed : part.claimed.items ≡ []
   pub parked : part.parked.items ≡ []
   pub number : part.last ≡ last
-  pub has_room : HasMarkRoom part
+  pub has_room : HasRoom part
 
 -- these are the parts of the workers from w on
 abbrev pub ArePartsFrom : ℕ → BookView → List WorkerPart → Type 0
 ArePartsFrom w book [] = Unit {0}
-ArePartsFrom w book (part ∷ parts) = IsPartOf book (record { 0 = w }) part × HasMarkRoom part
+ArePartsFrom w book (part ∷ parts) = IsPartOf book (record { 0 = w }) part × HasRoom part
     × ArePartsFrom (suc w) book parts
 
 -- its lists have room for a change of the worker
@@ -98,8 +105,16 @@ pub record IsAfter (w : WorkerId) (c : Change) (old new : WorkerPart) : Type 0 w
   pub mark_room : vec_capacity new.claimed ≡ vec_capacity old.claimed
   pub park_room : vec_capacity new.parked ≡ vec_capacity old.parked
 
--- The part is that of the worker in a good state, in which it can make these changes in turn, and has room for as many. No state on the
--- way has more of its marks than it has room for.
+-- how many locks a worker owns or has parked
+abbrev pub lock_total : StateView → WorkerId → ℕ
+lock_total s w = length (owned s w) + length (holding_of s w).parked
+
+-- each of its lists of locks has room for so many
+abbrev pub FitsLocks : ℕ → WorkerPart → Type 0
+FitsLocks n part = (n ≤ vec_capacity part.locks) × (n ≤ vec_capacity part.parked)
+
+-- The part is that of the worker in a good state, in which it can make these changes in turn. No state on the way has more of its marks and of its locks
+-- than the part has room for.
 pub record LeadsOn (s : StateView) (w : WorkerId) (part : WorkerPart) (changes : List Change) : Type 0 where
   pub good : Good s
   pub worker : IsWorkerOf s w
@@ -107,27 +122,27 @@ pub record LeadsOn (s : StateView) (w : WorkerId) (part : WorkerPart) (changes :
   pub possible : can_all s w changes ≡ true
   pub has : Has s w part
   pub few : (front behind : List Change) → changes ≡ front ++ behind → length (claimed (make_all s w front) w) ≤ 3
-  pub room : HasMarkRoom part
-  pub lists : HasLockRoom (length s.owners) (length changes) part
+  pub mark_room : 3 ≤ vec_capacity part.claimed
+  pub lists : (front behind : List Change) → changes ≡ front ++ behind → FitsLocks (lock_total (make_all s w front) w) part
 
 -- a book after a transform of the worker
-abbrev pub Grew : {E : Type 0} → WorkerId → BookView → BookView → Result Disposition E → Type 0
-Grew w old new (Ok Finished) = (kind : Kind) × (changes : List Change) × FinishesIn (λ g v s cs. Unit {0}) old new w kind changes
-Grew w old new (Ok Failed) = (kind : Kind) × (new.history ≡ old.history ++ entry w kind None ∷ []) × (new.state ≡ old.state)
-Grew w old new (Ok Retry) = (new.history ≡ old.history) × (new.state ≡ old.state)
-Grew w old new (Err e) = (new.history ≡ old.history) × (new.state ≡ old.state)
+abbrev pub Grew : {E : Type 0} → WorkerId → Kind → BookView → BookView → Result Disposition E → Type 0
+Grew w kind old new (Ok Finished) = (changes : List Change) × FinishesIn (λ g v s cs. Unit {0}) old new w kind changes
+Grew w kind old new (Ok Failed) = (new.history ≡ old.history ++ entry w kind None ∷ []) × (new.state ≡ old.state)
+Grew w kind old new (Ok Retry) = (new.history ≡ old.history) × (new.state ≡ old.state)
+Grew w kind old new (Err e) = (new.history ≡ old.history) × (new.state ≡ old.state)
 
--- where a transform finished, the part has room for as many changes as that made
-abbrev pub HasRoomIfFinished : {E : Type 0} → BookView → BookView → Result Disposition E → WorkerPart → Type 0
-HasRoomIfFinished old new ran part = ran ≡ Ok Finished → HasLockRoom old.graph.locks (length (last_changes new.history)) part
+-- where a transform of the kind finished, the part has room for as many locks more as an entry of so many changes can leave its worker
+abbrev pub HasRoomIfFinished : {E : Type 0} → Kind → BookView → Result Disposition E → WorkerPart → Type 0
+HasRoomIfFinished kind new ran part = ran ≡ Ok Finished → HasLockRoom (locks_gained kind (length (last_changes new.history))) part
 
 -- The part is that of a sound book, on which a transform of the worker was run, and has room for the changes that it made.
-pub record Follows {E : Type 0} (w : WorkerId) (old new : BookView) (ran : Result Disposition E) (part : WorkerPart) : Type 0 where
+pub record Follows {E : Type 0} (w : WorkerId) (kind : Kind) (old new : BookView) (ran : Result Disposition E) (part : WorkerPart) : Type 0 where
   pub sound : IsSoundBook old
   pub graph : new.graph ≡ old.graph
-  pub grew : Grew w old new ran
+  pub grew : Grew w kind old new ran
   pub given : new.given ≡ old.given
   pub within : old.given ≤ length old.history
   pub kept : IsPartOf old w part
-  pub room : HasMarkRoom part
-  pub lists : HasRoomIfFinished old new ran part
+  pub room : HasRoom part
+  pub lists : HasRoomIfFinished kind new ran part

@@ -5,7 +5,7 @@ use Rattle.atomic_table.specs.Seated.{TableId}
 use Rattle.resource_lock.specs.declared.ids.WorkerId.{WorkerId}
 use Rattle.lock_journal.specs.BookView.{BookView}
 use Rattle.coordination.specs.declared.rule.Sight.{Sight}
-use Rattle.coordination.specs.Parts.{HasMarkRoom, IsPartOf}
+use Rattle.coordination.specs.Parts.{HasRoom, IsPartOf}
 use Rattle.coordination.specs.declared.parts.Notes.{Notes}
 use Rattle.coordination.specs.declared.rule.SeatView.{SeatView}
 use Rattle.history_views.specs.ShownBooks.{IsTold}
@@ -36,7 +36,7 @@ pub record IsPass (worker : WorkerId) (notes : Notes) (me : M) : Type 0 where
   pub lone : me ≡ (one me.0.ledger (sight_of me.0), [])
   pub worker_is : worker ≡ (sight_of me.0).worker
   pub part_is : IsPartOf (sight_of me.0).seen (sight_of me.0).worker notes.part
-  pub room : HasMarkRoom notes.part
+  pub room : HasRoom notes.part
   pub told : IsTold me.0.ledger notes.reach (sight_of me.0).seen
 
 -- which one it is, and the book that it was opened with

@@ -14,7 +14,7 @@ use Rattle.coordination.specs.declared.turns.Came.{Came}
 use Rattle.coordination.specs.declared.turns.Came.TheVariants as came
 use Rattle.coordination.specs.Agrees.{Agrees, Finds, IsSoundBook}
 use Rattle.coordination.specs.Attempts.{Cause, Making}
-use Rattle.coordination.specs.Parts.{HasMarkRoom, IsPartOf}
+use Rattle.coordination.specs.Parts.{HasRoom, IsPartOf}
 use Rattle.coordination.specs.Rule.{AddsOwn}
 use Rattle.coordination.specs.Sights.{seeing}
 
@@ -35,7 +35,7 @@ pub record HasLeft {C : Type 0} (gives : WorkerId → BookView → BookView → 
     (w : WorkerId) (old new : BookView) (part : WorkerPart) (r : Came C) : Type 0 where
   pub own : AddsOwn (sight_at w old) new
   pub kept : IsPartOf new w part
-  pub room : HasMarkRoom part
+  pub room : HasRoom part
   pub leaves : Leaves gives waits runs w old new r
 
 -- A turn found a sound book that agrees with its worker's sight, and left a sound one, which the worker saw.

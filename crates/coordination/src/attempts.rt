@@ -38,6 +38,7 @@ impl<K: Runner> Slot<K> {
         ensures ends { IfSome result (λ r. EndsHold pass.new.sight.seen pass.new.sight.worker
             (stance_after sleepers.old.behind (T.kind_of transform.now) r.0) (has_entered r.0) sleepers.old sleepers.new r.1) }
     {
+        pass.make_room(transform.more_locks());
         let mut seat = seat_of(&mut pass.badge);
         let ended = self.attempt_at(&mut seat, pass.worker, &mut pass.notes, transform, sleepers);
         pass.badge = seat.into_badge();

@@ -1,5 +1,5 @@
 //! Decisions: questions whose answers are carried out in the hold of the state lock in which they are given.
-ghost use Rattle.std.specs.Prelude.{◌≡◌, Option};
+ghost use Rattle.std.specs.Prelude.{◌≡◌, ◌≤◌, ℕ, IfSome, Option};
 
 use crate::questions::Question;
 use lock_transforms::Transform;
@@ -13,9 +13,17 @@ pub trait Decision: Question {
     /// The step of an answer, or none.
     ghost step_of: { Self → Self.Answer → Option Self.Step };
 
+    /// At most how many locks more its worker owns or has parked behind a step.
+    ghost more_locks: { Self → ℕ };
+
+    /// At most how many locks more its worker owns or has parked behind a step: where it starts a task or takes locks by name. Else it is 0.
+    fn more_locks(&self) -> usize
+        ensures { result ≡ more_locks self.now };
+
     /// The step of an answer, or none.
     fn step(&self, answer: &Self::Answer) -> Option<Self::Step>
-        ensures { result ≡ step_of self.now answer.now };
+        ensures step { result ≡ step_of self.now answer.now }
+        ensures few_locks { IfSome result (λ step. Self.Step.more_locks step ≤ more_locks self.now) };
 }
 
 /// An answer, and what came of its step.

@@ -1,12 +1,13 @@
 //! What a pass keeps of the book for its worker.
-ghost use Rattle.std.specs.Prelude.{◌≡◌, ◌<◌, ◌≤◌, ◌+◌, ◌-◌, [], IfOk, OnOk, length, min, true, vec_capacity, vec_len};
+ghost use Rattle.std.specs.Prelude.{◌≡◌, ◌<◌, [], IfOk, OnOk, length, true, vec_capacity};
 ghost use Rattle.resource_lock.specs.Change.{make_all};
 ghost use Rattle.resource_lock.specs.StateView.{StateView, runs_by};
+ghost use Rattle.lock_transforms.specs.declared.entries.Kind.{Kind};
 ghost use Rattle.lock_journal.specs.BookView.{BookView};
 ghost use Rattle.lock_journal.specs.Changes.{changes_left};
 ghost use Rattle.lock_journal.specs.OwnChanges.{mark_before, with_if, without_if};
 ghost use Rattle.coordination.specs.SortedLists.{IsRising};
-ghost use Rattle.coordination.specs.Parts.{Follows, HasLockRoom, HasMarkRoom, HasRoomFor, IsAfter, IsFreshPart, IsPartOf, IsSamePart, LeadsOn, StandsInOrder};
+ghost use Rattle.coordination.specs.Parts.{Follows, HasLockRoom, HasRoom, HasRoomFor, IsAfter, IsFreshPart, IsPartOf, IsSamePart, LeadsOn, StandsInOrder};
 
 use crate::sorted_lists::{add, remove};
 use history_views::Reach;
@@ -61,23 +62,41 @@ impl WorkerPart {
         })
     }
 
-    /// Makes room for so many changes of the worker where there are so many locks. It fails for want of memory alone. The part says what
-    /// it said, also then.
-    #[inline]
-    pub fn reserve(&mut self, locks: u32, changes: u64) -> Result<(), AllocError>
+    /// Makes room for so many locks more, owned or parked. It fails for want of memory alone. The part says what it said, also then.
+    pub fn reserve(&mut self, more: usize) -> Result<(), AllocError>
+        requires { HasRoom self.old }
         ensures same { IsSamePart self.old self.new }
-        ensures room { OnOk result (HasLockRoom locks changes self.new) }
+        ensures kept { HasRoom self.new }
+        ensures room { OnOk result (HasLockRoom more self.new) }
     {
-        make_room(&mut self.locks, locks, changes)?;
-        make_room(&mut self.parked, locks, changes)
+        if self.has_room_for(more) {
+            return Ok(());
+        }
+        let owned = self.locks.len();
+        self.locks
+            .try_reserve(self.parked.len().saturating_add(more))?;
+        self.parked.try_reserve(owned.saturating_add(more))
+    }
+
+    /// Whether there is room for so many locks more, owned or parked.
+    #[inline]
+    pub fn has_room_for(&self, more: usize) -> bool
+        requires { HasRoom self.now }
+        ensures { result ≡ true → HasLockRoom more self.now }
+    {
+        if more == 0 {
+            return true;
+        }
+        let count = self.locks.len() + self.parked.len();
+        more <= self.locks.capacity() - count && more <= self.parked.capacity() - count
     }
 
     /// Follows the book, on which a transform of the worker was run, with what came of that. It takes no memory.
     #[inline]
     pub fn follow(&mut self, worker: WorkerId, book: &Book, ran: &Result<Disposition, AllocError>)
-        requires { (before : BookView) × Follows worker before book.now ran.now self.old }
+        requires { (before : BookView) × (kind : Kind) × Follows worker kind before book.now ran.now self.old }
         ensures part { IsPartOf book.now worker self.new }
-        ensures room { HasMarkRoom self.new }
+        ensures room { HasRoom self.new }
     {
         match ran {
             Ok(Disposition::Finished) => {
@@ -121,20 +140,6 @@ impl WorkerPart {
             Change::Leave => self.blocked = false,
         }
     }
-}
-
-// Makes room for so many more of so many locks, or for all that aren't in the list.
-#[inline]
-fn make_room(list: &mut Vec<LockId>, locks: u32, more: u64) -> Result<(), AllocError>
-    ensures items { list.new.items ≡ list.old.items }
-    ensures room { OnOk result (vec_len list.new + min more (locks - vec_len list.new) ≤ vec_capacity list.new) }
-{
-    let left = u64::from(locks).saturating_sub(list.len() as u64);
-    let wanted = more.min(left) as usize;
-    if wanted <= list.capacity() - list.len() {
-        return Ok(());
-    }
-    list.try_reserve(wanted)
 }
 
 // The marks that run by a worker, after it has moved one.

@@ -63,6 +63,17 @@ impl Pass {
         self.behind = Then::Works;
     }
 
+    // Makes room for so many locks more, owned or parked, before the state lock is taken. Where there is no memory for it, the transform that
+    // needs it isn't run.
+    #[inline]
+    pub(crate) fn make_room(&mut self, more: usize)
+        ensures { self.new ≡ self.old }
+    {
+        if more > 0 {
+            let _ = self.notes.part.reserve(more);
+        }
+    }
+
     /// The worker.
     pub fn worker(&self) -> WorkerId
         ensures { result ≡ self.now.sight.worker }

@@ -132,6 +132,7 @@ impl Slot<Planned> {
             pass.old.sight pass.new.sight r.0) }
         ensures ends { IfSome result (λ r. HasEndedTryOf pass.new.sight r.1 r.2) }
     {
+        pass.make_room(turn.more_locks());
         let mut seat = seat_of(&mut pass.badge);
         let caller = Caller {
             worker: pass.worker,

@@ -113,6 +113,7 @@ impl<O: Offers, K: Runner> Coordination<O, K> {
         ensures stopped { (by : WorkerId) → result ≡ Err (Halt.Stopped by)
             → AskedInVain (T.waits_on turn.now (AreTold O.tells)) by pass.old.sight pass.new.sight }
     {
+        pass.make_room(turn.more_locks());
         let (place, apart) = self.condvars.place(turn.awaits(), pass.worker);
         let mut woken = false;
         for _ in rt.forever() {

@@ -6,7 +6,7 @@ ghost use Rattle.coordination.specs.SleepAndWake.{EndsHold, stance_asking};
 ghost use Rattle.history_views.specs.ShownBooks.{IsTold};
 ghost use Rattle.coordination.specs.Kept.{kept};
 ghost use Rattle.coordination.specs.Offered.{AnswersWith, WaitsWith};
-ghost use Rattle.coordination.specs.Parts.{HasRoomIfFinished, IsPartHere, IsSamePart};
+ghost use Rattle.coordination.specs.Parts.{HasRoom, HasRoomIfFinished, IsPartHere};
 ghost use Rattle.coordination.specs.Rule.{AddsOwn, Hears, Taken, carried_book};
 ghost use Rattle.coordination.specs.Sights.{holding, one, seeing, sight_of, stopping};
 ghost use Rattle.coordination.specs.Stops.{KnowsNoStop};
@@ -256,7 +256,7 @@ pub(crate) fn run_on<K: Runner, T: Transform>(
     ensures run { HasRun (T.kind_of transform.now) (T.makes transform.now) (T.fails_on transform.now)
         (T.retries_on transform.now) worker (K.book_of keeper.old) (K.book_of keeper.new) notes.new.part sleepers.old sleepers.new result }
 {
-    let ran = run_with_room(keeper, worker, &mut notes.part, transform);
+    let ran = run_with_room(keeper, worker, &notes.part, transform);
     let book = keeper.book();
     notes.part.follow(worker, book, &ran);
     let wakes = sleepers.end_transform(book, worker, transform.kind(), &ran);
@@ -264,30 +264,30 @@ pub(crate) fn run_on<K: Runner, T: Transform>(
     (ran, wakes)
 }
 
-// Makes room in the worker's part for what the transform changes, and runs it on the book. Where there is no memory for the room the
-// transform wasn't run.
+// Runs the transform on the book, where the worker's part has room for the locks that it may gain: its caller made that before it took the
+// state lock, unless there was no memory for it.
 #[inline]
 fn run_with_room<K: Runner, T: Transform>(
     keeper: &mut K,
     worker: WorkerId,
-    part: &mut WorkerPart,
+    part: &WorkerPart,
     transform: &T,
 ) -> Result<Disposition, AllocError>
-    requires { worker.0 < (K.book_of keeper.old).graph.workers }
+    requires known { worker.0 < (K.book_of keeper.old).graph.workers }
+    requires room { HasRoom part.now }
     ensures ledger { K.ledger_of keeper.new ≡ K.ledger_of keeper.old }
     ensures graph { (K.book_of keeper.new).graph ≡ (K.book_of keeper.old).graph }
     ensures given { (K.book_of keeper.new).given ≡ (K.book_of keeper.old).given }
     ensures within { (K.book_of keeper.old).given ≤ length (K.book_of keeper.old).history }
     ensures ran { Ran (T.kind_of transform.now) (T.makes transform.now) (T.fails_on transform.now) (T.retries_on transform.now) worker
         (K.book_of keeper.old) (K.book_of keeper.new) result }
-    ensures same { IsSamePart part.old part.new }
-    ensures room { HasRoomIfFinished (K.book_of keeper.old) (K.book_of keeper.new) result part.new }
+    ensures room { HasRoomIfFinished (T.kind_of transform.now) (K.book_of keeper.new) result part.now }
 {
     // Of the length, that no more entries were given away than there are.
-    let book = keeper.book();
-    let _ = book.len();
-    let most = transform.most_changes(book.graph(), book.state(), worker);
-    part.reserve(book.graph().locks(), most)?;
+    let _ = keeper.book().len();
+    if !part.has_room_for(transform.more_locks()) {
+        return Err(AllocError);
+    }
     keeper.run(worker, &part.locks, transform)
 }
 

@@ -60,6 +60,9 @@ pub trait Turn {
     /// Where its worker sleeps until it is to be had again.
     fn awaits(&self) -> Awaits;
 
+    /// At most how many locks more its worker owns or has parked behind it. There is room for them before the worker takes the state lock.
+    fn more_locks(&self) -> usize;
+
     /// Has the turn in a hold of the state lock, has the worker's part follow the book, and ends the hold. It tells whom that wakes, and
     /// whom the end of what comes behind a transform. Where the turn is to be had again, a worker that sleeps then is noted as asleep.
     fn act<O: Offers, K: Runner>(
@@ -100,6 +103,11 @@ impl<T: Transform> Turn for Run<'_, T> {
     }
 
     #[inline]
+    fn more_locks(&self) -> usize {
+        self.transform.more_locks()
+    }
+
+    #[inline]
     fn act<O: Offers, K: Runner>(
         &self,
         guarded: &mut Guarded<O, K>,
@@ -128,6 +136,11 @@ impl<Q: Question> Turn for Ask<'_, Q> {
 
     fn awaits(&self) -> Awaits {
         awaits_answer(self.question)
+    }
+
+    #[inline]
+    fn more_locks(&self) -> usize {
+        0
     }
 
     #[inline]
@@ -169,6 +182,11 @@ where
     }
 
     #[inline]
+    fn more_locks(&self) -> usize {
+        self.decision.more_locks()
+    }
+
+    #[inline]
     fn act<O: Offers, K: Runner>(
         &self,
         guarded: &mut Guarded<O, K>,
@@ -203,6 +221,12 @@ where
 
     fn awaits(&self) -> Awaits {
         Awaits::LettingEntry
+    }
+
+    #[inline]
+    fn more_locks(&self) -> usize {
+        let by_step = self.decision.more_locks();
+        self.transform.more_locks().saturating_add(by_step)
     }
 
     #[inline]

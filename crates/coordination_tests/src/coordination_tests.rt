@@ -35,6 +35,8 @@ impl Transform for Await {
 
     ghost most = { λ _ _ _ _. 3 };
 
+    ghost more_locks = { λ _. 1 };
+
     ghost makes = { λ t. IsFixedList (kinds.Start t.start.task) };
 
     ghost fails_on = { λ _ _ _ _. ⊥ };
@@ -47,6 +49,10 @@ impl Transform for Await {
 
     fn most_changes(&self, graph: &Graph, state: &State, worker: WorkerId) -> u64 {
         self.start.most_changes(graph, state, worker)
+    }
+
+    fn more_locks(&self) -> usize {
+        1
     }
 
     fn apply(&self, work: &mut Tentative, own: &[LockId]) -> Disposition {
@@ -71,6 +77,8 @@ impl Transform for TryStart {
 
     ghost most = { λ _ _ _ _. 3 };
 
+    ghost more_locks = { λ _. 1 };
+
     ghost makes = { λ t. IsFixedList (kinds.Start t.wait.start.task) };
 
     ghost fails_on = { λ t g w s. (t.wait.start.task < length g.tasks) × (by : WorkerId) × (by ≢ w) × (owner_of s t.lock ≡ Some by) };
@@ -84,6 +92,10 @@ impl Transform for TryStart {
 
     fn most_changes(&self, graph: &Graph, state: &State, worker: WorkerId) -> u64 {
         self.wait.most_changes(graph, state, worker)
+    }
+
+    fn more_locks(&self) -> usize {
+        1
     }
 
     fn apply(&self, work: &mut Tentative, own: &[LockId]) -> Disposition {

@@ -115,6 +115,8 @@ impl Transform for FailAtOnce {
 
     ghost most = { λ _ _ _ _. 0 };
 
+    ghost more_locks = { λ _. 0 };
+
     ghost makes = { λ _ _ _ _ _. ⊥ };
 
     ghost fails_on = { λ _ _ _ _. Unit {0} };
@@ -126,6 +128,10 @@ impl Transform for FailAtOnce {
     }
 
     fn most_changes(&self, _graph: &Graph, _state: &State, _worker: WorkerId) -> u64 {
+        0
+    }
+
+    fn more_locks(&self) -> usize {
         0
     }
 
@@ -141,6 +147,13 @@ impl Decision for EntriesFrom {
     type Step = FailAtOnce;
 
     ghost step_of = { λ _ _. Some (record {}) };
+
+    ghost more_locks = { λ _. 0 };
+
+    #[inline]
+    fn more_locks(&self) -> usize {
+        0
+    }
 
     fn step(&self, _entries: &u64) -> Option<FailAtOnce> {
         Some(FailAtOnce)

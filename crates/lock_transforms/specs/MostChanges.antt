@@ -27,6 +27,13 @@ most_of g w s (End t) = 3 + changes_below g t
 most_of g w s Acquire = 1 + g.locks
 most_of g w s HandBack = 1 + length (owned s w)
 
+-- At most how many locks more a worker owns or has parked after an entry of the kind that has so many changes. Of the other kinds each that parks a lock
+-- gives it back before, and each that takes a lock had it parked.
+abbrev pub locks_gained : Kind → ℕ → ℕ
+locks_gained (Start t) changes = 1
+locks_gained Acquire changes = changes
+locks_gained _ changes = 0
+
 -- There is room for any entry of the graph: for those that move a mark or two, for all locks given back and parked, and for the end of a task that skips all
 -- its actions.
 pub record IsRoomFor (g : GraphView) (room : ℕ) : Type 0 where

@@ -6,6 +6,7 @@ ghost use Rattle.resource_lock.specs.GraphView.{GraphView};
 ghost use Rattle.resource_lock.specs.declared.changes.Change.{Change};
 ghost use Rattle.resource_lock.specs.declared.ids.WorkerId.{WorkerId};
 ghost use Rattle.lock_transforms.specs.declared.entries.Kind.{Kind};
+ghost use Rattle.lock_transforms.specs.MostChanges.{locks_gained};
 ghost use Rattle.lock_transforms.specs.TentativeView.{Worked};
 ghost use Rattle.lock_transforms.specs.Entry.{entry};
 ghost use Rattle.lock_transforms.specs.Allowed.{Allowed, IsKindOf};
@@ -34,6 +35,9 @@ pub trait Transform {
     /// At most how many changes it makes: by the graph, the worker and the state before.
     ghost most: { Self → GraphView → WorkerId → StateView → ℕ };
 
+    /// At most how many locks more its worker owns or has parked behind it than before, whatever the graph and the state are.
+    ghost more_locks: { Self → ℕ };
+
     /// Which changes it makes, where it finishes: a fact of the graph, the worker, the state before
     /// and their list.
     ghost makes: { Self → GraphView → WorkerId → StateView → List Change → Type 0 };
@@ -53,6 +57,13 @@ pub trait Transform {
         requires belongs { BelongsTo graph.now state.now }
         requires worker_in_range { worker.0 < graph.now.workers }
         ensures { result ≡ most self.now graph.now worker state.now };
+
+    /// At most how many locks more its worker owns or has parked behind it than before, whatever the graph and the state are: where it starts a
+    /// task or takes locks by name. Else it is 0. So its caller can make room for them before it takes the state lock.
+    fn more_locks(&self) -> usize
+        ensures value { result ≡ more_locks self.now }
+        ensures enough { (graph : GraphView) (worker : WorkerId) (state : StateView)
+            → locks_gained (kind_of self.now) (most self.now graph worker state) ≤ more_locks self.now };
 
     /// Makes its changes. Those of a transform that doesn't finish are taken back by its caller.
     ///

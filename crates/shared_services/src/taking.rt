@@ -35,6 +35,8 @@ impl Transform for TakeUses<'_> {
 
     ghost most = { λ t g w s. length t.asked.now + 1 };
 
+    ghost more_locks = { λ t. length t.asked.now + 1 };
+
     ghost makes = { λ t. TakesUses t.table.now t.asked.now };
 
     ghost fails_on = { λ t g w s. (t.shortage ≡ shortages.Fails) × IsShort t.table.now t.asked.now s };
@@ -47,6 +49,10 @@ impl Transform for TakeUses<'_> {
 
     fn most_changes(&self, _graph: &Graph, _state: &State, _worker: WorkerId) -> u64 {
         self.asked.len() as u64 + 1
+    }
+
+    fn more_locks(&self) -> usize {
+        self.asked.len() + 1
     }
 
     fn apply(&self, work: &mut Tentative, own: &[LockId]) -> Disposition {

@@ -14,7 +14,7 @@ use Rattle.lock_journal.specs.Own.{action_at, claimed, marks_in, places_from, ta
 use Rattle.lock_journal.proofs.lemmas.Others.{running_of}
 use Rattle.resource_lock.specs.AtRest.{IsAtRest}
 use Rattle.coordination.specs.WorkerEntries.{last_of}
-use Rattle.coordination.specs.Parts.{ArePartsFrom, HasMarkRoom, IsFreshPart, IsPartOf}
+use Rattle.coordination.specs.Parts.{ArePartsFrom, HasRoom, IsFreshPart, IsPartOf}
 use Rattle.coordination.specs.declared.parts.WorkerPart.{WorkerPart}
 
 -- no place where none passes, and the other way round
@@ -106,7 +106,7 @@ fresh_part book w last part rest r is = record {
 }
 
 -- one part more behind those of the workers from w on
-pub parts_push : (w : ℕ) (book : BookView) (parts : List WorkerPart) (part : WorkerPart) → IsPartOf book (record { 0 = w + length parts }) part → HasMarkRoom part → ArePartsFrom w book parts
+pub parts_push : (w : ℕ) (book : BookView) (parts : List WorkerPart) (part : WorkerPart) → IsPartOf book (record { 0 = w + length parts }) part → HasRoom part → ArePartsFrom w book parts
     → ArePartsFrom w book (parts ++ part ∷ [])
 parts_push w book [] part is room before = (subst (λ (n : ℕ). IsPartOf book (record { 0 = n }) part) (omega arith) is, room, tt)
 parts_push w book (p ∷ ps) part is room before = (before.0, before.1, parts_push (suc w) book ps part (subst (λ (n : ℕ). IsPartOf book (record { 0 = n }) part) (omega arith) is) room before.2)

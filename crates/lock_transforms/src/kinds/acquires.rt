@@ -41,6 +41,8 @@ impl Transform for Acquire<'_> {
 
     ghost most = { λ t g w s. length t.locks.now + 1 };
 
+    ghost more_locks = { λ t. length t.locks.now + 1 };
+
     ghost makes = { λ t g w s cs. cs ≡ acquired s w t.locks.now };
 
     ghost fails_on = { λ t g w s. (t.shortage ≡ shortages.Fails) × (can_take_all s w t.locks.now ≡ false) };
@@ -53,6 +55,10 @@ impl Transform for Acquire<'_> {
 
     fn most_changes(&self, _graph: &Graph, _state: &State, _worker: WorkerId) -> u64 {
         self.locks.len() as u64 + 1
+    }
+
+    fn more_locks(&self) -> usize {
+        self.locks.len() + 1
     }
 
     fn apply(&self, work: &mut Tentative, _own: &[LockId]) -> Disposition {

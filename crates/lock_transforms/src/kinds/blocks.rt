@@ -44,6 +44,8 @@ impl Transform for Block {
 
     ghost most = { λ t g w s. most_of g w s (kinds.Block t.unit) };
 
+    ghost more_locks = { λ _. 0 };
+
     ghost makes = { λ t. IsFixedList (kinds.Block t.unit) };
 
     ghost fails_on = { λ t g w s. ⊥ };
@@ -56,6 +58,10 @@ impl Transform for Block {
 
     fn most_changes(&self, graph: &Graph, state: &State, worker: WorkerId) -> u64 {
         3 + 2 * owned_count(graph, state, worker)
+    }
+
+    fn more_locks(&self) -> usize {
+        0
     }
 
     fn apply(&self, work: &mut Tentative, own: &[LockId]) -> Disposition {

@@ -31,6 +31,8 @@ impl Transform for Claim {
 
     ghost most = { λ t g w s. most_of g w s (kinds.Claim t.unit) };
 
+    ghost more_locks = { λ _. 0 };
+
     ghost makes = { λ t. IsFixedList (kinds.Claim t.unit) };
 
     ghost fails_on = { λ t g w s. mark_of s (ids.Unit t.unit) ≢ marks.Queued };
@@ -44,6 +46,10 @@ impl Transform for Claim {
 
     fn most_changes(&self, _graph: &Graph, _state: &State, _worker: WorkerId) -> u64 {
         2
+    }
+
+    fn more_locks(&self) -> usize {
+        0
     }
 
     fn apply(&self, work: &mut Tentative, own: &[LockId]) -> Disposition {

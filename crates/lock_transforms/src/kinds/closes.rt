@@ -30,6 +30,8 @@ impl Transform for Close {
 
     ghost most = { λ t g w s. most_of g w s (kinds.Close t.closed) };
 
+    ghost more_locks = { λ _. 0 };
+
     ghost makes = { λ t. IsFixedList (kinds.Close t.closed) };
 
     ghost fails_on = { λ t g w s. ⊥ };
@@ -42,6 +44,10 @@ impl Transform for Close {
 
     fn most_changes(&self, _graph: &Graph, _state: &State, _worker: WorkerId) -> u64 {
         2
+    }
+
+    fn more_locks(&self) -> usize {
+        0
     }
 
     fn apply(&self, work: &mut Tentative, own: &[LockId]) -> Disposition {

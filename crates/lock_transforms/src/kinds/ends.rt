@@ -46,6 +46,8 @@ impl Transform for End {
 
     ghost most = { λ t g w s. most_of g w s (kinds.End t.task) };
 
+    ghost more_locks = { λ _. 0 };
+
     ghost makes = { λ t. IsFixedList (kinds.End t.task) };
 
     ghost fails_on = { λ t g w s. ⊥ };
@@ -58,6 +60,10 @@ impl Transform for End {
 
     fn most_changes(&self, graph: &Graph, _state: &State, _worker: WorkerId) -> u64 {
         3 + changes_below(graph, self.task)
+    }
+
+    fn more_locks(&self) -> usize {
+        0
     }
 
     fn apply(&self, work: &mut Tentative, own: &[LockId]) -> Disposition {

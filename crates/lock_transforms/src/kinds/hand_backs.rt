@@ -26,6 +26,8 @@ impl Transform for HandBack {
 
     ghost most = { λ _ g w s. most_of g w s kinds.HandBack };
 
+    ghost more_locks = { λ _. 0 };
+
     ghost makes = { λ _. IsFixedList kinds.HandBack };
 
     ghost fails_on = { λ t g w s. ⊥ };
@@ -38,6 +40,10 @@ impl Transform for HandBack {
 
     fn most_changes(&self, graph: &Graph, state: &State, worker: WorkerId) -> u64 {
         1 + owned_count(graph, state, worker)
+    }
+
+    fn more_locks(&self) -> usize {
+        0
     }
 
     fn apply(&self, work: &mut Tentative, own: &[LockId]) -> Disposition {

@@ -34,6 +34,8 @@ impl Transform for Park {
 
     ghost most = { λ t g w s. most_of g w s (kinds.Park t.action) };
 
+    ghost more_locks = { λ _. 0 };
+
     ghost makes = { λ t. IsFixedList (kinds.Park t.action) };
 
     ghost fails_on = { λ t g w s. ⊥ };
@@ -46,6 +48,10 @@ impl Transform for Park {
 
     fn most_changes(&self, _graph: &Graph, _state: &State, _worker: WorkerId) -> u64 {
         4
+    }
+
+    fn more_locks(&self) -> usize {
+        0
     }
 
     fn apply(&self, work: &mut Tentative, own: &[LockId]) -> Disposition {

@@ -36,6 +36,8 @@ impl Transform for Resume {
 
     ghost most = { λ t g w s. most_of g w s (kinds.Resume t.action) };
 
+    ghost more_locks = { λ _. 0 };
+
     ghost makes = { λ t. IsFixedList (kinds.Resume t.action) };
 
     ghost fails_on = { λ t g w s. ⊥ };
@@ -48,6 +50,10 @@ impl Transform for Resume {
 
     fn most_changes(&self, _graph: &Graph, _state: &State, _worker: WorkerId) -> u64 {
         4
+    }
+
+    fn more_locks(&self) -> usize {
+        0
     }
 
     fn apply(&self, work: &mut Tentative, own: &[LockId]) -> Disposition {

@@ -31,6 +31,8 @@ impl Transform for Skip {
 
     ghost most = { λ t g w s. most_of g w s (kinds.Skip t.task) };
 
+    ghost more_locks = { λ _. 0 };
+
     ghost makes = { λ t. IsFixedList (kinds.Skip t.task) };
 
     ghost fails_on = { λ t g w s. is_enabled g s w (kinds.Skip t.task) ≡ false };
@@ -43,6 +45,10 @@ impl Transform for Skip {
 
     fn most_changes(&self, graph: &Graph, _state: &State, _worker: WorkerId) -> u64 {
         1 + changes_below(graph, self.task)
+    }
+
+    fn more_locks(&self) -> usize {
+        0
     }
 
     fn apply(&self, work: &mut Tentative, own: &[LockId]) -> Disposition {

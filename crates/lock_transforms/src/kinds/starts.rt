@@ -29,6 +29,8 @@ impl Transform for Start {
 
     ghost most = { λ t g w s. most_of g w s (kinds.Start t.task) };
 
+    ghost more_locks = { λ _. 1 };
+
     ghost makes = { λ t. IsFixedList (kinds.Start t.task) };
 
     ghost fails_on = { λ t g w s. is_enabled g s w (kinds.Start t.task) ≡ false };
@@ -41,6 +43,10 @@ impl Transform for Start {
 
     fn most_changes(&self, _graph: &Graph, _state: &State, _worker: WorkerId) -> u64 {
         3
+    }
+
+    fn more_locks(&self) -> usize {
+        1
     }
 
     fn apply(&self, work: &mut Tentative, own: &[LockId]) -> Disposition {

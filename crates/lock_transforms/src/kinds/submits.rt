@@ -33,6 +33,8 @@ impl Transform for Submit {
 
     ghost most = { λ t g w s. most_of g w s (kinds.Submit t.action) };
 
+    ghost more_locks = { λ _. 0 };
+
     ghost makes = { λ t. IsFixedList (kinds.Submit t.action) };
 
     ghost fails_on = { λ t g w s. ⊥ };
@@ -45,6 +47,10 @@ impl Transform for Submit {
 
     fn most_changes(&self, graph: &Graph, _state: &State, _worker: WorkerId) -> u64 {
         1 + item_count(graph, self.action)
+    }
+
+    fn more_locks(&self) -> usize {
+        0
     }
 
     fn apply(&self, work: &mut Tentative, own: &[LockId]) -> Disposition {

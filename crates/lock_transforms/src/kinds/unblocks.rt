@@ -40,6 +40,8 @@ impl Transform for Unblock {
 
     ghost most = { λ t g w s. most_of g w s (kinds.Unblock t.closed) };
 
+    ghost more_locks = { λ _. 0 };
+
     ghost makes = { λ t. IsFixedList (kinds.Unblock t.closed) };
 
     ghost fails_on = { λ t g w s. ⊥ };
@@ -52,6 +54,10 @@ impl Transform for Unblock {
 
     fn most_changes(&self, graph: &Graph, state: &State, worker: WorkerId) -> u64 {
         3 + 2 * parked_count(graph, state, worker)
+    }
+
+    fn more_locks(&self) -> usize {
+        0
     }
 
     fn apply(&self, work: &mut Tentative, own: &[LockId]) -> Disposition {

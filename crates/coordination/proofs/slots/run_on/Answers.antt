@@ -3,7 +3,6 @@ use Rattle.lock_journal.specs.BookView.{BookView}
 use Rattle.coordination.specs.Parts.{Follows, IsPartOf}
 use Rattle.lock_transforms.specs.declared.entries.Kind.{Kind}
 use Rattle.coordination.specs.SleepAndWake.{EndsHold, has_entered, stance_after}
-use Rattle.coordination.proofs.PassSteps.{marks_same, part_same}
 use Rattle.coordination.proofs.TakenBooks.{entry_kept, follows}
 use Rattle.coordination.proofs.slots.run_on.Goals as goal
 
@@ -15,11 +14,11 @@ follow-requires g c =
     let B = g.K.Keeper.book_of in
     let r = c.requires.part in
     let old = B c.args.keeper.now in
-    let part = c.run_with_room-ran.new.part in (
+    let part = c.args.notes.now.part in (
       old,
-      subst (λ (b : BookView). Follows c.args.worker old b c.run_with_room-ran.result part) (sym c.book-book.ensures)
-          (follows (T.kind_of t) (T.makes t) (T.fails_on t) (T.retries_on t) c.args.worker old (B c.run_with_room-ran.new.keeper) c.run_with_room-ran.result part r.sound e.graph e.ran e.given e.within
-          (part_same c.args.worker old c.args.notes.now.part part e.same r.kept) (marks_same c.args.notes.now.part part e.same r.room) e.room),
+      T.kind_of t,
+      subst (λ (b : BookView). Follows c.args.worker (T.kind_of t) old b c.run_with_room-ran.result part) (sym c.book-book.ensures)
+          (follows (T.kind_of t) (T.makes t) (T.fails_on t) (T.retries_on t) c.args.worker old (B c.run_with_room-ran.new.keeper) c.run_with_room-ran.result part r.sound e.graph e.ran e.given e.within r.kept r.room e.room),
     )
 
 pub end_transform-wakes-requires : goal.end_transform-wakes-requires

@@ -1,7 +1,8 @@
-use Rattle.std.proofs.Common.{refl, ap, sym, ◌∙◌, subst}
+use Rattle.std.proofs.Common.{ap, sym, ◌∙◌, subst}
 use Rattle.resource_lock.specs.declared.ids.WorkerId.{WorkerId}
 use Rattle.coordination.specs.Calls.{AskedInVain}
 use Rattle.coordination.specs.Offered.{AreTold}
+use Rattle.coordination.specs.Passes.{PassView}
 use Rattle.coordination.specs.Turns.{OnlyLooked}
 use Rattle.coordination.specs.declared.rule.Sight.{Sight}
 use Rattle.coordination.specs.declared.turns.Came.TheVariants as came
@@ -9,7 +10,9 @@ use Rattle.coordination.proofs.TurnAfterTurn.{again_on, done_on, looked_not, no_
 use Rattle.coordination.proofs.services.Coordination.take_turn.Goals as goal
 
 pub loop-init : goal.loop-init
-loop-init g c = (tt, tt, refl, looked_not c.args.pass.now.sight)
+loop-init g c =
+    let same = c.make_room.ensures in
+    (tt, tt, ap (λ (p : PassView). p.service) same, subst (λ (p : PassView). OnlyLooked c.args.pass.now.sight p.sight) (sym same) (looked_not c.args.pass.now.sight))
 
 pub returns-in-Done-clause-done : goal.returns-in-Done-clause-done
 returns-in-Done-clause-done g c =

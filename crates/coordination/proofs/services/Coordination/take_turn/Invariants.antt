@@ -5,4 +5,4 @@ use Rattle.coordination.proofs.services.Coordination.take_turn.Given as goal
 
 abbrev pub invariant-loop : goal.invariant-loop
 invariant-loop g l =
-    (goal.iterator-loop g).can_next l.iterator' × (goal.iterator-loop g).is_finite l.iterator' × (l.pass.service ≡ l.initial.pass.service) × OnlyLooked l.initial.pass.sight l.pass.sight
+    (goal.iterator-loop g).can_next l.iterator' × (goal.iterator-loop g).is_finite l.iterator' × (l.pass.service ≡ l.fn.pass.service) × OnlyLooked l.fn.pass.sight l.pass.sight
