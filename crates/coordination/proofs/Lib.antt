@@ -14,6 +14,7 @@ pub mod Opening
 pub mod SortedLists
 pub mod Rising
 pub mod Following
+pub mod HandedBack
 pub mod AtRest
 pub mod Totals
 pub mod Together

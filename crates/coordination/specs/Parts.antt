@@ -113,6 +113,15 @@ lock_total s w = length (owned s w) + length (holding_of s w).parked
 abbrev pub FitsLocks : ℕ → WorkerPart → Type 0
 FitsLocks n part = (n ≤ vec_capacity part.locks) × (n ≤ vec_capacity part.parked)
 
+-- the part of a worker that has handed back its locks and its lease
+pub record HasHandedBack (old new : WorkerPart) : Type 0 where
+  pub last : new.last ≡ old.last
+  pub holding : holding_in new ≡ record (holding_in old) { lease = false }
+  pub locks : new.locks.items ≡ []
+  pub lock_room : vec_capacity new.locks ≡ vec_capacity old.locks
+  pub claimed : new.claimed ≡ old.claimed
+  pub parked : new.parked ≡ old.parked
+
 -- The part is that of the worker in a good state, in which it can make these changes in turn. No state on the way has more of its marks and of its locks
 -- than the part has room for.
 pub record LeadsOn (s : StateView) (w : WorkerId) (part : WorkerPart) (changes : List Change) : Type 0 where

@@ -1,18 +1,17 @@
 //! What a pass keeps of the book for its worker.
-ghost use Rattle.std.specs.Prelude.{◌≡◌, ◌<◌, [], IfOk, OnOk, length, true, vec_capacity};
+ghost use Rattle.std.specs.Prelude.{◌≡◌, ◌<◌, [], IfOk, OnOk, false, length, true, vec_capacity};
 ghost use Rattle.resource_lock.specs.Change.{make_all};
 ghost use Rattle.resource_lock.specs.StateView.{StateView, runs_by};
-ghost use Rattle.lock_transforms.specs.declared.entries.Kind.{Kind};
 ghost use Rattle.lock_journal.specs.BookView.{BookView};
 ghost use Rattle.lock_journal.specs.Changes.{changes_left};
 ghost use Rattle.lock_journal.specs.OwnChanges.{mark_before, with_if, without_if};
 ghost use Rattle.coordination.specs.SortedLists.{IsRising};
-ghost use Rattle.coordination.specs.Parts.{Follows, HasLockRoom, HasRoom, HasRoomFor, IsAfter, IsFreshPart, IsPartOf, IsSamePart, LeadsOn, StandsInOrder};
+ghost use Rattle.coordination.specs.Parts.{Follows, HasLockRoom, HasHandedBack, HasRoom, HasRoomFor, IsAfter, IsFreshPart, IsPartOf, IsSamePart, LeadsOn, StandsInOrder};
 
 use crate::sorted_lists::{add, remove};
 use history_views::Reach;
 use lock_journal::{Book, Changes};
-use lock_transforms::Disposition;
+use lock_transforms::{Disposition, Kind};
 use resource_lock::{Change, LockId, Mark, MarkId, WorkerId};
 use std::alloc::{AllocError, Global};
 
@@ -63,15 +62,13 @@ impl WorkerPart {
     }
 
     /// Makes room for so many locks more, owned or parked. It fails for want of memory alone. The part says what it said, also then.
+    #[inline(never)]
     pub fn reserve(&mut self, more: usize) -> Result<(), AllocError>
         requires { HasRoom self.old }
         ensures same { IsSamePart self.old self.new }
         ensures kept { HasRoom self.new }
         ensures room { OnOk result (HasLockRoom more self.new) }
     {
-        if self.has_room_for(more) {
-            return Ok(());
-        }
         let owned = self.locks.len();
         self.locks
             .try_reserve(self.parked.len().saturating_add(more))?;
@@ -82,7 +79,8 @@ impl WorkerPart {
     #[inline]
     pub fn has_room_for(&self, more: usize) -> bool
         requires { HasRoom self.now }
-        ensures { result ≡ true → HasLockRoom more self.now }
+        ensures room { result ≡ true → HasLockRoom more self.now }
+        ensures no_room { result ≡ false → HasLockRoom more self.now → ⊥ }
     {
         if more == 0 {
             return true;
@@ -91,21 +89,39 @@ impl WorkerPart {
         more <= self.locks.capacity() - count && more <= self.parked.capacity() - count
     }
 
-    /// Follows the book, on which a transform of the worker was run, with what came of that. It takes no memory.
+    /// Follows the book, on which a transform of the kind was run for the worker, with what came of that. It takes no memory.
     #[inline]
-    pub fn follow(&mut self, worker: WorkerId, book: &Book, ran: &Result<Disposition, AllocError>)
-        requires { (before : BookView) × (kind : Kind) × Follows worker kind before book.now ran.now self.old }
+    pub fn follow(
+        &mut self,
+        worker: WorkerId,
+        kind: Kind,
+        book: &Book,
+        ran: &Result<Disposition, AllocError>,
+    )
+        requires { (before : BookView) × Follows worker kind before book.now ran.now self.old }
         ensures part { IsPartOf book.now worker self.new }
         ensures room { HasRoom self.new }
     {
         match ran {
             Ok(Disposition::Finished) => {
                 self.last = book.len();
-                self.note_all(worker, book.last_changes());
+                match kind {
+                    Kind::HandBack => self.note_hand_back(),
+                    _ => self.note_all(worker, book.last_changes()),
+                }
             }
             Ok(Disposition::Failed) => self.last = book.len(),
             Ok(Disposition::Retry) | Err(_) => {}
         }
+    }
+
+    // Notes that the worker has handed back all that it had, at once: its changes one after another would each move the locks behind it.
+    #[inline]
+    fn note_hand_back(&mut self)
+        ensures { HasHandedBack self.old self.new }
+    {
+        self.locks.clear();
+        self.lease = false;
     }
 
     // Notes changes of the worker in order.

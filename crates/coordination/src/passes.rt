@@ -69,7 +69,7 @@ impl Pass {
     pub(crate) fn make_room(&mut self, more: usize)
         ensures { self.new ≡ self.old }
     {
-        if more > 0 {
+        if !self.notes.part.has_room_for(more) {
             let _ = self.notes.part.reserve(more);
         }
     }

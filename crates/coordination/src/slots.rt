@@ -256,10 +256,11 @@ pub(crate) fn run_on<K: Runner, T: Transform>(
     ensures run { HasRun (T.kind_of transform.now) (T.makes transform.now) (T.fails_on transform.now)
         (T.retries_on transform.now) worker (K.book_of keeper.old) (K.book_of keeper.new) notes.new.part sleepers.old sleepers.new result }
 {
+    let kind = transform.kind();
     let ran = run_with_room(keeper, worker, &notes.part, transform);
     let book = keeper.book();
-    notes.part.follow(worker, book, &ran);
-    let wakes = sleepers.end_transform(book, worker, transform.kind(), &ran);
+    notes.part.follow(worker, kind, book, &ran);
+    let wakes = sleepers.end_transform(book, worker, kind, &ran);
     keeper.tell(&mut notes.reach);
     (ran, wakes)
 }

@@ -84,14 +84,14 @@ module _ {E : Type 0} (w : WorkerId) (kind : Kind) (old new : BookView) (part : 
         );
       }
 
-  module _ (after : WorkerPart) (n : ℕ) (leads : LeadsOn (make_all old.state w f.grew.0) w after []) where
-    pub part_after : after.last ≡ n → n ≡ length new.history → IsPartOf new w after
-    part_after last long =
-        let e : Entry = entry w kind (Some f.grew.0) in
-        let history : new.history ≡ old.history ++ e ∷ [] = f.grew.1.history in record {
-          has = subst (λ (s : StateView). Has s w after) (sym f.grew.1.state) leads.has;
-          last = last ∙ (long ∙ (ap (λ (h : List Entry). length h) history ∙ sym (ap (λ (h : List Entry). last_of w h) history ∙ last_of-own w old.history e refl)));
-        }
+  -- the part of the state behind them is that of the book
+  pub part_of_all : (after : WorkerPart) (n : ℕ) → Has (make_all old.state w f.grew.0) w after → after.last ≡ n → n ≡ length new.history → IsPartOf new w after
+  part_of_all after n has last long =
+      let e : Entry = entry w kind (Some f.grew.0) in
+      let history : new.history ≡ old.history ++ e ∷ [] = f.grew.1.history in record {
+        has = subst (λ (s : StateView). Has s w after) (sym f.grew.1.state) has;
+        last = last ∙ (long ∙ (ap (λ (h : List Entry). length h) history ∙ sym (ap (λ (h : List Entry). last_of w h) history ∙ last_of-own w old.history e refl)));
+      }
 
 -- a failed transform leaves all but the number of the last entry
 pub part_failed : {E : Type 0} (w : WorkerId) (kind : Kind) (old new : BookView) (part : WorkerPart) (n : ℕ) → Follows {E = E} w kind old new (Ok Failed) part → n ≡ length new.history → IsPartOf new w (record part { last = n })

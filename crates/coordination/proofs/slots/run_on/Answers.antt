@@ -16,8 +16,7 @@ follow-requires g c =
     let old = B c.args.keeper.now in
     let part = c.args.notes.now.part in (
       old,
-      T.kind_of t,
-      subst (λ (b : BookView). Follows c.args.worker (T.kind_of t) old b c.run_with_room-ran.result part) (sym c.book-book.ensures)
+      subst (λ (p : Kind × BookView). Follows c.args.worker p.0 old p.1 c.run_with_room-ran.result part) (λ i. (sym c.kind-kind.ensures i, sym c.book-book.ensures i))
           (follows (T.kind_of t) (T.makes t) (T.fails_on t) (T.retries_on t) c.args.worker old (B c.run_with_room-ran.new.keeper) c.run_with_room-ran.result part r.sound e.graph e.ran e.given e.within r.kept r.room e.room),
     )
 
@@ -39,5 +38,5 @@ returns-clause-run g c =
       kept = subst (λ (b : BookView). IsPartOf b c.args.worker c.follow.new.self) c.book-book.ensures c.follow.ensures.part;
       room = c.follow.ensures.room;
       ends = subst (λ (p : Kind × BookView). EndsHold p.1 c.args.worker (stance_after c.args.sleepers.now.behind p.0 c.run_with_room-ran.result) (has_entered c.run_with_room-ran.result) c.args.sleepers.now
-          c.end_transform-wakes.new.self c.end_transform-wakes.result) (λ i. (c.kind.ensures i, c.book-book.ensures i)) c.end_transform-wakes.ensures;
+          c.end_transform-wakes.new.self c.end_transform-wakes.result) (λ i. (c.kind-kind.ensures i, c.book-book.ensures i)) c.end_transform-wakes.ensures;
     }

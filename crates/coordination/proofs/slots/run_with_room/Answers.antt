@@ -25,4 +25,4 @@ returns-clause-room g c = λ is.
     let made : ℕ = length (last_changes (B c.run.new.self).history) in
     let most : ℕ = T.most t old.graph c.args.worker old.state in
     let few : locks_gained (T.kind_of t) made ≤ locks_gained (T.kind_of t) most = gained_by_fewer (T.kind_of t) made most (c.run.ensures.few is) in
-    room_for_fewer (locks_gained (T.kind_of t) made) c.more_locks.result c.args.part.now (omega (arith, few, c.more_locks.ensures.enough old.graph c.args.worker old.state, c.more_locks.ensures.value)) (c.has_room_for.ensures (search rules))
+    room_for_fewer (locks_gained (T.kind_of t) made) c.more_locks.result c.args.part.now (omega (arith, few, c.more_locks.ensures.enough old.graph c.args.worker old.state, c.more_locks.ensures.value)) (c.has_room_for.ensures.room (search rules))

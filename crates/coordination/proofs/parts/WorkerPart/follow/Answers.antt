@@ -1,56 +1,59 @@
 use Rattle.std.proofs.Common.{rules, List, [], Ok, sym, ◌∙◌, subst}
 use Rattle.resource_lock.specs.Change.{make_all}
 use Rattle.resource_lock.specs.declared.changes.Change.{Change}
+use Rattle.lock_transforms.specs.declared.entries.Kind.{Kind}
+use Rattle.lock_transforms.specs.declared.entries.Kind.TheVariants.{HandBack}
 use Rattle.lock_transforms.specs.declared.transforms.Disposition.TheVariants.{Finished, Failed}
 use Rattle.coordination.specs.Parts.{Follows, LeadsOn}
 use Rattle.coordination.specs.declared.parts.WorkerPart.{WorkerPart}
 use Rattle.coordination.proofs.Following.{room_behind}
-use Rattle.coordination.proofs.lemmas.Entries.{changes_made, follows_at, last_kept, leads_from, part_after, part_failed}
+use Rattle.coordination.proofs.HandedBack.{part_handed_back, room_handed_back}
+use Rattle.coordination.proofs.lemmas.Entries.{changes_made, follows_at, last_kept, leads_from, part_of_all, part_failed}
 use Rattle.coordination.proofs.parts.WorkerPart.follow.Goals as goal
 
 pub last_changes-requires : goal.last_changes-requires
 last_changes-requires c =
     let old = c.requires.0 in
-    let kind = c.requires.1 in
+    let kind = c.args.kind in
     let new = c.args.book.now in
     let w = c.args.worker in
     let part : WorkerPart = c.args.self.now in
-    last_kept w kind old new part (follows_at w kind old new c.args.ran.now (Ok Finished) part (search rules) c.requires.2)
+    last_kept w kind old new part (follows_at w kind old new c.args.ran.now (Ok Finished) part (search rules) c.requires.1)
 
 pub note_all-requires : goal.note_all-requires
 note_all-requires c =
     let old = c.requires.0 in
-    let kind = c.requires.1 in
+    let kind = c.args.kind in
     let new = c.args.book.now in
     let w = c.args.worker in
     let part : WorkerPart = c.args.self.now in
-    let f : Follows w kind old new (Ok Finished) part = follows_at w kind old new c.args.ran.now (Ok Finished) part (search rules) c.requires.2 in
+    let f : Follows w kind old new (Ok Finished) part = follows_at w kind old new c.args.ran.now (Ok Finished) part (search rules) c.requires.1 in
     let n = c.len-self.result in
     let is = c.last_changes.ensures ∙ changes_made w kind old new part f in
     (old.state, subst (LeadsOn old.state w (record part { last = n })) (sym is) (leads_from w kind old new part f n))
 
-pub returns-in-Ok-Finished-clause-part : goal.returns-in-Ok-Finished-clause-part
-returns-in-Ok-Finished-clause-part c =
+pub returns-in_default-clause-part : goal.returns-in_default-clause-part
+returns-in_default-clause-part c =
     let old = c.requires.0 in
-    let kind = c.requires.1 in
+    let kind = c.args.kind in
     let new = c.args.book.now in
     let w = c.args.worker in
     let part : WorkerPart = c.args.self.now in
-    let f : Follows w kind old new (Ok Finished) part = follows_at w kind old new c.args.ran.now (Ok Finished) part (search rules) c.requires.2 in
+    let f : Follows w kind old new (Ok Finished) part = follows_at w kind old new c.args.ran.now (Ok Finished) part (search rules) c.requires.1 in
     let n = c.len-self.result in
     let is = c.last_changes.ensures ∙ changes_made w kind old new part f in
     let leads = subst (λ (cs : List Change). LeadsOn (make_all old.state w cs) w c.note_all.new.self []) is
     (c.note_all.ensures.leads old.state (subst (LeadsOn old.state w (record part { last = n })) (sym is) (leads_from w kind old new part f n))) in
-    part_after w kind old new part f c.note_all.new.self n leads c.note_all.ensures.last c.len-self.ensures.value
+    part_of_all w kind old new part f c.note_all.new.self n leads.has c.note_all.ensures.last c.len-self.ensures.value
 
-pub returns-in-Ok-Finished-clause-room : goal.returns-in-Ok-Finished-clause-room
-returns-in-Ok-Finished-clause-room c =
+pub returns-in_default-clause-room : goal.returns-in_default-clause-room
+returns-in_default-clause-room c =
     let old = c.requires.0 in
-    let kind = c.requires.1 in
+    let kind = c.args.kind in
     let new = c.args.book.now in
     let w = c.args.worker in
     let part : WorkerPart = c.args.self.now in
-    let f : Follows w kind old new (Ok Finished) part = follows_at w kind old new c.args.ran.now (Ok Finished) part (search rules) c.requires.2 in
+    let f : Follows w kind old new (Ok Finished) part = follows_at w kind old new c.args.ran.now (Ok Finished) part (search rules) c.requires.1 in
     let n = c.len-self.result in
     let is = c.last_changes.ensures ∙ changes_made w kind old new part f in
     room_behind _ w c.note_all.new.self (c.note_all.ensures.leads old.state (subst (LeadsOn old.state w (record part { last = n })) (sym is) (leads_from w kind old new part f n)))
@@ -58,7 +61,25 @@ returns-in-Ok-Finished-clause-room c =
 pub returns-in-Ok-Failed-clause-part : goal.returns-in-Ok-Failed-clause-part
 returns-in-Ok-Failed-clause-part c =
     let old = c.requires.0 in
-    let kind = c.requires.1 in
+    let kind = c.args.kind in
     let new = c.args.book.now in
-    let f : Follows c.args.worker kind old new (Ok Failed) c.args.self.now = follows_at c.args.worker kind old new c.args.ran.now (Ok Failed) c.args.self.now (search rules) c.requires.2 in
+    let f : Follows c.args.worker kind old new (Ok Failed) c.args.self.now = follows_at c.args.worker kind old new c.args.ran.now (Ok Failed) c.args.self.now (search rules) c.requires.1 in
     part_failed c.args.worker kind old new c.args.self.now c.len-self-in-Ok-Failed.result f c.len-self-in-Ok-Failed.ensures.value
+
+pub returns-in-HandBack-clause-part : goal.returns-in-HandBack-clause-part
+returns-in-HandBack-clause-part c =
+    let old = c.requires.0 in
+    let new = c.args.book.now in
+    let w = c.args.worker in
+    let part : WorkerPart = c.args.self.now in
+    let f : Follows w HandBack old new (Ok Finished) part = subst (λ (k : Kind). Follows w k old new (Ok Finished) part) c.in-HandBack.is (follows_at w c.args.kind old new c.args.ran.now (Ok Finished) part (search rules) c.requires.1) in
+    part_handed_back w old new part c.note_hand_back.new.self c.len-self.result f c.note_hand_back.ensures c.len-self.ensures.value
+
+pub returns-in-HandBack-clause-room : goal.returns-in-HandBack-clause-room
+returns-in-HandBack-clause-room c =
+    let old = c.requires.0 in
+    let new = c.args.book.now in
+    let w = c.args.worker in
+    let part : WorkerPart = c.args.self.now in
+    let f : Follows w HandBack old new (Ok Finished) part = subst (λ (k : Kind). Follows w k old new (Ok Finished) part) c.in-HandBack.is (follows_at w c.args.kind old new c.args.ran.now (Ok Finished) part (search rules) c.requires.1) in
+    room_handed_back w old new part c.note_hand_back.new.self c.len-self.result f c.note_hand_back.ensures
