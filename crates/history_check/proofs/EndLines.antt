@@ -5,7 +5,12 @@ use Rattle.std.proofs.Math.Nat.{pow-le-pow_right}
 use Rattle.std.proofs.lemmas.Grind.{pow_more}
 use Rattle.std.proofs.lemmas.Fmt.{decimal_digit, decimal_by_steps, length-decimal-le, decimal_nonempty}
 use borrow.Author.Tests.{ltb-true, ltb-false}
-use Rattle.history_text.specs.Text.{end_text}
+use Rattle.std.specs.List.{flat_map}
+use Rattle.lock_transforms.specs.Entry.{Entry}
+use Rattle.history_text.specs.Text.{end_text, entry_text, kind_text, effect_text, change_text, further_text}
+use Rattle.history_text.specs.Plain.{TaskOf, ActionOf, UnitOf, Change, Lock, Unlock, Take, Give, Move, Park, Unpark, Enter, Leave}
+use Rattle.history_text.specs.Plain.{Kind, Start, Skip, Submit, ParkFor, Resume, Claim, Close, Block, Unblock, End, Acquire, HandBack}
+use Rattle.history_text.specs.Fitting.{EntryFits, KindFits}
 
 abbrev Below : ℕ → List ℕ → Type 0
 Below n digits = n < 10 ^ length digits
@@ -69,3 +74,64 @@ pub end_short : (n long : ℕ) → long ≡ length (end_text n) → n < 2 ^ 64 �
 end_short n long is fits =
     let few : length (decimal n) ≤ 20 = length-decimal-le 20 n (omega arith) (omega (arith, fits)) fits in
     omega (arith, few, is, end_has n (length (decimal n)) refl)
+
+-- ---- how long an entry's line is
+
+change_long : (c : Change) → 4 ≤ length (change_text c)
+change_long (Lock l) = omega arith
+change_long (Unlock l) = omega arith
+change_long (Park l) = omega arith
+change_long (Unpark l) = omega arith
+change_long Take = omega arith
+change_long Give = omega arith
+change_long Enter = omega arith
+change_long Leave = omega arith
+change_long (Move (TaskOf n) from to) = omega arith
+change_long (Move (ActionOf n) from to) = omega arith
+change_long (Move (UnitOf n) from to) = omega arith
+
+effect_long : (effect : Option (List Change)) → 4 ≤ length (effect_text effect)
+effect_long None = omega arith
+effect_long (Some []) = omega arith
+effect_long (Some (c ∷ cs)) = omega (arith, change_long c, length-append (change_text c) (flat_map further_text cs))
+
+kind_long : (k : Kind) → KindFits k → 5 ≤ length (kind_text k)
+kind_long (Start n) fits = omega arith
+kind_long (Skip n) fits = omega arith
+kind_long (End n) fits = let some : 0 < length (decimal n) = decimal_nonempty n (omega (arith, fits)) in omega (arith, some)
+kind_long (Submit n) fits = omega arith
+kind_long (ParkFor n) fits = omega arith
+kind_long (Resume n) fits = omega arith
+kind_long (Claim n) fits = omega arith
+kind_long (Close d) fits = omega arith
+kind_long (Block (Some n)) fits = omega arith
+kind_long (Block None) fits = omega arith
+kind_long (Unblock (Some d)) fits = omega arith
+kind_long (Unblock None) fits = omega arith
+kind_long Acquire fits = omega arith
+kind_long HandBack fits = omega arith
+
+-- an entry's line is so much longer than the end line in its place
+pub entry_long : (n : ℕ) (e : Entry) → n + 1 < 2 ^ 64 → EntryFits e → length (end_text n) + 12 ≤ length (entry_text (n + 1) e)
+entry_long n e few fits =
+    let number : List ℕ = decimal (n + 1) in
+    let worker : List ℕ = decimal e.worker.0 in
+    let kind : List ℕ = kind_text e.kind in
+    let effect : List ℕ = effect_text e.changes in
+    let some : 0 < length (decimal e.worker.0) = decimal_nonempty e.worker.0 (omega (arith, fits.worker)) in
+    omega (
+      arith,
+      no_shorter n few,
+      some,
+      kind_long e.kind fits.kind,
+      effect_long e.changes,
+      end_has n (length (decimal n)) refl,
+      end_has (n + 1) (length (decimal (n + 1))) refl,
+      length-append number (codes " w"),
+      length-append (number ++ codes " w") worker,
+      length-append (number ++ codes " w" ++ worker) (codes " "),
+      length-append (number ++ codes " w" ++ worker ++ codes " ") kind,
+      length-append (number ++ codes " w" ++ worker ++ codes " " ++ kind) (codes " | "),
+      length-append (number ++ codes " w" ++ worker ++ codes " " ++ kind ++ codes " | ") effect,
+      length-append (number ++ codes " w" ++ worker ++ codes " " ++ kind ++ codes " | " ++ effect) (codes "\n"),
+    )

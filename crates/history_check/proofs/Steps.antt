@@ -1,6 +1,5 @@
 -- What a line makes of what was taken so far, and of the answer.
-use Rattle.std.proofs.Common.{◌≡◌, ℕ, ◌+◌, ◌<◌, ◌≤◌, Bool, true, false, List, [], ◌∷◌, ◌++◌, length, Option, Some, None, Result, Ok, Err, refl, sym, ap, subst, ◌∙◌, append_assoc, append-nil, arith, inl, inr, ◌⊎◌}
-use Rattle.resource_lock.specs.GraphView.{GraphView}
+use Rattle.std.proofs.Common.{◌≡◌, ℕ, ◌+◌, ◌<◌, ◌≤◌, Bool, true, false, List, [], ◌∷◌, ◌++◌, length, get_or, Option, Some, None, Result, Ok, Err, refl, sym, ap, subst, ◌∙◌, append_assoc, append-nil, arith, inl, inr, ◌⊎◌}
 use Rattle.file_access.specs.SourceView.{SourceView}
 use Rattle.plan_reader.specs.PlanView.{PlanView}
 use Rattle.history_text.specs.Text.{numbered, entry_text, end_text}
@@ -13,7 +12,7 @@ use Rattle.history_text.proofs.lemmas.LineLaws.{entry_line, end_line}
 use Rattle.history_text.proofs.lemmas.TextLaws.{head_parts, second_of, first_wrong, second_wrong}
 use Rattle.history_text.proofs.lemmas.ReadLaws.{ReadSoFar, at_start, read_on, read_ended, opened_so_far}
 use Rattle.history_check.specs.LinesView.{LinesView}
-use Rattle.history_check.specs.Taking.{TakesNext, IsCutOff, EndsLine, StaysWithin, LosesPiece}
+use Rattle.history_check.specs.Taking.{TakesNext, IsCutOff, EndsLine, StaysWithin, MayEnd, LosesPiece}
 use Rattle.history_check.specs.CheckView.{CheckView, IsCheckOf, OpensCheck, CheckGoesOn}
 use Rattle.history_check.specs.Verdict.{IsVerdict}
 use Rattle.history_check.specs.Naming.{BeginsHistory, BreaksBehind}
@@ -30,6 +29,8 @@ use Rattle.history_text.specs.declared.read_histories.HistoryLine.TheVariants as
 use Rattle.history_text.specs.declared.fails.TextFail.{TextFail}
 use Rattle.history_text.specs.declared.fails.TextFail.TheVariants.{Stops}
 use Rattle.std.specs.Prelude.{IsErrAnd}
+use Rattle.history_check.specs.declared.lines.Expected.{Expected}
+use Rattle.history_check.specs.declared.lines.Expected.TheVariants.{Any, EntryOrEnd}
 use Rattle.history_check.specs.declared.lines.TheConstants.{MAX_PIECE}
 use Rattle.history_check.proofs.Passing.{just_decided, taken_more, taken_past, came, to_come, given_behind, line_before, alone, cut_off, ends_either, memory_failed, line_failed}
 
@@ -176,8 +177,8 @@ abbrev Goes : CheckView → CheckView → List ℕ → Result HistoryLine TextFa
 Goes c d text r = (p : PlanView) (h : HistoryView) → IsCheckOf p h c → CheckGoesOn p h text d r
 
 -- a line was taken, or what there was of it
-abbrev Took : ℕ → SourceView → SourceView → LinesView → LinesView → Bool → Type 0
-Took least mid now was is whole = TakesNext mid now was is × EndsLine now.left is whole × StaysWithin least is
+abbrev Took : Expected → ℕ → SourceView → SourceView → LinesView → LinesView → Bool → Type 0
+Took expected least mid now was is whole = TakesNext mid now was is × EndsLine now.left is whole × StaysWithin expected least is
 
 abbrev one_taken : HistoryLine → Result HistoryLine TextFail
 one_taken a = Ok a
@@ -190,7 +191,7 @@ goes_there : {c d : CheckView} {line text : List ℕ} (p : PlanView) (h : Histor
 goes_there {c} {d} {line} {text} p h r s same is goes check =
     subst (λ (x : Result HistoryLine TextFail). CheckGoesOn p h line d x) is (subst (λ (t : List ℕ). CheckGoesOn p h t d r) same (goes p h check))
 
-pub on_entry : {p : PlanView} {start mid now : SourceView} {was is : LinesView} {c d : CheckView} (least : ℕ) (text : List ℕ) (whole : Bool) (a : HistoryLine) (u : IsUnderway p start mid was c) → Took least mid now was is whole → text ≡ is.line → a ≡ lines.Entry → Goes c d text (one_taken a) → IsUnderway p start now is d
+pub on_entry : {p : PlanView} {start mid now : SourceView} {was is : LinesView} {c d : CheckView} (least : ℕ) (text : List ℕ) (whole : Bool) (a : HistoryLine) (u : IsUnderway p start mid was c) → Took EntryOrEnd least mid now was is whole → text ≡ is.line → a ≡ lines.Entry → Goes c d text (one_taken a) → IsUnderway p start now is d
 on_entry {p} {start} {mid} {now} {was} {is} {c} {d} least text whole a u took same entry goes =
     let next : CheckGoesOn p u.history is.line d (one_taken lines.Entry) = goes_there p u.history (one_taken a) (one_taken lines.Entry) same (ap one_taken entry) goes u.check in
     entry_taken u took.0 (ends_either now.left is whole took.1) next.1 next.2
@@ -199,23 +200,27 @@ no_length : (xs : List ℕ) → length xs ≡ 0 → xs ≡ []
 no_length [] none = refl
 no_length (x ∷ xs) none = absurd (omega (arith, none))
 
+-- an end line may be the last
+end_may_end : (n : ℕ) (line : List ℕ) → line ≡ end_text n → MayEnd EntryOrEnd line
+end_may_end n line is = ap (λ (l : List ℕ). get_or l 0 101) is
+
 -- behind an end line that is as long as it can be nothing is ahead
-none_ahead : {h k : HistoryView} {is : LinesView} (least count : ℕ) → least ≡ length (end_text count) → count ≡ length h.entries → StaysWithin least is → Ends h is.line k → is.ahead ≡ []
+none_ahead : {h k : HistoryView} {is : LinesView} (least count : ℕ) → least ≡ length (end_text count) → count ≡ length h.entries → StaysWithin EntryOrEnd least is → Ends h is.line k → is.ahead ≡ []
 none_ahead {h} {k} {is} least count long counted within ended =
     let same : length is.line ≡ length (end_text (length h.entries)) = ap length ended.spelled in
     let least_is : length (end_text count) ≡ length (end_text (length h.entries)) = ap (λ n. length (end_text n)) counted in
-    let whole : length is.line + length is.ahead ≤ least = within.line (omega (arith, same, least_is, long)) in
+    let whole : length is.line + length is.ahead ≤ least = within.line (end_may_end (length h.entries) is.line ended.spelled) (omega (arith, same, least_is, long)) in
     no_length is.ahead (omega (arith, whole, same, least_is, long))
 
-pub on_end : {p : PlanView} {start mid now : SourceView} {was is : LinesView} {c d : CheckView} (least count : ℕ) (text : List ℕ) (whole : Bool) (a : HistoryLine) (answer : Checked) (u : IsUnderway p start mid was c) → Took least mid now was is whole → least ≡ length (end_text count) → count ≡ c.count → text ≡ is.line → a ≡ lines.End → Goes c d text (one_taken a) → ((p : PlanView) (h : HistoryView) → IsCheckOf p h d → IsVerdict d.graph h.locks h.entries answer) → AnswersBy p start now d answer
+pub on_end : {p : PlanView} {start mid now : SourceView} {was is : LinesView} {c d : CheckView} (least count : ℕ) (text : List ℕ) (whole : Bool) (a : HistoryLine) (answer : Checked) (u : IsUnderway p start mid was c) → Took EntryOrEnd least mid now was is whole → least ≡ length (end_text count) → count ≡ c.count → text ≡ is.line → a ≡ lines.End → Goes c d text (one_taken a) → ((p : PlanView) (h : HistoryView) → IsCheckOf p h d → IsVerdict d.graph h.locks h.entries answer) → AnswersBy p start now d answer
 on_end {p} {start} {mid} {now} {was} {is} {c} {d} least count text whole a answer u took long counted same end goes verdict =
     let next : CheckGoesOn p u.history is.line d (one_taken lines.End) = goes_there p u.history (one_taken a) (one_taken lines.End) same (ap one_taken end) goes u.check in
     end_taken answer u took.0 (ends_either now.left is whole took.1) (none_ahead least count long (counted ∙ u.check.count) took.2 next.1) next.1 next.2 (verdict p next.0 next.2)
 
-pub on_stop : {p : PlanView} {start mid now : SourceView} {was is : LinesView} {c d : CheckView} (least n : ℕ) (text : List ℕ) (whole : Bool) (fail : TextFail) (u : IsUnderway p start mid was c) → Took least mid now was is whole → least < MAX_PIECE → text ≡ is.line → fail ≡ Stops n → Goes c d text (one_failed fail) → AnswersBy p start now d (checked.NotLawful n)
-on_stop {p} {start} {mid} {now} {was} {is} {c} {d} least n text whole fail u took small same stops goes =
+pub on_stop : {p : PlanView} {start mid now : SourceView} {was is : LinesView} {c d : CheckView} (least n : ℕ) (text : List ℕ) (whole : Bool) (fail : TextFail) (u : IsUnderway p start mid was c) → Took EntryOrEnd least mid now was is whole → text ≡ is.line → fail ≡ Stops n → Goes c d text (one_failed fail) → AnswersBy p start now d (checked.NotLawful n)
+on_stop {p} {start} {mid} {now} {was} {is} {c} {d} least n text whole fail u took same stops goes =
     let next : CheckGoesOn p u.history is.line d (one_failed (Stops n)) = goes_there p u.history (one_failed fail) (one_failed (Stops n)) same (ap one_failed stops) goes u.check in
-    stop_taken {d = d} n u took.0 (ends_either now.left is whole took.1) (omega (arith, took.2.ahead, small)) next.1
+    stop_taken {d = d} n u took.0 (ends_either now.left is whole took.1) took.2.few next.1
 
 pub no_room : {p : PlanView} {start mid now : SourceView} {was is : LinesView} {c : CheckView} (u : IsUnderway p start mid was c) → TakesNext mid now was is → Fails start now NoMemory
 no_room u next = memory_failed (lines_of u.history) next.piece u.taken next.takes
@@ -237,9 +242,9 @@ on_head v {p} {start} {mid} {now} {was} {is} text c so_far next same opened =
     let opens : Opens v is.line opened.0 = subst (λ (t : List ℕ). Opens v t opened.0) same opened.1 in
     head_taken v so_far next opens opened.2
 
-pub on_no_head : (v : Version) {start mid now : SourceView} {was is : LinesView} (least : ℕ) (text : List ℕ) (whole : Bool) → HasTaken start mid was (first_line v) → Took least mid now was is whole → least < MAX_PIECE → text ≡ is.line → OpensNone v text → FindsNone start now
-on_no_head v {start} {mid} {now} {was} {is} least text whole so_far took small same none =
-    no_second v so_far took.0 (ends_either now.left is whole took.1) (omega (arith, took.2.ahead, small)) (subst (λ (t : List ℕ). OpensNone v t) same none)
+pub on_no_head : (v : Version) {start mid now : SourceView} {was is : LinesView} (least : ℕ) (text : List ℕ) (whole : Bool) → HasTaken start mid was (first_line v) → Took Any least mid now was is whole → text ≡ is.line → OpensNone v text → FindsNone start now
+on_no_head v {start} {mid} {now} {was} {is} least text whole so_far took same none =
+    no_second v so_far took.0 (ends_either now.left is whole took.1) took.2.few (subst (λ (t : List ℕ). OpensNone v t) same none)
 
 pub fails_at_head : (v : Version) (start mid now : SourceView) (was : LinesView) (fail : CheckFail) → HasTaken start mid was (first_line v) → LosesPiece mid now was fail → Fails start now fail
 fails_at_head v start mid now was fail so_far lost = line_failed start mid now was (first_line v) fail so_far (inr (inl (v, refl))) lost

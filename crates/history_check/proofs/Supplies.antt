@@ -1,9 +1,9 @@
 -- What was taken from a source, piece by piece.
-use Rattle.std.proofs.Common.{◌≡◌, ℕ, ◌+◌, ◌-◌, ◌<◌, ◌≤◌, ◌⊎◌, Bool, true, false, List, [], ◌∷◌, ◌++◌, length, take, drop, length-append, sym, ap, subst, ◌∙◌, append-nil, append_assoc, arith, get_or, nat_eq, not, ◌&&◌}
+use Rattle.std.proofs.Common.{inl, inr, refl, ◌≡◌, ℕ, ◌+◌, ◌-◌, ◌<◌, ◌≤◌, ◌⊎◌, Bool, true, false, List, [], ◌∷◌, ◌++◌, length, take, drop, length-append, sym, ap, subst, ◌∙◌, append-nil, append_assoc, arith, get_or, nat_eq, not, ◌&&◌}
 use Rattle.std.proofs.KnownBytes.{Consumes-trans}
 use Rattle.std.proofs.Math.Seq.{take-add}
 use Rattle.std.proofs.lemmas.Bool.{eqb-true}
-use Rattle.std.proofs.lemmas.List.{take_all, take_more, take_rest, take-append-drop, get_or-append-add, get_or-drop, length-drop, length-take-le}
+use Rattle.std.proofs.lemmas.List.{take_all, take_more, take_rest, take-append-drop, take-append-le, get_or-append-add, get_or-drop, length-drop, length-take-le}
 use Rattle.std.specs.Prelude.{Result, Ok, Err, IsErrAnd}
 use Rattle.file_access.specs.SinkView.{Rises}
 use Rattle.file_access.specs.Ahead.{TakesAhead}
@@ -12,7 +12,10 @@ use Rattle.memchr.specs.Find.{Nowhere, NoneBefore, Passes, is_byte}
 use Rattle.history_text.specs.Lines.{is_unbroken, IsLine}
 use Rattle.history_text.proofs.lemmas.Splits.{joined, unbroken_before}
 use Rattle.history_check.specs.LinesView.{LinesView}
-use Rattle.history_check.specs.Taking.{Takes, Grows, SplitsLine, Splits, TakesPiece, TakesRest, LosesPiece, TakesLine, IsOver}
+use Rattle.history_check.specs.Taking.{Takes, Grows, SplitsLine, Splits, TakesPiece, TakesRest, LosesPiece, TakesLine, IsOver, StaysWithin, IsNotLast, MayEnd, MayTake, shortest}
+use Rattle.history_check.specs.declared.lines.Expected.{Expected}
+use Rattle.history_check.specs.declared.lines.Expected.TheVariants.{Any, EntryOrEnd}
+use Rattle.history_check.specs.declared.lines.TheConstants.{MAX_PIECE}
 use Rattle.history_check.specs.declared.fails.CheckFail.{CheckFail}
 use Rattle.history_check.specs.declared.fails.CheckFail.TheVariants.{SourceFault, NoMemory}
 
@@ -33,9 +36,11 @@ pub record IsReading (start now : SourceView) (was is : LinesView) : Type 0 wher
   pub line : is.line ≡ was.ahead ++ piece
   pub ahead : is.ahead ≡ []
 
--- at most so many bytes are held, or at most as many and one behind those looked at, which are as many too
-abbrev pub FitsBound : ℕ → ℕ → ℕ → Type 0
-FitsBound least looked held = (held ≤ least) ⊎ ((least ≤ looked) × (held ≤ looked + 1 + least))
+-- At most so many bytes are held. Or the line isn't the last, by the bytes looked at, and at most as many are held behind its shortest or
+-- behind a line end that may follow those.
+abbrev pub FitsBound : Expected → ℕ → ℕ → List ℕ → Type 0
+FitsBound expected least looked line = (length line ≤ least)
+    ⊎ (IsNotLast expected least (take looked line) × ((length line ≤ shortest expected least + least) ⊎ (length line ≤ looked + 1 + least)))
 
 -- ---- what the calls for a line make of it
 
@@ -106,10 +111,10 @@ pieces_lost start mid now was held is most SourceFault r unbroken takes = lost_f
 pieces_lost start mid now was held is most NoMemory r unbroken takes = lost_memory {held = held} takes.0 r takes.1
 
 -- the piece that was to come is lost, and so is the line
-pub line_lost : (least : ℕ) (start mid now : SourceView) (was read held is : LinesView) (most : ℕ) (r : Result Bool CheckFail) (fail : CheckFail) → IsReading start mid was read → (is_unbroken read.line ≡ true) × (held ≡ read)
-    → IsErrAnd r (λ f. f ≡ fail) → TakesPiece most mid now held is (lost_to fail) → TakesLine least start now was is r
-line_lost least start mid now was read held is most (Ok whole) fail reading cut never takes = absurd never
-line_lost least start mid now was read held is most (Err f) fail reading cut same takes =
+pub line_lost : (expected : Expected) (least : ℕ) (start mid now : SourceView) (was read held is : LinesView) (most : ℕ) (r : Result Bool CheckFail) (fail : CheckFail) → IsReading start mid was read → (is_unbroken read.line ≡ true) × (held ≡ read)
+    → IsErrAnd r (λ f. f ≡ fail) → TakesPiece most mid now held is (lost_to fail) → TakesLine expected least start now was is r
+line_lost expected least start mid now was read held is most (Ok whole) fail reading cut never takes = absurd never
+line_lost expected least start mid now was read held is most (Err f) fail reading cut same takes =
     subst (LosesPiece start now was) (sym same) (pieces_lost start mid now was read is most fail reading cut.0 (subst (λ (l : LinesView). TakesPiece most mid now l is (lost_to fail)) cut.1 takes))
 
 -- ---- what was read ahead
@@ -190,9 +195,17 @@ reading_more {start} {mid} {now} {was} {held} {is} most r g = record {
   ahead = g.ahead ∙ r.ahead;
 }
 
+-- nothing is ahead
+none_stays : (expected : Expected) (least : ℕ) (is : LinesView) → is.ahead ≡ [] → StaysWithin expected least is
+none_stays expected least is none = record {
+  few = omega (arith, ap length none);
+  ahead = λ long. omega (arith, ap length none);
+  line = λ last few. omega (arith, few, ap length none);
+}
+
 -- the line ended with what was read ahead
-pub rest_is_line : {start mid now : SourceView} {was held is : LinesView} (least most : ℕ) → IsReading start mid was held → Grows most mid now held is → IsLine is.line → TakesLine least start now was is (rest_to true)
-rest_is_line {start} {mid} {now} {was} {held} {is} least most r g line =
+pub rest_is_line : {start mid now : SourceView} {was held is : LinesView} (expected : Expected) (least most : ℕ) → IsReading start mid was held → Grows most mid now held is → IsLine is.line → TakesLine expected least start now was is (rest_to true)
+rest_is_line {start} {mid} {now} {was} {held} {is} expected least most r g line =
     let more = reading_more {is = is} most r g in (
       record {
         piece = more.piece;
@@ -201,7 +214,7 @@ rest_is_line {start} {mid} {now} {was} {held} {is} least most r g line =
         bytes = sym more.line ∙ (sym (append-nil is.line) ∙ ap (λ bs. is.line ++ bs) (sym more.ahead));
       },
       line,
-      record { ahead = omega (arith, ap length more.ahead); line = λ few. omega (arith, few, ap length more.ahead) },
+      none_stays expected least is more.ahead,
     )
 
 -- the line goes on behind what was read ahead
@@ -213,15 +226,15 @@ ahead_read {start} {mid} {now} {was} {read} {held} {is} ends r cut none rest =
     (reading_more {is = is} read.room r got.0, got.1)
 
 -- or it ends there
-pub ahead_ended : {start mid now : SourceView} {was read held is : LinesView} (least : ℕ) (ends : Bool) → IsReading start mid was read → (is_unbroken read.line ≡ true) × (held ≡ read) → ends ≡ true → TakesRest mid now held is (rest_to ends)
-    → TakesLine least start now was is (rest_to true)
-ahead_ended {start} {mid} {now} {was} {read} {held} {is} least ends r cut ended rest =
+pub ahead_ended : {start mid now : SourceView} {was read held is : LinesView} (expected : Expected) (least : ℕ) (ends : Bool) → IsReading start mid was read → (is_unbroken read.line ≡ true) × (held ≡ read) → ends ≡ true → TakesRest mid now held is (rest_to ends)
+    → TakesLine expected least start now was is (rest_to true)
+ahead_ended {start} {mid} {now} {was} {read} {held} {is} expected least ends r cut ended rest =
     let got : TakesRest mid now read is (rest_to true) =
     subst (λ (l : LinesView). TakesRest mid now l is (rest_to true)) cut.1 (subst (λ (b : Bool). TakesRest mid now held is (rest_to b)) ended rest) in
-    rest_is_line {held = read} {is = is} least read.room r got.0 got.1
+    rest_is_line {held = read} {is = is} expected least read.room r got.0 got.1
 
-cut_off_at : {start mid now : SourceView} {was is : LinesView} (least : ℕ) → IsReading start mid was is → is_unbroken is.line ≡ true → Takes mid now is.room [] → IsOver now.left is → TakesLine least start now was is (taken_to false)
-cut_off_at {start} {mid} {now} {was} {is} least r unbroken none over = (
+cut_off_at : {start mid now : SourceView} {was is : LinesView} (expected : Expected) (least : ℕ) → IsReading start mid was is → is_unbroken is.line ≡ true → Takes mid now is.room [] → IsOver now.left is → TakesLine expected least start now was is (taken_to false)
+cut_off_at {start} {mid} {now} {was} {is} expected least r unbroken none over = (
   record {
     piece = r.piece ++ [];
     takes = takes_then was.room is.room was.room r.piece [] r.takes none (omega (arith, r.takes.few));
@@ -229,13 +242,63 @@ cut_off_at {start} {mid} {now} {was} {is} least r unbroken none over = (
     bytes = ap (λ bs. was.ahead ++ bs) (append-nil r.piece) ∙ (sym r.line ∙ (sym (append-nil is.line) ∙ ap (λ bs. is.line ++ bs) (sym r.ahead)));
   },
   record { unbroken = unbroken; alone = r.ahead; over = over },
-  record { ahead = omega (arith, ap length r.ahead); line = λ few. omega (arith, few, ap length r.ahead) },
+  none_stays expected least is r.ahead,
 )
 
 -- nothing more comes of the line
-pub line_cut_off : {start mid now : SourceView} {was read is : LinesView} (least most : ℕ) (some : Bool) → IsReading start mid was read × (is_unbroken read.line ≡ true) → some ≡ false → TakesPiece most mid now read is (taken_to some)
-    → TakesLine least start now was is (taken_to false)
-line_cut_off {start} {mid} {now} {was} {read} {is} least most some r none takes =
+pub line_cut_off : {start mid now : SourceView} {was read is : LinesView} (expected : Expected) (least most : ℕ) (some : Bool) → IsReading start mid was read × (is_unbroken read.line ≡ true) → some ≡ false → TakesPiece most mid now read is (taken_to some)
+    → TakesLine expected least start now was is (taken_to false)
+line_cut_off {start} {mid} {now} {was} {read} {is} expected least most some r none takes =
     let got : TakesPiece most mid now read is (taken_to false) = subst (λ (b : Bool). TakesPiece most mid now read is (taken_to b)) none takes in
-    subst (λ (l : LinesView). TakesLine least start now was l (taken_to false)) (sym got.1)
-    (cut_off_at {is = read} least r.0 r.1 got.0 (subst (λ (l : LinesView). IsOver now.left l) got.1 got.2))
+    subst (λ (l : LinesView). TakesLine expected least start now was l (taken_to false)) (sym got.1)
+    (cut_off_at {is = read} expected least r.0 r.1 got.0 (subst (λ (l : LinesView). IsOver now.left l) got.1 got.2))
+
+-- ---- what is ahead of a line that was split off
+
+-- what may begin the last line may do so by its first bytes
+may_end_before : (expected : Expected) (begun more : List ℕ) → MayEnd expected (begun ++ more) → MayEnd expected begun
+may_end_before Any begun more last = tt
+may_end_before EntryOrEnd [] more last = refl
+may_end_before EntryOrEnd (b ∷ begun) more last = last
+
+may_end_by : (expected : Expected) (looked : ℕ) (line ahead : List ℕ) → looked ≤ length line → MayEnd expected line → MayEnd expected (take looked (line ++ ahead))
+may_end_by expected looked line ahead within last =
+    subst (MayEnd expected) (sym (take-append-le looked line ahead within))
+    (may_end_before expected (take looked line) (drop looked line) (subst (MayEnd expected) (sym (take-append-drop looked line)) last))
+
+stays_by : (expected : Expected) (least looked : ℕ) (is : LinesView) → looked < length is.line → length (is.line ++ is.ahead) ≤ looked + MAX_PIECE → FitsBound expected least looked (is.line ++ is.ahead) → StaysWithin expected least is
+stays_by expected least looked is past piece (inl few) =
+    let all : length (is.line ++ is.ahead) ≡ length is.line + length is.ahead = length-append is.line is.ahead in
+    record { few = omega (arith, all, piece, past); ahead = λ long. omega (arith, all, few); line = λ last short. omega (arith, all, few) }
+stays_by expected least looked is past piece (inr fits) = record { few = omega (arith, all, piece, past); ahead = λ long. at long fits.1; line = λ last short. absurd (ends last short fits.0) }
+  where
+    all : length (is.line ++ is.ahead) ≡ length is.line + length is.ahead
+    all = length-append is.line is.ahead
+
+    at : shortest expected least ≤ length is.line → ((length (is.line ++ is.ahead) ≤ shortest expected least + least) ⊎ (length (is.line ++ is.ahead) ≤ looked + 1 + least)) → length is.ahead ≤ least
+    at long (inl few) = omega (arith, all, few, long)
+    at long (inr few) = omega (arith, all, few, past)
+
+    ends : MayEnd expected is.line → length is.line ≤ least → IsNotLast expected least (take looked (is.line ++ is.ahead)) → ⊥
+    ends last short (inl many) = omega (arith, many, short, past, length-take-le looked (is.line ++ is.ahead) (omega (arith, all, past)))
+    ends last short (inr other) = other (may_end_by expected looked is.line is.ahead (omega (arith, past)) last)
+
+-- a line that was split off leaves no more ahead than may be
+pub split_stays : (expected : Expected) (least looked : ℕ) (was is : LinesView) → SplitsLine looked was is → length was.line ≤ looked + MAX_PIECE → FitsBound expected least looked was.line → StaysWithin expected least is
+split_stays expected least looked was is split piece fits =
+    stays_by expected least looked is split.behind (omega (arith, piece, ap length split.bytes)) (subst (FitsBound expected least looked) split.bytes fits)
+
+-- a piece that may be taken keeps the bound
+pub piece_fits : (expected : Expected) (least most : ℕ) (begun piece : List ℕ) → MayTake expected least begun most → length piece ≤ most → FitsBound expected least (length begun) (begun ++ piece)
+piece_fits expected least most begun piece may few = at may
+  where
+    all : length (begun ++ piece) ≡ length begun + length piece
+    all = length-append begun piece
+
+    same : take (length begun) (begun ++ piece) ≡ begun
+    same = take-append-le (length begun) begun piece (omega arith) ∙ take_all (length begun) begun (omega arith)
+
+    at : MayTake expected least begun most → FitsBound expected least (length begun) (begun ++ piece)
+    at (inl within) = inl (omega (arith, all, within, few))
+    at (inr (other, inl within)) = inr (subst (IsNotLast expected least) (sym same) other, inl (omega (arith, all, within, few)))
+    at (inr (other, inr within)) = inr (subst (IsNotLast expected least) (sym same) other, inr (omega (arith, all, within, few)))

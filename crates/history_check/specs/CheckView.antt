@@ -1,5 +1,5 @@
 -- A check, as contracts see it, and of which history it is.
-use Rattle.std.specs.Prelude.{ℕ, ◌≡◌, ◌+◌, ◌<◌, ◌⊎◌, Bool, List, [], ◌∷◌, ◌++◌, length, Option, IfSome, option_map, Result, Ok, Err}
+use Rattle.std.specs.Prelude.{ℕ, ◌≡◌, ◌+◌, ◌<◌, ◌≤◌, ◌⊎◌, Bool, List, [], ◌∷◌, ◌++◌, length, Option, IfSome, option_map, Result, Ok, Err}
 use Rattle.resource_lock.specs.GraphView.{GraphView}
 use Rattle.resource_lock.specs.StateView.{StateView}
 use Rattle.resource_lock.specs.Opening.{opening_of}
@@ -8,12 +8,14 @@ use Rattle.lock_transforms.specs.Allowed.{Allowed, Lawful}
 use Rattle.plan_reader.specs.PlanView.{PlanView}
 use Rattle.plan_reader.specs.Graph.{graph_of}
 use Rattle.history_text.specs.HistoryView.{HistoryView}
+use Rattle.history_text.specs.Text.{end_text}
 use Rattle.history_text.specs.Lines.{Opens, OpensNone, TakesLine}
 use Rattle.history_text.specs.declared.read_histories.HistoryLine.{HistoryLine}
 use Rattle.history_text.specs.declared.read_histories.HistoryLine.TheVariants as lines
 use Rattle.history_text.specs.declared.fails.TextFail.{TextFail}
 use Rattle.history_text.specs.declared.fails.TextFail.TheVariants.{Stops, NoMemory}
 use Rattle.history_text.specs.declared.heads.Version.{Version}
+use Rattle.history_check.specs.declared.lines.TheConstants.{ENTRY_OVER_END}
 use Rattle.history_check.specs.AdmitterView.{AdmitterView}
 use Rattle.history_check.specs.Verdict.{names_other_locks}
 
@@ -69,9 +71,9 @@ OpensCheck p v line (Err NoMemory) = Unit {0}
 abbrev pub CheckGoesOn : PlanView → HistoryView → List ℕ → CheckView → Result HistoryLine TextFail → Type 0
 CheckGoesOn p h line new result = (k : HistoryView) × TakesLine h line k result × IsCheckOf p k new
 
--- an entry is counted, and its line isn't empty
+-- an entry is counted, and its line is longer than the end line in its place would be
 abbrev pub IsCounted : CheckView → List ℕ → CheckView → Result HistoryLine TextFail → Type 0
-IsCounted old line new (Ok lines.Entry) = (new.count ≡ old.count + 1) × (0 < length line)
+IsCounted old line new (Ok lines.Entry) = (new.count ≡ old.count + 1) × (length (end_text old.count) + ENTRY_OVER_END ≤ length line)
 IsCounted old line new (Ok lines.End) = new ≡ old
 IsCounted old line new (Err _) = new ≡ old
 

@@ -1,5 +1,5 @@
 -- What taking lines does to a source.
-use Rattle.std.specs.Prelude.{ℕ, ◌≡◌, ◌+◌, ◌<◌, ◌≤◌, ◌⊎◌, Bool, true, false, List, [], ◌++◌, length, Option, Result, Ok, Err}
+use Rattle.std.specs.Prelude.{ℕ, ◌≡◌, ◌+◌, ◌<◌, ◌≤◌, ◌⊎◌, Bool, true, false, List, [], ◌++◌, length, get_or, Option, Result, Ok, Err}
 use Rattle.std.specs.Io.KnownBytes.{Consumes, IsAtEnd}
 use Rattle.file_access.specs.SinkView.{Rises}
 use Rattle.file_access.specs.SourceView.{SourceView}
@@ -7,6 +7,9 @@ use Rattle.history_text.specs.Lines.{is_unbroken, IsLine}
 use Rattle.history_check.specs.LinesView.{LinesView}
 use Rattle.history_check.specs.declared.fails.CheckFail.{CheckFail}
 use Rattle.history_check.specs.declared.fails.CheckFail.TheVariants.{SourceFault, NoMemory}
+use Rattle.history_check.specs.declared.lines.Expected.{Expected}
+use Rattle.history_check.specs.declared.lines.Expected.TheVariants.{Any, EntryOrEnd}
+use Rattle.history_check.specs.declared.lines.TheConstants.{ENTRY_OVER_END, MAX_PIECE}
 
 -- these bytes were taken, and there was room for them
 pub record Takes (old new : SourceView) (room : ℕ) (piece : List ℕ) : Type 0 where
@@ -14,9 +17,25 @@ pub record Takes (old new : SourceView) (room : ℕ) (piece : List ℕ) : Type 0
   pub faults : old.faults ≤ new.faults
   pub few : length piece ≤ room
 
--- so many bytes more of a line that has no line end yet: up to the least, or behind it the line end and as many again
-abbrev pub MayTake : ℕ → ℕ → ℕ → Type 0
-MayTake least held more = (held + more ≤ least) ⊎ ((least ≤ held) × (more ≤ 1 + least))
+-- the last line of a text may begin so: where an entry may come in its place, that line is the end line, which begins with an `e`
+abbrev pub MayEnd : Expected → List ℕ → Type 0
+MayEnd Any begun = Unit {0}
+MayEnd EntryOrEnd begun = get_or begun 0 101 ≡ 101
+
+-- the line that begins so, and has no line end yet, isn't the last
+abbrev pub IsNotLast : Expected → ℕ → List ℕ → Type 0
+IsNotLast expected least begun = (least ≤ length begun) ⊎ ¬ MayEnd expected begun
+
+-- how many bytes a line has at the least that isn't the last, as far as so many are counted on
+abbrev pub shortest : Expected → ℕ → ℕ
+shortest Any least = least
+shortest EntryOrEnd least = least + ENTRY_OVER_END
+
+-- So many bytes more of a line that begins so and has no line end yet: up to the least. Of a line that isn't the last, up to the shortest or
+-- to the line end, and the least behind that.
+abbrev pub MayTake : Expected → ℕ → List ℕ → ℕ → Type 0
+MayTake expected least begun more = (length begun + more ≤ least)
+    ⊎ (IsNotLast expected least begun × ((length begun + more ≤ shortest expected least + least) ⊎ (more ≤ 1 + least)))
 
 -- the bytes were a line and what is ahead
 pub record SplitsLine (looked : ℕ) (was is : LinesView) : Type 0 where
@@ -75,10 +94,12 @@ abbrev pub EndsLine : Option (List ℕ) → LinesView → Bool → Type 0
 EndsLine left is true = IsLine is.line
 EndsLine left is false = IsCutOff left is
 
--- At most so many bytes are ahead, and together with a line that isn't longer they are at most as many.
-pub record StaysWithin (least : ℕ) (is : LinesView) : Type 0 where
-  pub ahead : length is.ahead ≤ least
-  pub line : length is.line ≤ least → length is.line + length is.ahead ≤ least
+-- Behind a line that isn't too short at most so many bytes are ahead. Together with a line that isn't longer, and may be the last, they are at
+-- most as many.
+pub record StaysWithin (expected : Expected) (least : ℕ) (is : LinesView) : Type 0 where
+  pub few : length is.ahead < MAX_PIECE
+  pub ahead : shortest expected least ≤ length is.line → length is.ahead ≤ least
+  pub line : MayEnd expected is.line → length is.line ≤ least → length is.line + length is.ahead ≤ least
 
 -- a piece was taken, and the line that it is of is lost
 abbrev pub LosesPiece : SourceView → SourceView → LinesView → CheckFail → Type 0
@@ -86,6 +107,6 @@ LosesPiece old new was SourceFault = (piece : List ℕ) × Takes old new was.roo
 LosesPiece old new was NoMemory = (piece : List ℕ) × Takes old new was.room piece
 
 -- one line was taken, or what there was of it
-abbrev pub TakesLine : ℕ → SourceView → SourceView → LinesView → LinesView → Result Bool CheckFail → Type 0
-TakesLine least old new was is (Ok whole) = TakesNext old new was is × EndsLine new.left is whole × StaysWithin least is
-TakesLine least old new was is (Err fail) = LosesPiece old new was fail
+abbrev pub TakesLine : Expected → ℕ → SourceView → SourceView → LinesView → LinesView → Result Bool CheckFail → Type 0
+TakesLine expected least old new was is (Ok whole) = TakesNext old new was is × EndsLine new.left is whole × StaysWithin expected least is
+TakesLine expected least old new was is (Err fail) = LosesPiece old new was fail

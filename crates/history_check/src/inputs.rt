@@ -11,7 +11,7 @@ use crate::admitted::Admitted;
 use crate::admitters::Admitter;
 use crate::checks::{Checked, HistoryCheck};
 use crate::fails::CheckFail;
-use crate::lines::Lines;
+use crate::lines::{Expected, Lines};
 use crate::reached::Reached;
 use crate::whole_books::WholeBook;
 use file_access::Source;
@@ -119,7 +119,7 @@ fn find_head<I: Source>(input: &mut I, lines: &mut Lines) -> Result<Option<Versi
     ensures head { FindsHead (I.seen input.old) (I.seen input.new) lines.new result }
 {
     loop {
-        let is_whole = lines.take_line(input, LEAST_HISTORY)?;
+        let is_whole = lines.take_line(input, Expected::Any, LEAST_HISTORY)?;
         if let Some(version) = read_version(lines.line()) {
             return Ok(Some(version));
         }
@@ -142,7 +142,7 @@ fn open_check<A: Admitter, I: Source>(
     ensures head { (start : SourceView) → HasTaken start (I.seen input.old) lines.old (first_line version)
         → TakesHead plan.now start (I.seen input.new) lines.new result }
 {
-    lines.take_line(input, end_length(0))?;
+    lines.take_line(input, Expected::Any, end_length(0))?;
     match HistoryCheck::opening(alloc, plan, version, lines.line()) {
         Ok(check) => Ok(Some(check)),
         Err(TextFail::Stops(_)) => Ok(None),
@@ -181,7 +181,7 @@ fn check_next<A: Admitter, I: Source>(
     ensures goes_on { (p : PlanView) (start : SourceView) → IsUnderway p start (I.seen input.old) lines.old check.old
         → GoesOn p start (I.seen input.new) lines.new check.new result }
 {
-    lines.take_line(input, end_length(check.count()))?;
+    lines.take_line(input, Expected::EntryOrEnd, end_length(check.count()))?;
     match check.take_line(lines.line()) {
         Ok(HistoryLine::Entry) => Ok(None),
         Ok(HistoryLine::End) => Ok(Some(check.answer())),

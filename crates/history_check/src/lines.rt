@@ -1,7 +1,7 @@
 //! Lines of a source, taken whole where it has them read ahead, and else in pieces that never reach behind the text.
-ghost use Rattle.std.specs.Prelude.{◌≡◌, ◌≤◌, ◌<◌, ◌-◌, [], length, true, take, get_or, nat_eq};
+ghost use Rattle.std.specs.Prelude.{◌≡◌, ◌≤◌, ◌<◌, ◌-◌, [], length, true, take, get_or, nat_eq, IsFalse};
 ghost use Rattle.history_text.specs.Lines.{is_unbroken};
-ghost use Rattle.history_check.specs.Taking.{Splits, TakesPiece, TakesRest, TakesLine, MayTake};
+ghost use Rattle.history_check.specs.Taking.{Splits, TakesPiece, TakesRest, TakesLine, MayTake, MayEnd};
 ghost use Rattle.history_check.specs.declared.lines.TheConstants.{MAX_PIECE};
 
 use crate::fails::CheckFail;
@@ -14,6 +14,18 @@ use std::mem::swap;
 
 /// The most bytes that are taken by one call, but for those of a line that the source has read ahead.
 pub const MAX_PIECE: usize = 32;
+
+// By so many bytes an entry's line is longer than the end line in its place would be, at the least: `1 w0 end 0 | take` than `end 0`.
+const ENTRY_OVER_END: usize = 12;
+
+/// Which lines a text may have where one is taken.
+#[derive(Clone, Copy)]
+pub(crate) enum Expected {
+    /// Any.
+    Any,
+    /// That of an entry, or the end line, whose bytes are the least.
+    EntryOrEnd,
+}
 
 /// The line that was taken last, the bytes behind it that were taken too, and how many more may be taken.
 #[derive(Drop)]
@@ -55,17 +67,19 @@ impl Lines {
     ///
     /// The caller says of a text that goes on how many bytes stand at the least from the beginning of a line
     /// on. So many are taken at once. Where they have no line end, they aren't the end of the text, and that
-    /// line end and as many bytes behind it are still to come.
+    /// line end and as many bytes behind it are still to come. Where an entry is expected, so is the rest of its
+    /// shortest line.
     ///
     /// At an error the bytes that were taken are lost.
     pub(crate) fn take_line<I: Source>(
         &mut self,
         input: &mut I,
+        expected: Expected,
         least: usize,
     ) -> Result<bool, CheckFail>
         requires few { least < MAX_PIECE }
         requires ahead { length self.old.ahead ≤ least }
-        ensures { TakesLine least (I.seen input.old) (I.seen input.new) self.old self.new result }
+        ensures { TakesLine expected least (I.seen input.old) (I.seen input.new) self.old self.new result }
     {
         swap(&mut self.line, &mut self.ahead);
         self.ahead.clear();
@@ -78,7 +92,8 @@ impl Lines {
                 return Ok(true);
             }
             looked = self.line.len();
-            if !self.take_piece(input, wanted(looked, least))? {
+            let most = wanted(&self.line, expected, least);
+            if !self.take_piece(input, most)? {
                 return Ok(false);
             }
         }
@@ -132,17 +147,34 @@ impl Lines {
     }
 }
 
-// How many bytes more may be taken of a line that has so many and no line end.
-fn wanted(held: usize, least: usize) -> usize
+// How many bytes more may be taken of a line that begins so and has no line end yet.
+fn wanted(line: &[u8], expected: Expected, least: usize) -> usize
     requires { least < MAX_PIECE }
     ensures some { 0 < result }
     ensures few { result ≤ MAX_PIECE }
-    ensures within { MayTake least held result }
+    ensures within { MayTake expected least line.now result }
 {
-    if held < least {
+    let held = line.len();
+    let shortest = match expected {
+        Expected::Any => least,
+        Expected::EntryOrEnd => least + ENTRY_OVER_END,
+    };
+    if held < least && may_end(expected, line) {
         least - held
+    } else if held < shortest {
+        min(shortest - held + least, MAX_PIECE)
     } else {
         1 + least
+    }
+}
+
+// Whether the last line of a text may begin so.
+fn may_end(expected: Expected, line: &[u8]) -> bool
+    ensures { IsFalse result → ¬ MayEnd expected line.now }
+{
+    match (expected, line) {
+        (Expected::EntryOrEnd, [first, ..]) => *first == b'e',
+        (Expected::EntryOrEnd | Expected::Any, _) => true,
     }
 }
 

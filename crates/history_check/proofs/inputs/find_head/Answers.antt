@@ -1,6 +1,7 @@
 use Rattle.std.proofs.Common.{◌≡◌, ◌+◌, ◌<◌, length, arith}
 use Rattle.history_check.specs.Checking.{unread}
-use Rattle.history_check.proofs.Rooms.{less_by_line, line_has_some, room_behind_first}
+use Rattle.history_check.specs.declared.inputs.TheConstants.{LEAST_HISTORY}
+use Rattle.history_check.proofs.Rooms.{ahead_of_any, less_by_line, line_has_some, room_behind_first}
 use Rattle.history_check.proofs.Steps.{handed_on_before, fails_before, not_found, passed_over, cut_there, whole_there}
 use Rattle.history_check.proofs.inputs.find_head.Goals as goal
 
@@ -34,6 +35,6 @@ loop-is_whole-preserved g c =
       taken = passed_over c.line.result.now c.loop-is_whole.invariant.taken c.in_ok-is_whole.ensures.0
           (whole_there (g.I.Source.seen c.take_line.new.input).left c.take_line.new.self c.in_ok-is_whole.is_whole c.if-not-is_whole.false c.in_ok-is_whole.ensures.1)
           c.line.ensures c.in_default.ensures.none;
-      ahead = c.in_ok-is_whole.ensures.2.ahead;
+      ahead = ahead_of_any LEAST_HISTORY c.take_line.new.self c.in_ok-is_whole.ensures.2;
       room = omega (arith, left, c.loop-is_whole.invariant.room);
     }

@@ -21,8 +21,7 @@ returns-in-Ok-clause-head g c = λ start so_far. on_head c.args.version c.line.r
 
 pub returns-in-Err-Stops-clause-head : goal.returns-in-Err-Stops-clause-head
 returns-in-Err-Stops-clause-head g c = λ start so_far.
-    on_no_head c.args.version c.end_length.result c.line.result.now c.in_ok-take_line.field-0 so_far c.in_ok-take_line.ensures
-    (end_short 0 c.end_length.result c.end_length.ensures (omega arith)) c.line.ensures
+    on_no_head c.args.version c.end_length.result c.line.result.now c.in_ok-take_line.field-0 so_far c.in_ok-take_line.ensures c.line.ensures
     (not_opened c.args.plan.now c.args.version c.opening.result c.in-Err-Stops.field-0 c.in-Err-Stops.field-0-0 c.in-Err-Stops.is c.in-Err-Stops.field-0-is c.opening.ensures)
 
 pub returns-in-Err-NoMemory-clause-head : goal.returns-in-Err-NoMemory-clause-head
