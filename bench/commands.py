@@ -8,8 +8,9 @@ gate. Skips, with status 0, where valgrind, strace or GNU time is missing.
 
     bench/commands.py [PROGRAM]
 
-Measured: `make` takes 3.7 instructions a byte (goal 60), `check` 1,811 an entry by a file and 2,973 by a pipe (goal 1,500). 64 MiB take 0.2
-s and 2.0 MB by a file. 166 reads for 9,600 entries by a file, 72,224 by a pipe.
+Measured: `make` takes 3.7 instructions a byte (goal 60), `check` 1,811 an entry by a file and 2,973 by a pipe (goal 1,500), 340 less by a pipe
+since it counts on the shortest line of an entry (an unproved build). 64 MiB take 0.2 s and 2.0 MB by a file. 166 reads for 9,600 entries
+by a file, 53,708 by a pipe.
 """
 
 import pathlib
