@@ -8,6 +8,7 @@ pub mod Leaving
 pub mod Marks
 pub mod NeverStuck
 pub mod Placed
+pub mod Possible
 pub mod PlanKept
 pub mod PlanRuns
 pub mod PlanSteps

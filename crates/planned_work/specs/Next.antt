@@ -85,10 +85,13 @@ HasNoChoice places.Idle w book = HasNothingToDo book.graph w book.state (has_que
 HasNoChoice (places.Parked a) w book = HasToWait book.graph w book.state (has_queued book.state) a
 HasNoChoice _ w book = ⊥
 
--- The entry of a choice failed, or wasn't allowed yet, in the very book of which the choice was made.
+-- The entry of this choice failed, or wasn't allowed yet, in the very book of which the choice was made.
+abbrev pub IsRefused : {A : Type 0} → (WorkerId → BookView → A → Type 0) → (A → Option WorkStep) → A → Sight → Sight → Type 0
+IsRefused answers step_of a old new = HasFailedIn answers step_of kind_of_work FailsAt old new a ⊎ IsToWaitIn answers step_of RetriesAt old new a
+
+-- so it was with some choice
 abbrev pub IsStuckWith : {A : Type 0} → (WorkerId → BookView → A → Type 0) → (A → Option WorkStep) → Sight → Sight → Type 0
-IsStuckWith {A} answers step_of old new =
-    (a : A) × (HasFailedIn answers step_of kind_of_work FailsAt old new a ⊎ IsToWaitIn answers step_of RetriesAt old new a)
+IsStuckWith {A} answers step_of old new = (a : A) × IsRefused answers step_of a old new
 
 abbrev pub IsStuckAt : Place → Sight → Sight → Type 0
 IsStuckAt places.Idle = IsStuckWith IsIdleChoice step_of_next

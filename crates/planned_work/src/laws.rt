@@ -1,7 +1,24 @@
 //! What a worker of a plan is never told.
-ghost use Rattle.std.specs.Prelude.{◌≡◌, Option, Some, true, ℕ};
+ghost use Rattle.std.specs.List.{list_any};
+ghost use Rattle.std.specs.Prelude.{◌≡◌, Bool, Option, Some, false, true, ℕ};
+ghost use Rattle.resource_lock.specs.Fits.{Fits};
+ghost use Rattle.resource_lock.specs.GraphView.{action_of};
+ghost use Rattle.resource_lock.specs.Ranges.{lock_with};
+ghost use Rattle.lock_journal.specs.Own.{is_unit};
+ghost use Rattle.coordination.specs.Decisions.{IsToWaitIn};
+ghost use Rattle.coordination.specs.Holds.{HoldsNothing};
+ghost use Rattle.coordination.specs.Shown.{claimed_shown};
 ghost use Rattle.coordination.specs.declared.rule.Sight.{Sight};
+ghost use Rattle.async_tracker.specs.NextWork.{step_of_next, step_of_parked};
+ghost use Rattle.async_tracker.specs.ParkedView.{ParkedView};
+ghost use Rattle.async_tracker.specs.Shows.{IsFree, IsIdleOrParked, IsParkedBy, OwnsToPark, WorksOn};
+ghost use Rattle.async_tracker.specs.TaskMoves.{step_of_move};
+ghost use Rattle.async_tracker.specs.WorkSteps.{RetriesAt};
+ghost use Rattle.async_tracker.specs.declared.next_work.NextWork.TheVariants as next;
+ghost use Rattle.async_tracker.specs.declared.next_work.ParkedWork.TheVariants as parked;
+ghost use Rattle.async_tracker.specs.declared.task_moves.TaskMove.TheVariants as moves;
 ghost use Rattle.planned_work.specs.Done.{TakeUpLeaves, closed_as};
+ghost use Rattle.planned_work.specs.Next.{IsIdleChoice, IsMove, IsParkedChoice, IsRefused};
 ghost use Rattle.planned_work.specs.Places.{may_enter, place_of};
 ghost use Rattle.planned_work.specs.Sections.{EnterLeaves, LeaveLeaves};
 ghost use Rattle.planned_work.specs.declared.answers.Answer.TheVariants as answers;
@@ -12,4 +29,25 @@ pub fn sections_are_never_stuck()
     ensures enter { (old new : Sight) → may_enter old ≡ true → EnterLeaves old new answers.Stuck → ⊥ }
     ensures leave { (old new : Sight) → place_of old ≡ places.Section → LeaveLeaves old new answers.Stuck → ⊥ }
     ensures fetch { (old new : Sight) (u : ℕ) (gave : Option ℕ) → place_of old ≡ places.Fetch u → TakeUpLeaves (Some (closed_as u gave)) old new answers.Stuck → ⊥ }
+{}
+
+/// What the rules give next is done at once, in the very book of which they gave it: `Stuck` doesn't come of these choices. A worker that
+/// holds nothing or waits for items claims the item, and one that holds nothing starts the task; its skip doesn't wait. A parked worker
+/// goes on. In its task, with a lease, a worker begins the fetch, queues the items, and begins to wait for them.
+pub fn choices_are_never_refused()
+    ensures claim { (old new : Sight) (u : ℕ) → Fits old.seen.graph → IsFree old → IsIdleOrParked old
+        → IsRefused IsIdleChoice step_of_next (next.Claim u) old new → ⊥ }
+    ensures parked_claim { (old new : Sight) (a u : ℕ) → Fits old.seen.graph → IsFree old → IsIdleOrParked old
+        → IsRefused (IsParkedChoice a) (step_of_parked a) (parked.Claim u) old new → ⊥ }
+    ensures start { (old new : Sight) (t : ℕ) → HoldsNothing old → IsRefused IsIdleChoice step_of_next (next.Start t) old new → ⊥ }
+    ensures skip { (old new : Sight) (t : ℕ) → IsToWaitIn IsIdleChoice step_of_next RetriesAt old new (next.Skip t) → ⊥ }
+    ensures resume { (old new : Sight) (p : ParkedView) (failed : Bool) → IsParkedBy old p → IsFree old
+        → IsRefused (IsParkedChoice p.action) (step_of_parked p.action) (parked.Resume failed) old new → ⊥ }
+    ensures fetch { (old new : Sight) (t u : ℕ) → Fits old.seen.graph → WorksOn old t
+        → IsRefused (IsMove t) (step_of_move t) (moves.Fetch u) old new → ⊥ }
+    ensures submit { (old new : Sight) (t a : ℕ) → Fits old.seen.graph → WorksOn old t → list_any is_unit (claimed_shown old) ≡ false
+        → IsRefused (IsMove t) (step_of_move t) (moves.Submit a) old new → ⊥ }
+    ensures park { (old new : Sight) (t a : ℕ) → Fits old.seen.graph → WorksOn old t
+        → OwnsToPark (action_of old.seen.graph a).retention (lock_with old.seen.graph a) old
+        → IsRefused (IsMove t) (step_of_move t) (moves.Park a) old new → ⊥ }
 {}

@@ -22,7 +22,7 @@ mod workers;
 
 pub use answers::{Answer, Next, Work};
 pub use closing::{close_plan, spare_book};
-pub use laws::sections_are_never_stuck;
+pub use laws::{choices_are_never_refused, sections_are_never_stuck};
 pub use numbers::{Numbered, action_place};
 pub use opening::{OpenRefusal, open_plan};
 pub use outcomes::{Ended, task_outcome, unit_outcome};
