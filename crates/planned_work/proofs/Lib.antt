@@ -1,17 +1,26 @@
 -- What tries of turns leave, what follows of that for a worker of a plan, and what a closed service leaves.
+pub mod AtPlaces
+pub mod Begun
 pub mod Carried
 pub mod Choices
 pub mod Closings
 pub mod GraphSteps
 pub mod Held
+pub mod InPlace
+pub mod KeptInPlace
 pub mod Leaving
+pub mod Left
+pub mod LocksKept
 pub mod Marks
+pub mod Never
 pub mod NeverStuck
+pub mod Order
 pub mod Placed
 pub mod Possible
 pub mod PlanKept
 pub mod PlanRuns
 pub mod PlanSteps
+pub mod Skips
 pub mod Tried
 pub mod UnitPlaces
 pub mod Whole

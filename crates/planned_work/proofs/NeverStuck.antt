@@ -24,7 +24,7 @@ use Rattle.planned_work.specs.declared.places.Place.TheVariants as places
 use Rattle.planned_work.proofs.Placed.{behind, first}
 
 -- whether a unit is among marks
-none_any : (ms : List MarkId) → unit_in ms ≡ None → list_any is_unit ms ≡ false
+pub none_any : (ms : List MarkId) → unit_in ms ≡ None → list_any is_unit ms ≡ false
 none_any [] is = refl
 none_any (TaskOf t ∷ ms) is = none_any ms is
 none_any (ActionOf a ∷ ms) is = none_any ms is
@@ -33,7 +33,7 @@ none_any (UnitOf u ∷ ms) is = absurd (cc)
 same_unit : (n m : ℕ) → Some n ≡ Some m → n ≡ m
 same_unit n m is = cc
 
-unit_stands : (ms : List MarkId) (u : ℕ) → unit_in ms ≡ Some u → Contains ms (UnitOf u)
+pub unit_stands : (ms : List MarkId) (u : ℕ) → unit_in ms ≡ Some u → Contains ms (UnitOf u)
 unit_stands [] u is = absurd (cc)
 unit_stands (TaskOf t ∷ ms) u is = behind (TaskOf t) (UnitOf u) ms (unit_stands ms u is)
 unit_stands (ActionOf a ∷ ms) u is = behind (ActionOf a) (UnitOf u) ms (unit_stands ms u is)
@@ -90,7 +90,7 @@ section_ends s s' is k =
     let has = section_has (blocked_shown s) (unit_in (claimed_shown s)) (action_in (claimed_shown s)) (task_in (claimed_shown s)) (has_any s) is in
     leaves_always s has.0 None None s' (none_any (claimed_shown s) has.1) tt k
 
-fits_as : (u : ℕ) (gave : Option ℕ) → (closed_as u gave).outcome ≢ outcomes.Skipped
+pub fits_as : (u : ℕ) (gave : Option ℕ) → (closed_as u gave).outcome ≢ outcomes.Skipped
 fits_as u (Some n) is = absurd (cc)
 fits_as u None is = absurd (cc)
 

@@ -26,13 +26,13 @@ first x xs = (zero, (omega arith), refl)
 some_is : (n m : ℕ) → Some n ≡ Some m → n ≡ m
 some_is n m is = cc
 
-action_stands : (ms : List MarkId) (a : ℕ) → action_in ms ≡ Some a → Contains ms (ActionOf a)
+pub action_stands : (ms : List MarkId) (a : ℕ) → action_in ms ≡ Some a → Contains ms (ActionOf a)
 action_stands [] a is = absurd (cc)
 action_stands (TaskOf t ∷ ms) a is = behind (TaskOf t) (ActionOf a) ms (action_stands ms a is)
 action_stands (ActionOf b ∷ ms) a is = subst (λ n. Contains (ActionOf b ∷ ms) (ActionOf n)) (some_is b a is) (first (ActionOf b) ms)
 action_stands (UnitOf u ∷ ms) a is = behind (UnitOf u) (ActionOf a) ms (action_stands ms a is)
 
-task_stands : (ms : List MarkId) (t : ℕ) → task_in ms ≡ Some t → Contains ms (TaskOf t)
+pub task_stands : (ms : List MarkId) (t : ℕ) → task_in ms ≡ Some t → Contains ms (TaskOf t)
 task_stands [] t is = absurd (cc)
 task_stands (TaskOf k ∷ ms) t is = subst (λ n. Contains (TaskOf k ∷ ms) (TaskOf n)) (some_is k t is) (first (TaskOf k) ms)
 task_stands (ActionOf a ∷ ms) t is = behind (ActionOf a) (TaskOf t) ms (task_stands ms t is)

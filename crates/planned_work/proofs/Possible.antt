@@ -6,7 +6,7 @@ use Rattle.std.proofs.lemmas.Bool.{and_parts, false≢true}
 use Rattle.resource_lock.specs.Change.{can_all, same_mark}
 use Rattle.resource_lock.specs.Fits.{Fits}
 use Rattle.resource_lock.specs.GraphView.{GraphView, action_of, task_of}
-use Rattle.resource_lock.specs.Ranges.{IsIn, lock_with}
+use Rattle.resource_lock.specs.Ranges.{IsActionOf, IsIn, lock_with}
 use Rattle.resource_lock.specs.StateView.{StateView, mark_of}
 use Rattle.resource_lock.specs.declared.ids.WorkerId.{WorkerId}
 use Rattle.resource_lock.specs.declared.marks.Mark.TheVariants.{Waiting}
@@ -48,7 +48,7 @@ same_step : (a b : WorkStep) → Some a ≡ Some b → a ≡ b
 same_step a b is = cc
 
 -- a step that is possible in each book of which its answer may be given is refused in none
-never_refused : {A : Type 0} (answers : WorkerId → BookView → A → Type 0) (step_of : A → Option WorkStep) (a : A) (step : WorkStep) (old new : Sight) → step_of a ≡ Some step
+pub never_refused : {A : Type 0} (answers : WorkerId → BookView → A → Type 0) (step_of : A → Option WorkStep) (a : A) (step : WorkStep) (old new : Sight) → step_of a ≡ Some step
     → ((book : BookView) → Finds old.worker old.seen book → answers old.worker book a → IsPossible step book.graph old.worker book.state) → IsRefused answers step_of a old new → ⊥
 never_refused answers step_of a step old new is possible (inl f) =
     let before = f.failed.before in
@@ -152,6 +152,12 @@ wait_within : (g : GraphView) (s : StateView) (w : WorkerId) (t b : ℕ) → Fit
 wait_within g s w t b fits next =
     let a : ℕ = next.1 in
     subst (λ n. n < length g.actions) (sym (wait_is (is_queued s a) (fetch_waits g s a) (action_of g a).first_unit a b next.3)) (action_in g s t a fits next.2)
+
+-- it is one of the task
+pub comes_in_task : (g : GraphView) (s : StateView) (w : WorkerId) (t b : ℕ) → IsNextInTask g w s t (moves.Park b) → IsActionOf g t b
+comes_in_task g s w t b next =
+    let a : ℕ = next.1 in
+    subst (IsActionOf g t) (sym (wait_is (is_queued s a) (fetch_waits g s a) (action_of g a).first_unit a b next.3)) (in_range (can_come g s) (task_of g t).first_action (task_of g t).actions a next.2)
 
 pub submit_never : (old new : Sight) (t a : ℕ) → Fits old.seen.graph → WorksOn old t → list_any is_unit (claimed_shown old) ≡ false → IsRefused (IsMove t) (step_of_move t) (moves.Submit a) old new → ⊥
 submit_never old new t a fits works none =

@@ -2,6 +2,7 @@
 pub mod Deciding
 pub mod Done
 pub mod Graphs
+pub mod InPlace
 pub mod Next
 pub mod Numbers
 pub mod Opened

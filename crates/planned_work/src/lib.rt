@@ -22,7 +22,10 @@ mod workers;
 
 pub use answers::{Answer, Next, Work};
 pub use closing::{close_plan, spare_book};
-pub use laws::{choices_are_never_refused, sections_are_never_stuck};
+pub use laws::{
+    calls_are_never_stuck, choices_are_never_refused, sections_are_never_stuck,
+    workers_are_in_place,
+};
 pub use numbers::{Numbered, action_place};
 pub use opening::{OpenRefusal, open_plan};
 pub use outcomes::{Ended, task_outcome, unit_outcome};
